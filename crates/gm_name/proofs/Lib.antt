@@ -1,0 +1,11 @@
+pub mod Escapes
+pub mod Majors
+pub mod Marks
+pub mod Numbers
+pub mod Paths
+pub mod Stamps
+pub mod Tails
+pub mod Versions
+pub mod Fitting
+pub mod NumericIdentifiers
+pub mod NameTests

@@ -1,0 +1,11 @@
+pub mod Element
+pub mod Escape
+pub mod Fit
+pub mod Laws
+pub mod Names
+pub mod Number
+pub mod Path
+pub mod Pseudo
+pub mod Tail
+pub mod Version
+pub mod VersionOrder
