@@ -9,3 +9,7 @@ pub mod Versions
 pub mod Fitting
 pub mod NumericIdentifiers
 pub mod NameTests
+pub mod Precedence
+pub mod Bytes
+pub mod Refusals
+pub mod BaseVersions

@@ -1,4 +1,4 @@
--- The tests of names are those facts.
+-- The tests `is_path`, `is_version` and `does_fit` answer exactly where the facts `IsPath`, `IsVersion` and `Fits` hold.
 use Rattle.std.proofs.Common.{◌≡◌, ◌≢◌, ◌↔◌, ℕ, ◌-◌, ◌==◌, ◌&&◌, ◌||◌, ◌^◌, ◌<◌, ◌≤◌, nat_lt, nat_eq, Bool, true, false, not, List, [], ◌∷◌, ◌++◌, length, get_or, take, drop, codes, Option, Some, None, Result, Ok, Err, is_some, IfSome, IfNone, refl, sym, ap, subst, ◌∙◌, inl, inr, arith, rules, lit<}
 use Rattle.std.specs.Prelude.{if◌then◌else◌, option_and_then}
 use Rattle.std.specs.Option.{option_map, option_map_or}

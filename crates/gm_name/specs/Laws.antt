@@ -2,16 +2,17 @@
 use Rattle.semver.specs.Grammar.{IsValid, is_pre_identifier}
 use Rattle.semver.specs.Order.{is_numeric, pre_part_cmp}
 use Rattle.std.specs.Ordering.{nat_cmp}
-use Rattle.std.specs.Prelude.{[], ◌∷◌, ◌+◌, ◌-◌, ◌*◌, ◌^◌, length, ◌≡◌, ◌↔◌, not, true, List, ℕ}
+use Rattle.std.specs.Prelude.{◌≡◌, ◌<◌, ◌↔◌, not, true, List, ℕ}
 use Rattle.std.specs.Char.{is_ascii_uppercase}
 use Rattle.std.specs.List.{list_all}
-use Rattle.std.specs.declared.cmp.Ordering.TheVariants.{Equal}
+use Rattle.std.specs.declared.cmp.Ordering.TheVariants.{Equal, Greater, Less}
 use Rattle.gm_name.specs.Escape.{IsUnescaped, escaped, has_no_bang}
 use Rattle.gm_name.specs.Fit.{Fits}
 use Rattle.gm_name.specs.Names.{does_fit, is_path, is_version}
-use Rattle.gm_name.specs.Path.{HasMajor, IsPath}
-use Rattle.gm_name.specs.Version.{HasPlainBuild, IsVersion, parts_in, precedence, version_text}
-use Rattle.gm_name.specs.Pseudo.{IsPseudo}
+use Rattle.gm_name.specs.Path.{HasMajor, IsPath, is_byte_of_path}
+use Rattle.gm_name.specs.Version.{HasPlainBuild, IsVersion, is_byte_of_version, parts_in, precedence, version_text}
+use Rattle.gm_name.specs.Precedence.{HasLowerPrecedence, HasSamePrecedence, number_of}
+use Rattle.gm_name.specs.Pseudo.{IsBase, IsPseudo}
 use Rattle.semver.specs.Parse.{Parts}
 use Rattle.gm_name.specs.declared.major.Major.{Major}
 
@@ -30,11 +31,6 @@ OneMajor = (path : List ℕ) (a b : Major) → HasMajor path a → HasMajor path
 -- two versions that fit one path and have equal precedence are the same
 abbrev pub OneVersionForPrecedence : Type 0
 OneVersionForPrecedence = (path v w : List ℕ) → IsVersion v → IsVersion w → Fits path v → Fits path w → precedence (parts_in v) (parts_in w) ≡ Equal → v ≡ w
-
--- the number that digits write
-abbrev pub number_of : List ℕ → ℕ
-number_of [] = 0
-number_of (d ∷ ds) = (d - 48) * 10 ^ length ds + number_of ds
 
 -- section 11.4.1 of SemVer: numeric identifiers of pre-releases are ordered as their numbers
 abbrev pub NumericIdentifiersByNumber : Type 0
@@ -61,3 +57,50 @@ VersionsAreTested = (text : List ℕ) → is_version text ≡ true ↔ IsVersion
 -- a version passes the test of a path where it fits it
 abbrev pub FitsAreTested : Type 0
 FitsAreTested = (path version : List ℕ) → does_fit path version ≡ true ↔ Fits path version
+
+-- section 11 of SemVer: what `precedence` answers for two versions is the standard's rule
+abbrev pub LowerPrecedence : Type 0
+LowerPrecedence = (p q : Parts) → IsValid p → IsValid q → (precedence p q ≡ Less) ↔ HasLowerPrecedence p q
+
+abbrev pub SamePrecedence : Type 0
+SamePrecedence = (p q : Parts) → IsValid p → IsValid q → (precedence p q ≡ Equal) ↔ HasSamePrecedence p q
+
+abbrev pub HigherPrecedence : Type 0
+HigherPrecedence = (p q : Parts) → IsValid p → IsValid q → (precedence p q ≡ Greater) ↔ HasLowerPrecedence q p
+
+-- a version has one base at most
+abbrev pub OneBase : Type 0
+OneBase = (version a b : List ℕ) → IsBase version a → IsBase version b → a ≡ b
+
+-- a base is a version
+abbrev pub BaseIsVersion : Type 0
+BaseIsVersion = (version base : List ℕ) → IsVersion version → IsBase version base → IsVersion base
+
+-- and has lower precedence than the version that stands on it
+abbrev pub BaseIsLower : Type 0
+BaseIsLower = (version base : List ℕ) → IsVersion version → IsBase version base → HasLowerPrecedence (parts_in base) (parts_in version)
+
+-- the versions with a base are the pseudo-versions of the second and third form
+abbrev pub BaseForms : Type 0
+BaseForms = (version : List ℕ) → ((base : List ℕ) × IsBase version base) ↔ ((form : ℕ) × (time revision : List ℕ) × (1 < form) × IsPseudo version form time revision)
+
+-- which bytes stand in a path, and which in a version
+abbrev pub BytesOfPath : Type 0
+BytesOfPath = (text : List ℕ) → IsPath text → list_all is_byte_of_path text ≡ true
+
+abbrev pub BytesOfVersion : Type 0
+BytesOfVersion = (text : List ℕ) → IsVersion text → list_all is_byte_of_version text ≡ true
+
+-- no `!` is among them
+abbrev pub PathHasNoBang : Type 0
+PathHasNoBang = (text : List ℕ) → IsPath text → has_no_bang text ≡ true
+
+abbrev pub VersionHasNoBang : Type 0
+VersionHasNoBang = (text : List ℕ) → IsVersion text → has_no_bang text ≡ true
+
+-- so different paths, and different versions, have different escaped texts
+abbrev pub PathsEscapeApart : Type 0
+PathsEscapeApart = (p q : List ℕ) → IsPath p → IsPath q → escaped p ≡ escaped q → p ≡ q
+
+abbrev pub VersionsEscapeApart : Type 0
+VersionsEscapeApart = (v w : List ℕ) → IsVersion v → IsVersion w → escaped v ≡ escaped w → v ≡ w

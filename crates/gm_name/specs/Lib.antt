@@ -5,6 +5,7 @@ pub mod Laws
 pub mod Names
 pub mod Number
 pub mod Path
+pub mod Precedence
 pub mod Pseudo
 pub mod Tail
 pub mod Version

@@ -1,4 +1,6 @@
--- Which texts are names: tests that compute, for the facts `IsPath`, `IsVersion` and `Fits`.
+-- Tests that compute: `is_path`, `is_version` and `does_fit` answer whether the facts `IsPath`, `IsVersion` and `Fits` hold. A
+-- definition that computes, as that of a file's directives, asks these; the laws `paths_are_tested`, `versions_are_tested` and
+-- `fits_are_tested` say that they are the facts.
 use Rattle.std.specs.Prelude.{ℕ, ◌-◌, ◌^◌, ◌==◌, ◌&&◌, ◌||◌, not, nat_lt, nat_eq, if◌then◌else◌, Bool, false, List, length, take, drop, slice_index, codes, Option, Some, None, Result, Ok, Err, is_some, option_and_then}
 use Rattle.std.specs.Option.{option_map, option_map_or}
 use Rattle.std.specs.Char.{is_ascii_digit}

@@ -1,0 +1,92 @@
+-- Which bytes stand in a path and in a version.
+use Rattle.std.proofs.Common.{◌≡◌, ◌==◌, ℕ, ◌^◌, ◌<◌, Bool, true, List, [], ◌∷◌, ◌++◌, length, not, refl, inl, inr, arith}
+use Rattle.std.proofs.lemmas.Bool.{and_from}
+use Rattle.std.proofs.lemmas.Bool.Decides.{nat_tests}
+use Rattle.std.proofs.lemmas.List.Folds.{list_all-append}
+use Rattle.std.proofs.lemmas.List.Splits.{join_with_byte-slice_split}
+use Rattle.std.specs.Char.{is_ascii_digit}
+use Rattle.std.specs.Cmp.{first_so, second_so}
+use Rattle.std.specs.Fmt.{decimal}
+use Rattle.std.specs.List.{join_with_byte, list_all}
+use Rattle.semver.specs.Grammar.{IsValid, is_build_identifier, is_identifier_byte, is_pre_identifier, is_pre_release}
+use Rattle.semver.specs.Identifiers.{marked}
+use Rattle.semver.specs.Order.{parts}
+use Rattle.gm_name.specs.Element.{is_element, is_path_byte}
+use Rattle.gm_name.specs.Escape.{has_no_bang}
+use Rattle.gm_name.specs.Path.{IsPath, is_byte_of_path}
+use Rattle.gm_name.specs.Version.{HasPlainBuild, IsVersion, is_byte_of_version}
+use Rattle.gm_name.proofs.Marks.{decimal-digits}
+use Rattle.gm_name.proofs.Paths.{element-bytes}
+
+-- ---- lists
+
+-- what passes one test passes a weaker one
+weaker : {X : Type 0} (p q : X → Bool) → ((x : X) → p x ≡ true → q x ≡ true) → (xs : List X) → list_all p xs ≡ true → list_all q xs ≡ true
+weaker p q gives [] all = refl
+weaker p q gives (x ∷ xs) all = and_from _ _ (gives x (first_so _ _ all)) (weaker p q gives xs (second_so _ _ all))
+
+all-append : (p : ℕ → Bool) (xs ys : List ℕ) → list_all p xs ≡ true → list_all p ys ≡ true → list_all p (xs ++ ys) ≡ true
+all-append p xs ys a b = rw (list_all-append p xs ys) (and_from _ _ a b)
+
+all-join : (p : ℕ → Bool) (c : ℕ) (pieces : List (List ℕ)) → p c ≡ true → list_all (λ piece. list_all p piece) pieces ≡ true → list_all p (join_with_byte c pieces) ≡ true
+all-join p c [] mark each = refl
+all-join p c (x ∷ []) mark each = first_so _ _ each
+all-join p c (x ∷ y ∷ rest) mark each =
+    all-append p x (c ∷ join_with_byte c (y ∷ rest)) (first_so _ _ each) (and_from _ _ mark (all-join p c (y ∷ rest) mark (second_so _ _ each)))
+
+-- ---- paths
+
+path-byte : (b : ℕ) → is_path_byte b ≡ true → is_byte_of_path b ≡ true
+path-byte b h = rw h refl
+
+-- a path holds letters, digits, `-`, `.`, `_`, `~` and `/` alone
+pub path-bytes : (text : List ℕ) → IsPath text → list_all is_byte_of_path text ≡ true
+path-bytes text path =
+    let each = weaker is_element (λ e. list_all is_byte_of_path e) (λ e h. weaker is_path_byte is_byte_of_path path-byte e (element-bytes e h)) path.elements path.each in
+    rw path.joined (all-join is_byte_of_path 47 path.elements refl each)
+
+-- ---- versions
+
+digit-byte : (b : ℕ) → is_ascii_digit b ≡ true → is_byte_of_version b ≡ true
+digit-byte b h = grind (arith, nat_tests)
+
+identifier-byte : (b : ℕ) → is_identifier_byte b ≡ true → is_byte_of_version b ≡ true
+identifier-byte b h = grind (arith, nat_tests)
+
+number-bytes : (n : ℕ) → n < 2 ^ 64 → list_all is_byte_of_version (decimal n) ≡ true
+number-bytes n small = weaker is_ascii_digit is_byte_of_version digit-byte (decimal n) (decimal-digits n small)
+
+identifier-bytes : (part : List ℕ) → is_pre_identifier part ≡ true → list_all is_byte_of_version part ≡ true
+identifier-bytes part h = weaker is_identifier_byte is_byte_of_version identifier-byte part (second_so _ _ (first_so (is_build_identifier part) _ h))
+
+pre-bytes : (pre : List ℕ) → is_pre_release pre ≡ true → list_all is_byte_of_version (marked 45 pre) ≡ true
+pre-bytes [] h = refl
+pre-bytes (b ∷ rest) h =
+    let each = weaker is_pre_identifier (λ p. list_all is_byte_of_version p) identifier-bytes (parts (b ∷ rest)) h in
+    rw (join_with_byte-slice_split 46 (b ∷ rest)) at (all-join is_byte_of_version 46 (parts (b ∷ rest)) refl each)
+
+-- a version holds letters, digits, `+`, `-` and `.` alone
+pub version-bytes : (text : List ℕ) → IsVersion text → list_all is_byte_of_version text ≡ true
+version-bytes text version =
+    let p = version.0 in
+    let valid = version.1 in
+    let build : list_all is_byte_of_version (marked 43 p.4) ≡ true = elim version.2 [ inl none ↦ rw none refl | inr word ↦ rw word refl ] in
+    rw version.3 (all-append _ (decimal p.0) _ (number-bytes p.0 valid.0)
+    (all-append _ (decimal p.1) _ (number-bytes p.1 valid.1)
+    (all-append _ (decimal p.2) _ (number-bytes p.2 valid.2) (all-append _ (marked 45 p.3) _ (pre-bytes p.3 valid.3) build))))
+
+-- ---- no `!`
+
+path-byte_no_bang : (b : ℕ) → is_byte_of_path b ≡ true → not (b == 33) ≡ true
+path-byte_no_bang b h = grind (arith, nat_tests)
+
+version-byte_no_bang : (b : ℕ) → is_byte_of_version b ≡ true → not (b == 33) ≡ true
+version-byte_no_bang b h = grind (arith, nat_tests)
+
+-- no `!` stands in a path
+pub path_has_no_bang : (text : List ℕ) → IsPath text → has_no_bang text ≡ true
+path_has_no_bang text path = weaker is_byte_of_path (λ b. not (b == 33)) path-byte_no_bang text (path-bytes text path)
+
+-- no `!` stands in a version
+pub version_has_no_bang : (text : List ℕ) → IsVersion text → has_no_bang text ≡ true
+version_has_no_bang text version = weaker is_byte_of_version (λ b. not (b == 33)) version-byte_no_bang text (version-bytes text version)

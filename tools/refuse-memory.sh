@@ -1,0 +1,71 @@
+#!/usr/bin/env bash
+# Refuses each allocation of each test in turn, and lists what goes wrong then.
+#
+#   tools/refuse-memory.sh            every crate of crates.txt that has tests
+#   tools/refuse-memory.sh NAME..     these crates
+#
+# A test of this repository takes one refusal of memory as an answer, so with any one allocation refused it still has to end
+# well. A test that fails, or a program that crashes or hangs, is printed with the number of the refused allocation. The status
+# is 1 where that happened, and 0 where every test stood every refusal. The merge gate runs the same tests with none refused.
+#
+# It needs a C compiler (`cc`), and `rt` for a crate whose tests are not built: `rt test` leaves them in out/NAME_tests.
+set -euo pipefail
+cd "$(dirname "$0")/.."
+
+most=200000 # more allocations than any test makes: a guard against a count that doesn't end
+
+work=$(mktemp -d)
+trap 'rm -rf "$work"' EXIT
+cc -O1 -shared -fPIC -o "$work/refuse_memory.so" tools/refuse_memory.c
+
+# The crates to go over: those named, or all that have tests.
+crates=("$@")
+if [ ${#crates[@]} -eq 0 ]; then
+  while read -r name; do
+    if grep -qsr '#\[test\]' "crates/$name/src"; then
+      crates+=("$name")
+    fi
+  done < <(sed -n 's/^ *\([a-z0-9_]*\).*:.*/\1/p' crates.txt)
+fi
+
+# Runs one test of a binary with allocation N refused, for N from 1 until none is met. Prints each failure.
+refuse_each() {
+  local binary=$1 test=$2 n status
+  for ((n = 1; n <= most; n++)); do
+    status=0
+    (cd "$work" && REFUSE_AT=$n LD_PRELOAD=$work/refuse_memory.so timeout 60 "$binary" "$test" >out 2>err) || status=$?
+    runs=$((runs + 1))
+    if [ "$status" -ne 0 ]; then
+      failures=$((failures + 1))
+      echo "$crate: $test: allocation $n refused: status $status: $(grep -v 'all allocations passed' "$work/err" | head -1)"
+    fi
+    if grep -q 'all allocations passed' "$work/err"; then
+      return
+    fi
+    if [ "$status" -ge 124 ]; then
+      # Killed before it could count: whether more allocations follow isn't known, so go on with the next.
+      continue
+    fi
+  done
+  failures=$((failures + 1))
+  echo "$crate: $test: still asking for memory after $most allocations"
+}
+
+failures=0
+for crate in "${crates[@]}"; do
+  binary=$PWD/crates/$crate/out/${crate}_tests
+  if [ ! -x "$binary" ]; then
+    (cd "crates/$crate" && rt test)
+  fi
+  runs=0
+  tests=0
+  for test in $("$binary" --list); do
+    tests=$((tests + 1))
+    refuse_each "$binary" "$test"
+  done
+  echo "$crate: $tests tests, $runs runs"
+done
+if [ "$failures" -ne 0 ]; then
+  echo "$failures failures"
+  exit 1
+fi

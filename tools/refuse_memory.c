@@ -1,0 +1,60 @@
+/* Refuses one allocation of a program: the Nth, where REFUSE_AT is N. It is loaded before the C library by
+   tools/refuse-memory.sh, and linked into nothing.
+
+   At the end of the program it writes "all allocations passed" to the standard error, where the program asked for memory less
+   than N times, so that the script knows when to stop counting. */
+#define _GNU_SOURCE
+#include <stdlib.h>
+#include <string.h>
+#include <unistd.h>
+
+extern void *__libc_malloc(size_t);
+extern void *__libc_calloc(size_t, size_t);
+extern void *__libc_realloc(void *, size_t);
+extern void *__libc_memalign(size_t, size_t);
+
+static long refuse_at = -1;
+static long seen;
+static int is_ready;
+
+static int is_refused(void) {
+    if (!is_ready) {
+        is_ready = 1;
+        const char *text = getenv("REFUSE_AT");
+        refuse_at = text ? atol(text) : -1;
+    }
+    return refuse_at > 0 && ++seen == refuse_at;
+}
+
+void *malloc(size_t size) {
+    return is_refused() ? NULL : __libc_malloc(size);
+}
+
+void *calloc(size_t count, size_t size) {
+    return is_refused() ? NULL : __libc_calloc(count, size);
+}
+
+void *realloc(void *block, size_t size) {
+    return is_refused() ? NULL : __libc_realloc(block, size);
+}
+
+void *aligned_alloc(size_t alignment, size_t size) {
+    return is_refused() ? NULL : __libc_memalign(alignment, size);
+}
+
+int posix_memalign(void **block, size_t alignment, size_t size) {
+    void *found = is_refused() ? NULL : __libc_memalign(alignment, size);
+    if (!found) {
+        return 12; /* ENOMEM */
+    }
+    *block = found;
+    return 0;
+}
+
+__attribute__((destructor)) static void tell(void) {
+    if (refuse_at > 0 && seen < refuse_at) {
+        static const char text[] = "all allocations passed\n";
+        ssize_t written = write(2, text, sizeof text - 1);
+        (void)written;
+    }
+}
