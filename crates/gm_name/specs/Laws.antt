@@ -6,7 +6,7 @@ use Rattle.std.specs.Prelude.{◌≡◌, ◌<◌, ◌↔◌, not, true, List, �
 use Rattle.std.specs.Char.{is_ascii_uppercase}
 use Rattle.std.specs.List.{list_all}
 use Rattle.std.specs.declared.cmp.Ordering.TheVariants.{Equal, Greater, Less}
-use Rattle.gm_name.specs.Escape.{IsUnescaped, escaped, has_no_bang}
+use Rattle.gm_name.specs.Escape.{IsUnescaped, escaped, has_no_bang, is_escaped}
 use Rattle.gm_name.specs.Fit.{Fits}
 use Rattle.gm_name.specs.Names.{does_fit, is_path, is_version}
 use Rattle.gm_name.specs.Path.{HasMajor, IsPath, is_byte_of_path}
@@ -19,6 +19,10 @@ use Rattle.gm_name.specs.declared.major.Major.{Major}
 -- a text with no '!' is what its escaped text unescapes to, and nothing else is
 abbrev pub EscapeReturns : Type 0
 EscapeReturns = (text : List ℕ) → has_no_bang text ≡ true → IsUnescaped text (escaped text) × ((other : List ℕ) → IsUnescaped other (escaped text) → other ≡ text)
+
+-- the escaped texts are those made of such pieces
+abbrev pub EscapedIsPieces : Type 0
+EscapedIsPieces = (name : List ℕ) → is_escaped name ≡ true ↔ ((text : List ℕ) × IsUnescaped text name)
 
 -- no capital letter stands in an escaped text
 abbrev pub EscapedIsSmall : Type 0

@@ -5,7 +5,7 @@
 ghost use Rattle.std.specs.Prelude.{◌≡◌, ◌↔◌, ℕ, List, true};
 ghost use Rattle.std.specs.Cmp.Lexicographic.{slice_cmp};
 ghost use Rattle.std.specs.Ordering.{nat_cmp, ordering_then};
-ghost use Rattle.gm_name.specs.Laws.{BaseForms, BaseIsLower, BaseIsVersion, BytesOfPath, BytesOfVersion, EscapeReturns, EscapedIsSmall, FitsAreTested, HigherPrecedence, LowerPrecedence, NumericIdentifiersByNumber, OneBase, OneMajor, OnePseudo, OneVersionForPrecedence, PathHasNoBang, PathsAreTested, PathsEscapeApart, SamePrecedence, VersionHasNoBang, VersionIsSpelled, VersionsAreTested, VersionsEscapeApart};
+ghost use Rattle.gm_name.specs.Laws.{BaseForms, BaseIsLower, BaseIsVersion, BytesOfPath, BytesOfVersion, EscapeReturns, EscapedIsPieces, EscapedIsSmall, FitsAreTested, HigherPrecedence, LowerPrecedence, NumericIdentifiersByNumber, OneBase, OneMajor, OnePseudo, OneVersionForPrecedence, PathHasNoBang, PathsAreTested, PathsEscapeApart, SamePrecedence, VersionHasNoBang, VersionIsSpelled, VersionsAreTested, VersionsEscapeApart};
 ghost use Rattle.gm_name.specs.Version.{parts_in, precedence, version_cmp};
 
 use crate::fit::ModVer;
@@ -104,6 +104,11 @@ pub fn one_base()
 /// A text with no `!` comes back from its escaped text, and no other does.
 pub fn escape_returns()
     ensures { EscapeReturns }
+{}
+
+/// The texts that unescape are those made of `!` and a lower-case letter, and of bytes other than `!` and upper-case letters.
+pub fn escaped_texts_are_pieces()
+    ensures { EscapedIsPieces }
 {}
 
 /// No upper-case letter stands in an escaped text, so that escaped texts differ also where case is ignored.

@@ -1,0 +1,59 @@
+#!/usr/bin/env bash
+# Times `gomod versions` on a list of a million lines beside `sort -V -u`, and on three lists of 16 MiB without a version.
+set -euo pipefail
+cd "$(dirname "$0")/.."
+gomod=$(./build | tail -n 1)
+work=$(mktemp -d)
+trap 'rm -rf "$work"' EXIT
+
+# Releases, pre-releases, pseudo-versions, words that are none, and repeats of each. The same bytes at each run.
+python3 - "$work" << 'PY'
+import random
+import sys
+
+work = sys.argv[1]
+chance = random.Random(1)
+lines = []
+for _ in range(1_000_000):
+    kind = chance.random()
+    version = f"v{chance.randrange(2)}.{chance.randrange(500)}.{chance.randrange(2000)}"
+    if lines and kind < 0.20:
+        lines.append(chance.choice(lines))
+    elif kind < 0.65:
+        lines.append(version)
+    elif kind < 0.83:
+        lines.append(f"{version}-{chance.choice(['alpha', 'beta', 'rc'])}.{chance.randrange(100)}")
+    elif kind < 0.91:
+        lines.append(f"v0.0.0-{chance.randrange(20120101000000, 20251231235959)}-{chance.randrange(16**12):012x}")
+    elif kind < 0.96:
+        lines.append(f"v{chance.randrange(2, 9)}.{chance.randrange(500)}.{chance.randrange(2000)}")
+    else:
+        lines.append(chance.choice(["master", "", "v1.2", "release-1.x", "v1.02.3", "v1.2.3+meta", "# a comment"]))
+text = "\n".join(lines) + "\n"
+with open(f"{work}/list", "w", encoding="ascii") as out:
+    out.write(text)
+for name, byte in [("one-line", b"v"), ("line-ends", b"\n"), ("nuls", b"\0")]:
+    with open(f"{work}/{name}", "wb") as out:
+        out.write(byte * 16_777_216)
+PY
+
+# Of three runs the one with the least time.
+best() { for _ in 1 2 3; do python3 bench/measure.py "$@"; done | sort -n | head -n 1; }
+
+size=$(stat -c %s "$work/list")
+read -r mine busy memory status < <(best "$work/list" "$gomod" versions example.com/p)
+[ "$status" = 0 ] || { echo "gomod versions ended with status $status" >&2; exit 1; }
+read -r theirs their_busy their_memory _ < <(LC_ALL=C best - sort -V -u "$work/list")
+echo "a list of $(wc -l < "$work/list") lines, $size bytes"
+awk -v mine="$mine" -v theirs="$theirs" -v busy="$busy" -v their_busy="$their_busy" \
+  -v memory="$memory" -v their_memory="$their_memory" -v size="$size" 'BEGIN {
+  printf "gomod versions  %6.2f s, of the processor %6.2f s, %5.0f MB, %.1f times the list\n", mine, busy, memory / 1e6, memory / size
+  printf "sort -V -u      %6.2f s, of the processor %6.2f s, %5.0f MB\n", theirs, their_busy, their_memory / 1e6
+  printf "ratio           %6.2f,   of the processor %6.2f   (goal: at most 1, and below 25 times the list)\n", mine / theirs, busy / their_busy
+}'
+for name in one-line line-ends nuls; do
+  read -r mine _ memory status < <(best "$work/$name" "$gomod" versions example.com/p)
+  awk -v name="$name" -v mine="$mine" -v memory="$memory" -v status="$status" 'BEGIN {
+    printf "16 MiB, %-10s %4.2f s  %5.0f MB  status %d\n", name, mine, memory / 1e6, status
+  }'
+done

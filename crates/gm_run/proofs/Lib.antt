@@ -1,0 +1,3 @@
+mod Endings
+mod Joining
+mod Outcomes

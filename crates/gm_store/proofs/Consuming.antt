@@ -1,0 +1,32 @@
+-- What a reader has given is the front of what it had.
+use Rattle.std.proofs.Common.{◌≡◌, ℕ, ◌≤◌, List, [], ◌∷◌, ◌<◌, ◌++◌, append-nil, refl, subst, length, take, Option, Some, None, IfSome, ap, ◌∙◌, sym, arith}
+use Rattle.std.proofs.lemmas.Grind.{common_steps}
+use Rattle.std.specs.Io.KnownBytes.{Consumes, IsAtEnd}
+use Rattle.gm_store.specs.Pieces.{AddsPiece}
+
+-- a full front of what the reader had
+pub full_front : (n : ℕ) (old new : Option (List ℕ)) (bs : List ℕ) → Consumes old new bs → length bs ≤ n → n ≤ length bs → IfSome old (λ all. bs ≡ take n all)
+full_front n None new bs h short long = tt
+full_front n (Some all) None bs h short long = absurd h
+full_front n (Some all) (Some rest) bs h short long = grind (arith, common_steps)
+
+none_more : (before after piece : List ℕ) → after ≡ before ++ piece → length piece ≡ 0 → after ≡ before
+none_more before after [] e n = e ∙ append-nil before
+none_more before after (x ∷ xs) e n = absurd (omega arith)
+
+ended_front : (n : ℕ) (old mid new : Option (List ℕ)) (bs : List ℕ) → Consumes old mid bs → length bs ≤ n → Consumes mid new [] → IsAtEnd new → IfSome old (λ all. bs ≡ take n all)
+ended_front n None mid new bs h short g end = tt
+ended_front n (Some all) None new bs h short g end = absurd h
+ended_front n (Some all) (Some rest) None bs h short g end = absurd g
+ended_front n (Some all) (Some rest) (Some last) bs h short g end = grind (arith, common_steps)
+
+no_piece : (piece : List ℕ) → length piece ≡ 0 → piece ≡ []
+no_piece [] e = refl
+no_piece (x ∷ xs) e = absurd (omega arith)
+
+-- all that the reader had, where a last read gave nothing
+pub ended_by : (n room count : ℕ) (old mid new : Option (List ℕ)) (before after : List ℕ) → Consumes old mid before → length before ≤ n → AddsPiece mid new before after room count → count ≡ 0 → 0 < room → IfSome old (λ all. after ≡ take n all)
+ended_by n room count old mid new before after h short p zero some =
+    let none : p.piece ≡ [] = no_piece p.piece (p.counted ∙ zero) in
+    subst (λ bytes. IfSome old (λ all. bytes ≡ take n all)) (sym (none_more before after p.piece p.added (p.counted ∙ zero)))
+    (ended_front n old mid new before h short (subst (Consumes mid new) none p.given) (p.ended zero some))

@@ -1,0 +1,4 @@
+pub mod Appending
+pub mod Bytes
+pub mod Consuming
+pub mod Listing

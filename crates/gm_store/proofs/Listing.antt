@@ -1,0 +1,96 @@
+-- The versions that are found among words.
+use Rattle.std.proofs.Common.{◌≡◌, zero, suc, ◌⊎◌, ℕ, Bool, List, [], ◌∷◌, ◌++◌, map, nat_eq, sym, subst, refl, ◌∙◌, ap, inl, inr, ◌<◌, length, slice_index_or, true, arith, Bor, Option, Some, None}
+use Rattle.std.specs.Prelude.{◌↔◌, Contains}
+use Rattle.std.specs.Cmp.Lexicographic.{nat_list_eq_equiv, pointwise}
+use Rattle.std.specs.List.{dedup}
+use Rattle.std.specs.Option.{IfNone, IfSome}
+use Rattle.std.specs.Ordering.{is_eq}
+use Rattle.std.specs.declared.cmp.Ordering.{Ordering}
+use Rattle.std.specs.declared.cmp.Ordering.TheVariants.{Less, Equal, Greater}
+use Rattle.std.specs.List.Sorted.{IsPermutation, IsSorted}
+use Rattle.std.proofs.lemmas.List.{map-append}
+use Rattle.std.proofs.lemmas.List.Elements.{Contains-append_cases, Contains-append_left, Contains-append_right}
+use Rattle.std.proofs.lemmas.List.Kept.{Contains-dedup, Contains-from_dedup, IsStrictlySortedBy-dedup}
+use Rattle.std.proofs.lemmas.List.Sorted.{Contains-permutation, IsPermutation-sym}
+use Rattle.gm_name.specs.Version.{version_cmp}
+use Rattle.gm_name.specs.VersionOrder.{version_ties, version_total, version-anti}
+use Rattle.gm_store.specs.Lines.{first_word, lines}
+use Rattle.gm_store.specs.Listed.{AreListed, IsListable}
+
+-- the words that may be listed, and nothing else
+abbrev pub HoldsListable : List ℕ → List (List ℕ) → List (List ℕ) → Type 0
+HoldsListable path words versions = (version : List ℕ) → Contains versions version ↔ (Contains words version × IsListable path version)
+
+Contains-only : (x y : List ℕ) → Contains (x ∷ []) y → x ≡ y
+Contains-only x y (zero, within, is) = is
+Contains-only x y (suc k, within, is) = absurd (omega arith)
+
+Contains-itself : (x : List ℕ) → Contains (x ∷ []) x
+Contains-itself x = (0, omega arith, refl)
+
+cases : {A B C : Type 0} → A ⊎ B → (A → C) → (B → C) → C
+cases (inl a) f g = f a
+cases (inr b) f g = g b
+
+-- one more word, which may be listed
+pub holds_more : (path : List ℕ) (words versions : List (List ℕ)) (word : List ℕ) → HoldsListable path words versions → IsListable path word → HoldsListable path (words ++ word ∷ []) (versions ++ word ∷ [])
+holds_more path words versions word holds listable = λ v. (
+  λ h. cases (Contains-append_cases versions (word ∷ []) v h)
+      (λ old. let both = (holds v).0 old in (Contains-append_left words (word ∷ []) v both.0, both.1))
+      (λ new. (Contains-append_right words (word ∷ []) v new, subst (IsListable path) (Contains-only word v new) listable)),
+  λ h. cases (Contains-append_cases words (word ∷ []) v h.0)
+      (λ old. Contains-append_left versions (word ∷ []) v ((holds v).1 (old, h.1)))
+      (λ new. Contains-append_right versions (word ∷ []) v new),
+)
+
+-- one more word, which may not be listed
+pub holds_same : (path : List ℕ) (words versions : List (List ℕ)) (word : List ℕ) → HoldsListable path words versions → ¬ (IsListable path word) → HoldsListable path (words ++ word ∷ []) versions
+holds_same path words versions word holds refused = λ v. (
+  λ h. let both = (holds v).0 h in (Contains-append_left words (word ∷ []) v both.0, both.1),
+  λ h. cases (Contains-append_cases words (word ∷ []) v h.0)
+      (λ old. (holds v).1 (old, h.1))
+      (λ new. absurd (refused (subst (IsListable path) (sym (Contains-only word v new)) h.1))),
+)
+
+equal_from : (r : Ordering) → is_eq r ≡ true → r ≡ Equal
+equal_from Less e = cc e
+equal_from Equal e = refl
+equal_from Greater e = cc e
+
+texts_same : (x y : List ℕ) → pointwise nat_eq x y ≡ true → x ≡ y
+texts_same x y e = version-anti x y (equal_from (version_cmp x y) (sym (version_ties x y) ∙ e))
+
+-- the list that is sorted and freed of repeats is that of the listed versions
+pub listed_from : (path text : List ℕ) (found sorted : List (List ℕ)) → HoldsListable path (map first_word (lines text)) found → IsPermutation found sorted → IsSorted version_cmp sorted → AreListed path text (dedup (pointwise nat_eq) sorted)
+listed_from path text found sorted holds moved ordered = record {
+  ascending = IsStrictlySortedBy-dedup version_total version_ties sorted ordered;
+  members = λ v. (
+    λ h. let both = (holds v).0 (Contains-permutation _ _ v (IsPermutation-sym _ _ moved) (Contains-from_dedup _ sorted v h)) in record { named = both.0; listable = both.1 },
+    λ h. Contains-dedup nat_list_eq_equiv texts_same sorted v (Contains-permutation _ _ v moved ((holds v).1 (h.named, h.listable))),
+  );
+}
+
+words_more : (lines : List (Bor (List ℕ))) (line : Bor (List ℕ)) → map first_word (map (λ line. line.now) (lines ++ line ∷ [])) ≡ map first_word (map (λ line. line.now) lines) ++ first_word line.now ∷ []
+words_more lines line = ap (map first_word) (map-append (λ (line : Bor (List ℕ)). line.now) lines (line ∷ [])) ∙ map-append first_word (map (λ line. line.now) lines) (line.now ∷ [])
+
+-- the same of one more line, whose first word may be listed
+pub line_more : (path : List ℕ) (lines : List (Bor (List ℕ))) (line : Bor (List ℕ)) (versions new : List (List ℕ)) (word version : List ℕ) → HoldsListable path (map first_word (map (λ line. line.now) lines)) versions → word ≡ first_word line.now → (version ≡ word) × IsListable path word → new ≡ versions ++ version ∷ [] → HoldsListable path (map first_word (map (λ line. line.now) (lines ++ line ∷ []))) new
+line_more path lines line versions new word version holds is listable grown =
+    let same : version ≡ first_word line.now = listable.0 ∙ is in
+    let more = holds_more path _ versions (first_word line.now) holds (subst (IsListable path) is listable.1) in
+    subst (λ words. HoldsListable path words new) (sym (words_more lines line))
+    (subst (λ versions. HoldsListable path (map first_word (map (λ line. line.now) lines) ++ first_word line.now ∷ []) versions) (ap (λ v. versions ++ v ∷ []) (sym same) ∙ sym grown) more)
+
+-- the same of one more line, whose first word may not be listed
+pub line_same : (path : List ℕ) (lines : List (Bor (List ℕ))) (line : Bor (List ℕ)) (versions : List (List ℕ)) (word : List ℕ) → HoldsListable path (map first_word (map (λ line. line.now) lines)) versions → word ≡ first_word line.now → ¬ (IsListable path word) → HoldsListable path (map first_word (map (λ line. line.now) (lines ++ line ∷ []))) versions
+line_same path lines line versions word holds is refused =
+    subst (λ words. HoldsListable path words versions) (sym (words_more lines line))
+    (holds_same path _ versions (first_word line.now) holds (subst (λ word. ¬ (IsListable path word)) is refused))
+
+pub found_some : (path word : List ℕ) (r : Option (List ℕ)) (version : List ℕ) → r ≡ Some version → IfSome r (λ version. (version ≡ word) × IsListable path word) → (version ≡ word) × IsListable path word
+found_some path word None version e h = cc e
+found_some path word (Some v) version e h = let same : v ≡ version = cc e in (sym same ∙ h.0, h.1)
+
+pub found_none : (path word : List ℕ) (r : Option (List ℕ)) → r ≡ None → IfNone r (¬ (IsListable path word)) → ¬ (IsListable path word)
+found_none path word None e h = h
+found_none path word (Some v) e h = cc e

@@ -1,0 +1,14 @@
+use Rattle.std.proofs.Common.{◌≡◌, ◌+◌, ◌≤◌, ◌-◌, length, vec_len}
+use Rattle.std.specs.Io.KnownBytes.{Consumes}
+use Rattle.gm_store.proofs.reading.read_limited.Given as goal
+
+-- what was read so far is what the reader has given
+abbrev pub invariant-fill : goal.invariant-fill
+invariant-fill g l = record {
+  given : Consumes (g.R.Read.remaining l.initial.reader) (g.R.Read.remaining l.reader) l.bytes.items;
+  short : length l.bytes.items ≤ 16777217;
+  room : vec_len l.piece ≡ 65536;
+}
+
+abbrev pub decreases-fill : goal.decreases-fill
+decreases-fill g l = 16777217 - length l.bytes.items

@@ -1,0 +1,16 @@
+use Rattle.std.proofs.Common.{◌≡◌, ◌≤◌, ◌-◌, length, take, Option}
+use Rattle.std.specs.Io.KnownBytes.{Appends}
+use Rattle.gm_store.proofs.Appending.{RoomLeft}
+use Rattle.gm_store.proofs.sinks.write_all.Given as goal
+
+-- the pieces so far were appended, and faults did not fall
+abbrev pub invariant-pieces : goal.invariant-pieces
+invariant-pieces g l = record {
+  place : l.at ≤ length l.piece;
+  appended : Appends (g.S.Sink.taken l.initial.sink) (g.S.Sink.taken l.sink) (take l.at l.piece);
+  left : RoomLeft (g.S.Sink.room l.initial.sink) (g.S.Sink.room l.sink) l.at;
+  later : g.S.Sink.fault_count l.initial.sink ≤ g.S.Sink.fault_count l.sink;
+}
+
+abbrev pub decreases-pieces : goal.decreases-pieces
+decreases-pieces g l = length l.piece - l.at

@@ -1,0 +1,23 @@
+-- Lines of bytes, and the words on them.
+use Rattle.std.specs.Prelude.{ℕ, ◌==◌, ◌||◌, Bool, List, drop}
+use Rattle.std.specs.List.{before_first, prefix_len, slice_split}
+
+-- space, tab or CR
+abbrev pub is_blank : ℕ → Bool
+is_blank b = b == 32 || b == 9 || b == 13
+
+-- LF
+abbrev pub is_line_end : ℕ → Bool
+is_line_end b = b == 10
+
+-- the pieces between LFs. An empty last piece, which is no line, has no word either.
+abbrev pub lines : List ℕ → List (List ℕ)
+lines text = slice_split is_line_end text
+
+-- a line from its first byte that is no blank on
+abbrev pub after_blanks : List ℕ → List ℕ
+after_blanks line = drop (prefix_len is_blank line) line
+
+-- the first word of a line: the bytes other than blanks from the first such byte on, and none where the line has no word
+abbrev pub first_word : List ℕ → List ℕ
+first_word line = before_first is_blank (after_blanks line)

@@ -1,0 +1,69 @@
+//! A sink that holds in memory what it takes.
+
+ghost use Rattle.std.specs.Prelude.{◌≡◌, ◌≤◌, [], IfOk, vec_len};
+ghost use Rattle.std.specs.Vec.{vec_capacity};
+
+use crate::sinks::{Sink, WriteFault};
+use gm_name::NoMemory;
+use std::alloc::Global;
+
+/// A sink in memory. Its room is reserved when it is made, so a write takes no memory.
+#[derive(Debug, Drop)]
+pub struct MemorySink {
+    bytes: Vec<u8>,
+    room: usize,
+    faults: u64,
+    ghost fits: { vec_len bytes ≤ room },
+    ghost reserved: { room ≤ vec_capacity bytes },
+}
+
+impl MemorySink {
+    ghost use Rattle.gm_store.specs.Held.{faults_in, held_in, room_in};
+
+    /// A sink with room for so many bytes, or want of memory.
+    pub fn new(alloc: Global, room: usize) -> Result<MemorySink, NoMemory>
+        ensures empty { IfOk result (λ sink. held_in sink ≡ []) }
+        ensures room { IfOk result (λ sink. room_in sink ≡ room) }
+        ensures faults { IfOk result (λ sink. faults_in sink ≡ 0) }
+    {
+        Ok(MemorySink {
+            bytes: Vec::with_capacity(alloc, room)?,
+            room,
+            faults: 0,
+        })
+    }
+
+    /// The bytes taken so far.
+    pub fn bytes(&self) -> &[u8]
+        ensures { result.now ≡ held_in self.now }
+    {
+        &self.bytes
+    }
+}
+
+impl Sink for MemorySink {
+    ghost use Rattle.std.specs.Prelude.{Some};
+    ghost use Rattle.gm_store.specs.Held.{faults_in, held_in, room_in};
+
+    ghost taken = { λ sink. Some (held_in sink) };
+
+    ghost room = { λ sink. Some (room_in sink) };
+
+    ghost fault_count = { faults_in };
+
+    fn write(&mut self, piece: &[u8]) -> Result<usize, WriteFault> {
+        let count = (self.room - self.bytes.len()).min(piece.len());
+        if count == 0 && !piece.is_empty() {
+            self.faults = self.faults.saturating_add(1);
+            return Err(WriteFault);
+        }
+        let Ok(()) = self.bytes.extend_from_slice(&piece[..count]) else {
+            unreachable!();
+        };
+        Ok(count)
+    }
+
+    fn faults(&self) -> u64 {
+        self.faults
+    }
+}

@@ -1,0 +1,107 @@
+-- The words that edits make, and the values of words.
+use Rattle.std.proofs.Common.{◌≡◌, ℕ, ◌-◌, ◌==◌, Bool, true, false, List, [], ◌∷◌, ◌++◌, length, None, refl, sym, ap, subst, ◌∙◌, arith, inl, inr, length-append}
+use Rattle.std.specs.Prelude.{◌||◌, ◌↔◌, if◌then◌else◌}
+use Rattle.std.proofs.lemmas.Bool.{cases_Bool, true≢false}
+use Rattle.std.proofs.lemmas.List.{take_at}
+use Rattle.gm_syntax.specs.declared.word.Kind.{Kind}
+use Rattle.gm_syntax.specs.declared.word.Kind.TheVariants.{Bare, Text, Mark}
+use Rattle.gm_syntax.specs.declared.word.Punct.{Punct}
+use Rattle.gm_syntax.specs.declared.word.Punct.TheVariants.{LeftParen, RightParen, LeftBracket, RightBracket, Comma, Arrow}
+use Rattle.gm_syntax.specs.Bytes.{is_bracket_or_comma}
+use Rattle.gm_syntax.specs.Lines.{HasNoLineFeed}
+use Rattle.gm_syntax.specs.Words.{Word, IsBare, IsString, HasShape, HasValue, escaped, mark_text}
+use Rattle.gm_syntax.specs.Bare.{can_be_bare, in_quotes, new_word}
+use Rattle.gm_syntax.specs.Values.{all_but_last, string_value, unescaped, value_of, value_of_kind}
+use Rattle.gm_syntax.specs.Spelling.{IsWord}
+use Rattle.gm_syntax.specs.Document.{is_mark}
+use Rattle.gm_syntax.specs.Tokens.{Placed, IsNewWord}
+use Rattle.gm_syntax.proofs.Spelled.{is_bare_word, bare_word_is}
+use Rattle.gm_syntax.proofs.Stable.{plain_append}
+
+-- ---- values
+
+last-cut : (text : List ℕ) (b : ℕ) → all_but_last (text ++ b ∷ []) ≡ text
+last-cut text b =
+    let len : length (text ++ b ∷ []) - 1 ≡ length text = omega (arith, length-append text (b ∷ [])) in
+    rw len (take_at text (b ∷ []) (length text) refl)
+
+-- a byte that needs no backslash, before others
+unescaped-plain : (b : ℕ) (bytes : List ℕ) → (b == 92) ≡ false → unescaped (b ∷ bytes) ≡ b ∷ unescaped bytes
+unescaped-plain b [] e = refl
+unescaped-plain b (c ∷ bytes) e = rw e refl
+
+escape-by : (b : ℕ) (rest : List ℕ) (q s : Bool) → q ≡ (b == 34) → s ≡ (b == 92)
+    → unescaped ((if q || s then 92 ∷ b ∷ [] else b ∷ []) ++ rest) ≡ b ∷ unescaped rest
+escape-by b rest true s eq es = refl
+escape-by b rest false true eq es = refl
+escape-by b rest false false eq es = unescaped-plain b rest (sym es)
+
+pub unescaped-escaped : (value : List ℕ) → unescaped (escaped value) ≡ value
+unescaped-escaped [] = refl
+unescaped-escaped (b ∷ value) =
+    escape-by b (escaped value) (b == 34) (b == 92) refl refl ∙ ap (λ (t : List ℕ). b ∷ t) (unescaped-escaped value)
+
+string_is : (text value : List ℕ) → IsString text value → string_value text ≡ value
+string_is text value (inl e) = ap string_value e ∙ ap unescaped (last-cut (escaped value) 34) ∙ unescaped-escaped value
+string_is text value (inr e) = ap string_value e.0 ∙ last-cut value 96
+
+shape_is : (kind : Kind) (text value : List ℕ) → HasShape kind text value → value_of_kind kind text ≡ value
+shape_is Bare text value h = sym h.1
+shape_is Text text value h = string_is text value h
+shape_is Mark text value h = sym h.1
+
+pub value_is : (w : Word) (value : List ℕ) → HasValue w value → value_of w ≡ value
+value_is w value h = shape_is w.kind w.spelling value h
+
+-- ---- new words
+
+pub bare_is_tested : (text : List ℕ) → can_be_bare text ≡ true ↔ IsBare text
+bare_is_tested text = (is_bare_word text, bare_word_is text)
+
+pub not_bare_tested : (text : List ℕ) → can_be_bare text ≡ false → ¬ IsBare text
+not_bare_tested text e h = true≢false (sym (bare_word_is text h) ∙ e)
+
+plain_escaped : (value : List ℕ) → HasNoLineFeed value → HasNoLineFeed (escaped value)
+plain_escaped [] h = tt
+plain_escaped (b ∷ value) h = plain_append (if (b == 34) || (b == 92) then 92 ∷ b ∷ [] else b ∷ []) (escaped value) (piece ((b == 34) || (b == 92))) (plain_escaped value h.1)
+  where
+    piece : (x : Bool) → HasNoLineFeed (if x then 92 ∷ b ∷ [] else b ∷ [])
+    piece true = (omega arith, (h.0, tt))
+    piece false = (h.0, tt)
+
+pub plain_quoted : (value : List ℕ) → HasNoLineFeed value → HasNoLineFeed (in_quotes value)
+plain_quoted value h = (omega arith, plain_append (escaped value) (34 ∷ []) (plain_escaped value h) (omega arith, tt))
+
+-- the function and the relation say one word
+pub new_word_is : (value : List ℕ) (t : Placed) → IsNewWord value t → t ≡ record { word = new_word value; line = 0; span = None }
+new_word_is value t h =
+    elim (cases_Bool (can_be_bare value)) [
+      | inl e ↦ rw e (h.bare (is_bare_word value e))
+      | inr e ↦ rw e (h.quoted (not_bare_tested value e))
+    ]
+
+new_value : (value : List ℕ) → HasNoLineFeed value → IsWord (new_word value) × HasValue (new_word value) value
+new_value value plain =
+    elim (cases_Bool (can_be_bare value)) [
+      | inl e ↦ let shape : HasValue (new_word value) value = rw e (is_bare_word value e, refl) in (((value, shape), rw e plain), shape)
+      | inr e ↦ let shape : HasValue (new_word value) value = rw e (inl refl) in (((value, shape), rw e (plain_quoted value plain)), shape)
+    ]
+
+pub new_word_stands : (value : List ℕ) (t : Placed) → HasNoLineFeed value → IsNewWord value t → IsWord t.word × HasValue t.word value
+new_word_stands value t plain h = subst (λ (p : Placed). IsWord p.word × HasValue p.word value) (sym (new_word_is value t h)) (new_value value plain)
+
+no_mark : (b : ℕ) (value : List ℕ) → is_mark b (new_word value) ≡ false
+no_mark b value = elim (cases_Bool (can_be_bare value)) [ inl e ↦ rw e refl | inr e ↦ rw e refl ]
+
+-- a new word is no punctuation
+pub new_word_no_mark : (b : ℕ) (value : List ℕ) (t : Placed) → IsNewWord value t → is_mark b t.word ≡ false
+new_word_no_mark b value t h = ap (λ (p : Placed). is_mark b p.word) (new_word_is value t h) ∙ no_mark b value
+
+pub mark_stands : (punct : Punct) → IsWord (record { kind = Mark; spelling = mark_text punct })
+unfolding is_bracket_or_comma
+mark_stands LeftParen = ((40 ∷ [], (inl (40, refl, refl), refl)), (omega arith, tt))
+mark_stands RightParen = ((41 ∷ [], (inl (41, refl, refl), refl)), (omega arith, tt))
+mark_stands LeftBracket = ((91 ∷ [], (inl (91, refl, refl), refl)), (omega arith, tt))
+mark_stands RightBracket = ((93 ∷ [], (inl (93, refl, refl), refl)), (omega arith, tt))
+mark_stands Comma = ((44 ∷ [], (inl (44, refl, refl), refl)), (omega arith, tt))
+mark_stands Arrow = ((61 ∷ 62 ∷ [], (inr refl, refl)), (omega arith, (omega arith, tt)))

@@ -1,0 +1,69 @@
+-- What is known of the words at each fault.
+use Rattle.std.proofs.Common.{◌≡◌, ◌⊎◌, ◌∙◌, List, Option, Result, Ok, Err, IfErr, true, sym, subst, inl, inr, refl}
+use Rattle.clap.specs.Walk.{Row, Text}
+use Rattle.clap.specs.Simple.{App, HasMatchesOf, is_simple, subcommand_of, subcommand_rows_of}
+use Rattle.clap.specs.Faults.{fault_of, is_simple_and_free}
+use Rattle.clap.specs.Kinds.{HasKind, IsAmong}
+use Rattle.clap.specs.Takes.{takes}
+use Rattle.clap.specs.Values.{kind_of}
+use Rattle.clap.specs.declared.error.Error.{Error}
+use Rattle.clap.specs.declared.parser.matches.ArgMatches.{ArgMatches}
+use Rattle.clap.specs.declared.error.kind.ErrorKind.{ErrorKind}
+use Rattle.clap.specs.declared.error.kind.ErrorKind.TheVariants.{DisplayHelp, OutOfMemory}
+use Rattle.gm_words.specs.Usage.{HasBadPath, IsEntriesFault, IsFaultOf, IsParserFault, AreMeant, gomod_app}
+use Rattle.gm_words.specs.declared.usage.UsageFault.{UsageFault}
+use Rattle.gm_words.specs.declared.usage.UsageFault.TheVariants.{NoMemory, Help, Line, BadPath}
+use Rattle.std.specs.String.{string_bytes}
+
+-- a fault of the entries is one of the words
+entries_fault : (words : List Text) (entered : Option (Text × List Row)) (fault : UsageFault)
+    → entered ≡ subcommand_of gomod_app words → IsEntriesFault entered fault → IsFaultOf words fault
+entries_fault words entered NoMemory same known = tt
+entries_fault words entered (Help text) same known = absurd known
+entries_fault words entered (Line text) same known = λ taken meant. known (subst AreMeant (sym same) meant)
+entries_fault words entered (BadPath text) same known =
+    let P : Option (Text × List Row) → Type 0 = λ o. HasBadPath o (string_bytes text) in subst P same known
+
+pub entries_result : {T : Type 0} (words : List Text) (entered : Option (Text × List Row)) (result : Result T UsageFault)
+    → entered ≡ subcommand_of gomod_app words → IfErr result (IsEntriesFault entered) → IfErr result (IsFaultOf words)
+entries_result words entered (Ok value) same known = tt
+entries_result words entered (Err fault) same known = entries_fault words entered fault same known
+
+-- help is shown only where it was asked for
+help_among : (words : List Text) (error : Error) → HasKind (fault_of gomod_app words) error → kind_of error ≡ DisplayHelp
+    → IsAmong DisplayHelp (fault_of gomod_app words)
+help_among words error (inl memory) help = cc
+help_among words error (inr among) help =
+    let P : ErrorKind → Type 0 = λ kind. IsAmong kind (fault_of gomod_app words) in subst P help among
+
+-- a fault of the parser is one of the words
+pub parser_fault : (words : List Text) (error : Error) (fault : UsageFault) → HasKind (fault_of gomod_app words) error
+    → (takes gomod_app words ≡ true → kind_of error ≡ OutOfMemory) → IsParserFault error fault → IsFaultOf words fault
+parser_fault words error NoMemory kinds passes known = tt
+parser_fault words error (Help text) kinds passes known = (help_among words error kinds known, λ taken. let memory = passes taken in cc)
+parser_fault words error (Line text) kinds passes known = λ taken meant. known.1 (passes taken)
+parser_fault words error (BadPath text) kinds passes known = absurd known
+
+is_simple-gomod_app : is_simple gomod_app ≡ true
+is_simple-gomod_app = refl
+
+is_simple_and_free-gomod_app : is_simple_and_free gomod_app ≡ true
+is_simple_and_free-gomod_app = refl
+
+-- a parse gives the entries that the words have
+pub entries_known : (app : App) (words : List Text) (matches : ArgMatches) → app ≡ gomod_app → HasMatchesOf app words matches
+    → subcommand_rows_of matches ≡ subcommand_of gomod_app words
+entries_known app words matches same known =
+    let P : App → Type 0 = λ a. HasMatchesOf a words matches in (subst P same known is_simple-gomod_app).1
+
+-- a parse fails by a kind that the words have
+pub kinds_known : (app : App) (words : List Text) (error : Error) → app ≡ gomod_app
+    → (is_simple_and_free app ≡ true → HasKind (fault_of app words) error) → HasKind (fault_of gomod_app words) error
+kinds_known app words error same known =
+    let P : App → Type 0 = λ a. is_simple_and_free a ≡ true → HasKind (fault_of a words) error in
+    subst P same known is_simple_and_free-gomod_app
+
+pub passes_known : (app : App) (words : List Text) (error : Error) → app ≡ gomod_app
+    → (takes app words ≡ true → kind_of error ≡ OutOfMemory) → takes gomod_app words ≡ true → kind_of error ≡ OutOfMemory
+passes_known app words error same known =
+    let P : App → Type 0 = λ a. takes a words ≡ true → kind_of error ≡ OutOfMemory in subst P same known

@@ -1,0 +1,14 @@
+use Rattle.std.proofs.Common.{◌≡◌, ap, ap₂, ◌∙◌, true, codes}
+use Rattle.clap.specs.Simple.{App, app_of, app_of_fields, new_app, with_subcommand}
+use Rattle.gm_words.specs.Usage.{bare_gomod}
+use Rattle.gm_words.proofs.command.gomod_command.Goals as goal
+
+pub returns : goal.returns
+returns c =
+    let described : app_of c.after_help.result ≡ new_app (codes "gomod") =
+    ap app_of_fields c.after_help.ensures ∙ ap app_of_fields c.about.ensures ∙ c.new.ensures.app in
+    let top : app_of c.subcommand_required.result ≡ bare_gomod =
+    ap app_of_fields c.subcommand_required.ensures
+    ∙ ap (λ (a : App). let b : App = record a { top = record a.top { subcommand_required = true } } in b) described in
+    c.in_ok-command.ensures.shape c.in_ok-versions.ensures.local
+    ∙ ap₂ with_subcommand (c.in_ok-subcommand.ensures.shape c.in_ok-fmt.ensures.local ∙ ap₂ with_subcommand top (ap (λ (a : App). a.top) c.in_ok-fmt.ensures.app)) (ap (λ (a : App). a.top) c.in_ok-versions.ensures.app)

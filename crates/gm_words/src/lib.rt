@@ -1,0 +1,10 @@
+//! What the words of a command line ask for.
+#![tactic(auto)]
+
+mod command;
+mod usage;
+
+pub use crate::usage::{Command, Places, UsageFault, read_words};
+
+#[cfg(test)]
+mod tests;
