@@ -1,5 +1,5 @@
 -- The base of a pseudo-version: one alone, a version, and lower than what stands on it.
-use Rattle.std.proofs.Common.{◌≡◌, ◌↔◌, ◌==◌, ℕ, ◌-◌, ◌<◌, ◌^◌, Bool, true, false, List, [], ◌∷◌, ◌++◌, length, codes, refl, sym, ap, subst, ◌∙◌, inl, inr, arith, append_assoc, length-append}
+use Rattle.std.proofs.Common.{◌≡◌, ◌↔◌, ◌==◌, ℕ, ◌-◌, ◌<◌, true, List, [], ◌∷◌, ◌++◌, length, codes, refl, sym, ap, subst, ◌∙◌, inl, inr, arith, append_assoc, length-append}
 use Rattle.std.proofs.lemmas.Bool.{cases_Bool}
 use Rattle.std.proofs.lemmas.List.{append_cancel_right}
 use Rattle.std.proofs.lemmas.List.Folds.{list_all-append}
@@ -7,7 +7,6 @@ use Rattle.std.specs.Cmp.{first_so}
 use Rattle.std.specs.List.{list_all}
 use Rattle.semver.proofs.Grammar.{version_parts-complete}
 use Rattle.semver.specs.Grammar.{IsValid, is_pre_identifier, is_pre_release}
-use Rattle.semver.specs.Identifiers.{parts_text}
 use Rattle.semver.specs.Order.{parts}
 use Rattle.semver.specs.OrderLaws.{parts-shape}
 use Rattle.semver.specs.Parse.{Parts}

@@ -1,5 +1,5 @@
 -- Which bytes stand in a path and in a version.
-use Rattle.std.proofs.Common.{◌≡◌, ◌==◌, ℕ, ◌^◌, ◌<◌, Bool, true, List, [], ◌∷◌, ◌++◌, length, not, refl, inl, inr, arith}
+use Rattle.std.proofs.Common.{◌≡◌, ◌==◌, ℕ, ◌^◌, ◌<◌, Bool, true, List, [], ◌∷◌, ◌++◌, not, refl, inl, inr, arith}
 use Rattle.std.proofs.lemmas.Bool.{and_from}
 use Rattle.std.proofs.lemmas.Bool.Decides.{nat_tests}
 use Rattle.std.proofs.lemmas.List.Folds.{list_all-append}
@@ -8,13 +8,13 @@ use Rattle.std.specs.Char.{is_ascii_digit}
 use Rattle.std.specs.Cmp.{first_so, second_so}
 use Rattle.std.specs.Fmt.{decimal}
 use Rattle.std.specs.List.{join_with_byte, list_all}
-use Rattle.semver.specs.Grammar.{IsValid, is_build_identifier, is_identifier_byte, is_pre_identifier, is_pre_release}
+use Rattle.semver.specs.Grammar.{is_build_identifier, is_identifier_byte, is_pre_identifier, is_pre_release}
 use Rattle.semver.specs.Identifiers.{marked}
 use Rattle.semver.specs.Order.{parts}
 use Rattle.gm_name.specs.Element.{is_element, is_path_byte}
 use Rattle.gm_name.specs.Escape.{has_no_bang}
 use Rattle.gm_name.specs.Path.{IsPath, is_byte_of_path}
-use Rattle.gm_name.specs.Version.{HasPlainBuild, IsVersion, is_byte_of_version}
+use Rattle.gm_name.specs.Version.{IsVersion, is_byte_of_version}
 use Rattle.gm_name.proofs.Marks.{decimal-digits}
 use Rattle.gm_name.proofs.Paths.{element-bytes}
 

@@ -1,8 +1,8 @@
 -- SemVer's reader refuses a text for what stands in it: its refusal is never that of memory.
-use Rattle.std.proofs.Common.{◌≡◌, ◌⊎◌, ◌==◌, ℕ, ◌^◌, Bool, true, false, List, [], ◌∷◌, cond, Result, Ok, Err, refl, sym, inl, inr}
-use Rattle.std.specs.Prelude.{⊤, ◌&&◌, ◌*◌, ◌+◌, ◌-◌, length, nat_le, nat_lt, not, take, drop}
+use Rattle.std.proofs.Common.{◌≡◌, ◌==◌, ℕ, ◌^◌, Bool, true, false, List, [], ◌∷◌, cond, Result, Ok, Err, refl, sym}
+use Rattle.std.specs.Prelude.{⊤, ◌*◌, ◌+◌, ◌-◌, length, nat_le, nat_lt}
 use Rattle.std.specs.Char.{is_ascii_digit}
-use Rattle.semver.specs.Parse.{IsRefused, Parts, Read, digits_end, digits_from, dot_of, end_error, fail, identifier_len, identifier_of, is_bad_zero, is_leading_zero, is_letter, is_memory, memory_error, numeric, part_end, scan, starts_zero, tail_build, tail_end, tail_pre, version_parts, ◌>>=◌}
+use Rattle.semver.specs.Parse.{IsRefused, Parts, digits_end, digits_from, dot_of, end_error, identifier_len, identifier_of, is_bad_zero, is_leading_zero, is_letter, is_memory, memory_error, numeric, part_end, scan, starts_zero, tail_build, tail_end, tail_pre, version_parts, ◌>>=◌}
 use Rattle.semver.specs.declared.Version.{Version}
 use Rattle.semver.specs.declared.error.Error.{Error}
 use Rattle.semver.specs.declared.error.Position.{Position}

@@ -1,3 +1,4 @@
 mod Endings
 mod Joining
 mod Outcomes
+mod Sameness

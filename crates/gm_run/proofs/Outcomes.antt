@@ -1,5 +1,5 @@
 -- What a refusal of `versions` says.
-use Rattle.std.proofs.Common.{◌≡◌, ◌<◌, ◌++◌, ◌∙◌, ℕ, List, Result, Ok, Err, IfOk, false, true, codes, length, ap, inl, inr, string_bytes}
+use Rattle.std.proofs.Common.{◌≡◌, ◌<◌, ◌++◌, ◌∙◌, ℕ, List, Result, Ok, Err, IfOk, false, true, codes, length, ap, inl, inr}
 use Rattle.gm_name.specs.Path.{is_fetchable}
 use Rattle.gm_run.specs.Outcome.{IsVersionsOutcome, longest, outcome_of, refused}
 use Rattle.gm_run.specs.declared.outcome.Output.{Output}

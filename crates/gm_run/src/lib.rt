@@ -1,6 +1,7 @@
 //! What the program does with the words of its command line and the bytes that they name.
 #![tactic(auto)]
 
+pub mod laws;
 mod outcome;
 mod program;
 mod running;

@@ -9,13 +9,13 @@ use clap::{Arg, Command};
 use std::alloc::{AllocError, Global};
 
 const FMT_ABOUT: &str =
-    "Prints a go.mod file in its layout: single spaces, a tab before each line of a block, and at most one blank line in a row. Only the syntax is read. The file is left as it is.";
+    "Prints a go.mod file in its layout: single spaces between words, a tab before each line\nof a block, and at most one blank line in a row. Only the syntax is read. The file is left\nas it is.";
 
 const VERSIONS_ABOUT: &str =
-    "Reads a list of versions from standard input, one at the head of each line, and prints the module's path and the versions in ascending order, each once. Pseudo-versions, versions that do not fit the path and other words are passed over.";
+    "Reads a list of versions from standard input, one at the head of each line, and prints the\nmodule's path and its versions in ascending order, each once. Pseudo-versions, versions that\ndon't fit the path and other words are passed over.";
 
 const GOMOD_EXAMPLES: &str =
-    "Examples:\n  gomod fmt go.mod\n  printf 'v1.10.0\\nv1.9.0\\n' | gomod versions example.com/p\n\nWhat is wrong with a file or a list goes to standard error, with status 1; with the words, with status 2.\nStatus 3 says that memory or a device failed.";
+    "Examples:\n  gomod fmt go.mod\n  printf 'v1.10.0\\nv1.9.0\\n' | gomod versions example.com/p\n\nWhat is wrong with a file or a list is said on standard error, with status 1, and what is\nwrong with the words with status 2. Status 3 says that memory or a device failed.";
 
 /// `fmt FILE`.
 fn fmt_command<'a>(alloc: Global) -> Result<Command<'a>, AllocError>

@@ -32,6 +32,7 @@ pub struct Places {
 /// Why words ask for nothing that the program does.
 #[derive(Debug, Drop, Error)]
 pub enum UsageFault {
+    /// Memory ran out.
     #[error("no memory")]
     NoMemory,
     /// The text of the help that was asked for.
@@ -54,6 +55,11 @@ impl From<AllocError> for UsageFault {
 }
 
 /// Reads the words of a command line, of which the first is the program's name.
+///
+/// `Help` comes where help is asked for, by `help`, `-h` or `--help`, also behind a command. `Line` comes where the
+/// words are those of no command, with too few or too many behind it: it has what the parser says of them. `BadPath`
+/// comes where they are those of `versions`, but PATH is no module path. `NoMemory` comes where memory runs out, and
+/// may come in place of any.
 pub fn read_words<'a>(alloc: Global, words: &'a [&'a str]) -> Result<(Command, Places), UsageFault>
     ensures read { IfOk result (λ read. AskFor (map (λ word. word.now) words.entry.now) read.0 read.1) }
     ensures fault { IfErr result (IsFaultOf (map (λ word. word.now) words.entry.now)) }

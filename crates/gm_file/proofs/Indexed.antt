@@ -1,0 +1,232 @@
+-- The rights of what is replaced, with one more line.
+use Rattle.std.proofs.Common.{◌≡◌, ℕ, ◌&&◌, ◌||◌, not, Bool, true, false, cond, List, [], ◌∷◌, ◌++◌, Option, Some, None, Ok, refl, sym, ap, subst, ◌∙◌, inl, inr}
+use Rattle.std.specs.Prelude.{◌⊎◌, find, if◌then◌else◌}
+use Rattle.std.specs.Option.{option_map, option_or}
+use Rattle.std.proofs.lemmas.Bool.{cases_Bool}
+use Rattle.std.proofs.lemmas.List.Folds.{find-append, list_any-append}
+use Rattle.std.proofs.lemmas.List.{map-append}
+use Rattle.std.specs.BTreeMap as map
+use Rattle.std.specs.Map.{lookup}
+use Rattle.std.specs.Cmp.Lexicographic.{nat_list_eq_equiv, same_text}
+use Rattle.std.specs.List.{list_any}
+use Rattle.std.specs.Ordering.{is_eq, nat_cmp}
+use Rattle.std.specs.Str.{bytes_eq}
+use Rattle.std.specs.declared.cmp.Ordering.{Ordering}
+use Rattle.std.proofs.lemmas.Map.Text.{is_eq-slice_cmp}
+use Rattle.std.specs.Cmp.Lexicographic.{slice_cmp}
+use Rattle.gm_file.specs.declared.replace.Replace.{Replace}
+use Rattle.gm_file.proofs.Sets.{pair-ties}
+use Rattle.gm_file.specs.declared.replace.Right as declared
+use Rattle.gm_file.specs.Directives.{Pair, pair, Left, Right, Folder, Module, Replacing, replacing, left_with, left_without}
+use Rattle.gm_file.specs.Faults.{is_conflict, is_same_left, is_same_right, is_same_version}
+use Rattle.gm_file.specs.Fields.{right_for}
+use Rattle.gm_file.specs.Indexes.{IndexLines, IsNoted, differs, pair_cmp, right_at}
+use Rattle.gm_file.specs.Views.{replace_seen, replaces_seen, right_seen}
+
+and_both : (a b : Bool) → (a && b) ≡ true → (a ≡ true) × (b ≡ true)
+and_both true b e = (refl, e)
+and_both false b e = absurd cc
+
+text-self : (a : List ℕ) → bytes_eq a a ≡ true
+text-self a = nat_list_eq_equiv.refl a
+
+same-version : (a b : Option (List ℕ)) → is_same_version a b ≡ true → a ≡ b
+same-version None None e = refl
+same-version None (Some w) e = absurd cc
+same-version (Some v) None e = absurd cc
+same-version (Some v) (Some w) e = ap Some (same_text v w (sym e))
+
+version-self : (a : Option (List ℕ)) → is_same_version a a ≡ true
+version-self None = refl
+version-self (Some v) = text-self v
+
+abbrev left_by : List ℕ → Option (List ℕ) → Left
+left_by path version = record { path = path; version = version }
+
+same-left : (a b : Left) → is_same_left a b ≡ true → a ≡ b
+same-left a b e =
+    let p = and_both (bytes_eq a.path b.path) (is_same_version a.version b.version) e in
+    ap (λ (x : List ℕ). left_by x a.version) (same_text a.path b.path (sym p.0)) ∙ ap (λ (x : Option (List ℕ)). left_by b.path x) (same-version a.version b.version p.1)
+
+left-self : (a : Left) → is_same_left a a ≡ true
+left-self a = rw (text-self a.path, version-self a.version) refl
+
+same-right : (a b : Right) → is_same_right a b ≡ true → a ≡ b
+same-right (Folder a) (Folder b) e = ap Folder (same_text a b (sym e))
+same-right (Folder a) (Module q w) e = absurd cc
+same-right (Module p v) (Folder b) e = absurd cc
+same-right (Module p v) (Module q w) e =
+    let s = and_both (bytes_eq p q) (bytes_eq v w) e in
+    ap (λ (x : List ℕ). Module x v) (same_text p q (sym s.0)) ∙ ap (λ (x : List ℕ). Module q x) (same_text v w (sym s.1))
+
+-- what one more line gives a left that has no right yet
+abbrev given : Left → Replacing → Option Right
+given left x = if is_same_left left x.0 then Some x.1 else None
+
+map-or : {X Y : Type 0} (f : X → Y) (a b : Option X) → option_map f (option_or a b) ≡ option_or (option_map f a) (option_map f b)
+map-or f None b = refl
+map-or f (Some x) b = refl
+
+given-by : (b : Bool) (x : Replacing) → option_map (λ (r : Replacing). r.1) (cond b (Some x) None) ≡ (if b then Some x.1 else None)
+given-by true x = refl
+given-by false x = refl
+
+pub right-for-snoc : (rs : List Replacing) (x : Replacing) (left : Left) → right_for (rs ++ x ∷ []) left ≡ option_or (right_for rs left) (given left x)
+right-for-snoc rs x left =
+    ap (option_map (λ (r : Replacing). r.1)) (find-append (λ (r : Replacing). is_same_left left r.0) rs (x ∷ []))
+    ∙ map-or (λ (r : Replacing). r.1) (find (λ (r : Replacing). is_same_left left r.0) rs) (find (λ (r : Replacing). is_same_left left r.0) (x ∷ []))
+    ∙ ap (option_or (right_for rs left)) (given-by (is_same_left left x.0) x)
+
+or-none : {X : Type 0} (o : Option X) → option_or o None ≡ o
+or-none None = refl
+or-none (Some x) = refl
+
+-- a left that the line does not have keeps its right
+pub others-stay : (rs : List Replacing) (x : Replacing) (left : Left) → is_same_left left x.0 ≡ false → right_for (rs ++ x ∷ []) left ≡ right_for rs left
+others-stay rs x left other =
+    right-for-snoc rs x left ∙ ap (λ (b : Bool). option_or (right_for rs left) (if b then Some x.1 else None)) other ∙ or-none (right_for rs left)
+
+-- a left that had a right keeps it
+first-stays : (rs : List Replacing) (x : Replacing) (left : Left) (right : Right) → right_for rs left ≡ Some right → right_for (rs ++ x ∷ []) left ≡ Some right
+first-stays rs x left right e = right-for-snoc rs x left ∙ ap (λ (o : Option Right). option_or o (given left x)) e
+
+new-given : (rs : List Replacing) (x : Replacing) → right_for rs x.0 ≡ None → right_for (rs ++ x ∷ []) x.0 ≡ Some x.1
+new-given rs x e =
+    right-for-snoc rs x x.0 ∙ ap (λ (o : Option Right). option_or o (given x.0 x)) e ∙ ap (λ (b : Bool). if b then Some x.1 else None) (left-self x.0)
+
+module _ {K : Type 0} (cmp : K → K → Ordering) (left : K → Left) (ties : (a b : K) → is_eq (cmp a b) ≡ is_same_left (left a) (left b))
+    (old new : map.BTreeMap K declared.Right) (rs : List Replacing) (key : K) (right : Right) (were : (q : K) → right_at cmp old q ≡ right_for rs (left q)) where
+  abbrev line : Replacing
+  line = (left key, right)
+
+  kept : (other : Right) → right_at cmp old key ≡ Some other → map.IsUnchanged old new → (q : K) → right_at cmp new q ≡ right_for (rs ++ line ∷ []) (left q)
+  kept other held same q =
+      let before : right_at cmp new q ≡ right_for rs (left q) = ap (λ (es : List (K × declared.Right)). option_map right_seen (lookup (λ k. is_eq (cmp q k)) es)) same ∙ were q in
+      elim (cases_Bool (is_same_left (left q) (left key))) [
+        | inl is ↦
+            let e : left q ≡ left key = same-left (left q) (left key) is in
+            let f : right_for rs (left q) ≡ Some other = ap (right_for rs) e ∙ sym (were key) ∙ held in
+            before ∙ f ∙ sym (first-stays rs line (left q) other f)
+        | inr other ↦ before ∙ sym (others-stay rs line (left q) other)
+      ]
+
+  put : (held : declared.Right) → right_seen held ≡ right → right_at cmp old key ≡ None → map.Updates cmp old new key (Some held) → (q : K) → right_at cmp new q ≡ right_for (rs ++ line ∷ []) (left q)
+  put held seen none updates q =
+      let at_new : right_at cmp new q ≡ option_map right_seen (cond (is_eq (cmp key q)) (Some held) (map.get cmp old q)) = ap (option_map right_seen) (updates.0 q) in
+      elim (cases_Bool (is_same_left (left key) (left q))) [
+        | inl is ↦
+            let e : left key ≡ left q = same-left (left key) (left q) is in
+            let f : right_for rs (left key) ≡ None = sym (were key) ∙ none in
+            at_new ∙ ap (λ (b : Bool). option_map right_seen (cond b (Some held) (map.get cmp old q))) (ties key q ∙ is) ∙ ap Some seen
+            ∙ sym (new-given rs line f) ∙ ap (right_for (rs ++ line ∷ [])) e
+        | inr other ↦
+            let apart : is_same_left (left q) (left key) ≡ false = flipped (left key) (left q) other in
+            at_new ∙ ap (λ (b : Bool). option_map right_seen (cond b (Some held) (map.get cmp old q))) (ties key q ∙ other) ∙ were q ∙ sym (others-stay rs line (left q) apart)
+      ]
+    where
+      flipped : (a b : Left) → is_same_left a b ≡ false → is_same_left b a ≡ false
+      flipped a b e = elim (cases_Bool (is_same_left b a)) [
+        | inl is ↦ let f : b ≡ a = same-left b a is in absurd (let g : is_same_left a b ≡ true = subst (λ (x : Left). is_same_left a x ≡ true) (sym f) (left-self a) in cc (e, g))
+        | inr none ↦ none
+      ]
+
+  -- the index with one more line
+  pub noted : IsNoted cmp old new key right (Ok tt) → (q : K) → right_at cmp new q ≡ right_for (rs ++ line ∷ []) (left q)
+  noted (inl n) q = kept n.0 n.1 n.3 q
+  noted (inr n) q = put n.0 n.1 n.2 n.3 q
+
+  -- the line has no other right than an earlier one
+  pub noted-agrees : IsNoted cmp old new key right (Ok tt) → differs right (right_for rs (left key)) ≡ false
+  noted-agrees (inl n) = ap (differs right) (sym (were key) ∙ n.1) ∙ ap not n.2
+  noted-agrees (inr n) = ap (differs right) (sym (were key) ∙ n.2)
+
+or-false : (a : Bool) → (a || false) ≡ a
+or-false true = refl
+or-false false = refl
+
+or-twice : (a : Bool) → (a || (a || false)) ≡ a
+or-twice true = refl
+or-twice false = refl
+
+agree-by : (mine right : Right) (o : Option Right) (same : Bool) → (same ≡ true → (r : Right) → o ≡ Some r → right ≡ r)
+    → (differs mine o || ((same && not (is_same_right mine right)) || false)) ≡ differs mine (option_or o (if same then Some right else None))
+agree-by mine right None true only = or-false (not (is_same_right mine right))
+agree-by mine right None false only = refl
+agree-by mine right (Some r) true only =
+    let e : right ≡ r = only refl r refl in
+    ap (λ (x : Right). not (is_same_right mine r) || (not (is_same_right mine x) || false)) e ∙ or-twice (not (is_same_right mine r))
+agree-by mine right (Some r) false only = or-false (not (is_same_right mine r))
+
+not-differs : (right : Right) (o : Option Right) → differs right o ≡ false → (r : Right) → o ≡ Some r → right ≡ r
+not-differs right None e r is = absurd cc
+not-differs right (Some s) e r is =
+    let f : s ≡ r = cc in
+    elim (cases_Bool (is_same_right right s)) [
+      | inl same ↦ same-right right s same ∙ f
+      | inr other ↦ absurd (cc (e, ap not other))
+    ]
+
+-- with a line whose right no earlier one contradicts, a line conflicts still where its right is another than the first
+pub agree-snoc : (rs : List Replacing) (x : Replacing) → ((y : Replacing) → list_any (is_conflict y) rs ≡ differs y.1 (right_for rs y.0)) → differs x.1 (right_for rs x.0) ≡ false
+    → (y : Replacing) → list_any (is_conflict y) (rs ++ x ∷ []) ≡ differs y.1 (right_for (rs ++ x ∷ []) y.0)
+agree-snoc rs x agree none y =
+    list_any-append (is_conflict y) rs (x ∷ [])
+    ∙ ap (λ (b : Bool). b || (is_conflict y x || false)) (agree y)
+    ∙ agree-by y.1 x.1 (right_for rs y.0) (is_same_left y.0 x.0)
+    (λ same r is. not-differs x.1 (right_for rs x.0) none r (ap (right_for rs) (sym (same-left y.0 x.0 same)) ∙ is))
+    ∙ ap (differs y.1) (sym (right-for-snoc rs x y.0))
+
+pair-left-ties : (a b : Pair) → is_eq (pair_cmp a b) ≡ is_same_left (left_with a.0 a.1) (left_with b.0 b.1)
+pair-left-ties a b = pair-ties a b
+
+and-true : (a : Bool) → (a && true) ≡ a
+and-true true = refl
+and-true false = refl
+
+and-false : (a : Bool) → (a && false) ≡ false
+and-false true = refl
+and-false false = refl
+
+path-left-ties : (a b : List ℕ) → is_eq (slice_cmp nat_cmp a b) ≡ is_same_left (left_without a) (left_without b)
+path-left-ties a b = is_eq-slice_cmp a b ∙ sym (and-true (bytes_eq a b))
+
+seen-snoc : (old : List Replace) (replace : Replace) → replaces_seen (old ++ replace ∷ []) ≡ replaces_seen old ++ replace_seen replace ∷ []
+seen-snoc old replace = map-append replace_seen old (replace ∷ [])
+
+version-lines : (rs : List Replacing) (ov nv : map.BTreeMap Pair declared.Right) (op : map.BTreeMap (List ℕ) declared.Right) (key : Pair) (right : Right)
+    → IndexLines rs ov op → IsNoted pair_cmp ov nv key right (Ok tt) → IndexLines (rs ++ (left_with key.0 key.1, right) ∷ []) nv op
+version-lines rs ov nv op key right index told = record {
+  versions = noted pair_cmp (λ q. left_with q.0 q.1) pair-left-ties ov nv rs key right index.versions told;
+  paths = λ p. index.paths p ∙ sym (others-stay rs (left_with key.0 key.1, right) (left_without p) (and-false (bytes_eq p key.0)));
+  agree = agree-snoc rs (left_with key.0 key.1, right) index.agree (noted-agrees pair_cmp (λ q. left_with q.0 q.1) pair-left-ties ov nv rs key right index.versions told);
+}
+
+path-lines : (rs : List Replacing) (ov : map.BTreeMap Pair declared.Right) (op np : map.BTreeMap (List ℕ) declared.Right) (key : List ℕ) (right : Right)
+    → IndexLines rs ov op → IsNoted (slice_cmp nat_cmp) op np key right (Ok tt) → IndexLines (rs ++ (left_without key, right) ∷ []) ov np
+path-lines rs ov op np key right index told = record {
+  versions = λ q. index.versions q ∙ sym (others-stay rs (left_without key, right) (left_with q.0 q.1) (and-false (bytes_eq q.0 key)));
+  paths = noted (slice_cmp nat_cmp) left_without path-left-ties op np rs key right index.paths told;
+  agree = agree-snoc rs (left_without key, right) index.agree (noted-agrees (slice_cmp nat_cmp) left_without path-left-ties op np rs key right index.paths told);
+}
+
+-- one more line that replaces one version
+pub version-indexed : (old new : List Replace) (replace : Replace) (version : List ℕ) (ov nv : map.BTreeMap Pair declared.Right) (op : map.BTreeMap (List ℕ) declared.Right) (key : Pair)
+    → new ≡ old ++ replace ∷ [] → replace.version ≡ Some version → key ≡ pair replace.left version → IndexLines (replaces_seen old) ov op
+    → IsNoted pair_cmp ov nv key (right_seen replace.right) (Ok tt) → IndexLines (replaces_seen new) nv op
+version-indexed old new replace version ov nv op key is-new is-version is-key index told =
+    let lines = version-lines (replaces_seen old) ov nv op key (right_seen replace.right) index told in
+    let right = right_seen replace.right in
+    let e : replacing (left_with key.0 key.1) right ≡ replace_seen replace =
+    ap (λ (k : Pair). replacing (left_with k.0 k.1) right) is-key ∙ ap (λ (v : Option (List ℕ)). replacing (left_by replace.left v) right) (sym is-version) in
+    subst (λ (rs : List Replacing). IndexLines rs nv op) (ap (λ (x : Replacing). replaces_seen old ++ x ∷ []) e ∙ sym (seen-snoc old replace) ∙ ap replaces_seen (sym is-new)) lines
+
+-- one more line that replaces a whole path
+pub path-indexed : (old new : List Replace) (replace : Replace) (ov : map.BTreeMap Pair declared.Right) (op np : map.BTreeMap (List ℕ) declared.Right) (key : List ℕ)
+    → new ≡ old ++ replace ∷ [] → replace.version ≡ None → key ≡ replace.left → IndexLines (replaces_seen old) ov op
+    → IsNoted (slice_cmp nat_cmp) op np key (right_seen replace.right) (Ok tt) → IndexLines (replaces_seen new) ov np
+path-indexed old new replace ov op np key is-new is-version is-key index told =
+    let lines = path-lines (replaces_seen old) ov op np key (right_seen replace.right) index told in
+    let right = right_seen replace.right in
+    let e : replacing (left_without key) right ≡ replace_seen replace =
+    ap (λ (k : List ℕ). replacing (left_without k) right) is-key ∙ ap (λ (v : Option (List ℕ)). replacing (left_by replace.left v) right) (sym is-version) in
+    subst (λ (rs : List Replacing). IndexLines rs ov np) (ap (λ (x : Replacing). replaces_seen old ++ x ∷ []) e ∙ sym (seen-snoc old replace) ∙ ap replaces_seen (sym is-new)) lines

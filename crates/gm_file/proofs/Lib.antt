@@ -1,0 +1,16 @@
+pub mod SmallNumbers
+pub mod GoTexts
+pub mod PartKinds
+pub mod Arrows
+pub mod Entries
+pub mod First
+pub mod Snoc
+pub mod Told
+pub mod SamePairs
+pub mod Sets
+pub mod Indexed
+pub mod Saying
+pub mod Ordered
+pub mod Lines
+pub mod Whole
+pub mod Retracted

@@ -1,0 +1,120 @@
+-- The retractions of a dependency's file.
+use Rattle.std.proofs.Common.{◌≡◌, ℕ, ◌+◌, ◌<◌, ◌≤◌, ◌||◌, not, Bool, true, false, List, [], ◌∷◌, ◌++◌, length, map, take, get_or, codes, Option, Some, None, Ok, refl, sym, ap, subst, ◌∙◌, inl, inr, append-nil}
+use Rattle.std.specs.Prelude.{if◌then◌else◌, option_and_then}
+use Rattle.std.specs.Option.{option_map, option_to_list}
+use Rattle.std.proofs.lemmas.Bool.{cases_Bool}
+use Rattle.std.proofs.lemmas.List.Elements.{filter_map-append}
+use Rattle.std.specs.Cmp.Lexicographic.{same_text}
+use Rattle.std.specs.List.{cons_option, filter_map}
+use Rattle.std.specs.Str.{bytes_eq}
+use Rattle.gm_syntax.specs.Words.{Word}
+use Rattle.gm_syntax.specs.Document.{Line}
+use Rattle.gm_file.specs.Directives.{Strict, Verb, ForModule, ForGo, ForRequire, ForExclude, ForReplace, ForRetract, ForNothing, Unknown, Pair, Directive, DeclaresModule, DeclaresGo, Requires, Excludes, Replaces, Retracts, Kept, Item, Silent, Opening, Saying, block_after, block_behind, directive_in, directive_of, directives, ends_of, item_at, main_verb, one_of, pair_of, replacing_of}
+use Rattle.gm_file.specs.Fields.{lax_retracts_of, sound_ends, sound_interval}
+use Rattle.gm_file.specs.Retracting.{retraction_at, retraction_in}
+use Rattle.gm_file.specs.declared.replace.Interval.{Interval}
+use Rattle.gm_file.specs.Views.{interval_seen, intervals_seen}
+use Rattle.std.proofs.lemmas.List.{map-append}
+use Rattle.gm_file.proofs.Lines.{block-snoc, said-once}
+
+is_retract : Verb → Bool
+is_retract ForRetract = true
+is_retract _ = false
+
+none-of : {X : Type 0} (f : X → Directive) → ((x : X) → sound_interval (f x) ≡ None) → (o : Option X) → option_and_then sound_interval (option_map f o) ≡ None
+none-of f none None = refl
+none-of f none (Some x) = none x
+
+other-verb : (verb : Verb) (words : List Word) → is_retract verb ≡ false → option_and_then sound_interval (directive_of verb words) ≡ None
+unfolding directive_of is_retract
+other-verb ForModule words e = none-of DeclaresModule (λ _. refl) (one_of words)
+other-verb ForGo words e = none-of DeclaresGo (λ _. refl) (one_of words)
+other-verb ForRequire words e = none-of Requires (λ _. refl) (pair_of words)
+other-verb ForExclude words e = none-of Excludes (λ _. refl) (pair_of words)
+other-verb ForReplace words e = none-of Replaces (λ _. refl) (replacing_of words)
+other-verb ForRetract words e = absurd (cc e)
+other-verb ForNothing words e = refl
+other-verb Unknown words e = refl
+
+verb-by : (a b c d e k : Bool) → is_retract (if a then ForModule else (if b then ForGo else (if c then ForRequire else (if d then ForExclude else (if e then ForReplace else (if k then ForNothing else Unknown)))))) ≡ false
+unfolding is_retract
+verb-by true b c d e k = refl
+verb-by false true c d e k = refl
+verb-by false false true d e k = refl
+verb-by false false false true e k = refl
+verb-by false false false false true k = refl
+verb-by false false false false false true = refl
+verb-by false false false false false false = refl
+
+not-retract : (text : List ℕ) → bytes_eq text (codes "retract") ≡ false → is_retract (main_verb text) ≡ false
+not-retract text e =
+    rw e (verb-by (bytes_eq text (codes "module")) (bytes_eq text (codes "go")) (bytes_eq text (codes "require")) (bytes_eq text (codes "exclude")) (bytes_eq text (codes "replace"))
+    (bytes_eq text (codes "toolchain") || bytes_eq text (codes "godebug") || bytes_eq text (codes "tool") || bytes_eq text (codes "ignore")))
+
+-- an entry of another verb retracts nothing
+pub other-retracts : (item : Item) (verb : List ℕ) (words : List Word) → item ≡ Saying verb words → bytes_eq verb (codes "retract") ≡ false → None ≡ retraction_at item
+other-retracts item verb words is other = sym (ap retraction_at is ∙ other-verb (main_verb verb) words (not-retract verb other))
+
+and-map : (o : Option Pair) → option_and_then sound_interval (option_map Retracts o) ≡ option_and_then sound_ends o
+and-map None = refl
+and-map (Some ends) = refl
+
+-- an entry of `retract` retracts what its words do
+pub retract-retracts : (item : Item) (verb : List ℕ) (words : List Word) → item ≡ Saying verb words → bytes_eq verb (codes "retract") ≡ true → retraction_in words ≡ retraction_at item
+unfolding directive_of
+retract-retracts item verb words is same =
+    let e : verb ≡ codes "retract" = same_text verb (codes "retract") (sym same) in
+    sym (ap retraction_at is ∙ ap (λ (v : List ℕ). retraction_at (Saying v words)) e ∙ and-map (ends_of words))
+
+-- a line that is no entry retracts nothing
+pub none-retracts : (item : Item) → ((verb : List ℕ) (words : List Word) → ¬ (item ≡ Saying verb words)) → None ≡ retraction_at item
+none-retracts Silent none = refl
+none-retracts (Opening verb) none = refl
+none-retracts (Saying verb words) none = absurd (none verb words refl)
+
+to-list : (o : Option Directive) → filter_map sound_interval (option_to_list o) ≡ option_to_list (option_and_then sound_interval o)
+to-list None = refl
+to-list (Some d) = by (sound_interval d)
+  where
+    by : (o : Option Pair) → cons_option o [] ≡ option_to_list o
+    by None = refl
+    by (Some p) = refl
+
+-- what lines retract, with one more line
+retracts-snoc : (lines : List (Line Word)) (line : Line Word) → lax_retracts_of (lines ++ line ∷ []) ≡ lax_retracts_of lines ++ option_to_list (retraction_at (item_at (block_after None lines, line)))
+retracts-snoc lines line =
+    ap (filter_map sound_interval) (said-once Strict lines line)
+    ∙ filter_map-append sound_interval (directives Strict lines) (option_to_list (directive_in Strict (item_at (block_after None lines, line))))
+    ∙ ap (λ (ps : List Pair). lax_retracts_of lines ++ ps) (to-list (directive_in Strict (item_at (block_after None lines, line))))
+
+pub not-false : (a : Bool) → not a ≡ false → a ≡ true
+not-false true e = refl
+not-false false e = cc e
+
+-- what the lines so far retract, with the verb of the block that is open behind them
+pub record AreRetracted (lines : List (Line Word)) (block : Option Word) (intervals : List Pair) : Type 0 where
+  pub open_is : block ≡ block_after None lines
+  pub are : intervals ≡ lax_retracts_of lines
+
+pub retracted-none : AreRetracted [] None []
+retracted-none = record { open_is = refl; are = refl }
+
+-- one line more
+pub retracted-more : (lines : List (Line Word)) (block : Option Word) (line : Line Word) (intervals more : List Pair) → AreRetracted lines block intervals
+    → more ≡ intervals ++ option_to_list (retraction_at (item_at (block, line))) → AreRetracted (lines ++ line ∷ []) (block_behind block line) more
+retracted-more lines block line intervals more so is = record {
+  open_is = ap (λ (b : Option Word). block_behind b line) so.open_is ∙ sym (block-snoc None lines line);
+  are = is ∙ ap (λ (ps : List Pair). ps ++ option_to_list (retraction_at (item_at (block, line)))) so.are
+      ∙ ap (λ (b : Option Word). lax_retracts_of lines ++ option_to_list (retraction_at (item_at (b, line)))) so.open_is
+      ∙ sym (retracts-snoc lines line);
+}
+
+pub pushed-more : (items more : List Interval) (interval : Interval) (o : Option Interval) (r : Option Pair) → more ≡ items ++ interval ∷ [] → o ≡ Some interval → option_map interval_seen o ≡ r
+    → intervals_seen more ≡ intervals_seen items ++ option_to_list r
+pushed-more items more interval o r is some seen =
+    ap intervals_seen is ∙ map-append interval_seen items (interval ∷ [])
+    ∙ ap (λ (q : Option Pair). intervals_seen items ++ option_to_list q) (ap (option_map interval_seen) (sym some) ∙ seen)
+
+pub kept-more : (items : List Interval) (o : Option Interval) (r : Option Pair) → o ≡ None → option_map interval_seen o ≡ r → intervals_seen items ≡ intervals_seen items ++ option_to_list r
+kept-more items o r none seen =
+    sym (append-nil (intervals_seen items)) ∙ ap (λ (q : Option Pair). intervals_seen items ++ option_to_list q) (ap (option_map interval_seen) (sym none) ∙ seen)

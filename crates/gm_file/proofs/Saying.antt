@@ -1,0 +1,216 @@
+-- What directives say, with one more.
+use Rattle.std.proofs.Common.{◌≡◌, ℕ, ◌&&◌, ◌||◌, not, Bool, true, false, List, [], ◌∷◌, ◌++◌, Option, Some, None, Result, Ok, Err, refl, sym, ap, ◌∙◌, append-nil}
+use Rattle.std.specs.Prelude.{is_some, option_and_then}
+use Rattle.std.proofs.lemmas.Bool.{cases_Bool}
+use Rattle.std.proofs.lemmas.List.Elements.{filter_map-append}
+use Rattle.std.proofs.lemmas.List.Folds.{list_any-append}
+use Rattle.std.specs.List.{cons_option, filter_map, list_any}
+use Rattle.gm_file.specs.declared.fault.DirectiveKind.{DirectiveKind}
+use Rattle.gm_file.specs.declared.fault.DirectiveKind.TheVariants.{BadGo, ConflictingReplace, Repeated}
+use Rattle.gm_file.specs.declared.fault.LineFault.{LineFault}
+use Rattle.gm_file.specs.declared.fault.LineFault.TheVariants as line
+use Rattle.gm_file.specs.declared.fields.Fields.{Fields}
+use Rattle.gm_file.specs.Directives.{Mode, Pair, Replacing, Directive, DeclaresModule, DeclaresGo, Requires, Excludes, Replaces, Retracts, Kept}
+use Rattle.gm_file.specs.Faults.{conflicts, directive_kinds, go_in, is_conflict, is_go, is_module, path_kinds, unless}
+use Rattle.gm_file.specs.Fields.{as_exclusion, as_go, as_interval, as_module, as_replacing, as_requirement, first}
+use Rattle.gm_file.specs.Holding.{Holds, IsAdded, Say}
+use Rattle.gm_file.specs.Indexes.{TellsConflict}
+use Rattle.gm_file.specs.Reading.{early_kinds}
+
+-- a directive that gives nothing changes nothing
+skip : {Y : Type 0} (h : Directive → Option Y) (ds : List Directive) (d : Directive) → h d ≡ None → filter_map h (ds ++ d ∷ []) ≡ filter_map h ds
+skip {Y} h ds d e = filter_map-append h ds (d ∷ []) ∙ ap (λ (o : Option Y). filter_map h ds ++ cons_option o []) e ∙ append-nil (filter_map h ds)
+
+put : {Y : Type 0} (h : Directive → Option Y) (ds : List Directive) (d : Directive) (y : Y) → h d ≡ Some y → filter_map h (ds ++ d ∷ []) ≡ filter_map h ds ++ y ∷ []
+put {Y} h ds d y e = filter_map-append h ds (d ∷ []) ∙ ap (λ (o : Option Y). filter_map h ds ++ cons_option o []) e
+
+or-false : (a : Bool) → (a || false) ≡ a
+or-false true = refl
+or-false false = refl
+
+or-true : (a : Bool) → (a || (true || false)) ≡ true
+or-true true = refl
+or-true false = refl
+
+pass : (p : Directive → Bool) (ds : List Directive) (d : Directive) → p d ≡ false → list_any p (ds ++ d ∷ []) ≡ list_any p ds
+pass p ds d e = list_any-append p ds (d ∷ []) ∙ ap (λ (b : Bool). list_any p ds || (b || false)) e ∙ or-false (list_any p ds)
+
+hit : (p : Directive → Bool) (ds : List Directive) (d : Directive) → p d ≡ true → list_any p (ds ++ d ∷ []) ≡ true
+hit p ds d e = list_any-append p ds (d ∷ []) ∙ ap (λ (b : Bool). list_any p ds || (b || false)) e ∙ or-true (list_any p ds)
+
+first-new : {X : Type 0} (xs : List X) (x : X) → first xs ≡ None → first (xs ++ x ∷ []) ≡ Some x
+first-new [] x e = refl
+first-new (y ∷ xs) x e = cc e
+
+first-old : {X : Type 0} (xs : List X) (x y : X) → first xs ≡ Some y → first (xs ++ x ∷ []) ≡ Some y
+first-old [] x y e = cc e
+first-old (z ∷ xs) x y e = e
+
+none-by : {X : Type 0} (o : Option X) (b rest : Bool) (xs : List X) → b ≡ is_some o → (b || rest) ≡ false → (rest ≡ false → first xs ≡ None) → first (cons_option o xs) ≡ None
+none-by None true rest xs s e later = absurd (cc s)
+none-by None false rest xs s e later = later e
+none-by (Some x) true rest xs s e later = absurd (cc e)
+none-by (Some x) false rest xs s e later = absurd (cc s)
+
+none-first : {X : Type 0} (h : Directive → Option X) (p : Directive → Bool) → ((d : Directive) → p d ≡ is_some (h d)) → (ds : List Directive) → list_any p ds ≡ false → first (filter_map h ds) ≡ None
+none-first h p same [] e = refl
+none-first h p same (d ∷ ds) e = none-by (h d) (p d) (list_any p ds) (filter_map h ds) (same d) e (none-first h p same ds)
+
+is_go-given : (d : Directive) → is_go d ≡ is_some (as_go d)
+is_go-given (DeclaresModule path) = refl
+is_go-given (DeclaresGo text) = refl
+is_go-given (Requires p) = refl
+is_go-given (Excludes p) = refl
+is_go-given (Replaces r) = refl
+is_go-given (Retracts ends) = refl
+is_go-given Kept = refl
+
+is_module-given : (d : Directive) → is_module d ≡ is_some (as_module d)
+is_module-given (DeclaresModule path) = refl
+is_module-given (DeclaresGo text) = refl
+is_module-given (Requires p) = refl
+is_module-given (Excludes p) = refl
+is_module-given (Replaces r) = refl
+is_module-given (Retracts ends) = refl
+is_module-given Kept = refl
+
+module _ {mode : Mode} {ds : List Directive} {declared : Option (List ℕ)} {go : Option (ℕ × ℕ)} {requirements excludes : List Pair} {replaces : List Replacing} {retracts : List Pair} (say : Say mode ds declared go requirements excludes replaces retracts) where
+  -- all that a directive without any of these leaves as it is
+  pub say-kept : Say mode (ds ++ Kept ∷ []) declared go requirements excludes replaces retracts
+  say-kept = record {
+    declared_is = ap first (skip as_module ds Kept refl) ∙ say.declared_is;
+    is_declared = pass is_module ds Kept refl ∙ say.is_declared;
+    go_is = ap (λ (ts : List (List ℕ)). option_and_then (go_in mode) (first ts)) (skip as_go ds Kept refl) ∙ say.go_is;
+    is_given = pass is_go ds Kept refl ∙ say.is_given;
+    requirements_are = skip as_requirement ds Kept refl ∙ say.requirements_are;
+    excludes_are = skip as_exclusion ds Kept refl ∙ say.excludes_are;
+    replaces_are = skip as_replacing ds Kept refl ∙ say.replaces_are;
+    retracts_are = skip as_interval ds Kept refl ∙ say.retracts_are;
+  }
+
+  pub say-requirement : (p : Pair) → Say mode (ds ++ Requires p ∷ []) declared go (requirements ++ p ∷ []) excludes replaces retracts
+  say-requirement p = let d = Requires p in record {
+    declared_is = ap first (skip as_module ds d refl) ∙ say.declared_is;
+    is_declared = pass is_module ds d refl ∙ say.is_declared;
+    go_is = ap (λ (ts : List (List ℕ)). option_and_then (go_in mode) (first ts)) (skip as_go ds d refl) ∙ say.go_is;
+    is_given = pass is_go ds d refl ∙ say.is_given;
+    requirements_are = put as_requirement ds d p refl ∙ ap (λ (ps : List Pair). ps ++ p ∷ []) say.requirements_are;
+    excludes_are = skip as_exclusion ds d refl ∙ say.excludes_are;
+    replaces_are = skip as_replacing ds d refl ∙ say.replaces_are;
+    retracts_are = skip as_interval ds d refl ∙ say.retracts_are;
+  }
+
+  pub say-exclusion : (p : Pair) → Say mode (ds ++ Excludes p ∷ []) declared go requirements (excludes ++ p ∷ []) replaces retracts
+  say-exclusion p = let d = Excludes p in record {
+    declared_is = ap first (skip as_module ds d refl) ∙ say.declared_is;
+    is_declared = pass is_module ds d refl ∙ say.is_declared;
+    go_is = ap (λ (ts : List (List ℕ)). option_and_then (go_in mode) (first ts)) (skip as_go ds d refl) ∙ say.go_is;
+    is_given = pass is_go ds d refl ∙ say.is_given;
+    requirements_are = skip as_requirement ds d refl ∙ say.requirements_are;
+    excludes_are = put as_exclusion ds d p refl ∙ ap (λ (ps : List Pair). ps ++ p ∷ []) say.excludes_are;
+    replaces_are = skip as_replacing ds d refl ∙ say.replaces_are;
+    retracts_are = skip as_interval ds d refl ∙ say.retracts_are;
+  }
+
+  pub say-replacing : (r : Replacing) → Say mode (ds ++ Replaces r ∷ []) declared go requirements excludes (replaces ++ r ∷ []) retracts
+  say-replacing r = let d = Replaces r in record {
+    declared_is = ap first (skip as_module ds d refl) ∙ say.declared_is;
+    is_declared = pass is_module ds d refl ∙ say.is_declared;
+    go_is = ap (λ (ts : List (List ℕ)). option_and_then (go_in mode) (first ts)) (skip as_go ds d refl) ∙ say.go_is;
+    is_given = pass is_go ds d refl ∙ say.is_given;
+    requirements_are = skip as_requirement ds d refl ∙ say.requirements_are;
+    excludes_are = skip as_exclusion ds d refl ∙ say.excludes_are;
+    replaces_are = put as_replacing ds d r refl ∙ ap (λ (rs : List Replacing). rs ++ r ∷ []) say.replaces_are;
+    retracts_are = skip as_interval ds d refl ∙ say.retracts_are;
+  }
+
+  pub say-interval : (ends : Pair) → Say mode (ds ++ Retracts ends ∷ []) declared go requirements excludes replaces (retracts ++ ends ∷ [])
+  say-interval ends = let d = Retracts ends in record {
+    declared_is = ap first (skip as_module ds d refl) ∙ say.declared_is;
+    is_declared = pass is_module ds d refl ∙ say.is_declared;
+    go_is = ap (λ (ts : List (List ℕ)). option_and_then (go_in mode) (first ts)) (skip as_go ds d refl) ∙ say.go_is;
+    is_given = pass is_go ds d refl ∙ say.is_given;
+    requirements_are = skip as_requirement ds d refl ∙ say.requirements_are;
+    excludes_are = skip as_exclusion ds d refl ∙ say.excludes_are;
+    replaces_are = skip as_replacing ds d refl ∙ say.replaces_are;
+    retracts_are = put as_interval ds d ends refl ∙ ap (λ (ps : List Pair). ps ++ ends ∷ []) say.retracts_are;
+  }
+
+  pub say-module : (path : List ℕ) → is_some declared ≡ false → Say mode (ds ++ DeclaresModule path ∷ []) (Some path) go requirements excludes replaces retracts
+  say-module path none = let d = DeclaresModule path in record {
+    declared_is = ap first (put as_module ds d path refl) ∙ first-new (filter_map as_module ds) path (none-first as_module is_module is_module-given ds (say.is_declared ∙ none));
+    is_declared = hit is_module ds d refl;
+    go_is = ap (λ (ts : List (List ℕ)). option_and_then (go_in mode) (first ts)) (skip as_go ds d refl) ∙ say.go_is;
+    is_given = pass is_go ds d refl ∙ say.is_given;
+    requirements_are = skip as_requirement ds d refl ∙ say.requirements_are;
+    excludes_are = skip as_exclusion ds d refl ∙ say.excludes_are;
+    replaces_are = skip as_replacing ds d refl ∙ say.replaces_are;
+    retracts_are = skip as_interval ds d refl ∙ say.retracts_are;
+  }
+
+  pub say-go : (text : List ℕ) (numbers : ℕ × ℕ) → is_some go ≡ false → go_in mode text ≡ Some numbers → Say mode (ds ++ DeclaresGo text ∷ []) declared (Some numbers) requirements excludes replaces retracts
+  say-go text numbers none read = let d = DeclaresGo text in record {
+    declared_is = ap first (skip as_module ds d refl) ∙ say.declared_is;
+    is_declared = pass is_module ds d refl ∙ say.is_declared;
+    go_is = ap (λ (ts : List (List ℕ)). option_and_then (go_in mode) (first ts)) (put as_go ds d text refl)
+        ∙ ap (option_and_then (go_in mode)) (first-new (filter_map as_go ds) text (none-first as_go is_go is_go-given ds (say.is_given ∙ none))) ∙ read;
+    is_given = hit is_go ds d refl;
+    requirements_are = skip as_requirement ds d refl ∙ say.requirements_are;
+    excludes_are = skip as_exclusion ds d refl ∙ say.excludes_are;
+    replaces_are = skip as_replacing ds d refl ∙ say.replaces_are;
+    retracts_are = skip as_interval ds d refl ∙ say.retracts_are;
+  }
+
+-- ---- what is wrong behind others
+
+conflicts-lines : (r : Replacing) (ds : List Directive) → list_any (conflicts r) ds ≡ list_any (is_conflict r) (filter_map as_replacing ds)
+conflicts-lines r [] = refl
+conflicts-lines r (DeclaresModule path ∷ ds) = conflicts-lines r ds
+conflicts-lines r (DeclaresGo text ∷ ds) = conflicts-lines r ds
+conflicts-lines r (Requires p ∷ ds) = conflicts-lines r ds
+conflicts-lines r (Excludes p ∷ ds) = conflicts-lines r ds
+conflicts-lines r (Replaces other ∷ ds) = ap (λ (b : Bool). is_conflict r other || b) (conflicts-lines r ds)
+conflicts-lines r (Retracts ends ∷ ds) = conflicts-lines r ds
+conflicts-lines r (Kept ∷ ds) = conflicts-lines r ds
+
+none-behind : (kinds : List DirectiveKind) (b : Bool) (kind : DirectiveKind) → kinds ≡ [] → b ≡ false → kinds ++ unless (not b) kind ≡ []
+none-behind kinds b kind none e = rw (none, e) refl
+
+one-behind : (kinds : List DirectiveKind) (b : Bool) (kind : DirectiveKind) → kinds ≡ [] → b ≡ true → first (kinds ++ unless (not b) kind) ≡ Some kind
+one-behind kinds b kind none e = rw (none, e) refl
+
+pub module-right : (mode : Mode) (ds : List Directive) (path : List ℕ) → path_kinds path ≡ [] → list_any is_module ds ≡ false → directive_kinds mode ds (DeclaresModule path) ≡ []
+unfolding directive_kinds
+module-right mode ds path early none = none-behind (path_kinds path) (list_any is_module ds) Repeated early none
+
+pub module-repeated : (mode : Mode) (ds : List Directive) (path : List ℕ) → path_kinds path ≡ [] → list_any is_module ds ≡ true → first (directive_kinds mode ds (DeclaresModule path)) ≡ Some Repeated
+unfolding directive_kinds
+module-repeated mode ds path early some = one-behind (path_kinds path) (list_any is_module ds) Repeated early some
+
+pub go-right : (mode : Mode) (ds : List Directive) (text : List ℕ) (numbers : ℕ × ℕ) → list_any is_go ds ≡ false → go_in mode text ≡ Some numbers → directive_kinds mode ds (DeclaresGo text) ≡ []
+unfolding directive_kinds
+go-right mode ds text numbers none read = rw (none, read) refl
+
+pub go-repeated : (mode : Mode) (ds : List Directive) (text : List ℕ) → list_any is_go ds ≡ true → first (directive_kinds mode ds (DeclaresGo text)) ≡ Some Repeated
+unfolding directive_kinds
+go-repeated mode ds text some = rw some refl
+
+pub go-bad : (mode : Mode) (ds : List Directive) (text : List ℕ) → list_any is_go ds ≡ false → go_in mode text ≡ None → first (directive_kinds mode ds (DeclaresGo text)) ≡ Some BadGo
+unfolding directive_kinds
+go-bad mode ds text none unread = rw (none, unread) refl
+
+pub replace-right : (mode : Mode) (ds : List Directive) (r : Replacing) → early_kinds (Replaces r) ≡ [] → list_any (is_conflict r) (filter_map as_replacing ds) ≡ false → directive_kinds mode ds (Replaces r) ≡ []
+unfolding directive_kinds
+replace-right mode ds r early none = none-behind (early_kinds (Replaces r)) (list_any (conflicts r) ds) ConflictingReplace early (conflicts-lines r ds ∙ none)
+
+pub replace-conflicts : (mode : Mode) (ds : List Directive) (r : Replacing) → early_kinds (Replaces r) ≡ [] → list_any (is_conflict r) (filter_map as_replacing ds) ≡ true
+    → first (directive_kinds mode ds (Replaces r)) ≡ Some ConflictingReplace
+unfolding directive_kinds
+replace-conflicts mode ds r early some = one-behind (early_kinds (Replaces r)) (list_any (conflicts r) ds) ConflictingReplace early (conflicts-lines r ds ∙ some)
+
+-- the answer to a replace that an earlier one contradicts
+pub conflict-told : (mode : Mode) (old new : Fields) (r : Replacing) (replaces : List Replacing) (fault : LineFault) → early_kinds (Replaces r) ≡ []
+    → ((ds : List Directive) → Holds mode ds old → filter_map as_replacing ds ≡ replaces) → TellsConflict r replaces (Err fault) → IsAdded mode old new (Replaces r) (Err fault)
+conflict-told mode old new r replaces line.NoMemory early are told = tt
+conflict-told mode old new r replaces (line.Kind kind) early are told = λ ds holds.
+    replace-conflicts mode ds r early (ap (list_any (is_conflict r)) (are ds holds) ∙ told.1) ∙ ap Some (sym told.0)

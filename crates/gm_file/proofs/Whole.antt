@@ -1,0 +1,56 @@
+-- A whole file that was read.
+use Rattle.std.proofs.Common.{◌≡◌, ℕ, Bool, true, false, List, [], Option, Some, None, is_some, refl, sym, ap, ◌∙◌}
+use Rattle.std.specs.Prelude.{if◌then◌else◌, unwrap_or}
+use Rattle.std.specs.Option.{option_or}
+use Rattle.gm_syntax.specs.Words.{Word}
+use Rattle.gm_syntax.specs.Document.{Line}
+use Rattle.gm_file.specs.declared.fault.DirectiveKind.TheVariants.{NoModule}
+use Rattle.gm_file.specs.declared.fields.Fields.{Fields}
+use Rattle.gm_file.specs.Directives.{Mode, Strict, Lax, Pair, directives}
+use Rattle.gm_file.specs.Faults.{Fault, fault_of, first_of, missing_module}
+use Rattle.gm_file.specs.Fields.{Dependency, dependency_of, go_of, lax_retracts_of, module_of, requirements_of}
+use Rattle.gm_file.specs.Held.{IsHeld}
+use Rattle.gm_file.specs.Holding.{AreRead}
+
+only-missing : (mode : Mode) (lines : List (Line Word)) (f : Fields) → AreRead mode lines f → fault_of mode lines ≡ missing_module mode (directives mode lines)
+unfolding fault_of
+only-missing mode lines f read = ap (λ (fs : List Fault). option_or (first_of fs) (missing_module mode (directives mode lines))) read.sound
+
+-- what is missing, by whether a path is declared
+missing-by : (lines : List (Line Word)) (f : Fields) (b : Bool) → AreRead Strict lines f → is_some f.declared ≡ b → fault_of Strict lines ≡ (if b then None else Some (0, NoModule))
+missing-by lines f b read is = only-missing Strict lines f read ∙ ap (λ (x : Bool). if x then None else Some (0, NoModule)) (read.holds.is_declared ∙ is)
+
+pub none-declared : (lines : List (Line Word)) (f : Fields) → AreRead Strict lines f → f.declared ≡ None → fault_of Strict lines ≡ Some (0, NoModule)
+none-declared lines f read none = missing-by lines f false read (ap is_some none)
+
+pub main-sound : (lines : List (Line Word)) (f : Fields) (path : List ℕ) → AreRead Strict lines f → f.declared ≡ Some path → fault_of Strict lines ≡ None
+main-sound lines f path read is = missing-by lines f true read (ap is_some is)
+
+pub main-held : (lines : List (Line Word)) (f : Fields) (path : List ℕ) (go : ℕ × ℕ) → AreRead Strict lines f → f.declared ≡ Some path → go ≡ unwrap_or f.go (1, 16)
+    → IsHeld lines path go f.requirements.items f.excludes f.replaces f.retracts.items
+main-held lines f path go read is go-is = record {
+  sound = main-sound lines f path read is;
+  module_is = read.holds.declared_is ∙ is;
+  go_is = ap (λ (o : Option (ℕ × ℕ)). unwrap_or o (1, 16)) read.holds.go_is ∙ sym go-is;
+  requirements_are = read.holds.requirements_are;
+  excludes_are = read.holds.excludes_are;
+  excludes_found = read.found.excludes;
+  replaces_are = read.holds.replaces_are;
+  replaces_found = read.found.replaces;
+  retracts_are = read.holds.retracts_are;
+}
+
+pub lax-sound : (lines : List (Line Word)) (f : Fields) → AreRead Lax lines f → fault_of Lax lines ≡ None
+lax-sound lines f read = only-missing Lax lines f read
+
+abbrev pub dependency : Option (List ℕ) → ℕ × ℕ → List Pair → List Pair → Dependency
+dependency declared go requirements retracts = record { declared = declared; go = go; requirements = requirements; retracts = retracts }
+
+pub dependency-is : (lines : List (Line Word)) (f : Fields) (go : ℕ × ℕ) (retracts : List Pair) → AreRead Lax lines f → go ≡ unwrap_or f.go (1, 16) → retracts ≡ lax_retracts_of lines
+    → dependency f.declared go f.requirements.items retracts ≡ dependency_of lines
+dependency-is lines f go retracts read go-is retracts-are =
+    let number : go ≡ go_of Lax lines = go-is ∙ sym (ap (λ (o : Option (ℕ × ℕ)). unwrap_or o (1, 16)) read.holds.go_is) in
+    ap (λ (d : Option (List ℕ)). dependency d go f.requirements.items retracts) (sym read.holds.declared_is)
+    ∙ ap (λ (g : ℕ × ℕ). dependency (module_of Lax lines) g f.requirements.items retracts) number
+    ∙ ap (λ (r : List Pair). dependency (module_of Lax lines) (go_of Lax lines) r retracts) (sym read.holds.requirements_are)
+    ∙ ap (λ (t : List Pair). dependency (module_of Lax lines) (go_of Lax lines) (requirements_of Lax lines) t) retracts-are

@@ -1,0 +1,22 @@
+use Rattle.std.proofs.Common.{◌≡◌, ℕ, List, Option, ap, codes, sym, subst, ◌∙◌}
+use Rattle.std.specs.Prelude.{IfOk}
+use Rattle.std.specs.Option.{option_map}
+use Rattle.std.specs.Str.{bytes_eq}
+use Rattle.gm_syntax.specs.LineViews.{line_of, plain}
+use Rattle.gm_syntax.specs.Tokens.{words_of}
+use Rattle.gm_name.proofs.NameTests.{not_true}
+use Rattle.gm_file.specs.Directives.{Pair, item_at}
+use Rattle.gm_file.specs.Views.{interval_seen}
+use Rattle.gm_file.proofs.Retracted.{not-false, other-retracts, retract-retracts}
+use Rattle.gm_file.proofs.retractions.retraction_at.Goals as goal
+
+pub returns-then-ne : goal.returns-then-ne
+returns-then-ne c =
+    other-retracts _ c.in-Some.verb.now.word.spelling (words_of c.in-Some.words.now) c.in-Some.ensures
+    (ap (λ (t : List ℕ). bytes_eq t (codes "retract")) (sym c.spelling.ensures) ∙ not_true _ (sym c.ne.ensures ∙ c.if-ne.true))
+
+pub returns : goal.returns
+returns c =
+    subst (λ (o : Option Pair). IfOk c.interval_in.result (λ interval. option_map interval_seen interval ≡ o))
+    (retract-retracts _ c.in-Some.verb.now.word.spelling (words_of c.in-Some.words.now) c.in-Some.ensures
+    (ap (λ (t : List ℕ). bytes_eq t (codes "retract")) (sym c.spelling.ensures) ∙ not-false _ (sym c.ne.ensures ∙ c.if-ne.false))) c.interval_in.ensures

@@ -1,0 +1,14 @@
+pub mod Values
+pub mod GoVersions
+pub mod Directives
+pub mod Faults
+pub mod Fields
+pub mod Reading
+pub mod Views
+pub mod Held
+pub mod VerbViews
+pub mod DirectiveViews
+pub mod Pairs
+pub mod Indexes
+pub mod Holding
+pub mod Retracting

@@ -1,0 +1,29 @@
+-- What the words of an entry are: their values, and folders.
+use Rattle.std.specs.Prelude.{ℕ, ◌-◌, ◌==◌, ◌&&◌, ◌||◌, nat_lt, nat_eq, if◌then◌else◌, Bool, List, [], ◌∷◌, length, take, drop, slice_index, codes, Option, Some, None, is_some, take_while}
+use Rattle.std.specs.Char.{is_ascii_digit, is_ascii_lowercase}
+use Rattle.std.specs.List.{after_first, before_first, list_all, slice_split, starts_with}
+use Rattle.std.specs.Str.{bytes_eq}
+use Rattle.std.specs.Str.Parse.{digits_value}
+use Rattle.gm_syntax.specs.Words.{Word}
+use Rattle.gm_syntax.specs.declared.word.Kind.{Kind}
+use Rattle.gm_syntax.specs.declared.word.Kind.TheVariants.{Bare, Text, Mark}
+use Rattle.gm_syntax.specs.Values.{value_of_kind}
+
+-- f of both values, where there are both
+abbrev pub both : {A B C : Type 0} → (A → B → C) → Option A → Option B → Option C
+both f None other = None
+both f (Some a) None = None
+both f (Some a) (Some b) = Some (f a b)
+
+abbrev pub argument_of_kind : Kind → List ℕ → Option (List ℕ)
+argument_of_kind Mark text = None
+argument_of_kind kind text = Some (value_of_kind kind text)
+
+-- the value of a word that may stand as an argument: punctuation may not
+abbrev pub argument : Word → Option (List ℕ)
+argument w = argument_of_kind w.kind w.spelling
+
+-- whether a text is a folder: `.`, `..`, or one that begins `./`, `../` or `/`
+unfoldable pub is_folder : List ℕ → Bool
+is_folder text = bytes_eq text (codes ".") || bytes_eq text (codes "..") || starts_with nat_eq text (codes "./")
+    || starts_with nat_eq text (codes "../") || starts_with nat_eq text (codes "/")

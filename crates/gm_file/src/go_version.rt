@@ -1,0 +1,137 @@
+//! Go versions.
+
+ghost use Rattle.std.specs.Prelude.{◌≡◌, drop, length, take_while};
+ghost use Rattle.std.specs.Char.{is_ascii_digit, is_ascii_lowercase};
+ghost use Rattle.std.specs.List.{list_all};
+ghost use Rattle.gm_name.specs.Names.{is_decimal};
+ghost use Rattle.gm_name.specs.Number.{starts_as_no_number};
+ghost use Rattle.gm_file.specs.GoVersions.{first_number, is_go_suffix, last_number, lax_go, lax_go_text, second_number, small_number, strict_go};
+
+fn starts_as_no_number(text: &[u8]) -> bool
+    ensures { result ≡ starts_as_no_number text.now }
+{
+    text.is_empty() || text[0] == b'+' || (text[0] == b'0' && text.len() > 1)
+}
+
+fn has_only_digits(text: &[u8]) -> bool
+    ensures { result ≡ list_all is_ascii_digit text.now }
+{
+    text.iter().all(|b| b.is_ascii_digit())
+}
+
+fn is_decimal(text: &[u8]) -> bool
+    ensures { result ≡ is_decimal text.now }
+{
+    !starts_as_no_number(text) && has_only_digits(text)
+}
+
+#[tactic(auto, unfolding(crate::specs::GoVersions::small_number))]
+fn small_number(text: &str) -> Option<u32>
+    ensures { result ≡ small_number text.now }
+{
+    if !is_decimal(text.as_bytes()) {
+        return None;
+    }
+    match text.parse::<u32>() {
+        Ok(n) => { if n < 1_000_000_000 { Some(n) } else { None } }
+        Err(_) => None,
+    }
+}
+
+#[tactic(auto, unfolding(crate::specs::GoVersions::first_number))]
+fn first_number(text: &str) -> Option<u32>
+    ensures { result ≡ first_number text.now }
+{
+    if text.starts_with("0") {
+        return None;
+    }
+    small_number(text)
+}
+
+fn digits_len(text: &[u8]) -> usize
+    ensures { result ≡ length (take_while is_ascii_digit text.now) }
+{
+    text.iter().take_while(|b| b.is_ascii_digit()).count()
+}
+
+fn letters_len(text: &[u8]) -> usize
+    ensures { result ≡ length (take_while is_ascii_lowercase text.now) }
+{
+    text.iter().take_while(|b| b.is_ascii_lowercase()).count()
+}
+
+#[tactic(auto, unfolding(crate::specs::GoVersions::is_go_suffix))]
+fn is_go_suffix(text: &[u8]) -> bool
+    ensures { result ≡ is_go_suffix text.now }
+{
+    if text.is_empty() {
+        return true;
+    }
+    let letters = letters_len(text);
+    if letters == 0 || letters >= text.len() {
+        return false;
+    }
+    has_only_digits(&text[letters..])
+}
+
+// The digits that a text begins with, and what follows them.
+fn split_digits(text: &str) -> (&str, &str)
+    ensures digits { result.0.now ≡ take_while is_ascii_digit text.now }
+    ensures rest { result.1.now ≡ drop (length (take_while is_ascii_digit text.now)) text.now }
+{
+    text.split_at(digits_len(text.as_bytes()))
+}
+
+#[tactic(auto, unfolding(crate::specs::GoVersions::last_number))]
+fn last_number(text: &str) -> Option<u32>
+    ensures { result ≡ last_number text.now }
+{
+    let (digits, rest) = split_digits(text);
+    if !is_go_suffix(rest.as_bytes()) {
+        return None;
+    }
+    small_number(digits)
+}
+
+#[tactic(auto, unfolding(crate::specs::GoVersions::second_number))]
+fn second_number(text: &str) -> Option<u32>
+    ensures { result ≡ second_number text.now }
+{
+    match text.split_once('.') {
+        None => last_number(text),
+        Some((second, third)) => {
+            last_number(third)?;
+            small_number(second)
+        }
+    }
+}
+
+/// The first two numbers of a go version of a main file, or None for another text.
+#[tactic(auto, unfolding(crate::specs::GoVersions::strict_go))]
+pub(crate) fn strict_go(text: &str) -> Option<(u32, u32)>
+    ensures { result ≡ strict_go text.now }
+{
+    let (first, rest) = text.split_once('.')?;
+    Some((first_number(first)?, second_number(rest)?))
+}
+
+// The same of a dependency's file, without a `v` in front.
+#[tactic(auto, unfolding(crate::specs::GoVersions::lax_go_text))]
+fn lax_go_text(text: &str) -> Option<(u32, u32)>
+    ensures { result ≡ lax_go_text text.now }
+{
+    let (first, rest) = text.split_once('.')?;
+    let (second, _) = split_digits(rest);
+    Some((first_number(first)?, small_number(second)?))
+}
+
+/// The first two numbers of a go version of a dependency's file, or None for another text.
+#[tactic(auto, unfolding(crate::specs::GoVersions::lax_go))]
+pub(crate) fn lax_go(text: &str) -> Option<(u32, u32)>
+    ensures { result ≡ lax_go text.now }
+{
+    match text.strip_prefix('v') {
+        Some(rest) => lax_go_text(rest),
+        None => lax_go_text(text),
+    }
+}

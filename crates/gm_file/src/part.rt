@@ -1,0 +1,162 @@
+//! The parts of an entry: values, paths, versions, and the sides of a replace.
+
+ghost use Rattle.std.specs.Prelude.{◌≡◌, IfErr, IfOk, Some};
+ghost use Rattle.std.specs.String.{string_bytes};
+ghost use Rattle.gm_syntax.specs.Document.{is_mark};
+ghost use Rattle.gm_syntax.specs.Tokens.{words_of};
+ghost use Rattle.gm_syntax.specs.Values.{value_of};
+ghost use Rattle.gm_file.specs.Values.{argument, both};
+ghost use Rattle.gm_file.specs.Directives.{ends_of, is_empty_block, one_of, pair, pair_of};
+ghost use Rattle.gm_file.specs.Faults.{ends_kinds, pair_kinds, path_kinds, version_kinds};
+ghost use Rattle.gm_file.specs.Reading.{IsRead, no_kinds};
+ghost use Rattle.gm_file.specs.Views.{interval_seen, texts_seen};
+
+use crate::fault::{DirectiveKind, LineFault};
+use crate::replace::Interval;
+use gm_name::{ModPath, ModVer, ModVersion, PathFault, VersionFault};
+use gm_syntax::token::Token;
+use gm_syntax::word::Kind;
+use std::alloc::Global;
+
+fn owned_value(alloc: Global, word: &Token) -> Result<String, LineFault>
+    ensures value { IfOk result (λ text. string_bytes text ≡ value_of word.now.word) }
+    ensures memory { IfErr result (λ fault. fault ≡ LineFault.NoMemory) }
+{
+    Ok(word.value(alloc)?.into_owned(alloc)?)
+}
+
+/// The value of an argument, which is no punctuation.
+pub(crate) fn argument(alloc: Global, word: &Token) -> Result<String, LineFault>
+    ensures { IsRead string_bytes DirectiveKind.WrongArguments no_kinds (argument word.now.word) result }
+{
+    match word.kind() {
+        Kind::Bare => owned_value(alloc, word),
+        Kind::Text => owned_value(alloc, word),
+        Kind::Mark => Err(LineFault::Kind(DirectiveKind::WrongArguments)),
+    }
+}
+
+/// The value of the one argument.
+pub(crate) fn one_value(alloc: Global, words: &[Token]) -> Result<String, LineFault>
+    ensures { IsRead string_bytes DirectiveKind.WrongArguments no_kinds (one_of (words_of words.now)) result }
+{
+    match words {
+        [word] => argument(alloc, word),
+        _ => Err(LineFault::Kind(DirectiveKind::WrongArguments)),
+    }
+}
+
+/// The values of two words.
+pub(crate) fn both_values(
+    alloc: Global,
+    first: &Token,
+    second: &Token,
+) -> Result<(String, String), LineFault>
+    ensures { IsRead texts_seen DirectiveKind.WrongArguments no_kinds (both pair (argument first.now.word) (argument second.now.word)) result }
+{
+    let first = argument(alloc, first)?;
+    let second = argument(alloc, second)?;
+    Ok((first, second))
+}
+
+pub(crate) fn read_path(alloc: Global, text: &str) -> Result<ModPath, LineFault>
+    ensures { IsRead (λ path. path) DirectiveKind.WrongArguments path_kinds (Some text.now) result }
+{
+    match ModPath::parse(alloc, text) {
+        Ok(path) => Ok(path),
+        Err(fault) => match fault {
+            PathFault::NoMemory => Err(LineFault::NoMemory),
+            PathFault::BadPath => Err(LineFault::Kind(DirectiveKind::BadPath)),
+        },
+    }
+}
+
+pub(crate) fn read_version(alloc: Global, text: &str) -> Result<ModVersion, LineFault>
+    ensures { IsRead (λ version. version) DirectiveKind.WrongArguments version_kinds (Some text.now) result }
+{
+    match ModVersion::parse(alloc, text) {
+        Ok(version) => Ok(version),
+        Err(fault) => match fault {
+            VersionFault::NoMemory => Err(LineFault::NoMemory),
+            VersionFault::BadVersion => Err(LineFault::Kind(DirectiveKind::BadVersion)),
+            VersionFault::NotCanonical => Err(LineFault::Kind(DirectiveKind::BadVersion)),
+        },
+    }
+}
+
+/// A path and a version that fits it, of their texts.
+fn pair_of_texts(alloc: Global, path: &str, version: &str) -> Result<ModVer, LineFault>
+    ensures { IsRead (λ pair. pair) DirectiveKind.WrongArguments pair_kinds (Some (path.now, version.now)) result }
+{
+    let path = read_path(alloc, path)?;
+    let version = read_version(alloc, version)?;
+    match ModVer::pair(path, version) {
+        Some(pair) => Ok(pair),
+        None => Err(LineFault::Kind(DirectiveKind::Misfit)),
+    }
+}
+
+/// The path and the version of a `require` or an `exclude`.
+pub(crate) fn read_pair(alloc: Global, words: &[Token]) -> Result<ModVer, LineFault>
+    ensures { IsRead (λ pair. pair) DirectiveKind.WrongArguments pair_kinds (pair_of (words_of words.now)) result }
+{
+    match words {
+        [path, version] => {
+            let (path, version) = both_values(alloc, path, version)?;
+            pair_of_texts(alloc, path.as_str(), version.as_str())
+        }
+        _ => Err(LineFault::Kind(DirectiveKind::WrongArguments)),
+    }
+}
+
+/// Two ends of an interval, of their texts.
+fn interval_of_texts(alloc: Global, low: &str, high: &str) -> Result<Interval, LineFault>
+    ensures { IsRead interval_seen DirectiveKind.WrongArguments ends_kinds (Some (low.now, high.now)) result }
+{
+    let low = read_version(alloc, low)?;
+    let high = read_version(alloc, high)?;
+    Ok(Interval { low, high })
+}
+
+fn is_mark(byte: u8, token: &Token) -> bool
+    ensures { result ≡ is_mark byte token.now.word }
+{
+    match token.kind() {
+        Kind::Mark => match token.spelling().as_bytes() {
+            [b] => *b == byte,
+            _ => false,
+        },
+        Kind::Bare => false,
+        Kind::Text => false,
+    }
+}
+
+/// Whether there are just an opening and a closing parenthesis.
+pub(crate) fn is_empty_block(words: &[Token]) -> bool
+    ensures { result ≡ is_empty_block (words_of words.now) }
+{
+    match words {
+        [open, close] => is_mark(b'(', open) && is_mark(b')', close),
+        _ => false,
+    }
+}
+
+/// The versions of a `retract`.
+pub(crate) fn read_interval(alloc: Global, words: &[Token]) -> Result<Interval, LineFault>
+    ensures { IsRead interval_seen DirectiveKind.WrongArguments ends_kinds (ends_of (words_of words.now)) result }
+{
+    match words {
+        [version] => {
+            let text = argument(alloc, version)?;
+            interval_of_texts(alloc, text.as_str(), text.as_str())
+        }
+        [open, low, comma, high, close] => {
+            if !(is_mark(b'[', open) && is_mark(b',', comma) && is_mark(b']', close)) {
+                return Err(LineFault::Kind(DirectiveKind::WrongArguments));
+            }
+            let (low, high) = both_values(alloc, low, high)?;
+            interval_of_texts(alloc, low.as_str(), high.as_str())
+        }
+        _ => Err(LineFault::Kind(DirectiveKind::WrongArguments)),
+    }
+}

@@ -1,0 +1,91 @@
+//! Retractions in a dependency's file.
+
+ghost use Rattle.std.specs.Prelude.{◌≡◌, IfOk};
+ghost use Rattle.std.specs.Option.{option_map};
+ghost use Rattle.gm_syntax.specs.LineViews.{line_of, lines_seen, plain, plains};
+ghost use Rattle.gm_syntax.specs.Tokens.{words_of};
+ghost use Rattle.gm_file.specs.Directives.{item_at};
+ghost use Rattle.gm_file.specs.Fields.{lax_retracts_of};
+ghost use Rattle.gm_file.specs.Retracting.{TellsEntry, retraction_at, retraction_in};
+ghost use Rattle.gm_file.specs.Views.{interval_seen, intervals_seen};
+
+use crate::fault::LineFault;
+use crate::fields::block_behind;
+use crate::part::{is_empty_block, read_interval};
+use crate::replace::Interval;
+use gm_syntax::line::Line;
+use gm_syntax::token::Token;
+use std::alloc::{AllocError, Global};
+
+/// The verb and the arguments of an entry; `None` for any other line.
+#[tactic(auto, unfolding(crate::specs::Directives::item_at))]
+fn entry_of<'w, 'a>(
+    block: Option<&'w Token<'a>>,
+    line: &'w Line<'a>,
+) -> Option<(&'w Token<'a>, &'w [Token<'a>])>
+    ensures { TellsEntry (item_at (option_map (λ t. t.now.word) block.entry, plain (line_of line.now))) (option_map (λ e. (e.0.now.word, words_of e.1.now)) result) }
+{
+    match line {
+        Line::Blank => None,
+        Line::Comment(_) => None,
+        Line::Open(_, _) => None,
+        Line::Close(_) => None,
+        Line::Entry(words, _) => match block {
+            Some(verb) => Some((verb, words.as_slice())),
+            None => match words.as_slice() {
+                [] => None,
+                [verb, arguments @ ..] => {
+                    if is_empty_block(arguments) {
+                        return None;
+                    }
+                    Some((verb, arguments))
+                }
+            },
+        },
+    }
+}
+
+/// The interval that the words of an entry retract; `None` where strict reading would refuse them.
+fn interval_in(alloc: Global, words: &[Token]) -> Result<Option<Interval>, AllocError>
+    ensures { IfOk result (λ interval. option_map interval_seen interval ≡ retraction_in (words_of words.now)) }
+{
+    match read_interval(alloc, words) {
+        Ok(interval) => Ok(Some(interval)),
+        Err(fault) => match fault {
+            LineFault::NoMemory => Err(AllocError),
+            LineFault::Kind(_) => Ok(None),
+        },
+    }
+}
+
+/// The interval that a line retracts.
+fn retraction_at(
+    alloc: Global,
+    block: Option<&Token>,
+    line: &Line,
+) -> Result<Option<Interval>, AllocError>
+    ensures { IfOk result (λ interval. option_map interval_seen interval ≡ retraction_at (item_at (option_map (λ t. t.now.word) block.entry, plain (line_of line.now)))) }
+{
+    let Some((verb, words)) = entry_of(block, line) else {
+        return Ok(None);
+    };
+    if verb.spelling() != "retract" {
+        return Ok(None);
+    }
+    interval_in(alloc, words)
+}
+
+/// The intervals that the lines retract, in order. An entry that strict reading would refuse retracts none.
+pub(crate) fn read_retractions(alloc: Global, lines: &[Line]) -> Result<Vec<Interval>, AllocError>
+    ensures { IfOk result (λ intervals. intervals_seen intervals.items ≡ lax_retracts_of (plains (lines_seen lines.now))) }
+{
+    let mut intervals = Vec::new(alloc);
+    let mut block = None;
+    for line in lines {
+        if let Some(interval) = retraction_at(alloc, block, line)? {
+            intervals.push(interval)?;
+        }
+        block = block_behind(block, line);
+    }
+    Ok(intervals)
+}

@@ -1,0 +1,179 @@
+//! The two sides of a replace.
+
+ghost use Rattle.std.specs.Prelude.{◌≡◌, ◌+◌, [], length, not, take_while, IfNone, IfSome, Some};
+ghost use Rattle.std.specs.Option.{option_map};
+ghost use Rattle.std.specs.List.{after_first, before_first};
+ghost use Rattle.std.specs.String.{string_bytes};
+ghost use Rattle.gm_syntax.specs.Tokens.{words_of};
+ghost use Rattle.gm_file.specs.Directives.{is_arrow, left_of, replacing, replacing_of, right_of, Folder, Module};
+ghost use Rattle.gm_file.specs.Faults.{does_left_fit, left_version_kinds, sides_kinds};
+ghost use Rattle.gm_file.specs.Reading.{IsRead, no_kinds, replacing_kinds};
+ghost use Rattle.gm_file.specs.Views.{left_text_seen, replace_seen, right_text_seen};
+
+use crate::fault::{DirectiveKind, LineFault};
+use crate::part::{argument, both_values, read_path, read_version};
+use crate::replace::{Replace, Right};
+use crate::verb::{is_arrow, is_folder};
+use gm_name::{ModPath, ModVersion, fits};
+use gm_syntax::token::Token;
+use std::alloc::Global;
+
+/// The texts of what is replaced.
+#[derive(Drop)]
+pub(crate) struct LeftText {
+    path: String,
+    version: Option<String>,
+}
+
+/// The texts of what stands in its place.
+#[derive(Drop)]
+pub(crate) enum RightText {
+    Folder(String),
+    Module(String, String),
+}
+
+fn words_before_arrow(words: &[Token]) -> usize
+    ensures { result ≡ length (take_while (λ t. not (is_arrow t.word)) words.now) }
+{
+    words.iter().take_while(|word| !is_arrow(*word)).count()
+}
+
+/// The words before the first arrow and after it.
+fn split_at_arrow<'w, 'a>(words: &'w [Token<'a>]) -> Option<(&'w [Token<'a>], &'w [Token<'a>])>
+    ensures before { IfSome result (λ sides. words_of sides.0.now ≡ before_first is_arrow (words_of words.now)) }
+    ensures after { IfSome result (λ sides. words_of sides.1.now ≡ after_first is_arrow (words_of words.now)) }
+    ensures none { IfNone result (after_first is_arrow (words_of words.now) ≡ []) }
+{
+    match words.split_at(words_before_arrow(words)) {
+        (before, [_, after @ ..]) => Some((before, after)),
+        (_, []) => None,
+    }
+}
+
+fn left_text(alloc: Global, words: &[Token]) -> Result<LeftText, LineFault>
+    ensures { IsRead left_text_seen DirectiveKind.WrongArguments no_kinds (left_of (words_of words.now)) result }
+{
+    match words {
+        [path] => {
+            let path = argument(alloc, path)?;
+            Ok(LeftText {
+                path,
+                version: None,
+            })
+        }
+        [path, version] => {
+            let (path, version) = both_values(alloc, path, version)?;
+            Ok(LeftText {
+                path,
+                version: Some(version),
+            })
+        }
+        _ => Err(LineFault::Kind(DirectiveKind::WrongArguments)),
+    }
+}
+
+#[tactic(auto, unfolding(crate::specs::Values::is_folder))]
+fn right_text(alloc: Global, words: &[Token]) -> Result<RightText, LineFault>
+    ensures { IsRead right_text_seen DirectiveKind.WrongArguments no_kinds (right_of (words_of words.now)) result }
+{
+    match words {
+        [folder] => {
+            let text = argument(alloc, folder)?;
+            if is_folder(text.as_str()) {
+                Ok(RightText::Folder(text))
+            } else {
+                Err(LineFault::Kind(DirectiveKind::WrongArguments))
+            }
+        }
+        [path, version] => {
+            let (path, version) = both_values(alloc, path, version)?;
+            if is_folder(path.as_str()) {
+                return Err(LineFault::Kind(DirectiveKind::WrongArguments));
+            }
+            Ok(RightText::Module(path, version))
+        }
+        _ => Err(LineFault::Kind(DirectiveKind::WrongArguments)),
+    }
+}
+
+fn read_left_version(
+    alloc: Global,
+    version: &Option<String>,
+) -> Result<Option<ModVersion>, LineFault>
+    ensures { IsRead (λ version. version) DirectiveKind.WrongArguments left_version_kinds (Some (option_map string_bytes version.now)) result }
+{
+    match version {
+        Some(text) => Ok(Some(read_version(alloc, text.as_str())?)),
+        None => Ok(None),
+    }
+}
+
+// Whether a version, if there is one, fits the path.
+fn does_left_fit(path: &ModPath, version: &Option<ModVersion>) -> bool
+    ensures { result ≡ does_left_fit path.now version.now }
+{
+    match version {
+        Some(version) => fits(path, version),
+        None => true,
+    }
+}
+
+fn replace_by_folder(alloc: Global, left: &LeftText, folder: String) -> Result<Replace, LineFault>
+    ensures { IsRead replace_seen DirectiveKind.WrongArguments replacing_kinds (Some (replacing (left_text_seen left.now) (Folder (string_bytes folder)))) result }
+{
+    let path = read_path(alloc, left.path.as_str())?;
+    let version = read_left_version(alloc, &left.version)?;
+    if !does_left_fit(&path, &version) {
+        return Err(LineFault::Kind(DirectiveKind::Misfit));
+    }
+    Ok(Replace {
+        left: path,
+        version,
+        right: Right::Folder(folder),
+    })
+}
+
+fn replace_by_module(
+    alloc: Global,
+    left: &LeftText,
+    path: &str,
+    version: &str,
+) -> Result<Replace, LineFault>
+    ensures { IsRead replace_seen DirectiveKind.WrongArguments replacing_kinds (Some (replacing (left_text_seen left.now) (Module path.now version.now))) result }
+{
+    let left_path = read_path(alloc, left.path.as_str())?;
+    let path = read_path(alloc, path)?;
+    let left_version = read_left_version(alloc, &left.version)?;
+    let version = read_version(alloc, version)?;
+    if !does_left_fit(&left_path, &left_version) {
+        return Err(LineFault::Kind(DirectiveKind::Misfit));
+    }
+    Ok(Replace {
+        left: left_path,
+        version: left_version,
+        right: Right::Module(path, version),
+    })
+}
+
+fn replace_of_texts(alloc: Global, left: &LeftText, right: RightText) -> Result<Replace, LineFault>
+    ensures { IsRead replace_seen DirectiveKind.WrongArguments replacing_kinds (Some (replacing (left_text_seen left.now) (right_text_seen right))) result }
+{
+    match right {
+        RightText::Folder(folder) => replace_by_folder(alloc, left, folder),
+        RightText::Module(path, version) => {
+            replace_by_module(alloc, left, path.as_str(), version.as_str())
+        }
+    }
+}
+
+/// The replacement that the words of a `replace` say.
+pub(crate) fn read_replace(alloc: Global, words: &[Token]) -> Result<Replace, LineFault>
+    ensures { IsRead replace_seen DirectiveKind.WrongArguments replacing_kinds (replacing_of (words_of words.now)) result }
+{
+    let Some((before, after)) = split_at_arrow(words) else {
+        return Err(LineFault::Kind(DirectiveKind::WrongArguments));
+    };
+    let left = left_text(alloc, before)?;
+    let right = right_text(alloc, after)?;
+    replace_of_texts(alloc, &left, right)
+}
