@@ -1,12 +1,12 @@
 -- From what is wrong with the parts of an entry to what is wrong with its line.
-use Rattle.std.proofs.Common.{◌≡◌, ℕ, List, [], ◌∷◌, ◌++◌, Option, Some, None, Result, Ok, Err, ap, subst, ◌∙◌}
+use Rattle.std.proofs.Common.{◌≡◌, ℕ, List, Option, Some, None, Err, ap, subst, ◌∙◌}
 use Rattle.std.specs.Option.{option_map}
 use Rattle.gm_syntax.specs.Words.{Word}
 use Rattle.gm_file.specs.declared.fault.DirectiveKind.{DirectiveKind}
 use Rattle.gm_file.specs.declared.fault.LineFault.{LineFault}
 use Rattle.gm_file.specs.declared.fault.LineFault.TheVariants as line
-use Rattle.gm_file.specs.Directives.{Mode, Verb, Item, Saying, Directive, DeclaresModule, DeclaresGo, Requires, Excludes, Replaces, Retracts, Kept, directive_of, verb_in}
-use Rattle.gm_file.specs.Faults.{directive_kinds, item_kinds, path_kinds, saying_kinds, sides_kinds, unread_kind}
+use Rattle.gm_file.specs.Directives.{Mode, Verb, Saying, Directive, DeclaresModule, DeclaresGo, Requires, Excludes, Replaces, Retracts, Kept, directive_of, verb_in}
+use Rattle.gm_file.specs.Faults.{directive_kinds, path_kinds, saying_kinds, sides_kinds, unread_kind}
 use Rattle.gm_file.specs.Fields.{first}
 use Rattle.gm_file.specs.Reading.{IsRead, early_kinds, part_kinds}
 use Rattle.gm_file.specs.DirectiveViews.{IsLineRead, directive_seen}

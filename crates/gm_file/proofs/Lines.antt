@@ -1,22 +1,19 @@
 -- What the loop over the lines keeps.
-use Rattle.std.proofs.Common.{◌≡◌, ℕ, ◌+◌, ◌<◌, ◌≤◌, List, [], ◌∷◌, ◌++◌, length, map, take, drop, get_or, Option, Some, None, Result, Ok, Err, refl, sym, ap, subst, ◌∙◌, arith, append-nil}
+use Rattle.std.proofs.Common.{◌≡◌, ℕ, ◌+◌, ◌<◌, ◌≤◌, List, [], ◌∷◌, ◌++◌, length, map, take, drop, get_or, Option, Some, None, Ok, Err, refl, sym, ap, subst, ◌∙◌, arith, append-nil}
 use Rattle.std.proofs.lemmas.List.{get_or-map, length-map, length-take-le, take-append-drop, take_all, take_more}
-use Rattle.std.specs.Prelude.{⊤}
 use Rattle.std.specs.Option.{option_to_list}
 use Rattle.std.specs.List.{filter_map}
 use Rattle.gm_syntax.specs.Words.{Word}
 use Rattle.gm_syntax.specs.Document.{Line}
 use Rattle.gm_syntax.specs.LineViews.{line_of, lines_seen, plain, plains}
 use Rattle.gm_syntax.specs.declared.line.Line as declared
-use Rattle.gm_file.specs.declared.fault.DirectiveKind.{DirectiveKind}
-use Rattle.gm_file.specs.declared.fault.FileFault.{FileFault}
 use Rattle.gm_file.specs.declared.fault.LineFault.{LineFault}
 use Rattle.gm_file.specs.declared.fault.LineFault.TheVariants as line
 use Rattle.gm_file.specs.declared.fields.Fields.{Fields}
 use Rattle.gm_file.specs.Directives.{Mode, Directive, block_after, block_behind, directive_in, directives, item_at, said}
 use Rattle.gm_file.specs.Faults.{fault_of, faults, item_kinds}
 use Rattle.gm_file.specs.Fields.{first}
-use Rattle.gm_file.specs.Holding.{AreFound, AreRead, AreReadTo, Holds, IsLineAdded}
+use Rattle.gm_file.specs.Holding.{AreFound, AreReadTo, Holds, IsLineAdded}
 use Rattle.gm_file.specs.Views.{TellsFault, fault_at}
 use Rattle.gm_file.proofs.Ordered.{first-told, item-within}
 use Rattle.gm_file.proofs.Snoc.{directives-snoc, faults-snoc}

@@ -1,9 +1,8 @@
 -- The kinds of a line stand in their order, so the first of them is told.
-use Rattle.std.proofs.Common.{◌≡◌, ℕ, ◌+◌, ◌<◌, ◌≤◌, Bool, true, false, not, List, [], ◌∷◌, ◌++◌, length, take, drop, Option, Some, None, is_some, refl, sym, ap, ◌∙◌, inl, inr, arith, lit≤}
-use Rattle.std.specs.Prelude.{◌⊎◌, ⊤}
+use Rattle.std.proofs.Common.{◌≡◌, ℕ, ◌≤◌, Bool, true, false, not, List, [], ◌∷◌, ◌++◌, Option, Some, None, is_some, sym, ap, inl, arith, lit≤}
 use Rattle.std.specs.List.{list_any}
 use Rattle.gm_file.specs.declared.fault.DirectiveKind.{DirectiveKind}
-use Rattle.gm_file.specs.declared.fault.DirectiveKind.TheVariants.{UnknownVerb, WrongArguments, BadPath, BadVersion, Misfit, Repeated, NoModule, ConflictingReplace, BadGo}
+use Rattle.gm_file.specs.declared.fault.DirectiveKind.TheVariants.{UnknownVerb, WrongArguments, BadPath, BadVersion, Misfit, Repeated, ConflictingReplace, BadGo}
 use Rattle.gm_name.specs.Names.{does_fit, is_path, is_version}
 use Rattle.gm_file.specs.Directives.{Mode, Verb, ForModule, ForGo, ForRequire, ForExclude, ForReplace, ForRetract, ForNothing, Unknown, verb_in, Left, Right, Folder, Module, Item, Silent, Opening, Saying, Directive, DeclaresModule, DeclaresGo, Requires, Excludes, Replaces, Retracts, Kept, directive_of}
 use Rattle.gm_file.specs.Faults.{conflicts, directive_kinds, does_left_fit, ends_kinds, go_in, is_go, is_module, item_kinds, left_version_kinds, opening_kinds, pair_kinds, path_kinds, rank, right_path_kinds, right_version_kinds, saying_kinds, sides_kinds, unless, unread_kind, version_kinds}

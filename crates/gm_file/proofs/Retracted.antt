@@ -1,15 +1,14 @@
 -- The retractions of a dependency's file.
-use Rattle.std.proofs.Common.{◌≡◌, ℕ, ◌+◌, ◌<◌, ◌≤◌, ◌||◌, not, Bool, true, false, List, [], ◌∷◌, ◌++◌, length, map, take, get_or, codes, Option, Some, None, Ok, refl, sym, ap, subst, ◌∙◌, inl, inr, append-nil}
+use Rattle.std.proofs.Common.{◌≡◌, ℕ, ◌||◌, not, Bool, true, false, List, [], ◌∷◌, ◌++◌, codes, Option, Some, None, refl, sym, ap, ◌∙◌, append-nil}
 use Rattle.std.specs.Prelude.{if◌then◌else◌, option_and_then}
 use Rattle.std.specs.Option.{option_map, option_to_list}
-use Rattle.std.proofs.lemmas.Bool.{cases_Bool}
 use Rattle.std.proofs.lemmas.List.Elements.{filter_map-append}
 use Rattle.std.specs.Cmp.Lexicographic.{same_text}
 use Rattle.std.specs.List.{cons_option, filter_map}
 use Rattle.std.specs.Str.{bytes_eq}
 use Rattle.gm_syntax.specs.Words.{Word}
 use Rattle.gm_syntax.specs.Document.{Line}
-use Rattle.gm_file.specs.Directives.{Strict, Verb, ForModule, ForGo, ForRequire, ForExclude, ForReplace, ForRetract, ForNothing, Unknown, Pair, Directive, DeclaresModule, DeclaresGo, Requires, Excludes, Replaces, Retracts, Kept, Item, Silent, Opening, Saying, block_after, block_behind, directive_in, directive_of, directives, ends_of, item_at, main_verb, one_of, pair_of, replacing_of}
+use Rattle.gm_file.specs.Directives.{Strict, Verb, ForModule, ForGo, ForRequire, ForExclude, ForReplace, ForRetract, ForNothing, Unknown, Pair, Directive, DeclaresModule, DeclaresGo, Requires, Excludes, Replaces, Retracts, Item, Silent, Opening, Saying, block_after, block_behind, directive_in, directive_of, directives, ends_of, item_at, main_verb, one_of, pair_of, replacing_of}
 use Rattle.gm_file.specs.Fields.{lax_retracts_of, sound_ends, sound_interval}
 use Rattle.gm_file.specs.Retracting.{retraction_at, retraction_in}
 use Rattle.gm_file.specs.declared.replace.Interval.{Interval}

@@ -1,38 +1,15 @@
 -- What `parse` refuses is no small number.
-use Rattle.std.proofs.Common.{◌≡◌, ◌≢◌, ◌↔◌, ℕ, ◌-◌, ◌==◌, ◌&&◌, ◌||◌, ◌^◌, ◌<◌, ◌≤◌, nat_lt, nat_eq, Bool, true, false, not, List, [], ◌∷◌, ◌++◌, length, get_or, take, drop, codes, Option, Some, None, Result, Ok, Err, is_some, IfSome, IfNone, refl, sym, ap, subst, ◌∙◌, inl, inr, arith, rules, lit<}
-use Rattle.std.specs.Prelude.{if◌then◌else◌, option_and_then}
-use Rattle.std.specs.Option.{option_map, option_map_or}
-use Rattle.std.proofs.lemmas.Bool.Decides.{Decides-eqb, nat_tests}
-use Rattle.std.proofs.lemmas.Fmt.{decimal-digits_value, digits_value-decimal}
-use Rattle.std.proofs.lemmas.Slice.Eq.{ends_is, starts_is}
-use Rattle.std.proofs.lemmas.Str.Parse.{IsNumeralModel, numerals_by_value, parse_plain}
+use Rattle.std.proofs.Common.{◌≡◌, ◌≢◌, ℕ, ◌&&◌, ◌^◌, ◌<◌, nat_lt, Bool, true, false, not, List, length, get_or, Some, None, Err, refl, arith, lit<}
+use Rattle.std.specs.Prelude.{if◌then◌else◌}
+use Rattle.std.proofs.lemmas.Bool.Decides.{nat_tests}
+use Rattle.std.proofs.lemmas.Str.Parse.{parse_plain}
 use Rattle.std.specs.Char.{is_ascii_digit}
 use Rattle.std.specs.Fmt.{decimal}
-use Rattle.std.specs.List.{ends_with, list_all, starts_with}
+use Rattle.std.specs.List.{list_all}
 use Rattle.std.specs.Str.Parse.{ParsesUnsigned, digits_value}
 use Rattle.gm_file.specs.GoVersions.{small_number}
-use Rattle.gm_name.specs.Element.{elements, is_element}
-use Rattle.gm_name.specs.Number.{IsNumber, starts_as_no_number}
-use Rattle.gm_name.specs.Path.{EndsAsSlashVersion, EndsInDotNumber, EndsInNumber, HasMajor, IsPath, IsUnderGopkg, is_digit_or_dot}
-use Rattle.gm_name.specs.Tail.{head, tail}
-use Rattle.gm_name.specs.declared.major.Major.{Major}
-use Rattle.gm_name.specs.declared.major.Major.TheVariants.{NoSuffix, Slash, Dot}
-use Rattle.gm_name.proofs.Majors.{number-unique, major-unique, dot_stable_none, dot_unstable_none, dot_unstable_zero, major_elsewhere, major_under, slash_empty, slash_version}
-use Rattle.gm_name.proofs.Marks.{decimal-digits, number_marked, number_unmarked}
-use Rattle.gm_name.proofs.Numbers.{starts-decimal}
-use Rattle.gm_name.proofs.Paths.{path-elements, path-from}
-use Rattle.semver.proofs.Grammar.{version_parts-complete, version_parts-sound}
-use Rattle.semver.specs.Parse.{Parts, version_parts}
-use Rattle.semver.specs.declared.error.Error.{Error}
-use Rattle.std.specs.Cmp.Lexicographic.{same_text}
-use Rattle.std.proofs.Common.{IsTrue}
-use Rattle.std.specs.Prelude.{◌⊎◌}
-use Rattle.std.proofs.lemmas.List.{nil_from_length}
-use Rattle.std.proofs.lemmas.Bool.{eq-eqb, eqb-true}
-use Rattle.std.specs.Str.{bytes_eq}
-use Rattle.gm_name.specs.Version.{HasPlainBuild, IsVersion}
-use Rattle.gm_name.specs.Fit.{Fits, FitsMajor, build_of, major_of}
-use Rattle.gm_name.specs.Names.{at_least, dot_number, does_fit, ends_as_slash_version, fits_major, has_no_build, has_plain_build, is_decimal, is_path, is_version, major_in, number_after, number_in}
+use Rattle.gm_name.specs.Number.{starts_as_no_number}
+use Rattle.gm_name.specs.Names.{is_decimal}
 use Rattle.gm_name.proofs.NameTests.{and_both, digits, not_true}
 
 unread-by : (text : List ℕ) (b : Bool) → b ≡ nat_lt (digits_value 10 text) 1000000000 → is_decimal text ≡ true

@@ -6,7 +6,7 @@ use Rattle.std.specs.Str.{bytes_eq}
 use Rattle.gm_syntax.specs.Words.{Word}
 use Rattle.gm_syntax.specs.Document.{Line, Blank, Comment, Open, Close, Entry, is_mark}
 use Rattle.gm_syntax.specs.declared.word.Kind.{Kind}
-use Rattle.gm_syntax.specs.declared.word.Kind.TheVariants.{Bare, Text, Mark}
+use Rattle.gm_syntax.specs.declared.word.Kind.TheVariants.{Mark}
 use Rattle.gm_file.specs.Values.{argument, both, is_folder}
 
 -- ---- the verbs

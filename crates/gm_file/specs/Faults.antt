@@ -9,7 +9,7 @@ use Rattle.gm_file.specs.declared.fault.DirectiveKind.{DirectiveKind}
 use Rattle.gm_file.specs.declared.fault.DirectiveKind.TheVariants.{UnknownVerb, WrongArguments, BadPath, BadVersion, Misfit, Repeated, NoModule, ConflictingReplace, BadGo}
 use Rattle.gm_name.specs.Names.{does_fit, is_path, is_version}
 use Rattle.gm_file.specs.GoVersions.{lax_go, strict_go}
-use Rattle.gm_file.specs.Directives.{Verb, ForModule, ForGo, ForRequire, ForExclude, ForReplace, ForRetract, ForNothing, Unknown, Mode, Strict, Lax, verb_in, Pair, Left, Right, Folder, Module, Replacing, Directive, DeclaresModule, DeclaresGo, Requires, Excludes, Replaces, Retracts, Kept, directive_of, Seat, seats, Item, Silent, Opening, Saying, item_at, said, directives}
+use Rattle.gm_file.specs.Directives.{Verb, ForGo, Unknown, Mode, Strict, Lax, verb_in, Pair, Left, Right, Folder, Module, Replacing, Directive, DeclaresModule, DeclaresGo, Requires, Excludes, Replaces, Retracts, Kept, directive_of, Seat, seats, Item, Silent, Opening, Saying, item_at, said, directives}
 
 -- the kind, unless the test passes
 abbrev pub unless : Bool → DirectiveKind → List DirectiveKind

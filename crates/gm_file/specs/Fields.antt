@@ -4,7 +4,7 @@ use Rattle.std.specs.Option.{option_map, option_or}
 use Rattle.std.specs.List.{filter_map}
 use Rattle.gm_syntax.specs.Words.{Word}
 use Rattle.gm_syntax.specs.Document.{Line}
-use Rattle.gm_file.specs.Directives.{Mode, Strict, Lax, Pair, Left, left_with, left_without, Right, Replacing, Directive, DeclaresModule, DeclaresGo, Requires, Excludes, Replaces, Retracts, Kept, directives}
+use Rattle.gm_file.specs.Directives.{Mode, Strict, Lax, Pair, Left, left_with, left_without, Right, Replacing, Directive, DeclaresModule, DeclaresGo, Requires, Excludes, Replaces, Retracts, directives}
 use Rattle.gm_file.specs.Faults.{ends_kinds, go_in, is_same_left}
 
 abbrev pub as_module : Directive → Option (List ℕ)

@@ -1,12 +1,10 @@
 -- What the words of an entry are: their values, and folders.
-use Rattle.std.specs.Prelude.{ℕ, ◌-◌, ◌==◌, ◌&&◌, ◌||◌, nat_lt, nat_eq, if◌then◌else◌, Bool, List, [], ◌∷◌, length, take, drop, slice_index, codes, Option, Some, None, is_some, take_while}
-use Rattle.std.specs.Char.{is_ascii_digit, is_ascii_lowercase}
-use Rattle.std.specs.List.{after_first, before_first, list_all, slice_split, starts_with}
+use Rattle.std.specs.Prelude.{ℕ, ◌||◌, nat_eq, Bool, List, codes, Option, Some, None}
+use Rattle.std.specs.List.{starts_with}
 use Rattle.std.specs.Str.{bytes_eq}
-use Rattle.std.specs.Str.Parse.{digits_value}
 use Rattle.gm_syntax.specs.Words.{Word}
 use Rattle.gm_syntax.specs.declared.word.Kind.{Kind}
-use Rattle.gm_syntax.specs.declared.word.Kind.TheVariants.{Bare, Text, Mark}
+use Rattle.gm_syntax.specs.declared.word.Kind.TheVariants.{Mark}
 use Rattle.gm_syntax.specs.Values.{value_of_kind}
 
 -- f of both values, where there are both

@@ -18,7 +18,7 @@ use gm_syntax::doc::Doc;
 use std::alloc::Global;
 use std::marker::Model;
 
-/// A dependency's file, of which `module`, `go`, `require` and `retract` are read.
+/// A dependency's file, read laxly: `module`, `go`, `require` and `retract`. It keeps nothing of its document.
 #[derive(Drop)]
 pub struct DepFile {
     declared: Option<ModPath>,
@@ -37,7 +37,13 @@ impl Model for DepFile {
 }
 
 impl DepFile {
-    /// Reads those directives of a document.
+    /// Reads `module`, `go` and `require` as in a main file, and ignores every other verb with its block (Go Modules
+    /// Reference, go.mod files). The go version may have a `v` in front, and anything but a digit behind its second
+    /// number. `module` may be missing.
+    ///
+    /// A document with a fault is refused with `FileFault::Directive`: the lowest line with one, and of what is wrong
+    /// there the first kind in the order of `DirectiveKind`. A `retract` is never a fault: an entry that strict reading
+    /// would refuse retracts nothing. `NoMemory` may come in place of any answer.
     pub fn read(alloc: Global, doc: &Doc) -> Result<DepFile, FileFault>
         ensures ok { IfOk result (λ file. (file ≡ dependency_of (plains doc.now)) × (fault_of Lax (plains doc.now) ≡ None)) }
         ensures fault { IfErr result (TellsFault Lax (plains doc.now)) }
@@ -57,28 +63,28 @@ impl DepFile {
         })
     }
 
-    /// The declared path.
+    /// The path of the `module` directive, if there is one.
     pub fn module(&self) -> Option<&ModPath>
         ensures { option_copied result ≡ self.now.declared }
     {
         self.declared.as_ref()
     }
 
-    /// The first two numbers of the go version, 1 and 16 where there is none.
+    /// The first two numbers of the `go` directive's version, 1 and 16 where there is none.
     pub fn go(&self) -> (u32, u32)
         ensures { result ≡ self.now.go }
     {
         self.go
     }
 
-    /// The required modules, in the order of the lines.
+    /// The modules of the `require` lines, in the order of the lines, repeats kept.
     pub fn requirements(&self) -> &[ModVer]
         ensures { result.now ≡ self.now.requirements }
     {
         self.requirements.as_slice()
     }
 
-    /// The retracted intervals.
+    /// The intervals that the `retract` entries hold which strict reading takes, in the order of the lines.
     pub fn retracts(&self) -> &[Interval]
         ensures { intervals_seen result.now ≡ self.now.retracts }
     {

@@ -19,7 +19,7 @@ use gm_syntax::doc::Doc;
 use std::alloc::Global;
 use std::marker::Model;
 
-/// The main module's file, read strictly.
+/// The main module's file, read strictly. It keeps its document, whose words borrow from the bytes.
 #[derive(Drop)]
 pub struct MainFile<'a> {
     alloc: Global,
@@ -47,7 +47,12 @@ impl<'a> Model for MainFile<'a> {
 }
 
 impl<'a> MainFile<'a> {
-    /// Reads the directives of a document.
+    /// Reads the directives of a main module's file (Go Modules Reference, go.mod files).
+    ///
+    /// A document with a fault is refused with `FileFault::Directive`: the lowest line with one, and of what is wrong
+    /// there the first kind in the order of `DirectiveKind`. A file without `module` is refused with `NoModule` at
+    /// line 0, where there is no other fault. Lines are counted in the document, from 1. `NoMemory` may come in place
+    /// of any answer; on a refusal nothing of the document is handed back. It takes n log n steps for n lines.
     pub fn read(alloc: Global, doc: Doc<'a>) -> Result<MainFile<'a>, FileFault>
         ensures ok { IfOk result (λ file. (file ≡ doc.entry) × (fault_of Strict (plains doc.entry) ≡ None)) }
         ensures fault { IfErr result (TellsFault Strict (plains doc.entry)) }
@@ -78,7 +83,7 @@ impl<'a> MainFile<'a> {
         })
     }
 
-    /// The lines.
+    /// The document that was read.
     pub fn doc(&self) -> &Doc<'a>
         ensures lines { result.now ≡ self.now }
         ensures sound { fault_of Strict (plains self.now) ≡ None }
@@ -86,57 +91,60 @@ impl<'a> MainFile<'a> {
         &self.doc
     }
 
-    /// The declared path.
+    /// The path of the `module` directive.
     pub fn module(&self) -> &ModPath
         ensures { module_of Strict (plains self.now) ≡ Some result.now }
     {
         &self.declared
     }
 
-    /// The first two numbers of the go version, 1 and 16 where there is none.
+    /// The first two numbers of the `go` directive's version, 1 and 16 where there is none (Go Modules Reference, go
+    /// directive).
     pub fn go(&self) -> (u32, u32)
         ensures { go_of Strict (plains self.now) ≡ result }
     {
         self.go
     }
 
-    /// The required modules, in the order of the lines.
+    /// The modules of the `require` lines, in the order of the lines, repeats kept.
     pub fn requirements(&self) -> &[ModVer]
         ensures { requirements_of Strict (plains self.now) ≡ result.now }
     {
         self.requirements.as_slice()
     }
 
-    /// The excluded modules.
+    /// The modules of the `exclude` lines, in the order of the lines, repeats kept.
     pub fn excludes(&self) -> &[ModVer]
         ensures { excludes_of (plains self.now) ≡ result.now }
     {
         self.excludes.as_slice()
     }
 
-    /// The replacements.
+    /// The `replace` lines, in order, repeats kept.
     pub fn replaces(&self) -> &[Replace]
         ensures { replaces_of (plains self.now) ≡ replaces_seen result.now }
     {
         self.replaces.as_slice()
     }
 
-    /// The retracted intervals.
+    /// The intervals of the `retract` lines, in the order of the lines, repeats kept; a single version is both ends.
     pub fn retracts(&self) -> &[Interval]
         ensures { retracts_of (plains self.now) ≡ intervals_seen result.now }
     {
         self.retracts.as_slice()
     }
 
-    /// What stands in the place of that version, if it is replaced: the right beside that version, or else beside the
-    /// whole path.
+    /// What stands in the place of that version, if it is replaced: the right of the `replace` that names the version,
+    /// or else of the one that names the whole path (Go Modules Reference, replace directive). It takes no memory, and
+    /// logarithmic time in the number of lines.
     pub fn replacement(&self, pair: &ModVer) -> Option<&Right>
         ensures { option_map (λ right. right_seen right.now) result ≡ replacement_of (replaces_of (plains self.now)) pair.now }
     {
         self.replaces.replacement(pair)
     }
 
-    /// Whether that version is excluded.
+    /// Whether an `exclude` line names that version of that path. It takes no memory, and logarithmic time in the
+    /// number of lines.
     pub fn excluded(&self, pair: &ModVer) -> bool
         ensures { IsTrue result ↔ Contains (excludes_of (plains self.now)) pair.now }
     {

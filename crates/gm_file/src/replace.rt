@@ -7,17 +7,17 @@ ghost use Rattle.gm_file.specs.Views.{right_seen};
 use gm_name::{ModPath, ModVersion};
 use std::alloc::{AllocError, Global};
 
-/// What stands in a module's place.
+/// What stands in a module's place (Go Modules Reference, replace directive).
 #[derive(Drop)]
 pub enum Right {
-    /// A folder, by its text.
+    /// A folder, by its text: `.`, `..`, or a text that begins `./`, `../` or `/`.
     Folder(String),
-    /// A version of a module. It need not fit the path.
+    /// A canonical version of a module. It need not fit the path.
     Module(ModPath, ModVersion),
 }
 
 impl Right {
-    /// An equal right.
+    /// An equal right. It refuses only want of memory.
     pub fn copy(&self, alloc: Global) -> Result<Right, AllocError>
         ensures { IfOk result (λ right. right_seen right ≡ right_seen self.now) }
     {
@@ -57,7 +57,7 @@ pub struct Replace {
     pub right: Right,
 }
 
-/// Retracted versions, from `low` to `high`; none where `high` comes first.
+/// Retracted versions, from `low` to `high` (Go Modules Reference, retract directive); none where `high` comes first.
 #[derive(Drop)]
 pub struct Interval {
     pub low: ModVersion,

@@ -62,98 +62,100 @@ fn pair(alloc: Global, path: &str, version: &str) -> Result<Option<ModVer>, Fail
     }
 }
 
+// What follows the line `module example.com/m`, and the fault.
+const STRICT_FAULTS: [(&str, usize, DirectiveKind); 64] = [
+    ("use x", 2, UnknownVerb),
+    ("require example.com/a", 2, WrongArguments),
+    ("go (\n1.21\n)", 2, WrongArguments),
+    ("require example.com/a. v1", 2, BadPath),
+    ("require example.com/a v1.2", 2, BadVersion),
+    ("require example.com/a/v2 v1.0.0", 2, Misfit),
+    ("module example.com/m", 2, Repeated),
+    (
+        "replace example.com/a => ./x\nreplace example.com/a => ./y",
+        3,
+        ConflictingReplace,
+    ),
+    ("go 1.021", 2, BadGo),
+    // verbs
+    ("foo ( )", 2, UnknownVerb),
+    ("\"module\" ( )", 2, UnknownVerb),
+    ("\"require\" a v1.0.0", 2, UnknownVerb),
+    ("( )", 2, UnknownVerb),
+    ("foo (\nx y\n)\nuse z", 2, UnknownVerb),
+    ("Module a", 2, UnknownVerb),
+    // numbers and kinds of words
+    ("go ( )", 2, WrongArguments),
+    ("go (\n)", 2, WrongArguments),
+    ("require (\nexample.com/a v1.0.0\n( )\n)", 4, WrongArguments),
+    ("exclude a", 2, WrongArguments),
+    ("require a v1.0.0 v1.0.0", 2, WrongArguments),
+    ("require a ,", 2, WrongArguments),
+    ("replace a => b", 2, WrongArguments),
+    ("replace a => ./b v1.0.0", 2, WrongArguments),
+    ("replace => ./b", 2, WrongArguments),
+    ("replace a ./b", 2, WrongArguments),
+    ("replace a => => ./b", 2, WrongArguments),
+    ("replace a =>b => ./x", 2, WrongArguments),
+    ("retract", 2, WrongArguments),
+    ("retract [v1.0.0, ]", 2, WrongArguments),
+    ("retract (v1.0.0, v1.0.0]", 2, WrongArguments),
+    ("retract v1.0.0 v1.1.0", 2, WrongArguments),
+    // paths, versions and their fit
+    ("module \"\"", 2, BadPath),
+    ("exclude a.. v1.0.0", 2, BadPath),
+    ("require a v1.0.0+meta", 2, BadVersion),
+    ("require a master", 2, BadVersion),
+    ("exclude a v2.0.0", 2, Misfit),
+    ("replace a v1 => ./b", 2, BadVersion),
+    ("replace a v2.0.0 => ./b", 2, Misfit),
+    ("retract v1.0", 2, BadVersion),
+    ("retract [v1.0.0 , v1.2.0+meta]", 2, BadVersion),
+    ("retract [x, v1.2.0]", 2, BadVersion),
+    // two replaces of one left
+    ("replace a => ./x\nreplace a => ./x/", 3, ConflictingReplace),
+    (
+        "replace a => ./x\nreplace a => ./x\nreplace a v1.0.0 => ./y\nreplace a => b v2.0.0",
+        5,
+        ConflictingReplace,
+    ),
+    (
+        "replace (\na v1.0.0 => b v1.0.0\na v1.1.0 => b v1.0.0\na v1.0.0 => b v1.0.1\n)",
+        5,
+        ConflictingReplace,
+    ),
+    // go versions
+    ("go 01.2", 2, BadGo),
+    ("go 0.2", 2, BadGo),
+    ("go 1.1234567890", 2, BadGo),
+    ("go 1.21.3rc", 2, BadGo),
+    ("go 1.21.", 2, BadGo),
+    ("go 1", 2, BadGo),
+    ("go v1.21", 2, BadGo),
+    ("go 1.21-x", 2, BadGo),
+    ("go \"\"", 2, BadGo),
+    // of two kinds on one line the first is told
+    ("module a. b", 2, WrongArguments),
+    ("go 1.2\ngo x y", 3, WrongArguments),
+    (
+        "replace a => ./x\nreplace a => ./y v1.0.0",
+        3,
+        WrongArguments,
+    ),
+    ("require a. v2.0.0", 2, BadPath),
+    ("replace a v1 => b. v1.0.0", 2, BadPath),
+    ("module a.", 2, BadPath),
+    ("replace a => ./x\nreplace a => b. v1.0.0", 3, BadPath),
+    ("replace a v2.0.0 => b v1", 2, BadVersion),
+    ("replace a => ./x\nreplace a => b v1", 3, BadVersion),
+    ("go 1.2\ngo x", 3, Repeated),
+    // of two lines the lower is told
+    ("\n// c\nrequire a\nuse x\ngo x", 4, WrongArguments),
+];
+
 #[test]
 fn strict_faults(rt: HostRuntime) -> Result<(), Fail> {
-    let rows: [(&str, usize, DirectiveKind); 64] = [
-        ("use x", 2, UnknownVerb),
-        ("require example.com/a", 2, WrongArguments),
-        ("go (\n1.21\n)", 2, WrongArguments),
-        ("require example.com/a. v1", 2, BadPath),
-        ("require example.com/a v1.2", 2, BadVersion),
-        ("require example.com/a/v2 v1.0.0", 2, Misfit),
-        ("module example.com/m", 2, Repeated),
-        (
-            "replace example.com/a => ./x\nreplace example.com/a => ./y",
-            3,
-            ConflictingReplace,
-        ),
-        ("go 1.021", 2, BadGo),
-        // verbs
-        ("foo ( )", 2, UnknownVerb),
-        ("\"module\" ( )", 2, UnknownVerb),
-        ("\"require\" a v1.0.0", 2, UnknownVerb),
-        ("( )", 2, UnknownVerb),
-        ("foo (\nx y\n)\nuse z", 2, UnknownVerb),
-        ("Module a", 2, UnknownVerb),
-        // numbers and kinds of words
-        ("go ( )", 2, WrongArguments),
-        ("go (\n)", 2, WrongArguments),
-        ("require (\nexample.com/a v1.0.0\n( )\n)", 4, WrongArguments),
-        ("exclude a", 2, WrongArguments),
-        ("require a v1.0.0 v1.0.0", 2, WrongArguments),
-        ("require a ,", 2, WrongArguments),
-        ("replace a => b", 2, WrongArguments),
-        ("replace a => ./b v1.0.0", 2, WrongArguments),
-        ("replace => ./b", 2, WrongArguments),
-        ("replace a ./b", 2, WrongArguments),
-        ("replace a => => ./b", 2, WrongArguments),
-        ("replace a =>b => ./x", 2, WrongArguments),
-        ("retract", 2, WrongArguments),
-        ("retract [v1.0.0, ]", 2, WrongArguments),
-        ("retract (v1.0.0, v1.0.0]", 2, WrongArguments),
-        ("retract v1.0.0 v1.1.0", 2, WrongArguments),
-        // paths, versions and their fit
-        ("module \"\"", 2, BadPath),
-        ("exclude a.. v1.0.0", 2, BadPath),
-        ("require a v1.0.0+meta", 2, BadVersion),
-        ("require a master", 2, BadVersion),
-        ("exclude a v2.0.0", 2, Misfit),
-        ("replace a v1 => ./b", 2, BadVersion),
-        ("replace a v2.0.0 => ./b", 2, Misfit),
-        ("retract v1.0", 2, BadVersion),
-        ("retract [v1.0.0 , v1.2.0+meta]", 2, BadVersion),
-        ("retract [x, v1.2.0]", 2, BadVersion),
-        // two replaces of one left
-        ("replace a => ./x\nreplace a => ./x/", 3, ConflictingReplace),
-        (
-            "replace a => ./x\nreplace a => ./x\nreplace a v1.0.0 => ./y\nreplace a => b v2.0.0",
-            5,
-            ConflictingReplace,
-        ),
-        (
-            "replace (\na v1.0.0 => b v1.0.0\na v1.1.0 => b v1.0.0\na v1.0.0 => b v1.0.1\n)",
-            5,
-            ConflictingReplace,
-        ),
-        // go versions
-        ("go 01.2", 2, BadGo),
-        ("go 0.2", 2, BadGo),
-        ("go 1.1234567890", 2, BadGo),
-        ("go 1.21.3rc", 2, BadGo),
-        ("go 1.21.", 2, BadGo),
-        ("go 1", 2, BadGo),
-        ("go v1.21", 2, BadGo),
-        ("go 1.21-x", 2, BadGo),
-        ("go \"\"", 2, BadGo),
-        // of two kinds on one line the first is told
-        ("module a. b", 2, WrongArguments),
-        ("go 1.2\ngo x y", 3, WrongArguments),
-        (
-            "replace a => ./x\nreplace a => ./y v1.0.0",
-            3,
-            WrongArguments,
-        ),
-        ("require a. v2.0.0", 2, BadPath),
-        ("replace a v1 => b. v1.0.0", 2, BadPath),
-        ("module a.", 2, BadPath),
-        ("replace a => ./x\nreplace a => b. v1.0.0", 3, BadPath),
-        ("replace a v2.0.0 => b v1", 2, BadVersion),
-        ("replace a => ./x\nreplace a => b v1", 3, BadVersion),
-        ("go 1.2\ngo x", 3, Repeated),
-        // of two lines the lower is told
-        ("\n// c\nrequire a\nuse x\ngo x", 4, WrongArguments),
-    ];
-    for (rest, line, kind) in rows.iter() {
+    for (rest, line, kind) in STRICT_FAULTS.iter() {
         let Ok(text) = format!(in rt.alloc(); "module example.com/m\n{rest}") else {
             return Ok(());
         };

@@ -2,3 +2,10 @@ pub mod Appending
 pub mod Bytes
 pub mod Consuming
 pub mod Listing
+pub mod NameOrder
+pub mod Splits
+pub mod Cuts
+pub mod Walks
+pub mod Inside
+pub mod FieldLemmas
+pub mod Summing

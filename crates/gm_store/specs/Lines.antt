@@ -1,6 +1,6 @@
 -- Lines of bytes, and the words on them.
-use Rattle.std.specs.Prelude.{ℕ, ◌==◌, ◌||◌, Bool, List, drop}
-use Rattle.std.specs.List.{before_first, prefix_len, slice_split}
+use Rattle.std.specs.Prelude.{ℕ, ◌==◌, ◌||◌, nat_lt, Bool, List, drop, length}
+use Rattle.std.specs.List.{before_first, filter, prefix_len, slice_split}
 
 -- space, tab or CR
 abbrev pub is_blank : ℕ → Bool
@@ -21,3 +21,7 @@ after_blanks line = drop (prefix_len is_blank line) line
 -- the first word of a line: the bytes other than blanks from the first such byte on, and none where the line has no word
 abbrev pub first_word : List ℕ → List ℕ
 first_word line = before_first is_blank (after_blanks line)
+
+-- the fields of a line: the words between its blanks
+abbrev pub fields : List ℕ → List (List ℕ)
+fields line = filter (λ word. nat_lt 0 (length word)) (slice_split is_blank line)

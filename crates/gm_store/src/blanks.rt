@@ -2,7 +2,8 @@
 
 ghost use Rattle.std.specs.Prelude.{◌≡◌, ◌≤◌, length};
 ghost use Rattle.std.specs.List.{position_or_len, prefix_len};
-ghost use Rattle.gm_store.specs.Lines.{after_blanks, first_word, is_blank};
+ghost use Rattle.gm_store.specs.Lines.{after_blanks, fields, first_word, is_blank};
+ghost use Rattle.gm_store.specs.Words.{put_word};
 
 // Whether a byte is a space, a tab or a CR.
 pub(crate) fn is_blank(byte: u8) -> bool
@@ -40,4 +41,12 @@ pub(crate) fn first_word(line: &[u8]) -> &[u8]
 {
     let rest = after_blanks(line);
     &rest[..bytes_before_blank(rest)]
+}
+
+// What stands after the first word of a line.
+pub(crate) fn rest_after_word(line: &[u8]) -> &[u8]
+    ensures { fields line.now ≡ put_word (first_word line.now) (fields result.now) }
+{
+    let rest = after_blanks(line);
+    &rest[bytes_before_blank(rest)..]
 }

@@ -1,6 +1,6 @@
 //! The versions that a module's list file names.
 
-ghost use Rattle.std.specs.Prelude.{◌≡◌, IfOk, IfNone, IfSome, IsTrue, ◌↔◌};
+ghost use Rattle.std.specs.Prelude.{◌≡◌, ◌↔◌, IfOk, IfNone, IfSome, IsTrue};
 ghost use Rattle.gm_name.specs.Version.{IsVersion};
 ghost use Rattle.gm_store.specs.Listed.{AreListed, IsListable, IsPseudoVersion};
 

@@ -1,7 +1,6 @@
-use Rattle.std.proofs.Common.{◌≡◌, ◌++◌, List, take, ap, ◌∙◌}
+use Rattle.std.proofs.Common.{◌≡◌, ◌++◌, take, ap, ◌∙◌}
 use Rattle.std.specs.Option.{option_map, option_to_list}
 use Rattle.gm_syntax.specs.LineViews.{line_of, lines_seen, plain, plains}
-use Rattle.gm_file.specs.declared.replace.Interval.{Interval}
 use Rattle.gm_file.specs.Directives.{item_at}
 use Rattle.gm_file.specs.Retracting.{retraction_at}
 use Rattle.gm_file.specs.Views.{intervals_seen}

@@ -2,10 +2,9 @@ use Rattle.std.proofs.Common.{◌≡◌, ℕ, List, Option, ap, codes, sym, subs
 use Rattle.std.specs.Prelude.{IfOk}
 use Rattle.std.specs.Option.{option_map}
 use Rattle.std.specs.Str.{bytes_eq}
-use Rattle.gm_syntax.specs.LineViews.{line_of, plain}
 use Rattle.gm_syntax.specs.Tokens.{words_of}
 use Rattle.gm_name.proofs.NameTests.{not_true}
-use Rattle.gm_file.specs.Directives.{Pair, item_at}
+use Rattle.gm_file.specs.Directives.{Pair}
 use Rattle.gm_file.specs.Views.{interval_seen}
 use Rattle.gm_file.proofs.Retracted.{not-false, other-retracts, retract-retracts}
 use Rattle.gm_file.proofs.retractions.retraction_at.Goals as goal

@@ -1,4 +1,4 @@
-use Rattle.std.proofs.Common.{◌∙◌, ap, sym}
+use Rattle.std.proofs.Common.{◌∙◌, sym}
 use Rattle.gm_file.specs.VerbViews.{mode_seen}
 use Rattle.gm_file.proofs.Saying.{go-bad, go-repeated, go-right, say-go}
 use Rattle.gm_file.proofs.fields.Fields.add_go.Goals as goal

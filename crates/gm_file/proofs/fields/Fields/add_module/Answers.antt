@@ -1,5 +1,4 @@
-use Rattle.std.proofs.Common.{◌∙◌, ap, sym}
-use Rattle.std.specs.Prelude.{is_some}
+use Rattle.std.proofs.Common.{◌∙◌, sym}
 use Rattle.gm_file.proofs.Saying.{module-repeated, module-right, say-module}
 use Rattle.gm_file.proofs.fields.Fields.add_module.Goals as goal
 

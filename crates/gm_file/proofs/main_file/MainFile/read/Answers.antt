@@ -1,4 +1,4 @@
-use Rattle.std.proofs.Common.{ap, refl, subst}
+use Rattle.std.proofs.Common.{refl}
 use Rattle.gm_syntax.specs.LineViews.{plains}
 use Rattle.gm_file.proofs.Whole.{main-held, main-sound, none-declared}
 use Rattle.gm_file.proofs.main_file.MainFile.read.Goals as goal

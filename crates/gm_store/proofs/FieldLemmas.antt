@@ -1,0 +1,106 @@
+-- The fields of a line, one word after another.
+use Rattle.std.proofs.Common.{◌≡◌, ◌+◌, ◌-◌, ◌==◌, ℕ, Bool, true, false, not, cond, zero, suc, List, [], ◌∷◌, ◌++◌, length, take, drop, ap, ◌∙◌, sym, refl, arith}
+use Rattle.std.proofs.lemmas.Grind.{common_steps}
+use Rattle.std.proofs.lemmas.Bool.Decides.{Decides-eqb, nat_tests}
+use Rattle.std.proofs.lemmas.List.Splits.{slice_split-cons_no, slice_split-cons_yes}
+use Rattle.std.specs.Prelude.{nat_lt}
+use Rattle.std.specs.List.{filter, onto_first, position_or_len, prefix_len, slice_split}
+use Rattle.gm_store.specs.Lines.{after_blanks, fields, first_word, is_blank}
+use Rattle.gm_store.specs.Words.{put_word}
+
+fields-blank : (b : ℕ) (xs : List ℕ) → is_blank b ≡ true → fields (b ∷ xs) ≡ fields xs
+fields-blank b xs e = ap (filter (λ word. nat_lt 0 (length word))) (slice_split-cons_yes is_blank b xs e)
+
+after-blank : (b : ℕ) (xs : List ℕ) → is_blank b ≡ true → after_blanks (b ∷ xs) ≡ after_blanks xs
+after-blank b xs e = rw e (grind (arith, common_steps))
+
+after-word : (b : ℕ) (xs : List ℕ) → is_blank b ≡ false → after_blanks (b ∷ xs) ≡ b ∷ xs
+after-word b xs e = rw e refl
+
+fields_after_step : (b : ℕ) (xs : List ℕ) (blank : Bool) → is_blank b ≡ blank → fields xs ≡ fields (after_blanks xs) → fields (b ∷ xs) ≡ fields (after_blanks (b ∷ xs))
+fields_after_step b xs true e rest = fields-blank b xs e ∙ rest ∙ ap fields (sym (after-blank b xs e))
+fields_after_step b xs false e rest = ap fields (sym (after-word b xs e))
+
+fields-after : (line : List ℕ) → fields line ≡ fields (after_blanks line)
+fields-after [] = refl
+fields-after (b ∷ xs) = fields_after_step b xs (is_blank b) refl (fields-after xs)
+
+begins_step : (b : ℕ) (xs : List ℕ) (blank : Bool) → is_blank b ≡ blank → ((c : ℕ) (ys : List ℕ) → after_blanks xs ≡ c ∷ ys → is_blank c ≡ false) → (c : ℕ) (ys : List ℕ) → after_blanks (b ∷ xs) ≡ c ∷ ys → is_blank c ≡ false
+begins_step b xs true e rest c ys is = rest c ys (sym (after-blank b xs e) ∙ is)
+begins_step b xs false e rest c ys is = let same : b ≡ c = cc (sym (after-word b xs e) ∙ is) in ap is_blank (sym same) ∙ e
+
+begins : (line : List ℕ) (c : ℕ) (ys : List ℕ) → after_blanks line ≡ c ∷ ys → is_blank c ≡ false
+begins [] c ys is = cc is
+begins (b ∷ xs) c ys is = begins_step b xs (is_blank b) refl (begins xs) c ys is
+
+none_before : (x : ℕ) (xs : List ℕ) → is_blank x ≡ true → position_or_len is_blank (x ∷ xs) ≡ 0
+none_before x xs e = rw e refl
+
+take_before : (x : ℕ) (xs : List ℕ) → is_blank x ≡ false → take (position_or_len is_blank (x ∷ xs)) (x ∷ xs) ≡ x ∷ take (position_or_len is_blank xs) xs
+take_before x xs e = rw e (grind (arith, common_steps))
+
+drop_before : (x : ℕ) (xs : List ℕ) → is_blank x ≡ false → drop (position_or_len is_blank (x ∷ xs)) (x ∷ xs) ≡ drop (position_or_len is_blank xs) xs
+drop_before x xs e = rw e (grind (arith, common_steps))
+
+some_length : (n : ℕ) → nat_lt 0 (n + 1) ≡ true
+some_length n = grind (arith, nat_tests)
+
+long_word : (x : ℕ) (word : List ℕ) (others : List (List ℕ)) → filter (λ word. nat_lt 0 (length word)) ((x ∷ word) ∷ others) ≡ (x ∷ word) ∷ filter (λ word. nat_lt 0 (length word)) others
+long_word x word others = let some : nat_lt 0 (length (x ∷ word)) ≡ true = grind (arith, nat_tests) in rw some refl
+
+suc_none : (n : ℕ) → (suc n == 0) ≡ true → ⊥
+suc_none n e = let never : suc n ≡ 0 = (Decides-eqb (suc n) 0).0 e in omega arith
+
+-- the first part of a split at blanks, and what the others hold
+record CutsWord (xs : List ℕ) : Type 0 where
+  others : List (List ℕ)
+  cut : slice_split is_blank xs ≡ take (position_or_len is_blank xs) xs ∷ others
+  rest : filter (λ word. nat_lt 0 (length word)) others ≡ fields (drop (position_or_len is_blank xs) xs)
+
+word_step : (x : ℕ) (xs : List ℕ) (blank : Bool) → is_blank x ≡ blank → CutsWord xs → CutsWord (x ∷ xs)
+word_step x xs true e w = record {
+  others = slice_split is_blank xs;
+  cut = slice_split-cons_yes is_blank x xs e ∙ ap (λ n. take n (x ∷ xs) ∷ slice_split is_blank xs) (sym (none_before x xs e));
+  rest = sym (fields-blank x xs e) ∙ ap (λ n. fields (drop n (x ∷ xs))) (sym (none_before x xs e));
+}
+word_step x xs false e w = record {
+  others = w.others;
+  cut = slice_split-cons_no is_blank x xs e ∙ ap (onto_first x) w.cut ∙ ap (λ word. word ∷ w.others) (sym (take_before x xs e));
+  rest = w.rest ∙ ap fields (sym (drop_before x xs e));
+}
+
+cuts_word : (xs : List ℕ) → CutsWord xs
+cuts_word [] = record { others = []; cut = refl; rest = refl }
+cuts_word (x ∷ xs) = word_step x xs (is_blank x) refl (cuts_word xs)
+
+fields_from : (xs : List ℕ) → ((c : ℕ) (ys : List ℕ) → xs ≡ c ∷ ys → is_blank c ≡ false) → fields xs ≡ put_word (take (position_or_len is_blank xs) xs) (fields (drop (position_or_len is_blank xs) xs))
+fields_from [] word = refl
+fields_from (x ∷ xs) word =
+    let e = word x xs refl in
+    let w = cuts_word (x ∷ xs) in
+    ap (filter (λ word. nat_lt 0 (length word))) (w.cut ∙ ap (λ word. word ∷ w.others) (take_before x xs e))
+    ∙ long_word x (take (position_or_len is_blank xs) xs) w.others
+    ∙ ap (λ rest. (x ∷ take (position_or_len is_blank xs) xs) ∷ rest) w.rest
+    ∙ ap (λ word. put_word word (fields (drop (position_or_len is_blank (x ∷ xs)) (x ∷ xs)))) (sym (take_before x xs e))
+
+-- the fields of a line are its first word, if there is one, and the fields after it
+pub fields_step : (line : List ℕ) → fields line ≡ put_word (first_word line) (fields (drop (position_or_len is_blank (after_blanks line)) (after_blanks line)))
+fields_step line = fields-after line ∙ fields_from (after_blanks line) (begins line)
+
+pub drop_whole : (n : ℕ) (xs : List ℕ) → take (length xs - n) (drop n xs) ≡ drop n xs
+drop_whole n xs = grind (arith, common_steps)
+
+pub put_none : (word : List ℕ) (all words : List (List ℕ)) → all ≡ put_word word words → (length word == 0) ≡ true → all ≡ []
+put_none [] all words e none = e
+put_none (b ∷ word) all words e none = absurd (suc_none (length word) none)
+
+pub put_some : (word : List ℕ) (all words : List (List ℕ)) → all ≡ put_word word words → (length word == 0) ≡ false → all ≡ word ∷ words
+put_some [] all words e some = cc some
+put_some (b ∷ word) all words e some = e
+
+-- what a test of emptiness says of a word
+pub is_none : (word w : List ℕ) (b : Bool) → w ≡ word → b ≡ (length w == 0) → b ≡ true → (length word == 0) ≡ true
+is_none word w b same test empty = ap (λ w. length w == 0) (sym same) ∙ sym test ∙ empty
+
+pub is_some : (word w : List ℕ) (b : Bool) → w ≡ word → b ≡ (length w == 0) → b ≡ false → (length word == 0) ≡ false
+is_some word w b same test filled = ap (λ w. length w == 0) (sym same) ∙ sym test ∙ filled

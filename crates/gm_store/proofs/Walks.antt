@@ -1,0 +1,120 @@
+-- A walk through folders, as far as it has come.
+use Rattle.std.proofs.Common.{◌≡◌, ◌+◌, ◌-◌, ◌≤◌, ◌<◌, ◌^◌, ◌⊎◌, inl, inr, min, ℕ, Bool, true, false, cond, zero, suc, List, [], ◌∷◌, ◌++◌, length, Option, Some, None, ap, ◌∙◌, sym, refl, subst, arith, IsSome, length-append, add_assoc}
+use Rattle.std.specs.Prelude.{slice_get}
+use Rattle.std.specs.List.{count_by}
+use Rattle.std.proofs.lemmas.Bool.{cases_lt}
+use Rattle.std.proofs.lemmas.List.Sums.{sum_by-append}
+use Rattle.gm_store.specs.declared.proxies.Mark.{Mark}
+use Rattle.gm_store.specs.declared.proxies.Mark.TheVariants.{Comma, Bar}
+use Rattle.gm_store.specs.declared.stepping.Next.{Next}
+use Rattle.gm_store.specs.declared.stepping.Next.TheVariants.{Take, Go, Fail}
+use Rattle.gm_store.specs.Asked.{Reply}
+use Rattle.gm_store.specs.Steps.{MayStop, MayStop, Seen, absent, counted_up, failed, found, has_failed, outcome_of, step_of, too_long}
+
+-- so many folders were passed, with what was seen in each; their failures are counted
+pub record HasPassed (may_see : ℕ → Seen → Type 0) (marks : List Mark) (at old new : ℕ) : Type 0 where
+  pub passed : List Seen
+  pub many : length passed ≡ at
+  pub within : at ≤ length marks
+  pub seen : (k : ℕ) (look : Seen) → slice_get passed k ≡ Some look → may_see k look
+  pub goes : (k : ℕ) (look : Seen) → slice_get passed k ≡ Some look → step_of look (slice_get marks k) ≡ Go
+  pub counted : new ≡ counted_up old (count_by has_failed passed)
+
+saturates : (x b m : ℕ) → min (min x m + b) m ≡ min (x + b) m
+saturates x b m = omega arith
+
+counted-more : (old a b : ℕ) → counted_up (counted_up old a) b ≡ counted_up old (a + b)
+counted-more old a b = saturates (old + a) b (2 ^ 64 - 1) ∙ ap (λ n. min n (2 ^ 64 - 1)) (add_assoc old a b)
+
+-- the elements of a list with one more
+get_more : (xs : List Seen) (y : Seen) (P : ℕ → Seen → Type 0) → ((k : ℕ) (x : Seen) → slice_get xs k ≡ Some x → P k x) → P (length xs) y → (k : ℕ) (x : Seen) → slice_get (xs ++ y ∷ []) k ≡ Some x → P k x
+get_more [] y P old here zero x e = let same : y ≡ x = cc e in subst (P 0) same here
+get_more [] y P old here (suc k) x e = cc e
+get_more (z ∷ xs) y P old here zero x e = old zero x e
+get_more (z ∷ xs) y P old here (suc k) x e = get_more xs y (λ k x. P (suc k) x) (λ k x. old (suc k) x) here k x e
+
+-- `step` goes on only where a folder follows
+pub go_marked : (look : Seen) (mark : Option Mark) → step_of look mark ≡ Go → IsSome mark
+go_marked look (Some mark) e = refl
+go_marked (found content) None e = cc e
+go_marked too_long None e = cc e
+go_marked absent None e = cc e
+go_marked failed None e = cc e
+
+get_within : (marks : List Mark) (k : ℕ) → IsSome (slice_get marks k) → k < length marks
+get_within [] k e = cc e
+get_within (m ∷ ms) zero e = omega arith
+get_within (m ∷ ms) (suc k) e = let rest = get_within ms k e in omega arith
+
+count-append : (xs ys : List Seen) → count_by has_failed (xs ++ ys) ≡ count_by has_failed xs + count_by has_failed ys
+count-append xs ys = sum_by-append (λ look. cond (has_failed look) 1 0) xs ys
+
+-- one more folder is passed
+pub one_more : (may_see : ℕ → Seen → Type 0) (marks : List Mark) (at old new newer : ℕ) (look : Seen) → HasPassed may_see marks at old new
+    → may_see at look → Go ≡ step_of look (slice_get marks at) → newer ≡ counted_up new (count_by has_failed (look ∷ [])) → HasPassed may_see marks (at + 1) old newer
+one_more may_see marks at old new newer look so_far seen goes grown = record {
+  passed = so_far.passed ++ look ∷ [];
+  many = length-append so_far.passed (look ∷ []) ∙ ap (λ n. n + 1) so_far.many;
+  within = let marked = get_within marks at (go_marked look (slice_get marks at) (sym goes)) in omega arith;
+  seen = get_more so_far.passed look may_see so_far.seen (subst (λ k. may_see k look) (sym so_far.many) seen);
+  goes = get_more so_far.passed look (λ k look. step_of look (slice_get marks k) ≡ Go) so_far.goes (ap (λ k. step_of look (slice_get marks k)) so_far.many ∙ sym goes);
+  counted = grown ∙ ap (λ n. counted_up n (count_by has_failed (look ∷ []))) so_far.counted ∙ counted-more old _ _ ∙ ap (counted_up old) (sym (count-append so_far.passed (look ∷ [])));
+}
+
+-- the walk ends
+pub walk_ends : (may_see : ℕ → Seen → Type 0) (marks : List Mark) (at old new newer : ℕ) (look : Seen) (next : Next) (outcome : Option Reply) → HasPassed may_see marks at old new
+    → may_see at look → next ≡ step_of look (slice_get marks at) → (next ≡ Go → ⊥) → outcome ≡ outcome_of look next → newer ≡ counted_up new (count_by has_failed (look ∷ []))
+    → (failures : ℕ) × MayStop may_see marks outcome failures × (newer ≡ counted_up old failures)
+walk_ends may_see marks at old new newer look next outcome so_far seen stops ends answers grown =
+    let here : step_of look (slice_get marks (length so_far.passed)) ≡ next = ap (λ k. step_of look (slice_get marks k)) so_far.many ∙ sym stops in (
+      count_by has_failed (so_far.passed ++ look ∷ []),
+      (
+        so_far.passed ++ look ∷ [],
+        get_more so_far.passed look may_see so_far.seen (subst (λ k. may_see k look) (sym so_far.many) seen),
+        record {
+          passed = so_far.passed;
+          last = look;
+          rest = [];
+          in_order = refl;
+          goes = so_far.goes;
+          stops = λ e. ends (sym here ∙ e);
+          answers = answers ∙ ap (outcome_of look) (sym here);
+          counted = refl;
+        },
+      ),
+      grown ∙ ap (λ n. counted_up n (count_by has_failed (look ∷ []))) so_far.counted ∙ counted-more old _ _ ∙ ap (counted_up old) (sym (count-append so_far.passed (look ∷ []))),
+    )
+
+-- what is taken has not failed
+pub take_sound : (look : Seen) (mark : Option Mark) → Take ≡ step_of look mark → has_failed look ≡ false
+take_sound (found content) mark e = refl
+take_sound too_long mark e = refl
+take_sound absent mark e = refl
+take_sound failed None e = cc e
+take_sound failed (Some Comma) e = cc e
+take_sound failed (Some Bar) e = cc e
+
+pub fail_outcome : (look : Seen) → None ≡ outcome_of look Fail
+fail_outcome look = refl
+
+pub none_passed : (may_see : ℕ → Seen → Type 0) (marks : List Mark) (old : ℕ) → old < 2 ^ 64 → HasPassed may_see marks 0 old old
+none_passed may_see marks old small = record {
+  passed = [];
+  many = refl;
+  within = omega arith;
+  seen = λ k look e. cc e;
+  goes = λ k look e. cc e;
+  counted = omega arith;
+}
+
+above : (m old new n : ℕ) → new ≡ min (min (old + n) m + 1) m → old ≤ m → (old < new) ⊎ (old ≡ m)
+above m old new n e h = elim (cases_lt old m) [ inl less ↦ inl (omega arith) | inr more ↦ inr (omega arith) ]
+
+-- a device's failure at which the walk ends is counted
+pub fail_counts : (look : Seen) (mark : Option Mark) (old new newer at : ℕ) {may_see : ℕ → Seen → Type 0} {marks : List Mark} → HasPassed may_see marks at old new
+    → Fail ≡ step_of look mark → newer ≡ counted_up new (count_by has_failed (look ∷ [])) → old < 2 ^ 64 → (old < newer) ⊎ (old ≡ 2 ^ 64 - 1)
+fail_counts failed mark old new newer at so_far fails grown small = above (2 ^ 64 - 1) old newer (count_by has_failed so_far.passed) (grown ∙ ap (λ n. min (n + 1) (2 ^ 64 - 1)) so_far.counted) (omega arith)
+fail_counts (found content) mark old new newer at so_far fails grown small = cc fails
+fail_counts too_long mark old new newer at so_far fails grown small = cc fails
+fail_counts absent None old new newer at so_far fails grown small = cc fails
+fail_counts absent (Some mark) old new newer at so_far fails grown small = cc fails

@@ -1,0 +1,12 @@
+use Rattle.std.proofs.Common.{◌≡◌, ◌-◌, ◌≤◌, ℕ, List, length, slice_get, Some}
+use Rattle.gm_store.specs.Asked.{name_of}
+use Rattle.gm_store.specs.Steps.{Seen}
+use Rattle.gm_store.proofs.Walks.{HasPassed}
+use Rattle.gm_store.proofs.walking.walk.Given as goal
+
+-- the folders so far were passed
+abbrev pub invariant-folders : goal.invariant-folders
+invariant-folders g l = HasPassed (λ k seen. g.F.Folders.may_see l.folders k (name_of l.name) seen) l.marks l.at l.initial.faults l.count
+
+abbrev pub decreases-folders : goal.decreases-folders
+decreases-folders g l = length l.marks - l.at

@@ -1,0 +1,36 @@
+-- Proxy folders, and which of them answers.
+use Rattle.std.specs.Prelude.{◌≡◌, ◌<◌, ℕ, ◌==◌, ◌&&◌, ◌||◌, not, nat_lt, Bool, true, false, List, [], ◌∷◌, ◌++◌, length, map, codes, Option, Some, None, slice_get, if◌then◌else◌}
+use Rattle.std.specs.List.{count_by, filter, list_all, list_any, slice_split}
+use Rattle.std.specs.Str.{bytes_eq}
+use Rattle.std.specs.String.{string_bytes}
+use Rattle.gm_store.specs.declared.proxies.Mark.{Mark}
+use Rattle.gm_store.specs.declared.proxies.Mark.TheVariants.{Comma, Bar}
+use Rattle.gm_store.specs.declared.proxies.ProxyList.{ProxyList}
+
+-- ---- the text of a proxy list
+
+-- a ',' or a '|'
+abbrev pub is_mark : ℕ → Bool
+is_mark b = b == 44 || b == 124
+
+abbrev pub mark_of : ℕ → Mark
+mark_of b = if b == 44 then Comma else Bar
+
+-- a folder's text: not empty, and none of the words that the go command keeps for other places
+abbrev pub is_folder : List ℕ → Bool
+is_folder text = nat_lt 0 (length text) && not (bytes_eq text (codes "direct")) && not (bytes_eq text (codes "off"))
+
+-- the folders that a text names: what stands between its marks
+abbrev pub folders_of : List ℕ → List (List ℕ)
+folders_of value = slice_split is_mark value
+
+-- the marks between them
+abbrev pub marks_of : List ℕ → List Mark
+marks_of value = map mark_of (filter is_mark value)
+
+-- the folders and the marks of a list
+abbrev pub folders_in : ProxyList → List (List ℕ)
+folders_in list = map string_bytes list.folders.items
+
+abbrev pub marks_in : ProxyList → List Mark
+marks_in list = list.marks.items
