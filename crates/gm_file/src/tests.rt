@@ -255,13 +255,16 @@ fn files_without_a_module(rt: HostRuntime) -> Result<(), Fail> {
     Ok(())
 }
 
-fn are_pairs(have: &[ModVer], want: &[(&str, &str)]) -> bool {
+// Pairs of a path and a version, or the ends of intervals.
+type Pairs = &'static [(&'static str, &'static str)];
+
+fn are_pairs(have: &[ModVer], want: Pairs) -> bool {
     have.len() == want.len()
         && have.iter().zip(want.iter()).all(|(have, want)| have.path().as_str() == want.0
             && have.version().as_str() == want.1)
 }
 
-fn are_intervals(have: &[Interval], want: &[(&str, &str)]) -> bool {
+fn are_intervals(have: &[Interval], want: Pairs) -> bool {
     have.len() == want.len()
         && have.iter().zip(want.iter()).all(|(have, want)| have.low.as_str() == want.0
             && have.high.as_str() == want.1)
@@ -432,13 +435,7 @@ fn choices(rt: HostRuntime) -> Result<(), Fail> {
 #[test]
 fn dependencies(rt: HostRuntime) -> Result<(), Fail> {
     // other verbs are ignored, with their blocks; a retraction that strict reading would refuse retracts nothing
-    let rows: [(
-        &str,
-        Option<&str>,
-        (u32, u32),
-        &[(&str, &str)],
-        &[(&str, &str)],
-    ); 9] = [
+    let rows: [(&'static str, Option<&'static str>, (u32, u32), Pairs, Pairs); 9] = [
         ("", None, (1, 16), &[], &[]),
         (
             "go v1.20-x\nreplace y\nfoo (\nbar\n)\n",
@@ -485,18 +482,18 @@ fn dependencies(rt: HostRuntime) -> Result<(), Fail> {
             &[("v1.0.0", "v1.0.0"), ("v1.1.0", "v1.3.0")],
         ),
     ];
-    for (text, path, go, requirements, retracts) in rows.iter() {
+    for (text, path, go, requirements, retracts) in rows {
         let Some(file) = dep_file(rt.alloc(), text)? else {
             return Ok(());
         };
         match path {
             Some(path) => {
                 let declared = file.module().ok_or("no module")?;
-                assert_eq!(rt; declared.as_str(), *path, "{text}");
+                assert_eq!(rt; declared.as_str(), path, "{text}");
             }
             None => assert!(rt; file.module().is_none(), "{text}"),
         }
-        assert_eq!(rt; file.go(), *go, "{text}");
+        assert_eq!(rt; file.go(), go, "{text}");
         assert!(rt; are_pairs(file.requirements(), requirements), "{text}");
         assert!(rt; are_intervals(file.retracts(), retracts), "{text}");
     }
