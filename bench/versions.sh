@@ -1,5 +1,6 @@
 #!/usr/bin/env bash
-# Times `gomod versions` on a list of a million lines beside `sort -V -u`, and on three lists of 16 MiB without a version.
+# Times `gomod versions` on a list of a million lines beside `sort -V -u`, on the same list on a proxy folder with a million
+# retractions in the latest version's go.mod, and on three lists of 16 MiB without a version.
 set -euo pipefail
 cd "$(dirname "$0")/.."
 gomod=$(./build | tail -n 1)
@@ -8,6 +9,7 @@ trap 'rm -rf "$work"' EXIT
 
 # Releases, pre-releases, pseudo-versions, words that are none, and repeats of each. The same bytes at each run.
 python3 - "$work" << 'PY'
+import os
 import random
 import sys
 
@@ -32,6 +34,18 @@ for _ in range(1_000_000):
 text = "\n".join(lines) + "\n"
 with open(f"{work}/list", "w", encoding="ascii") as out:
     out.write(text)
+# The same list on a proxy folder, behind a latest version whose file retracts a million versions and intervals.
+folder = f"{work}/proxy/example.com/p/@v"
+os.makedirs(folder)
+with open(f"{folder}/list", "w", encoding="ascii") as out:
+    out.write(text + "v1.500.0\n")
+retractions = []
+for place in range(1_000_000):
+    low = f"v{chance.randrange(2)}.{chance.randrange(500)}.{chance.randrange(2000)}"
+    high = f"{low.rpartition('.')[0]}.{chance.randrange(2000)}"
+    retractions.append(f"[{low},{high}]" if place % 8 == 0 else low)
+with open(f"{folder}/v1.500.0.mod", "w", encoding="ascii") as out:
+    out.write("module example.com/p\n\nretract (\n" + "\n".join(retractions) + "\n)\n")
 for name, byte in [("one-line", b"v"), ("line-ends", b"\n"), ("nuls", b"\0")]:
     with open(f"{work}/{name}", "wb") as out:
         out.write(byte * 16_777_216)
@@ -50,6 +64,11 @@ awk -v mine="$mine" -v theirs="$theirs" -v busy="$busy" -v their_busy="$their_bu
   printf "gomod versions  %6.2f s, of the processor %6.2f s, %5.0f MB, %.1f times the list\n", mine, busy, memory / 1e6, memory / size
   printf "sort -V -u      %6.2f s, of the processor %6.2f s, %5.0f MB\n", theirs, their_busy, their_memory / 1e6
   printf "ratio           %6.2f,   of the processor %6.2f   (goal: at most 1, and below 25 times the list)\n", mine / theirs, busy / their_busy
+}'
+read -r mine busy memory status < <(best - "$gomod" versions example.com/p --proxy "$work/proxy")
+[ "$status" = 0 ] || { echo "gomod versions --proxy ended with status $status" >&2; exit 1; }
+awk -v mine="$mine" -v busy="$busy" -v memory="$memory" 'BEGIN {
+  printf "with a proxy and a million retractions  %4.2f s, of the processor %4.2f s, %5.0f MB\n", mine, busy, memory / 1e6
 }'
 for name in one-line line-ends nuls; do
   read -r mine _ memory status < <(best "$work/$name" "$gomod" versions example.com/p)

@@ -22,7 +22,7 @@ use std::alloc::Global;
 
 /// What an entry says.
 #[derive(Drop)]
-pub(crate) enum Directive {
+pub enum Directive {
     Module(ModPath),
     /// The text of a go version, not yet read: a second one is Repeated, whatever it is.
     Go(String),
@@ -81,7 +81,7 @@ fn read_opening(mode: Mode, verb: &Token) -> Result<Option<Directive>, LineFault
 
 /// What a line says, in the block of that verb if one is open; `None` where it says nothing.
 #[tactic(auto, unfolding(crate::specs::Directives::item_at))]
-pub(crate) fn read_line(
+pub fn read_line(
     alloc: Global,
     mode: Mode,
     block: Option<&Token>,

@@ -54,7 +54,7 @@ pub enum FileFault {
 
 /// Why a line was not read.
 #[derive(Clone, Copy, Debug, PartialEq, Eq)]
-pub(crate) enum LineFault {
+pub enum LineFault {
     NoMemory,
     Kind(DirectiveKind),
 }

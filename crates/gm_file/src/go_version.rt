@@ -108,7 +108,7 @@ fn second_number(text: &str) -> Option<u32>
 
 /// The first two numbers of a go version of a main file, or None for another text.
 #[tactic(auto, unfolding(crate::specs::GoVersions::strict_go))]
-pub(crate) fn strict_go(text: &str) -> Option<(u32, u32)>
+pub fn strict_go(text: &str) -> Option<(u32, u32)>
     ensures { result ≡ strict_go text.now }
 {
     let (first, rest) = text.split_once('.')?;

@@ -2,18 +2,18 @@
 #![tactic(auto)]
 
 mod dep_file;
-mod directive;
+pub mod directive;
 mod exclusions;
-mod fault;
+pub mod fault;
 mod fields;
-mod go_version;
+pub mod go_version;
 mod main_file;
 mod part;
 mod replace;
 mod replacements;
 mod retractions;
 mod sides;
-mod verb;
+pub mod verb;
 
 pub use crate::dep_file::DepFile;
 pub use crate::fault::{DirectiveKind, FileFault};

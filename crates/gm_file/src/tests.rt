@@ -20,7 +20,7 @@ fn document<'a>(alloc: Global, text: &'a str) -> Result<Option<Doc<'a>>, Fail> {
     match Doc::parse(alloc, text.as_bytes()) {
         Ok(doc) => Ok(Some(doc)),
         Err(SyntaxFault::NoMemory) => Ok(None),
-        Err(fault) => Err(Fail::new(format_args!("no document: {fault}"))),
+        Err(_) => Err(Fail::from("no document")),
     }
 }
 
@@ -336,7 +336,7 @@ const FORK: &str =
 
 #[test]
 fn projects(rt: HostRuntime) -> Result<(), Fail> {
-    let rows: [(&str, &str, (u32, u32), [usize; 4]); 6] = [
+    let rows: [(&'static str, &'static str, (u32, u32), [usize; 4]); 6] = [
         (SERVER, "github.com/acme/server/v3", (1, 22), [7, 1, 1, 0]),
         (LIBRARY, "example.com/lib", (1, 23), [0, 0, 0, 3]),
         (FORK, "gopkg.in/acme.v2-unstable", (1, 16), [1, 0, 2, 0]),
@@ -354,28 +354,34 @@ fn projects(rt: HostRuntime) -> Result<(), Fail> {
             [0, 0, 0, 1],
         ),
     ];
-    for (text, path, go, counts) in rows.iter() {
-        let Some(file) = main_file(rt.alloc(), text)? else {
-            return Ok(());
-        };
-        assert_eq!(rt; file.module().as_str(), *path);
-        assert_eq!(rt; file.go(), *go, "{path}");
-        let have = [
-            file.requirements().len(),
-            file.excludes().len(),
-            file.replaces().len(),
-            file.retracts().len(),
-        ];
-        assert_eq!(rt; have, *counts, "{path}");
-        let Ok(layout) = file.doc().format(rt.alloc()) else {
-            return Ok(());
-        };
-        let Some(again) = main_file(rt.alloc(), layout.as_str())? else {
-            return Ok(());
-        };
-        assert_eq!(rt; again.module().as_str(), *path);
+    for (text, path, go, counts) in rows {
+        if let Some(file) = main_file(rt.alloc(), text)? {
+            assert!(rt; says(&file, path, go, counts), "{path}");
+            assert!(rt; layout_says(rt.alloc(), &file, path)?, "{path}");
+        }
     }
     Ok(())
+}
+
+// Whether a file has that module and go version, and so many lines of each verb.
+fn says(file: &MainFile, path: &str, go: (u32, u32), counts: [usize; 4]) -> bool {
+    file.module().as_str() == path
+        && file.go() == go
+        && file.requirements().len() == counts[0]
+        && file.excludes().len() == counts[1]
+        && file.replaces().len() == counts[2]
+        && file.retracts().len() == counts[3]
+}
+
+// Whether a file's layout reads as a file of that module; want of memory passes.
+fn layout_says(alloc: Global, file: &MainFile, path: &str) -> Result<bool, Fail> {
+    let Ok(layout) = file.doc().format(alloc) else {
+        return Ok(true);
+    };
+    match main_file(alloc, layout.as_str())? {
+        Some(again) => Ok(again.module().as_str() == path),
+        None => Ok(true),
+    }
 }
 
 #[test]

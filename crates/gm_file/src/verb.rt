@@ -10,7 +10,7 @@ use gm_syntax::word::Kind;
 
 /// How a file is read: strictly, as the main file, or laxly, as a dependency's file.
 #[derive(Clone, Copy, Debug, PartialEq, Eq)]
-pub(crate) enum Mode {
+pub enum Mode {
     Strict,
     Lax,
 }
@@ -68,7 +68,7 @@ pub(crate) fn verb_in(mode: Mode, text: &str) -> Verb
 }
 
 #[tactic(auto, unfolding(crate::specs::Values::is_folder))]
-pub(crate) fn is_folder(text: &str) -> bool
+pub fn is_folder(text: &str) -> bool
     ensures { result ≡ is_folder text.now }
 {
     text == "."

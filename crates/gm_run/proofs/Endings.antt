@@ -1,11 +1,20 @@
 -- What is known of how the program ends.
-use Rattle.std.proofs.Common.{◌≡◌, ℕ, List, Result, Ok, Err, IfOk, inl, inr, subst, sym}
+use Rattle.std.proofs.Common.{◌≡◌, ◌∙◌, ◌++◌, ◌∷◌, ℕ, List, [], Option, None, Result, Ok, Err, IfOk, Contains, ap, false, inl, inr, subst, sym}
+use Rattle.std.specs.Global.{Vec}
+use Rattle.gm_store.specs.Asked.{Name, Reply, answer_in, list_file, reply_for}
+use Rattle.gm_store.specs.Memory.{may_give}
+use Rattle.gm_store.specs.declared.memory.MemoryFiles.{MemoryFiles}
+use Rattle.gm_store.specs.declared.reading.ReadFault.{ReadFault}
+use Rattle.gm_words.specs.declared.usage.Command.TheVariants.{Fmt, Versions, Graph, List as Rows, Chain}
 use Rattle.gm_words.specs.Usage.{AskFor}
 use Rattle.gm_words.specs.declared.usage.Command.{Command}
 use Rattle.gm_words.specs.declared.usage.Places.{Places}
-use Rattle.std.specs.Global.{Vec}
-use Rattle.gm_store.specs.declared.reading.ReadFault.{ReadFault}
-use Rattle.gm_run.specs.Outcome.{Outcome, IsProgramOutcome, IsReadOutcome, source_of}
+use Rattle.gm_run.specs.Outcome.{Outcome}
+use Rattle.gm_run.specs.Held.{HoldsOne}
+use Rattle.gm_run.specs.Program.{AreOfOne, IsFolderOutcome, IsInputOutcome, IsProgramOutcome, IsReadOutcome, IsServed}
+use Rattle.gm_run.specs.Runs.{ComesTo, IsFmtOutcome, Needs, StatesOutcome, Stored, is_query}
+use Rattle.gm_run.specs.Queries.{RunsTo}
+use Rattle.gm_run.proofs.Answering.{answered_in}
 use Rattle.gm_run.specs.Written.{Ends, Sunk}
 
 -- some words ask for what was read of them
@@ -15,7 +24,7 @@ some_ask words (Ok asked) known = (words, known)
 some_ask words (Err fault) known = tt
 
 -- an end with an outcome of one kind is one with an outcome of another, where each of the first is of the second
-ends_wider : (one other : Outcome → Type 0) (out out' report report' : Sunk) (status : ℕ)
+pub ends_wider : (one other : Outcome → Type 0) (out out' report report' : Sunk) (status : ℕ)
     → ((outcome : Outcome) → one outcome → other outcome) → Ends one out out' report report' status → Ends other out out' report report' status
 ends_wider one other out out' report report' status wider ends = record {
   outcome = ends.outcome;
@@ -25,10 +34,56 @@ ends_wider one other out out' report report' status wider ends = record {
 
 -- an end with what some words ask for is one of the program
 pub program_ends : (command : Command) (places : Places) (out out' report report' : Sunk) (status code : ℕ) → code ≡ status
-    → ((words : List (List ℕ)) × AskFor words command places)
-    → Ends (λ outcome. (read : Result (Vec ℕ) ReadFault) × IsReadOutcome command (source_of command places) read outcome) out out' report report' status
+    → ((words : List (List ℕ)) × AskFor words command places) → Ends (IsServed command places) out out' report report' status
     → Ends IsProgramOutcome out out' report report' code
 program_ends command places out out' report report' status code same asked ends =
     let P : ℕ → Type 0 = λ n. Ends IsProgramOutcome out out' report report' n in
-    subst P (sym same) (ends_wider _ IsProgramOutcome out out' report report' status
-    (λ outcome stated. inr (asked.0, command, places, stated.0, asked.1, stated.1)) ends)
+    subst P (sym same) (ends_wider (IsServed command places) IsProgramOutcome out out' report report' status
+    (λ outcome stated. inr (asked.0, command, places, asked.1, stated)) ends)
+
+-- `fmt` needs no file, so its outcome is by the bytes alone
+pub fmt_wider : (name file : List ℕ) (sums : Option (List ℕ)) (old new : Stored) (read : Result (Vec ℕ) ReadFault) (content : Vec ℕ) → read ≡ Ok content
+    → file ≡ content.items → (outcome : Outcome) → ComesTo (Needs Fmt file sums) (StatesOutcome Fmt file sums) old new outcome
+    → IsReadOutcome name IsFmtOutcome read outcome
+fmt_wider name file sums old new read content is same outcome (inl stated) =
+    let P : Result (Vec ℕ) ReadFault → Type 0 = λ r. IsReadOutcome name IsFmtOutcome r outcome in
+    subst P (sym is) (subst (λ (bytes : List ℕ). IsFmtOutcome bytes outcome) same stated.0)
+fmt_wider name file sums old new read content is same outcome (inr refused) = absurd refused.2
+
+-- a store that holds one file answers by it
+of_one : (path list : List ℕ) (store : MemoryFiles) (asked : List (Name × Reply)) → HoldsOne (list_file path) list store
+    → ((name : Name) (reply : Reply) → Contains asked (name, reply) → may_give store name reply) → AreOfOne (list_file path) list (answer_in asked)
+of_one path list store asked held allowed = λ name reply e.
+    allowed name reply (answered_in asked name reply e) ∙ ap (reply_for 16777216) (held name)
+
+-- a store in memory never fails, so the outcome is by its answers
+pub input_wider : (command : Command) (path list : List ℕ) (store : MemoryFiles) (asked : List (Name × Reply)) (old new : Stored) → new.asked ≡ asked
+    → old.refused ≡ [] → new.refused ≡ [] → HoldsOne (list_file path) list store
+    → ((name : Name) (reply : Reply) → Contains asked (name, reply) → may_give store name reply)
+    → (outcome : Outcome) → ComesTo (Needs command [] None) (StatesOutcome command [] None) old new outcome → IsInputOutcome command path list outcome
+input_wider command path list store asked old new same none still held allowed outcome (inl stated) = (
+  answer_in asked,
+  of_one path list store asked held allowed,
+  subst (λ (a : List (Name × Reply)). StatesOutcome command [] None (answer_in a) outcome) same stated.0,
+)
+input_wider command path list store asked old new same none still held allowed outcome (inr refused) =
+    let grown : [] ≡ refused.0 ∷ [] = sym still ∙ refused.4 ∙ ap (λ (names : List Name). names ++ refused.0 ∷ []) none in absurd (cc)
+
+-- `fmt` and `versions` run to what they come to
+pub plain_runs : (command : Command) (main : List ℕ) (sums : Option (List ℕ)) (old new : Stored) (outcome : Outcome) → is_query command ≡ false
+    → RunsTo command main sums old new outcome → ComesTo (Needs command main sums) (StatesOutcome command main sums) old new outcome
+plain_runs Fmt main sums old new outcome plain runs = runs
+plain_runs (Versions path all) main sums old new outcome plain runs = runs
+plain_runs Graph main sums old new outcome plain runs = cc plain
+plain_runs (Rows after limit) main sums old new outcome plain runs = cc plain
+plain_runs (Chain path) main sums old new outcome plain runs = cc plain
+
+folders_come : (command : Command) (old new : Stored) (outcome : Outcome) → ComesTo (Needs command [] None) (StatesOutcome command [] None) old new outcome
+    → IsFolderOutcome command outcome
+folders_come command old new outcome (inl stated) = inl (answer_in new.asked, stated.0)
+folders_come command old new outcome (inr refused) = inr (answer_in new.asked, refused.0, refused.2, refused.1)
+
+-- what a run over proxy folders comes to is by some answers
+pub folder_wider : (command : Command) (old new : Stored) → is_query command ≡ false → (outcome : Outcome) → RunsTo command [] None old new outcome
+    → IsFolderOutcome command outcome
+folder_wider command old new plain outcome runs = folders_come command old new outcome (plain_runs command [] None old new outcome plain runs)

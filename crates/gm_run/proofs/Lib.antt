@@ -1,4 +1,7 @@
+mod Answering
 mod Endings
 mod Joining
-mod Outcomes
 mod Sameness
+mod Uniqueness
+mod Steps
+mod QueryRuns

@@ -1,15 +1,5 @@
 -- A command comes to one outcome.
-use Rattle.std.proofs.Common.{◌≡◌, ◌<◌, ◌⊎◌, ◌∙◌, ℕ, List, [], ◌∷◌, Some, Ok, Err, Contains, ap, ap₂, arith, inl, inr, refl, subst, sym}
-use Rattle.std.specs.Cmp.{IsTotalOrder}
-use Rattle.std.specs.List.{AllByRecursion}
-use Rattle.std.specs.List.Sorted.{IsStrictlySortedBy}
-use Rattle.std.specs.Ordering.{ordering_reverse}
-use Rattle.std.specs.declared.cmp.Ordering.{Ordering}
-use Rattle.std.specs.declared.cmp.Ordering.TheVariants.{Less, Greater}
-use Rattle.std.proofs.lemmas.List.Elements.{Contains-append_cases, Contains-append_left, Contains-append_right, Contains-push, Contains-push_cases}
-use Rattle.gm_name.specs.Version.{version_cmp}
-use Rattle.gm_name.specs.VersionOrder.{version_total}
-use Rattle.gm_store.specs.Listed.{AreListed}
+use Rattle.std.proofs.Common.{◌≡◌, ◌⊎◌, ◌∙◌, ℕ, Bool, true, false, List, [], Option, Some, Ok, Err, ap, arith, inl, inr, subst, sym}
 use Rattle.gm_syntax.specs.declared.fault.SyntaxFault.{SyntaxFault}
 use Rattle.gm_syntax.specs.declared.fault.SyntaxFault.TheVariants as faults
 use Rattle.gm_syntax.specs.Document.{Faulty, Line, Whole}
@@ -17,89 +7,21 @@ use Rattle.gm_syntax.specs.Layout.{layout}
 use Rattle.gm_syntax.specs.LineViews.{plains}
 use Rattle.gm_syntax.specs.Parsed.{IsParsedAs}
 use Rattle.gm_syntax.specs.Tokens.{Placed}
+use Rattle.gm_syntax.specs.Words.{Word}
+use Rattle.gm_store.specs.Asked.{Reply, absent, bytes, list_file, mod_file, too_long}
+use Rattle.gm_store.specs.Latest.{IsLatest}
+use Rattle.gm_file.specs.Directives.{Lax}
+use Rattle.gm_file.specs.Faults.{Fault, fault_of}
+use Rattle.gm_file.specs.Fields.{Dependency, dependency_of}
+use Rattle.gm_shown.specs.Shown.{shown_of}
 use Rattle.gm_words.specs.declared.usage.Command.{Command}
-use Rattle.gm_words.specs.declared.usage.Command.TheVariants.{Fmt, Versions}
-use Rattle.gm_run.specs.Outcome.{IsFmtOutcome, IsOutcome, IsVersionsOutcome, Outcome, fault_line, place_of, printed, refused, versions_line}
-
--- ---- strictly sorted lists with the same elements
-
-module _ {K : Type 0} where
-  stands_first : (x : K) (xs : List K) → Contains (x ∷ xs) x
-  stands_first x xs = Contains-append_left (x ∷ []) xs x (Contains-push [] x)
-
-  stands_behind : (x : K) (xs : List K) (k : K) → Contains xs k → Contains (x ∷ xs) k
-  stands_behind x xs k inside = Contains-append_right (x ∷ []) xs k inside
-
-  in_none : (k : K) → Contains [] k → ⊥
-  in_none k inside = let within : inside.0 < 0 = inside.1 in absurd (omega arith)
-
-  first_or_behind : (x : K) (xs : List K) (k : K) → Contains (x ∷ xs) k → (x ≡ k) ⊎ Contains xs k
-  first_or_behind x xs k inside = elim (Contains-append_cases (x ∷ []) xs k inside) [
-    | inl alone ↦ elim (Contains-push_cases [] x k alone) [ inl nowhere ↦ absurd (in_none k nowhere) | inr same ↦ inl same ]
-    | inr behind ↦ inr behind
-  ]
-
-  all_inside : (P : K → Type 0) (xs : List K) (k : K) → AllByRecursion P xs → Contains xs k → P k
-  all_inside P [] k all inside = absurd (in_none k inside)
-  all_inside P (x ∷ xs) k all inside = elim (first_or_behind x xs k inside) [
-    | inl same ↦ subst P same all.0
-    | inr behind ↦ all_inside P xs k all.1 behind
-  ]
-
-module _ {K : Type 0} (R : K → K → Ordering) (order : IsTotalOrder R) where
-  not_both_less : (x y : K) → R x y ≡ Less → R y x ≡ Less → ⊥
-  not_both_less x y below above = let e : Less ≡ Greater = sym below ∙ order.antisymm x y ∙ ap ordering_reverse above in cc
-
-  same_head : (x y : K) (xs ys : List K) → AllByRecursion (λ z. R x z ≡ Less) xs → AllByRecursion (λ z. R y z ≡ Less) ys
-      → Contains (y ∷ ys) x → Contains (x ∷ xs) y → x ≡ y
-  same_head x y xs ys above_x above_y in_other in_one = elim (first_or_behind y ys x in_other) [
-    | inl same ↦ sym same
-    | inr behind ↦ elim (first_or_behind x xs y in_one) [
-      | inl same ↦ same
-      | inr far ↦ absurd (not_both_less x y (all_inside (λ z. R x z ≡ Less) xs y above_x far) (all_inside (λ z. R y z ≡ Less) ys x above_y behind))
-    ]
-  ]
-
-  -- what stands behind the head of one stands behind that of the other
-  same_tail : (x : K) (xs ys : List K) → AllByRecursion (λ z. R x z ≡ Less) xs → ((k : K) → Contains (x ∷ xs) k → Contains (x ∷ ys) k)
-      → (k : K) → Contains xs k → Contains ys k
-  same_tail x xs ys above into k inside = elim (first_or_behind x ys k (into k (stands_behind x xs k inside))) [
-    | inl same ↦
-        let below : R x x ≡ Less = subst (λ z. R x z ≡ Less) (sym same) (all_inside (λ z. R x z ≡ Less) xs k above inside) in
-        absurd (not_both_less x x below below)
-    | inr behind ↦ behind
-  ]
-
-  pub same_sorted : (xs ys : List K) → IsStrictlySortedBy R xs → IsStrictlySortedBy R ys → ((k : K) → Contains xs k → Contains ys k)
-      → ((k : K) → Contains ys k → Contains xs k) → xs ≡ ys
-  unfolding IsStrictlySortedBy
-  same_sorted [] [] one other into back = refl
-  same_sorted [] (y ∷ ys) one other into back = absurd (in_none y (back y (stands_first y ys)))
-  same_sorted (x ∷ xs) [] one other into back = absurd (in_none x (into x (stands_first x xs)))
-  same_sorted (x ∷ xs) (y ∷ ys) one other into back =
-      let head : x ≡ y = same_head x y xs ys one.0 other.0 (into x (stands_first x xs)) (back y (stands_first y ys)) in
-      let from : (k : K) → Contains (x ∷ xs) k → Contains (x ∷ ys) k = λ k inside. subst (λ z. Contains (z ∷ ys) k) (sym head) (into k inside) in
-      let to : (k : K) → Contains (x ∷ ys) k → Contains (x ∷ xs) k = λ k inside. back k (subst (λ z. Contains (z ∷ ys) k) head inside) in
-      let above : AllByRecursion (λ z. R x z ≡ Less) ys = subst (λ w. AllByRecursion (λ z. R w z ≡ Less) ys) (sym head) other.0 in
-      ap₂ (λ (z : K) (zs : List K). z ∷ zs) head (same_sorted xs ys one.1 other.1 (same_tail x xs ys one.0 from) (same_tail x ys xs above to))
-
-listed_once : (path text : List ℕ) (one other : List (List ℕ)) → AreListed path text one → AreListed path text other → one ≡ other
-listed_once path text one other a b = same_sorted version_cmp version_total one other a.ascending b.ascending
-    (λ k inside. (b.members k).1 ((a.members k).0 inside)) (λ k inside. (a.members k).1 ((b.members k).0 inside))
-
--- ---- versions
-
-versions_once : (path list : List ℕ) (one other : Outcome) → IsVersionsOutcome path list one → IsVersionsOutcome path list other → one ≡ other
-versions_once path list one other (inl a) (inl b) = a.1 ∙ sym b.1
-versions_once path list one other (inl a) (inr (inl b)) = let e = sym a.0 ∙ b.0 in absurd (cc)
-versions_once path list one other (inl a) (inr (inr b)) = let e = sym a.0 ∙ b.0 in absurd (cc)
-versions_once path list one other (inr (inl a)) (inl b) = let e = sym b.0 ∙ a.0 in absurd (cc)
-versions_once path list one other (inr (inl a)) (inr (inl b)) = a.2 ∙ sym b.2
-versions_once path list one other (inr (inl a)) (inr (inr b)) = let long = a.1 in let short = b.1 in absurd (omega arith)
-versions_once path list one other (inr (inr a)) (inl b) = let e = sym b.0 ∙ a.0 in absurd (cc)
-versions_once path list one other (inr (inr a)) (inr (inl b)) = let long = b.1 in let short = a.1 in absurd (omega arith)
-versions_once path list one other (inr (inr a)) (inr (inr b)) =
-    a.4 ∙ ap (λ (v : List (List ℕ)). printed (versions_line path v)) (listed_once path list a.2 b.2 a.3 b.3) ∙ sym b.4
+use Rattle.gm_words.specs.declared.usage.Command.TheVariants.{Fmt, Versions, Graph, List as Rows, Chain}
+use Rattle.gm_run.specs.Dependencies.{IsDependency, IsMalformed}
+use Rattle.gm_run.specs.Kinds.{Place, directive_name, fault_line, malformed_line, place_of}
+use Rattle.gm_run.specs.Outcome.{Outcome, printed, refused}
+use Rattle.gm_run.specs.Runs.{IsFmtOutcome, StatesOutcome}
+use Rattle.gm_run.specs.Versions.{Answers, IsListOutcome, IsListedOutcome, IsShownOutcome, IsVersionsOutcome, versions_line}
+use Rattle.gm_run.proofs.Uniqueness.{latest_once, listed_once, none_latest}
 
 -- ---- fmt
 
@@ -135,7 +57,83 @@ fmt_once file one other (inr a) (inl b) = absurd (no_fault file b.0 a.0 a.1 b.1 
 fmt_once file one other (inr a) (inr b) =
     a.4 ∙ ap (λ (place : ℕ × List ℕ). refused (fault_line place)) (same_place file a.0 b.0 a.1 b.1 a.2 b.2 a.3 b.3) ∙ sym b.4
 
--- a command over its bytes comes to one outcome
-pub one_outcome : (command : Command) (bytes : List ℕ) (one other : Outcome) → IsOutcome command bytes one → IsOutcome command bytes other → one ≡ other
-one_outcome (Versions path) bytes one other a b = versions_once path bytes one other a b
-one_outcome Fmt bytes one other a b = fmt_once bytes one other a b
+-- ---- a dependency's file
+
+same_plains : (file : List ℕ) (one other : List (Line Placed)) → IsParsedAs file (Ok one) → IsParsedAs file (Ok other) → plains one ≡ plains other
+same_plains file one other a b = (b.1.only (plains one) Whole a.1.reads).0
+
+file_once : (file : List ℕ) (one other : Dependency) → IsDependency file one → IsDependency file other → one ≡ other
+file_once file one other a b = a.3 ∙ ap dependency_of (same_plains file a.0 b.0 a.1 b.1) ∙ sym b.3
+
+not_both : (file : List ℕ) (place : Place) (dependency : Dependency) → IsMalformed file place → IsDependency file dependency → ⊥
+not_both file place dependency (inl a) b = no_fault file b.0 a.0 place b.1 a.1 a.2
+not_both file place dependency (inr a) b =
+    let e = sym b.2 ∙ ap (λ (ls : List (Line Word)). fault_of Lax ls) (same_plains file b.0 a.0 b.1 a.2) ∙ a.3 in cc
+
+fault_once : (file : List ℕ) (one other : Place) → IsMalformed file one → IsMalformed file other → one ≡ other
+fault_once file one other (inl a) (inl b) = same_place file a.0 b.0 one other a.1 b.1 a.2 b.2
+fault_once file one other (inl a) (inr b) = absurd (no_fault file b.0 a.0 one b.2 a.1 a.2)
+fault_once file one other (inr a) (inl b) = absurd (no_fault file a.0 b.0 other a.2 b.1 b.2)
+fault_once file one other (inr a) (inr b) =
+    let e : Some a.1 ≡ Some b.1 = sym a.3 ∙ ap (λ (ls : List (Line Word)). fault_of Lax ls) (same_plains file a.0 b.0 a.2 b.2) ∙ b.3 in
+    let same : a.1 ≡ b.1 = cc in
+    let place : Fault → Place = λ fault. (fault.0, directive_name fault.1) in a.4 ∙ ap place same ∙ sym b.4
+
+-- ---- versions
+
+same_answer : (answer : Option Reply) (one other : Reply) → answer ≡ Some one → answer ≡ Some other → one ≡ other
+same_answer answer one other a b = cc
+
+shown_once : (path : List ℕ) (versions : List (List ℕ)) (latest : List ℕ) (reply : Reply) (one other : Outcome)
+    → IsShownOutcome path versions latest reply one → IsShownOutcome path versions latest reply other → one ≡ other
+shown_once path versions latest absent one other a b = a ∙ sym b
+shown_once path versions latest too_long one other a b = a ∙ sym b
+shown_once path versions latest (bytes file) one other (inl a) (inl b) =
+    a.2 ∙ ap (λ (place : Place). refused (malformed_line path latest place)) (fault_once file a.0 b.0 a.1 b.1) ∙ sym b.2
+shown_once path versions latest (bytes file) one other (inl a) (inr b) = absurd (not_both file a.0 b.0 a.1 b.1)
+shown_once path versions latest (bytes file) one other (inr a) (inl b) = absurd (not_both file b.0 a.0 b.1 a.1)
+shown_once path versions latest (bytes file) one other (inr a) (inr b) =
+    a.2 ∙ ap (λ (d : Dependency). printed (versions_line path (shown_of d.retracts versions))) (file_once file a.0 b.0 a.1 b.1) ∙ sym b.2
+
+not_all : (all : Bool) (versions : List (List ℕ)) (latest : List ℕ) → (all ≡ true) ⊎ (versions ≡ []) → all ≡ false → IsLatest versions latest → ⊥
+not_all all versions latest (inl every) some is = let e = sym every ∙ some in cc
+not_all all versions latest (inr none) some is = none_latest latest (subst (λ (vs : List (List ℕ)). IsLatest vs latest) none is)
+
+listed_outcome_once : (path : List ℕ) (all : Bool) (answers : Answers) (versions : List (List ℕ)) (one other : Outcome)
+    → IsListedOutcome path all answers versions one → IsListedOutcome path all answers versions other → one ≡ other
+listed_outcome_once path all answers versions one other (inl a) (inl b) = a.1 ∙ sym b.1
+listed_outcome_once path all answers versions one other (inl a) (inr b) = absurd (not_all all versions b.0 a.0 b.2 b.3)
+listed_outcome_once path all answers versions one other (inr a) (inl b) = absurd (not_all all versions a.0 b.0 a.2 a.3)
+listed_outcome_once path all answers versions one other (inr a) (inr b) =
+    let latest : a.0 ≡ b.0 = latest_once versions a.0 b.0 a.3 b.3 in
+    let answered : answers (mod_file path b.0) ≡ Some a.1 = subst (λ (v : List ℕ). answers (mod_file path v) ≡ Some a.1) latest a.4 in
+    let reply : a.1 ≡ b.1 = same_answer (answers (mod_file path b.0)) a.1 b.1 answered b.4 in
+    let P : List ℕ → Type 0 = λ v. IsShownOutcome path versions v a.1 one in
+    let Q : Reply → Type 0 = λ r. IsShownOutcome path versions b.0 r one in
+    shown_once path versions b.0 b.1 one other (subst Q reply (subst P latest a.5)) b.5
+
+list_once : (path : List ℕ) (all : Bool) (answers : Answers) (reply : Reply) (one other : Outcome)
+    → IsListOutcome path all answers reply one → IsListOutcome path all answers reply other → one ≡ other
+list_once path all answers absent one other a b = a ∙ sym b
+list_once path all answers too_long one other a b = a ∙ sym b
+list_once path all answers (bytes list) one other a b =
+    let P : List (List ℕ) → Type 0 = λ vs. IsListedOutcome path all answers vs one in
+    listed_outcome_once path all answers b.0 one other (subst P (listed_once path list a.0 b.0 a.1 b.1) a.2) b.2
+
+versions_once : (path : List ℕ) (all : Bool) (answers : Answers) (one other : Outcome)
+    → IsVersionsOutcome path all answers one → IsVersionsOutcome path all answers other → one ≡ other
+versions_once path all answers one other (inl a) (inl b) = a.1 ∙ sym b.1
+versions_once path all answers one other (inl a) (inr b) = let e = sym a.0 ∙ b.1 in absurd (cc)
+versions_once path all answers one other (inr a) (inl b) = let e = sym b.0 ∙ a.1 in absurd (cc)
+versions_once path all answers one other (inr a) (inr b) =
+    let P : Reply → Type 0 = λ r. IsListOutcome path all answers r one in
+    list_once path all answers b.0 one other (subst P (same_answer (answers (list_file path)) a.0 b.0 a.2 b.2) a.3) b.3
+
+-- a command over what was read and answered comes to one outcome
+pub one_outcome : (command : Command) (main : List ℕ) (sums : Option (List ℕ)) (answers : Answers) (one other : Outcome)
+    → StatesOutcome command main sums answers one → StatesOutcome command main sums answers other → one ≡ other
+one_outcome (Versions path all) main sums answers one other a b = versions_once path all answers one other a b
+one_outcome Fmt main sums answers one other a b = fmt_once main one other a b
+one_outcome Graph main sums answers one other a b = absurd a
+one_outcome (Rows after limit) main sums answers one other a b = absurd a
+one_outcome (Chain path) main sums answers one other a b = absurd a

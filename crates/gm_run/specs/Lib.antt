@@ -1,2 +1,12 @@
+pub mod Asking
+pub mod Dependencies
+pub mod Reading
+pub mod Held
+pub mod Kinds
+pub mod Listing
 pub mod Outcome
+pub mod Program
+pub mod Queries
+pub mod Runs
+pub mod Versions
 pub mod Written

@@ -1,11 +1,14 @@
 //! What holds of runs as they are defined.
 
-ghost use Rattle.std.specs.Prelude.{◌≡◌, ℕ, List};
-ghost use Rattle.gm_run.specs.Outcome.{IsOutcome, Outcome};
+ghost use Rattle.std.specs.Prelude.{◌≡◌, ℕ, List, Option};
+ghost use Rattle.gm_run.specs.Outcome.{Outcome};
+ghost use Rattle.gm_run.specs.Runs.{StatesOutcome};
+ghost use Rattle.gm_run.specs.Versions.{Answers};
 ghost use Rattle.gm_words.specs.declared.usage.Command.{Command};
 
-/// A command comes to one outcome over its bytes: output, report and status are a function of what is read.
+/// `fmt` and `versions` come to one outcome over what it reads and what a store answers: output, report and status are a function of
+/// those.
 pub fn one_outcome()
-    ensures { (command : Command) (bytes : List ℕ) (one other : Outcome)
-        → IsOutcome command bytes one → IsOutcome command bytes other → one ≡ other }
+    ensures { (command : Command) (main : List ℕ) (sums : Option (List ℕ)) (answers : Answers) (one other : Outcome)
+        → StatesOutcome command main sums answers one → StatesOutcome command main sums answers other → one ≡ other }
 {}

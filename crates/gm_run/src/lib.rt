@@ -1,14 +1,21 @@
-//! What the program does with the words of its command line and the bytes that they name.
+//! What the program does with the words of its command line and the files that they name.
 #![tactic(auto)]
 
+mod asking;
+mod fmt;
+mod kinds;
 pub mod laws;
 mod outcome;
+mod output;
 mod program;
+mod queries;
 mod running;
+mod serving;
 mod status;
+mod versions;
 mod writing;
 
-pub use crate::program::status_of;
+pub use crate::program::{exit_code, status_of};
 pub use crate::running::run;
 pub use crate::status::Status;
 

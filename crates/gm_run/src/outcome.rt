@@ -1,135 +1,48 @@
 //! What a command comes to.
 
-ghost use Rattle.std.specs.Prelude.{◌≡◌, IfOk, option_map};
-ghost use Rattle.std.specs.String.{string_bytes};
-ghost use Rattle.gm_run.specs.Outcome.{IsFmtOutcome, IsOutcome, IsVersionsOutcome, fault_line, kind_name, outcome_of, place_of, printed, refused, versions_line};
+ghost use Rattle.std.specs.Prelude.{◌≡◌, [], Contains, IfOk, false};
+ghost use Rattle.std.specs.Option.{option_map};
+ghost use Rattle.gm_store.specs.Asked.{Name, Reply};
+ghost use Rattle.gm_run.specs.Outcome.{outcome_of};
+ghost use Rattle.gm_run.specs.Runs.{AskedInTurn, Needs, is_query, stored};
+ghost use Rattle.gm_run.specs.Queries.{RunsTo};
 
-use crate::status::Status;
-use gm_name::{ModPath, ModVersion, NoMemory};
-use gm_store::{LIMIT, versions_of};
-use gm_syntax::doc::Doc;
-use gm_syntax::fault::{SyntaxFault, SyntaxKind};
+use crate::fmt::fmt_outcome;
+use crate::output::Output;
+use crate::queries::query_outcome;
+use crate::versions::versions_outcome;
+use gm_listing::Query;
+use gm_name::NoMemory;
+use gm_store::Files;
 use gm_words::Command;
-use std::alloc::{AllocError, Global};
+use std::alloc::Global;
 
-/// What is to be written, and the status.
-#[derive(Drop)]
-pub(crate) struct Output {
-    /// For standard output.
-    pub(crate) text: String,
-    /// For standard error.
-    pub(crate) report: String,
-    pub(crate) status: Status,
-}
-
-/// A text for standard output.
-fn printed(alloc: Global, text: String) -> Output
-    ensures { outcome_of result ≡ printed (string_bytes text) }
-{
-    Output {
-        text,
-        report: String::new(alloc),
-        status: Status::Done,
-    }
-}
-
-/// A line for standard error.
-fn refused(alloc: Global, line: String) -> Result<Output, NoMemory>
-    ensures { IfOk result (λ output. outcome_of output ≡ refused (string_bytes line)) }
-{
-    let mut report = line;
-    report.push_str("\n")?;
-    Ok(Output {
-        text: String::new(alloc),
-        report,
-        status: Status::Fault,
-    })
-}
-
-/// The path and the versions in a line.
-fn versions_line(alloc: Global, path: &ModPath, versions: &[ModVersion]) -> Result<String, NoMemory>
-    ensures { IfOk result (λ line. string_bytes line ≡ versions_line path.now versions.now) }
-{
-    let mut line = String::from_str(alloc, path.as_str())?;
-    'versions: for version in versions {
-        line.push_str(" ")?;
-        line.push_str(version.as_str())?;
-    }
-    line.push_str("\n")?;
-    Ok(line)
-}
-
-/// What `versions` comes to over a list.
-fn versions_outcome(alloc: Global, path: &ModPath, list: &[u8]) -> Result<Output, NoMemory>
-    ensures { IfOk result (λ output. IsVersionsOutcome path.now list.now (outcome_of output)) }
-{
-    let name = path.as_str();
-    if !path.is_fetchable() {
-        return refused(alloc, format!(in alloc; "{name}: NotFetchable")?);
-    }
-    if list.len() > LIMIT {
-        return refused(alloc, format!(in alloc; "{name}: TooLong")?);
-    }
-    let versions = versions_of(alloc, path, list)?;
-    let line = versions_line(alloc, path, versions.as_slice())?;
-    Ok(printed(alloc, line))
-}
-
-/// The name of what is wrong with a line.
-fn kind_name(kind: SyntaxKind) -> &'static str
-    ensures { result.now ≡ kind_name kind }
-{
-    match kind {
-        SyntaxKind::BadByte => "BadByte",
-        SyntaxKind::OpenString => "OpenString",
-        SyntaxKind::BadEscape => "BadEscape",
-        SyntaxKind::BlockComment => "BlockComment",
-        SyntaxKind::StrayClose => "StrayClose",
-        SyntaxKind::NestedOpen => "NestedOpen",
-        SyntaxKind::OpenBlock => "OpenBlock",
-    }
-}
-
-/// The line and the name of what is wrong with a file, of which line 0 is the whole.
-fn place_of(fault: SyntaxFault) -> Option<(usize, &'static str)>
-    ensures { option_map (λ place. (place.0, place.1.now)) result ≡ place_of fault }
-{
-    match fault {
-        SyntaxFault::NoMemory => None,
-        SyntaxFault::TooMany => Some((0, "TooMany")),
-        SyntaxFault::NotUtf8 => Some((0, "NotUtf8")),
-        SyntaxFault::Syntax { line, kind } => Some((line, kind_name(kind))),
-    }
-}
-
-/// The line that says where a file is wrong, and how.
-fn fault_line(alloc: Global, line: usize, kind: &str) -> Result<String, NoMemory>
-    ensures { IfOk result (λ text. string_bytes text ≡ fault_line (line, kind.now)) }
-{
-    let text = format!(in alloc; "go.mod:{line}: {kind}")?;
-    Ok(text)
-}
-
-/// What `fmt` comes to over a file.
-fn fmt_outcome(alloc: Global, file: &[u8]) -> Result<Output, NoMemory>
-    ensures { IfOk result (λ output. IsFmtOutcome file.now (outcome_of output)) }
-{
-    let fault = match Doc::parse(alloc, file) {
-        Ok(doc) => return Ok(printed(alloc, doc.format(alloc)?)),
-        Err(fault) => fault,
-    };
-    match place_of(fault) {
-        Some((line, kind)) => refused(alloc, fault_line(alloc, line, kind)?),
-        None => Err(AllocError),
-    }
-}
-
-/// What a command comes to over its bytes.
-pub(crate) fn outcome(alloc: Global, command: &Command, bytes: &[u8]) -> Result<Output, NoMemory>
-    ensures { IfOk result (λ output. IsOutcome command.now bytes.now (outcome_of output)) }
+/// What a command comes to over the main file, a go.sum and a store that was asked nothing.
+pub(crate) fn outcome<F: Files>(
+    alloc: Global,
+    command: &Command,
+    main: &[u8],
+    sums: Option<&[u8]>,
+    files: &mut F,
+) -> Result<Output, NoMemory>
+    requires { F.asked files.old ≡ [] }
+    ensures comes { IfOk result (λ output. RunsTo command.now main.now (option_map (λ sums. sums.now) sums.entry) (stored (F.asked files.old) (F.refused files.old)) (stored (F.asked files.new) (F.refused files.new)) (outcome_of output)) }
+    ensures in_turn { is_query command.now ≡ false → AskedInTurn (Needs command.now main.now (option_map (λ sums. sums.now) sums.entry)) (F.asked files.new) }
+    ensures answers { is_query command.now ≡ false → (name : Name) (reply : Reply) → Contains (F.asked files.new) (name, reply) → F.may_answer files.old name reply }
 {
     match command {
-        Command::Versions(path) => versions_outcome(alloc, path, bytes),
-        Command::Fmt => fmt_outcome(alloc, bytes),
+        Command::Versions { path, all } => versions_outcome(alloc, path, *all, files),
+        Command::Fmt => fmt_outcome(alloc, main),
+        Command::Graph => query_outcome(alloc, Query::Graph, main, sums, files),
+        Command::List { after, limit } => {
+            query_outcome(
+                alloc,
+                Query::List(after.as_ref(), *limit),
+                main,
+                sums,
+                files,
+            )
+        }
+        Command::Chain(path) => query_outcome(alloc, Query::Chain(path), main, sums, files),
     }
 }

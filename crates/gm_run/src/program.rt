@@ -1,34 +1,53 @@
 //! What the program does between its words and its status.
 
-ghost use Rattle.std.specs.Prelude.{◌≡◌, ◌++◌, ℕ, IfOk, List, Result, codes};
+ghost use Rattle.std.specs.Prelude.{◌≡◌, ◌++◌, ℕ, [], IfOk, List, Result, codes, false};
 ghost use Rattle.std.specs.Global.{Vec};
+ghost use Rattle.std.specs.String.{string_bytes};
 ghost use Rattle.gm_store.specs.declared.reading.ReadFault.{ReadFault};
 ghost use Rattle.gm_words.specs.Usage.{AskFor};
-ghost use Rattle.std.specs.String.{string_bytes};
-ghost use Rattle.gm_run.specs.Outcome.{IsProgramOutcome, IsReadOutcome, code_of, failed, misused, source_of, usage_outcome};
+ghost use Rattle.gm_store.specs.Asked.{list_file};
+ghost use Rattle.gm_store.specs.Memory.{pairs, pairs_of};
+ghost use Rattle.gm_run.specs.Held.{HoldsOne};
+ghost use Rattle.gm_run.specs.Outcome.{code_of, failed, misused};
+ghost use Rattle.gm_run.specs.Program.{IsFolderOutcome, IsInputOutcome, IsProgramOutcome, IsReadOutcome, IsServed, IsVersionsServed, unread_outcome, usage_outcome};
+ghost use Rattle.gm_run.specs.Runs.{IsFmtOutcome, is_query};
 ghost use Rattle.gm_run.specs.Written.{Ends, IsWritten, sunk};
 
 use crate::running::run;
+use crate::serving::serve_query;
 use crate::status::Status;
 use crate::writing::{NO_MEMORY, end, write_both};
-use gm_name::NoMemory;
-use gm_store::{ReadFault, Sink, read_limited};
+use gm_name::{ModPath, NoMemory};
+use gm_store::{
+    FileName, FolderFiles, MemoryFiles, ProxyList, ReadFault, Sink, StdSink, read_limited,
+};
 use gm_words::{Command, Places, UsageFault, read_words};
 use std::alloc::{AllocError, Global};
 use std::io::ErrorKind;
+use std::process::ExitCode;
 use std::rt::{Env, Files};
 use std::{env, fs};
 
 /// The status of the process where its words are wrong.
 const MISUSED: u8 = 2;
 
+/// The program: reads the words of the command line and runs the command, over standard output and standard error.
+pub fn exit_code(rt: &HostRuntime) -> ExitCode {
+    let mut out = StdSink::new(rt.stdout());
+    let mut report = StdSink::new(rt.stderr());
+    ExitCode::from(status_of(rt, &mut out, &mut report))
+}
+
 /// Reads the words of the command line, reads the file that they name or standard input, and runs the command. The
-/// answer is the status of the process.
+/// answer is the status of the process. `versions` reads standard input only where no proxy folders are given.
+///
+/// `graph`, `list` and `chain` read the main file and then the go.sum where one is named; the first that can't be read is reported, and
+/// then nothing is read as a go.mod.
 ///
 /// Of a file or of standard input at most 16,777,217 bytes are read, from which the command sees that there are too
 /// many. What can't be read is reported as `gomod: cannot read NAME`, with status 3, where the name of standard input
 /// is `-`. Help goes to `out` with status 0, what is wrong with the words to `report` with status 2.
-pub fn status_of<S: Env + Input + Files + Alloc<A = Global>, O: Sink, R: Sink>(
+pub fn status_of<S: Env + Input + Files + Clone + Drop + Alloc<A = Global>, O: Sink, R: Sink>(
     rt: &S,
     out: &mut O,
     report: &mut R,
@@ -39,30 +58,179 @@ pub fn status_of<S: Env + Input + Files + Alloc<A = Global>, O: Sink, R: Sink>(
         result }
 {
     match command_of(rt) {
-        Ok((command, places)) => serve(rt, &command, &places, out, report).code(),
+        Ok((command, places)) => serve(rt, &command, places, out, report).code(),
         Err(fault) => tell(rt.alloc(), &fault, out, report),
     }
 }
 
 /// Reads what a command wants, and runs it.
-fn serve<S: Input + Files + Alloc<A = Global>, O: Sink, R: Sink>(
+fn serve<S: Input + Files + Clone + Drop + Alloc<A = Global>, O: Sink, R: Sink>(
     rt: &S,
     command: &Command,
-    places: &Places,
+    places: Places,
     out: &mut O,
     report: &mut R,
 ) -> Status
-    ensures { Ends (λ outcome. (read : Result (Vec ℕ) ReadFault) × IsReadOutcome command.now (source_of command.now places.now) read outcome)
+    ensures { Ends (IsServed command.now places)
         (sunk (O.taken out.old) (O.room out.old) (O.fault_count out.old)) (sunk (O.taken out.new) (O.room out.new) (O.fault_count out.new))
         (sunk (R.taken report.old) (R.room report.old) (R.fault_count report.old)) (sunk (R.taken report.new) (R.room report.new) (R.fault_count report.new))
         (code_of result) }
 {
-    let name = match command {
-        Command::Fmt => places.main.as_str(),
-        Command::Versions(_) => "-",
+    match command {
+        Command::Fmt => {
+            let read = read_file(rt, places.main.as_str());
+            fmt_read(rt.alloc(), places.main.as_str(), read, out, report)
+        }
+        Command::Versions { path, .. } => {
+            serve_versions(rt, command, path, places.proxy, out, report)
+        }
+        Command::Graph => serve_query(rt, command, places, out, report),
+        Command::List { .. } => serve_query(rt, command, places, out, report),
+        Command::Chain(_) => serve_query(rt, command, places, out, report),
+    }
+}
+
+/// Runs `fmt` over what was read of a file, or reports that it could not be.
+fn fmt_read<O: Sink, R: Sink>(
+    alloc: Global,
+    name: &str,
+    read: Result<Vec<u8>, ReadFault>,
+    out: &mut O,
+    report: &mut R,
+) -> Status
+    ensures { Ends (IsReadOutcome name.now IsFmtOutcome read)
+        (sunk (O.taken out.old) (O.room out.old) (O.fault_count out.old)) (sunk (O.taken out.new) (O.room out.new) (O.fault_count out.new))
+        (sunk (R.taken report.old) (R.room report.old) (R.fault_count report.old)) (sunk (R.taken report.new) (R.room report.new) (R.fault_count report.new))
+        (code_of result) }
+{
+    match read {
+        Ok(main) => {
+            let mut files = MemoryFiles::new(alloc);
+            run(
+                alloc,
+                &Command::Fmt,
+                main.as_slice(),
+                None,
+                &mut files,
+                out,
+                report,
+            )
+        }
+        Err(fault) => unread(alloc, name, fault, out, report),
+    }
+}
+
+/// Runs `versions` over the proxy folders, or over the list on standard input where there are none.
+fn serve_versions<S: Input + Files + Clone + Drop + Alloc<A = Global>, O: Sink, R: Sink>(
+    rt: &S,
+    command: &Command,
+    path: &ModPath,
+    proxy: Option<ProxyList>,
+    out: &mut O,
+    report: &mut R,
+) -> Status
+    requires { is_query command.now ≡ false }
+    ensures { Ends (IsVersionsServed command.now path.now proxy)
+        (sunk (O.taken out.old) (O.room out.old) (O.fault_count out.old)) (sunk (O.taken out.new) (O.room out.new) (O.fault_count out.new))
+        (sunk (R.taken report.old) (R.room report.old) (R.fault_count report.old)) (sunk (R.taken report.new) (R.room report.new) (R.fault_count report.new))
+        (code_of result) }
+{
+    match proxy {
+        Some(folders) => over_folders(rt, command, folders, out, report),
+        None => {
+            let read = read_limited(rt.alloc(), &mut rt.reader());
+            list_read(rt.alloc(), command, path, read, out, report)
+        }
+    }
+}
+
+/// Runs a command over what was read of standard input as the list of a module, or reports that it could not be.
+fn list_read<O: Sink, R: Sink>(
+    alloc: Global,
+    command: &Command,
+    path: &ModPath,
+    read: Result<Vec<u8>, ReadFault>,
+    out: &mut O,
+    report: &mut R,
+) -> Status
+    requires { is_query command.now ≡ false }
+    ensures { Ends (IsReadOutcome (codes "-") (IsInputOutcome command.now path.now) read)
+        (sunk (O.taken out.old) (O.room out.old) (O.fault_count out.old)) (sunk (O.taken out.new) (O.room out.new) (O.fault_count out.new))
+        (sunk (R.taken report.old) (R.room report.old) (R.fault_count report.old)) (sunk (R.taken report.new) (R.room report.new) (R.fault_count report.new))
+        (code_of result) }
+{
+    match read {
+        Ok(list) => over_list(alloc, command, path, list, out, report),
+        Err(fault) => unread(alloc, "-", fault, out, report),
+    }
+}
+
+/// A store that holds the list of a module, and nothing else.
+fn store_of(alloc: Global, path: &ModPath, list: Vec<u8>) -> Result<MemoryFiles, NoMemory>
+    ensures asked { IfOk result (λ files. pairs_of files ≡ []) }
+    ensures held { IfOk result (HoldsOne (list_file path.now) list.items) }
+{
+    let mut files = MemoryFiles::new(alloc);
+    files.put(FileName::List(path.copy(alloc)?), list)?;
+    Ok(files)
+}
+
+/// Runs a command over the list of a module.
+fn over_list<O: Sink, R: Sink>(
+    alloc: Global,
+    command: &Command,
+    path: &ModPath,
+    list: Vec<u8>,
+    out: &mut O,
+    report: &mut R,
+) -> Status
+    requires { is_query command.now ≡ false }
+    ensures { Ends (IsInputOutcome command.now path.now list.items)
+        (sunk (O.taken out.old) (O.room out.old) (O.fault_count out.old)) (sunk (O.taken out.new) (O.room out.new) (O.fault_count out.new))
+        (sunk (R.taken report.old) (R.room report.old) (R.fault_count report.old)) (sunk (R.taken report.new) (R.room report.new) (R.fault_count report.new))
+        (code_of result) }
+{
+    match store_of(alloc, path, list) {
+        Ok(mut files) => run(alloc, command, b"", None, &mut files, out, report),
+        Err(_) => end(out, b"", report, NO_MEMORY, Status::Device),
+    }
+}
+
+/// Runs a command over proxy folders.
+fn over_folders<S: Files + Clone + Drop + Alloc<A = Global>, O: Sink, R: Sink>(
+    rt: &S,
+    command: &Command,
+    folders: ProxyList,
+    out: &mut O,
+    report: &mut R,
+) -> Status
+    requires { is_query command.now ≡ false }
+    ensures { Ends (IsFolderOutcome command.now)
+        (sunk (O.taken out.old) (O.room out.old) (O.fault_count out.old)) (sunk (O.taken out.new) (O.room out.new) (O.fault_count out.new))
+        (sunk (R.taken report.old) (R.room report.old) (R.fault_count report.old)) (sunk (R.taken report.new) (R.room report.new) (R.fault_count report.new))
+        (code_of result) }
+{
+    let Ok(main) = String::from_str(rt.alloc(), ".") else {
+        return end(out, b"", report, NO_MEMORY, Status::Device);
     };
-    let read = read_for(rt, command, name);
-    answer(rt.alloc(), command, name, read, out, report)
+    match folders_of(rt, main, folders) {
+        Ok(mut files) => run(rt.alloc(), command, b"", None, &mut files, out, report),
+        Err(_) => end(out, b"", report, NO_MEMORY, Status::Device),
+    }
+}
+
+/// The store over proxy folders, and over the folder of the main file.
+pub(crate) fn folders_of<S: Files + Clone + Drop + Alloc<A = Global>>(
+    rt: &S,
+    main: String,
+    folders: ProxyList,
+) -> Result<FolderFiles<S>, NoMemory>
+    ensures { IfOk result (λ files. pairs files.asked.items ≡ []) }
+{
+    let Ok(system) = rt.clone() else {
+        return Err(AllocError);
+    };
+    Ok(FolderFiles::new(system, rt.alloc(), main, folders))
 }
 
 /// What the words of the command line ask for.
@@ -95,20 +263,11 @@ fn words_of<S: Env + Alloc<A = Global>>(rt: &S) -> Result<Vec<String>, UsageFaul
     }
 }
 
-/// Reads what a command wants of standard input or of the file of that name.
-fn read_for<S: Input + Files + Alloc<A = Global>>(
+/// Reads a file.
+pub(crate) fn read_file<S: Files + Alloc<A = Global>>(
     rt: &S,
-    command: &Command,
     name: &str,
 ) -> Result<Vec<u8>, ReadFault> {
-    match command {
-        Command::Fmt => read_file(rt, name),
-        Command::Versions(_) => read_limited(rt.alloc(), &mut rt.reader()),
-    }
-}
-
-/// Reads a file.
-fn read_file<S: Files + Alloc<A = Global>>(rt: &S, name: &str) -> Result<Vec<u8>, ReadFault> {
     match fs::open(rt, name) {
         Ok(mut file) => read_limited(rt.alloc(), &mut file),
         Err(error) if error.kind() == ErrorKind::OutOfMemory => Err(ReadFault::NoMemory),
@@ -116,24 +275,22 @@ fn read_file<S: Files + Alloc<A = Global>>(rt: &S, name: &str) -> Result<Vec<u8>
     }
 }
 
-/// Runs a command over what was read of a name, or reports that it could not be.
-fn answer<O: Sink, R: Sink>(
+/// Reports that a file or standard input could not be read.
+pub(crate) fn unread<O: Sink, R: Sink>(
     alloc: Global,
-    command: &Command,
     name: &str,
-    read: Result<Vec<u8>, ReadFault>,
+    fault: ReadFault,
     out: &mut O,
     report: &mut R,
 ) -> Status
-    ensures { Ends (IsReadOutcome command.now name.now read)
+    ensures { Ends (λ outcome. outcome ≡ unread_outcome name.now fault)
         (sunk (O.taken out.old) (O.room out.old) (O.fault_count out.old)) (sunk (O.taken out.new) (O.room out.new) (O.fault_count out.new))
         (sunk (R.taken report.old) (R.room report.old) (R.fault_count report.old)) (sunk (R.taken report.new) (R.room report.new) (R.fault_count report.new))
         (code_of result) }
 {
-    match read {
-        Ok(bytes) => run(alloc, command, bytes.as_slice(), out, report),
-        Err(ReadFault::NoMemory) => end(out, b"", report, NO_MEMORY, Status::Device),
-        Err(ReadFault::Device) => match cannot_read(alloc, name) {
+    match fault {
+        ReadFault::NoMemory => end(out, b"", report, NO_MEMORY, Status::Device),
+        ReadFault::Device => match cannot_read(alloc, name) {
             Ok(line) => end(out, b"", report, line.as_str().as_bytes(), Status::Device),
             Err(_) => end(out, b"", report, NO_MEMORY, Status::Device),
         },
@@ -156,6 +313,14 @@ fn bad_path(alloc: Global, path: &str) -> Result<String, NoMemory>
     Ok(line)
 }
 
+/// The line that says which value names no proxy folders.
+fn bad_proxy(alloc: Global, value: &str) -> Result<String, NoMemory>
+    ensures { IfOk result (λ line. string_bytes line ≡ codes "gomod: bad proxy " ++ value.now ++ codes "\n") }
+{
+    let line = format!(in alloc; "gomod: bad proxy {value}\n")?;
+    Ok(line)
+}
+
 /// Shows help, or tells what is wrong with the words, and gives the status of the process.
 fn tell<O: Sink, R: Sink>(alloc: Global, fault: &UsageFault, out: &mut O, report: &mut R) -> u8
     ensures { Ends (λ outcome. outcome ≡ usage_outcome fault.now)
@@ -174,6 +339,10 @@ fn tell<O: Sink, R: Sink>(alloc: Global, fault: &UsageFault, out: &mut O, report
         ).code(),
         UsageFault::Line(text) => misuse(out, report, text.as_str()),
         UsageFault::BadPath(path) => match bad_path(alloc, path.as_str()) {
+            Ok(line) => misuse(out, report, line.as_str()),
+            Err(_) => end(out, b"", report, NO_MEMORY, Status::Device).code(),
+        },
+        UsageFault::BadProxy(value) => match bad_proxy(alloc, value.as_str()) {
             Ok(line) => misuse(out, report, line.as_str()),
             Err(_) => end(out, b"", report, NO_MEMORY, Status::Device).code(),
         },

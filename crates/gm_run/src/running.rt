@@ -1,39 +1,59 @@
 //! Runs a command.
 
-ghost use Rattle.std.specs.Prelude.{◌≡◌};
-ghost use Rattle.gm_run.specs.Outcome.{IsOutcome, code_of};
+ghost use Rattle.std.specs.Prelude.{◌≡◌, [], Contains, None, false};
+ghost use Rattle.std.specs.Option.{option_map};
+ghost use Rattle.gm_store.specs.Asked.{Name, Reply};
+ghost use Rattle.gm_run.specs.Outcome.{code_of};
+ghost use Rattle.gm_run.specs.Runs.{AskedInTurn, Needs, is_query, stored, takes_sums};
+ghost use Rattle.gm_run.specs.Queries.{RunsTo};
 ghost use Rattle.gm_run.specs.Written.{Ends, sunk};
 
 use crate::outcome::outcome;
 use crate::status::Status;
 use crate::writing::{NO_MEMORY, end};
-use gm_store::Sink;
+use gm_store::{Files, Sink};
 use gm_words::Command;
 use std::alloc::Global;
 
-/// Runs a command over its bytes, the list for `versions` and the file for `fmt`, and writes what it comes to.
+/// Runs a command over the main file's bytes, those of a go.sum where one is given, and a store that was asked nothing, and
+/// writes what it comes to.
 ///
-/// For `versions` the path comes first: one whose module can't lie on a proxy is `PATH: NotFetchable`. Then a list of
-/// more than 16,777,216 bytes is `PATH: TooLong`. Every other is written as a line of the path and the versions that it
-/// names, in ascending order. For `fmt` only the syntax is read: the text is the layout of the file, or the report is
-/// `go.mod:LINE: KIND`, where line 0 is the whole file.
+/// For `versions` the path comes first: one whose module can't lie on a proxy is `PATH: NotFetchable`. Then the store is asked
+/// for the module's list, which may be `PATH: Missing` or `PATH: TooLong`. Where all versions are asked for, or the list names
+/// none, they are written as a line, in ascending order. Else the store is asked for the go.mod of the latest version, which may
+/// be `PATH@VERSION: Missing`, `PATH@VERSION: TooLong` or `PATH@VERSION: Malformed LINE KIND`, and the line has the versions that
+/// its retractions do not hold. The main file isn't looked at. For `fmt` only the syntax of the main file is read, and the store
+/// is asked for nothing: the text is the layout of the file, or the report is `go.mod:LINE: KIND`, where line 0 is the whole
+/// file.
 ///
-/// A text goes to `out` with the status `Done`, a report to `report` with `Fault`. Want of memory is reported as
-/// `gomod: no memory`, with the status `Device`. All growths come before the first byte is written. Where a sink fails
-/// the status is `Device`, it holds a prefix of what was meant for it, and nothing more is written.
-pub fn run<O: Sink, R: Sink>(
+/// `graph`, `list` and `chain` come to what `gm_listing::answer` says: the main file is read, then the go.sum, then the files of the
+/// opened modules in the store, and the text is the edges, rows of the build list or a shortest chain, or the report says what keeps
+/// them from being found.
+///
+/// A text goes to `out` with the status `Done`, a report to `report` with `Fault`. Where the store's device fails the report is
+/// `gomod: device at NAME`, and where memory runs out `gomod: no memory`, with the status `Device`. All asks and growths come
+/// before the first byte is written. Where a sink fails the status is `Device`, it holds a prefix of what was meant for it, and
+/// nothing more is written.
+pub fn run<F: Files, O: Sink, R: Sink>(
     alloc: Global,
     command: &Command,
-    bytes: &[u8],
+    main: &[u8],
+    sums: Option<&[u8]>,
+    files: &mut F,
     out: &mut O,
     report: &mut R,
 ) -> Status
-    ensures { Ends (IsOutcome command.now bytes.now)
+    requires unasked { F.asked files.old ≡ [] }
+    requires no_sums { takes_sums command.now ≡ false → option_map (λ sums. sums.now) sums ≡ None }
+    ensures ends { Ends (RunsTo command.now main.now (option_map (λ sums. sums.now) sums.entry) (stored (F.asked files.old) (F.refused files.old)) (stored (F.asked files.new) (F.refused files.new)))
         (sunk (O.taken out.old) (O.room out.old) (O.fault_count out.old)) (sunk (O.taken out.new) (O.room out.new) (O.fault_count out.new))
         (sunk (R.taken report.old) (R.room report.old) (R.fault_count report.old)) (sunk (R.taken report.new) (R.room report.new) (R.fault_count report.new))
         (code_of result) }
+    // each file was needed by the answers before it, and is asked for once
+    ensures in_turn { is_query command.now ≡ false → AskedInTurn (Needs command.now main.now (option_map (λ sums. sums.now) sums.entry)) (F.asked files.new) }
+    ensures answers { is_query command.now ≡ false → (name : Name) (reply : Reply) → Contains (F.asked files.new) (name, reply) → F.may_answer files.old name reply }
 {
-    match outcome(alloc, command, bytes) {
+    match outcome(alloc, command, main, sums, files) {
         Ok(output) => {
             let text = output.text.as_str().as_bytes();
             let line = output.report.as_str().as_bytes();

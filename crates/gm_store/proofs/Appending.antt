@@ -1,5 +1,5 @@
 -- Bytes that are appended one piece after another.
-use Rattle.std.proofs.Common.{◌≡◌, min, ◌+◌, ◌-◌, ◌≤◌, ◌<◌, ◌^◌, ◌⊎◌, ℕ, List, [], ◌++◌, length, take, drop, Option, Some, None, Result, IsErr, Ok, Err, ap, ◌∙◌, sym, refl, inl, inr, arith, append_assoc, append-nil, take-add}
+use Rattle.std.proofs.Common.{◌≡◌, min, ◌+◌, ◌-◌, ◌≤◌, ℕ, List, [], ◌++◌, length, take, drop, Option, Some, None, Ok, ap, ◌∙◌, sym, arith, append_assoc, append-nil, take-add}
 use Rattle.std.proofs.lemmas.Grind.{common_steps}
 use Rattle.std.specs.Io.KnownBytes.{Appends, Keeps}
 use Rattle.gm_store.specs.Taken.{TakesWhatFits}

@@ -1,5 +1,5 @@
 -- A proxy list, one character after another.
-use Rattle.std.proofs.Common.{◌≡◌, ◌<◌, ◌≤◌, ◌==◌, ◌||◌, ◌+◌, ◌*◌, ◌/◌, ◌%◌, ℕ, Bool, true, false, not, cond, List, [], ◌∷◌, ◌++◌, length, map, ap, ◌∙◌, sym, refl, inl, inr, arith, append_assoc, append-nil, length-append, map-id, Global, String}
+use Rattle.std.proofs.Common.{◌≡◌, ◌<◌, ◌≤◌, ◌+◌, ◌/◌, ◌%◌, ℕ, true, false, not, List, [], ◌∷◌, ◌++◌, length, map, ap, ◌∙◌, sym, refl, inl, inr, arith, append_assoc, append-nil, length-append, map-id, Global, String}
 use Rattle.std.proofs.lemmas.Bool.{cases_lt, le-ltb, lt-ltb}
 use Rattle.std.proofs.lemmas.Bool.Decides.{nat_tests}
 use Rattle.std.proofs.lemmas.List.Elements.{filter-append}
@@ -12,7 +12,7 @@ use Rattle.std.specs.Prelude.{encode_utf8_all}
 use Rattle.std.specs.Str.{IsUtf8, chars}
 use Rattle.std.specs.String.{string_bytes}
 use Rattle.gm_store.specs.Cutting.{IsCut}
-use Rattle.gm_store.specs.Proxies.{folders_of, is_mark, mark_of, marks_of}
+use Rattle.gm_store.specs.Proxies.{is_mark, mark_of}
 use Rattle.gm_store.specs.declared.proxies.Mark.{Mark}
 use Rattle.gm_store.proofs.Splits.{glue, glue-last, not_false, split-append, split_plain}
 

@@ -1,10 +1,10 @@
 -- The fields of a line, one word after another.
-use Rattle.std.proofs.Common.{◌≡◌, ◌+◌, ◌-◌, ◌==◌, ℕ, Bool, true, false, not, cond, zero, suc, List, [], ◌∷◌, ◌++◌, length, take, drop, ap, ◌∙◌, sym, refl, arith}
+use Rattle.std.proofs.Common.{◌≡◌, ◌+◌, ◌-◌, ◌==◌, ℕ, Bool, true, false, suc, List, [], ◌∷◌, length, take, drop, ap, ◌∙◌, sym, refl, arith}
 use Rattle.std.proofs.lemmas.Grind.{common_steps}
 use Rattle.std.proofs.lemmas.Bool.Decides.{Decides-eqb, nat_tests}
 use Rattle.std.proofs.lemmas.List.Splits.{slice_split-cons_no, slice_split-cons_yes}
 use Rattle.std.specs.Prelude.{nat_lt}
-use Rattle.std.specs.List.{filter, onto_first, position_or_len, prefix_len, slice_split}
+use Rattle.std.specs.List.{filter, onto_first, position_or_len, slice_split}
 use Rattle.gm_store.specs.Lines.{after_blanks, fields, first_word, is_blank}
 use Rattle.gm_store.specs.Words.{put_word}
 

@@ -1,14 +1,13 @@
 -- The texts of module files: they lead to places below, differ where the names do, and are small.
 use Rattle.std.specs.Prelude.{nat_lt}
-use Rattle.std.proofs.Common.{◌≡◌, ◌<◌, ◌≤◌, ◌+◌, ◌==◌, ◌&&◌, ◌||◌, ℕ, Bool, true, false, not, cond, zero, suc, List, [], ◌∷◌, ◌++◌, length, ap, ◌∙◌, sym, refl, subst, arith, codes, append_assoc, append-nil, length-append}
+use Rattle.std.proofs.Common.{◌≡◌, ◌<◌, ◌+◌, ◌==◌, ◌&&◌, ◌||◌, ℕ, Bool, true, false, not, List, [], ◌∷◌, ◌++◌, length, ap, ◌∙◌, sym, refl, arith, codes, append_assoc, append-nil, length-append}
 use Rattle.std.proofs.lemmas.Bool.Decides.{nat_tests}
-use Rattle.std.proofs.lemmas.Grind.{common_steps, flat_map-append}
+use Rattle.std.proofs.lemmas.Grind.{flat_map-append}
 use Rattle.std.proofs.lemmas.List.{append_cancel_right}
 use Rattle.std.proofs.lemmas.List.Folds.{list_all-append}
 use Rattle.std.specs.Char.{is_ascii_uppercase}
 use Rattle.std.specs.Cmp.{first_so, second_so}
-use Rattle.std.specs.List.{flat_map, join_with_byte, list_all, slice_index, slice_split}
-use Rattle.std.specs.Str.{bytes_eq}
+use Rattle.std.specs.List.{join_with_byte, list_all, slice_index, slice_split}
 use Rattle.gm_name.specs.Element.{has_outer_dot, is_dotted_name, is_element, is_path_byte}
 use Rattle.gm_name.specs.Escape.{escaped, escaped_byte}
 use Rattle.gm_name.specs.Path.{IsPath, is_byte_of_path}
@@ -18,7 +17,7 @@ use Rattle.gm_name.proofs.Escapes.{escaped-injective, escaped-small}
 use Rattle.gm_name.proofs.Paths.{element-bytes}
 use Rattle.gm_store.specs.Asked.{Name, mod_file, folder_file, list_file}
 use Rattle.gm_store.specs.Relative.{IsModuleFile, LeadsBelow, is_plain_piece, is_slash, relative_text}
-use Rattle.gm_store.proofs.Splits.{SplitsOff, glue, glue_first, not_false, split-append, split_off, split_plain}
+use Rattle.gm_store.proofs.Splits.{glue, glue_first, not_false, split-append, split_off, split_plain}
 
 both : (a b : Bool) → a ≡ true → b ≡ true → (a && b) ≡ true
 both a b e f = cc

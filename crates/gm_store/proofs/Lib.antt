@@ -2,10 +2,12 @@ pub mod Appending
 pub mod Bytes
 pub mod Consuming
 pub mod Listing
+pub mod MainFolder
 pub mod NameOrder
 pub mod Splits
 pub mod Cuts
 pub mod Walks
+pub mod Greatest
 pub mod Inside
 pub mod FieldLemmas
-pub mod Summing
+pub mod Stops

@@ -1,5 +1,5 @@
 -- The versions that are found among words.
-use Rattle.std.proofs.Common.{◌≡◌, zero, suc, ◌⊎◌, ℕ, Bool, List, [], ◌∷◌, ◌++◌, map, nat_eq, sym, subst, refl, ◌∙◌, ap, inl, inr, ◌<◌, length, slice_index_or, true, arith, Bor, Option, Some, None}
+use Rattle.std.proofs.Common.{◌≡◌, zero, suc, ◌⊎◌, ℕ, List, [], ◌∷◌, ◌++◌, map, nat_eq, sym, subst, refl, ◌∙◌, ap, inl, inr, true, arith, Bor, Option, Some, None}
 use Rattle.std.specs.Prelude.{◌↔◌, Contains}
 use Rattle.std.specs.Cmp.Lexicographic.{nat_list_eq_equiv, pointwise}
 use Rattle.std.specs.List.{dedup}

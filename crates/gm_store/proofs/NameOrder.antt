@@ -1,5 +1,5 @@
 -- The order of file names answers `Equal` exactly where the names are the same, so a map from names holds one file for each.
-use Rattle.std.proofs.Common.{◌≡◌, ℕ, Bool, true, false, cond, ◌&&◌, List, [], ◌∷◌, Option, Some, None, ap, ◌∙◌, sym, refl, subst, arith, rules}
+use Rattle.std.proofs.Common.{◌≡◌, ℕ, Bool, true, false, cond, ◌&&◌, List, [], ◌∷◌, Option, Some, ap, ◌∙◌, sym, refl, subst, arith}
 use Rattle.std.specs.Ordering.{is_eq, match_ordering, nat_cmp, ordering_then}
 use Rattle.std.specs.declared.cmp.Ordering.{Ordering}
 use Rattle.std.specs.declared.cmp.Ordering.TheVariants.{Less, Equal, Greater}
@@ -15,7 +15,7 @@ use Rattle.gm_store.specs.declared.files.FileName.{FileName}
 use Rattle.gm_store.specs.declared.files.FileName.TheVariants.{Mod, Folder, List as Listing}
 use Rattle.gm_store.specs.contracts.files.FileNameOrd.TheImpl.{cmp-value}
 use Rattle.std.proofs.Common.{◌≤◌, ◌<◌, length}
-use Rattle.gm_store.specs.Asked.{Name, mod_file, folder_file, list_file, name_of, same_name, Reply, reply_for, bytes, absent, too_long}
+use Rattle.gm_store.specs.Asked.{Name, mod_file, folder_file, list_file, name_of, same_name, reply_for, bytes, too_long}
 use Rattle.gm_store.specs.Memory.{held_at}
 use Rattle.gm_store.specs.declared.memory.MemoryFiles.{MemoryFiles}
 use Rattle.std.specs.Option.{option_map}

@@ -1,5 +1,5 @@
 -- A walk through folders, as far as it has come.
-use Rattle.std.proofs.Common.{◌≡◌, ◌+◌, ◌-◌, ◌≤◌, ◌<◌, ◌^◌, ◌⊎◌, inl, inr, min, ℕ, Bool, true, false, cond, zero, suc, List, [], ◌∷◌, ◌++◌, length, Option, Some, None, ap, ◌∙◌, sym, refl, subst, arith, IsSome, length-append, add_assoc}
+use Rattle.std.proofs.Common.{◌≡◌, ◌+◌, ◌-◌, ◌≤◌, ◌<◌, ◌^◌, ◌⊎◌, inl, inr, min, ℕ, false, cond, zero, suc, List, [], ◌∷◌, ◌++◌, length, Option, Some, None, ap, ◌∙◌, sym, refl, subst, arith, IsSome, length-append, add_assoc}
 use Rattle.std.specs.Prelude.{slice_get}
 use Rattle.std.specs.List.{count_by}
 use Rattle.std.proofs.lemmas.Bool.{cases_lt}
@@ -9,7 +9,7 @@ use Rattle.gm_store.specs.declared.proxies.Mark.TheVariants.{Comma, Bar}
 use Rattle.gm_store.specs.declared.stepping.Next.{Next}
 use Rattle.gm_store.specs.declared.stepping.Next.TheVariants.{Take, Go, Fail}
 use Rattle.gm_store.specs.Asked.{Reply}
-use Rattle.gm_store.specs.Steps.{MayStop, MayStop, Seen, absent, counted_up, failed, found, has_failed, outcome_of, step_of, too_long}
+use Rattle.gm_store.specs.Steps.{HasCounted, MayStop, Seen, absent, counted_up, failed, found, has_failed, outcome_of, step_of, too_long}
 
 -- so many folders were passed, with what was seen in each; their failures are counted
 pub record HasPassed (may_see : ℕ → Seen → Type 0) (marks : List Mark) (at old new : ℕ) : Type 0 where
@@ -118,3 +118,23 @@ fail_counts (found content) mark old new newer at so_far fails grown small = cc 
 fail_counts too_long mark old new newer at so_far fails grown small = cc fails
 fail_counts absent None old new newer at so_far fails grown small = cc fails
 fail_counts absent (Some mark) old new newer at so_far fails grown small = cc fails
+
+pub passed_counts : {may_see : ℕ → Seen → Type 0} {marks : List Mark} {at old new : ℕ} → HasPassed may_see marks at old new → HasCounted may_see old new
+passed_counts so_far = (so_far.passed, so_far.seen, so_far.counted)
+
+-- the elements of the front of a list
+get_front : (p : List Seen) (x : Seen) (r : List Seen) (k : ℕ) (look : Seen) → slice_get (p ++ x ∷ []) k ≡ Some look → slice_get (p ++ x ∷ r) k ≡ Some look
+get_front [] x r zero look e = e
+get_front [] x r (suc k) look e = cc e
+get_front (a ∷ p) x r zero look e = e
+get_front (a ∷ p) x r (suc k) look e = get_front p x r k look e
+
+pub stop_counts : (may_see : ℕ → Seen → Type 0) (marks : List Mark) (outcome : Option Reply) (failures old new : ℕ) → MayStop may_see marks outcome failures → new ≡ counted_up old failures → HasCounted may_see old new
+stop_counts may_see marks outcome failures old new (looks, seen, stop) grown = (
+  stop.passed ++ stop.last ∷ [],
+  λ k look e. seen k look (ap (λ looks. slice_get looks k) stop.in_order ∙ get_front stop.passed stop.last stop.rest k look e),
+  grown ∙ ap (counted_up old) stop.counted,
+)
+
+pub none_counted : (may_see : ℕ → Seen → Type 0) (old : ℕ) → old < 2 ^ 64 → HasCounted may_see old old
+none_counted may_see old small = ([], λ k look e. cc e, omega arith)

@@ -1,5 +1,5 @@
 -- What several folders in memory hold and were asked.
-use Rattle.std.specs.Prelude.{◌≡◌, ◌<◌, ℕ, List, [], ◌∷◌, map, Option, Some, None}
+use Rattle.std.specs.Prelude.{ℕ, List, [], ◌∷◌, map}
 use Rattle.gm_store.specs.declared.proxies.Mark.{Mark}
 use Rattle.gm_store.specs.declared.racks.Shelves.{Shelves}
 use Rattle.gm_store.specs.Asked.{Name, mod_file, folder_file, list_file}

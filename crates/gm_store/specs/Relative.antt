@@ -1,6 +1,6 @@
 -- Where the files of a module lie below a proxy folder: Go Modules Reference, GOPROXY protocol, `$module/@v/$version.mod` and
 -- `$module/@v/list`, both escaped.
-use Rattle.std.specs.Prelude.{◌≡◌, ℕ, ◌==◌, ◌&&◌, not, nat_lt, Bool, true, List, [], ◌++◌, length, codes, slice_index, ◌-◌, if◌then◌else◌}
+use Rattle.std.specs.Prelude.{◌≡◌, ℕ, ◌==◌, ◌&&◌, not, nat_lt, Bool, true, List, ◌++◌, length, codes, ◌<◌, Contains, slice_index, ◌-◌, if◌then◌else◌}
 use Rattle.std.specs.List.{list_all, slice_split}
 use Rattle.std.specs.Str.{bytes_eq}
 use Rattle.std.specs.Char.{is_ascii_uppercase}
@@ -53,3 +53,10 @@ TextsDiffer = (m n : Name) → IsModuleFile m → IsModuleFile n → relative_te
 -- and no upper-case letter stands in them, so they differ also where the case of letters does not count
 abbrev pub TextsAreSmall : Type 0
 TextsAreSmall = (name : Name) → IsModuleFile name → list_all (λ b. not (is_ascii_uppercase b)) (relative_text name) ≡ true
+
+-- The folder that a file lies in, by its name: the text before the last slash, which is `/` where that text is empty. A name
+-- without a slash is that of a file in the folder `.`.
+pub data IsFolderOf (file folder : List ℕ) : Type 0 where
+  here : ¬ (Contains file 47) → folder ≡ codes "." → IsFolderOf file folder
+  at_root : (name : List ℕ) → file ≡ codes "/" ++ name → ¬ (Contains name 47) → folder ≡ codes "/" → IsFolderOf file folder
+  below_folder : (name : List ℕ) → 0 < length folder → file ≡ folder ++ codes "/" ++ name → ¬ (Contains name 47) → IsFolderOf file folder

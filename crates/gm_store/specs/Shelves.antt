@@ -1,12 +1,12 @@
 -- What several folders in memory hold and were asked.
-use Rattle.std.specs.Prelude.{◌≡◌, ◌+◌, ◌↔◌, ℕ, List, [], ◌∷◌, length, map, Option, Some, None, nat_le, if◌then◌else◌, slice_get}
+use Rattle.std.specs.Prelude.{ℕ, List, Option, Some, None}
 use Rattle.std.specs.Map.{lookup}
-use Rattle.gm_store.specs.declared.files.FileName.{FileName}
 use Rattle.gm_store.specs.declared.shelves.Held.{Held}
 use Rattle.gm_store.specs.declared.shelves.Held.TheVariants.{Content, Broken}
 use Rattle.gm_store.specs.declared.shelves.Shelf.{Shelf}
 use Rattle.gm_store.specs.Asked.{Name, name_of, same_name}
-use Rattle.gm_store.specs.Steps.{Seen, absent, failed, found, too_long}
+use Rattle.gm_store.specs.Found.{seen_of_bytes}
+use Rattle.gm_store.specs.Steps.{Seen, absent, failed}
 
 -- what lies under a name: bytes, or a file that can't be read
 pub data Lying : Type 0 where
@@ -24,7 +24,7 @@ lies_at shelf name = lookup (λ file. same_name name (name_of file)) shelf.held.
 abbrev pub seen_of : Option Held → Seen
 seen_of None = absent
 seen_of (Some Broken) = failed
-seen_of (Some (Content bytes)) = if nat_le (length bytes.items) 16777216 then found bytes.items else too_long
+seen_of (Some (Content bytes)) = seen_of_bytes bytes.items
 
 -- what a look under a name finds
 abbrev pub seen_at : Shelf → Name → Seen

@@ -72,3 +72,7 @@ counted_up before more = min (before + more) (2 ^ 64 - 1)
 -- the same of looks of which each may be made in the folder of its number
 abbrev pub MayStop : (ℕ → Seen → Type 0) → List Mark → Option Reply → ℕ → Type 0
 MayStop may_see marks outcome failures = (looks : List Seen) × ((k : ℕ) (seen : Seen) → slice_get looks k ≡ Some seen → may_see k seen) × StopsAt looks marks outcome failures
+
+-- looks were made into folders in turn, none or some, and each failure there was counted
+abbrev pub HasCounted : (ℕ → Seen → Type 0) → ℕ → ℕ → Type 0
+HasCounted may_see before after = (looks : List Seen) × ((k : ℕ) (seen : Seen) → slice_get looks k ≡ Some seen → may_see k seen) × (after ≡ counted_up before (count_by has_failed looks))

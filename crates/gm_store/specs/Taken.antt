@@ -1,6 +1,6 @@
 -- What a sink takes of a piece.
 use Rattle.std.specs.Prelude.{◌≡◌, ◌<◌, ◌≤◌, ◌⊎◌, ◌-◌, ◌^◌, ℕ, List, length, take, Option, Some, None, Result, MatchResult, IsErr, min}
-use Rattle.std.specs.Io.KnownBytes.{Appends, Keeps}
+use Rattle.std.specs.Io.KnownBytes.{Appends}
 
 -- a prefix of the piece was appended to the known bytes, and not the empty one unless the piece is empty
 pub record TakesPrefix (old new : Option (List ℕ)) (piece : List ℕ) (count : ℕ) : Type 0 where

@@ -29,22 +29,22 @@ fn bytes_before_blank(line: &[u8]) -> usize
 }
 
 // The line from its first byte that is no blank on.
-pub(crate) fn after_blanks(line: &[u8]) -> &[u8]
+fn after_blanks(line: &[u8]) -> &[u8]
     ensures { result.now ≡ after_blanks line.now }
 {
     &line[blanks_in_front(line)..]
 }
 
-// The first word of a line, and none of its bytes where it has no word.
-pub(crate) fn first_word(line: &[u8]) -> &[u8]
+/// The first word of a line, and none of its bytes where it has no word. A word ends at a space, a tab or a CR.
+pub fn first_word(line: &[u8]) -> &[u8]
     ensures { result.now ≡ first_word line.now }
 {
     let rest = after_blanks(line);
     &rest[..bytes_before_blank(rest)]
 }
 
-// What stands after the first word of a line.
-pub(crate) fn rest_after_word(line: &[u8]) -> &[u8]
+/// What stands after the first word of a line: its words are the line's further ones.
+pub fn rest_after_word(line: &[u8]) -> &[u8]
     ensures { fields line.now ≡ put_word (first_word line.now) (fields result.now) }
 {
     let rest = after_blanks(line);

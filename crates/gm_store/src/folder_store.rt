@@ -13,7 +13,7 @@ use std::alloc::Global;
 /// A store over several folders, in memory or on a device: `MemoryFolders` and `FolderFiles`.
 ///
 /// An answer is that of the folder at which `step` stops. Each failure of the device is counted, also one that is passed.
-/// Want of memory stops at once.
+/// Want of memory stops at once, and then the failures of the looks so far are counted.
 #[derive(Drop)]
 pub struct FolderStore<F: Folders> {
     pub(crate) alloc: Global,
@@ -26,18 +26,17 @@ pub struct FolderStore<F: Folders> {
 }
 
 impl<F: Folders> FolderStore<F> {
-    ghost use Rattle.std.specs.Prelude.{◌≡◌, [], map};
-    ghost use Rattle.gm_store.specs.Asked.{name_of};
-    ghost use Rattle.gm_store.specs.Memory.{pairs};
+    ghost use Rattle.std.specs.Prelude.{◌≡◌, []};
+    ghost use Rattle.gm_store.specs.Views.{asked_by, faults_of, folders_under, marks_between, refused_by};
 
     /// A store over these folders, with the marks between them, of which nothing was asked.
     pub(crate) fn over(alloc: Global, folders: F, marks: Vec<Mark>) -> FolderStore<F>
         requires { (name : Name) → length (marks_for name marks.items) < F.count_for folders name }
-        ensures folders { result.folders ≡ folders }
-        ensures marks { result.marks ≡ marks }
-        ensures asked { pairs result.asked.items ≡ [] }
-        ensures refused { map name_of result.refused.items ≡ [] }
-        ensures faults { result.faults ≡ 0 }
+        ensures folders { folders_under result ≡ folders }
+        ensures marks { marks_between result ≡ marks.items }
+        ensures asked { asked_by result ≡ [] }
+        ensures refused { refused_by result ≡ [] }
+        ensures faults { faults_of result ≡ 0 }
     {
         FolderStore {
             alloc,
@@ -51,34 +50,37 @@ impl<F: Folders> FolderStore<F> {
 }
 
 impl<F: Folders> Files for FolderStore<F> {
-    ghost use Rattle.std.specs.Prelude.{◌≡◌, ◌+◌, ◌-◌, ◌^◌, ◌<◌, ◌⊎◌, ℕ, List, [], ◌∷◌, ◌++◌, map, None, Some, OnOk, OnErr};
+    ghost use Rattle.std.specs.Prelude.{◌≡◌, ◌-◌, ◌^◌, ◌<◌, ◌⊎◌, ℕ, [], ◌∷◌, ◌++◌, None, Some, OnOk, OnErr};
     ghost use Rattle.gm_store.specs.Asked.{Reply, answer_in, name_of};
-    ghost use Rattle.gm_store.specs.Memory.{pairs};
-    ghost use Rattle.gm_store.specs.Steps.{MayStop, counted_up};
+    ghost use Rattle.gm_store.specs.Steps.{HasCounted, MayStop, counted_up};
+    ghost use Rattle.gm_store.specs.Views.{asked_by, faults_of, folders_under, marks_between, refused_by};
 
-    ghost asked = { λ store. pairs store.asked.items };
+    ghost asked = { asked_by };
 
-    ghost refused = { λ store. map name_of store.refused.items };
+    ghost refused = { refused_by };
 
-    ghost fault_count = { λ store. store.faults };
+    ghost fault_count = { faults_of };
 
-    ghost may_answer = { λ store name reply. (failures : ℕ) × MayStop (λ k seen. F.may_see store.folders k name seen) (marks_for name store.marks.items) (Some reply) failures };
+    ghost may_answer = { λ store name reply. (failures : ℕ) × MayStop (λ k seen. F.may_see (folders_under store) k name seen) (marks_for name (marks_between store)) (Some reply) failures };
 
     fn ask(&mut self, name: &FileName) -> Result<(), AskFault>
-        requires { answer_in (pairs self.old.asked.items) (name_of name.now) ≡ None }
-        ensures ok { OnOk result ((reply : Reply) × ((failures : ℕ) × MayStop (λ k seen. F.may_see self.old.folders k (name_of name.now) seen) (marks_for (name_of name.now) self.old.marks.items) (Some reply) failures) × (pairs self.new.asked.items ≡ pairs self.old.asked.items ++ (name_of name.now, reply) ∷ [])) }
-        ensures err { OnErr result (pairs self.new.asked.items ≡ pairs self.old.asked.items) }
-        ensures refused { result ≡ Err AskFault.Device → map name_of self.new.refused.items ≡ map name_of self.old.refused.items ++ name_of name.now ∷ [] }
-        ensures not_refused { (result ≡ Err AskFault.Device → ⊥) → map name_of self.new.refused.items ≡ map name_of self.old.refused.items }
-        ensures cause { result ≡ Err AskFault.Device → (self.old.faults < self.new.faults) ⊎ (self.old.faults ≡ 2 ^ 64 - 1) }
-        ensures same_store { (self.new.folders ≡ self.old.folders) × (self.new.marks ≡ self.old.marks) }
+        requires { answer_in (asked_by self.old) (name_of name.now) ≡ None }
+        ensures ok { OnOk result ((reply : Reply) × ((failures : ℕ) × MayStop (λ k seen. F.may_see (folders_under self.old) k (name_of name.now) seen) (marks_for (name_of name.now) (marks_between self.old)) (Some reply) failures) × (asked_by self.new ≡ asked_by self.old ++ (name_of name.now, reply) ∷ [])) }
+        ensures err { OnErr result (asked_by self.new ≡ asked_by self.old) }
+        ensures refused { result ≡ Err AskFault.Device → refused_by self.new ≡ refused_by self.old ++ name_of name.now ∷ [] }
+        ensures not_refused { (result ≡ Err AskFault.Device → ⊥) → refused_by self.new ≡ refused_by self.old }
+        ensures cause { result ≡ Err AskFault.Device → (faults_of self.old < faults_of self.new) ⊎ (faults_of self.old ≡ 2 ^ 64 - 1) }
+        ensures same_store { (folders_under self.new ≡ folders_under self.old) × (marks_between self.new ≡ marks_between self.old) }
 
         // An answer is that of the folder at which `step` stops, and the device's failure is one at which it stops. The
         // failures on the way are counted.
-        ensures counted { OnOk result ((reply : Reply) × (failures : ℕ) × MayStop (λ k seen. F.may_see self.old.folders k (name_of name.now) seen) (marks_for (name_of name.now) self.old.marks.items) (Some reply) failures
-            × (pairs self.new.asked.items ≡ pairs self.old.asked.items ++ (name_of name.now, reply) ∷ []) × (self.new.faults ≡ counted_up self.old.faults failures)) }
-        ensures device { result ≡ Err AskFault.Device → (failures : ℕ) × MayStop (λ k seen. F.may_see self.old.folders k (name_of name.now) seen) (marks_for (name_of name.now) self.old.marks.items) None failures × (self.new.faults ≡ counted_up self.old.faults failures) }
+        ensures counted { OnOk result ((reply : Reply) × (failures : ℕ) × MayStop (λ k seen. F.may_see (folders_under self.old) k (name_of name.now) seen) (marks_for (name_of name.now) (marks_between self.old)) (Some reply) failures
+            × (asked_by self.new ≡ asked_by self.old ++ (name_of name.now, reply) ∷ []) × (faults_of self.new ≡ counted_up (faults_of self.old) failures)) }
+        ensures device { result ≡ Err AskFault.Device → (failures : ℕ) × MayStop (λ k seen. F.may_see (folders_under self.old) k (name_of name.now) seen) (marks_for (name_of name.now) (marks_between self.old)) None failures × (faults_of self.new ≡ counted_up (faults_of self.old) failures) }
+        ensures no_memory { result ≡ Err AskFault.NoMemory → HasCounted (λ k seen. F.may_see (folders_under self.old) k (name_of name.now) seen) (faults_of self.old) (faults_of self.new) }
     {
+        // Read, so that its range is known also where a growth is refused.
+        let _faults = self.faults;
         let Ok(copy) = copy_name(self.alloc, name) else {
             return Err(AskFault::NoMemory);
         };

@@ -10,9 +10,8 @@ use std::alloc::Global;
 pub type MemoryFolders = FolderStore<Shelves>;
 
 impl FolderStore<Shelves> {
-    ghost use Rattle.std.specs.Prelude.{◌≡◌, ◌+◌, [], length, map};
-    ghost use Rattle.gm_store.specs.Asked.{name_of};
-    ghost use Rattle.gm_store.specs.Memory.{pairs};
+    ghost use Rattle.std.specs.Prelude.{◌≡◌, ◌+◌, [], length};
+    ghost use Rattle.gm_store.specs.Views.{asked_by, faults_of, folders_under, marks_between, refused_by};
 
     /// Proxy folders in memory with the marks between them, and the folder beside the main file, of which nothing was asked.
     pub fn in_memory(
@@ -22,12 +21,12 @@ impl FolderStore<Shelves> {
         beside: Shelf,
     ) -> MemoryFolders
         requires { length proxies.items ≡ length marks.items + 1 }
-        ensures proxies { result.folders.proxies ≡ proxies }
-        ensures beside { result.folders.beside ≡ beside }
-        ensures marks { result.marks ≡ marks }
-        ensures asked { pairs result.asked.items ≡ [] }
-        ensures refused { map name_of result.refused.items ≡ [] }
-        ensures faults { result.faults ≡ 0 }
+        ensures proxies { (folders_under result).proxies ≡ proxies }
+        ensures beside { (folders_under result).beside ≡ beside }
+        ensures marks { marks_between result ≡ marks.items }
+        ensures asked { asked_by result ≡ [] }
+        ensures refused { refused_by result ≡ [] }
+        ensures faults { faults_of result ≡ 0 }
     {
         FolderStore::over(alloc, Shelves { proxies, beside }, marks)
     }

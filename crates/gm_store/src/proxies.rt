@@ -78,7 +78,8 @@ impl ProxyList {
 
     // The folders and the marks, apart.
     pub(crate) fn into_parts(self) -> (Vec<String>, Vec<Mark>)
-        ensures { length result.0.items ≡ length result.1.items + 1 }
+        ensures between { length result.0.items ≡ length result.1.items + 1 }
+        ensures marks { result.1.items ≡ marks_in self }
     {
         let ProxyList { folders, marks } = self;
         (folders, marks)

@@ -13,10 +13,12 @@ pub struct StdSink<W: Write> {
 }
 
 impl<W: Write> StdSink<W> {
+    ghost use Rattle.gm_store.specs.Written.{failures_of, writer_of};
+
     /// A sink over a writer, which has not failed.
     pub fn new(writer: W) -> StdSink<W>
-        ensures writer { result.writer ≡ writer }
-        ensures faults { result.faults ≡ 0 }
+        ensures writer { writer_of result ≡ writer }
+        ensures faults { failures_of result ≡ 0 }
     {
         StdSink { writer, faults: 0 }
     }
@@ -24,12 +26,13 @@ impl<W: Write> StdSink<W> {
 
 impl<W: Write> Sink for StdSink<W> {
     ghost use Rattle.std.specs.Prelude.{None};
+    ghost use Rattle.gm_store.specs.Written.{failures_of, writer_of};
 
-    ghost taken = { λ sink. W.contents sink.writer };
+    ghost taken = { λ sink. W.contents (writer_of sink) };
 
     ghost room = { λ _. None };
 
-    ghost fault_count = { λ sink. sink.faults };
+    ghost fault_count = { failures_of };
 
     // A write of no byte of a piece that is not empty, and an interrupted one, are failures.
     fn write(&mut self, piece: &[u8]) -> Result<usize, WriteFault> {

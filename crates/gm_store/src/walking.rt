@@ -1,15 +1,16 @@
 //! Looking into folders in turn.
 
-ghost use Rattle.std.specs.Prelude.{◌≡◌, ◌-◌, ◌^◌, ◌<◌, ◌⊎◌, ℕ, [], ◌∷◌, length, slice_get, Some, IfNone, IfOk, false};
+ghost use Rattle.std.specs.Prelude.{◌≡◌, ◌-◌, ◌^◌, ◌<◌, ◌⊎◌, ℕ, [], ◌∷◌, length, slice_get, Some, IfNone, IfOk, OnErr, false};
 ghost use Rattle.std.specs.List.{count_by};
 ghost use Rattle.std.specs.Option.{option_map};
 ghost use Rattle.gm_store.specs.Asked.{name_of, reply_of};
-ghost use Rattle.gm_store.specs.Steps.{MayStop, counted_up, has_failed, outcome_of, seen_in, step_of};
+ghost use Rattle.gm_store.specs.Steps.{HasCounted, MayStop, counted_up, has_failed, outcome_of, seen_in, step_of};
 
 use crate::files::{Answer, FileName};
 use crate::proxies::Mark;
 use crate::stepping::{Looked, Next, step};
 use gm_name::NoMemory;
+use std::alloc::AllocError;
 
 /// Folders that can be looked into.
 pub trait Folders {
@@ -38,11 +39,15 @@ pub(crate) fn walk<F: Folders>(
     requires { length marks.now < F.count_for folders.now (name_of name.now) }
     ensures cause { IfOk result (λ answer. IfNone answer ((faults.old < faults.new) ⊎ (faults.old ≡ 2 ^ 64 - 1))) }
     ensures stop { IfOk result (λ answer. (failures : ℕ) × MayStop (λ k seen. F.may_see folders.now k (name_of name.now) seen) marks.now (option_map reply_of answer) failures × (faults.new ≡ counted_up faults.old failures)) }
+    ensures no_memory { OnErr result (HasCounted (λ k seen. F.may_see folders.now k (name_of name.now) seen) faults.old faults.new) }
 {
     let mut at = 0;
     let mut count = *faults;
     'folders: loop {
-        let looked = folders.look(at, name)?;
+        let Ok(looked) = folders.look(at, name) else {
+            *faults = count;
+            return Err(AllocError);
+        };
         count = counted(count, &looked);
         *faults = count;
         match step(&looked, mark_at(marks, at)) {

@@ -13,17 +13,17 @@ use Rattle.gm_syntax.proofs.Classing.{class_blank, class_comment, class_inside_e
 use Rattle.gm_syntax.proofs.Stable.{line_ok, same_ok, not_ok, and_both, after_inside, words_are_spelled, good_parts, from_words}
 
 -- each line can stand at its place
-abbrev StandFrom : Bool → List (Line Word) → Type 0
+abbrev pub StandFrom : Bool → List (Line Word) → Type 0
 StandFrom inside [] = ⊤
 StandFrom inside (line ∷ lines) = CanStand inside line × StandFrom (inside_after inside line) lines
 
-lines_stand : (at : Place) (lines : List (Line Word)) → AreLines at lines → StandFrom at.inside lines × (inside_past at.inside lines ≡ false)
+pub lines_stand : (at : Place) (lines : List (Line Word)) → AreLines at lines → StandFrom at.inside lines × (inside_past at.inside lines ≡ false)
 lines_stand at [] h = (tt, h)
 lines_stand at (l ∷ ls) h =
     let r = lines_stand (after at l) ls h.1 in
     ((h.0, subst (λ (b : Bool). StandFrom b ls) (after_inside at l) r.0), subst (λ (b : Bool). inside_past b ls ≡ false) (after_inside at l) r.1)
 
-standing_lines : (at : Place) (lines : List (Line Word)) → StandFrom at.inside lines → inside_past at.inside lines ≡ false → AreLines at lines
+pub standing_lines : (at : Place) (lines : List (Line Word)) → StandFrom at.inside lines → inside_past at.inside lines ≡ false → AreLines at lines
 standing_lines at [] s e = e
 standing_lines at (l ∷ ls) s e =
     (s.0, standing_lines (after at l) ls (subst (λ (b : Bool). StandFrom b ls) (sym (after_inside at l)) s.1) (subst (λ (b : Bool). inside_past b ls ≡ false) (sym (after_inside at l)) e))

@@ -10,9 +10,9 @@ use Rattle.clap.specs.declared.error.Error.{Error}
 use Rattle.clap.specs.declared.parser.matches.ArgMatches.{ArgMatches}
 use Rattle.clap.specs.declared.error.kind.ErrorKind.{ErrorKind}
 use Rattle.clap.specs.declared.error.kind.ErrorKind.TheVariants.{DisplayHelp, OutOfMemory}
-use Rattle.gm_words.specs.Usage.{HasBadPath, IsEntriesFault, IsFaultOf, IsParserFault, AreMeant, gomod_app}
+use Rattle.gm_words.specs.Usage.{HasBadPath, HasBadProxy, IsEntriesFault, IsFaultOf, IsParserFault, AreMeant, gomod_app}
 use Rattle.gm_words.specs.declared.usage.UsageFault.{UsageFault}
-use Rattle.gm_words.specs.declared.usage.UsageFault.TheVariants.{NoMemory, Help, Line, BadPath}
+use Rattle.gm_words.specs.declared.usage.UsageFault.TheVariants.{NoMemory, Help, Line, BadPath, BadProxy}
 use Rattle.std.specs.String.{string_bytes}
 
 -- a fault of the entries is one of the words
@@ -23,6 +23,8 @@ entries_fault words entered (Help text) same known = absurd known
 entries_fault words entered (Line text) same known = λ taken meant. known (subst AreMeant (sym same) meant)
 entries_fault words entered (BadPath text) same known =
     let P : Option (Text × List Row) → Type 0 = λ o. HasBadPath o (string_bytes text) in subst P same known
+entries_fault words entered (BadProxy text) same known =
+    let P : Option (Text × List Row) → Type 0 = λ o. HasBadProxy o (string_bytes text) in subst P same known
 
 pub entries_result : {T : Type 0} (words : List Text) (entered : Option (Text × List Row)) (result : Result T UsageFault)
     → entered ≡ subcommand_of gomod_app words → IfErr result (IsEntriesFault entered) → IfErr result (IsFaultOf words)
@@ -43,6 +45,7 @@ parser_fault words error NoMemory kinds passes known = tt
 parser_fault words error (Help text) kinds passes known = (help_among words error kinds known, λ taken. let memory = passes taken in cc)
 parser_fault words error (Line text) kinds passes known = λ taken meant. known.1 (passes taken)
 parser_fault words error (BadPath text) kinds passes known = absurd known
+parser_fault words error (BadProxy text) kinds passes known = absurd known
 
 is_simple-gomod_app : is_simple gomod_app ≡ true
 is_simple-gomod_app = refl

@@ -1,1 +1,3 @@
 mod Faults
+mod Limits
+mod Queries

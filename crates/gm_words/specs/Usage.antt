@@ -1,32 +1,67 @@
 -- What the words of a command line mean.
-use Rattle.std.specs.Prelude.{◌≡◌, ◌≢◌, ◌⊎◌, Bool, List, Option, Some, None, true, false, codes}
+use Rattle.std.specs.Prelude.{◌≡◌, ◌≢◌, ◌⊎◌, ◌||◌, not, ℕ, Bool, List, Option, Some, None, true, false, codes, is_some, option_map, unwrap_or}
+use Rattle.std.specs.List.{list_all}
+use Rattle.std.specs.Option.{option_map_or}
+use Rattle.std.specs.Str.{bytes_eq}
 use Rattle.std.specs.String.{string_bytes}
-use Rattle.clap.specs.Walk.{Row, Text, first_of}
+use Rattle.clap.specs.Walk.{Row, Rule, Text, first_of}
 use Rattle.clap.specs.Simple.{App, new_app, new_rule, subcommand_of, with_rule, with_subcommand}
 use Rattle.clap.specs.Faults.{fault_of}
 use Rattle.clap.specs.Kinds.{IsAmong}
 use Rattle.clap.specs.Takes.{takes}
+use Rattle.clap.specs.declared.builder.action.ArgAction.TheVariants.{SetTrue}
 use Rattle.clap.specs.declared.error.Error.{Error}
 use Rattle.clap.specs.Values.{kind_of}
 use Rattle.clap.specs.declared.error.kind.ErrorKind.TheVariants.{DisplayHelp, OutOfMemory}
 use Rattle.gm_name.specs.Path.{IsPath}
+use Rattle.gm_store.specs.Proxies.{folders_in, folders_of, is_folder, marks_in, marks_of}
+use Rattle.gm_store.specs.declared.proxies.ProxyList.{ProxyList}
+use Rattle.gm_words.specs.Limits.{limit_of}
 use Rattle.gm_words.specs.declared.usage.Command.{Command}
-use Rattle.gm_words.specs.declared.usage.Command.TheVariants.{Versions, Fmt}
+use Rattle.gm_words.specs.declared.usage.Command.TheVariants.{Versions, Fmt, Graph, List as Rows, Chain}
 use Rattle.gm_words.specs.declared.usage.Places.{Places}
 use Rattle.gm_words.specs.declared.usage.UsageFault.{UsageFault}
-use Rattle.gm_words.specs.declared.usage.UsageFault.TheVariants.{NoMemory, Help, Line, BadPath}
+use Rattle.gm_words.specs.declared.usage.UsageFault.TheVariants.{NoMemory, Help, Line, BadPath, BadProxy}
 
--- a command with one word of this name behind it, which must be given
-abbrev pub with_word : Text → Text → App
-with_word name word = with_rule (new_app name) (record (new_rule word) { required = true; value_names = 1 })
+-- a word of this name, which must be given
+abbrev pub word_rule : Text → Rule
+word_rule name = record (new_rule name) { required = true; value_names = 1 }
 
 -- `fmt FILE`
 abbrev pub fmt_app : App
-fmt_app = with_word (codes "fmt") (codes "file")
+fmt_app = with_rule (new_app (codes "fmt")) (word_rule (codes "file"))
 
--- `versions PATH`
+-- an option `--NAME VALUE`, which may be left out
+abbrev pub option_rule : Text → Rule
+option_rule name = record (new_rule name) { long = Some name; value_names = 1 }
+
+-- a flag `--NAME`
+abbrev pub flag_rule : Text → Rule
+flag_rule name = record (new_rule name) { long = Some name; action = Some SetTrue }
+
+-- `versions PATH --proxy DIR --retracted`
 abbrev pub versions_app : App
-versions_app = with_word (codes "versions") (codes "path")
+versions_app = with_rule (with_rule (with_rule (new_app (codes "versions")) (word_rule (codes "path"))) (option_rule (codes "proxy"))) (flag_rule (codes "retracted"))
+
+-- an option `--NAME VALUE`, which must be given
+abbrev pub needed_rule : Text → Rule
+needed_rule name = record (new_rule name) { long = Some name; required = true; value_names = 1 }
+
+-- a command over a module graph: `NAME --proxy DIR --mod FILE --sum FILE`
+abbrev pub query_app : Text → App
+query_app name = with_rule (with_rule (with_rule (new_app name) (needed_rule (codes "proxy"))) (option_rule (codes "mod"))) (option_rule (codes "sum"))
+
+-- `graph`
+abbrev pub graph_app : App
+graph_app = query_app (codes "graph")
+
+-- `list --after PATH --limit N`
+abbrev pub list_app : App
+list_app = with_rule (with_rule (query_app (codes "list")) (option_rule (codes "after"))) (option_rule (codes "limit"))
+
+-- `chain PATH`
+abbrev pub chain_app : App
+chain_app = with_rule (query_app (codes "chain")) (word_rule (codes "path"))
 
 -- `gomod`, which wants a command
 abbrev pub bare_gomod : App
@@ -34,13 +69,53 @@ bare_gomod = let app = new_app (codes "gomod") in record app { top = record app.
 
 -- `gomod` with its commands
 abbrev pub gomod_app : App
-gomod_app = with_subcommand (with_subcommand bare_gomod fmt_app.top) versions_app.top
+gomod_app =
+    with_subcommand (with_subcommand (with_subcommand (with_subcommand (with_subcommand bare_gomod fmt_app.top) graph_app.top) list_app.top) chain_app.top) versions_app.top
 
--- the command and the places that a command's name and its entries stand for
+-- whether a flag is given
+abbrev pub is_given : Text → List Row → Bool
+is_given flag rows = option_map_or (λ value. bytes_eq value (codes "true")) (first_of flag rows) false
+
+-- the text names proxy folders
+abbrev pub is_proxy : Text → Bool
+is_proxy value = list_all is_folder (folders_of value)
+
+-- the folders and marks that the value of `--proxy` names, or none where it is not given
+abbrev pub IsProxy : Option Text → Option ProxyList → Type 0
+IsProxy None None = Unit {0}
+IsProxy None (Some list) = ⊥
+IsProxy (Some value) None = ⊥
+IsProxy (Some value) (Some list) = (is_proxy value ≡ true) × (folders_in list ≡ folders_of value) × (marks_in list ≡ marks_of value)
+
+-- The places of a command over a module graph: the proxy folders, which must be given, the main file, which is `go.mod` where
+-- `--mod` is not given, and the go.sum, of which there is none where `--sum` is not given.
+abbrev pub ArePlaces : List Row → Places → Type 0
+ArePlaces rows places = IsProxy (first_of (codes "proxy") rows) places.proxy × (is_some places.proxy ≡ true)
+    × (string_bytes places.main ≡ unwrap_or (first_of (codes "mod") rows) (codes "go.mod"))
+    × (option_map string_bytes places.sums ≡ first_of (codes "sum") rows)
+
+-- the number of rows that the value of `--limit` names, or none where it is not given
+abbrev pub IsLimit : Option Text → Option ℕ → Type 0
+IsLimit None limit = limit ≡ None
+IsLimit (Some text) limit = (limit_of text ≡ limit) × (is_some limit ≡ true)
+
+-- the value of `--limit` names a number of rows, where it is given
+abbrev pub has_limit : Option Text → Bool
+has_limit value = option_map_or (λ text. is_some (limit_of text)) value true
+
+-- The command and the places that a command's name and its entries stand for. All versions are asked for where `--retracted` is
+-- given, and where there is no proxy.
 abbrev pub Means : Text → List Row → Command → Places → Type 0
-Means name rows (Versions path) places =
-    (name ≡ codes "versions") × (first_of (codes "path") rows ≡ Some path) × (string_bytes places.main ≡ codes "go.mod")
-Means name rows Fmt places = (name ≡ codes "fmt") × (first_of (codes "file") rows ≡ Some (string_bytes places.main))
+Means name rows (Versions path all) places =
+    (name ≡ codes "versions") × (first_of (codes "path") rows ≡ Some path) × IsProxy (first_of (codes "proxy") rows) places.proxy
+    × (all ≡ (is_given (codes "retracted") rows || not (is_some places.proxy)))
+    × (string_bytes places.main ≡ codes "go.mod") × (places.sums ≡ None)
+Means name rows Fmt places =
+    (name ≡ codes "fmt") × (first_of (codes "file") rows ≡ Some (string_bytes places.main)) × (places.proxy ≡ None) × (places.sums ≡ None)
+Means name rows Graph places = (name ≡ codes "graph") × ArePlaces rows places
+Means name rows (Rows after limit) places =
+    (name ≡ codes "list") × (first_of (codes "after") rows ≡ after) × IsLimit (first_of (codes "limit") rows) limit × ArePlaces rows places
+Means name rows (Chain path) places = (name ≡ codes "chain") × (first_of (codes "path") rows ≡ Some path) × ArePlaces rows places
 
 abbrev pub IsMeant : Option (Text × List Row) → Command → Places → Type 0
 IsMeant None command places = ⊥
@@ -50,16 +125,35 @@ IsMeant (Some entered) command places = Means entered.0 entered.1 command places
 abbrev pub AskFor : List Text → Command → Places → Type 0
 AskFor words command places = IsMeant (subcommand_of gomod_app words) command places
 
+-- The text where a path is wanted: PATH of `versions` and of `chain`, and that of `--after` of `list`, whose `--limit` is looked at
+-- first.
+abbrev pub IsPathText : Text → List Row → Text → Type 0
+IsPathText name rows text =
+    (((name ≡ codes "versions") ⊎ (name ≡ codes "chain")) × (first_of (codes "path") rows ≡ Some text))
+    ⊎ ((name ≡ codes "list") × (has_limit (first_of (codes "limit") rows) ≡ true) × (first_of (codes "after") rows ≡ Some text))
+
+-- what is looked at before the value of `--proxy` is sound
+abbrev pub IsSoundBefore : Text → List Row → Type 0
+IsSoundBefore name rows =
+    ((path : Text) × IsPathText name rows path × IsPath path)
+    ⊎ (name ≡ codes "graph")
+    ⊎ ((name ≡ codes "list") × (has_limit (first_of (codes "limit") rows) ≡ true) × (first_of (codes "after") rows ≡ None))
+
 -- the text where a path is wanted is none
 abbrev pub HasBadPath : Option (Text × List Row) → Text → Type 0
 HasBadPath None text = ⊥
-HasBadPath (Some entered) text =
-    (entered.0 ≡ codes "versions") × (first_of (codes "path") entered.1 ≡ Some text) × ¬ (IsPath text)
+HasBadPath (Some entered) text = IsPathText entered.0 entered.1 text × ¬ (IsPath text)
 
--- a command and its places, or a path that is none
+-- all before it is sound, and the value of `--proxy` names no folders
+abbrev pub HasBadProxy : Option (Text × List Row) → Text → Type 0
+HasBadProxy None text = ⊥
+HasBadProxy (Some entered) text = IsSoundBefore entered.0 entered.1
+    × (first_of (codes "proxy") entered.1 ≡ Some text) × (is_proxy text ≡ false)
+
+-- a command and its places, a path that is none, or a value of `--proxy` that names no folders
 abbrev pub AreMeant : Option (Text × List Row) → Type 0
 AreMeant entered = ((command : Command) × (places : Places) × IsMeant entered command places)
-    ⊎ ((text : Text) × HasBadPath entered text)
+    ⊎ ((text : Text) × HasBadPath entered text) ⊎ ((text : Text) × HasBadProxy entered text)
 
 -- what a fault says of the entries
 abbrev pub IsEntriesFault : Option (Text × List Row) → UsageFault → Type 0
@@ -67,13 +161,16 @@ IsEntriesFault entered NoMemory = Unit {0}
 IsEntriesFault entered (Help text) = ⊥
 IsEntriesFault entered (Line text) = ¬ (AreMeant entered)
 IsEntriesFault entered (BadPath text) = HasBadPath entered (string_bytes text)
+IsEntriesFault entered (BadProxy text) = HasBadProxy entered (string_bytes text)
 
--- what a fault says of the words: help is asked for; the parser refuses them or they are no command's; the path is none
+-- what a fault says of the words: help is asked for; the parser refuses them or they are no command's; the path is none; the
+-- value of `--proxy` names no folders
 abbrev pub IsFaultOf : List Text → UsageFault → Type 0
 IsFaultOf words NoMemory = Unit {0}
 IsFaultOf words (Help text) = IsAmong DisplayHelp (fault_of gomod_app words) × (takes gomod_app words ≡ true → ⊥)
 IsFaultOf words (Line text) = takes gomod_app words ≡ true → ¬ (AreMeant (subcommand_of gomod_app words))
 IsFaultOf words (BadPath text) = HasBadPath (subcommand_of gomod_app words) (string_bytes text)
+IsFaultOf words (BadProxy text) = HasBadProxy (subcommand_of gomod_app words) (string_bytes text)
 
 -- the fault that a parser's error is
 abbrev pub IsParserFault : Error → UsageFault → Type 0
@@ -81,6 +178,37 @@ IsParserFault error NoMemory = Unit {0}
 IsParserFault error (Help text) = kind_of error ≡ DisplayHelp
 IsParserFault error (Line text) = (kind_of error ≢ DisplayHelp) × (kind_of error ≢ OutOfMemory)
 IsParserFault error (BadPath text) = ⊥
+IsParserFault error (BadProxy text) = ⊥
+
+-- the text is no path, or memory ran out
+abbrev pub IsPathFault : Text → UsageFault → Type 0
+IsPathFault path NoMemory = Unit {0}
+IsPathFault path (BadPath text) = (string_bytes text ≡ path) × ¬ (IsPath path)
+IsPathFault path _ = ⊥
+
+-- the value names no folders, or memory ran out
+abbrev pub IsProxyFault : Option Text → UsageFault → Type 0
+IsProxyFault value NoMemory = Unit {0}
+IsProxyFault value (BadProxy text) = (value ≡ Some (string_bytes text)) × (is_proxy (string_bytes text) ≡ false)
+IsProxyFault value _ = ⊥
+
+-- the value that must be given is not, or names no folders, or memory ran out
+abbrev pub IsPlacesFault : Option Text → UsageFault → Type 0
+IsPlacesFault value NoMemory = Unit {0}
+IsPlacesFault value (Line text) = value ≡ None
+IsPlacesFault value (BadProxy text) = (value ≡ Some (string_bytes text)) × (is_proxy (string_bytes text) ≡ false)
+IsPlacesFault value _ = ⊥
+
+-- the value is no path, where it is given, or memory ran out
+abbrev pub IsAfterFault : Option Text → UsageFault → Type 0
+IsAfterFault None fault = fault ≡ NoMemory
+IsAfterFault (Some text) fault = IsPathFault text fault
+
+-- the value names no number of rows, or memory ran out
+abbrev pub IsLimitFault : Option Text → UsageFault → Type 0
+IsLimitFault value NoMemory = Unit {0}
+IsLimitFault value (Line text) = has_limit value ≡ false
+IsLimitFault value _ = ⊥
 
 abbrev pub is_line_or_memory : UsageFault → Bool
 is_line_or_memory (Line text) = true

@@ -1,21 +1,44 @@
 //! The commands and the words that each takes, as the parser of command lines has them.
 
-ghost use Rattle.std.specs.Prelude.{◌≡◌, IfOk, false};
-ghost use Rattle.clap.specs.Words.{app_of};
+ghost use Rattle.std.specs.Prelude.{◌≡◌, IfOk, codes, false};
+ghost use Rattle.clap.specs.Words.{app_of, rule_of};
 ghost use Rattle.clap.specs.declared.builder.command.Command.TheViews.{out-Command};
-ghost use Rattle.gm_words.specs.Usage.{fmt_app, gomod_app, versions_app};
+ghost use Rattle.gm_words.specs.Usage.{chain_app, flag_rule, fmt_app, gomod_app, graph_app, list_app, needed_rule, option_rule, query_app, versions_app, word_rule};
 
-use clap::{Arg, Command};
+use clap::{Arg, ArgAction, Command};
 use std::alloc::{AllocError, Global};
 
 const FMT_ABOUT: &str =
     "Prints a go.mod file in its layout: single spaces between words, a tab before each line\nof a block, and at most one blank line in a row. Only the syntax is read. The file is left\nas it is.";
 
 const VERSIONS_ABOUT: &str =
-    "Reads a list of versions from standard input, one at the head of each line, and prints the\nmodule's path and its versions in ascending order, each once. Pseudo-versions, versions that\ndon't fit the path and other words are passed over.";
+    "Prints the module's path and its versions in ascending order, each once. With --proxy the list\nof versions is that of the proxy folders, and versions that the go.mod of the latest one\nretracts are left out. Without it the list is read from standard input, one version at the\nhead of each line, and all are printed. Pseudo-versions, versions that don't fit the path and\nother words are passed over.";
+
+const VERSIONS_EXAMPLES: &str =
+    "Examples:\n  gomod versions example.com/p --proxy ~/go/pkg/mod/cache/download\n  gomod versions example.com/p --proxy vendored,mirror --retracted\n  printf 'v1.10.0\\nv1.9.0\\n' | gomod versions example.com/p";
+
+const PROXY_HELP: &str =
+    "Proxy folders, as a GOPROXY server lays them out: with ',' between two the next is looked\ninto where a file is absent, with '|' also where the one before fails";
 
 const GOMOD_EXAMPLES: &str =
-    "Examples:\n  gomod fmt go.mod\n  printf 'v1.10.0\\nv1.9.0\\n' | gomod versions example.com/p\n\nWhat is wrong with a file or a list is said on standard error, with status 1, and what is\nwrong with the words with status 2. Status 3 says that memory or a device failed.";
+    "Examples:\n  gomod fmt go.mod\n  gomod list --proxy ~/go/pkg/mod/cache/download\n  gomod graph --proxy ~/go/pkg/mod/cache/download\n  gomod chain example.com/p --proxy ~/go/pkg/mod/cache/download\n  gomod versions example.com/p --proxy ~/go/pkg/mod/cache/download\n\nWhat is wrong with a file or a list is said on standard error, with status 1, and what is\nwrong with the words with status 2. Status 3 says that memory or a device failed.";
+
+const GRAPH_ABOUT: &str =
+    "Prints the module graph of a go.mod file, as go mod graph does: each edge as a line of two fields\nwith a space between them, in ascending order. A field is the main module's path or\nPATH@VERSION. The go.mod files of other modules are read in the proxy folders, or in the\nfolders that replace directives name.";
+
+const GRAPH_EXAMPLES: &str = "Example:\n  gomod graph --proxy ~/go/pkg/mod/cache/download";
+
+const LIST_ABOUT: &str =
+    "Prints the build list of a go.mod file by minimal version selection, as go list -m all does: the\nmain module's path, then PATH VERSION of each other module in the order of their paths, with an\narrow and what replaces it where something does. The go.mod files of other modules are read in\nthe proxy folders, or in the folders that replace directives name.";
+
+const LIST_EXAMPLES: &str =
+    "Examples:\n  gomod list --proxy ~/go/pkg/mod/cache/download\n  gomod list --after example.com/p --limit 100 --proxy vendored,mirror --sum go.sum";
+
+const CHAIN_ABOUT: &str =
+    "Prints a shortest chain of requirements from the main module to the version of a module that the\nbuild list has, one module a line: the main module's path, then PATH@VERSION.";
+
+const CHAIN_EXAMPLES: &str =
+    "Example:\n  gomod chain example.com/p --proxy ~/go/pkg/mod/cache/download";
 
 /// `fmt FILE`.
 fn fmt_command<'a>(alloc: Global) -> Result<Command<'a>, AllocError>
@@ -34,20 +57,182 @@ fn fmt_command<'a>(alloc: Global) -> Result<Command<'a>, AllocError>
     Ok(command)
 }
 
-/// `versions PATH`.
+/// PATH.
+fn path_word<'a>(alloc: Global) -> Arg<'a>
+    ensures rule { rule_of result ≡ word_rule (codes "path") }
+    ensures local { result.global ≡ false }
+{
+    Arg::new(alloc, "path")
+        .value_name("PATH")
+        .required(true)
+        .help("The module's path")
+}
+
+/// `--proxy DIR`.
+fn proxy_option<'a>(alloc: Global) -> Arg<'a>
+    ensures rule { rule_of result ≡ option_rule (codes "proxy") }
+    ensures local { result.global ≡ false }
+{
+    Arg::new(alloc, "proxy")
+        .long("proxy")
+        .value_name("DIR")
+        .help(PROXY_HELP)
+}
+
+/// `--retracted`.
+fn retracted_flag<'a>(alloc: Global) -> Arg<'a>
+    ensures rule { rule_of result ≡ flag_rule (codes "retracted") }
+    ensures local { result.global ≡ false }
+{
+    Arg::new(alloc, "retracted")
+        .long("retracted")
+        .action(ArgAction::SetTrue)
+        .help("Print retracted versions too")
+}
+
+/// `versions PATH --proxy DIR --retracted`.
 fn versions_command<'a>(alloc: Global) -> Result<Command<'a>, AllocError>
     ensures app { IfOk result (λ command. app_of command ≡ versions_app) }
     ensures local { IfOk result (λ command. (out-Command command).has_globals ≡ false) }
 {
-    let path = Arg::new(alloc, "path")
-        .value_name("PATH")
-        .required(true)
-        .help("The module's path");
+    let path = path_word(alloc);
+    let proxy = proxy_option(alloc);
+    let retracted = retracted_flag(alloc);
     let command = Command::new(alloc, "versions")
         .about("Print the versions of a module in ascending order")
         .long_about(VERSIONS_ABOUT)
-        .after_help("Example:\n  printf 'v1.10.0\\nv1.9.0\\n' | gomod versions example.com/p")
-        .arg(path)?;
+        .after_help(VERSIONS_EXAMPLES)
+        .arg(path)?
+        .arg(proxy)?
+        .arg(retracted)?;
+    Ok(command)
+}
+
+/// `--proxy DIR`, which must be given.
+fn needed_proxy<'a>(alloc: Global) -> Arg<'a>
+    ensures rule { rule_of result ≡ needed_rule (codes "proxy") }
+    ensures local { result.global ≡ false }
+{
+    Arg::new(alloc, "proxy")
+        .long("proxy")
+        .value_name("DIR")
+        .required(true)
+        .help(PROXY_HELP)
+}
+
+/// `--mod FILE`.
+fn mod_option<'a>(alloc: Global) -> Arg<'a>
+    ensures rule { rule_of result ≡ option_rule (codes "mod") }
+    ensures local { result.global ≡ false }
+{
+    Arg::new(alloc, "mod")
+        .long("mod")
+        .value_name("FILE")
+        .help("The main module's file, go.mod where it is not given")
+}
+
+/// `--sum FILE`.
+fn sum_option<'a>(alloc: Global) -> Arg<'a>
+    ensures rule { rule_of result ≡ option_rule (codes "sum") }
+    ensures local { result.global ≡ false }
+{
+    Arg::new(alloc, "sum").long("sum").value_name("FILE").help(
+        "The go.sum that the go.mod files are checked by; without it no hash is checked",
+    )
+}
+
+/// `--after PATH`.
+fn after_option<'a>(alloc: Global) -> Arg<'a>
+    ensures rule { rule_of result ≡ option_rule (codes "after") }
+    ensures local { result.global ≡ false }
+{
+    Arg::new(alloc, "after")
+        .long("after")
+        .value_name("PATH")
+        .help("Print only the rows after that of this module")
+}
+
+/// `--limit N`.
+fn limit_option<'a>(alloc: Global) -> Arg<'a>
+    ensures rule { rule_of result ≡ option_rule (codes "limit") }
+    ensures local { result.global ≡ false }
+{
+    Arg::new(alloc, "limit")
+        .long("limit")
+        .value_name("N")
+        .help("Print at most so many rows, from 1 to 4294967295")
+}
+
+/// A command over a module graph: `NAME --proxy DIR --mod FILE --sum FILE`.
+fn query_command<'a>(
+    alloc: Global,
+    name: &'a str,
+    about: &'a str,
+    long_about: &'a str,
+    examples: &'a str,
+) -> Result<Command<'a>, AllocError>
+    ensures app { IfOk result (λ command. app_of command ≡ query_app name.entry.now) }
+    ensures local { IfOk result (λ command. (out-Command command).has_globals ≡ false) }
+{
+    let proxy = needed_proxy(alloc);
+    let main = mod_option(alloc);
+    let sums = sum_option(alloc);
+    let command = Command::new(alloc, name)
+        .about(about)
+        .long_about(long_about)
+        .after_help(examples)
+        .arg(proxy)?
+        .arg(main)?
+        .arg(sums)?;
+    Ok(command)
+}
+
+/// `graph`.
+fn graph_command<'a>(alloc: Global) -> Result<Command<'a>, AllocError>
+    ensures app { IfOk result (λ command. app_of command ≡ graph_app) }
+    ensures local { IfOk result (λ command. (out-Command command).has_globals ≡ false) }
+{
+    query_command(
+        alloc,
+        "graph",
+        "Print the module graph",
+        GRAPH_ABOUT,
+        GRAPH_EXAMPLES,
+    )
+}
+
+/// `list --after PATH --limit N`.
+fn list_command<'a>(alloc: Global) -> Result<Command<'a>, AllocError>
+    ensures app { IfOk result (λ command. app_of command ≡ list_app) }
+    ensures local { IfOk result (λ command. (out-Command command).has_globals ≡ false) }
+{
+    let after = after_option(alloc);
+    let limit = limit_option(alloc);
+    let query = query_command(
+        alloc,
+        "list",
+        "Print the build list",
+        LIST_ABOUT,
+        LIST_EXAMPLES,
+    )?;
+    let command = query.arg(after)?.arg(limit)?;
+    Ok(command)
+}
+
+/// `chain PATH`.
+fn chain_command<'a>(alloc: Global) -> Result<Command<'a>, AllocError>
+    ensures app { IfOk result (λ command. app_of command ≡ chain_app) }
+    ensures local { IfOk result (λ command. (out-Command command).has_globals ≡ false) }
+{
+    let path = path_word(alloc);
+    let query = query_command(
+        alloc,
+        "chain",
+        "Print why a module is in the build list",
+        CHAIN_ABOUT,
+        CHAIN_EXAMPLES,
+    )?;
+    let command = query.arg(path)?;
     Ok(command)
 }
 
@@ -56,12 +241,18 @@ pub(crate) fn gomod_command<'a>(alloc: Global) -> Result<Command<'a>, AllocError
     ensures { IfOk result (λ command. app_of command ≡ gomod_app) }
 {
     let fmt = fmt_command(alloc)?;
+    let graph = graph_command(alloc)?;
+    let list = list_command(alloc)?;
+    let chain = chain_command(alloc)?;
     let versions = versions_command(alloc)?;
     let command = Command::new(alloc, "gomod")
         .about("Work with Go module files, without a network")
         .after_help(GOMOD_EXAMPLES)
         .subcommand_required(true)
         .subcommand(fmt)?
+        .subcommand(graph)?
+        .subcommand(list)?
+        .subcommand(chain)?
         .subcommand(versions)?;
     Ok(command)
 }

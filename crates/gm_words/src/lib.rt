@@ -2,9 +2,12 @@
 #![tactic(auto)]
 
 mod command;
+mod query;
 mod usage;
 
 pub use crate::usage::{Command, Places, UsageFault, read_words};
 
+#[cfg(test)]
+mod query_tests;
 #[cfg(test)]
 mod tests;

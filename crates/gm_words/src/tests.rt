@@ -9,12 +9,36 @@ enum Outcome {
     Help(&'static str),
     Line(&'static str),
     BadPath(&'static str),
+    BadProxy(&'static str),
     Fmt(&'static str),
-    Versions(&'static str),
+    /// The path, whether all versions are asked for, and how many proxy folders there are.
+    Versions(&'static str, bool, usize),
 }
 
 fn is_want_of_memory(read: &Result<(Command, Places), UsageFault>) -> bool {
     matches!(read, Err(UsageFault::NoMemory))
+}
+
+fn folders_in(places: &Places) -> usize {
+    match &places.proxy {
+        Some(list) => list.folders().len(),
+        None => 0,
+    }
+}
+
+fn asks_for(read: &(Command, Places), path: &str, all: bool, folders: usize) -> bool {
+    match &read.0 {
+        Command::Versions {
+            path: read_path,
+            all: read_all,
+        } => {
+            read_path.as_str() == path
+                && *read_all == all
+                && folders_in(&read.1) == folders
+                && read.1.main.as_str() == "go.mod"
+        }
+        _ => false,
+    }
 }
 
 fn comes_to(read: &Result<(Command, Places), UsageFault>, outcome: Outcome) -> bool {
@@ -23,8 +47,9 @@ fn comes_to(read: &Result<(Command, Places), UsageFault>, outcome: Outcome) -> b
         (Err(UsageFault::Line(text)), Outcome::Line(part)) => text.as_str().contains(part),
         (Err(UsageFault::BadPath(text)), Outcome::BadPath(path)) => text.as_str() == path,
         (Ok((Command::Fmt, places)), Outcome::Fmt(file)) => places.main.as_str() == file,
-        (Ok((Command::Versions(read), places)), Outcome::Versions(path)) => {
-            read.as_str() == path && places.main.as_str() == "go.mod"
+        (Err(UsageFault::BadProxy(text)), Outcome::BadProxy(value)) => text.as_str() == value,
+        (Ok(asked), Outcome::Versions(path, all, folders)) => {
+            asks_for(asked, path, all, folders)
         }
         _ => false,
     }
@@ -32,16 +57,22 @@ fn comes_to(read: &Result<(Command, Places), UsageFault>, outcome: Outcome) -> b
 
 #[test]
 fn words(rt: HostRuntime) -> Result<(), Fail> {
-    let rows: [(&[&str], Outcome); 24] = [
+    let rows: [(&[&str], Outcome); 37] = [
         (&["gomod", "fmt", "go.mod"], Outcome::Fmt("go.mod")),
         (&["gomod", "fmt", "a b/go.mod"], Outcome::Fmt("a b/go.mod")),
         (&["gomod", "fmt", "--", "-x"], Outcome::Fmt("-x")),
         (
             &["gomod", "versions", "example.com/p"],
-            Outcome::Versions("example.com/p"),
+            Outcome::Versions("example.com/p", true, 0),
         ),
-        (&["gomod", "versions", "local"], Outcome::Versions("local")),
-        (&["", "versions", "a.b/v2"], Outcome::Versions("a.b/v2")),
+        (
+            &["gomod", "versions", "local"],
+            Outcome::Versions("local", true, 0),
+        ),
+        (
+            &["", "versions", "a.b/v2"],
+            Outcome::Versions("a.b/v2", true, 0),
+        ),
         (&["gomod", "versions", "a.b/v1"], Outcome::BadPath("a.b/v1")),
         (&["gomod", "versions", ""], Outcome::BadPath("")),
         (&["gomod", "versions", "a b"], Outcome::BadPath("a b")),
@@ -69,7 +100,7 @@ fn words(rt: HostRuntime) -> Result<(), Fail> {
         ),
         (
             &["gomod", "versions", "-h"],
-            Outcome::Help("Usage: gomod versions <PATH>"),
+            Outcome::Help("Usage: gomod versions [OPTIONS] <PATH>"),
         ),
         (
             &["gomod", "versions", "--help"],
@@ -77,7 +108,7 @@ fn words(rt: HostRuntime) -> Result<(), Fail> {
         ),
         (&["gomod"], Outcome::Line("Usage: gomod <COMMAND>")),
         (&[], Outcome::Line("Usage: gomod <COMMAND>")),
-        (&["gomod", "list"], Outcome::Line("'list'")),
+        (&["gomod", "lists"], Outcome::Line("'lists'")),
         (&["gomod", "versions"], Outcome::Line("<PATH>")),
         (
             &["gomod", "fmt", "go.mod", "go.mod"],
@@ -85,8 +116,61 @@ fn words(rt: HostRuntime) -> Result<(), Fail> {
         ),
         (&["gomod", "fmt", "--x", "go.mod"], Outcome::Line("'--x'")),
         (
-            &["gomod", "versions", "a.b/c", "--proxy", "d"],
+            &["gomod", "fmt", "go.mod", "--proxy", "d"],
             Outcome::Line("'--proxy'"),
+        ),
+        (
+            &["gomod", "versions", "a.b/c", "--retracted"],
+            Outcome::Versions("a.b/c", true, 0),
+        ),
+        (
+            &["gomod", "versions", "a.b/c", "--proxy", "d"],
+            Outcome::Versions("a.b/c", false, 1),
+        ),
+        (
+            &["gomod", "versions", "--proxy=a,b|./c d", "a.b/c"],
+            Outcome::Versions("a.b/c", false, 3),
+        ),
+        (
+            &["gomod", "versions", "a.b/c", "--retracted", "--proxy", "d"],
+            Outcome::Versions("a.b/c", true, 1),
+        ),
+        (
+            &["gomod", "versions", "a.b/c", "--proxy", "A,,B"],
+            Outcome::BadProxy("A,,B"),
+        ),
+        (
+            &["gomod", "versions", "a.b/c", "--proxy", "a|off"],
+            Outcome::BadProxy("a|off"),
+        ),
+        (
+            &["gomod", "versions", "a.b/c", "--proxy", "direct"],
+            Outcome::BadProxy("direct"),
+        ),
+        (
+            &["gomod", "versions", "a.b/c", "--proxy", "d|"],
+            Outcome::BadProxy("d|"),
+        ),
+        // a bad path comes before a bad proxy, and a fault of the words before both
+        (
+            &["gomod", "versions", "a b", "--proxy", "off"],
+            Outcome::BadPath("a b"),
+        ),
+        (
+            &["gomod", "versions", "a b", "--proxy", "off", "c"],
+            Outcome::Line("unexpected argument 'c'"),
+        ),
+        (
+            &["gomod", "versions", "a.b/c", "--proxy"],
+            Outcome::Line("--proxy <DIR>"),
+        ),
+        (
+            &["gomod", "versions", "a.b/c", "--proxy", "d", "--proxy", "e"],
+            Outcome::Line("multiple times"),
+        ),
+        (
+            &["gomod", "versions", "a.b/c", "--retracted", "--retracted"],
+            Outcome::Line("multiple times"),
         ),
     ];
     let mut answered = 0u8;

@@ -3,13 +3,16 @@
 ghost use Rattle.std.specs.Prelude.{◌≡◌, IfErr, IfOk, Some, codes, map, true};
 ghost use Rattle.std.specs.Option.{option_map};
 ghost use Rattle.clap.specs.Words.{first_of, found_of, rows_of, subcommand_rows_of};
-ghost use Rattle.gm_words.specs.Usage.{AskFor, IsEntriesFault, IsFaultOf, IsMeant, IsParserFault, Means, is_line_or_memory};
+ghost use Rattle.gm_words.specs.Usage.{AskFor, IsEntriesFault, IsFaultOf, IsMeant, IsParserFault, IsPathFault, IsProxy, IsProxyFault, Means, is_given, is_line_or_memory};
+ghost use Rattle.gm_name.specs.Path.{IsPath};
 ghost use Rattle.gm_words.specs.declared.usage.UsageFault.TheVariants.{NoMemory};
 
 use crate::command::gomod_command;
+use crate::query::{read_chain, read_graph, read_list};
 use clap::ArgMatches;
 use clap::error::ErrorKind;
 use gm_name::{ModPath, PathFault};
+use gm_store::{ProxyFault, ProxyList};
 use std::alloc::{AllocError, Global};
 use thiserror::Error;
 
@@ -18,15 +21,32 @@ use thiserror::Error;
 pub enum Command {
     /// `fmt FILE`: print the layout of a go.mod file.
     Fmt,
-    /// `versions PATH`: print the versions of the module in ascending order.
-    Versions(ModPath),
+    /// `versions PATH`: print the versions of the module in ascending order, of which `all` asks for those too that the latest
+    /// one's file retracts.
+    Versions {
+        path: ModPath,
+        all: bool,
+    },
+    /// `graph`: print the edges of the module graph.
+    Graph,
+    /// `list`: print the build list, or the rest of it after a path, and of these rows the first `limit`, which is at least 1.
+    List {
+        after: Option<ModPath>,
+        limit: Option<u32>,
+    },
+    /// `chain PATH`: print a shortest chain of requirements to what the build list has for a path.
+    Chain(ModPath),
 }
 
-/// The files that the words name.
+/// The files and folders that the words name.
 #[derive(Debug, Drop)]
 pub struct Places {
     /// The main file, `go.mod` where the words name none.
     pub main: String,
+    /// The proxy folders.
+    pub proxy: Option<ProxyList>,
+    /// The go.sum.
+    pub sums: Option<String>,
 }
 
 /// Why words ask for nothing that the program does.
@@ -44,6 +64,9 @@ pub enum UsageFault {
     /// A word that is no module path where one is wanted.
     #[error("bad path {0}")]
     BadPath(String),
+    /// A value of `--proxy` that names no folders.
+    #[error("bad proxy {0}")]
+    BadProxy(String),
 }
 
 impl From<AllocError> for UsageFault {
@@ -57,9 +80,14 @@ impl From<AllocError> for UsageFault {
 /// Reads the words of a command line, of which the first is the program's name.
 ///
 /// `Help` comes where help is asked for, by `help`, `-h` or `--help`, also behind a command. `Line` comes where the
-/// words are those of no command, with too few or too many behind it: it has what the parser says of them. `BadPath`
-/// comes where they are those of `versions`, but PATH is no module path. `NoMemory` comes where memory runs out, and
-/// may come in place of any.
+/// words are those of no command, with too few or too many behind it: it has what the parser says of them. It comes too where the
+/// value of `--limit` is not one or more ASCII digits that write a number from 1 to 4,294,967,295. `BadPath` comes where the words
+/// are else those of `versions` or `chain`, but PATH is no module path, or those of `list`, but that of `--after` is none. `BadProxy`
+/// comes where all that is sound, but the value of `--proxy` has an empty piece between its `,` and `|`, or one that is `direct` or
+/// `off`. `NoMemory` comes where memory runs out, and may come in place of any.
+///
+/// All versions are asked for where `--retracted` is given, and where `--proxy` isn't. `graph`, `list` and `chain` want `--proxy`; their
+/// main file is that of `--mod`, or `go.mod`, and their go.sum that of `--sum`, or none.
 pub fn read_words<'a>(alloc: Global, words: &'a [&'a str]) -> Result<(Command, Places), UsageFault>
     ensures read { IfOk result (λ read. AskFor (map (λ word. word.now) words.entry.now) read.0 read.1) }
     ensures fault { IfErr result (IsFaultOf (map (λ word. word.now) words.entry.now)) }
@@ -100,15 +128,63 @@ fn read_matches<'a>(
     match matches.subcommand() {
         Some(("fmt", found)) => read_fmt(alloc, found),
         Some(("versions", found)) => read_versions(alloc, found),
+        Some(("graph", found)) => read_graph(alloc, found),
+        Some(("list", found)) => read_list(alloc, found),
+        Some(("chain", found)) => read_chain(alloc, found),
         _ => Err(line(alloc, "no command")),
     }
 }
 
 /// The first value of an argument.
-fn value_of<'a>(found: &ArgMatches<'a>, id: &str) -> Option<&'a str>
+pub(crate) fn value_of<'a>(found: &ArgMatches<'a>, id: &str) -> Option<&'a str>
     ensures { option_map (λ text. text.now) result ≡ first_of id.now (rows_of (found_of found.now)) }
 {
     found.get_str(id)
+}
+
+/// Whether a flag is given.
+fn is_given<'a>(found: &ArgMatches<'a>, flag: &str) -> bool
+    ensures { result ≡ is_given flag.now (rows_of (found_of found.now)) }
+{
+    match value_of(found, flag) {
+        Some(value) => value == "true",
+        None => false,
+    }
+}
+
+/// The module path of a word.
+pub(crate) fn read_path(alloc: Global, text: &str) -> Result<ModPath, UsageFault>
+    ensures path { IfOk result (λ path. (path ≡ text.now) × IsPath text.now) }
+    ensures fault { IfErr result (IsPathFault text.now) }
+{
+    match ModPath::parse(alloc, text) {
+        Ok(path) => Ok(path),
+        Err(PathFault::BadPath) => Err(UsageFault::BadPath(String::from_str(alloc, text)?)),
+        Err(PathFault::NoMemory) => Err(UsageFault::NoMemory),
+    }
+}
+
+/// The proxy folders that a value names.
+pub(crate) fn read_proxy(alloc: Global, value: &str) -> Result<ProxyList, UsageFault>
+    ensures proxy { IfOk result (λ list. IsProxy (Some value.now) (Some list)) }
+    ensures fault { IfErr result (IsProxyFault (Some value.now)) }
+{
+    match ProxyList::read(alloc, value) {
+        Ok(list) => Ok(list),
+        Err(ProxyFault::BadProxy) => Err(UsageFault::BadProxy(String::from_str(alloc, value)?)),
+        Err(ProxyFault::NoMemory) => Err(UsageFault::NoMemory),
+    }
+}
+
+/// The proxy folders that `--proxy` names, where it is given.
+fn proxy_of<'a>(alloc: Global, found: &ArgMatches<'a>) -> Result<Option<ProxyList>, UsageFault>
+    ensures proxy { IfOk result (IsProxy (first_of (codes "proxy") (rows_of (found_of found.now)))) }
+    ensures fault { IfErr result (IsProxyFault (first_of (codes "proxy") (rows_of (found_of found.now)))) }
+{
+    match value_of(found, "proxy") {
+        Some(value) => Ok(Some(read_proxy(alloc, value)?)),
+        None => Ok(None),
+    }
 }
 
 fn read_fmt<'a>(alloc: Global, found: &ArgMatches<'a>) -> Result<(Command, Places), UsageFault>
@@ -118,8 +194,12 @@ fn read_fmt<'a>(alloc: Global, found: &ArgMatches<'a>) -> Result<(Command, Place
     let Some(file) = value_of(found, "file") else {
         return Err(line(alloc, "no FILE"));
     };
-    let main = String::from_str(alloc, file)?;
-    Ok((Command::Fmt, Places { main }))
+    let places = Places {
+        main: String::from_str(alloc, file)?,
+        proxy: None,
+        sums: None,
+    };
+    Ok((Command::Fmt, places))
 }
 
 fn read_versions<'a>(alloc: Global, found: &ArgMatches<'a>) -> Result<(Command, Places), UsageFault>
@@ -129,17 +209,19 @@ fn read_versions<'a>(alloc: Global, found: &ArgMatches<'a>) -> Result<(Command, 
     let Some(text) = value_of(found, "path") else {
         return Err(line(alloc, "no PATH"));
     };
-    let path = match ModPath::parse(alloc, text) {
-        Ok(path) => path,
-        Err(PathFault::BadPath) => return Err(UsageFault::BadPath(String::from_str(alloc, text)?)),
-        Err(PathFault::NoMemory) => return Err(UsageFault::NoMemory),
+    let path = read_path(alloc, text)?;
+    let proxy = proxy_of(alloc, found)?;
+    let all = is_given(found, "retracted") || proxy.is_none();
+    let places = Places {
+        main: String::from_str(alloc, "go.mod")?,
+        proxy,
+        sums: None,
     };
-    let main = String::from_str(alloc, "go.mod")?;
-    Ok((Command::Versions(path), Places { main }))
+    Ok((Command::Versions { path, all }, places))
 }
 
 /// The fault of words that lack something.
-fn line(alloc: Global, lack: &str) -> UsageFault
+pub(crate) fn line(alloc: Global, lack: &str) -> UsageFault
     ensures { is_line_or_memory result ≡ true }
 {
     match format!(in alloc; "error: {lack} given\n\nFor more information, try '--help'.\n") {

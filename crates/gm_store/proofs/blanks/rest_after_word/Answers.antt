@@ -1,6 +1,3 @@
-use Rattle.std.proofs.Common.{◌≡◌, ◌∙◌, ap, sym, drop, take, length}
-use Rattle.gm_store.specs.Lines.{fields, first_word}
-use Rattle.gm_store.specs.Words.{put_word}
 use Rattle.gm_store.proofs.FieldLemmas.{drop_whole, fields_step}
 use Rattle.gm_store.proofs.blanks.rest_after_word.Goals as goal
 

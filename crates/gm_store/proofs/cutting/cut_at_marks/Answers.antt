@@ -1,4 +1,4 @@
-use Rattle.std.proofs.Common.{◌≡◌, subst, sym}
+use Rattle.std.proofs.Common.{subst, sym}
 use Rattle.gm_store.specs.Cutting.{IsCut}
 use Rattle.gm_store.proofs.Cuts.{cut_more}
 use Rattle.gm_store.proofs.cutting.cut_at_marks.Goals as goal

@@ -1,4 +1,3 @@
-use Rattle.std.proofs.Common.{◌≡◌}
 use Rattle.std.specs.Prelude.{encode_utf8_all}
 use Rattle.gm_store.specs.Cutting.{IsCut}
 use Rattle.gm_store.proofs.cutting.cut_at_marks.Given as goal

@@ -1,4 +1,4 @@
-use Rattle.std.proofs.Common.{◌≡◌, ◌∙◌, sym, ap, ◌++◌, ◌∷◌, []}
+use Rattle.std.proofs.Common.{◌∙◌, ap, ◌++◌, ◌∷◌, []}
 use Rattle.gm_store.proofs.Cuts.{push_mark, push_plain}
 use Rattle.gm_store.proofs.cutting.take_char.Goals as goal
 

@@ -1,4 +1,3 @@
-use Rattle.std.proofs.Common.{◌≡◌}
 use Rattle.std.proofs.lemmas.Str.{IsUtf8-from_ascii}
 use Rattle.gm_store.proofs.Bytes.{IsAscii-version}
 use Rattle.gm_store.proofs.lists.version_in.Goals as goal

@@ -1,4 +1,4 @@
-use Rattle.std.proofs.Common.{◌≡◌, ℕ, List, map}
+use Rattle.std.proofs.Common.{map}
 use Rattle.gm_store.specs.Lines.{first_word}
 use Rattle.gm_store.proofs.Listing.{HoldsListable}
 use Rattle.gm_store.proofs.lists.versions_of.Given as goal

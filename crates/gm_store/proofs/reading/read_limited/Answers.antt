@@ -1,4 +1,4 @@
-use Rattle.std.proofs.Common.{◌≡◌, ◌<◌, length, arith, length-take}
+use Rattle.std.proofs.Common.{arith, length-take}
 use Rattle.gm_store.proofs.Consuming.{ended_by, full_front}
 use Rattle.gm_store.proofs.reading.read_limited.Goals as goal
 

@@ -1,4 +1,4 @@
-use Rattle.std.proofs.Common.{◌≡◌, ◌≤◌, length, drop, arith, length-drop}
+use Rattle.std.proofs.Common.{arith, length-drop}
 use Rattle.gm_store.proofs.Appending.{appends_more, front_more, room_more}
 use Rattle.gm_store.proofs.sinks.write_all.Goals as goal
 

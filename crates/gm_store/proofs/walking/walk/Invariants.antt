@@ -1,6 +1,5 @@
-use Rattle.std.proofs.Common.{◌≡◌, ◌-◌, ◌≤◌, ℕ, List, length, slice_get, Some}
+use Rattle.std.proofs.Common.{◌-◌, length}
 use Rattle.gm_store.specs.Asked.{name_of}
-use Rattle.gm_store.specs.Steps.{Seen}
 use Rattle.gm_store.proofs.Walks.{HasPassed}
 use Rattle.gm_store.proofs.walking.walk.Given as goal
 

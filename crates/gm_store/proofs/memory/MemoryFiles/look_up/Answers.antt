@@ -1,4 +1,4 @@
-use Rattle.std.proofs.Common.{◌≡◌, ◌<◌, ◌≤◌, length, ap, ◌∙◌, sym, arith}
+use Rattle.std.proofs.Common.{ap, ◌∙◌, sym, arith}
 use Rattle.gm_store.specs.Asked.{reply_for, bytes}
 use Rattle.gm_store.proofs.NameOrder.{held_from_get, reply_for_short, reply_for_long}
 use Rattle.gm_store.proofs.memory.MemoryFiles.look_up.Goals as goal

@@ -1,7 +1,7 @@
-use Rattle.std.proofs.Common.{◌≡◌, ◌<◌, ◌≤◌, ℕ, length, ap, ◌∙◌, sym, arith, Option, Some, None, List, Vec, Global}
+use Rattle.std.proofs.Common.{◌≡◌, ◌<◌, ◌≤◌, ℕ, length, ap, ◌∙◌, sym, arith, Option, Some, List, Vec, Global}
 use Rattle.std.specs.Prelude.{if◌then◌else◌, nat_le}
 use Rattle.gm_store.specs.Shelves.{seen_of}
-use Rattle.gm_store.specs.Steps.{Seen, found, too_long}
+use Rattle.gm_store.specs.Steps.{found, too_long}
 use Rattle.gm_store.specs.declared.shelves.Held.{Held}
 use Rattle.gm_store.specs.declared.shelves.Held.TheVariants.{Content}
 use Rattle.gm_store.proofs.NameOrder.{found_by}

@@ -1,4 +1,4 @@
-use Rattle.std.proofs.Common.{◌≡◌, ap, ◌∙◌}
+use Rattle.std.proofs.Common.{ap, ◌∙◌}
 use Rattle.std.specs.Map.{lookup}
 use Rattle.gm_store.specs.Asked.{name_of, same_name}
 use Rattle.gm_store.proofs.NameOrder.{held_inserted}

@@ -1,0 +1,87 @@
+#!/usr/bin/env bash
+# Times `gomod list`, `graph` and `chain` over proxy folders of 1,000, 10,000 and 65,000 modules with five requirements each, of
+# 1,000 modules with 200 requirements each, over a chain 65,000 deep and a main file with 65,535 requirements, beside `cat` of the
+# same files, and `go list -m all` with a warm module cache where there is a go command.
+set -euo pipefail
+cd "$(dirname "$0")/.."
+gomod=$(./build | tail -n 1)
+work=$(mktemp -d)
+trap 'rm -rf "$work"' EXIT
+
+# The same files at each run. A path has up to three versions, each a module of its own.
+python3 - "$work" << 'PY'
+import os
+import random
+import sys
+
+work = sys.argv[1]
+
+
+def write(root, path, version, requirements):
+    folder = f"{root}/proxy/{path}/@v"
+    os.makedirs(folder, exist_ok=True)
+    lines = "".join(f"\t{p} {v}\n" for p, v in requirements)
+    with open(f"{folder}/{version}.mod", "w", encoding="ascii") as out:
+        out.write(f"module {path}\n\nrequire (\n{lines})\n")
+
+
+def write_main(root, requirements):
+    os.makedirs(f"{root}/proxy", exist_ok=True)
+    lines = "".join(f"\t{p} {v}\n" for p, v in requirements)
+    with open(f"{root}/go.mod", "w", encoding="ascii") as out:
+        out.write(f"module example.com/main\n\ngo 1.16\n\nrequire (\n{lines})\n")
+
+
+def scattered(name, count, width):
+    chance = random.Random(1)
+    modules = [(f"example.com/m{place // 3:05d}", f"v1.{place % 3}.0") for place in range(count)]
+    for place, (path, version) in enumerate(modules):
+        # the next one in the list, so that all are reached, and others anywhere
+        others = [modules[(place + 1) % count]] + chance.sample(modules, width - 1)
+        write(f"{work}/{name}", path, version, others)
+    write_main(f"{work}/{name}", chance.sample(modules, 20))
+
+
+scattered("1000", 1_000, 5)
+scattered("10000", 10_000, 5)
+scattered("65000", 65_000, 5)
+scattered("wide", 1_000, 200)
+deep = [(f"example.com/d{place:05d}", "v1.0.0") for place in range(65_000)]
+for place, (path, version) in enumerate(deep):
+    write(f"{work}/deep", path, version, deep[place + 1 : place + 2])
+write_main(f"{work}/deep", deep[:1])
+flat = [(f"example.com/f{place:05d}", "v1.0.0") for place in range(65_535)]
+for path, version in flat:
+    write(f"{work}/flat", path, version, [])
+write_main(f"{work}/flat", flat)
+PY
+
+# Of three runs the one with the least time.
+best() { for _ in 1 2 3; do python3 bench/measure.py "$@"; done | sort -n | head -n 1; }
+
+# Prints the times and the memory of a command, and what they are for each module.
+show() {
+  local what=$1 modules=$2 took busy memory status
+  shift 2
+  read -r took busy memory status < <(best - "$@")
+  [ "$status" = 0 ] || { echo "$what ended with status $status" >&2; exit 1; }
+  awk -v what="$what" -v modules="$modules" -v took="$took" -v busy="$busy" -v memory="$memory" 'BEGIN {
+    printf "%-14s %6.2f s, of the processor %6.2f s, %5.0f MB; a module %5.1f us, %5.1f KB\n", what, took, busy, memory / 1e6, busy * 1e6 / modules, memory / 1e3 / modules
+  }'
+}
+
+for name in 1000 10000 65000 wide deep flat; do
+  root=$work/$name
+  modules=$(find "$root/proxy" -name '*.mod' | wc -l)
+  echo "$name: $modules modules, $(find "$root/proxy" -name '*.mod' -printf '%s\n' | awk '{ all += $1 } END { print all }') bytes"
+  show "gomod list" "$modules" "$gomod" list --mod "$root/go.mod" --proxy "$root/proxy"
+  show "gomod graph" "$modules" "$gomod" graph --mod "$root/go.mod" --proxy "$root/proxy"
+  last=$("$gomod" list --mod "$root/go.mod" --proxy "$root/proxy" | tail -n 1 | cut -d ' ' -f 1)
+  show "gomod chain" "$modules" "$gomod" chain "$last" --mod "$root/go.mod" --proxy "$root/proxy"
+  show "cat" "$modules" sh -c 'find "$1" -name "*.mod" -exec cat {} +' cat "$root/proxy"
+  if command -v go > /dev/null; then
+    export GOPROXY="file://$root/proxy" GOFLAGS=-mod=mod GONOSUMDB='*' GOMODCACHE="$work/cache-$name"
+    (cd "$root" && go list -m all > /dev/null 2>&1) || true
+    show "go list -m all" "$modules" sh -c 'cd "$1" && go list -m all' go "$root"
+  fi
+done

@@ -1,0 +1,7 @@
+pub mod Excluding
+pub mod Holding
+pub mod Telling
+pub mod Growing
+pub mod Lending
+pub mod OneReading
+pub mod Keeping

@@ -1,0 +1,12 @@
+use Rattle.std.proofs.Common.{◌∙◌, refl}
+use Rattle.gm_cache.proofs.Lending.{lent_kept}
+use Rattle.gm_cache.proofs.cache.Cache.lend.Goals as goal
+
+pub returns : goal.returns
+returns c = (
+  (refl, λ _. tt, record { turns = c.in_ok-push_turn.ensures.ok; holds = record { main = refl; sums = refl; entries = refl } }),
+  record {
+    lent = c.lent_in.ensures ∙ lent_kept c.args.self.now c.args.vertex.now _ c.requires.lends c.requires.lender;
+    after = tt;
+  },
+)

@@ -1,0 +1,9 @@
+pub mod Main
+pub mod Reading
+pub mod Asking
+pub mod Summaries
+pub mod Turns
+pub mod Cached
+pub mod Refusals
+pub mod ClassWords
+pub mod Laws

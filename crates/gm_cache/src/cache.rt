@@ -1,0 +1,224 @@
+//! The cache of what was read.
+
+ghost use Rattle.std.specs.Prelude.{◌≡◌, ◌<◌, ◌⊎◌, ◌^◌, ◌-◌, ◌++◌, ◌∷◌, [], ℕ, List, IfOk, OnOk, OnErr, IsSome, None, Some, Ok, Err, true};
+ghost use Rattle.std.specs.Option.{option_copied, option_map};
+ghost use Rattle.gm_store.specs.Asked.{Name, Reply, answer_in, name_of, reply_of};
+ghost use Rattle.gm_store.specs.declared.files.FileName.{FileName};
+ghost use Rattle.gm_cache.specs.Main.{Vertex, main_of};
+ghost use Rattle.gm_cache.specs.Asking.{AsksAtMost, AsksFor, MayGrow, MayLess};
+ghost use Rattle.gm_cache.specs.Reading.{IsFileReading, KeepsHeld, file_of, is_askable as may_be_asked, is_unpruned, is_unpruned_in, readings_by, requirements_of, said_in};
+ghost use Rattle.gm_cache.specs.Refusals.{refused_in};
+ghost use Rattle.gm_cache.specs.Summaries.{IsKept, said};
+ghost use Rattle.gm_cache.specs.Turns.{turn};
+
+use crate::class::Class;
+use crate::depth::{Depth, Turn};
+use crate::finding::Finding;
+use crate::load_fault::LoadFault;
+use crate::naming::{file_name, is_askable};
+use crate::paths::is_right_path;
+use crate::reading::read_answer;
+use crate::shelf::{is_unpruned_in, keep, lent_in, summary_under};
+use crate::summary::{Summary, summary_of};
+use gm_file::MainFile;
+use gm_name::{ModVer, NoMemory};
+use gm_store::{Answer, AskFault, FileName, Files};
+use gm_sums::SumTable;
+use std::alloc::Global;
+use std::collections::BTreeMap;
+
+/// What was read of the files that a store was asked for, and the list of what was lent of it. It alone reads a store's
+/// answers, each once, when it is asked for. The test of the declared path is made for each vertex.
+#[derive(Drop)]
+pub struct Cache<'a> {
+    alloc: Global,
+    main: &'a MainFile<'a>,
+    sums: Option<&'a SumTable>,
+    summaries: BTreeMap<FileName, Result<Summary, Class>>,
+    turns: Vec<Turn>,
+}
+
+/// The answer to the last ask.
+fn last_answer<F: Files>(files: &F) -> &Answer
+    requires { (pairs : List (Name × Reply)) × (name : Name) × (reply : Reply) × (F.asked files.now ≡ pairs ++ (name, reply) ∷ []) }
+    ensures { (pairs : List (Name × Reply)) (name : Name) (reply : Reply) → F.asked files.now ≡ pairs ++ (name, reply) ∷ [] → reply_of result.now ≡ reply }
+{
+    files.answer(files.count() - 1)
+}
+
+/// What an answer says, with the requirements less the excluded ones, or what is wrong with it.
+fn summarize(
+    alloc: Global,
+    main: &MainFile,
+    sums: Option<&SumTable>,
+    name: &FileName,
+    answer: &Answer,
+) -> Result<Result<Summary, Class>, NoMemory>
+    ensures reading { IfOk result (λ one. IsFileReading (option_copied sums.entry) (name_of name.now) (reply_of answer.now) (said one)) }
+    ensures kept { IfOk result (IsKept (main_of main.now)) }
+{
+    match read_answer(alloc, sums, name, answer)? {
+        Ok(file) => Ok(Ok(summary_of(alloc, main, file)?)),
+        Err(class) => Ok(Err(class)),
+    }
+}
+
+/// Puts a turn at the end.
+fn push_turn(
+    alloc: Global,
+    turns: &mut Vec<Turn>,
+    vertex: &ModVer,
+    depth: Depth,
+) -> Result<(), NoMemory>
+    ensures ok { OnOk result (turns.new.items ≡ turns.old.items ++ turn vertex.now depth ∷ []) }
+    ensures err { OnErr result (turns.new.items ≡ turns.old.items) }
+{
+    turns.push(Turn {
+        vertex: vertex.copy(alloc)?,
+        depth,
+    })?;
+    Ok(())
+}
+
+impl<'a> Cache<'a> {
+    ghost use Rattle.std.specs.Borrow.{sem};
+    ghost use Rattle.gm_cache.specs.Cached.{HoldsSame, IsFinding, IsLender, IsUnchanged, Knows, LendsKept, LentSame, Lends, held_of, main_in, summary_at, sums_in, turns_in};
+
+    /// A cache that has read and lent nothing. With a go.sum the files of proxies are checked against it.
+    pub fn new(alloc: Global, main: &'a MainFile<'a>, sums: Option<&'a SumTable>) -> Cache<'a>
+        ensures main { main_in result ≡ main_of main.entry.now }
+        ensures sums { sums_in result ≡ option_copied sums.entry }
+        ensures knows { Knows result [] }
+        ensures turns { turns_in result ≡ [] }
+    {
+        Cache {
+            alloc,
+            main,
+            sums,
+            summaries: BTreeMap::new(alloc),
+            turns: Vec::new(alloc),
+        }
+    }
+
+    /// Reads the file of that name unless it is known.
+    fn read_file<F: Files>(&mut self, files: &mut F, name: &FileName) -> Result<(), AskFault>
+        requires { Knows self.old (F.asked files.old) }
+        ensures knows { OnOk result (Knows self.new (F.asked files.new)) }
+        ensures found { OnOk result (IsSome (summary_at self.new (name_of name.now))) }
+        ensures lent { LentSame self.old self.new }
+        ensures grows { KeepsHeld (held_of self.old) (held_of self.new) }
+        ensures err { OnErr result (HoldsSame self.old self.new) }
+        ensures asks { AsksAtMost (F.asked files.old) (F.asked files.new) (name_of name.now) }
+        ensures device { result ≡ Err AskFault.Device → (F.asked files.new ≡ F.asked files.old) × (answer_in (F.asked files.old) (name_of name.now) ≡ None) × (F.refused files.new ≡ F.refused files.old ++ name_of name.now ∷ []) }
+        ensures not_refused { (result ≡ Err AskFault.Device → ⊥) → F.refused files.new ≡ F.refused files.old }
+        ensures cause { result ≡ Err AskFault.Device → (F.fault_count files.old < F.fault_count files.new) ⊎ (F.fault_count files.old ≡ 2 ^ 64 - 1) }
+        ensures may { MayGrow (F.may_answer files.old) (F.asked files.old) (F.asked files.new) }
+        ensures same_store { MayLess (F.may_answer files.new) (F.may_answer files.old) }
+    {
+        if summary_under(&self.summaries, name).is_some() {
+            return Ok(());
+        }
+        files.ask(name)?;
+        let one = summarize(self.alloc, self.main, self.sums, name, last_answer(files));
+        let Ok(one) = one else {
+            return Err(AskFault::NoMemory);
+        };
+        let Ok(()) = keep(self.alloc, &mut self.summaries, name, one) else {
+            return Err(AskFault::NoMemory);
+        };
+        Ok(())
+    }
+
+    /// What is found of a vertex whose file is known.
+    fn find(&self, x: &ModVer, name: FileName) -> Finding
+        requires file { name_of name ≡ file_of (main_in self.now) x.now }
+        requires askable { may_be_asked (name_of name) ≡ true }
+        requires found { IsSome (summary_at self.now (name_of name)) }
+        ensures { IsFinding (main_in self.now) (held_of self.now) x.now result }
+    {
+        match summary_under(&self.summaries, &name) {
+            None => unreachable!(),
+            Some(Err(class)) => Finding::Fault(*class),
+            Some(Ok(summary)) => {
+                if is_right_path(self.main, x, &summary.file) {
+                    Finding::Sound(name)
+                } else {
+                    Finding::Fault(Class::WrongPath)
+                }
+            }
+        }
+    }
+
+    /// Makes the file of a vertex known, and says what is found of the vertex. The store is asked for that file unless
+    /// it is known, or lies on a proxy and its path isn't fetchable.
+    ///
+    /// `NoMemory` comes where a growth is refused, and then the store may hold an answer that the cache doesn't.
+    /// `Device` comes exactly where the store's device fails in this ask. `TooMany` doesn't come. A refusal leaves the
+    /// cache as it was.
+    pub fn known<F: Files>(&mut self, files: &mut F, x: &ModVer) -> Result<Finding, LoadFault>
+        requires { Knows self.old (F.asked files.old) }
+        ensures knows { OnOk result (Knows self.new (F.asked files.new)) }
+        ensures finding { IfOk result (IsFinding (main_in self.new) (held_of self.new) x.now) }
+        ensures lent { LentSame self.old self.new }
+        ensures grows { KeepsHeld (held_of self.old) (held_of self.new) }
+        ensures err { OnErr result (HoldsSame self.old self.new) }
+        ensures asks { AsksFor (main_in self.old) (F.asked files.old) (F.asked files.new) x.now }
+        ensures not_too_many { result ≡ Err LoadFault.TooMany → ⊥ }
+        ensures device { (name : FileName) → result ≡ Err (LoadFault.Device name) → (F.asked files.new ≡ F.asked files.old) × (name_of name ≡ file_of (main_in self.old) x.now) × (may_be_asked (name_of name) ≡ true) × (answer_in (F.asked files.old) (name_of name) ≡ None) }
+        ensures refused { F.refused files.new ≡ F.refused files.old ++ refused_in result }
+        ensures cause { (name : FileName) → result ≡ Err (LoadFault.Device name) → (F.fault_count files.old < F.fault_count files.new) ⊎ (F.fault_count files.old ≡ 2 ^ 64 - 1) }
+        ensures may { MayGrow (F.may_answer files.old) (F.asked files.old) (F.asked files.new) }
+        ensures same_store { MayLess (F.may_answer files.new) (F.may_answer files.old) }
+    {
+        let name = file_name(self.alloc, self.main, x)?;
+        if !is_askable(&name) {
+            return Ok(Finding::Fault(Class::NotFetchable));
+        }
+        match self.read_file(files, &name) {
+            Ok(()) => Ok(self.find(x, name)),
+            Err(AskFault::NoMemory) => Err(LoadFault::NoMemory),
+            Err(AskFault::Device) => Err(LoadFault::Device(name)),
+        }
+    }
+
+    /// Lends the requirements of a vertex, less the excluded ones, and puts the vertex and the depth at the end of the
+    /// list of turns. A vertex with a fault has no requirements and is lent without a name; any other by the name of its
+    /// file. Only want of memory is refused, and leaves the cache as it was.
+    pub fn lend(
+        &mut self,
+        vertex: &ModVer,
+        depth: Depth,
+        name: Option<&FileName>,
+    ) -> Result<&[ModVer], NoMemory>
+        requires lends { LendsKept self.old }
+        requires lender { IsLender (main_in self.old) (held_of self.old) vertex.now (option_map (λ n. name_of n.now) name) }
+        ensures lent { IfOk result (λ lent. lent.now ≡ requirements_of (main_in self.old) (readings_by (main_in self.old) (held_of self.old)) vertex.now) }
+        ensures* after { sem 𝓛 (Lends self.entry (turn vertex.now depth) result) }
+    {
+        push_turn(self.alloc, &mut self.turns, vertex, depth)?;
+        Ok(lent_in(&self.summaries, name))
+    }
+
+    /// Whether the file of that name is known, has no fault and is not pruned: whether its go version is lower than 1.17
+    /// by its first two numbers. Takes no memory.
+    pub fn is_unpruned(&self, name: &FileName) -> bool
+        ensures held { result ≡ is_unpruned_in (said_in (held_of self.now (name_of name.now))) }
+        ensures vertex { (x : Vertex) → IsLender (main_in self.now) (held_of self.now) x (Some (name_of name.now)) → result ≡ is_unpruned (readings_by (main_in self.now) (held_of self.now)) x }
+    {
+        is_unpruned_in(summary_under(&self.summaries, name))
+    }
+
+    /// The vertices and depths that requirements were lent for, in order.
+    pub fn turns(&self) -> &[Turn]
+        ensures { result.now ≡ turns_in self.now }
+    {
+        self.turns.as_slice()
+    }
+
+    /// The list of turns, without the cache.
+    pub fn into_turns(self) -> Vec<Turn>
+        ensures { result.items ≡ turns_in self.entry }
+    {
+        self.turns
+    }
+}

@@ -1,0 +1,40 @@
+//! The paths that files declare.
+
+ghost use Rattle.std.specs.Prelude.{◌≡◌, Some};
+ghost use Rattle.gm_file.specs.Views.{right_seen};
+ghost use Rattle.gm_cache.specs.Main.{main_of, replacement_of};
+ghost use Rattle.gm_cache.specs.Reading.{declares, is_right_path};
+
+use crate::main_says::replacement;
+use gm_file::{DepFile, MainFile, Right};
+use gm_name::{ModPath, ModVer};
+
+/// Whether a file declares this path.
+fn declares(path: &ModPath, file: &DepFile) -> bool
+    ensures { result ≡ declares path.now file.now.declared }
+{
+    match file.module() {
+        None => false,
+        Some(declared) => *declared == *path,
+    }
+}
+
+/// Whether a file declares the right path for a vertex.
+pub(crate) fn is_right_path(main: &MainFile, x: &ModVer, file: &DepFile) -> bool
+    ensures { result ≡ is_right_path x.now (replacement_of (main_of main.now) x.now) file.now.declared }
+{
+    match replacement(main, x) {
+        None => declares(x.path(), file),
+        Some(right) => is_right_through(right, x, file),
+    }
+}
+
+/// Whether a file declares the right path for a vertex, read through a replacement.
+fn is_right_through(right: &Right, x: &ModVer, file: &DepFile) -> bool
+    ensures { result ≡ is_right_path x.now (Some (right_seen right.now)) file.now.declared }
+{
+    match right {
+        Right::Folder(_) => true,
+        Right::Module(path, _) => declares(x.path(), file) || declares(path, file),
+    }
+}

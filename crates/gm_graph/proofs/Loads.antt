@@ -1,0 +1,85 @@
+-- What is put together is what loading answers.
+use Rattle.std.proofs.Common.{◌≡◌, ◌↔◌, List, [], None, map, Option, Contains, ap, ◌∙◌, sym, subst}
+use Rattle.std.specs.BTreeMap as tree
+use Rattle.gm_store.specs.Asked.{Name, Reply}
+use Rattle.gm_sums.specs.declared.sums.SumTable.{SumTable}
+use Rattle.gm_cache.specs.declared.cache.Cache.{Cache}
+use Rattle.gm_cache.specs.declared.depth.Turn.{Turn}
+use Rattle.gm_cache.specs.Cached.{held_of, main_in, sums_in, turns_in}
+use Rattle.gm_cache.specs.Main.{Main, Vertex, kept}
+use Rattle.gm_cache.specs.Reading.{Readings, readings_by}
+use Rattle.gm_select.specs.declared.step.Edge.{Edge}
+use Rattle.gm_select.specs.BuildList.{IsBuildList}
+use Rattle.gm_select.specs.Chains.{IsRooted}
+use Rattle.gm_select.specs.Graph.{among, edge_cmp, vertex_cmp}
+use Rattle.gm_select.specs.Order.{HaveSame, IsAscending}
+use Rattle.gm_select.proofs.Same.{same_build_list}
+use Rattle.gm_graph.specs.declared.fault.Fault.{Fault}
+use Rattle.gm_graph.specs.declared.gathering.Gathered.{Gathered}
+use Rattle.gm_graph.specs.declared.opening.Opening.{Opening}
+use Rattle.gm_graph.specs.Following.{IsOpenedIn}
+use Rattle.gm_graph.specs.Gathering.{fault}
+use Rattle.gm_graph.specs.Graph.{IsEdge}
+use Rattle.gm_graph.specs.Loading.{AreTooMany, AreTurns, AsksInTurn, Told}
+use Rattle.gm_graph.specs.Turns.{OverflowsWith}
+use Rattle.gm_graph.proofs.Queueing.{many_first}
+use Rattle.gm_graph.specs.Outcome.{AreFaults, IsLoaded, Outcome}
+use Rattle.gm_graph.proofs.Exactly.{answered, asked_exactly, few_opened}
+use Rattle.gm_graph.proofs.Mapped.{fault_listed, faults_ascend}
+use Rattle.gm_graph.proofs.Rooted.{list_rooted, same_edges}
+
+module _ (old new : Cache) (pairs : List (Name × Reply)) (opening : Opening) (gathered : Gathered) (opened : IsOpenedIn old new pairs opening gathered) where
+  abbrev main : Main
+  main = main_in old
+
+  abbrev readings : Readings
+  readings = readings_by (main_in old) (held_of new)
+
+  pub gathered_rooted : IsRooted (among gathered.edges.items)
+  gathered_rooted = list_rooted main readings gathered.edges.items opened.edges
+
+  faults_are : (faults : List Fault) → faults ≡ map (λ e. fault e.0 e.1) gathered.faults.entries → tree.IsOrdered vertex_cmp gathered.faults → AreFaults main readings faults
+  faults_are faults e ordered = subst (λ (fs : List Fault). AreFaults main readings fs) (sym e) (record {
+    ascending = faults_ascend gathered.faults ordered;
+    each = λ one. (
+      (λ h. (opened.faults one.vertex one.class).0 ((fault_listed gathered.faults ordered one).0 h)),
+      (λ h. (fault_listed gathered.faults ordered one).1 ((opened.faults one.vertex one.class).1 h)),
+    );
+  })
+
+  edges_are : (edges : List Edge) → HaveSame gathered.edges.items edges → (e : Edge) → Contains edges e ↔ IsEdge main readings e.from e.to
+  edges_are edges same e = ((λ h. (opened.edges e).0 ((same e).1 h)), (λ h. (same e).0 ((opened.edges e).1 h)))
+
+  pub loads : (loaded : Outcome) → AsksInTurn main (sums_in old) pairs → loaded.main ≡ main.path → loaded.faults ≡ map (λ e. fault e.0 e.1) gathered.faults.entries → tree.IsOrdered vertex_cmp gathered.faults
+      → IsAscending edge_cmp loaded.edges → HaveSame gathered.edges.items loaded.edges → IsBuildList main.path main.replaces (among loaded.edges) loaded.rows → loaded.turns ≡ turns_in new
+      → Told main (sums_in old) pairs (IsLoaded main pairs loaded)
+  loads loaded asks path_is faults ordered ascending same rows turns = (
+    held_of new,
+    opened.tells,
+    record {
+      main_is = path_is;
+      faults = faults_are loaded.faults faults ordered;
+      edges = record { ascending = ascending; each = edges_are loaded.edges same };
+      rows = same_build_list main.path main.replaces (among loaded.edges) (IsEdge main readings) loaded.rows (same_edges main readings loaded.edges (edges_are loaded.edges same)) rows;
+      turns = subst (λ (ts : List Turn). AreTurns main readings ts) (sym (turns ∙ opened.lent)) opened.turns;
+      answered = λ x h. answered main (sums_in old) pairs (held_of new) opened.tells x (opened.known x h);
+      asked = asked_exactly main (sums_in old) pairs (held_of new) opened.tells asks opened.known;
+      few = few_opened main readings opening.vertices.items opening.turns.items opened.opening.turns opened.turns;
+    },
+  )
+
+-- the same of the main file and the go.sum that the cache was made of
+pub loads_of : (old new : Cache) (pairs : List (Name × Reply)) (opening : Opening) (gathered : Gathered) → IsOpenedIn old new pairs opening gathered → (main : Main) (sums : Option SumTable) → main_in old ≡ main → sums_in old ≡ sums
+    → (loaded : Outcome) → AsksInTurn (main_in old) (sums_in old) pairs → loaded.main ≡ main.path → loaded.faults ≡ map (λ e. fault e.0 e.1) gathered.faults.entries → tree.IsOrdered vertex_cmp gathered.faults
+    → IsAscending edge_cmp loaded.edges → HaveSame gathered.edges.items loaded.edges → IsBuildList main.path main.replaces (among loaded.edges) loaded.rows → loaded.turns ≡ turns_in new
+    → Told main sums pairs (IsLoaded main pairs loaded)
+loads_of old new pairs opening gathered opened main sums main_is sums_are loaded asks path_is faults ordered ascending same rows turns =
+    subst (λ (m : Main). Told m sums pairs (IsLoaded m pairs loaded)) main_is (subst (λ (s : Option SumTable). Told (main_in old) s pairs (IsLoaded (main_in old) pairs loaded)) sums_are
+    (loads old new pairs opening gathered opened loaded asks (path_is ∙ ap (λ (m : Main). m.path) (sym main_is)) faults ordered ascending same
+    (subst (λ (m : Main). IsBuildList m.path m.replaces (among loaded.edges) loaded.rows) (sym main_is) rows) turns))
+
+-- nothing was asked, and the main file requires too much
+pub too_many_first : (main : Main) (sums : Option SumTable) (pairs : List (Name × Reply)) (xs : List Vertex) → pairs ≡ [] → xs ≡ kept main main.requirements → OverflowsWith [] xs → Told main sums pairs (AreTooMany main)
+too_many_first main sums pairs xs none is over =
+    subst (λ (ps : List (Name × Reply)). Told main sums ps (AreTooMany main)) (sym none)
+    ((λ n. None), (λ n. tt), many_first main (readings_by main (λ n. None)) (subst (λ (l : List Vertex). OverflowsWith [] l) is over))

@@ -1,0 +1,122 @@
+-- Marks of vertices and turns.
+use Rattle.std.proofs.Common.{◌≡◌, ◌||◌, ◌&&◌, cond, Bool, true, false, List, [], ◌∷◌, ◌++◌, Contains, ap, ◌∙◌, sym, refl, subst}
+use Rattle.std.specs.BTreeSet as set
+use Rattle.std.specs.BTreeMap.{is_at}
+use Rattle.std.specs.List.{list_any}
+use Rattle.std.specs.Cmp.{both_ways}
+use Rattle.std.specs.Prelude.{if◌then◌else◌}
+use Rattle.std.proofs.lemmas.Map.Views.{Contains-from_any, list_any-from_Contains}
+use Rattle.std.proofs.lemmas.List.Folds.{list_any-append}
+use Rattle.gm_file.proofs.Sets.{pair-ties}
+use Rattle.gm_cache.specs.declared.depth.Depth.{Depth}
+use Rattle.gm_cache.specs.declared.depth.Depth.TheVariants.{Top, Deep}
+use Rattle.gm_cache.specs.declared.depth.Turn.{Turn}
+use Rattle.gm_cache.specs.Turns.{turn}
+use Rattle.gm_cache.specs.Main.{Vertex}
+use Rattle.gm_graph.specs.declared.opening.Opening.{Opening}
+use Rattle.gm_graph.specs.Graph.{same_vertex}
+use Rattle.gm_select.specs.Graph.{vertex_cmp}
+use Rattle.gm_graph.specs.Marks.{AreMarks, IsOpening, marked}
+use Rattle.gm_graph.specs.Turns.{AreTurnsOf, same_turn}
+use Rattle.gm_graph.proofs.Adding.{no_turns, same_lists}
+use Rattle.gm_graph.proofs.Sameness.{exact_turn, exact_vertex, turns_equivalence, vertices_equivalence}
+
+found_turn : (turns : List Turn) (one : Turn) → Contains turns one → list_any (same_turn one) turns ≡ true
+found_turn turns one h = list_any-from_Contains turns_equivalence one turns h
+
+found_vertex : (vertices : List Vertex) (x : Vertex) → Contains vertices x → list_any (same_vertex x) vertices ≡ true
+found_vertex vertices x h = list_any-from_Contains vertices_equivalence x vertices h
+
+-- a turn that is found has a vertex that is found
+module _ (vertices : List Vertex) (turns : List Turn) (x : Vertex) (are : AreTurnsOf vertices turns) where
+  turn_vertex : (d : Depth) → list_any (same_turn (turn x d)) turns ≡ true → list_any (same_vertex x) vertices ≡ true
+  turn_vertex d h = found_vertex vertices x (are.has_vertex (turn x d) (Contains-from_any exact_turn (turn x d) turns h))
+
+  pub vertex_by_top : (b : Bool) → b ≡ list_any (same_turn (turn x Top)) turns → b ≡ true → b ≡ list_any (same_vertex x) vertices
+  vertex_by_top b e is = is ∙ sym (turn_vertex Top (sym e ∙ is))
+
+  none_of : (d : Depth) → list_any (same_turn (turn x Top)) turns ≡ false → list_any (same_turn (turn x Deep)) turns ≡ false → list_any (same_turn (turn x d)) turns ≡ false
+  none_of Top no_top no_deep = no_top
+  none_of Deep no_top no_deep = no_deep
+
+  pub vertex_by_deep : (t b : Bool) → t ≡ list_any (same_turn (turn x Top)) turns → t ≡ false → b ≡ list_any (same_turn (turn x Deep)) turns → b ≡ list_any (same_vertex x) vertices
+  vertex_by_deep t b same is_no e = both_ways b (list_any (same_vertex x) vertices)
+      (λ is. turn_vertex Deep (sym e ∙ is))
+      (λ is. let there = are.has_turn x (Contains-from_any exact_vertex x vertices is) in has_deep there.0 (found_turn turns (turn x there.0) there.1))
+    where
+      has_deep : (d : Depth) → list_any (same_turn (turn x d)) turns ≡ true → b ≡ true
+      has_deep Top h = absurd (cc (sym same ∙ is_no, h))
+      has_deep Deep h = e ∙ h
+
+put_key : (old new : set.BTreeSet Vertex) (x q : Vertex) → set.Updates vertex_cmp old new x true → set.contains vertex_cmp new q ≡ cond (same_vertex q x) true (set.contains vertex_cmp old q)
+put_key old new x q updates = updates.0 q ∙ ap (λ (b : Bool). cond b true (set.contains vertex_cmp old q)) (pair-ties x q ∙ vertices_equivalence.symm x q)
+
+and_true : (b : Bool) → (b && true) ≡ b
+and_true true = refl
+and_true false = refl
+
+and_false : (b : Bool) → (b && false) ≡ false
+and_false true = refl
+and_false false = refl
+
+-- one more mark
+abbrev pub IsMarkedToo : Opening → Opening → Vertex → Depth → Type 0
+IsMarkedToo old new x depth = (q : Vertex) (d : Depth) → marked new d q ≡ (if same_turn (turn q d) (turn x depth) then true else marked old d q)
+
+abbrev with_tops : Opening → set.BTreeSet Vertex → Opening
+with_tops o marks = record { turns = o.turns; vertices = o.vertices; tops = marks; deeps = o.deeps }
+
+abbrev with_deeps : Opening → set.BTreeSet Vertex → Opening
+with_deeps o marks = record { turns = o.turns; vertices = o.vertices; tops = o.tops; deeps = marks }
+
+top_put : (o : Opening) (marks : set.BTreeSet Vertex) (x : Vertex) → set.Updates vertex_cmp o.tops marks x true → IsMarkedToo o (with_tops o marks) x Top
+top_put o marks x updates q Top = put_key o.tops marks x q updates ∙ ap (λ (b : Bool). cond b true (set.contains vertex_cmp o.tops q)) (sym (and_true (same_vertex q x)))
+top_put o marks x updates q Deep = ap (λ (b : Bool). cond b true (set.contains vertex_cmp o.deeps q)) (sym (and_false (same_vertex q x)))
+
+deep_put : (o : Opening) (marks : set.BTreeSet Vertex) (x : Vertex) → set.Updates vertex_cmp o.deeps marks x true → IsMarkedToo o (with_deeps o marks) x Deep
+deep_put o marks x updates q Top = ap (λ (b : Bool). cond b true (set.contains vertex_cmp o.tops q)) (sym (and_false (same_vertex q x)))
+deep_put o marks x updates q Deep = put_key o.deeps marks x q updates ∙ ap (λ (b : Bool). cond b true (set.contains vertex_cmp o.deeps q)) (sym (and_true (same_vertex q x)))
+
+pub put_top : (o : Opening) (marks : set.BTreeSet Vertex) (x y : Vertex) (depth : Depth) → depth ≡ Top → y ≡ x → set.Updates vertex_cmp o.tops marks y true → IsMarkedToo o (with_tops o marks) x depth
+put_top o marks x y depth e f updates =
+    subst (λ (d : Depth). IsMarkedToo o (with_tops o marks) x d) (sym e) (subst (λ (z : Vertex). IsMarkedToo o (with_tops o marks) z Top) f (top_put o marks y updates))
+
+pub put_deep : (o : Opening) (marks : set.BTreeSet Vertex) (x y : Vertex) (depth : Depth) → depth ≡ Deep → y ≡ x → set.Updates vertex_cmp o.deeps marks y true → IsMarkedToo o (with_deeps o marks) x depth
+put_deep o marks x y depth e f updates =
+    subst (λ (d : Depth). IsMarkedToo o (with_deeps o marks) x d) (sym e) (subst (λ (z : Vertex). IsMarkedToo o (with_deeps o marks) z Deep) f (deep_put o marks y updates))
+
+pub marked_same : (a b : Opening) → a.tops ≡ b.tops → a.deeps ≡ b.deeps → (q : Vertex) (d : Depth) → marked a d q ≡ marked b d q
+marked_same a b e f q Top = ap (λ (s : set.BTreeSet Vertex). set.contains vertex_cmp s q) e
+marked_same a b e f q Deep = ap (λ (s : set.BTreeSet Vertex). set.contains vertex_cmp s q) f
+
+none_found : (d : Depth) (x : Vertex) (turns : List Turn) → turns ≡ [] → list_any (same_turn (turn x d)) turns ≡ false
+none_found d x turns e = ap (list_any (same_turn (turn x d))) e
+
+none_marked : (s : set.BTreeSet Vertex) (x : Vertex) → s.keys ≡ [] → set.contains vertex_cmp s x ≡ false
+none_marked s x e = ap (list_any (is_at (vertex_cmp x))) e
+
+no_marks : (o : Opening) → o.turns.items ≡ [] → o.tops.keys ≡ [] → o.deeps.keys ≡ [] → AreMarks o
+no_marks o e f g x Top = none_marked o.tops x f ∙ sym (none_found Top x o.turns.items e)
+no_marks o e f g x Deep = none_marked o.deeps x g ∙ sym (none_found Deep x o.turns.items e)
+
+-- nothing is opened
+pub opening_none : (o : Opening) → o.turns.items ≡ [] → o.vertices.items ≡ [] → o.tops.keys ≡ [] → o.deeps.keys ≡ [] → IsOpening o
+opening_none o e v f g = record {
+  turns = same_lists o.vertices.items [] o.turns.items [] v e no_turns;
+  marks = no_marks o e f g;
+}
+
+marked_or : (b m : Bool) → (if b then true else m) ≡ (m || (b || false))
+marked_or true true = refl
+marked_or true false = refl
+marked_or false true = refl
+marked_or false false = refl
+
+-- one more turn, and its mark
+pub marks_more : (old mid new : Opening) (x : Vertex) (depth : Depth) → AreMarks old → ((q : Vertex) (d : Depth) → marked mid d q ≡ marked old d q) → IsMarkedToo mid new x depth → new.turns.items ≡ old.turns.items ++ turn x depth ∷ [] → AreMarks new
+marks_more old mid new x depth are same more turns q d =
+    more q d
+    ∙ ap (λ (m : Bool). if same_turn (turn q d) (turn x depth) then true else m) (same q d ∙ are q d)
+    ∙ marked_or (same_turn (turn q d) (turn x depth)) (list_any (same_turn (turn q d)) old.turns.items)
+    ∙ sym (list_any-append (same_turn (turn q d)) old.turns.items (turn x depth ∷ []))
+    ∙ ap (list_any (same_turn (turn q d))) (sym turns)

@@ -1,0 +1,59 @@
+-- Edges lead from the main module to each step that has an edge, and so to each entry of the build list.
+use Rattle.std.proofs.Common.{◌↔◌, ℕ, zero, suc, List, ◌∷◌, map, Contains, subst, inl, inr, arith}
+use Rattle.gm_file.specs.Directives.{Replacing}
+use Rattle.gm_cache.specs.Main.{Main, Vertex}
+use Rattle.gm_cache.specs.Reading.{Readings}
+use Rattle.gm_select.specs.declared.step.Edge.{Edge}
+use Rattle.gm_select.specs.declared.step.Step.TheVariants.{Main as FromMain, Of}
+use Rattle.gm_select.specs.BuildList.{Entry, IsBuildList, IsSelected, entry_of, main_entry}
+use Rattle.gm_select.specs.Chains.{IsReached, IsRooted, along, at_main}
+use Rattle.gm_select.specs.Graph.{among, edge, edge_cmp}
+use Rattle.gm_select.specs.Order.{HaveSame, IsAscending}
+use Rattle.gm_select.proofs.Same.{AreSame, same_back, same_rooted}
+use Rattle.gm_graph.specs.Graph.{IsDeep, IsEdge, IsOpened, IsTop, from_deep, from_main, from_top}
+use Rattle.gm_graph.specs.Outcome.{AreReached}
+use Rattle.gm_graph.proofs.Mapped.{from_mapped}
+
+module _ (main : Main) (readings : Readings) where
+  top_reached : (x : Vertex) → IsTop main x → IsReached (IsEdge main readings) (Of x)
+  top_reached x t = (1, along at_main t)
+
+  deep_reached : {x : Vertex} → IsDeep main readings x → IsReached (IsEdge main readings) (Of x)
+  deep_reached (from_main {x} p t) = top_reached x t
+  deep_reached (from_top {x} {y} t u r) = (2, along (along at_main t) (inl t, r))
+  deep_reached (from_deep {x} {y} d r) = let (n, l) = deep_reached d in (suc n, along l (inr d, r))
+
+  opened_reached : (x : Vertex) → IsOpened main readings x → IsReached (IsEdge main readings) (Of x)
+  opened_reached x (inl t) = top_reached x t
+  opened_reached x (inr d) = deep_reached d
+
+  pub edges_rooted : IsRooted (IsEdge main readings)
+  edges_rooted FromMain y e = (0, at_main)
+  edges_rooted (Of x) y e = opened_reached x e.0
+
+pub same_edges : (main : Main) (readings : Readings) (edges : List Edge) → ((e : Edge) → Contains edges e ↔ IsEdge main readings e.from e.to) → AreSame (among edges) (IsEdge main readings)
+same_edges main readings edges exact s y = exact (edge s y)
+
+pub list_rooted : (main : Main) (readings : Readings) (edges : List Edge) → ((e : Edge) → Contains edges e ↔ IsEdge main readings e.from e.to) → IsRooted (among edges)
+list_rooted main readings edges exact =
+    same_rooted (IsEdge main readings) (among edges) (same_back (among edges) (IsEdge main readings) (same_edges main readings edges exact)) (edges_rooted main readings)
+
+-- the entries of a build list are reached
+module _ (main : List ℕ) (replaces : List Replacing) (edges : List Edge) (entries : List Entry) (rooted : IsRooted (among edges)) (list : IsBuildList main replaces (among edges) entries) where
+  selected_reached : (x : Vertex) → IsSelected main (among edges) x → IsReached (among edges) (Of x)
+  selected_reached x is = let (s, e) = is.is_end in let (n, l) = rooted s x e in (suc n, along l e)
+
+  entry_reached : (entry : Entry) → Contains (main_entry ∷ map (entry_of replaces) list.selected) entry → IsReached (among edges) entry.0
+  entry_reached entry (zero, below, is) = subst (λ (e : Entry). IsReached (among edges) e.0) is (0, at_main)
+  entry_reached entry (suc k, below, is) =
+      let (x, there, e) = from_mapped (entry_of replaces) list.selected entry (k, omega arith, is) in
+      subst (λ (one : Entry). IsReached (among edges) one.0) e (selected_reached x ((list.each x).0 there))
+
+  pub are_reached : IsAscending edge_cmp edges → AreReached edges entries
+  are_reached ascending = record {
+    ascending = ascending;
+    reached = λ entry there none. none (entry_reached entry (subst (λ (es : List Entry). Contains es entry) list.entries_are there));
+  }
+
+pub sorted_rooted : (old new : List Edge) → HaveSame old new → IsRooted (among old) → IsRooted (among new)
+sorted_rooted old new same rooted = same_rooted (among old) (among new) (λ s y. same (edge s y)) rooted

@@ -1,0 +1,103 @@
+-- Turns of which each is done.
+use Rattle.std.proofs.Common.{◌≡◌, ◌+◌, ◌≤◌, true, false, List, [], ◌++◌, length, Contains, map, ap, ◌∙◌, sym, subst, inl, inr, arith, length-append, ◌↔◌}
+use Rattle.std.proofs.lemmas.List.{length-map, get_or-map}
+use Rattle.std.proofs.lemmas.Bool.{false≢true}
+use Rattle.std.specs.Bool.{Decides}
+use Rattle.std.proofs.lemmas.Map.Made.{length-le_from_is_member, is_member-Decides}
+use Rattle.std.proofs.lemmas.List.Elements.{Contains-append_left, Contains-append_right}
+use Rattle.gm_cache.specs.Main.{Main, Vertex, is_pruned_by, kept}
+use Rattle.gm_cache.specs.Reading.{Readings}
+use Rattle.gm_cache.specs.declared.depth.Turn.{Turn}
+use Rattle.gm_cache.specs.declared.depth.Depth.{Depth}
+use Rattle.gm_cache.specs.declared.depth.Depth.TheVariants.{Top, Deep}
+use Rattle.gm_graph.specs.Graph.{IsTop, from_main, IsOpened, IsOpenedTo}
+use Rattle.std.proofs.Common.{IsSome}
+use Rattle.gm_graph.specs.Loading.{AreTurns}
+use Rattle.gm_graph.specs.Turns.{same_turn, IsDone, Extends, AreTurnsOf, AddsAll, IsTrueTurn, AllTrue, AreFirstTurns}
+use Rattle.gm_cache.specs.Turns.{turn}
+use Rattle.gm_graph.proofs.Sameness.{turns_equivalence, exact_turn}
+use Rattle.gm_graph.proofs.Deepening.{IsDeep-among}
+
+-- the first turns and more, each opened as it says, and each done
+pub record AreFollowed (main : Main) (answers : Readings) (turns : List Turn) : Type 0 where
+  pub tops : (x : Vertex) → IsTop main x → Contains turns (turn x Top)
+  pub deeps : is_pruned_by main.go ≡ false → (x : Vertex) → IsTop main x → Contains turns (turn x Deep)
+  pub sound : AllTrue main answers turns
+  pub done : (one : Turn) → Contains turns one → IsDone main answers turns one
+
+same_turn-Decides : (a b : Turn) → Decides (same_turn a b) (a ≡ b)
+same_turn-Decides a b = (exact_turn a b, λ e. subst (λ (t : Turn). same_turn a t ≡ true) e (turns_equivalence.refl a))
+
+Contains-map : {X Y : Type 0} (f : X → Y) (xs : List X) (x : X) → Contains xs x → Contains (map f xs) (f x)
+Contains-map f xs x (k, below, at) = (k, rw length-map below, get_or-map f xs k x (f x) below ∙ ap f at)
+
+-- both turns of each vertex
+both_turns : List Vertex → List Turn
+both_turns vertices = map (λ x. turn x Top) vertices ++ map (λ x. turn x Deep) vertices
+
+among_both : (vertices : List Vertex) (x : Vertex) (d : Depth) → Contains vertices x → Contains (both_turns vertices) (turn x d)
+unfolding both_turns
+among_both vertices x Top h = Contains-append_left (map (λ y. turn y Top) vertices) (map (λ y. turn y Deep) vertices) (turn x Top) (Contains-map (λ y. turn y Top) vertices x h)
+among_both vertices x Deep h = Contains-append_right (map (λ y. turn y Top) vertices) (map (λ y. turn y Deep) vertices) (turn x Deep) (Contains-map (λ y. turn y Deep) vertices x h)
+
+length-both_turns : (vertices : List Vertex) → length (both_turns vertices) ≡ length vertices + length vertices
+unfolding both_turns
+length-both_turns vertices = simp (length-append, length-map)
+
+pub few_turns : (vertices : List Vertex) (turns : List Turn) → AreTurnsOf vertices turns → length turns ≤ 131072
+few_turns vertices turns are =
+    let most : length turns ≤ length (both_turns vertices) = length-le_from_is_member turns_equivalence turns (both_turns vertices) are.turns_once
+    (λ q h. let there = (is_member-Decides same_turn-Decides turns q).0 h in (is_member-Decides same_turn-Decides (both_turns vertices) q).1 (among_both vertices q.vertex q.depth (are.has_vertex q there))) in
+    let few = are.few in
+    let twice = length-both_turns vertices in
+    omega arith
+
+pub along : (old new : List Turn) (one : Turn) → Extends old new → Contains old one → Contains new one
+along old new one (more, e) h = subst (λ (t : List Turn). Contains t one) (sym e) (Contains-append_left old more one h)
+
+pub opened_from : (main : Main) (answers : Readings) (x : Vertex) (d : Depth) → IsOpenedTo main answers x d → IsOpened main answers x
+opened_from main answers x Top h = inl h
+opened_from main answers x Deep h = inr h
+
+-- every opened vertex has a turn
+pub has_turn_of : (main : Main) (answers : Readings) (turns : List Turn) → AreFollowed main answers turns → (x : Vertex) → IsOpened main answers x → (d : Depth) × Contains turns (turn x d)
+has_turn_of main answers turns followed x (inl top) = (Top, followed.tops x top)
+has_turn_of main answers turns followed x (inr deep) = (Deep, IsDeep-among main answers turns followed.tops followed.deeps followed.done deep)
+
+module _ (main : Main) (answers : Readings) (vertices : List Vertex) (turns : List Turn) (are : AreTurnsOf vertices turns) (followed : AreFollowed main answers turns) where
+  pub turns_exactly : (x : Vertex) (d : Depth) → Contains turns (turn x d) ↔ IsOpenedTo main answers x d
+  turns_exactly x Top = ((λ h. followed.sound (turn x Top) h), (λ h. followed.tops x h))
+  turns_exactly x Deep = ((λ h. followed.sound (turn x Deep) h), (λ h. IsDeep-among main answers turns followed.tops followed.deeps followed.done h))
+
+  pub are_turns : AreTurns main answers turns
+  are_turns = record { once = are.turns_once; each = turns_exactly }
+
+  pub opened_known : (x : Vertex) → IsOpened main answers x → IsSome (answers x)
+  opened_known x h = let one = has_turn_of main answers turns followed x h in (followed.done (turn x one.0) one.1).answered
+
+not_in_none : (one : Turn) → Contains [] one → ⊥
+not_in_none one h = absurd (omega (arith, h.1))
+
+module _ (main : Main) (old mid : List Turn) (none : old ≡ []) (adds : AddsAll old mid (kept main main.requirements) Top) where
+  top_only : (answers : Readings) (one : Turn) → Contains mid one → IsTrueTurn main answers one
+  top_only answers one h = elim (adds.only one h) [
+    | inl there ↦ absurd (not_in_none one (subst (λ (t : List Turn). Contains t one) none there))
+    | inr found ↦ subst (λ (t : Turn). IsTrueTurn main answers t) (sym found.2) found.1
+  ]
+
+  pub first_tops : is_pruned_by main.go ≡ true → AreFirstTurns main mid
+  first_tops pruned = record {
+    tops = adds.each;
+    deeps = λ p. absurd (false≢true (sym p ∙ pruned));
+    sound = top_only;
+  }
+
+  pub first_both : (new : List Turn) → is_pruned_by main.go ≡ false → AddsAll mid new (kept main main.requirements) Deep → AreFirstTurns main new
+  first_both new unpruned more = record {
+    tops = λ x t. along mid new (turn x Top) more.extends (adds.each x t);
+    deeps = λ _ x t. more.each x t;
+    sound = λ answers one c. elim (more.only one c) [
+      | inl there ↦ top_only answers one there
+      | inr found ↦ subst (λ (t : Turn). IsTrueTurn main answers t) (sym found.2) (from_main unpruned found.1)
+    ];
+  }

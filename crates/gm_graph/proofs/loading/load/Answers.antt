@@ -1,0 +1,41 @@
+use Rattle.std.proofs.Common.{◌∙◌, Err, Option, sym, ap, subst}
+use Rattle.std.specs.Option.{option_copied}
+use Rattle.gm_store.specs.Asked.{name_of}
+use Rattle.gm_sums.specs.declared.sums.SumTable.{SumTable}
+use Rattle.gm_cache.specs.Cached.{main_in}
+use Rattle.gm_cache.specs.Main.{Main, main_of}
+use Rattle.gm_graph.specs.Loading.{IsDue}
+use Rattle.gm_graph.proofs.Dues.{asks_nothing}
+use Rattle.gm_graph.proofs.Loads.{gathered_rooted, loads_of, too_many_first}
+use Rattle.gm_graph.proofs.loading.load.Goals as goal
+
+pub returns-in_default-clause-asks : goal.returns-in_default-clause-asks
+returns-in_default-clause-asks g c = asks_nothing _ _ _ c.requires
+
+pub returns-in_err-opening-clause-asks : goal.returns-in_err-opening-clause-asks
+returns-in_err-opening-clause-asks g c = asks_nothing _ _ _ c.requires
+
+pub returns-in_default-main_edges-clause-asks : goal.returns-in_default-main_edges-clause-asks
+returns-in_default-main_edges-clause-asks g c = asks_nothing _ _ _ c.requires
+
+pub returns-in_err-opening-clause-too_many : goal.returns-in_err-opening-clause-too_many
+returns-in_err-opening-clause-too_many g c = λ e.
+    too_many_first (main_of c.args.main.now) (option_copied c.args.sums) (g.F.Files.asked c.args.files.now) c.deref.result.now c.requires (c.deref.ensures.value ∙ c.in-Ok.ensures)
+    (c.in_err-opening.ensures.too_many (ap Err (sym (rw e at c.from_residual.ensures.1))))
+
+pub returns-in_err-open_in_turn-clause-device : goal.returns-in_err-open_in_turn-clause-device
+returns-in_err-open_in_turn-clause-device g c = λ name e.
+    let pairs = g.F.Files.asked c.open_in_turn.new.files in
+    subst (λ (m : Main). IsDue m (option_copied c.args.sums) pairs (name_of name)) c.new-cache.ensures.main
+    (subst (λ (s : Option SumTable). IsDue (main_in c.new-cache.result) s pairs (name_of name)) c.new-cache.ensures.sums
+    (c.in_err-open_in_turn.ensures.device name (ap Err (sym (rw e at c.from_residual-in_err-open_in_turn.ensures.1)))))
+
+pub put_together-requires : goal.put_together-requires
+put_together-requires g c = gathered_rooted _ _ _ c.open_in_turn.new.opening c.open_in_turn.new.gathered c.in_ok-open_in_turn.ensures.opened
+
+pub returns-clause-loaded : goal.returns-clause-loaded
+returns-clause-loaded g c =
+    let told = c.in-Ok-put_together.ensures in
+    loads_of c.new-cache.result c.open_in_turn.new.cache (g.F.Files.asked c.open_in_turn.new.files) c.open_in_turn.new.opening c.open_in_turn.new.gathered c.in_ok-open_in_turn.ensures.opened
+    (main_of c.args.main.now) (option_copied c.args.sums) c.new-cache.ensures.main c.new-cache.ensures.sums c.in-Ok-put_together.loaded c.open_in_turn.ensures.asks
+    told.main told.faults told.ordered told.ascending told.edges told.rows told.turns

@@ -1,0 +1,50 @@
+-- What loading found, as lists.
+use Rattle.std.specs.Prelude.{◌≡◌, ◌↔◌, ℕ, List, Some, Contains, AllPairs}
+use Rattle.std.specs.declared.cmp.Ordering.TheVariants.{Less}
+use Rattle.gm_store.specs.Asked.{Name, Reply, names_in}
+use Rattle.gm_cache.specs.declared.depth.Turn.{Turn}
+use Rattle.gm_cache.specs.Main.{Main, Vertex}
+use Rattle.gm_cache.specs.Reading.{Readings, fault_of}
+use Rattle.gm_select.specs.declared.step.Edge.{Edge}
+use Rattle.gm_select.specs.BuildList.{Entry, IsBuildList}
+use Rattle.gm_select.specs.Chains.{IsReached}
+use Rattle.gm_select.specs.Graph.{among, edge_cmp, vertex_cmp}
+use Rattle.gm_select.specs.Order.{IsAscending}
+use Rattle.gm_graph.specs.declared.fault.Fault.{Fault}
+use Rattle.gm_graph.specs.Graph.{IsEdge, IsOpened}
+use Rattle.gm_graph.specs.Loading.{AreAsked, AreFew, AreTurns, IsAnswered}
+
+-- the main module's path, the faults, the edges, the build list and the turns
+pub record Outcome : Type 0 where
+  pub main : List ℕ
+  pub faults : List Fault
+  pub edges : List Edge
+  pub rows : List Entry
+  pub turns : List Turn
+
+-- each opened vertex with a fault once, with that fault, in strictly ascending order
+pub record AreFaults (main : Main) (readings : Readings) (faults : List Fault) : Type 0 where
+  pub ascending : AllPairs (λ (a b : Fault). vertex_cmp a.vertex b.vertex ≡ Less) faults
+  pub each : (one : Fault) → Contains faults one ↔ (IsOpened main readings one.vertex × (fault_of readings one.vertex ≡ Some one.class))
+
+-- each edge once, in strictly ascending order
+pub record AreEdges (main : Main) (readings : Readings) (edges : List Edge) : Type 0 where
+  pub ascending : IsAscending edge_cmp edges
+  pub each : (one : Edge) → Contains edges one ↔ IsEdge main readings one.from one.to
+
+-- What loading answers: everything is what the definitions make of what the files say, each opened vertex's file is known, no
+-- other file was asked for, and at most 65,536 vertices are opened.
+pub record IsLoaded (main : Main) (pairs : List (Name × Reply)) (loaded : Outcome) (readings : Readings) : Type 0 where
+  pub main_is : loaded.main ≡ main.path
+  pub faults : AreFaults main readings loaded.faults
+  pub edges : AreEdges main readings loaded.edges
+  pub rows : IsBuildList main.path main.replaces (IsEdge main readings) loaded.rows
+  pub turns : AreTurns main readings loaded.turns
+  pub answered : (x : Vertex) → IsOpened main readings x → IsAnswered main pairs x
+  pub asked : AreAsked main readings (names_in pairs)
+  pub few : AreFew main readings
+
+-- the edges ascend, and edges lead from the main module to each entry
+pub record AreReached (edges : List Edge) (rows : List Entry) : Type 0 where
+  pub ascending : IsAscending edge_cmp edges
+  pub reached : (entry : Entry) → Contains rows entry → ¬ (¬ (IsReached (among edges) entry.0))

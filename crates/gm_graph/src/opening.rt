@@ -1,0 +1,174 @@
+//! The turns of a queue, each of which opens a vertex to a depth.
+
+ghost use Rattle.std.specs.Prelude.{◌≡◌, ◌≤◌, ◌⊎◌, if◌then◌else◌, ◌∷◌, [], ◌++◌, ℕ, List, length, Contains, IfOk, OnOk, Some, None, Ok, Err, true, false};
+ghost use Rattle.std.specs.BTreeSet as set;
+ghost use Rattle.std.specs.Bool.{MatchBool};
+ghost use Rattle.gm_cache.specs.Main.{Vertex, is_pruned_by, kept, main_of};
+ghost use Rattle.gm_graph.specs.Graph.{same_vertex};
+ghost use Rattle.gm_graph.specs.Turns.{AddsAll, AreTurnsOf, OverflowsWith};
+ghost use Rattle.gm_cache.specs.Turns.{turn};
+ghost use Rattle.gm_select.specs.Graph.{vertex_cmp};
+ghost use Rattle.gm_graph.specs.Marks.{IsOpening, marked};
+
+use gm_cache::{Depth, Turn};
+use gm_name::ModVer;
+use std::alloc::{AllocError, Global};
+use std::collections::BTreeSet;
+
+/// The turns in the order in which they were found, the vertices among them, and the marks of both: which vertices have a
+/// turn of each depth.
+#[derive(Drop)]
+pub(crate) struct Opening {
+    pub(crate) turns: Vec<Turn>,
+    pub(crate) vertices: Vec<ModVer>,
+    tops: BTreeSet<ModVer>,
+    deeps: BTreeSet<ModVer>,
+}
+
+/// The most vertices that are opened.
+pub(crate) const MOST: usize = 65_536;
+
+/// Why a turn was not added.
+#[derive(Drop)]
+pub(crate) enum AddFault {
+    NoMemory,
+    TooMany,
+}
+
+impl Opening {
+    ghost use Rattle.std.specs.List.{list_any};
+    ghost use Rattle.gm_graph.specs.Turns.{AddsTurn, same_turn};
+
+    /// No turns.
+    pub(crate) fn new(alloc: Global) -> Opening
+        ensures opening { IsOpening result }
+        ensures empty { result.turns.items ≡ [] }
+        ensures no_vertices { result.vertices.items ≡ [] }
+    {
+        Opening {
+            turns: Vec::new(alloc),
+            vertices: Vec::new(alloc),
+            tops: BTreeSet::new(alloc),
+            deeps: BTreeSet::new(alloc),
+        }
+    }
+
+    /// Whether a turn is there.
+    pub(crate) fn has_turn(&self, vertex: &ModVer, depth: Depth) -> bool
+        requires { IsOpening self.now }
+        ensures { result ≡ list_any (same_turn (turn vertex.now depth)) self.now.turns.items }
+    {
+        match depth {
+            Depth::Top => self.tops.contains(vertex),
+            Depth::Deep => self.deeps.contains(vertex),
+        }
+    }
+
+    /// Whether a vertex is there.
+    fn has_vertex(&self, vertex: &ModVer) -> bool
+        requires { IsOpening self.now }
+        ensures { result ≡ list_any (same_vertex vertex.now) self.now.vertices.items }
+    {
+        self.has_turn(vertex, Depth::Top) || self.has_turn(vertex, Depth::Deep)
+    }
+
+    /// Marks a vertex at a depth.
+    fn mark(&mut self, alloc: Global, vertex: &ModVer, depth: Depth) -> Result<(), AllocError>
+        ensures marked { OnOk result ((q : Vertex) (d : Depth) → marked self.new d q ≡ (if same_turn (turn q d) (turn vertex.now depth) then true else marked self.old d q)) }
+        ensures turns { self.new.turns.items ≡ self.old.turns.items }
+        ensures vertices { self.new.vertices.items ≡ self.old.vertices.items }
+    {
+        let copy = vertex.copy(alloc)?;
+        match depth {
+            Depth::Top => put(&mut self.tops, copy),
+            Depth::Deep => put(&mut self.deeps, copy),
+        }
+    }
+
+    /// Adds a turn where it is not there. `TooMany` comes where the vertex is new, and there are `MOST` vertices.
+    fn add(&mut self, alloc: Global, vertex: &ModVer, depth: Depth) -> Result<(), AddFault>
+        requires { IsOpening self.old }
+        ensures opening { OnOk result (IsOpening self.new) }
+        ensures adds { OnOk result (AddsTurn self.old.turns.items self.new.turns.items (turn vertex.now depth)) }
+        ensures too_many { result ≡ Err AddFault.TooMany → (MOST ≤ length self.old.vertices.items) × (list_any (same_vertex vertex.now) self.old.vertices.items ≡ false) }
+    {
+        if self.has_turn(vertex, depth) {
+            return Ok(());
+        }
+        if !self.has_vertex(vertex) {
+            if self.vertices.len() >= MOST {
+                return Err(AddFault::TooMany);
+            }
+            let Ok(()) = push_vertex(alloc, &mut self.vertices, vertex) else {
+                return Err(AddFault::NoMemory);
+            };
+        }
+        let Ok(()) = push_turn(alloc, &mut self.turns, vertex, depth) else {
+            return Err(AddFault::NoMemory);
+        };
+        let Ok(()) = self.mark(alloc, vertex, depth) else {
+            return Err(AddFault::NoMemory);
+        };
+        Ok(())
+    }
+
+    /// Adds a turn of each of these vertices.
+    pub(crate) fn add_all(
+        &mut self,
+        alloc: Global,
+        list: &[ModVer],
+        depth: Depth,
+    ) -> Result<(), AddFault>
+        requires { IsOpening self.old }
+        ensures opening { OnOk result (IsOpening self.new) }
+        ensures adds { OnOk result (AddsAll self.old.turns.items self.new.turns.items list.now depth) }
+        ensures too_many { result ≡ Err AddFault.TooMany → OverflowsWith self.old.vertices.items list.now }
+    {
+        for y in list {
+            self.add(alloc, y, depth)?;
+        }
+        Ok(())
+    }
+}
+
+/// Puts a copy of a vertex at the end.
+fn push_vertex(alloc: Global, vertices: &mut Vec<ModVer>, vertex: &ModVer) -> Result<(), AllocError>
+    ensures { OnOk result (vertices.new.items ≡ vertices.old.items ++ vertex.now ∷ []) }
+{
+    vertices.push(vertex.copy(alloc)?)?;
+    Ok(())
+}
+
+/// Puts a turn at the end.
+fn push_turn(
+    alloc: Global,
+    turns: &mut Vec<Turn>,
+    vertex: &ModVer,
+    depth: Depth,
+) -> Result<(), AllocError>
+    ensures { OnOk result (turns.new.items ≡ turns.old.items ++ turn vertex.now depth ∷ []) }
+{
+    turns.push(Turn {
+        vertex: vertex.copy(alloc)?,
+        depth,
+    })?;
+    Ok(())
+}
+
+/// Puts a vertex into a set.
+fn put(marks: &mut BTreeSet<ModVer>, vertex: ModVer) -> Result<(), AllocError>
+    ensures { OnOk result (set.Updates vertex_cmp marks.old marks.new vertex true) }
+{
+    marks.insert(vertex)?;
+    Ok(())
+}
+
+/// An equal turn.
+pub(crate) fn copy_turn(alloc: Global, one: &Turn) -> Result<Turn, AllocError>
+    ensures { IfOk result (λ copy. copy ≡ one.now) }
+{
+    Ok(Turn {
+        vertex: one.vertex.copy(alloc)?,
+        depth: one.depth,
+    })
+}

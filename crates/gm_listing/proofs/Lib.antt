@@ -1,0 +1,3 @@
+mod Lines
+mod Misreading
+mod Telling

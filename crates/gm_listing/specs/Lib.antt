@@ -1,0 +1,4 @@
+pub mod Texts
+pub mod Reports
+pub mod Outcomes
+pub mod Found

@@ -1,0 +1,207 @@
+-- What `graph`, `list` and `chain` come to over the bytes of a main module's file, those of a go.sum, and a store's answers: Go
+-- Modules Reference, "Minimal version selection", "go.mod files", "go.sum files", "go mod graph", "go list -m".
+use Rattle.std.specs.Prelude.{◌≡◌, ◌<◌, ◌≤◌, ◌⊎◌, ℕ, List, [], ◌∷◌, length, Option, Some, None, Ok, Err, ⊤, codes}
+use Rattle.gm_syntax.specs.Document.{Line}
+use Rattle.gm_syntax.specs.Tokens.{Placed}
+use Rattle.gm_syntax.specs.LineViews.{plains}
+use Rattle.gm_syntax.specs.Parsed.{IsParsedAs}
+use Rattle.gm_syntax.specs.declared.fault.SyntaxFault.TheVariants as syntax
+use Rattle.gm_file.specs.Directives.{Strict}
+use Rattle.gm_file.specs.Faults.{fault_of as directive_fault}
+use Rattle.gm_store.specs.Asked.{Name, Reply, names_in}
+use Rattle.gm_sums.specs.Sums.{HasGoodLines, IsFirstBad, ReadsAs}
+use Rattle.gm_sums.specs.declared.sums.SumTable.{SumTable}
+use Rattle.gm_cache.specs.Main.{Main, Vertex, main_of}
+use Rattle.gm_cache.specs.Reading.{Held, Readings, Tells, readings_by}
+use Rattle.gm_cache.specs.declared.class.Misreading.TheVariants as misreading
+use Rattle.gm_select.specs.declared.step.Step.{Step}
+use Rattle.gm_select.specs.declared.step.Edge.{Edge}
+use Rattle.gm_select.specs.BuildList.{Entry, IsBuildList, IsEntryOf, IsListed, IsRestAfter}
+use Rattle.gm_select.specs.Chains.{IsChain}
+use Rattle.gm_graph.specs.declared.fault.Fault.{Fault}
+use Rattle.gm_graph.specs.Graph.{IsEdge, IsOpened}
+use Rattle.gm_graph.specs.Loading.{AreAsked, AreFew, AreTooMany, IsAnswered, IsDue, Told}
+use Rattle.gm_graph.specs.Outcome.{AreEdges, AreFaults}
+use Rattle.gm_listing.specs.declared.query.Query.{Query}
+use Rattle.gm_listing.specs.declared.query.Query.TheVariants.{Graph, List as Rows, Chain}
+use Rattle.gm_listing.specs.declared.output.Output.{Output}
+use Rattle.gm_listing.specs.declared.output.Status.{Status}
+use Rattle.gm_listing.specs.declared.output.Status.TheVariants.{Done, Fault as Faulty, Device}
+use Rattle.gm_listing.specs.Texts.{chain_text, graph_text, limited, line, list_text}
+use Rattle.gm_listing.specs.Reports.{Place, bad_sum_line, device_line, faults_text, main_line, not_listed_line, too_many_line}
+use Rattle.std.specs.Option.{option_copied}
+use Rattle.std.specs.String.{string_bytes}
+
+-- what is printed, what is reported, and how the run ends
+pub record Outcome : Type 0 where
+  pub text : List ℕ
+  pub report : List ℕ
+  pub status : Status
+
+abbrev pub outcome_of : Output → Outcome
+outcome_of output = record { text = string_bytes output.text; report = string_bytes output.report; status = output.status }
+
+-- a text, and nothing to report
+abbrev pub printed : List ℕ → Outcome
+printed text = record { text = text; report = []; status = Done }
+
+-- nothing printed, and what is wrong with what was read
+abbrev pub refused : List ℕ → Outcome
+refused report = record { text = []; report = report; status = Faulty }
+
+-- nothing printed, and what failed
+abbrev pub failed : List ℕ → Outcome
+failed report = record { text = []; report = report; status = Device }
+
+-- What a store told: the names that it was asked for with its answers, and the names on which its device failed.
+pub record Answers : Type 0 where
+  pub asked : List (Name × Reply)
+  pub failed : List Name
+
+abbrev pub answers : List (Name × Reply) → List Name → Answers
+answers asked failed = record { asked = asked; failed = failed }
+
+-- What a run stands on: the bytes of the main module's file, those of the go.sum if one is given, and what the store told.
+pub record Given : Type 0 where
+  pub file : List ℕ
+  pub sums : Option (List ℕ)
+  pub told : Answers
+
+abbrev pub given : List ℕ → Option (List ℕ) → Answers → Given
+given file sums told = record { file = file; sums = sums; told = told }
+
+-- ---- the main module's file and the go.sum
+
+-- the longest file, in bytes
+abbrev pub longest : ℕ
+longest = 16777216
+
+-- the bytes read as a main module's file that says this
+abbrev pub IsMainFile : List ℕ → Main → Type 0
+IsMainFile bytes main = (lines : List (Line Placed)) × IsParsedAs bytes (Ok lines) × (directive_fault Strict (plains lines) ≡ None) × (main_of lines ≡ main)
+
+-- the bytes do not read as one: the line, of which 0 is the whole file, and the kind of what is wrong there
+abbrev pub IsMisread : List ℕ → Place → Type 0
+IsMisread bytes (number, misreading.TooMany) = (number ≡ 0) × IsParsedAs bytes (Err syntax.TooMany)
+IsMisread bytes (number, misreading.NotUtf8) = (number ≡ 0) × IsParsedAs bytes (Err syntax.NotUtf8)
+IsMisread bytes (number, misreading.Syntax kind) = IsParsedAs bytes (Err (syntax.Syntax number kind))
+IsMisread bytes (number, misreading.Directive kind) = (lines : List (Line Placed)) × IsParsedAs bytes (Ok lines) × (directive_fault Strict (plains lines) ≡ Some (number, kind))
+
+-- the go.sum reads as the table, or none is given
+abbrev pub AreSums : Option (List ℕ) → Option SumTable → Type 0
+AreSums None None = ⊤
+AreSums None (Some table) = ⊥
+AreSums (Some text) None = ⊥
+AreSums (Some text) (Some table) = (length text ≤ longest) × HasGoodLines text × ReadsAs table text
+
+-- the go.sum does not read, and what is reported of it
+abbrev pub AreMisread : Option (List ℕ) → List ℕ → Type 0
+AreMisread None report = ⊥
+AreMisread (Some text) report =
+    ((longest < length text) × (report ≡ line (codes "go.sum:0: TooMany")))
+    ⊎ ((length text ≤ longest) × (number : ℕ) × IsFirstBad text number × (report ≡ bad_sum_line number))
+
+-- both read
+pub record AreRead (run : Given) (main : Main) (table : Option SumTable) : Type 0 where
+  pub main_file : IsMainFile run.file main
+  pub sums : AreSums run.sums table
+
+-- ---- a run
+
+-- the store was not asked, and did not fail
+abbrev pub IsUnasked : Answers → Type 0
+IsUnasked told = (told.asked ≡ []) × (told.failed ≡ [])
+
+-- The files of the opened modules that may be asked for were asked for, each once, and no other. This is what they say.
+pub record AreKnown (main : Main) (table : Option SumTable) (told : Answers) (held : Held) : Type 0 where
+  pub tells : Tells table told.asked held
+  pub answered : (x : Vertex) → IsOpened main (readings_by main held) x → IsAnswered main told.asked x
+  pub asked : AreAsked main (readings_by main held) (names_in told.asked)
+  pub few : AreFew main (readings_by main held)
+  pub none_failed : told.failed ≡ []
+
+-- Why nothing is printed of a main file that reads: the first of these that applies.
+pub data IsStopped (main : Main) (table : Option SumTable) (told : Answers) (outcome : Outcome) : Type 0 where
+  -- more than 65,536 modules are opened
+  too_many : Told main table told.asked (AreTooMany main) → told.failed ≡ [] → outcome ≡ refused too_many_line → IsStopped main table told outcome
+  -- the store's device failed on the file of an opened module
+  device : (name : Name) → IsDue main table told.asked name → told.failed ≡ name ∷ [] → outcome ≡ failed (device_line name) → IsStopped main table told outcome
+  -- the files of the opened modules are known, and some have faults: each of these is reported, and no other
+  faulty : (held : Held) (first : Fault) (others : List Fault) → AreKnown main table told held → AreFaults main (readings_by main held) (first ∷ others)
+      → outcome ≡ refused (faults_text (first ∷ others)) → IsStopped main table told outcome
+
+-- for what a main file says, and what the files of modules say, what it means that a command prints so
+abbrev pub Prints : Type 1
+Prints = Main → Readings → Outcome → Type 0
+
+-- What a run comes to where both files read: loading stops or finds faults, or the files of the opened modules are known, none has a
+-- fault, and the command prints.
+abbrev pub IsOutcomeOver : Prints → Main → Option SumTable → Answers → Outcome → Type 0
+IsOutcomeOver prints main table told outcome =
+    IsStopped main table told outcome
+    ⊎ ((held : Held) × AreKnown main table told held × AreFaults main (readings_by main held) [] × prints main (readings_by main held) outcome)
+
+-- Why nothing is asked or printed: the main module's file does not read; or it reads, and the go.sum does not.
+abbrev pub IsRefusedRead : List ℕ → Option (List ℕ) → Outcome → Type 0
+IsRefusedRead file sums outcome =
+    ((place : Place) × IsMisread file place × (outcome ≡ refused (main_line place)))
+    ⊎ ((main : Main) × (report : List ℕ) × IsMainFile file main × AreMisread sums report × (outcome ≡ refused report))
+
+-- What a run comes to.
+abbrev pub IsOutcome : Prints → Given → Outcome → Type 0
+IsOutcome prints run outcome =
+    (IsRefusedRead run.file run.sums outcome × IsUnasked run.told)
+    ⊎ ((main : Main) × (table : Option SumTable) × AreRead run main table × IsOutcomeOver prints main table run.told outcome)
+
+-- ---- graph
+
+-- each edge of the module graph once, in ascending order
+abbrev pub PrintsGraph : Prints
+PrintsGraph main readings outcome = (edges : List Edge) × AreEdges main readings edges × (outcome ≡ printed (graph_text main.path edges))
+
+abbrev pub IsGraphOutcome : Given → Outcome → Type 0
+IsGraphOutcome run outcome = IsOutcome PrintsGraph run outcome
+
+-- ---- list
+
+-- the build list: the main module, and then each other path that an edge ends at, once, in path order, at the greatest version
+abbrev pub AreRows : Main → Readings → List Entry → Type 0
+AreRows main readings rows = IsBuildList main.path main.replaces (IsEdge main readings) rows
+
+-- the path is not in the list
+abbrev pub IsUnlisted : Main → List Entry → List ℕ → Outcome → Type 0
+IsUnlisted main rows path outcome = ¬ (IsListed main.path rows path) × (outcome ≡ refused (not_listed_line path))
+
+-- all rows, or the rest of them after a path; and of these the first so many, or all
+abbrev pub PrintsRows : Main → List Entry → Option (List ℕ) → Option ℕ → Outcome → Type 0
+PrintsRows main rows None limit outcome = outcome ≡ printed (list_text main.path (limited limit rows))
+PrintsRows main rows (Some path) limit outcome =
+    ((rest : List Entry) × IsRestAfter main.path rows path rest × (outcome ≡ printed (list_text main.path (limited limit rest))))
+    ⊎ IsUnlisted main rows path outcome
+
+abbrev pub PrintsList : Option (List ℕ) → Option ℕ → Prints
+PrintsList after limit main readings outcome = (rows : List Entry) × AreRows main readings rows × PrintsRows main rows after limit outcome
+
+abbrev pub IsListOutcome : Option (List ℕ) → Option ℕ → Given → Outcome → Type 0
+IsListOutcome after limit run outcome = IsOutcome (PrintsList after limit) run outcome
+
+-- ---- chain
+
+-- the steps of the chain to what the list has for the path
+abbrev pub PrintsChain : List ℕ → Prints
+PrintsChain path main readings outcome = (rows : List Entry) × AreRows main readings rows
+    × (((s : Step) × (steps : List Step) × IsEntryOf main.path rows path s × IsChain (IsEdge main readings) s steps × (outcome ≡ printed (chain_text main.path steps)))
+    ⊎ IsUnlisted main rows path outcome)
+
+abbrev pub IsChainOutcome : List ℕ → Given → Outcome → Type 0
+IsChainOutcome path run outcome = IsOutcome (PrintsChain path) run outcome
+
+-- ---- each of them
+
+abbrev pub PrintsFor : Query → Prints
+PrintsFor Graph = PrintsGraph
+PrintsFor (Rows after limit) = PrintsList (option_copied after) limit
+PrintsFor (Chain path) = PrintsChain path.now
+
+abbrev pub IsAnswer : Query → Given → Outcome → Type 0
+IsAnswer query run outcome = IsOutcome (PrintsFor query) run outcome

@@ -1,0 +1,45 @@
+-- What is known of how a command over a module graph ends.
+use Rattle.std.proofs.Common.{◌≡◌, ℕ, List, Option, Result, Ok, true, subst, sym}
+use Rattle.gm_listing.specs.Outcomes.{answers}
+use Rattle.gm_words.specs.declared.usage.Command.{Command}
+use Rattle.gm_words.specs.declared.usage.Command.TheVariants.{Fmt, Versions, Graph, List as Rows, Chain}
+use Rattle.gm_run.specs.Outcome.{Outcome}
+use Rattle.std.specs.Global.{Vec}
+use Rattle.gm_store.specs.declared.reading.ReadFault.{ReadFault}
+use Rattle.gm_run.specs.Program.{IsQueryRun, IsQueryServed, IsReadOutcome, IsServed}
+use Rattle.gm_words.specs.declared.usage.Places.{Places}
+use Rattle.gm_run.specs.Queries.{RunsTo}
+use Rattle.gm_run.specs.Runs.{Stored, is_query, takes_sums}
+
+-- a run of a command over a module graph is by what its store told
+pub query_wider : (command : Command) (main : List ℕ) (sums : Option (List ℕ)) (old new : Stored) → is_query command ≡ true → (outcome : Outcome)
+    → RunsTo command main sums old new outcome → IsQueryRun command main sums outcome
+query_wider Fmt main sums old new query outcome runs = cc query
+query_wider (Versions path all) main sums old new query outcome runs = cc query
+query_wider Graph main sums old new query outcome runs = (answers new.asked runs.0, runs.1, runs.3, runs.4)
+query_wider (Rows after limit) main sums old new query outcome runs = (answers new.asked runs.0, runs.1, runs.3, runs.4)
+query_wider (Chain path) main sums old new query outcome runs = (answers new.asked runs.0, runs.1, runs.3, runs.4)
+
+-- such a command takes a go.sum
+pub query_takes : (command : Command) → is_query command ≡ true → takes_sums command ≡ true
+query_takes Fmt query = cc query
+query_takes (Versions path all) query = cc query
+query_takes Graph query = query
+query_takes (Rows after limit) query = query
+query_takes (Chain path) query = query
+
+-- what comes of the bytes of a file that was read
+pub sums_wider : (name file : List ℕ) (states : List ℕ → Outcome → Type 0) (read : Result (Vec ℕ) ReadFault) (content : Vec ℕ) → read ≡ Ok content
+    → file ≡ content.items → (outcome : Outcome) → states file outcome → IsReadOutcome name states read outcome
+sums_wider name file states read content is same outcome stated =
+    let P : Result (Vec ℕ) ReadFault → Type 0 = λ r. IsReadOutcome name states r outcome in
+    subst P (sym is) (subst (λ (bytes : List ℕ). states bytes outcome) same stated)
+
+-- what a command over a module graph comes to is what it is served
+pub query_served : (command : Command) (places : Places) → is_query command ≡ true → (outcome : Outcome) → IsQueryServed command places outcome
+    → IsServed command places outcome
+query_served Fmt places query outcome stated = cc query
+query_served (Versions path all) places query outcome stated = cc query
+query_served Graph places query outcome stated = stated
+query_served (Rows after limit) places query outcome stated = stated
+query_served (Chain path) places query outcome stated = stated

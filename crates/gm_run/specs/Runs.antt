@@ -1,0 +1,88 @@
+-- What a command comes to, by what was read and answered, and which files it asks a store for.
+use Rattle.std.specs.Prelude.{◌≡◌, ◌⊎◌, ◌++◌, ◌∷◌, ℕ, Bool, List, [], Option, Some, None, Ok, Err, codes, false, true}
+use Rattle.gm_store.specs.Asked.{Name, Reply, answer_in, folder_file, list_file, mod_file}
+use Rattle.gm_syntax.specs.declared.fault.SyntaxFault.{SyntaxFault}
+use Rattle.gm_syntax.specs.Document.{Line}
+use Rattle.gm_syntax.specs.Layout.{layout}
+use Rattle.gm_syntax.specs.LineViews.{plains}
+use Rattle.gm_syntax.specs.Parsed.{IsParsedAs}
+use Rattle.gm_syntax.specs.Tokens.{Placed}
+use Rattle.gm_words.specs.declared.usage.Command.{Command}
+use Rattle.gm_words.specs.declared.usage.Command.TheVariants.{Fmt, Versions, Graph, List as Rows, Chain}
+use Rattle.gm_run.specs.Kinds.{Place, fault_line, place_of, vertex_text}
+use Rattle.gm_run.specs.Outcome.{Outcome, failed, printed, refused}
+use Rattle.gm_run.specs.Versions.{Answers, IsVersionsOutcome, VersionsNeed}
+
+-- `fmt FILE` over the file's bytes: the layout of the document that they are, or what is wrong with them
+abbrev pub IsFmtOutcome : List ℕ → Outcome → Type 0
+IsFmtOutcome file outcome =
+    ((lines : List (Line Placed)) × IsParsedAs file (Ok lines) × (outcome ≡ printed (layout (plains lines))))
+    ⊎ ((fault : SyntaxFault) × (place : Place) × IsParsedAs file (Err fault) × (place_of fault ≡ Some place)
+    × (outcome ≡ refused (fault_line place)))
+
+-- whether a command is over a module graph
+abbrev pub is_query : Command → Bool
+is_query Fmt = false
+is_query (Versions path all) = false
+is_query Graph = true
+is_query (Rows after limit) = true
+is_query (Chain path) = true
+
+-- `fmt` or `versions` over the main file's bytes, those of a go.sum where one is given, and the answers of a store. The commands over
+-- a module graph have their own definition.
+abbrev pub StatesOutcome : Command → List ℕ → Option (List ℕ) → Answers → Outcome → Type 0
+StatesOutcome Fmt main sums answers outcome = IsFmtOutcome main outcome
+StatesOutcome (Versions path all) main sums answers outcome = IsVersionsOutcome path all answers outcome
+StatesOutcome _ main sums answers outcome = ⊥
+
+-- the files that `fmt` or `versions` needs, by the answers so far
+abbrev pub Needs : Command → List ℕ → Option (List ℕ) → Answers → Name → Type 0
+Needs Fmt main sums answers name = ⊥
+Needs (Versions path all) main sums answers name = VersionsNeed path all answers name
+Needs _ main sums answers name = ⊥
+
+-- whether a command looks at a go.sum
+abbrev pub takes_sums : Command → Bool
+takes_sums Fmt = false
+takes_sums (Versions path all) = false
+takes_sums _ = true
+
+-- ---- what a store was asked in a run
+
+-- what is known of a store: the files that it was asked for with its answers, and those at which its device failed
+pub record Stored : Type 0 where
+  pub asked : List (Name × Reply)
+  pub refused : List Name
+
+abbrev pub stored : List (Name × Reply) → List Name → Stored
+stored asked refused = record { asked = asked; refused = refused }
+
+-- each of the later files was needed by the answers before, and not asked for before
+abbrev pub AskedBehind : (Answers → Name → Type 0) → List (Name × Reply) → List (Name × Reply) → Type 0
+AskedBehind needs before [] = Unit {0}
+AskedBehind needs before (pair ∷ later) =
+    needs (answer_in before) pair.0 × (answer_in before pair.0 ≡ None) × AskedBehind needs (before ++ pair ∷ []) later
+
+abbrev pub AskedInTurn : (Answers → Name → Type 0) → List (Name × Reply) → Type 0
+AskedInTurn needs asked = AskedBehind needs [] asked
+
+-- each file that the answers call for is answered
+abbrev pub AnsweredAll : (Answers → Name → Type 0) → Answers → Type 0
+AnsweredAll needs answers = (name : Name) → needs answers name → (reply : Reply) × (answers name ≡ Some reply)
+
+-- where the device failed
+abbrev pub name_text : Name → List ℕ
+name_text (mod_file path version) = vertex_text path version
+name_text (folder_file text) = text
+name_text (list_file path) = path ++ codes " list"
+
+abbrev pub device_line : Name → List ℕ
+device_line name = codes "gomod: device at " ++ name_text name
+
+-- a run over a store that was asked nothing: the outcome by its answers, where all that is needed was answered, or the device
+-- failed at a file that was needed and is not among the answered ones
+abbrev pub ComesTo : (Answers → Name → Type 0) → (Answers → Outcome → Type 0) → Stored → Stored → Outcome → Type 0
+ComesTo needs states old new outcome =
+    (states (answer_in new.asked) outcome × AnsweredAll needs (answer_in new.asked) × (new.refused ≡ old.refused))
+    ⊎ ((name : Name) × (outcome ≡ failed (device_line name)) × needs (answer_in new.asked) name × (answer_in new.asked name ≡ None)
+    × (new.refused ≡ old.refused ++ name ∷ []))

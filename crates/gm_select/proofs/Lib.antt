@@ -1,0 +1,11 @@
+pub mod Sorts
+pub mod RestRows
+pub mod Same
+pub mod Greatest
+pub mod Ranges
+pub mod Marking
+pub mod Leveling
+pub mod Stepping
+pub mod Walking
+pub mod Ascending
+pub mod Lawful

@@ -1,0 +1,30 @@
+-- A list that was sorted and freed of repeats.
+use Rattle.std.proofs.Common.{◌≡◌, Bool, List, Contains, ◌∙◌, sym, subst}
+use Rattle.std.specs.declared.cmp.Ordering.{Ordering}
+use Rattle.std.specs.Ordering.{eq_by_cmp}
+use Rattle.std.specs.Cmp.{IsTotalOrder, IsEquivalence, Equal-is}
+use Rattle.std.specs.List.{dedup}
+use Rattle.std.specs.List.Sorted.{IsSorted, IsPermutation}
+use Rattle.std.proofs.lemmas.List.Kept.{Any-dedup, Contains-from_dedup, IsStrictlySortedBy-dedup}
+use Rattle.std.proofs.lemmas.List.Sorted.{Contains-permutation, IsPermutation-sym}
+use Rattle.std.proofs.lemmas.Map.Keys.{Less-from_sorted}
+use Rattle.gm_select.specs.Order.{IsAscending, HaveSame, AreTellable}
+
+module _ {T : Type 0} {cmp : T → T → Ordering} (total : IsTotalOrder cmp) {eq : T → T → Bool} (ties : (x y : T) → eq x y ≡ eq_by_cmp cmp x y) where
+  pub ascending : (xs : List T) → IsSorted cmp xs → IsAscending cmp (dedup eq xs)
+  ascending xs sorted i j d lt below =
+      Less-from_sorted cmp (dedup eq xs) i j d (IsStrictlySortedBy-dedup total ties xs sorted) lt below
+
+  pub members : IsEquivalence eq → (xs ys : List T) → AreTellable cmp xs → IsPermutation xs ys → HaveSame xs (dedup eq ys)
+  members laws xs ys tellable same x = (kept, from)
+    where
+      from : Contains (dedup eq ys) x → Contains xs x
+      from h = Contains-permutation ys xs x (IsPermutation-sym xs ys same) (Contains-from_dedup eq ys x h)
+
+      kept : Contains xs x → Contains (dedup eq ys) x
+      kept h =
+          let (k, y, below, at, e) = Any-dedup laws ys x (Contains-permutation xs ys x same h) in
+          let there : Contains (dedup eq ys) y = (k, below, at) in
+          let inside = Contains-permutation ys xs y (IsPermutation-sym xs ys same) (Contains-from_dedup eq ys y there) in
+          let is : x ≡ y = tellable x y h inside ((Equal-is (cmp x y)).0 (sym (ties x y) ∙ e)) in
+          subst (λ (z : T). Contains (dedup eq ys) z) (sym is) there

@@ -1,0 +1,86 @@
+-- The build list by minimal version selection (Go Modules Reference, "Minimal version selection"), and the rest of it after an entry.
+use Rattle.std.specs.Prelude.{◌≡◌, ◌≢◌, ◌↔◌, ℕ, false, List, [], ◌∷◌, ◌++◌, map, unwrap_or, Option, None, Contains}
+use Rattle.std.specs.Option.{option_map}
+use Rattle.std.specs.declared.cmp.Ordering.{Ordering}
+use Rattle.std.specs.Ordering.{is_gt, nat_cmp}
+use Rattle.std.specs.Cmp.Lexicographic.{slice_cmp}
+use Rattle.gm_name.specs.Version.{version_cmp}
+use Rattle.gm_syntax.specs.Tokens.{Placed}
+use Rattle.gm_syntax.specs.Document.{Line}
+use Rattle.gm_syntax.specs.LineViews.{plains}
+use Rattle.gm_file.specs.Directives.{Strict, Replacing, Right}
+use Rattle.gm_file.specs.Fields.{module_of, replaces_of, replacement_of}
+use Rattle.gm_file.specs.Views.{right_seen}
+use Rattle.gm_select.specs.declared.step.Step.{Step}
+use Rattle.gm_select.specs.declared.step.Step.TheVariants.{Main, Of}
+use Rattle.gm_select.specs.declared.row.Row.{Row}
+use Rattle.gm_select.specs.Graph.{Vertex, Edges, IsEnd}
+use Rattle.gm_select.specs.Order.{IsAscending}
+
+-- a module of the build list, and what stands in its place
+abbrev pub Entry : Type 0
+Entry = Step × Option Right
+
+-- what contracts see of a row
+abbrev pub entry_seen : Row → Entry
+entry_seen row = (row.step, option_map right_seen row.right)
+
+abbrev pub entries_seen : List Row → List Entry
+entries_seen rows = map entry_seen rows
+
+-- the vertex has the greatest version of a path that is not the main module's
+pub record IsSelected (main : List ℕ) (edges : Edges) (x : Vertex) : Type 0 where
+  pub not_main : x.0 ≢ main
+  pub is_end : IsEnd edges x
+  pub greatest : (y : Vertex) → IsEnd edges y → y.0 ≡ x.0 → is_gt (version_cmp y.1 x.1) ≡ false
+
+-- the order of vertices by the bytes of their paths alone
+abbrev pub path_cmp : Vertex → Vertex → Ordering
+path_cmp x y = slice_cmp nat_cmp x.0 y.0
+
+abbrev pub main_entry : Entry
+main_entry = (Main, None)
+
+abbrev pub entry_of : List Replacing → Vertex → Entry
+entry_of replaces x = (Of x, replacement_of replaces x)
+
+-- first the main module, and then the selected vertices in strictly ascending order of path bytes, each with what stands in its place
+pub record IsBuildList (main : List ℕ) (replaces : List Replacing) (edges : Edges) (entries : List Entry) : Type 0 where
+  pub selected : List Vertex
+  pub entries_are : entries ≡ main_entry ∷ map (entry_of replaces) selected
+  pub ascending : IsAscending path_cmp selected
+  pub each : (x : Vertex) → Contains selected x ↔ IsSelected main edges x
+
+-- the path that a main file declares: it declares one
+abbrev pub main_path : List (Line Placed) → List ℕ
+main_path lines = unwrap_or (module_of Strict (plains lines)) []
+
+-- what a main file replaces
+abbrev pub main_replaces : List (Line Placed) → List Replacing
+main_replaces lines = replaces_of (plains lines)
+
+-- ---- entries by their path
+
+-- the path of an entry: the main module's, or that of its vertex
+abbrev pub path_of : List ℕ → Step → List ℕ
+path_of main Main = main
+path_of main (Of x) = x.0
+
+-- an entry has the path
+abbrev pub IsListed : List ℕ → List Entry → List ℕ → Type 0
+IsListed main entries path = (entry : Entry) × Contains entries entry × (path_of main entry.0 ≡ path)
+
+-- the first entry of the path, and what follows it
+pub record IsAt (main : List ℕ) (entries : List Entry) (path : List ℕ) (entry : Entry) (rest : List Entry) : Type 0 where
+  pub before : List Entry
+  pub parts : entries ≡ before ++ entry ∷ rest
+  pub path_is : path_of main entry.0 ≡ path
+  pub others : (other : Entry) → Contains before other → path_of main other.0 ≢ path
+
+-- what follows the entry of a path
+abbrev pub IsRestAfter : List ℕ → List Entry → List ℕ → List Entry → Type 0
+IsRestAfter main entries path rest = (entry : Entry) × IsAt main entries path entry rest
+
+-- the main module or the vertex that the list has for a path
+abbrev pub IsEntryOf : List ℕ → List Entry → List ℕ → Step → Type 0
+IsEntryOf main entries path s = (entry : Entry) × (rest : List Entry) × IsAt main entries path entry rest × (entry.0 ≡ s)

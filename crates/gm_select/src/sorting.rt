@@ -1,0 +1,26 @@
+//! Sorting without repeats.
+
+ghost use Rattle.std.specs.Prelude.{◌≡◌};
+ghost use Rattle.gm_select.specs.Graph.{edge_cmp};
+ghost use Rattle.gm_select.specs.Order.{AreTellable, HaveSame, IsAscending};
+
+use crate::step::Edge;
+
+/// The same members in strictly ascending order, each once. It takes no memory, and n log n comparisons.
+pub fn sorted<T: Ord + Drop>(mut items: Vec<T>) -> Vec<T>
+    requires { AreTellable T.cmp items.items }
+    ensures ascending { IsAscending T.cmp result.items }
+    ensures members { HaveSame items.items result.items }
+{
+    items.sort_unstable();
+    items.dedup();
+    items
+}
+
+/// The same edges in strictly ascending order, each once. It takes no memory, and n log n comparisons.
+pub fn sorted_edges(edges: Vec<Edge>) -> Vec<Edge>
+    ensures ascending { IsAscending edge_cmp result.items }
+    ensures members { HaveSame edges.items result.items }
+{
+    sorted(edges)
+}

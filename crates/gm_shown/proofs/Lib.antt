@@ -1,0 +1,2 @@
+mod Ascending
+mod Sweeping

@@ -1,0 +1,10 @@
+//! Which versions of a module are shown: those that no retraction holds.
+#![tactic(auto)]
+
+mod shown;
+mod sweep;
+
+pub use crate::shown::shown_versions;
+
+#[cfg(test)]
+mod tests;

@@ -1,0 +1,107 @@
+-- The greatest version, as a list of versions grows.
+use Rattle.std.proofs.Common.{MatchOption, Bor, option_map, ◌≡◌, ◌⊎◌, ℕ, ◌<◌, ◌≤◌, Bool, true, false, List, [], ◌∷◌, ◌++◌, Option, Some, None, take, length, slice_index_or, inl, inr, sym, subst, ap, ◌∙◌, arith, refl, ◌+◌, ◌&&◌, add-one}
+use Rattle.std.proofs.Math.Seq.{take-length, take-suc}
+use Rattle.std.specs.Ordering.{is_gt, ordering_reverse}
+use Rattle.std.specs.declared.cmp.Ordering.{Ordering}
+use Rattle.std.specs.declared.cmp.Ordering.TheVariants.{Less, Equal, Greater}
+use Rattle.std.proofs.lemmas.Cmp.{upto, tied_itself}
+use Rattle.std.proofs.lemmas.List.Elements.{Contains-append_left, Contains-push, Contains-push_cases}
+use Rattle.gm_name.specs.Version.{version_cmp}
+use Rattle.gm_name.specs.VersionOrder.{version_total}
+use Rattle.gm_store.specs.Latest.{IsGreatestOrNone, IsLatest, NoneCounts, counts, is_greater}
+
+-- one more version, which does not count or is not greater
+pub greatest_same : (only : Bool) (xs : List (List ℕ)) (x : List ℕ) (best : Option (List ℕ)) → IsGreatestOrNone only xs best
+    → (counts only x ≡ false) ⊎ (is_greater x best ≡ false) → IsGreatestOrNone only (xs ++ x ∷ []) best
+greatest_same only xs x None known (inl not) = λ other inside. elim (Contains-push_cases xs x other inside) [
+  | inl old ↦ known other old
+  | inr same ↦ subst (λ v. counts only v ≡ false) same not
+]
+greatest_same only xs x None known (inr not) = cc not
+greatest_same only xs x (Some best) known (inl not) = record {
+  listed = Contains-append_left xs (x ∷ []) best known.listed;
+  counted = known.counted;
+  greatest = λ other inside counted. elim (Contains-push_cases xs x other inside) [
+    | inl old ↦ known.greatest other old counted
+    | inr same ↦ let e = sym counted ∙ ap (counts only) (sym same) ∙ not in absurd (cc)
+  ];
+}
+greatest_same only xs x (Some best) known (inr not) = record {
+  listed = Contains-append_left xs (x ∷ []) best known.listed;
+  counted = known.counted;
+  greatest = λ other inside counted. elim (Contains-push_cases xs x other inside) [
+    | inl old ↦ known.greatest other old counted
+    | inr same ↦ subst (λ v. is_gt (version_cmp v best) ≡ false) same not
+  ];
+}
+
+turned : (r s : Ordering) → r ≡ ordering_reverse s → is_gt s ≡ true → is_gt r ≡ false
+turned r Less e g = (cc)
+turned r Equal e g = (cc)
+turned r Greater e g = ap is_gt e
+
+below : (x best : List ℕ) → is_gt (version_cmp x best) ≡ true → is_gt (version_cmp best x) ≡ false
+below x best more = turned (version_cmp best x) (version_cmp x best) (version_total.antisymm best x) more
+
+-- one more version, which counts and is greater
+pub greatest_more : (only : Bool) (xs : List (List ℕ)) (x : List ℕ) (best : Option (List ℕ)) → IsGreatestOrNone only xs best
+    → counts only x ≡ true → is_greater x best ≡ true → IsGreatestOrNone only (xs ++ x ∷ []) (Some x)
+greatest_more only xs x None known counted more = record {
+  listed = Contains-push xs x;
+  counted = counted;
+  greatest = λ other inside count. elim (Contains-push_cases xs x other inside) [
+    | inl old ↦ let e = sym count ∙ known other old in absurd (cc)
+    | inr same ↦ subst (λ v. is_gt (version_cmp v x) ≡ false) same (ap is_gt (tied_itself version_total x))
+  ];
+}
+greatest_more only xs x (Some best) known counted more = record {
+  listed = Contains-push xs x;
+  counted = counted;
+  greatest = λ other inside count. elim (Contains-push_cases xs x other inside) [
+    | inl old ↦ upto version_total other best x (known.greatest other old count) (below x best more)
+    | inr same ↦ subst (λ v. is_gt (version_cmp v x) ≡ false) same (ap is_gt (tied_itself version_total x))
+  ];
+}
+
+-- the next version, with what was found of it
+taken_more : (xs : List (List ℕ)) (i : ℕ) (x : List ℕ) → i < length xs → x ≡ slice_index_or xs i x → take i xs ++ x ∷ [] ≡ take (i + 1) xs
+taken_more xs i x within item = sym (ap (λ n. take n xs) (add-one i) ∙ take-suc xs i x within ∙ ap (λ (y : List ℕ). take i xs ++ y ∷ []) (sym item))
+
+refused : (a b : Bool) → (a && b) ≡ false → (a ≡ false) ⊎ (b ≡ false)
+refused true b e = inr e
+refused false b e = inl e
+
+both : (a b : Bool) → (a && b) ≡ true → (a ≡ true) × (b ≡ true)
+both true true e = (e, e)
+both true false e = cc e
+both false b e = cc e
+
+pub step_same : (only : Bool) (xs : List (List ℕ)) (i : ℕ) (x : List ℕ) (best : Option (List ℕ)) (better : Bool) → i < length xs
+    → x ≡ slice_index_or xs i x → better ≡ (counts only x && is_greater x best) → better ≡ false → IsGreatestOrNone only (take i xs) best
+    → IsGreatestOrNone only (take (i + 1) xs) best
+step_same only xs i x best better within item is not known =
+    subst (λ ys. IsGreatestOrNone only ys best) (taken_more xs i x within item)
+    (greatest_same only (take i xs) x best known (refused _ _ (sym is ∙ not)))
+
+pub step_more : (only : Bool) (xs : List (List ℕ)) (i : ℕ) (x : List ℕ) (best : Option (List ℕ)) (better : Bool) → i < length xs
+    → x ≡ slice_index_or xs i x → better ≡ (counts only x && is_greater x best) → better ≡ true → IsGreatestOrNone only (take i xs) best
+    → IsGreatestOrNone only (take (i + 1) xs) (Some x)
+step_more only xs i x best better within item is taken known =
+    let counted = both _ _ (sym is ∙ taken) in
+    subst (λ ys. IsGreatestOrNone only ys (Some x)) (taken_more xs i x within item)
+    (greatest_more only (take i xs) x best known counted.0 counted.1)
+
+-- where neither a release nor any version is greatest there is no version
+pub none_listed : (xs : List (List ℕ)) → NoneCounts false xs → xs ≡ []
+none_listed [] none = refl
+none_listed (x ∷ xs) none = let e : true ≡ false = none x (0, omega arith, refl) in cc
+
+-- the versions up to the last are all
+pub whole : (xs : List (List ℕ)) (i : ℕ) → i ≤ length xs → length xs ≤ i → take i xs ≡ xs
+whole xs i below above = let same : i ≡ length xs = omega arith in ap (λ n. take n xs) same ∙ take-length xs
+
+-- without a release the greatest of all is the latest
+pub latest_of_all : (xs : List (List ℕ)) (result : Option (Bor (List ℕ))) → NoneCounts true xs
+    → IsGreatestOrNone false xs (option_map (λ best. best.now) result) → MatchOption result (xs ≡ []) (λ version. IsLatest xs version.now)
+latest_of_all xs None none known = none_listed xs known
+latest_of_all xs (Some version) none known = inr (none, known)

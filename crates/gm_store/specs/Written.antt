@@ -1,0 +1,10 @@
+-- What a sink over a writer stands on.
+use Rattle.std.specs.Prelude.{ℕ}
+use Rattle.gm_store.specs.declared.std_sink.StdSink.{StdSink}
+
+abbrev pub writer_of : {W : Type 0} → StdSink W → W
+writer_of sink = sink.writer
+
+-- how often it has failed
+abbrev pub failures_of : {W : Type 0} → StdSink W → ℕ
+failures_of sink = sink.faults

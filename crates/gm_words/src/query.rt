@@ -1,0 +1,162 @@
+//! What the words of `graph`, `list` and `chain` mean.
+
+ghost use Rattle.std.specs.Prelude.{◌≡◌, IfErr, IfOk, IfSome, Some, codes, option_map, true, unwrap_or};
+ghost use Rattle.std.specs.Char.{is_ascii_digit};
+ghost use Rattle.std.specs.List.{list_all};
+ghost use Rattle.std.specs.String.{string_bytes};
+ghost use Rattle.clap.specs.Words.{first_of, found_of, rows_of};
+ghost use Rattle.gm_name.specs.Path.{IsPath};
+ghost use Rattle.gm_words.specs.Limits.{limit_of};
+ghost use Rattle.gm_words.specs.Usage.{ArePlaces, IsAfterFault, IsEntriesFault, IsLimit, IsLimitFault, IsPlacesFault, IsProxy, Means, is_line_or_memory};
+
+use crate::usage::{Command, Places, UsageFault, line, read_path, read_proxy, value_of};
+use clap::ArgMatches;
+use gm_name::ModPath;
+use gm_store::ProxyList;
+use std::alloc::{AllocError, Global};
+
+fn has_only_digits(text: &[u8]) -> bool
+    ensures { result ≡ list_all is_ascii_digit text.now }
+{
+    text.iter().all(|b| b.is_ascii_digit())
+}
+
+/// The number of rows that a text names.
+fn limit_in(text: &str) -> Option<u32>
+    ensures { result ≡ limit_of text.now }
+{
+    // `parse` takes a sign too, which is refused here.
+    if !has_only_digits(text.as_bytes()) {
+        return None;
+    }
+    match text.parse::<u32>() {
+        Ok(number) => { if number > 0 { Some(number) } else { None } }
+        Err(_) => None,
+    }
+}
+
+/// The fault of a value of `--limit` that names no number of rows.
+fn bad_limit(alloc: Global, text: &str) -> UsageFault
+    ensures { is_line_or_memory result ≡ true }
+{
+    match format!(in alloc;
+        "error: invalid value '{text}' for '--limit <N>': not a number from 1 to 4294967295\n\nFor more information, try '--help'.\n"
+    ) {
+        Ok(text) => UsageFault::Line(text),
+        Err(_) => UsageFault::NoMemory,
+    }
+}
+
+/// The number of rows that `--limit` names, where it is given.
+fn limit_given<'a>(alloc: Global, found: &ArgMatches<'a>) -> Result<Option<u32>, UsageFault>
+    ensures limit { IfOk result (IsLimit (first_of (codes "limit") (rows_of (found_of found.now)))) }
+    ensures fault { IfErr result (IsLimitFault (first_of (codes "limit") (rows_of (found_of found.now)))) }
+{
+    let Some(text) = value_of(found, "limit") else {
+        return Ok(None);
+    };
+    match limit_in(text) {
+        Some(limit) => Ok(Some(limit)),
+        None => Err(bad_limit(alloc, text)),
+    }
+}
+
+/// The path that `--after` names, where it is given.
+fn after_given<'a>(alloc: Global, found: &ArgMatches<'a>) -> Result<Option<ModPath>, UsageFault>
+    ensures after { IfOk result (λ after. (first_of (codes "after") (rows_of (found_of found.now)) ≡ after) × IfSome after IsPath) }
+    ensures fault { IfErr result (IsAfterFault (first_of (codes "after") (rows_of (found_of found.now)))) }
+{
+    match value_of(found, "after") {
+        Some(text) => Ok(Some(read_path(alloc, text)?)),
+        None => Ok(None),
+    }
+}
+
+/// The proxy folders, which must be given.
+fn proxy_given<'a>(alloc: Global, found: &ArgMatches<'a>) -> Result<ProxyList, UsageFault>
+    ensures proxy { IfOk result (λ list. IsProxy (first_of (codes "proxy") (rows_of (found_of found.now))) (Some list)) }
+    ensures fault { IfErr result (IsPlacesFault (first_of (codes "proxy") (rows_of (found_of found.now)))) }
+{
+    match value_of(found, "proxy") {
+        Some(value) => read_proxy(alloc, value),
+        None => Err(line(alloc, "no DIR")),
+    }
+}
+
+/// The name of the main file.
+fn main_given<'a>(alloc: Global, found: &ArgMatches<'a>) -> Result<String, AllocError>
+    ensures { IfOk result (λ main. string_bytes main ≡ unwrap_or (first_of (codes "mod") (rows_of (found_of found.now))) (codes "go.mod")) }
+{
+    match value_of(found, "mod") {
+        Some(name) => String::from_str(alloc, name),
+        None => String::from_str(alloc, "go.mod"),
+    }
+}
+
+/// The name of the go.sum, where it is given.
+fn sums_given<'a>(alloc: Global, found: &ArgMatches<'a>) -> Result<Option<String>, AllocError>
+    ensures { IfOk result (λ sums. option_map string_bytes sums ≡ first_of (codes "sum") (rows_of (found_of found.now))) }
+{
+    match value_of(found, "sum") {
+        Some(name) => Ok(Some(String::from_str(alloc, name)?)),
+        None => Ok(None),
+    }
+}
+
+/// The files and folders of a command over a module graph.
+fn read_places<'a>(alloc: Global, found: &ArgMatches<'a>) -> Result<Places, UsageFault>
+    ensures places { IfOk result (ArePlaces (rows_of (found_of found.now))) }
+    ensures fault { IfErr result (IsPlacesFault (first_of (codes "proxy") (rows_of (found_of found.now)))) }
+{
+    let proxy = proxy_given(alloc, found)?;
+    let main = main_given(alloc, found)?;
+    let sums = sums_given(alloc, found)?;
+    Ok(Places {
+        main,
+        proxy: Some(proxy),
+        sums,
+    })
+}
+
+/// `graph`.
+pub(crate) fn read_graph<'a>(
+    alloc: Global,
+    found: &ArgMatches<'a>,
+) -> Result<(Command, Places), UsageFault>
+    ensures read { IfOk result (λ read. Means (codes "graph") (rows_of (found_of found.now)) read.0 read.1) }
+    ensures fault { IfErr result (IsEntriesFault (Some (codes "graph", rows_of (found_of found.now)))) }
+{
+    let places = read_places(alloc, found)?;
+    Ok((Command::Graph, places))
+}
+
+/// `list`.
+#[tactic(auto, using(crate::proofs::Queries::list_places_fault))]
+pub(crate) fn read_list<'a>(
+    alloc: Global,
+    found: &ArgMatches<'a>,
+) -> Result<(Command, Places), UsageFault>
+    ensures read { IfOk result (λ read. Means (codes "list") (rows_of (found_of found.now)) read.0 read.1) }
+    ensures fault { IfErr result (IsEntriesFault (Some (codes "list", rows_of (found_of found.now)))) }
+{
+    let limit = limit_given(alloc, found)?;
+    let after = after_given(alloc, found)?;
+    let places = read_places(alloc, found)?;
+    Ok((Command::List { after, limit }, places))
+}
+
+/// `chain`.
+pub(crate) fn read_chain<'a>(
+    alloc: Global,
+    found: &ArgMatches<'a>,
+) -> Result<(Command, Places), UsageFault>
+    ensures read { IfOk result (λ read. Means (codes "chain") (rows_of (found_of found.now)) read.0 read.1) }
+    ensures fault { IfErr result (IsEntriesFault (Some (codes "chain", rows_of (found_of found.now)))) }
+{
+    let Some(text) = value_of(found, "path") else {
+        return Err(line(alloc, "no PATH"));
+    };
+    let path = read_path(alloc, text)?;
+    let places = read_places(alloc, found)?;
+    Ok((Command::Chain(path), places))
+}
