@@ -1,0 +1,137 @@
+-- Lines that are a document without a fault, one after the other.
+use Rattle.std.proofs.Common.{◌≡◌, ℕ, ◌+◌, ◌||◌, ◌&&◌, not, Bool, true, false, List, [], ◌∷◌, ◌++◌, length, map, Option, Some, None, is_some, refl, sym, ap, subst, ◌∙◌, append-nil, append_assoc}
+use Rattle.std.specs.Option.{option_map, option_or, option_to_list}
+use Rattle.std.specs.List.{cons_option, filter_map, flat_map, list_all, list_any}
+use Rattle.std.proofs.lemmas.List.Elements.{filter_map-append}
+use Rattle.std.specs.Prelude.{if◌then◌else◌}
+use Rattle.gm_syntax.specs.Words.{Word}
+use Rattle.gm_syntax.specs.Tokens.{Placed}
+use Rattle.gm_syntax.specs.Document.{Line, Blank, Comment, Open, Close, Entry, CanStand, IsDocument, inside_after, inside_past, start}
+use Rattle.gm_syntax.specs.LineViews.{plain, plains}
+use Rattle.gm_file.specs.declared.fault.DirectiveKind.{DirectiveKind}
+use Rattle.gm_file.specs.declared.fault.DirectiveKind.TheVariants.{Repeated, ConflictingReplace, NoModule}
+use Rattle.gm_file.specs.Directives.{Strict, Directive, DeclaresModule, DeclaresGo, Requires, Excludes, Replaces, Retracts, Kept, Item, Silent, Opening, Saying, Seat, Verb, block_behind, block_after, directive_in, directive_of, directives, item_at, said, seats, seats_from, verb_in}
+use Rattle.gm_file.specs.Faults.{Fault, conflicts, directive_kinds, fault_of, faults, faults_after, first_of, is_go, is_module, item_kinds, missing_module, saying_kinds, unless, with_before_from}
+use Rattle.gm_syntax.proofs.Changes.{StandFrom, lines_stand, standing_lines}
+use Rattle.gm_file.proofs.First.{first-none}
+use Rattle.gm_edit.specs.Fates.{held_at, item_of, word_of}
+
+-- each line can stand at its place, and nothing is wrong with it behind those directives; no block is open at the end, and a module is declared
+abbrev pub SoundFrom : List Directive → Option Placed → List (Line Placed) → Type 0
+SoundFrom earlier block [] = (block ≡ None) × (list_any is_module earlier ≡ true)
+SoundFrom earlier block (line ∷ lines) =
+    CanStand (is_some block) (plain line) × (item_kinds Strict earlier (item_of block line) ≡ [])
+    × SoundFrom (earlier ++ option_to_list (held_at block line)) (block_behind block line) lines
+
+-- ---- lists of nothing
+
+pub nil-parts : {X : Type 0} (xs ys : List X) → xs ++ ys ≡ [] → (xs ≡ []) × (ys ≡ [])
+nil-parts [] ys e = (refl, e)
+nil-parts (x ∷ xs) ys e = absurd cc
+
+pub nil-map : {X Y : Type 0} (f : X → Y) (xs : List X) → map f xs ≡ [] → xs ≡ []
+nil-map f [] e = refl
+nil-map f (x ∷ xs) e = absurd cc
+
+-- ---- from a document without a fault
+
+block-plain : (block : Option Placed) (line : Line Placed) → block_behind (option_map word_of block) (plain line) ≡ option_map word_of (block_behind block line)
+block-plain block Blank = refl
+block-plain block (Comment text) = refl
+block-plain block (Open verb suffix) = refl
+block-plain block (Close suffix) = refl
+block-plain block (Entry words suffix) = refl
+
+inside-plain : (inside : Bool) (block : Option Placed) (line : Line Placed) → inside ≡ is_some block → inside_after inside (plain line) ≡ is_some (block_behind block line)
+inside-plain inside block Blank e = e
+inside-plain inside block (Comment text) e = e
+inside-plain inside block (Open verb suffix) e = refl
+inside-plain inside block (Close suffix) e = refl
+inside-plain inside block (Entry words suffix) e = e
+
+no-block : (block : Option Placed) → is_some block ≡ false → block ≡ None
+no-block None e = refl
+no-block (Some t) e = absurd cc
+
+to-option : (o : Option Directive) (rest : List Directive) → cons_option o rest ≡ option_to_list o ++ rest
+to-option None rest = refl
+to-option (Some d) rest = refl
+
+-- what the seats from here on say, behind the seats before
+abbrev FaultsFrom : List (Seat Word) → Option Word → List (Line Word) → List Fault
+FaultsFrom before block lines = flat_map (faults_after Strict) (with_before_from before (seats_from block lines))
+
+one-more : (before : List (Seat Word)) (seat : Seat Word) → filter_map (said Strict) (before ++ seat ∷ []) ≡ filter_map (said Strict) before ++ option_to_list (said Strict seat)
+one-more before seat = filter_map-append (said Strict) before (seat ∷ []) ∙ ap (λ ds. filter_map (said Strict) before ++ ds) (to-option (said Strict seat) [] ∙ append-nil (option_to_list (said Strict seat)))
+
+-- the directives behind earlier ones, with the first line's apart
+declared-next : (earlier : List Directive) (block : Option Placed) (line : Line Placed) (lines : List (Line Placed))
+    → earlier ++ filter_map (said Strict) (seats_from (option_map word_of block) (plains (line ∷ lines)))
+    ≡ (earlier ++ option_to_list (held_at block line)) ++ filter_map (said Strict) (seats_from (option_map word_of (block_behind block line)) (plains lines))
+declared-next earlier block line lines =
+    let rest : List Directive = filter_map (said Strict) (seats_from (block_behind (option_map word_of block) (plain line)) (plains lines)) in
+    ap (λ ds. earlier ++ ds) (to-option (held_at block line) rest) ∙ sym (append_assoc earlier (option_to_list (held_at block line)) rest)
+    ∙ ap (λ (b : Option Word). (earlier ++ option_to_list (held_at block line)) ++ filter_map (said Strict) (seats_from b (plains lines))) (block-plain block line)
+
+sound-lines : (before : List (Seat Word)) (inside : Bool) (earlier : List Directive) (block : Option Placed) (lines : List (Line Placed))
+    → filter_map (said Strict) before ≡ earlier → inside ≡ is_some block
+    → StandFrom inside (plains lines) → inside_past inside (plains lines) ≡ false → FaultsFrom before (option_map word_of block) (plains lines) ≡ []
+    → list_any is_module (earlier ++ filter_map (said Strict) (seats_from (option_map word_of block) (plains lines))) ≡ true
+    → SoundFrom earlier block lines
+sound-lines before inside earlier block [] is at stand ends none declared = (no-block block (sym at ∙ ends), ap (list_any is_module) (sym (append-nil earlier)) ∙ declared)
+sound-lines before inside earlier block (line ∷ lines) is at stand ends none declared =
+    let seat : Seat Word = (option_map word_of block, plain line) in
+    let parts = nil-parts (faults_after Strict (before, seat)) (FaultsFrom (before ++ seat ∷ []) (block_behind (option_map word_of block) (plain line)) (plains lines)) none in
+    let kinds : item_kinds Strict earlier (item_of block line) ≡ [] =
+    subst (λ (ds : List Directive). item_kinds Strict ds (item_at seat) ≡ []) is (nil-map (λ (kind : DirectiveKind). (length before + 1, kind)) (item_kinds Strict (filter_map (said Strict) before) (item_at seat)) parts.0) in (
+      subst (λ (b : Bool). CanStand b (plain line)) at stand.0,
+      kinds,
+      sound-lines (before ++ seat ∷ []) (inside_after inside (plain line)) (earlier ++ option_to_list (held_at block line)) (block_behind block line) lines
+          (one-more before seat ∙ ap (λ (ds : List Directive). ds ++ option_to_list (said Strict seat)) is)
+          (inside-plain inside block line at) stand.1 ends
+          (subst (λ (b : Option Word). FaultsFrom (before ++ seat ∷ []) b (plains lines) ≡ []) (block-plain block line) parts.1)
+          (ap (list_any is_module) (sym (declared-next earlier block line lines)) ∙ declared),
+    )
+
+or-none : {X : Type 0} (a b : Option X) → option_or a b ≡ None → (a ≡ None) × (b ≡ None)
+or-none None b e = (refl, e)
+or-none (Some x) b e = absurd cc
+
+none-missing : (fault : Fault) (b : Bool) → (if b then None else Some fault) ≡ None → b ≡ true
+none-missing fault true e = refl
+none-missing fault false e = absurd cc
+
+pub sound-file : (lines : List (Line Placed)) → IsDocument (plains lines) → fault_of Strict (plains lines) ≡ None → SoundFrom [] None lines
+unfolding fault_of faults
+sound-file lines document none =
+    let parts = or-none (first_of (faults Strict (plains lines))) (missing_module Strict (directives Strict (plains lines))) none in
+    sound-lines [] false [] None lines refl refl (lines_stand start (plains lines) document).0 (lines_stand start (plains lines) document).1 (first-none (faults Strict (plains lines)) parts.0) (none-missing (0, NoModule) (list_any is_module (directives Strict (plains lines))) parts.1)
+
+-- ---- and back
+
+pub both-nil : {X : Type 0} (xs ys : List X) → xs ≡ [] → ys ≡ [] → xs ++ ys ≡ []
+both-nil xs ys e f = rw (e, f) refl
+
+lines-sound : (before : List (Seat Word)) (inside : Bool) (earlier : List Directive) (block : Option Placed) (lines : List (Line Placed))
+    → filter_map (said Strict) before ≡ earlier → inside ≡ is_some block → SoundFrom earlier block lines
+    → StandFrom inside (plains lines) × (inside_past inside (plains lines) ≡ false) × (FaultsFrom before (option_map word_of block) (plains lines) ≡ [])
+    × (list_any is_module (earlier ++ filter_map (said Strict) (seats_from (option_map word_of block) (plains lines))) ≡ true)
+lines-sound before inside earlier block [] is at sound = (tt, at ∙ ap is_some sound.0, refl, ap (list_any is_module) (append-nil earlier) ∙ sound.1)
+lines-sound before inside earlier block (line ∷ lines) is at sound =
+    let seat : Seat Word = (option_map word_of block, plain line) in
+    let rest = lines-sound (before ++ seat ∷ []) (inside_after inside (plain line)) (earlier ++ option_to_list (held_at block line)) (block_behind block line) lines
+    (one-more before seat ∙ ap (λ (ds : List Directive). ds ++ option_to_list (said Strict seat)) is) (inside-plain inside block line at) sound.2 in
+    let kinds : item_kinds Strict (filter_map (said Strict) before) (item_at seat) ≡ [] = subst (λ (ds : List Directive). item_kinds Strict ds (item_at seat) ≡ []) (sym is) sound.1 in (
+      (subst (λ (b : Bool). CanStand b (plain line)) (sym at) sound.0, rest.0),
+      rest.1,
+      both-nil (faults_after Strict (before, seat)) (FaultsFrom (before ++ seat ∷ []) (block_behind (option_map word_of block) (plain line)) (plains lines))
+          (ap (map (λ (kind : DirectiveKind). (length before + 1, kind))) kinds)
+          (subst (λ (b : Option Word). FaultsFrom (before ++ seat ∷ []) b (plains lines) ≡ []) (sym (block-plain block line)) rest.2),
+      ap (list_any is_module) (declared-next earlier block line lines) ∙ rest.3,
+    )
+
+pub file-sound : (lines : List (Line Placed)) → SoundFrom [] None lines → IsDocument (plains lines) × (fault_of Strict (plains lines) ≡ None)
+unfolding fault_of faults
+file-sound lines sound =
+    let parts = lines-sound [] false [] None lines refl refl sound in
+    (standing_lines start (plains lines) parts.0 parts.1, rw (parts.2, parts.3) refl)

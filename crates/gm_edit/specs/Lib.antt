@@ -1,0 +1,5 @@
+pub mod Edits
+pub mod Views
+pub mod Fates
+pub mod About
+pub mod Walks

@@ -1,0 +1,23 @@
+-- What a walk over the lines of a file stands for. No public contract cites it.
+use Rattle.std.specs.Prelude.{ℕ, List, ◌++◌, map, Option}
+use Rattle.std.specs.Option.{option_map}
+use Rattle.gm_syntax.specs.Tokens.{Placed, comment_of}
+use Rattle.gm_syntax.specs.Document.{Line}
+use Rattle.gm_syntax.specs.LineViews.{line_of, lines_seen}
+use Rattle.gm_syntax.specs.declared.line.Line as declared
+use Rattle.gm_edit.specs.declared.walk.Block.{Block}
+use Rattle.gm_edit.specs.declared.walk.Walk.{Walk}
+use Rattle.gm_edit.specs.Fates.{Begun, Fate, left_from}
+
+abbrev pub fate_seen : Option declared.Line → Fate
+fate_seen fate = option_map line_of fate
+
+abbrev pub fates_seen : List (Option declared.Line) → List Fate
+fates_seen fates = map fate_seen fates
+
+abbrev pub begun_seen : Block → Begun
+begun_seen b = record { verb = b.verb; suffix = comment_of b.suffix; inner = fates_seen b.inner.items }
+
+-- what is left where those fates follow
+abbrev pub left_by : Walk → List Fate → List (Line Placed)
+left_by walk fates = lines_seen walk.out.items ++ left_from walk.after (option_map begun_seen walk.begun) fates

@@ -1,0 +1,73 @@
+//! Which texts write an operation.
+
+use crate::{Op, OpFault};
+use std::alloc::Global;
+use std::test::Fail;
+
+// Whether a text is read as an operation; one want of memory is taken for the answer that is expected.
+fn is_read(alloc: Global, text: &str, expected: bool) -> bool {
+    match Op::parse(alloc, text) {
+        Ok(_) => true,
+        Err(fault) => match fault {
+            OpFault::NoMemory => expected,
+            OpFault::Spelling => false,
+        },
+    }
+}
+
+const WRITTEN: [&str; 17] = [
+    "module=example.com/m",
+    "go=1.21",
+    "require=example.com/a@v1.2.0",
+    "require=example.com/p@v2.0.0",
+    "droprequire=example.com/a",
+    "exclude=example.com/p@v1.0.0",
+    "dropexclude=a@v2.0.0",
+    "replace=example.com/b=./b",
+    "replace=local=../x y",
+    "replace=a@v1.0.0=b@v2.0.0",
+    "replace=a=./x=y",
+    "dropreplace=a",
+    "dropreplace=a@v2.0.0",
+    "retract=v1.0.0",
+    "retract=[v1.0.0,v1.0.0]",
+    "retract=[ v1.0.0\t,v1.1.0 ]",
+    "dropretract=[v1.0.0,v1.0.0]",
+];
+
+const UNWRITTEN: [&str; 14] = [
+    "go=v1.2",
+    "go=1",
+    "require=example.com/a",
+    "require",
+    "droprequire=example.com/a@v1.0.0",
+    "exclude=example.com/p@v1",
+    "replace=a=..@v1.0.0",
+    "replace=a=b",
+    "replace=a=./x\n",
+    "retract= v1.0.0",
+    "retract=[v1.0.0,v1.1.0] ",
+    "retract=[v1.0.0]",
+    "tool=x",
+    "",
+];
+
+#[test]
+fn written(rt: HostRuntime) -> Result<(), Fail> {
+    for text in WRITTEN.iter() {
+        if !is_read(rt.alloc(), text, true) {
+            return Err(Fail::new(format_args!("refused: {text}")));
+        }
+    }
+    Ok(())
+}
+
+#[test]
+fn unwritten(rt: HostRuntime) -> Result<(), Fail> {
+    for text in UNWRITTEN.iter() {
+        if is_read(rt.alloc(), text, false) {
+            return Err(Fail::new(format_args!("read: {text}")));
+        }
+    }
+    Ok(())
+}
