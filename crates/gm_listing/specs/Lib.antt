@@ -2,3 +2,4 @@ pub mod Texts
 pub mod Reports
 pub mod Outcomes
 pub mod Found
+pub mod Laws

@@ -4,6 +4,7 @@
 mod answering;
 mod fields;
 mod graph_lines;
+pub mod laws;
 mod output;
 mod printing;
 mod query;

@@ -1,0 +1,117 @@
+-- Laws of what `graph`, `list` and `chain` come to, over the definitions alone.
+use Rattle.std.specs.Prelude.{◌≡◌, ◌≢◌, ◌<◌, ◌⊎◌, ℕ, false, List, [], ◌∷◌, ◌++◌, map, Option, Some, None, Contains}
+use Rattle.std.specs.List.{flat_map}
+use Rattle.std.specs.Ordering.{is_gt}
+use Rattle.gm_name.specs.Version.{version_cmp}
+use Rattle.gm_store.specs.Asked.{Name, Reply, answer_in}
+use Rattle.gm_sums.specs.declared.sums.SumTable.{SumTable}
+use Rattle.gm_cache.specs.Main.{Main, Vertex}
+use Rattle.gm_cache.specs.Reading.{Held, Readings, readings_by}
+use Rattle.gm_select.specs.declared.step.Edge.{Edge}
+use Rattle.gm_select.specs.declared.step.Step.{Step}
+use Rattle.gm_select.specs.BuildList.{Entry, IsBuildList, IsEntryOf, entry_of, main_entry, path_cmp, path_of}
+use Rattle.gm_select.specs.Chains.{IsChain}
+use Rattle.gm_select.specs.Graph.{Edges, among, edge_cmp}
+use Rattle.gm_select.specs.Order.{IsAscending}
+use Rattle.gm_graph.specs.Graph.{IsVertex}
+use Rattle.gm_graph.specs.Outcome.{AreFaults}
+use Rattle.gm_listing.specs.declared.output.Status.TheVariants.{Done}
+use Rattle.gm_listing.specs.Texts.{chain_text, graph_text, list_text}
+use Rattle.gm_listing.specs.Outcomes.{AreKnown, AreRead, Given, IsChainOutcome, IsGraphOutcome, IsListOutcome, IsMainFile, IsUnlisted, Outcome, PrintsRows, printed}
+
+-- ---- one outcome
+
+-- The main file's bytes, those of the go.sum and what the store told have one outcome.
+abbrev pub OneGraphOutcome : Type 0
+OneGraphOutcome = (run : Given) (a b : Outcome) → IsGraphOutcome run a → IsGraphOutcome run b → a ≡ b
+
+abbrev pub OneListOutcome : Type 0
+OneListOutcome = (after : Option (List ℕ)) (limit : Option ℕ) (run : Given) (a b : Outcome) → IsListOutcome after limit run a → IsListOutcome after limit run b → a ≡ b
+
+abbrev pub OneChainOutcome : Type 0
+OneChainOutcome = (path : List ℕ) (run : Given) (a b : Outcome) → IsChainOutcome path run a → IsChainOutcome path run b → a ≡ b
+
+-- ---- whatever else was asked, and in whichever order
+
+-- no name was answered differently
+abbrev pub AnswerAlike : List (Name × Reply) → List (Name × Reply) → Type 0
+AnswerAlike one other = (name : Name) (a b : Reply) → answer_in one name ≡ Some a → answer_in other name ≡ Some b → a ≡ b
+
+-- the same main file and go.sum, and no file of a module was answered differently, or failed in one run alone
+pub record AreAlike (one other : Given) : Type 0 where
+  pub file : one.file ≡ other.file
+  pub sums : one.sums ≡ other.sums
+  pub answers : AnswerAlike one.told.asked other.told.asked
+  pub failed : one.told.failed ≡ other.told.failed
+
+abbrev pub AlikeGraphs : Type 0
+AlikeGraphs = (one other : Given) (a b : Outcome) → AreAlike one other → IsGraphOutcome one a → IsGraphOutcome other b → a ≡ b
+
+abbrev pub AlikeLists : Type 0
+AlikeLists = (after : Option (List ℕ)) (limit : Option ℕ) (one other : Given) (a b : Outcome) → AreAlike one other → IsListOutcome after limit one a → IsListOutcome after limit other b → a ≡ b
+
+abbrev pub AlikeChains : Type 0
+AlikeChains = (path : List ℕ) (one other : Given) (a b : Outcome) → AreAlike one other → IsChainOutcome path one a → IsChainOutcome path other b → a ≡ b
+
+-- ---- `list` is the build list by minimal version selection (Go Modules Reference, "Minimal version selection")
+
+-- The modules behind the main module: the greatest version that is required of each path other than the main module's.
+pub record AreGreatest (main : Main) (readings : Readings) (selected : List Vertex) : Type 0 where
+  -- in the order of path bytes, each path once
+  pub ascending : IsAscending path_cmp selected
+  pub not_main : (x : Vertex) → Contains selected x → x.0 ≢ main.path
+  -- the main module or an opened module requires each
+  pub required : (x : Vertex) → Contains selected x → IsVertex main readings x
+  -- whatever these require of another path than the main module's has one, and that is not below it
+  pub satisfied : (y : Vertex) → IsVertex main readings y → y.0 ≢ main.path → (x : Vertex) × Contains selected x × (x.0 ≡ y.0) × (is_gt (version_cmp y.1 x.1) ≡ false)
+
+-- What `list` prints where it prints: the main module, and then those modules, each with what stands in its place. The files of the
+-- opened modules are known, and none has a fault.
+abbrev pub ListIsBuildList : Type 0
+ListIsBuildList = (run : Given) (outcome : Outcome) → IsListOutcome None None run outcome → outcome.status ≡ Done
+    → (main : Main) × (table : Option SumTable) × (held : Held) × (selected : List Vertex) × AreRead run main table × AreKnown main table run.told held
+    × AreFaults main (readings_by main held) [] × AreGreatest main (readings_by main held) selected
+    × (outcome ≡ printed (list_text main.path (main_entry ∷ map (entry_of main.replaces) selected)))
+
+-- ---- pages
+
+-- The pages of n rows: `list` prints each after the last row of the page before, the first from the beginning, and after the last page
+-- nothing.
+pub data ArePages (run : Given) (main : List ℕ) (n : ℕ) : Option (List ℕ) → List (List Entry) → Type 0 where
+  no_row : {after : Option (List ℕ)} → IsListOutcome after (Some n) run (printed []) → ArePages run main n after []
+  one_page : {after : Option (List ℕ)} {pages : List (List Entry)} (front : List Entry) (last : Entry) → IsListOutcome after (Some n) run (printed (list_text main (front ++ last ∷ [])))
+      → ArePages run main n (Some (path_of main last.0)) pages → ArePages run main n after ((front ++ last ∷ []) ∷ pages)
+
+-- The texts of the pages, one after another, are what `list` prints without a limit.
+abbrev pub PagesJoin : Type 0
+PagesJoin = (run : Given) (n : ℕ) (whole : Outcome) → 0 < n → IsListOutcome None None run whole → whole.status ≡ Done
+    → (main : Main) × (pages : List (List Entry)) × IsMainFile run.file main × ArePages run main.path n None pages × (whole.text ≡ flat_map (list_text main.path) pages)
+
+-- ---- the three commands tell of one graph
+
+-- what `chain` prints, where these are the edges and the rows
+abbrev pub ShowsChain : List ℕ → Main → Edges → List Entry → Outcome → Type 0
+ShowsChain path main edges rows outcome =
+    ((s : Step) × (steps : List Step) × IsEntryOf main.path rows path s × IsChain edges s steps × (outcome ≡ printed (chain_text main.path steps)))
+    ⊎ IsUnlisted main rows path outcome
+
+-- The rows of `list` are the build list of the edges of `graph`, and the steps of `chain` are the chain of these edges to what the list
+-- has for the path.
+pub record AreOfOneGraph (main : Main) (edges : List Edge) (rows : List Entry) (after : Option (List ℕ)) (limit : Option ℕ) (path : List ℕ) (graph list chain : Outcome) : Type 0 where
+  pub ascending : IsAscending edge_cmp edges
+  pub build_list : IsBuildList main.path main.replaces (among edges) rows
+  pub graph_is : graph ≡ printed (graph_text main.path edges)
+  pub list_is : PrintsRows main rows after limit list
+  pub chain_is : ShowsChain path main (among edges) rows chain
+
+-- so where `graph` prints
+abbrev pub OneGraph : Type 0
+OneGraph = (after : Option (List ℕ)) (limit : Option ℕ) (path : List ℕ) (run : Given) (graph list chain : Outcome)
+    → IsGraphOutcome run graph → IsListOutcome after limit run list → IsChainOutcome path run chain → graph.status ≡ Done
+    → (main : Main) × (edges : List Edge) × (rows : List Entry) × IsMainFile run.file main × AreOfOneGraph main edges rows after limit path graph list chain
+
+-- and where it does not, the others print nothing either and report the same
+abbrev pub OneRefusal : Type 0
+OneRefusal = (after : Option (List ℕ)) (limit : Option ℕ) (path : List ℕ) (run : Given) (graph list chain : Outcome)
+    → IsGraphOutcome run graph → IsListOutcome after limit run list → IsChainOutcome path run chain → graph.status ≢ Done
+    → (list ≡ graph) × (chain ≡ graph)

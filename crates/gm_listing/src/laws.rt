@@ -1,0 +1,38 @@
+//! Laws over the definitions, on which the crates above may rest. The functions do nothing: each contract is a law.
+
+ghost use Rattle.gm_listing.specs.Laws.{AlikeChains, AlikeGraphs, AlikeLists, ListIsBuildList, OneChainOutcome, OneGraph, OneGraphOutcome, OneListOutcome, OneRefusal, PagesJoin};
+
+/// The bytes of the main module's file, those of the go.sum and what the store told make one outcome of `graph`, one of `list` and
+/// one of `chain`: text, report and status are a function of those.
+pub fn one_outcome()
+    ensures graph { OneGraphOutcome }
+    ensures list { OneListOutcome }
+    ensures chain { OneChainOutcome }
+{}
+
+/// Two runs over the same main file and go.sum whose stores answered no file differently come to one outcome, whatever else was asked
+/// and in whichever order, unless the device failed in one of them alone.
+pub fn one_store()
+    ensures graph { AlikeGraphs }
+    ensures list { AlikeLists }
+    ensures chain { AlikeChains }
+{}
+
+/// Where `list` prints, the files of the opened modules are known and have no faults, and the text has a row of the main module and
+/// then, in path order, one of each other path that the main module or an opened module requires, at the greatest version required, with
+/// what stands in its place (Go Modules Reference, "Minimal version selection").
+pub fn list_is_build_list()
+    ensures { ListIsBuildList }
+{}
+
+/// Pages of n rows, each begun after the last row of the page before, join to what `list` prints at once, for every n from 1.
+pub fn pages_join()
+    ensures { PagesJoin }
+{}
+
+/// Where `graph` prints edges, the rows of `list` are the build list of just these edges, and `chain` prints the chain of just these edges
+/// to what the list has for the path. Where it prints nothing, the other two print nothing either and report the same.
+pub fn one_graph()
+    ensures graph { OneGraph }
+    ensures refusal { OneRefusal }
+{}
