@@ -1,10 +1,10 @@
 mod Lines
 mod Misreading
 mod Telling
+mod FewOpened
 mod OneRead
 mod OneStore
 mod OnePrinted
 pub mod OneOutcome
-mod FewOpened
 mod PrintedList
 mod OneGraph

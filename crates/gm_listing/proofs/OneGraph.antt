@@ -1,5 +1,5 @@
 -- `graph`, `list` and `chain` tell of one graph.
-use Rattle.std.proofs.Common.{◌≡◌, ◌≢◌, ℕ, List, ap, subst, inl, inr}
+use Rattle.std.proofs.Common.{◌≡◌, ◌≢◌, ℕ, List, None, ap, subst, inl, inr}
 use Rattle.gm_cache.specs.Main.{Main}
 use Rattle.gm_cache.specs.Reading.{readings_by}
 use Rattle.gm_select.specs.BuildList.{Entry}
@@ -8,8 +8,8 @@ use Rattle.gm_select.proofs.Same.{AreSame, same_back, same_build_list, same_chai
 use Rattle.gm_graph.specs.Graph.{IsEdge}
 use Rattle.gm_graph.proofs.Rooted.{same_edges}
 use Rattle.gm_listing.specs.declared.output.Status.TheVariants.{Done}
-use Rattle.gm_listing.specs.Laws.{OneGraph, OneRefusal, ShowsChain}
-use Rattle.gm_listing.specs.Outcomes.{Given, IsOutcome, Outcome, Prints, PrintsChain, PrintsGraph, PrintsList}
+use Rattle.gm_listing.specs.Laws.{OneGraph, OneRefusal, PartsOfOneList, ShowsChain}
+use Rattle.gm_listing.specs.Outcomes.{Given, IsOutcome, Outcome, Prints, PrintsChain, PrintsGraph, PrintsList, PrintsRows}
 use Rattle.gm_listing.proofs.OneOutcome.{also_printed, one_chain_outcome, one_list_outcome}
 use Rattle.gm_listing.proofs.OnePrinted.{one_rows}
 use Rattle.gm_listing.proofs.PrintedList.{printed_run}
@@ -56,3 +56,10 @@ one_refusal after limit path run graph list chain is_graph is_list is_chain ends
   one_list_outcome after limit run list graph is_list (unprinted run graph is_graph ends (PrintsList after limit)),
   one_chain_outcome path run chain graph is_chain (unprinted run graph is_graph ends (PrintsChain path)),
 )
+
+pub parts_of_one_list : PartsOfOneList
+parts_of_one_list after limit run whole part is_whole is_part ends =
+    let (main, table, are, held, known, faults, (rows, list, says)) = printed_run (PrintsList None None) run whole is_whole ends in
+    let (next, same, (others, listed, shows)) = also_printed (PrintsList after limit) run main table held are known faults part is_part in
+    let rows_same : others ≡ rows = one_rows main (readings_by main next) (readings_by main held) others rows same listed list in
+    (main, rows, are.main_file, says, subst (λ (es : List Entry). PrintsRows main es after limit part) rows_same shows)

@@ -79,7 +79,7 @@ module _ (prints : Prints) (once : PrintsOnce prints) (main : Main) (table : Opt
       let into : Agrees main r s = agree main table one other held next alike are.tells were in
       let back : Agrees main s r = agree main table other one next held (alike_back one.asked other.asked alike) were.tells are in
       let same : faults ≡ others = one_faults main r s faults others into back be been in
-      one_told others (prints main r) (prints main s) a b (once main r s a b (same_edges main r s into back))
+      one_told others (prints main r) (prints main s) a b (once main r s a b were.few (same_edges main r s into back))
       (subst (λ (fs : List Fault). IsToldUnless fs (prints main r a) a) same says) tells
 
 -- ---- and where not

@@ -1,15 +1,15 @@
 -- A main module's file and a go.sum read in one way.
-use Rattle.std.proofs.Common.{◌≡◌, ◌⊎◌, ◌∙◌, ◌<◌, ◌≤◌, ℕ, Bool, true, false, List, [], length, Option, Some, None, Result, Ok, Err, sym, ap, refl, subst, arith, inl, inr}
+use Rattle.std.proofs.Common.{◌≡◌, ◌⊎◌, ◌∙◌, ◌<◌, ◌≤◌, ℕ, List, [], length, Option, Some, None, Result, Ok, Err, sym, ap, ap₂, refl, subst, arith, inl, inr}
 use Rattle.std.specs.Prelude.{unwrap_or}
-use Rattle.std.specs.Str.{IsUtf8}
 use Rattle.gm_syntax.specs.Words.{Word}
-use Rattle.gm_syntax.specs.Document.{Line, Finish, Whole, Faulty}
+use Rattle.gm_syntax.specs.Document.{Line, Whole, Faulty}
 use Rattle.gm_syntax.specs.LineViews.{plains}
-use Rattle.gm_syntax.specs.Parsed.{IsText}
-use Rattle.gm_syntax.specs.Reader.{IsOnlyText}
+use Rattle.gm_syntax.specs.Parsed.{IsParsedAs}
+use Rattle.gm_syntax.specs.Tokens.{Placed}
+use Rattle.gm_syntax.specs.declared.fault.SyntaxFault.TheVariants as syntax
 use Rattle.gm_file.specs.Directives.{Strict}
 use Rattle.gm_file.specs.Faults.{Fault, fault_of}
-use Rattle.gm_file.specs.Fields.{module_of, go_of, requirements_of, excludes_of, replaces_of}
+use Rattle.gm_file.specs.Fields.{Dependency, module_of, go_of, requirements_of, excludes_of, replaces_of}
 use Rattle.gm_store.specs.Asked.{Name, Reply, answer_in, mod_file, folder_file, list_file, bytes, absent, too_long}
 use Rattle.gm_sums.specs.Hash.{file_hash}
 use Rattle.gm_sums.specs.Sums.{ReadsAs, Says, check_in}
@@ -19,23 +19,14 @@ use Rattle.gm_sums.specs.declared.sums.SumTable.{SumTable}
 use Rattle.gm_cache.specs.Main.{Main}
 use Rattle.gm_cache.specs.Reading.{Held, IsFileReading, IsReadUnless, IsTold, Tells, class_of_sum, sum_fault}
 use Rattle.gm_cache.specs.declared.class.Class.{Class}
+use Rattle.gm_cache.specs.declared.class.Class.TheVariants.{Malformed}
+use Rattle.gm_cache.specs.declared.class.Misreading.{Misreading}
 use Rattle.gm_cache.specs.declared.class.Misreading.TheVariants as misreading
-use Rattle.gm_file.specs.Fields.{Dependency}
+use Rattle.gm_cache.proofs.OneReading.{one_reading}
 use Rattle.gm_listing.specs.Reports.{Place, bad_sum_line}
 use Rattle.gm_listing.specs.Outcomes.{AreMisread, AreSums, IsMainFile, IsMisread}
 
 -- ---- the main module's file
-
--- what bytes are: too many, no text, or lines that finish so
-data Seen : Type 0 where
-  Long : Seen
-  Garbled : Seen
-  Ended : List (Line Word) → Finish → Seen
-
-abbrev IsSeen : List ℕ → Seen → Type 0
-IsSeen content Long = 16777216 < length content
-IsSeen content Garbled = (length content ≤ 16777216) × ¬ IsUtf8 content
-IsSeen content (Ended lines finish) = IsText content × IsOnlyText content lines finish
 
 -- what lines say as a main module's file
 abbrev main_by : List (Line Word) → Main
@@ -47,57 +38,76 @@ main_by lines = record {
   replaces = replaces_of lines;
 }
 
-abbrev unless_faulty : List (Line Word) → Option Fault → Result Main Place
-unless_faulty lines None = Ok (main_by lines)
-unless_faulty lines (Some fault) = Err (fault.0, misreading.Directive fault.1)
-
-abbrev reading_of : Seen → Result Main Place
-reading_of Long = Err (0, misreading.TooMany)
-reading_of Garbled = Err (0, misreading.NotUtf8)
-reading_of (Ended lines Whole) = unless_faulty lines (fault_of Strict lines)
-reading_of (Ended lines (Faulty number kind)) = Err (number, misreading.Syntax kind)
-
-abbrev Seeing : List ℕ → Result Main Place → Type 0
-Seeing content reading = (seen : Seen) × IsSeen content seen × (reading_of seen ≡ reading)
-
-main_seen : (content : List ℕ) (main : Main) → IsMainFile content main → Seeing content (Ok main)
-main_seen content main is = (Ended (plains is.0) Whole, is.1, ap (unless_faulty (plains is.0)) is.2 ∙ ap (λ (m : Main). Ok m) is.3)
-
-misreading_seen : (content : List ℕ) (place : Place) → IsMisread content place → Seeing content (Err place)
-misreading_seen content (number, misreading.TooMany) is = (Long, is.1, ap (λ (n : ℕ). let r : Result Main Place = Err (n, misreading.TooMany) in r) (sym is.0))
-misreading_seen content (number, misreading.NotUtf8) is = (Garbled, is.1, ap (λ (n : ℕ). let r : Result Main Place = Err (n, misreading.NotUtf8) in r) (sym is.0))
-misreading_seen content (number, misreading.Syntax kind) is = (Ended is.1 (Faulty number kind), (is.0, is.2), refl)
-misreading_seen content (number, misreading.Directive kind) is = (Ended (plains is.0) Whole, is.1, ap (unless_faulty (plains is.0)) is.2)
-
-one_seen : (content : List ℕ) (a b : Seen) → IsSeen content a → IsSeen content b → a ≡ b
-one_seen content Long Long is other = refl
-one_seen content Long Garbled is other = absurd (omega (arith, is, other.0))
-one_seen content Long (Ended lines finish) is other = absurd (omega (arith, is, other.0.0))
-one_seen content Garbled Long is other = absurd (omega (arith, is.0, other))
-one_seen content Garbled Garbled is other = refl
-one_seen content Garbled (Ended lines finish) is other = absurd (is.1 other.0.1)
-one_seen content (Ended lines finish) Long is other = absurd (omega (arith, is.0.0, other))
-one_seen content (Ended lines finish) Garbled is other = absurd (other.1 is.0.1)
-one_seen content (Ended lines finish) (Ended others end) is other =
-    let same = is.1.only others end other.1.reads in
-    sym (ap (λ (ls : List (Line Word)). Ended ls end) same.0 ∙ ap (Ended lines) same.1)
-
-one_reading : (content : List ℕ) (a b : Result Main Place) → Seeing content a → Seeing content b → a ≡ b
-one_reading content a b s t = sym s.2 ∙ ap reading_of (one_seen content s.0 t.0 s.1 t.1) ∙ t.2
+same_lines : (content : List ℕ) (a b : List (Line Placed)) → IsParsedAs content (Ok a) → IsParsedAs content (Ok b) → plains a ≡ plains b
+same_lines content a b is other = (other.1.only (plains a) Whole is.1.reads).0
 
 -- a file says one thing
 pub one_main : (content : List ℕ) (a b : Main) → IsMainFile content a → IsMainFile content b → a ≡ b
-one_main content a b is other =
-    let same : Ok a ≡ Ok b = one_reading content (Ok a) (Ok b) (main_seen content a is) (main_seen content b other) in cc same
+one_main content a b (lines, is, sound, says) (others, other, whole, tells) = sym says ∙ ap main_by (same_lines content lines others is other) ∙ tells
+
+-- the bytes are no document, and that is wrong there
+abbrev IsBroken : List ℕ → Place → Type 0
+IsBroken content (number, misreading.TooMany) = (number ≡ 0) × IsParsedAs content (Err syntax.TooMany)
+IsBroken content (number, misreading.NotUtf8) = (number ≡ 0) × IsParsedAs content (Err syntax.NotUtf8)
+IsBroken content (number, misreading.Syntax kind) = IsParsedAs content (Err (syntax.Syntax number kind))
+IsBroken content (number, misreading.Directive kind) = ⊥
+
+abbrev place_of : Fault → Place
+place_of fault = (fault.0, misreading.Directive fault.1)
+
+-- the bytes are a document whose directives have that fault first
+abbrev IsFaulty : List ℕ → Place → Type 0
+IsFaulty content place = (lines : List (Line Placed)) × (fault : Fault) × IsParsedAs content (Ok lines) × (fault_of Strict (plains lines) ≡ Some fault) × (place ≡ place_of fault)
+
+misread_as : (content : List ℕ) (place : Place) → IsMisread content place → IsBroken content place ⊎ IsFaulty content place
+misread_as content (number, misreading.TooMany) is = inl is
+misread_as content (number, misreading.NotUtf8) is = inl is
+misread_as content (number, misreading.Syntax kind) is = inl is
+misread_as content (number, misreading.Directive kind) (lines, parsed, first) = inr (lines, (number, kind), parsed, first, refl)
+
+broken_or_lines : (content : List ℕ) (place : Place) (lines : List (Line Placed)) → IsBroken content place → IsParsedAs content (Ok lines) → ⊥
+broken_or_lines content (number, misreading.TooMany) lines is other = omega (arith, is.1, other.0.0)
+broken_or_lines content (number, misreading.NotUtf8) lines is other = is.1.1 other.0.1
+broken_or_lines content (number, misreading.Syntax kind) lines is other = let ends = (other.1.only is.1 (Faulty number kind) is.2.reads).1 in cc ends
+broken_or_lines content (number, misreading.Directive kind) lines is other = is
+
+-- such bytes read the same as a dependency's file, of which one reading is known
+abbrev as_dependency : Place → Result Dependency Class
+as_dependency place = Err (Malformed place.0 place.1)
+
+broken_reading : (content : List ℕ) (place : Place) → IsBroken content place → IsFileReading None (folder_file []) (bytes content) (as_dependency place)
+broken_reading content (number, misreading.TooMany) is = is
+broken_reading content (number, misreading.NotUtf8) is = is
+broken_reading content (number, misreading.Syntax kind) is = is
+broken_reading content (number, misreading.Directive kind) is = absurd is
+
+same_place : (here there : Place) → as_dependency here ≡ as_dependency there → here ≡ there
+same_place (number, kind) (other, sort) same = let numbers : number ≡ other = cc same in let kinds : kind ≡ sort = cc same in ap₂ (λ (n : ℕ) (k : Misreading). let place : Place = (n, k) in place) numbers kinds
+
+same_fault : (content : List ℕ) (here there : Place) → IsFaulty content here → IsFaulty content there → here ≡ there
+same_fault content here there (lines, fault, parsed, first, is) (others, next, other, second, at) =
+    let found : Some fault ≡ Some next = sym first ∙ ap (fault_of Strict) (same_lines content lines others parsed other) ∙ second in
+    let faults : fault ≡ next = cc found in
+    is ∙ ap place_of faults ∙ sym at
+
+same_misreading : (content : List ℕ) (here there : Place) → IsBroken content here ⊎ IsFaulty content here → IsBroken content there ⊎ IsFaulty content there → here ≡ there
+same_misreading content here there (inl is) (inl other) =
+    same_place here there (one_reading None (folder_file []) (bytes content) (as_dependency here) (as_dependency there) (broken_reading content here is) (broken_reading content there other))
+same_misreading content here there (inl is) (inr other) = absurd (broken_or_lines content here other.0 is other.2)
+same_misreading content here there (inr is) (inl other) = absurd (broken_or_lines content there is.0 other is.2)
+same_misreading content here there (inr is) (inr other) = same_fault content here there is other
 
 -- and is misread at one place
 pub one_place : (content : List ℕ) (a b : Place) → IsMisread content a → IsMisread content b → a ≡ b
-one_place content a b is other =
-    let same : Err a ≡ Err b = one_reading content (Err a) (Err b) (misreading_seen content a is) (misreading_seen content b other) in cc same
+one_place content a b is other = same_misreading content a b (misread_as content a is) (misread_as content b other)
+
+misread_or_read : (content : List ℕ) (place : Place) (main : Main) → IsBroken content place ⊎ IsFaulty content place → IsMainFile content main → ⊥
+misread_or_read content place main (inl is) (lines, parsed, sound, says) = broken_or_lines content place lines is parsed
+misread_or_read content place main (inr (lines, fault, parsed, first, at)) (others, other, sound, says) =
+    let found : Some fault ≡ None = sym first ∙ ap (fault_of Strict) (same_lines content lines others parsed other) ∙ sound in cc found
 
 pub misread_or_main : (content : List ℕ) (place : Place) (main : Main) → IsMisread content place → IsMainFile content main → ⊥
-misread_or_main content place main is other =
-    let same : Err place ≡ Ok main = one_reading content (Err place) (Ok main) (misreading_seen content place is) (main_seen content main other) in cc same
+misread_or_main content place main is other = misread_or_read content place main (misread_as content place is) other
 
 -- ---- the go.sum
 

@@ -73,6 +73,15 @@ ListIsBuildList = (run : Given) (outcome : Outcome) → IsListOutcome None None 
     × AreFaults main (readings_by main held) [] × AreGreatest main (readings_by main held) selected
     × (outcome ≡ printed (list_text main.path (main_entry ∷ map (entry_of main.replaces) selected)))
 
+-- ---- parts of the list
+
+-- Whatever path and limit are given, `list` prints rows of the one list: all, or those after the path's row, and of these the first so many;
+-- and it reports a path that no row has.
+abbrev pub PartsOfOneList : Type 0
+PartsOfOneList = (after : Option (List ℕ)) (limit : Option ℕ) (run : Given) (whole part : Outcome)
+    → IsListOutcome None None run whole → IsListOutcome after limit run part → whole.status ≡ Done
+    → (main : Main) × (rows : List Entry) × IsMainFile run.file main × (whole ≡ printed (list_text main.path rows)) × PrintsRows main rows after limit part
+
 -- ---- pages
 
 -- The pages of n rows: `list` prints each after the last row of the page before, the first from the beginning, and after the last page

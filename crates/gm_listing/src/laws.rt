@@ -1,6 +1,6 @@
 //! Laws over the definitions, on which the crates above may rest. The functions do nothing: each contract is a law.
 
-ghost use Rattle.gm_listing.specs.Laws.{AlikeChains, AlikeGraphs, AlikeLists, ListIsBuildList, OneChainOutcome, OneGraph, OneGraphOutcome, OneListOutcome, OneRefusal, PagesJoin};
+ghost use Rattle.gm_listing.specs.Laws.{AlikeChains, AlikeGraphs, AlikeLists, ListIsBuildList, OneChainOutcome, OneGraph, OneGraphOutcome, OneListOutcome, OneRefusal, PagesJoin, PartsOfOneList};
 
 /// The bytes of the main module's file, those of the go.sum and what the store told make one outcome of `graph`, one of `list` and
 /// one of `chain`: text, report and status are a function of those.
@@ -23,6 +23,12 @@ pub fn one_store()
 /// what stands in its place (Go Modules Reference, "Minimal version selection").
 pub fn list_is_build_list()
     ensures { ListIsBuildList }
+{}
+
+/// Whatever path and limit are given, `list` prints rows of that one list: all of them, or exactly those after the path's row, and of
+/// these the first so many. A path that no row has is reported.
+pub fn parts_of_one_list()
+    ensures { PartsOfOneList }
 {}
 
 /// Pages of n rows, each begun after the last row of the page before, join to what `list` prints at once, for every n from 1.
