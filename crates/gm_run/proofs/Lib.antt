@@ -5,3 +5,5 @@ mod Sameness
 mod Uniqueness
 mod Steps
 mod QueryRuns
+mod OneEnd
+mod OneStore

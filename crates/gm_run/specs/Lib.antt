@@ -3,6 +3,7 @@ pub mod Dependencies
 pub mod Reading
 pub mod Held
 pub mod Kinds
+pub mod Laws
 pub mod Listing
 pub mod Outcome
 pub mod Program

@@ -1,14 +1,17 @@
 //! What holds of runs as they are defined.
 
-ghost use Rattle.std.specs.Prelude.{◌≡◌, ℕ, List, Option};
-ghost use Rattle.gm_run.specs.Outcome.{Outcome};
-ghost use Rattle.gm_run.specs.Runs.{StatesOutcome};
-ghost use Rattle.gm_run.specs.Versions.{Answers};
-ghost use Rattle.gm_words.specs.declared.usage.Command.{Command};
+ghost use Rattle.gm_run.specs.Laws.{OneForStores, OneRun, OneStated};
 
-/// `fmt` and `versions` come to one outcome over what it reads and what a store answers: output, report and status are a function of
-/// those.
+/// A command comes to one outcome: output, report and status are a function of what it reads and of what a store answers.
 pub fn one_outcome()
-    ensures { (command : Command) (main : List ℕ) (sums : Option (List ℕ)) (answers : Answers) (one other : Outcome)
-        → StatesOutcome command main sums answers one → StatesOutcome command main sums answers other → one ≡ other }
+    // `fmt` and `versions` over the answers of any store
+    ensures stated { OneStated }
+    // each command, by the files that the store was asked for in the run with its answers, and those at which its device failed
+    ensures run { OneRun }
+{}
+
+/// Two runs of a command over the same main file and go.sum, and over stores that answered no file differently and whose devices did
+/// not fail, come to one outcome, whatever else was asked and in whichever order.
+pub fn one_store()
+    ensures { OneForStores }
 {}
