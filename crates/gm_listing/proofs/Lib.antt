@@ -8,3 +8,4 @@ mod OnePrinted
 pub mod OneOutcome
 mod PrintedList
 mod OneGraph
+mod GreatestRows

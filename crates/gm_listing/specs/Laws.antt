@@ -73,6 +73,12 @@ ListIsBuildList = (run : Given) (outcome : Outcome) → IsListOutcome None None 
     × AreFaults main (readings_by main held) [] × AreGreatest main (readings_by main held) selected
     × (outcome ≡ printed (list_text main.path (main_entry ∷ map (entry_of main.replaces) selected)))
 
+-- And whatever modules are so, `list` prints them.
+abbrev pub BuildListIsListed : Type 0
+BuildListIsListed = (run : Given) (main : Main) (table : Option SumTable) (held : Held) (selected : List Vertex) → AreRead run main table → AreKnown main table run.told held
+    → AreFaults main (readings_by main held) [] → AreGreatest main (readings_by main held) selected
+    → IsListOutcome None None run (printed (list_text main.path (main_entry ∷ map (entry_of main.replaces) selected)))
+
 -- ---- parts of the list
 
 -- Whatever path and limit are given, `list` prints rows of the one list: all, or those after the path's row, and of these the first so many;

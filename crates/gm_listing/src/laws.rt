@@ -1,6 +1,6 @@
 //! Laws over the definitions, on which the crates above may rest. The functions do nothing: each contract is a law.
 
-ghost use Rattle.gm_listing.specs.Laws.{AlikeChains, AlikeGraphs, AlikeLists, ListIsBuildList, OneChainOutcome, OneGraph, OneGraphOutcome, OneListOutcome, OneRefusal, PagesJoin, PartsOfOneList};
+ghost use Rattle.gm_listing.specs.Laws.{AlikeChains, AlikeGraphs, AlikeLists, BuildListIsListed, ListIsBuildList, OneChainOutcome, OneGraph, OneGraphOutcome, OneListOutcome, OneRefusal, PagesJoin, PartsOfOneList};
 
 /// The bytes of the main module's file, those of the go.sum and what the store told make one outcome of `graph`, one of `list` and
 /// one of `chain`: text, report and status are a function of those.
@@ -20,9 +20,10 @@ pub fn one_store()
 
 /// Where `list` prints, the files of the opened modules are known and have no faults, and the text has a row of the main module and
 /// then, in path order, one of each other path that the main module or an opened module requires, at the greatest version required, with
-/// what stands in its place (Go Modules Reference, "Minimal version selection").
+/// what stands in its place (Go Modules Reference, "Minimal version selection"). And whatever rows are so, `list` prints them.
 pub fn list_is_build_list()
-    ensures { ListIsBuildList }
+    ensures prints { ListIsBuildList }
+    ensures printed { BuildListIsListed }
 {}
 
 /// Whatever path and limit are given, `list` prints rows of that one list: all of them, or exactly those after the path's row, and of
