@@ -2,6 +2,7 @@
 //!
 //! One refused growth is forgiven, by a second try: want of memory twice in a row fails a test.
 
+mod folders;
 mod lists;
 mod names;
 mod proxies;

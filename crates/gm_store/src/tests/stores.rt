@@ -12,7 +12,7 @@ use gm_name::ModPath;
 
 // What lies in a folder, and what a store answers.
 #[derive(Clone, Copy, Debug, PartialEq, Eq)]
-enum Lies {
+pub(super) enum Lies {
     Nothing,
     Bytes(&'static [u8]),
     Spaces(usize),
@@ -25,7 +25,7 @@ fn spaces(rt: &HostRuntime, length: usize) -> Result<Vec<u8>, NoMemory> {
 }
 
 // The bytes that lie there, where some do.
-fn content(rt: &HostRuntime, lies: Lies) -> Result<Option<Vec<u8>>, NoMemory> {
+pub(super) fn content(rt: &HostRuntime, lies: Lies) -> Result<Option<Vec<u8>>, NoMemory> {
     match lies {
         Lies::Bytes(bytes) => Ok(Some(Vec::from_slice(rt.alloc(), bytes)?)),
         Lies::Spaces(length) => Ok(Some(spaces(rt, length)?)),
@@ -47,7 +47,7 @@ fn answers(answer: &Answer, lies: Lies) -> bool {
 }
 
 // Whether a store was asked for this name alone and answered what lies there.
-fn answered_once<S: Files>(store: &S, name: &FileName, lies: Lies) -> bool {
+pub(super) fn answered_once<S: Files>(store: &S, name: &FileName, lies: Lies) -> bool {
     store.count() == 1 && store.name(0).is_same(name) && answers(store.answer(0), lies)
 }
 
@@ -58,7 +58,7 @@ fn path(rt: &HostRuntime) -> Option<ModPath> {
         .ok()
 }
 
-fn list_name(rt: &HostRuntime) -> Option<FileName> {
+pub(super) fn list_name(rt: &HostRuntime) -> Option<FileName> {
     Some(FileName::List(path(rt)?))
 }
 
@@ -159,7 +159,7 @@ fn folders(rt: &HostRuntime, first: Lies, mark: Mark, second: Lies) -> Option<Me
 
 // What lies in the first folder and in the second with a mark between them, what is answered, where a broken file stands for
 // a failed device, and how many failures are counted.
-const ROWS: &'static [(Lies, Mark, Lies, Lies, u64)] = &[
+pub(super) const ROWS: &'static [(Lies, Mark, Lies, Lies, u64)] = &[
     (
         Lies::Nothing,
         Mark::Comma,

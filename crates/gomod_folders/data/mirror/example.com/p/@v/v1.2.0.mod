@@ -1,0 +1,3 @@
+module example.com/p
+
+retract v1.0.0
