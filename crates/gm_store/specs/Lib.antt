@@ -9,6 +9,7 @@ pub mod Listed
 pub mod Memory
 pub mod Pieces
 pub mod Placed
+pub mod Places
 pub mod Proxies
 pub mod Racks
 pub mod Relative

@@ -25,15 +25,18 @@ pub struct Places<R: rt::Files> {
 pub type FolderFiles<R> = FolderStore<Places<R>>;
 
 impl<R: rt::Files> FolderStore<Places<R>> {
-    ghost use Rattle.std.specs.Prelude.{◌≡◌, []};
-    ghost use Rattle.gm_store.specs.Proxies.{marks_in};
-    ghost use Rattle.gm_store.specs.Views.{asked_by, faults_of, marks_between, refused_by};
+    ghost use Rattle.std.specs.Prelude.{◌≡◌, [], string_bytes};
+    ghost use Rattle.gm_store.specs.Proxies.{folders_in, marks_in};
+    ghost use Rattle.gm_store.specs.Places.{main_folder, proxy_folders};
+    ghost use Rattle.gm_store.specs.Views.{asked_by, faults_of, folders_under, marks_between, refused_by};
 
     /// The files of proxy folders, and of the folders beside the main file, of which nothing was asked.
     ///
     /// A file that is not found is absent, and every other error of the system is a failure of the device. At most
     /// `LIMIT + 1` bytes of a file are read.
     pub fn new(system: R, alloc: Global, main: String, proxy: ProxyList) -> FolderFiles<R>
+        ensures main { main_folder (folders_under result) ≡ string_bytes main }
+        ensures proxies { proxy_folders (folders_under result) ≡ folders_in proxy }
         ensures marks { marks_between result ≡ marks_in proxy }
         ensures asked { asked_by result ≡ [] }
         ensures refused { refused_by result ≡ [] }

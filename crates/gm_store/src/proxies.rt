@@ -79,6 +79,7 @@ impl ProxyList {
     // The folders and the marks, apart.
     pub(crate) fn into_parts(self) -> (Vec<String>, Vec<Mark>)
         ensures between { length result.0.items ≡ length result.1.items + 1 }
+        ensures folders { map string_bytes result.0.items ≡ folders_in self }
         ensures marks { result.1.items ≡ marks_in self }
     {
         let ProxyList { folders, marks } = self;
