@@ -1,5 +1,5 @@
 -- What the words of a command line mean.
-use Rattle.std.specs.Prelude.{◌≡◌, ◌≢◌, ◌⊎◌, ◌||◌, not, ℕ, Bool, List, Option, Some, None, true, false, codes, is_some, option_map, unwrap_or}
+use Rattle.std.specs.Prelude.{◌≡◌, ◌≢◌, ◌⊎◌, ◌||◌, not, ℕ, Bool, List, [], Option, Some, None, true, false, codes, is_some, option_map, unwrap_or}
 use Rattle.std.specs.List.{list_all}
 use Rattle.std.specs.Option.{option_map_or}
 use Rattle.std.specs.Str.{bytes_eq}
@@ -12,6 +12,7 @@ use Rattle.clap.specs.Takes.{takes}
 use Rattle.clap.specs.declared.builder.action.ArgAction.TheVariants.{SetTrue}
 use Rattle.clap.specs.declared.error.Error.{Error}
 use Rattle.clap.specs.Values.{kind_of}
+use Rattle.clap.specs.declared.error.kind.ErrorKind.{ErrorKind}
 use Rattle.clap.specs.declared.error.kind.ErrorKind.TheVariants.{DisplayHelp, OutOfMemory}
 use Rattle.gm_name.specs.Path.{IsPath}
 use Rattle.gm_store.specs.Proxies.{folders_in, folders_of, is_folder, marks_in, marks_of}
@@ -121,9 +122,17 @@ abbrev pub IsMeant : Option (Text × List Row) → Command → Places → Type 0
 IsMeant None command places = ⊥
 IsMeant (Some entered) command places = Means entered.0 entered.1 command places
 
--- the words ask for this command with these places: what they mean by the parser's entries for them
+-- the parser finds nothing wrong with the words
+abbrev pub AreTaken : List Text → Type 0
+AreTaken words = fault_of gomod_app words ≡ []
+
+-- the parser finds something wrong with the words, and not that help is asked for
+abbrev pub AreRefused : List Text → Type 0
+AreRefused words = (takes gomod_app words ≡ true → ⊥) × (kind : ErrorKind) × (kind ≢ DisplayHelp) × IsAmong kind (fault_of gomod_app words)
+
+-- the words ask for this command with these places: the parser takes them, and its entries for them mean that
 abbrev pub AskFor : List Text → Command → Places → Type 0
-AskFor words command places = IsMeant (subcommand_of gomod_app words) command places
+AskFor words command places = AreTaken words × IsMeant (subcommand_of gomod_app words) command places
 
 -- The text where a path is wanted: PATH of `versions` and of `chain`, and that of `--after` of `list`, whose `--limit` is looked at
 -- first.
@@ -163,14 +172,14 @@ IsEntriesFault entered (Line text) = ¬ (AreMeant entered)
 IsEntriesFault entered (BadPath text) = HasBadPath entered (string_bytes text)
 IsEntriesFault entered (BadProxy text) = HasBadProxy entered (string_bytes text)
 
--- what a fault says of the words: help is asked for; the parser refuses them or they are no command's; the path is none; the
--- value of `--proxy` names no folders
+-- What a fault says of the words: help is asked for; the parser refuses them for another reason; or it takes them, and they are no
+-- command's, the path is none, or the value of `--proxy` names no folders.
 abbrev pub IsFaultOf : List Text → UsageFault → Type 0
 IsFaultOf words NoMemory = Unit {0}
 IsFaultOf words (Help text) = IsAmong DisplayHelp (fault_of gomod_app words) × (takes gomod_app words ≡ true → ⊥)
-IsFaultOf words (Line text) = takes gomod_app words ≡ true → ¬ (AreMeant (subcommand_of gomod_app words))
-IsFaultOf words (BadPath text) = HasBadPath (subcommand_of gomod_app words) (string_bytes text)
-IsFaultOf words (BadProxy text) = HasBadProxy (subcommand_of gomod_app words) (string_bytes text)
+IsFaultOf words (Line text) = AreRefused words ⊎ (AreTaken words × ¬ (AreMeant (subcommand_of gomod_app words)))
+IsFaultOf words (BadPath text) = AreTaken words × HasBadPath (subcommand_of gomod_app words) (string_bytes text)
+IsFaultOf words (BadProxy text) = AreTaken words × HasBadProxy (subcommand_of gomod_app words) (string_bytes text)
 
 -- the fault that a parser's error is
 abbrev pub IsParserFault : Error → UsageFault → Type 0
