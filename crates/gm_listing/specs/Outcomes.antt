@@ -20,7 +20,7 @@ use Rattle.gm_select.specs.BuildList.{Entry, IsBuildList, IsEntryOf, IsListed, I
 use Rattle.gm_select.specs.Chains.{IsChain}
 use Rattle.gm_graph.specs.declared.fault.Fault.{Fault}
 use Rattle.gm_graph.specs.Graph.{IsEdge, IsOpened}
-use Rattle.gm_graph.specs.Loading.{AreAsked, AreFew, AreTooMany, IsAnswered, IsDue, Told}
+use Rattle.gm_graph.specs.Loading.{AreAsked, AreFew, AreTooMany, AsksInTurn, IsAnswered, IsDue, Told}
 use Rattle.gm_graph.specs.Outcome.{AreEdges, AreFaults}
 use Rattle.gm_listing.specs.declared.query.Query.{Query}
 use Rattle.gm_listing.specs.declared.query.Query.TheVariants.{Graph, List as Rows, Chain}
@@ -205,3 +205,11 @@ PrintsFor (Chain path) = PrintsChain path.now
 
 abbrev pub IsAnswer : Query → Given → Outcome → Type 0
 IsAnswer query run outcome = IsOutcome (PrintsFor query) run outcome
+
+-- ---- what a run asks for, however it ends
+
+-- No file; or the main module's file and the go.sum read, and each file that was asked for was due under the answers before it.
+abbrev pub AsksInOrder : List ℕ → Option (List ℕ) → List (Name × Reply) → Type 0
+AsksInOrder file sums asked =
+    (asked ≡ [])
+    ⊎ ((main : Main) × (table : Option SumTable) × IsMainFile file main × AreSums sums table × AsksInTurn main table asked)

@@ -1,10 +1,11 @@
 //! Reads the files, loads what the main module's file leads to, and answers.
 
-ghost use Rattle.std.specs.Prelude.{◌≡◌, ◌++◌, [], IfOk, MatchResult, List};
+ghost use Rattle.std.specs.Prelude.{◌≡◌, ◌++◌, [], Contains, IfOk, MatchResult, List};
 ghost use Rattle.std.specs.Option.{option_copied};
-ghost use Rattle.gm_store.specs.Asked.{Name};
+ghost use Rattle.gm_store.specs.Asked.{Name, Reply};
 ghost use Rattle.gm_cache.specs.Main.{main_of};
-ghost use Rattle.gm_listing.specs.Outcomes.{IsAnswer, IsRefusedRead, answers, given, outcome_of};
+ghost use Rattle.gm_graph.specs.Loading.{AsksInTurn};
+ghost use Rattle.gm_listing.specs.Outcomes.{AsksInOrder, IsAnswer, IsRefusedRead, answers, given, outcome_of};
 ghost use Rattle.gm_listing.specs.Found.{IsAnswerOver, IsLoadReport, ReadAs};
 
 use crate::output::{Output, failed, refused};
@@ -67,8 +68,10 @@ fn answer_over<F: Files>(
     files: &mut F,
 ) -> Result<Output, NoMemory>
     requires { F.asked files.old ≡ [] }
-    ensures { IfOk result (λ output. (failed : List Name) × (F.refused files.new ≡ F.refused files.old ++ failed)
+    ensures comes { IfOk result (λ output. (failed : List Name) × (F.refused files.new ≡ F.refused files.old ++ failed)
         × IsAnswerOver query.entry (main_of main.now) (option_copied table.entry) (answers (F.asked files.new) failed) (outcome_of output)) }
+    ensures asks { AsksInTurn (main_of main.now) (option_copied table.entry) (F.asked files.new) }
+    ensures may_answer { (name : Name) (reply : Reply) → Contains (F.asked files.new) (name, reply) → F.may_answer files.old name reply }
 {
     match load(alloc, main, files, table) {
         Ok(loaded) => {
@@ -91,6 +94,10 @@ fn answer_over<F: Files>(
 /// file's first fault, else the go.sum's, else that more than 65,536 modules are opened or on which file the store's device failed,
 /// else each opened module with its fault.
 ///
+/// Where one of the two files does not read, the store is asked for nothing. Else it is asked for the files of the modules that are
+/// opened by what it answered before, each once and no other, and each answer is one that it may give. Both hold however the run
+/// ends.
+///
 /// The condition is that the store was not asked before. The only refusal is want of memory; it may come in place of any answer.
 pub fn answer<F: Files>(
     alloc: Global,
@@ -100,8 +107,10 @@ pub fn answer<F: Files>(
     files: &mut F,
 ) -> Result<Output, NoMemory>
     requires { F.asked files.old ≡ [] }
-    ensures { IfOk result (λ output. (failed : List Name) × (F.refused files.new ≡ F.refused files.old ++ failed)
+    ensures comes { IfOk result (λ output. (failed : List Name) × (F.refused files.new ≡ F.refused files.old ++ failed)
         × IsAnswer query.entry (given file.now (option_copied sums.entry) (answers (F.asked files.new) failed)) (outcome_of output)) }
+    ensures asks { AsksInOrder file.now (option_copied sums.entry) (F.asked files.new) }
+    ensures may_answer { (name : Name) (reply : Reply) → Contains (F.asked files.new) (name, reply) → F.may_answer files.old name reply }
 {
     let read = match read_files(alloc, file, sums)? {
         Ok(read) => read,

@@ -5,14 +5,14 @@ use Rattle.gm_listing.specs.Outcomes.{outcome_of}
 use Rattle.gm_listing.proofs.Telling.{by_faults, not_loaded}
 use Rattle.gm_listing.proofs.answering.answer_over.Goals as goal
 
-pub returns-in_ok-output-in-Ok : goal.returns-in_ok-output-in-Ok
-returns-in_ok-output-in-Ok g c =
+pub returns-in_ok-output-in-Ok-clause-comes : goal.returns-in_ok-output-in-Ok-clause-comes
+returns-in_ok-output-in-Ok-clause-comes g c =
     by_faults c.args.query (main_of c.args.main.now) (option_copied c.args.table) (g.F.Files.asked c.load.new.files) (g.F.Files.refused c.args.files.now) (g.F.Files.refused c.load.new.files)
     c.in-Ok.loaded c.in-Ok.loaded.faults (outcome_of c.in_ok-output-in-Ok.output)
     c.in-Ok.ensures.loaded c.in-Ok.ensures.refused refl c.in_ok-output-in-Ok.ensures
 
-pub returns-in_ok-output-in-Err : goal.returns-in_ok-output-in-Err
-returns-in_ok-output-in-Err g c =
+pub returns-in_ok-output-in-Err-clause-comes : goal.returns-in_ok-output-in-Err-clause-comes
+returns-in_ok-output-in-Err-clause-comes g c =
     not_loaded c.args.query (main_of c.args.main.now) (option_copied c.args.table) (g.F.Files.asked c.load.new.files) (g.F.Files.refused c.args.files.now) (g.F.Files.refused c.load.new.files)
     c.in-Err.fault (outcome_of c.in_ok-output-in-Err.output)
     (λ e. c.load.ensures.too_many (c.in-Err.is ∙ ap Err e))
