@@ -11,7 +11,7 @@ use Rattle.gm_words.specs.declared.usage.Command.{Command}
 use Rattle.gm_words.specs.declared.usage.Places.{Places}
 use Rattle.gm_run.specs.Outcome.{Outcome}
 use Rattle.gm_run.specs.Held.{HoldsOne}
-use Rattle.gm_run.specs.Program.{AreOfOne, IsFolderOutcome, IsInputOutcome, IsProgramOutcome, IsReadOutcome, IsServed}
+use Rattle.gm_run.specs.Program.{AreOfOne, IsFolderOutcome, IsInputOutcome, IsProgramOutcome, IsProgramStatus, IsReadOutcome, IsServed}
 use Rattle.gm_run.specs.Runs.{ComesTo, IsFmtOutcome, Needs, StatesOutcome, Stored, is_query}
 use Rattle.gm_run.specs.Queries.{RunsTo}
 use Rattle.gm_run.proofs.Answering.{answered_in}
@@ -40,6 +40,16 @@ program_ends command places out out' report report' status code same asked ends 
     let P : ℕ → Type 0 = λ n. Ends IsProgramOutcome out out' report report' n in
     subst P (sym same) (ends_wider (IsServed command places) IsProgramOutcome out out' report report' status
     (λ outcome stated. inr (asked.0, command, places, asked.1, stated)) ends)
+
+-- the status of the process is that of the program's end
+pub program_status : (out out' report report' : Sunk) (status code : ℕ) → code ≡ status → Ends IsProgramOutcome out out' report report' status → IsProgramStatus code
+program_status out out' report report' status code same ends = elim ends.written [
+  | inl whole ↦ elim ends.as_stated [
+    | inl stated ↦ inl (ends.outcome, stated, same ∙ whole.1)
+    | inr memory ↦ inr (same ∙ whole.1 ∙ ap (λ (outcome : Outcome). outcome.status) memory)
+  ]
+  | inr part ↦ inr (same ∙ part.1)
+]
 
 -- `fmt` needs no file, so its outcome is by the bytes alone
 pub fmt_wider : (name file : List ℕ) (sums : Option (List ℕ)) (old new : Stored) (read : Result (Vec ℕ) ReadFault) (content : Vec ℕ) → read ≡ Ok content

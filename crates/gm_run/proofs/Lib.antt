@@ -1,5 +1,7 @@
+mod AllAsked
 mod Answering
 mod Endings
+mod InTurn
 mod Joining
 mod Sameness
 mod Uniqueness

@@ -5,8 +5,10 @@ use Rattle.gm_words.specs.declared.usage.Command.{Command}
 use Rattle.gm_words.specs.declared.usage.Command.TheVariants.{Fmt, Versions, Graph, List as Rows, Chain}
 use Rattle.gm_run.specs.Outcome.{Outcome}
 use Rattle.std.specs.Global.{Vec}
+use Rattle.std.specs.Option.{option_map}
+use Rattle.std.specs.String.{string_bytes}
 use Rattle.gm_store.specs.declared.reading.ReadFault.{ReadFault}
-use Rattle.gm_run.specs.Program.{IsQueryRun, IsQueryServed, IsReadOutcome, IsServed}
+use Rattle.gm_run.specs.Program.{IsQueryRun, IsQueryServed, IsReadOutcome, IsServed, IsSumsServed}
 use Rattle.gm_words.specs.declared.usage.Places.{Places}
 use Rattle.gm_run.specs.Queries.{RunsTo}
 use Rattle.gm_run.specs.Runs.{Stored, is_query, takes_sums}
@@ -43,3 +45,13 @@ query_served (Versions path all) places query outcome stated = cc query
 query_served Graph places query outcome stated = stated
 query_served (Rows after limit) places query outcome stated = stated
 query_served (Chain path) places query outcome stated = stated
+
+-- such a command is served by what was read of the main file, under its name, and by the go.sum that is named
+pub read_served : (command : Command) (places : Places) (main : List ℕ) (sums : Option (List ℕ)) (read : Result (Vec ℕ) ReadFault) → is_query command ≡ true
+    → main ≡ string_bytes places.main → sums ≡ option_map string_bytes places.sums → (outcome : Outcome)
+    → IsReadOutcome main (λ file outcome. IsSumsServed command sums file outcome) read outcome → IsServed command places outcome
+read_served command places main sums read query main_is sums_are outcome stated =
+    let named : IsReadOutcome main (λ file outcome. IsSumsServed command (option_map string_bytes places.sums) file outcome) read outcome =
+    subst (λ (s : Option (List ℕ)). IsReadOutcome main (λ file outcome. IsSumsServed command s file outcome) read outcome) sums_are stated in
+    query_served command places query outcome
+    (read, subst (λ (n : List ℕ). IsReadOutcome n (λ file outcome. IsSumsServed command (option_map string_bytes places.sums) file outcome) read outcome) main_is named)

@@ -5,6 +5,7 @@ pub mod Held
 pub mod Kinds
 pub mod Laws
 pub mod Listing
+pub mod Needs
 pub mod Outcome
 pub mod Program
 pub mod Queries

@@ -88,3 +88,7 @@ abbrev pub IsProgramOutcome : Outcome → Type 0
 IsProgramOutcome outcome =
     ((fault : UsageFault) × (outcome ≡ usage_outcome fault))
     ⊎ ((words : List (List ℕ)) × (command : Command) × (places : Places) × AskFor words command places × IsServed command places outcome)
+
+-- the status of the process: that of what the program comes to, or 3, where memory runs out or an output fails
+abbrev pub IsProgramStatus : ℕ → Type 0
+IsProgramStatus status = ((outcome : Outcome) × IsProgramOutcome outcome × (status ≡ outcome.status)) ⊎ (status ≡ 3)

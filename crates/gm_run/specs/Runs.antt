@@ -10,6 +10,7 @@ use Rattle.gm_syntax.specs.Tokens.{Placed}
 use Rattle.gm_words.specs.declared.usage.Command.{Command}
 use Rattle.gm_words.specs.declared.usage.Command.TheVariants.{Fmt, Versions, Graph, List as Rows, Chain}
 use Rattle.gm_run.specs.Kinds.{Place, fault_line, place_of, vertex_text}
+use Rattle.gm_run.specs.Needs.{GraphNeeds}
 use Rattle.gm_run.specs.Outcome.{Outcome, failed, printed, refused}
 use Rattle.gm_run.specs.Versions.{Answers, IsVersionsOutcome, VersionsNeed}
 
@@ -35,11 +36,11 @@ StatesOutcome Fmt main sums answers outcome = IsFmtOutcome main outcome
 StatesOutcome (Versions path all) main sums answers outcome = IsVersionsOutcome path all answers outcome
 StatesOutcome _ main sums answers outcome = ⊥
 
--- the files that `fmt` or `versions` needs, by the answers so far
+-- the files that a command needs, by the answers so far
 abbrev pub Needs : Command → List ℕ → Option (List ℕ) → Answers → Name → Type 0
 Needs Fmt main sums answers name = ⊥
 Needs (Versions path all) main sums answers name = VersionsNeed path all answers name
-Needs _ main sums answers name = ⊥
+Needs _ main sums answers name = GraphNeeds main sums answers name
 
 -- whether a command looks at a go.sum
 abbrev pub takes_sums : Command → Bool

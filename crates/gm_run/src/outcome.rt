@@ -1,10 +1,10 @@
 //! What a command comes to.
 
-ghost use Rattle.std.specs.Prelude.{◌≡◌, [], Contains, IfOk, false};
+ghost use Rattle.std.specs.Prelude.{◌≡◌, [], Contains, IfOk};
 ghost use Rattle.std.specs.Option.{option_map};
 ghost use Rattle.gm_store.specs.Asked.{Name, Reply};
 ghost use Rattle.gm_run.specs.Outcome.{outcome_of};
-ghost use Rattle.gm_run.specs.Runs.{AskedInTurn, Needs, is_query, stored};
+ghost use Rattle.gm_run.specs.Runs.{AskedInTurn, Needs, stored};
 ghost use Rattle.gm_run.specs.Queries.{RunsTo};
 
 use crate::fmt::fmt_outcome;
@@ -27,8 +27,8 @@ pub(crate) fn outcome<F: Files>(
 ) -> Result<Output, NoMemory>
     requires { F.asked files.old ≡ [] }
     ensures comes { IfOk result (λ output. RunsTo command.now main.now (option_map (λ sums. sums.now) sums.entry) (stored (F.asked files.old) (F.refused files.old)) (stored (F.asked files.new) (F.refused files.new)) (outcome_of output)) }
-    ensures in_turn { is_query command.now ≡ false → AskedInTurn (Needs command.now main.now (option_map (λ sums. sums.now) sums.entry)) (F.asked files.new) }
-    ensures answers { is_query command.now ≡ false → (name : Name) (reply : Reply) → Contains (F.asked files.new) (name, reply) → F.may_answer files.old name reply }
+    ensures in_turn { AskedInTurn (Needs command.now main.now (option_map (λ sums. sums.now) sums.entry)) (F.asked files.new) }
+    ensures answers { (name : Name) (reply : Reply) → Contains (F.asked files.new) (name, reply) → F.may_answer files.old name reply }
 {
     match command {
         Command::Versions { path, all } => versions_outcome(alloc, path, *all, files),

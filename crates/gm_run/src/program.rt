@@ -2,6 +2,7 @@
 
 ghost use Rattle.std.specs.Prelude.{◌≡◌, ◌++◌, ℕ, [], IfOk, List, Result, codes, false};
 ghost use Rattle.std.specs.Global.{Vec};
+ghost use Rattle.std.specs.Process.{exit_status};
 ghost use Rattle.std.specs.String.{string_bytes};
 ghost use Rattle.gm_store.specs.declared.reading.ReadFault.{ReadFault};
 ghost use Rattle.gm_words.specs.Usage.{AskFor};
@@ -9,7 +10,7 @@ ghost use Rattle.gm_store.specs.Asked.{list_file};
 ghost use Rattle.gm_store.specs.Memory.{pairs, pairs_of};
 ghost use Rattle.gm_run.specs.Held.{HoldsOne};
 ghost use Rattle.gm_run.specs.Outcome.{code_of, failed, misused};
-ghost use Rattle.gm_run.specs.Program.{IsFolderOutcome, IsInputOutcome, IsProgramOutcome, IsReadOutcome, IsServed, IsVersionsServed, unread_outcome, usage_outcome};
+ghost use Rattle.gm_run.specs.Program.{IsFolderOutcome, IsInputOutcome, IsProgramOutcome, IsProgramStatus, IsReadOutcome, IsServed, IsVersionsServed, unread_outcome, usage_outcome};
 ghost use Rattle.gm_run.specs.Runs.{IsFmtOutcome, is_query};
 ghost use Rattle.gm_run.specs.Written.{Ends, IsWritten, sunk};
 
@@ -31,8 +32,11 @@ use std::{env, fs};
 /// The status of the process where its words are wrong.
 const MISUSED: u8 = 2;
 
-/// The program: reads the words of the command line and runs the command, over standard output and standard error.
-pub fn exit_code(rt: &HostRuntime) -> ExitCode {
+/// The program: reads the words of the command line and runs the command, over standard output and standard error. The status is that
+/// of what the words ask for, 2 for a fault of the words, or 3 where memory runs out, a device fails or an output does.
+pub fn exit_code(rt: &HostRuntime) -> ExitCode
+    ensures { IsProgramStatus (exit_status result) }
+{
     let mut out = StdSink::new(rt.stdout());
     let mut report = StdSink::new(rt.stderr());
     ExitCode::from(status_of(rt, &mut out, &mut report))

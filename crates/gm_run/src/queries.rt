@@ -1,11 +1,13 @@
 //! What `graph`, `list` and `chain` come to.
 
-ghost use Rattle.std.specs.Prelude.{◌≡◌, ◌++◌, [], IfOk, List};
+ghost use Rattle.std.specs.Prelude.{◌≡◌, ◌++◌, [], Contains, IfOk, List};
 ghost use Rattle.std.specs.Option.{option_map};
-ghost use Rattle.gm_store.specs.Asked.{Name};
+ghost use Rattle.gm_store.specs.Asked.{Name, Reply};
 ghost use Rattle.gm_listing.specs.Outcomes.{IsAnswer, answers, given, Outcome as Found, outcome_of as found_of};
+ghost use Rattle.gm_run.specs.Needs.{GraphNeeds};
 ghost use Rattle.gm_run.specs.Outcome.{code_of, outcome_of};
 ghost use Rattle.gm_run.specs.Queries.{code_of_end, shown};
+ghost use Rattle.gm_run.specs.Runs.{AskedInTurn};
 
 use crate::output::Output;
 use crate::status::Status;
@@ -46,9 +48,11 @@ pub(crate) fn query_outcome<F: Files>(
     files: &mut F,
 ) -> Result<Output, NoMemory>
     requires { F.asked files.old ≡ [] }
-    ensures { IfOk result (λ output. (failed : List Name) × (found : Found) × (F.refused files.new ≡ F.refused files.old ++ failed)
+    ensures comes { IfOk result (λ output. (failed : List Name) × (found : Found) × (F.refused files.new ≡ F.refused files.old ++ failed)
         × IsAnswer query.entry (given main.now (option_map (λ sums. sums.now) sums.entry) (answers (F.asked files.new) failed)) found
         × (outcome_of output ≡ shown found)) }
+    ensures in_turn { AskedInTurn (GraphNeeds main.now (option_map (λ sums. sums.now) sums.entry)) (F.asked files.new) }
+    ensures answers { (name : Name) (reply : Reply) → Contains (F.asked files.new) (name, reply) → F.may_answer files.old name reply }
 {
     let found = answer(alloc, query, main, sums, files)?;
     Ok(output_of(found))

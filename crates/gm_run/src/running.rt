@@ -2,9 +2,9 @@
 
 ghost use Rattle.std.specs.Prelude.{◌≡◌, [], Contains, None, false};
 ghost use Rattle.std.specs.Option.{option_map};
-ghost use Rattle.gm_store.specs.Asked.{Name, Reply};
+ghost use Rattle.gm_store.specs.Asked.{Name, Reply, answer_in};
 ghost use Rattle.gm_run.specs.Outcome.{code_of};
-ghost use Rattle.gm_run.specs.Runs.{AskedInTurn, Needs, is_query, stored, takes_sums};
+ghost use Rattle.gm_run.specs.Runs.{AnsweredAll, AskedInTurn, Needs, stored, takes_sums};
 ghost use Rattle.gm_run.specs.Queries.{RunsTo};
 ghost use Rattle.gm_run.specs.Written.{Ends, sunk};
 
@@ -30,6 +30,11 @@ use std::alloc::Global;
 /// opened modules in the store, and the text is the edges, rows of the build list or a shortest chain, or the report says what keeps
 /// them from being found.
 ///
+/// Whatever the command and however the run ends, the store is asked for no file but those that are needed by what was read and
+/// answered before, each once, and each answer is one that it may give. Where the status is `Done`, each file that is needed was
+/// answered. `graph`, `list` and `chain` need the files of the opened modules, and none where the main file or the go.sum does not
+/// read (Go Modules Reference, "Minimal version selection" and "Module graph pruning").
+///
 /// A text goes to `out` with the status `Done`, a report to `report` with `Fault`. Where the store's device fails the report is
 /// `gomod: device at NAME`, and where memory runs out `gomod: no memory`, with the status `Device`. All asks and growths come
 /// before the first byte is written. Where a sink fails the status is `Device`, it holds a prefix of what was meant for it, and
@@ -49,9 +54,10 @@ pub fn run<F: Files, O: Sink, R: Sink>(
         (sunk (O.taken out.old) (O.room out.old) (O.fault_count out.old)) (sunk (O.taken out.new) (O.room out.new) (O.fault_count out.new))
         (sunk (R.taken report.old) (R.room report.old) (R.fault_count report.old)) (sunk (R.taken report.new) (R.room report.new) (R.fault_count report.new))
         (code_of result) }
-    // each file was needed by the answers before it, and is asked for once
-    ensures in_turn { is_query command.now ≡ false → AskedInTurn (Needs command.now main.now (option_map (λ sums. sums.now) sums.entry)) (F.asked files.new) }
-    ensures answers { is_query command.now ≡ false → (name : Name) (reply : Reply) → Contains (F.asked files.new) (name, reply) → F.may_answer files.old name reply }
+    // each file was needed by the answers before it, and is asked for once; where the run is done, each that is needed is answered
+    ensures in_turn { AskedInTurn (Needs command.now main.now (option_map (λ sums. sums.now) sums.entry)) (F.asked files.new) }
+    ensures all_answered { result ≡ Status.Done → AnsweredAll (Needs command.now main.now (option_map (λ sums. sums.now) sums.entry)) (answer_in (F.asked files.new)) }
+    ensures answers { (name : Name) (reply : Reply) → Contains (F.asked files.new) (name, reply) → F.may_answer files.old name reply }
 {
     match outcome(alloc, command, main, sums, files) {
         Ok(output) => {

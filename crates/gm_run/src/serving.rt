@@ -1,8 +1,9 @@
 //! What the program does for `graph`, `list` and `chain`.
 
-ghost use Rattle.std.specs.Prelude.{◌≡◌, [], None, Some, true};
+ghost use Rattle.std.specs.Prelude.{◌≡◌, [], IfOk, None, Some, true};
 ghost use Rattle.std.specs.Option.{option_map};
 ghost use Rattle.std.specs.String.{string_bytes};
+ghost use Rattle.gm_store.specs.Relative.{IsFolderOf};
 ghost use Rattle.gm_run.specs.Outcome.{code_of};
 ghost use Rattle.gm_run.specs.Program.{IsQueryRun, IsReadOutcome, IsServed, IsSumsServed};
 ghost use Rattle.gm_run.specs.Runs.{is_query};
@@ -153,7 +154,9 @@ fn main_read<S: Files + Clone + Drop + Alloc<A = Global>, O: Sink, R: Sink>(
 }
 
 /// The folder of the main file.
-fn main_folder(alloc: Global, file: &str) -> Result<String, NoMemory> {
+fn main_folder(alloc: Global, file: &str) -> Result<String, NoMemory>
+    ensures { IfOk result (λ folder. IsFolderOf file.now (string_bytes folder)) }
+{
     folder_of(alloc, file)
 }
 

@@ -1,0 +1,45 @@
+-- Files that are asked for one after another, each as it is needed.
+use Rattle.std.proofs.Common.{◌≡◌, ◌++◌, ◌∷◌, ℕ, List, [], Option, None, append-nil, append_assoc, inl, inr, subst, sym}
+use Rattle.gm_store.specs.Asked.{Name, Reply, answer_in}
+use Rattle.gm_sums.specs.declared.sums.SumTable.{SumTable}
+use Rattle.gm_cache.specs.Main.{Main}
+use Rattle.gm_graph.specs.Loading.{AsksInTurn, IsDue, nothing, more}
+use Rattle.gm_listing.specs.Outcomes.{AreSums, AsksInOrder, IsMainFile}
+use Rattle.gm_run.specs.Needs.{GraphNeeds}
+use Rattle.gm_run.specs.Runs.{AskedBehind, AskedInTurn}
+use Rattle.gm_run.specs.Versions.{Answers}
+
+abbrev Pairs : Type 0
+Pairs = List (Name × Reply)
+
+-- by these answers the name is needed, and is not answered
+abbrev IsWanted : (Answers → Name → Type 0) → Name → Pairs → Type 0
+IsWanted needs name asked = needs (answer_in asked) name × (answer_in asked name ≡ None)
+
+-- one more file comes behind those that were asked for
+behind_more : (needs : Answers → Name → Type 0) (before later : Pairs) (pair : Name × Reply) → AskedBehind needs before later
+    → IsWanted needs pair.0 (before ++ later) → AskedBehind needs before (later ++ pair ∷ [])
+behind_more needs before [] pair behind wanted =
+    let here : IsWanted needs pair.0 before = subst (IsWanted needs pair.0) (append-nil before) wanted in
+    (here.0, here.1, tt)
+behind_more needs before (one ∷ later) pair behind wanted =
+    let there : IsWanted needs pair.0 ((before ++ one ∷ []) ++ later) = subst (IsWanted needs pair.0) (sym (append_assoc before (one ∷ []) later)) wanted in
+    (behind.0, behind.1, behind_more needs (before ++ one ∷ []) later pair behind.2 there)
+
+module _ (file : List ℕ) (sums : Option (List ℕ)) (main : Main) (table : Option SumTable) (main_reads : IsMainFile file main) (sums_read : AreSums sums table) where
+  -- what is due is needed
+  due_needed : (asked : Pairs) (name : Name) → IsDue main table asked name → IsWanted (GraphNeeds file sums) name asked
+  due_needed asked name due = (
+    record { main = main; table = table; held = due.0.0; main_reads = main_reads; sums_read = sums_read; files_read = due.0.1; needed = due.0.2 },
+    due.1,
+  )
+
+  due_in_turn : {asked : Pairs} → AsksInTurn main table asked → AskedInTurn (GraphNeeds file sums) asked
+  due_in_turn nothing = tt
+  due_in_turn (more {pairs} {name} reply asks due) =
+      behind_more (GraphNeeds file sums) [] pairs (name, reply) (due_in_turn asks) (due_needed pairs name due)
+
+-- the files that a command over a module graph asks for are needed in turn
+pub in_turn : (file : List ℕ) (sums : Option (List ℕ)) (asked : Pairs) → AsksInOrder file sums asked → AskedInTurn (GraphNeeds file sums) asked
+in_turn file sums asked (inl none) = subst (λ (pairs : Pairs). AskedInTurn (GraphNeeds file sums) pairs) (sym none) tt
+in_turn file sums asked (inr (main, table, main_reads, sums_read, asks)) = due_in_turn file sums main table main_reads sums_read asks
