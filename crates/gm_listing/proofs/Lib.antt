@@ -9,3 +9,4 @@ pub mod OneOutcome
 mod PrintedList
 mod OneGraph
 mod GreatestRows
+mod ShortestChain

@@ -38,7 +38,7 @@ Printed prints run outcome = (main : Main) × (table : Option SumTable) × AreRe
 done : (outcome other : Outcome) → outcome ≡ other → outcome.status ≡ Done → other.status ≡ Done
 done outcome other same is = sym (ap (λ (o : Outcome). o.status) same) ∙ is
 
-not_refused : (report : List ℕ) (outcome : Outcome) → outcome ≡ refused report → outcome.status ≡ Done → ⊥
+pub not_refused : (report : List ℕ) (outcome : Outcome) → outcome ≡ refused report → outcome.status ≡ Done → ⊥
 not_refused report outcome same is = let end : Faulty ≡ Done = done outcome (refused report) same is in cc end
 
 not_failed : (report : List ℕ) (outcome : Outcome) → outcome ≡ failed report → outcome.status ≡ Done → ⊥

@@ -1,5 +1,5 @@
 -- Laws of what `graph`, `list` and `chain` come to, over the definitions alone.
-use Rattle.std.specs.Prelude.{◌≡◌, ◌≢◌, ◌<◌, ◌⊎◌, ℕ, false, List, [], ◌∷◌, ◌++◌, map, Option, Some, None, Contains}
+use Rattle.std.specs.Prelude.{◌≡◌, ◌≢◌, ◌<◌, ◌≤◌, ◌⊎◌, ℕ, false, List, [], ◌∷◌, ◌++◌, length, map, Option, Some, None, Contains}
 use Rattle.std.specs.List.{flat_map}
 use Rattle.std.specs.Ordering.{is_gt}
 use Rattle.gm_name.specs.Version.{version_cmp}
@@ -9,15 +9,16 @@ use Rattle.gm_cache.specs.Main.{Main, Vertex}
 use Rattle.gm_cache.specs.Reading.{Held, Readings, readings_by}
 use Rattle.gm_select.specs.declared.step.Edge.{Edge}
 use Rattle.gm_select.specs.declared.step.Step.{Step}
+use Rattle.gm_select.specs.declared.step.Step.TheVariants.{Main as FromMain, Of}
 use Rattle.gm_select.specs.BuildList.{Entry, IsBuildList, IsEntryOf, entry_of, main_entry, path_cmp, path_of}
 use Rattle.gm_select.specs.Chains.{IsChain}
 use Rattle.gm_select.specs.Graph.{Edges, among, edge_cmp}
 use Rattle.gm_select.specs.Order.{IsAscending}
-use Rattle.gm_graph.specs.Graph.{IsVertex}
+use Rattle.gm_graph.specs.Graph.{IsEdge, IsVertex}
 use Rattle.gm_graph.specs.Outcome.{AreFaults}
 use Rattle.gm_listing.specs.declared.output.Status.TheVariants.{Done}
 use Rattle.gm_listing.specs.Texts.{chain_text, graph_text, list_text}
-use Rattle.gm_listing.specs.Outcomes.{AreKnown, AreRead, Given, IsChainOutcome, IsGraphOutcome, IsListOutcome, IsMainFile, IsUnlisted, Outcome, PrintsRows, printed}
+use Rattle.gm_listing.specs.Outcomes.{AreKnown, AreRead, AreRows, Given, IsChainOutcome, IsGraphOutcome, IsListOutcome, IsMainFile, IsUnlisted, Outcome, PrintsRows, printed}
 
 -- ---- one outcome
 
@@ -101,6 +102,21 @@ pub data ArePages (run : Given) (main : List ℕ) (n : ℕ) : Option (List ℕ) 
 abbrev pub PagesJoin : Type 0
 PagesJoin = (run : Given) (n : ℕ) (whole : Outcome) → 0 < n → IsListOutcome None None run whole → whole.status ≡ Done
     → (main : Main) × (pages : List (List Entry)) × IsMainFile run.file main × ArePages run main.path n None pages × (whole.text ≡ flat_map (list_text main.path) pages)
+
+-- ---- `chain` is a shortest one
+
+-- the main module, and then steps to which an edge leads from the step before
+pub data IsWalk (edges : Edges) : Step → List Step → Type 0 where
+  here : IsWalk edges FromMain (FromMain ∷ [])
+  further : {s : Step} {y : Vertex} {steps : List Step} → IsWalk edges s steps → edges s y → IsWalk edges (Of y) (steps ++ Of y ∷ [])
+
+-- Where `chain` prints steps, they are a walk to what the list has for the path, and no walk there is shorter.
+abbrev pub ChainIsShortest : Type 0
+ChainIsShortest = (path : List ℕ) (run : Given) (outcome : Outcome) → IsChainOutcome path run outcome → outcome.status ≡ Done
+    → (main : Main) × (table : Option SumTable) × (held : Held) × (rows : List Entry) × (s : Step) × (steps : List Step) × AreRead run main table × AreKnown main table run.told held
+    × AreRows main (readings_by main held) rows × IsEntryOf main.path rows path s × (outcome ≡ printed (chain_text main.path steps))
+    × IsWalk (IsEdge main (readings_by main held)) s steps
+    × ((others : List Step) → IsWalk (IsEdge main (readings_by main held)) s others → length steps ≤ length others)
 
 -- ---- the three commands tell of one graph
 

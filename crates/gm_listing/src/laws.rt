@@ -1,6 +1,6 @@
 //! Laws over the definitions, on which the crates above may rest. The functions do nothing: each contract is a law.
 
-ghost use Rattle.gm_listing.specs.Laws.{AlikeChains, AlikeGraphs, AlikeLists, BuildListIsListed, ListIsBuildList, OneChainOutcome, OneGraph, OneGraphOutcome, OneListOutcome, OneRefusal, PagesJoin, PartsOfOneList};
+ghost use Rattle.gm_listing.specs.Laws.{AlikeChains, AlikeGraphs, AlikeLists, BuildListIsListed, ChainIsShortest, ListIsBuildList, OneChainOutcome, OneGraph, OneGraphOutcome, OneListOutcome, OneRefusal, PagesJoin, PartsOfOneList};
 
 /// The bytes of the main module's file, those of the go.sum and what the store told make one outcome of `graph`, one of `list` and
 /// one of `chain`: text, report and status are a function of those.
@@ -35,6 +35,12 @@ pub fn parts_of_one_list()
 /// Pages of n rows, each begun after the last row of the page before, join to what `list` prints at once, for every n from 1.
 pub fn pages_join()
     ensures { PagesJoin }
+{}
+
+/// Where `chain` prints steps, they begin with the main module, an edge leads from each to the next, the last is what the list has for
+/// the path, and no such steps are fewer.
+pub fn chain_is_shortest()
+    ensures { ChainIsShortest }
 {}
 
 /// Where `graph` prints edges, the rows of `list` are the build list of just these edges, and `chain` prints the chain of just these edges
