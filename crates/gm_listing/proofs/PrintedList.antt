@@ -161,10 +161,15 @@ module _ (run : Given) (main : Main) (table : Option SumTable) (held : Held) (ar
 pub pages_join : PagesJoin
 pages_join run n whole some is ends =
     let (main, table, are, held, known, faults, (rows, list, says)) = printed_run (PrintsList None None) run whole is ends in
-    let (pages, paging, joins) = row_pages main.path main.replaces (IsEdge main (readings_by main held)) rows list n some in (
+    let readings : Readings = readings_by main held in
+    let (pages, paging, joins) = row_pages main.path main.replaces (IsEdge main readings) rows list n some in (
       main,
+      table,
+      held,
       pages,
-      are.main_file,
+      are,
+      known,
+      subst (λ (es : List Entry). AreRows main readings es) (sym joins) list,
       paged run main table held are known faults rows list n None refl paging,
       ap (λ (o : Outcome). o.text) says ∙ ap (list_text main.path) (sym joins) ∙ texts_join main.path pages,
     )

@@ -13,6 +13,7 @@ use Rattle.gm_select.specs.declared.step.Step.TheVariants.{Main as FromMain, Of}
 use Rattle.gm_select.specs.BuildList.{Entry, IsBuildList, IsEntryOf, entry_of, main_entry, path_cmp, path_of}
 use Rattle.gm_select.specs.Chains.{IsChain}
 use Rattle.gm_select.specs.Graph.{Edges, among, edge_cmp}
+use Rattle.gm_select.specs.Laws.{joined}
 use Rattle.gm_select.specs.Order.{IsAscending}
 use Rattle.gm_graph.specs.Graph.{IsEdge, IsVertex}
 use Rattle.gm_graph.specs.Outcome.{AreFaults}
@@ -98,10 +99,11 @@ pub data ArePages (run : Given) (main : List ℕ) (n : ℕ) : Option (List ℕ) 
   one_page : {after : Option (List ℕ)} {pages : List (List Entry)} (front : List Entry) (last : Entry) → IsListOutcome after (Some n) run (printed (list_text main (front ++ last ∷ [])))
       → ArePages run main n (Some (path_of main last.0)) pages → ArePages run main n after ((front ++ last ∷ []) ∷ pages)
 
--- The texts of the pages, one after another, are what `list` prints without a limit.
+-- The pages join to the build list, and their texts, one after another, are what `list` prints without a limit.
 abbrev pub PagesJoin : Type 0
 PagesJoin = (run : Given) (n : ℕ) (whole : Outcome) → 0 < n → IsListOutcome None None run whole → whole.status ≡ Done
-    → (main : Main) × (pages : List (List Entry)) × IsMainFile run.file main × ArePages run main.path n None pages × (whole.text ≡ flat_map (list_text main.path) pages)
+    → (main : Main) × (table : Option SumTable) × (held : Held) × (pages : List (List Entry)) × AreRead run main table × AreKnown main table run.told held
+    × AreRows main (readings_by main held) (joined pages) × ArePages run main.path n None pages × (whole.text ≡ flat_map (list_text main.path) pages)
 
 -- ---- `chain` is a shortest one
 
