@@ -62,5 +62,15 @@ module _ (main : Main) (readings : Readings) (selected : List Vertex) (are : Are
   as_build_list = record { selected = selected; entries_are = refl; ascending = are.ascending; each = λ x. (is_selected x, is_row x) }
 
 pub build_list_is_listed : BuildListIsListed
-build_list_is_listed run main table held selected are known faults greatest =
-    inr (main, table, are, inr (held, known, faults, (main_entry ∷ map (entry_of main.replaces) selected, as_build_list main (readings_by main held) selected greatest, refl)))
+build_list_is_listed run main held selected found greatest =
+    inr (
+      main,
+      found.table,
+      found.read,
+      inr (
+        held,
+        found.known,
+        found.sound,
+        (main_entry ∷ map (entry_of main.replaces) selected, as_build_list main (readings_by main held) selected greatest, refl),
+      ),
+    )

@@ -23,20 +23,21 @@ joined E F G one other s y = ((λ e. (other s y).0 ((one s y).0 e)), (λ g. (one
 
 pub one_graph : OneGraph
 one_graph after limit path run graph list chain is_graph is_list is_chain ends =
-    let (main, table, are, held, known, faults, (edges, exact, says)) = printed_run PrintsGraph run graph is_graph ends in
-    let (next, same, (rows, listed, shows)) = also_printed (PrintsList after limit) run main table held are known faults list is_list in
-    let (third, alike, (others, selected, tells)) = also_printed (PrintsChain path) run main table held are known faults chain is_chain in
+    let (main, held, found, (edges, exact, says)) = printed_run PrintsGraph run graph is_graph ends in
+    let (next, same, (rows, listed, shows)) = also_printed (PrintsList after limit) run main held found list is_list in
+    let (third, alike, (others, selected, tells)) = also_printed (PrintsChain path) run main held found chain is_chain in
     let here : Edges = IsEdge main (readings_by main held) in
     let one : Edges = IsEdge main (readings_by main next) in
     let other : Edges = IsEdge main (readings_by main third) in
     let among_here : AreSame here (among edges) = same_back (among edges) here (same_edges main (readings_by main held) edges exact.each) in
     let rows_same : others ≡ rows = one_rows main (readings_by main third) (readings_by main next) others rows (joined other here one alike (same_back one here same)) selected listed in (
       main,
+      held,
       edges,
       rows,
-      are.main_file,
+      found,
+      exact,
       record {
-        ascending = exact.ascending;
         build_list = same_build_list main.path main.replaces one (among edges) rows (joined one here (among edges) same among_here) listed;
         graph_is = says;
         list_is = shows;
@@ -59,7 +60,7 @@ one_refusal after limit path run graph list chain is_graph is_list is_chain ends
 
 pub parts_of_one_list : PartsOfOneList
 parts_of_one_list after limit run whole part is_whole is_part ends =
-    let (main, table, are, held, known, faults, (rows, list, says)) = printed_run (PrintsList None None) run whole is_whole ends in
-    let (next, same, (others, listed, shows)) = also_printed (PrintsList after limit) run main table held are known faults part is_part in
+    let (main, held, found, (rows, list, says)) = printed_run (PrintsList None None) run whole is_whole ends in
+    let (next, same, (others, listed, shows)) = also_printed (PrintsList after limit) run main held found part is_part in
     let rows_same : others ≡ rows = one_rows main (readings_by main next) (readings_by main held) others rows same listed list in
-    (main, rows, are.main_file, says, subst (λ (es : List Entry). PrintsRows main es after limit part) rows_same shows)
+    (main, held, rows, found, list, says, subst (λ (es : List Entry). PrintsRows main es after limit part) rows_same shows)

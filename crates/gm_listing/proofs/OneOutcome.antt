@@ -10,7 +10,7 @@ use Rattle.gm_graph.specs.Graph.{IsEdge, IsOpened}
 use Rattle.gm_graph.specs.Loading.{AreFew, AreTooMany, IsAnswered, Told}
 use Rattle.gm_graph.specs.Outcome.{AreFaults}
 use Rattle.gm_listing.specs.Found.{IsToldUnless}
-use Rattle.gm_listing.specs.Laws.{AlikeChains, AlikeGraphs, AlikeLists, AnswerAlike, AreAlike, OneChainOutcome, OneGraphOutcome, OneListOutcome}
+use Rattle.gm_listing.specs.Laws.{AlikeChains, AlikeGraphs, AlikeLists, AnswerAlike, AreAlike, AreFound, OneChainOutcome, OneGraphOutcome, OneListOutcome}
 use Rattle.gm_listing.specs.Outcomes.{Answers, AreKnown, AreMisread, AreRead, AreSums, Given, IsMainFile, IsMisread, IsOutcome, IsOutcomeOver, IsRefusedRead, IsStopped, IsUnasked, Outcome, Prints, PrintsChain, PrintsGraph, PrintsList, device, failed, faulty, refused, too_many}
 use Rattle.gm_listing.specs.Reports.{Place, device_line, faults_text, main_line, too_many_line}
 use Rattle.gm_listing.proofs.OnePrinted.{PrintsOnce, chain_once, graph_once, list_once, one_faults}
@@ -147,28 +147,27 @@ one_chain_outcome path run a b is be = alike_chains path run run a b (itself run
 
 -- ---- what one command found, the others find
 
-module _ (prints : Prints) (run : Given) (main : Main) (table : Option SumTable) (held : Held) (are : AreRead run main table) (knows : AreKnown main table run.told held)
-    (sound : AreFaults main (readings_by main held) []) (outcome : Outcome) where
+module _ (prints : Prints) (run : Given) (main : Main) (held : Held) (found : AreFound run main held) (outcome : Outcome) where
   -- the command prints, by readings that make the same edges
   abbrev pub Also : Type 0
   Also = (next : Held) × AreSame (IsEdge main (readings_by main next)) (IsEdge main (readings_by main held)) × prints main (readings_by main next) outcome
 
-  also_came : Came prints main table run.told outcome → Also
-  also_came (many over none says) = absurd (not_many main table run.told run.told held (answers_itself run.told.asked) over knows)
-  also_came (broken name some says) = absurd (not_broken run.told.failed name some knows.none_failed)
+  also_came : Came prints main found.table run.told outcome → Also
+  also_came (many over none says) = absurd (not_many main found.table run.told run.told held (answers_itself run.told.asked) over found.known)
+  also_came (broken name some says) = absurd (not_broken run.told.failed name some found.known.none_failed)
   also_came (known next faults were be says) =
       let r = readings_by main next in
       let s = readings_by main held in
-      let into : Agrees main r s = agree main table run.told run.told next held (answers_itself run.told.asked) were.tells knows in
-      let back : Agrees main s r = agree main table run.told run.told held next (answers_itself run.told.asked) knows.tells were in (
+      let into : Agrees main r s = agree main found.table run.told run.told next held (answers_itself run.told.asked) were.tells found.known in
+      let back : Agrees main s r = agree main found.table run.told run.told held next (answers_itself run.told.asked) found.known.tells were in (
         next,
         same_edges main r s into back,
-        subst (λ (fs : List Fault). IsToldUnless fs (prints main r outcome) outcome) (one_faults main r s faults [] into back be sound) says,
+        subst (λ (fs : List Fault). IsToldUnless fs (prints main r outcome) outcome) (one_faults main r s faults [] into back be found.sound) says,
       )
 
   pub also_printed : IsOutcome prints run outcome → Also
-  also_printed (inl (is, none)) = absurd (not_refused run outcome main table is are)
+  also_printed (inl (is, none)) = absurd (not_refused run outcome main found.table is found.read)
   also_printed (inr (again, other, were, over)) =
-      let same : again ≡ main = one_main run.file again main were.main_file are.main_file in
-      let found : FindSame other table = one_finding run.sums other table were.sums are.sums in
-      also_came (came_alike prints main other table run.told outcome found (subst (λ (m : Main). Came prints m other run.told outcome) same (came prints again other run.told outcome over)))
+      let same : again ≡ main = one_main run.file again main were.main_file found.read.main_file in
+      let same_tables : FindSame other found.table = one_finding run.sums other found.table were.sums found.read.sums in
+      also_came (came_alike prints main other found.table run.told outcome same_tables (subst (λ (m : Main). Came prints m other run.told outcome) same (came prints again other run.told outcome over)))

@@ -24,7 +24,7 @@ use Rattle.gm_graph.specs.Outcome.{AreFaults}
 use Rattle.gm_graph.proofs.Mapped.{from_mapped, in_mapped}
 use Rattle.gm_listing.specs.declared.output.Status.{Status}
 use Rattle.gm_listing.specs.declared.output.Status.TheVariants.{Done, Fault as Faulty, Device}
-use Rattle.gm_listing.specs.Laws.{AreGreatest, ArePages, ListIsBuildList, PagesJoin, no_row, one_page}
+use Rattle.gm_listing.specs.Laws.{AreFound, AreGreatest, ArePages, ListIsBuildList, PagesJoin, no_row, one_page}
 use Rattle.gm_listing.specs.Outcomes.{AreKnown, AreRead, AreRows, Given, IsListOutcome, IsOutcome, IsStopped, Outcome, Prints, PrintsList, device, failed, faulty, printed, refused, too_many}
 use Rattle.gm_listing.specs.Texts.{list_text}
 use Rattle.gm_listing.proofs.FewOpened.{edges_listed}
@@ -32,8 +32,7 @@ use Rattle.gm_listing.proofs.FewOpened.{edges_listed}
 -- ---- a run that prints
 
 abbrev pub Printed : Prints → Given → Outcome → Type 0
-Printed prints run outcome = (main : Main) × (table : Option SumTable) × AreRead run main table × (held : Held) × AreKnown main table run.told held
-    × AreFaults main (readings_by main held) [] × prints main (readings_by main held) outcome
+Printed prints run outcome = (main : Main) × (held : Held) × AreFound run main held × prints main (readings_by main held) outcome
 
 done : (outcome other : Outcome) → outcome ≡ other → outcome.status ≡ Done → other.status ≡ Done
 done outcome other same is = sym (ap (λ (o : Outcome). o.status) same) ∙ is
@@ -50,7 +49,7 @@ printed_run prints run outcome (inl (inr (main, report, reads, misread, says), n
 printed_run prints run outcome (inr (main, table, are, inl (too_many over none says))) is = absurd (not_refused _ outcome says is)
 printed_run prints run outcome (inr (main, table, are, inl (device name due one says))) is = absurd (not_failed _ outcome says is)
 printed_run prints run outcome (inr (main, table, are, inl (faulty held first others known faults says))) is = absurd (not_refused _ outcome says is)
-printed_run prints run outcome (inr (main, table, are, inr (held, known, faults, says))) is = (main, table, are, held, known, faults, says)
+printed_run prints run outcome (inr (main, table, are, inr (held, known, faults, says))) is = (main, held, record { table = table; read = are; known = known; sound = faults }, says)
 
 -- ---- the build list of relations
 
@@ -95,8 +94,14 @@ module _ (main : Main) (readings : Readings) (few : AreFew main readings) (rows 
 
 pub list_is_build_list : ListIsBuildList
 list_is_build_list run outcome is ends =
-    let (main, table, are, held, known, faults, (rows, list, says)) = printed_run (PrintsList None None) run outcome is ends in
-    (main, table, held, list.selected, are, known, faults, greatest main (readings_by main held) known.few rows list, says ∙ ap (λ (es : List Entry). printed (list_text main.path es)) list.entries_are)
+    let (main, held, found, (rows, list, says)) = printed_run (PrintsList None None) run outcome is ends in (
+      main,
+      held,
+      list.selected,
+      found,
+      greatest main (readings_by main held) found.known.few rows list,
+      says ∙ ap (λ (es : List Entry). printed (list_text main.path es)) list.entries_are,
+    )
 
 -- ---- pages
 
@@ -139,16 +144,15 @@ texts_join : (main : List ℕ) (pages : List (List Entry)) → list_text main (j
 texts_join main [] = refl
 texts_join main (page ∷ pages) = flat_map-append _ page (joined pages) ∙ ap (λ (t : List ℕ). list_text main page ++ t) (texts_join main pages)
 
-module _ (run : Given) (main : Main) (table : Option SumTable) (held : Held) (are : AreRead run main table) (known : AreKnown main table run.told held)
-    (faults : AreFaults main (readings_by main held) []) (rows : List Entry) (list : AreRows main (readings_by main held) rows) (n : ℕ) where
+module _ (run : Given) (main : Main) (held : Held) (found : AreFound run main held) (rows : List Entry) (list : AreRows main (readings_by main held) rows) (n : ℕ) where
   -- these rows are left after that path, or they are all
   abbrev AreLeft : Option (List ℕ) → List Entry → Type 0
   AreLeft None left = left ≡ rows
   AreLeft (Some path) left = IsRestAfter main.path rows path left
 
   page_printed : (after : Option (List ℕ)) (left : List Entry) → AreLeft after left → IsListOutcome after (Some n) run (printed (list_text main.path (take n left)))
-  page_printed None left is = inr (main, table, are, inr (held, known, faults, (rows, list, ap (λ (es : List Entry). printed (list_text main.path (take n es))) is)))
-  page_printed (Some path) left is = inr (main, table, are, inr (held, known, faults, (rows, list, inl (left, is, refl))))
+  page_printed None left is = inr (main, found.table, found.read, inr (held, found.known, found.sound, (rows, list, ap (λ (es : List Entry). printed (list_text main.path (take n es))) is)))
+  page_printed (Some path) left is = inr (main, found.table, found.read, inr (held, found.known, found.sound, (rows, list, inl (left, is, refl))))
 
   paged : {left : List Entry} {pages : List (List Entry)} (after : Option (List ℕ)) → AreLeft after left → AreRowPages main.path rows n left pages → ArePages run main.path n after pages
   paged after is no_more = no_row (subst (λ (es : List Entry). IsListOutcome after (Some n) run (printed (list_text main.path es))) (take_none n) (page_printed after [] is))
@@ -160,16 +164,14 @@ module _ (run : Given) (main : Main) (table : Option SumTable) (held : Held) (ar
 
 pub pages_join : PagesJoin
 pages_join run n whole some is ends =
-    let (main, table, are, held, known, faults, (rows, list, says)) = printed_run (PrintsList None None) run whole is ends in
+    let (main, held, found, (rows, list, says)) = printed_run (PrintsList None None) run whole is ends in
     let readings : Readings = readings_by main held in
     let (pages, paging, joins) = row_pages main.path main.replaces (IsEdge main readings) rows list n some in (
       main,
-      table,
       held,
       pages,
-      are,
-      known,
+      found,
       subst (λ (es : List Entry). AreRows main readings es) (sym joins) list,
-      paged run main table held are known faults rows list n None refl paging,
+      paged run main held found rows list n None refl paging,
       ap (λ (o : Outcome). o.text) says ∙ ap (list_text main.path) (sym joins) ∙ texts_join main.path pages,
     )

@@ -40,22 +40,10 @@ no_shorter E s steps others chain walk =
 
 pub chain_is_shortest : ChainIsShortest
 chain_is_shortest path run outcome is ends =
-    let (main, table, are, held, known, faults, (rows, list, shows)) = printed_run (PrintsChain path) run outcome is ends in
+    let (main, held, found, (rows, list, shows)) = printed_run (PrintsChain path) run outcome is ends in
+    let edges : Edges = IsEdge main (readings_by main held) in
     elim shows [
-      | inl (s, steps, entry, chain, says) ↦ (
-        main,
-        table,
-        held,
-        rows,
-        s,
-        steps,
-        are,
-        known,
-        list,
-        entry,
-        says,
-        chain_walk (IsEdge main (readings_by main held)) chain,
-        (λ others walk. no_shorter (IsEdge main (readings_by main held)) s steps others chain walk),
-      )
+      | inl (s, steps, entry, chain, says) ↦
+          (main, held, rows, s, steps, found, list, entry, says, chain_walk edges chain, (λ others walk. no_shorter edges s steps others chain walk))
       | inr (unlisted, says) ↦ absurd (not_refused _ outcome says ends)
     ]

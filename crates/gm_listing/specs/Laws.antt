@@ -12,14 +12,14 @@ use Rattle.gm_select.specs.declared.step.Step.{Step}
 use Rattle.gm_select.specs.declared.step.Step.TheVariants.{Main as FromMain, Of}
 use Rattle.gm_select.specs.BuildList.{Entry, IsBuildList, IsEntryOf, entry_of, main_entry, path_cmp, path_of}
 use Rattle.gm_select.specs.Chains.{IsChain}
-use Rattle.gm_select.specs.Graph.{Edges, among, edge_cmp}
+use Rattle.gm_select.specs.Graph.{Edges, among}
 use Rattle.gm_select.specs.Laws.{joined}
 use Rattle.gm_select.specs.Order.{IsAscending}
 use Rattle.gm_graph.specs.Graph.{IsEdge, IsVertex}
-use Rattle.gm_graph.specs.Outcome.{AreFaults}
+use Rattle.gm_graph.specs.Outcome.{AreEdges, AreFaults}
 use Rattle.gm_listing.specs.declared.output.Status.TheVariants.{Done}
 use Rattle.gm_listing.specs.Texts.{chain_text, graph_text, list_text}
-use Rattle.gm_listing.specs.Outcomes.{AreKnown, AreRead, AreRows, Given, IsChainOutcome, IsGraphOutcome, IsListOutcome, IsMainFile, IsUnlisted, Outcome, PrintsRows, printed}
+use Rattle.gm_listing.specs.Outcomes.{AreKnown, AreRead, AreRows, Given, IsChainOutcome, IsGraphOutcome, IsListOutcome, IsUnlisted, Outcome, PrintsRows, printed}
 
 -- ---- one outcome
 
@@ -55,6 +55,15 @@ AlikeLists = (after : Option (List ℕ)) (limit : Option ℕ) (one other : Given
 abbrev pub AlikeChains : Type 0
 AlikeChains = (path : List ℕ) (one other : Given) (a b : Outcome) → AreAlike one other → IsChainOutcome path one a → IsChainOutcome path other b → a ≡ b
 
+-- ---- what a run that prints stands on
+
+-- Both files read, and the files of the opened modules were asked for, each once, are known, and have no faults.
+pub record AreFound (run : Given) (main : Main) (held : Held) : Type 0 where
+  pub table : Option SumTable
+  pub read : AreRead run main table
+  pub known : AreKnown main table run.told held
+  pub sound : AreFaults main (readings_by main held) []
+
 -- ---- `list` is the build list by minimal version selection (Go Modules Reference, "Minimal version selection")
 
 -- The modules behind the main module: the greatest version that is required of each path other than the main module's.
@@ -71,14 +80,12 @@ pub record AreGreatest (main : Main) (readings : Readings) (selected : List Vert
 -- opened modules are known, and none has a fault.
 abbrev pub ListIsBuildList : Type 0
 ListIsBuildList = (run : Given) (outcome : Outcome) → IsListOutcome None None run outcome → outcome.status ≡ Done
-    → (main : Main) × (table : Option SumTable) × (held : Held) × (selected : List Vertex) × AreRead run main table × AreKnown main table run.told held
-    × AreFaults main (readings_by main held) [] × AreGreatest main (readings_by main held) selected
+    → (main : Main) × (held : Held) × (selected : List Vertex) × AreFound run main held × AreGreatest main (readings_by main held) selected
     × (outcome ≡ printed (list_text main.path (main_entry ∷ map (entry_of main.replaces) selected)))
 
 -- And whatever modules are so, `list` prints them.
 abbrev pub BuildListIsListed : Type 0
-BuildListIsListed = (run : Given) (main : Main) (table : Option SumTable) (held : Held) (selected : List Vertex) → AreRead run main table → AreKnown main table run.told held
-    → AreFaults main (readings_by main held) [] → AreGreatest main (readings_by main held) selected
+BuildListIsListed = (run : Given) (main : Main) (held : Held) (selected : List Vertex) → AreFound run main held → AreGreatest main (readings_by main held) selected
     → IsListOutcome None None run (printed (list_text main.path (main_entry ∷ map (entry_of main.replaces) selected)))
 
 -- ---- parts of the list
@@ -88,7 +95,8 @@ BuildListIsListed = (run : Given) (main : Main) (table : Option SumTable) (held 
 abbrev pub PartsOfOneList : Type 0
 PartsOfOneList = (after : Option (List ℕ)) (limit : Option ℕ) (run : Given) (whole part : Outcome)
     → IsListOutcome None None run whole → IsListOutcome after limit run part → whole.status ≡ Done
-    → (main : Main) × (rows : List Entry) × IsMainFile run.file main × (whole ≡ printed (list_text main.path rows)) × PrintsRows main rows after limit part
+    → (main : Main) × (held : Held) × (rows : List Entry) × AreFound run main held × AreRows main (readings_by main held) rows
+    × (whole ≡ printed (list_text main.path rows)) × PrintsRows main rows after limit part
 
 -- ---- pages
 
@@ -102,8 +110,7 @@ pub data ArePages (run : Given) (main : List ℕ) (n : ℕ) : Option (List ℕ) 
 -- The pages join to the build list, and their texts, one after another, are what `list` prints without a limit.
 abbrev pub PagesJoin : Type 0
 PagesJoin = (run : Given) (n : ℕ) (whole : Outcome) → 0 < n → IsListOutcome None None run whole → whole.status ≡ Done
-    → (main : Main) × (table : Option SumTable) × (held : Held) × (pages : List (List Entry)) × AreRead run main table × AreKnown main table run.told held
-    × AreRows main (readings_by main held) (joined pages) × ArePages run main.path n None pages × (whole.text ≡ flat_map (list_text main.path) pages)
+    → (main : Main) × (held : Held) × (pages : List (List Entry)) × AreFound run main held × AreRows main (readings_by main held) (joined pages) × ArePages run main.path n None pages × (whole.text ≡ flat_map (list_text main.path) pages)
 
 -- ---- `chain` is a shortest one
 
@@ -115,7 +122,7 @@ pub data IsWalk (edges : Edges) : Step → List Step → Type 0 where
 -- Where `chain` prints steps, they are a walk to what the list has for the path, and no walk there is shorter.
 abbrev pub ChainIsShortest : Type 0
 ChainIsShortest = (path : List ℕ) (run : Given) (outcome : Outcome) → IsChainOutcome path run outcome → outcome.status ≡ Done
-    → (main : Main) × (table : Option SumTable) × (held : Held) × (rows : List Entry) × (s : Step) × (steps : List Step) × AreRead run main table × AreKnown main table run.told held
+    → (main : Main) × (held : Held) × (rows : List Entry) × (s : Step) × (steps : List Step) × AreFound run main held
     × AreRows main (readings_by main held) rows × IsEntryOf main.path rows path s × (outcome ≡ printed (chain_text main.path steps))
     × IsWalk (IsEdge main (readings_by main held)) s steps
     × ((others : List Step) → IsWalk (IsEdge main (readings_by main held)) s others → length steps ≤ length others)
@@ -131,7 +138,6 @@ ShowsChain path main edges rows outcome =
 -- The rows of `list` are the build list of the edges of `graph`, and the steps of `chain` are the chain of these edges to what the list
 -- has for the path.
 pub record AreOfOneGraph (main : Main) (edges : List Edge) (rows : List Entry) (after : Option (List ℕ)) (limit : Option ℕ) (path : List ℕ) (graph list chain : Outcome) : Type 0 where
-  pub ascending : IsAscending edge_cmp edges
   pub build_list : IsBuildList main.path main.replaces (among edges) rows
   pub graph_is : graph ≡ printed (graph_text main.path edges)
   pub list_is : PrintsRows main rows after limit list
@@ -141,7 +147,8 @@ pub record AreOfOneGraph (main : Main) (edges : List Edge) (rows : List Entry) (
 abbrev pub OneGraph : Type 0
 OneGraph = (after : Option (List ℕ)) (limit : Option ℕ) (path : List ℕ) (run : Given) (graph list chain : Outcome)
     → IsGraphOutcome run graph → IsListOutcome after limit run list → IsChainOutcome path run chain → graph.status ≡ Done
-    → (main : Main) × (edges : List Edge) × (rows : List Entry) × IsMainFile run.file main × AreOfOneGraph main edges rows after limit path graph list chain
+    → (main : Main) × (held : Held) × (edges : List Edge) × (rows : List Entry) × AreFound run main held × AreEdges main (readings_by main held) edges
+    × AreOfOneGraph main edges rows after limit path graph list chain
 
 -- and where it does not, the others print nothing either and report the same
 abbrev pub OneRefusal : Type 0
