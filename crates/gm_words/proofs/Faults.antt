@@ -37,7 +37,7 @@ entries_result words entered (Err fault) taken same known = entries_fault words 
 pub entries_read : (words : List Text) (entered : Option (Text × List Row)) (result : Result (Command × Places) UsageFault) → AreTaken words
     → entered ≡ subcommand_of gomod_app words → IfOk result (λ read. IsMeant entered read.0 read.1) → IfOk result (λ read. AskFor words read.0 read.1)
 entries_read words entered (Ok read) taken same known =
-    let P : Option (Text × List Row) → Type 0 = λ o. IsMeant o read.0 read.1 in (taken, subst P same known)
+    let P : Option (Text × List Row) → Type 0 = λ o. IsMeant o read.0 read.1 in record { taken = taken; meant = subst P same known }
 entries_read words entered (Err fault) taken same known = tt
 
 -- help is shown only where it was asked for

@@ -131,8 +131,9 @@ abbrev pub AreRefused : List Text → Type 0
 AreRefused words = (takes gomod_app words ≡ true → ⊥) × (kind : ErrorKind) × (kind ≢ DisplayHelp) × IsAmong kind (fault_of gomod_app words)
 
 -- the words ask for this command with these places: the parser takes them, and its entries for them mean that
-abbrev pub AskFor : List Text → Command → Places → Type 0
-AskFor words command places = AreTaken words × IsMeant (subcommand_of gomod_app words) command places
+pub record AskFor (words : List Text) (command : Command) (places : Places) : Type 0 where
+  pub taken : AreTaken words
+  pub meant : IsMeant (subcommand_of gomod_app words) command places
 
 -- The text where a path is wanted: PATH of `versions` and of `chain`, and that of `--after` of `list`, whose `--limit` is looked at
 -- first.
