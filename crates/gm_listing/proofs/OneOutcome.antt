@@ -1,18 +1,18 @@
 -- A run has one outcome.
-use Rattle.std.proofs.Common.{◌≡◌, ◌⊎◌, ◌∙◌, ◌<◌, ◌≤◌, ℕ, List, [], ◌∷◌, length, Option, Some, sym, ap, refl, subst, arith, inl, inr}
+use Rattle.std.proofs.Common.{◌≡◌, ◌∙◌, ◌≤◌, ℕ, List, [], ◌∷◌, length, Option, Some, sym, ap, refl, subst, arith, inl, inr}
 use Rattle.gm_store.specs.Asked.{Name, Reply}
 use Rattle.gm_sums.specs.declared.sums.SumTable.{SumTable}
-use Rattle.gm_cache.specs.Main.{Main, Vertex}
-use Rattle.gm_cache.specs.Reading.{Held, Readings, Tells, readings_by}
+use Rattle.gm_cache.specs.Main.{Main}
+use Rattle.gm_cache.specs.Reading.{Held, Tells, readings_by}
 use Rattle.gm_select.proofs.Same.{AreSame}
 use Rattle.gm_graph.specs.declared.fault.Fault.{Fault}
-use Rattle.gm_graph.specs.Graph.{IsEdge, IsOpened}
-use Rattle.gm_graph.specs.Loading.{AreFew, AreTooMany, IsAnswered, Told}
+use Rattle.gm_graph.specs.Graph.{IsEdge}
+use Rattle.gm_graph.specs.Loading.{AreTooMany, Told}
 use Rattle.gm_graph.specs.Outcome.{AreFaults}
 use Rattle.gm_listing.specs.Found.{IsToldUnless}
 use Rattle.gm_listing.specs.Laws.{AlikeChains, AlikeGraphs, AlikeLists, AnswerAlike, AreAlike, AreFound, OneChainOutcome, OneGraphOutcome, OneListOutcome}
-use Rattle.gm_listing.specs.Outcomes.{Answers, AreKnown, AreMisread, AreRead, AreSums, Given, IsMainFile, IsMisread, IsOutcome, IsOutcomeOver, IsRefusedRead, IsStopped, IsUnasked, Outcome, Prints, PrintsChain, PrintsGraph, PrintsList, device, failed, faulty, refused, too_many}
-use Rattle.gm_listing.specs.Reports.{Place, device_line, faults_text, main_line, too_many_line}
+use Rattle.gm_listing.specs.Outcomes.{Answers, AreKnown, AreRead, AreSums, Given, IsMainFile, IsOutcome, IsOutcomeOver, IsRefusedRead, Outcome, Prints, PrintsChain, PrintsGraph, PrintsList, device, failed, faulty, refused, too_many}
+use Rattle.gm_listing.specs.Reports.{Place, device_line, main_line, too_many_line}
 use Rattle.gm_listing.proofs.OnePrinted.{PrintsOnce, chain_once, graph_once, list_once, one_faults}
 use Rattle.gm_listing.proofs.OneRead.{FindSame, misread_or_main, misread_or_sums, one_finding, one_main, one_misreport, one_place, tells_alike}
 use Rattle.gm_listing.proofs.OneStore.{Agrees, alike_back, same_edges, stores_agree, too_many as many_stay}

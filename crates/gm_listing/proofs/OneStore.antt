@@ -1,5 +1,5 @@
 -- What the files of the opened modules say does not go by what else was asked, nor by the order of the asks.
-use Rattle.std.proofs.Common.{◌≡◌, ◌∙◌, ◌↔◌, Bool, true, false, List, Option, Some, None, IsSome, Result, Ok, Err, Contains, sym, ap, refl, subst, arith, inl, inr}
+use Rattle.std.proofs.Common.{◌≡◌, ◌∙◌, Bool, true, false, List, Option, Some, None, IsSome, Result, Err, Contains, sym, ap, refl, subst, arith, inl, inr}
 use Rattle.std.specs.Option.{option_map}
 use Rattle.std.proofs.lemmas.Bool.{false≢true}
 use Rattle.gm_file.specs.Fields.{Dependency}

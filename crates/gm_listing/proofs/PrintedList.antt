@@ -1,17 +1,16 @@
 -- What `list` prints is the build list, in pages or at once.
-use Rattle.std.proofs.Common.{◌≡◌, ◌≢◌, ◌∙◌, ◌⊎◌, ◌<◌, ◌↔◌, ℕ, zero, suc, Bool, true, false, List, [], ◌∷◌, ◌++◌, take, map, Option, Some, None, Contains, ap, sym, refl, subst, inl, inr, arith}
+use Rattle.std.proofs.Common.{◌≡◌, ◌≢◌, ◌∙◌, ◌⊎◌, ◌<◌, ℕ, zero, suc, Bool, true, false, List, [], ◌∷◌, ◌++◌, take, map, Option, Some, None, Contains, ap, sym, refl, subst, inl, inr}
 use Rattle.std.specs.List.{flat_map}
 use Rattle.std.specs.Ordering.{is_gt}
 use Rattle.std.specs.Str.{bytes_eq}
 use Rattle.std.proofs.lemmas.Grind.{flat_map-append}
 use Rattle.gm_name.specs.Version.{version_cmp}
 use Rattle.gm_file.specs.Directives.{Replacing}
-use Rattle.gm_sums.specs.declared.sums.SumTable.{SumTable}
 use Rattle.gm_cache.specs.Main.{Main, Vertex}
 use Rattle.gm_cache.specs.Reading.{Held, Readings, readings_by}
 use Rattle.gm_select.specs.declared.step.Edge.{Edge}
-use Rattle.gm_select.specs.declared.step.Step.TheVariants.{Main as FromMain, Of}
-use Rattle.gm_select.specs.BuildList.{Entry, IsBuildList, IsRestAfter, IsSelected, entry_of, main_entry, path_of}
+use Rattle.gm_select.specs.declared.step.Step.TheVariants.{Main as FromMain}
+use Rattle.gm_select.specs.BuildList.{Entry, IsBuildList, IsRestAfter, IsSelected, path_of}
 use Rattle.gm_select.specs.Graph.{Edges, IsEnd, among, edge}
 use Rattle.gm_select.specs.Laws.{ArePages as AreRowPages, joined, no_more, one_more}
 use Rattle.gm_select.proofs.Ascending.{member_cases, member_head, member_tail, no_member}
@@ -20,12 +19,10 @@ use Rattle.gm_select.proofs.RestRows.{texts_differ, texts_same}
 use Rattle.gm_select.proofs.Same.{AreSame, same_back, same_build_list}
 use Rattle.gm_graph.specs.Graph.{IsEdge, IsVertex}
 use Rattle.gm_graph.specs.Loading.{AreFew}
-use Rattle.gm_graph.specs.Outcome.{AreFaults}
 use Rattle.gm_graph.proofs.Mapped.{from_mapped, in_mapped}
-use Rattle.gm_listing.specs.declared.output.Status.{Status}
 use Rattle.gm_listing.specs.declared.output.Status.TheVariants.{Done, Fault as Faulty, Device}
 use Rattle.gm_listing.specs.Laws.{AreFound, AreGreatest, ArePages, ListIsBuildList, PagesJoin, no_row, one_page}
-use Rattle.gm_listing.specs.Outcomes.{AreKnown, AreRead, AreRows, Given, IsListOutcome, IsOutcome, IsStopped, Outcome, Prints, PrintsList, device, failed, faulty, printed, refused, too_many}
+use Rattle.gm_listing.specs.Outcomes.{AreRows, Given, IsListOutcome, IsOutcome, Outcome, Prints, PrintsList, device, failed, faulty, printed, refused, too_many}
 use Rattle.gm_listing.specs.Texts.{list_text}
 use Rattle.gm_listing.proofs.FewOpened.{edges_listed}
 

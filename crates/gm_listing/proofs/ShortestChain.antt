@@ -1,14 +1,13 @@
 -- What `chain` prints is a shortest walk.
-use Rattle.std.proofs.Common.{◌≡◌, ◌∙◌, ◌≤◌, ◌+◌, ℕ, suc, List, [], ◌∷◌, ◌++◌, length, refl, arith, inl, inr, length-append}
-use Rattle.gm_cache.specs.Main.{Main}
+use Rattle.std.proofs.Common.{◌≡◌, ◌∙◌, ◌≤◌, ℕ, suc, List, [], ◌∷◌, length, refl, arith, inl, inr, length-append}
 use Rattle.gm_cache.specs.Reading.{readings_by}
 use Rattle.gm_select.specs.declared.step.Step.{Step}
-use Rattle.gm_select.specs.declared.step.Step.TheVariants.{Main as FromMain, Of}
+use Rattle.gm_select.specs.declared.step.Step.TheVariants.{Of}
 use Rattle.gm_select.specs.Chains.{IsChain, IsLevel, Leads, along, at_main, begins, goes_on}
 use Rattle.gm_select.specs.Graph.{Edges}
 use Rattle.gm_graph.specs.Graph.{IsEdge}
 use Rattle.gm_listing.specs.Laws.{ChainIsShortest, IsWalk, further, here}
-use Rattle.gm_listing.specs.Outcomes.{Outcome, PrintsChain}
+use Rattle.gm_listing.specs.Outcomes.{PrintsChain}
 use Rattle.gm_listing.proofs.PrintedList.{not_refused, printed_run}
 
 chain_walk : (E : Edges) {s : Step} {steps : List Step} → IsChain E s steps → IsWalk E s steps
