@@ -39,7 +39,7 @@ OneChainOutcome = (path : List ℕ) (run : Given) (a b : Outcome) → IsChainOut
 abbrev pub AnswerAlike : List (Name × Reply) → List (Name × Reply) → Type 0
 AnswerAlike one other = (name : Name) (a b : Reply) → answer_in one name ≡ Some a → answer_in other name ≡ Some b → a ≡ b
 
--- the same main file and go.sum, and no file of a module was answered differently, or failed in one run alone
+-- the same main file and go.sum, no file of a module was answered differently, and the devices failed on the same files or on none
 pub record AreAlike (one other : Given) : Type 0 where
   pub file : one.file ≡ other.file
   pub sums : one.sums ≡ other.sums

@@ -10,8 +10,8 @@ pub fn one_outcome()
     ensures chain { OneChainOutcome }
 {}
 
-/// Two runs over the same main file and go.sum whose stores answered no file differently come to one outcome, whatever else was asked
-/// and in whichever order, unless the device failed in one of them alone.
+/// Two runs over the same main file and go.sum whose stores answered no file differently, and whose devices failed on the same files or
+/// on none, come to one outcome, whatever else was asked and in whichever order.
 pub fn one_store()
     ensures graph { AlikeGraphs }
     ensures list { AlikeLists }
