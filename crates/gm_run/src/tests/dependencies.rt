@@ -80,7 +80,10 @@ const READINGS: &[Reading] = &[
         b"example.com/a@v1.0.0: Malformed 0 NotUtf8\n",
     ),
     (b"", b"example.com/a@v1.0.0: WrongPath\n"),
-    (b"module example.com/A\n", b"example.com/a@v1.0.0: WrongPath\n"),
+    (
+        b"module example.com/A\n",
+        b"example.com/a@v1.0.0: WrongPath\n",
+    ),
 ];
 
 const A_REQUIRED: Project = Project {
@@ -244,21 +247,18 @@ const DIRECTIVES: &[Row] = &[
             files: &[("./x", b"require example.com/q v1.0.0\n"), ("./y", b"")],
             asked: &["./y"],
         },
-        &[(
-            LIST,
-            b"example.com/m\nexample.com/a v1.0.0 => ./y\n",
-            b"",
-        )],
+        &[(LIST, b"example.com/m\nexample.com/a v1.0.0 => ./y\n", b"")],
     ),
     // one for each of two versions, of which the greater is listed
     (
         Project {
             main: b"module example.com/m\nrequire example.com/a v1.0.0\nrequire example.com/a v1.1.0\nreplace example.com/a v1.0.0 => ./x\nreplace example.com/a v1.1.0 => ./y\n",
             sums: None,
-            files: &[("./x", b"require example.com/c v1.0.0\n"), ("./y", b""), (
-                "example.com/c@v1.0.0",
-                b"module example.com/c\n",
-            )],
+            files: &[
+                ("./x", b"require example.com/c v1.0.0\n"),
+                ("./y", b""),
+                ("example.com/c@v1.0.0", b"module example.com/c\n"),
+            ],
             asked: &["./x", "./y", "example.com/c@v1.0.0"],
         },
         &[
@@ -361,7 +361,11 @@ const DIRECTIVES: &[Row] = &[
         Project {
             main: b"module example.com/m\nrequire (\nexample.com/a v1.0.0\nexample.com/b v1.0.0\nexample.com/c v1.0.0\nexample.com/d v1.0.0\n)\nreplace (\nexample.com/a => ./x\nexample.com/a => ./x\nexample.com/b => ./x/\nexample.com/c => \".//x\"\nexample.com/d => ./x\n)\n",
             sums: None,
-            files: &[("./x", b""), ("./x/", b"module example.com/q\n"), (".//x", b"")],
+            files: &[
+                ("./x", b""),
+                ("./x/", b"module example.com/q\n"),
+                (".//x", b""),
+            ],
             asked: &["./x", "./x/", ".//x"],
         },
         &[(

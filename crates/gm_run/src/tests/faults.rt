@@ -140,10 +140,7 @@ const MAIN_FILES: &[Misread] = &[
     (b"module example.com/m\n)\n", b"go.mod:2: StrayClose\n"),
     (b"module example.com/m\n\xff\n", b"go.mod:0: NotUtf8\n"),
     // any fault of syntax comes before any of directives, and OpenBlock last
-    (
-        b"use x\nmodule example.com/m\n{\n",
-        b"go.mod:3: BadByte\n",
-    ),
+    (b"use x\nmodule example.com/m\n{\n", b"go.mod:3: BadByte\n"),
     (b"module (\n{\n", b"go.mod:2: BadByte\n"),
     (b"module example.com/m\n) (\n", b"go.mod:2: NestedOpen\n"),
     (
@@ -196,10 +193,7 @@ const MAIN_FILES: &[Misread] = &[
     // a file that was cut
     (b"modul", b"go.mod:1: UnknownVerb\n"),
     (b"module example.com/", b"go.mod:1: BadPath\n"),
-    (
-        b"module example.com/m\n\ngo 1.",
-        b"go.mod:3: BadGo\n",
-    ),
+    (b"module example.com/m\n\ngo 1.", b"go.mod:3: BadGo\n"),
     (
         b"module example.com/m\n\ngo 1.17\n\nrequire",
         b"go.mod:5: WrongArguments\n",
@@ -364,7 +358,9 @@ const SUMS: &[Row] = &[
     (
         Project {
             main: b"module example.com/m\nrequire example.com/a v1.0.0\nrequire github.com/pmezard/go-difflib v1.0.0\nreplace example.com/a => github.com/pmezard/go-difflib v1.0.0\n",
-            sums: Some(b"example.com/a v1.0.0/go.mod h1:iKH77koFhYxTK1pcRnkKkqfTogsbg7gZNVY4sRDYZ/4=\n"),
+            sums: Some(
+                b"example.com/a v1.0.0/go.mod h1:iKH77koFhYxTK1pcRnkKkqfTogsbg7gZNVY4sRDYZ/4=\n",
+            ),
             files: DIFFLIB_FILES,
             asked: &[DIFFLIB],
         },

@@ -85,7 +85,10 @@ fn tried_list(alloc: Global, length: usize, wanted: Wanted) -> Option<bool> {
         all: true,
     };
     let rooms = (AMPLE, AMPLE);
-    is_wanted(run_in(alloc, &command, b"", None, &mut files, rooms), wanted)
+    is_wanted(
+        run_in(alloc, &command, b"", None, &mut files, rooms),
+        wanted,
+    )
 }
 
 /// Whether the versions of a list of this length are as they should be.
@@ -117,7 +120,10 @@ fn list(
     requires { pairs_of files.old ≡ [] }
 {
     let command = command(alloc, LIST)?;
-    is_wanted(run_in(alloc, &command, main, sums, files, (AMPLE, AMPLE)), wanted)
+    is_wanted(
+        run_in(alloc, &command, main, sums, files, (AMPLE, AMPLE)),
+        wanted,
+    )
 }
 
 fn tried_main(alloc: Global, length: usize, wanted: Wanted) -> Option<bool> {
@@ -146,7 +152,13 @@ fn main_files(rt: HostRuntime) -> Result<(), Fail> {
 fn tried_sums(alloc: Global, length: usize, wanted: Wanted) -> Option<bool> {
     let sums = lengthened(alloc, b"a b c\n", b' ', length)?;
     let mut files = MemoryFiles::new(alloc);
-    list(alloc, b"module example.com/m\n", Some(&sums), &mut files, wanted)
+    list(
+        alloc,
+        b"module example.com/m\n",
+        Some(&sums),
+        &mut files,
+        wanted,
+    )
 }
 
 /// Whether `list` with a go.sum of this length is as it should be.
@@ -169,7 +181,9 @@ fn sums(rt: HostRuntime) -> Result<(), Fail> {
 fn tried_module(alloc: Global, length: usize, wanted: Wanted) -> Option<bool> {
     let file = lengthened(alloc, b"module example.com/a\n//", b'x', length)?;
     let mut files = MemoryFiles::new(alloc);
-    files.put(file_name(alloc, "example.com/a@v1.0.0")?, file).ok()?;
+    files
+        .put(file_name(alloc, "example.com/a@v1.0.0")?, file)
+        .ok()?;
     let main = b"module example.com/m\nrequire example.com/a v1.0.0\n";
     list(alloc, main, None, &mut files, wanted)
 }

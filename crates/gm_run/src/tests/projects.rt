@@ -151,12 +151,7 @@ pub(super) fn comes_to<F: Files>(
     Some(right && asked_are(files, project.asked))
 }
 
-fn tried(
-    alloc: Global,
-    project: &Project,
-    answer: &Answer,
-    rooms: (usize, usize),
-) -> Option<bool> {
+fn tried(alloc: Global, project: &Project, answer: &Answer, rooms: (usize, usize)) -> Option<bool> {
     let mut files = filled(alloc, project.files)?;
     comes_to(alloc, &mut files, project, answer, rooms)
 }

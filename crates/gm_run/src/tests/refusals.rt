@@ -4,7 +4,7 @@ ghost use Rattle.std.specs.Prelude.{◌≡◌, [], IfSome};
 ghost use Rattle.gm_store.specs.Memory.{pairs};
 
 use super::projects::{
-    Answer, File, LIST, Project, Query, command, comes_to, file_name, filled, holds_in, was_asked,
+    Answer, File, LIST, Project, Query, comes_to, command, file_name, filled, holds_in, was_asked,
 };
 use super::worked::{
     DEEPENED, DEEPENED_GRAPH, DEEPENED_LISTED, FAULTS, FAULTY, FORKED, FORKED_LISTED, GREATEST,
@@ -62,7 +62,14 @@ fn tried_to_stop(alloc: Global, project: &Project, asks: usize) -> Option<bool> 
     let command = command(alloc, LIST)?;
     let mut files = FailingFiles::after(filled(alloc, project.files)?, asks as u64);
     let rooms = (AMPLE, AMPLE);
-    let ran = run_in(alloc, &command, project.main, project.sums, &mut files, rooms)?;
+    let ran = run_in(
+        alloc,
+        &command,
+        project.main,
+        project.sums,
+        &mut files,
+        rooms,
+    )?;
     if met_want_of_memory(&ran) {
         return None;
     }
@@ -180,12 +187,7 @@ fn every_other(alloc: Global, files: &'static [File], odd: bool) -> Option<Shelf
 }
 
 /// The files in two folders.
-fn divided(
-    alloc: Global,
-    files: &'static [File],
-    odd: bool,
-    mark: Mark,
-) -> Option<MemoryFolders>
+fn divided(alloc: Global, files: &'static [File], odd: bool, mark: Mark) -> Option<MemoryFolders>
     ensures { IfSome result (λ files. pairs files.asked.items ≡ []) }
 {
     let one = every_other(alloc, files, odd)?;

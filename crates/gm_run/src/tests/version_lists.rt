@@ -8,9 +8,7 @@ use super::{
 };
 use crate::Status;
 use gm_name::{ModPath, ModVersion};
-use gm_store::{
-    FailingFiles, FileName, Held, Mark, MemoryFiles, MemoryFolders, Shelf,
-};
+use gm_store::{FailingFiles, FileName, Held, Mark, MemoryFiles, MemoryFolders, Shelf};
 use gm_words::Command;
 use std::alloc::Global;
 use std::test::Fail;
@@ -93,7 +91,14 @@ fn command_for(alloc: Global, asked: Asked) -> Option<Command> {
 fn versions(alloc: Global, asked: Asked, rooms: (usize, usize)) -> Option<Ran> {
     let command = command_for(alloc, asked)?;
     let mut files = store_for(alloc, asked)?;
-    run_in(alloc, &command, b"never looked at (", None, &mut files, rooms)
+    run_in(
+        alloc,
+        &command,
+        b"never looked at (",
+        None,
+        &mut files,
+        rooms,
+    )
 }
 
 fn rows_of_one_store() -> [(Asked, Wanted); 18] {
@@ -371,9 +376,7 @@ fn shows_only_listed(alloc: Global, list: &'static [u8]) -> bool {
     let asked = whole(PATH, list);
     match prints_only_listed(versions(alloc, asked, (AMPLE, AMPLE)), list) {
         Some(right) => right,
-        None => {
-            prints_only_listed(versions(alloc, asked, (AMPLE, AMPLE)), list) == Some(true)
-        }
+        None => { prints_only_listed(versions(alloc, asked, (AMPLE, AMPLE)), list) == Some(true) }
     }
 }
 

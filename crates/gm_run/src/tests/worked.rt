@@ -327,11 +327,7 @@ const SELECTED: &[Row] = &[
         &[
             (LIST, LOCAL_LISTED, b""),
             (Query::Graph, b"example.com/m local@v0.0.0\n", b""),
-            (
-                Query::Chain("local"),
-                b"example.com/m\nlocal@v0.0.0\n",
-                b"",
-            ),
+            (Query::Chain("local"), b"example.com/m\nlocal@v0.0.0\n", b""),
         ],
     ),
     (
