@@ -70,11 +70,11 @@ abbrev pub dropping : (Directive → Bool) → Option Placed → List (Line Plac
 dropping test block [] = []
 dropping test block (line ∷ lines) = (line, fate_of test block line) ∷ dropping test (block_behind block line) lines
 
-dropping-lines : (test : Directive → Bool) (block : Option Placed) (lines : List (Line Placed)) → lines_in (dropping test block lines) ≡ lines
+pub dropping-lines : (test : Directive → Bool) (block : Option Placed) (lines : List (Line Placed)) → lines_in (dropping test block lines) ≡ lines
 dropping-lines test block [] = refl
 dropping-lines test block (line ∷ lines) = ap (λ (ls : List (Line Placed)). line ∷ ls) (dropping-lines test (block_behind block line) lines)
 
-dropping-fates : (test : Directive → Bool) (block : Option Placed) (lines : List (Line Placed)) → fates_in (dropping test block lines) ≡ dropping_from test block lines
+pub dropping-fates : (test : Directive → Bool) (block : Option Placed) (lines : List (Line Placed)) → fates_in (dropping test block lines) ≡ dropping_from test block lines
 dropping-fates test block [] = refl
 dropping-fates test block (line ∷ lines) = ap (λ (fs : List Fate). fate_of test block line ∷ fs) (dropping-fates test (block_behind block line) lines)
 
@@ -88,7 +88,7 @@ mild-kept (Some (Replaces r)) = (refl, refl)
 mild-kept (Some (Retracts ends)) = (refl, refl)
 mild-kept (Some Kept) = (refl, refl)
 
-gone-line : (test : Directive → Bool) → ((d : Directive) → test d ≡ true → is_module d ≡ false) → (block : Option Placed) (line : Line Placed) (held : Option Directive) → held_at block line ≡ held → passes test held ≡ true → IsGone block line
+pub gone-line : (test : Directive → Bool) → ((d : Directive) → test d ≡ true → is_module d ≡ false) → (block : Option Placed) (line : Line Placed) (held : Option Directive) → held_at block line ≡ held → passes test held ≡ true → IsGone block line
 gone-line test other block line None is e = absurd cc
 gone-line test other block line (Some d) is e = record { was = d; held = is; undeclared = other d e }
 

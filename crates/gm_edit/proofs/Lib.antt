@@ -4,3 +4,14 @@ pub mod Sound
 pub mod Leaving
 pub mod Walking
 pub mod Drops
+pub mod Parts
+pub mod Feeds
+pub mod Folders
+pub mod Written
+pub mod Made
+pub mod Renews
+pub mod Renewals
+pub mod Searches
+pub mod AddingSound
+pub mod AddingCode
+pub mod EditedSound

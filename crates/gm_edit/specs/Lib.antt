@@ -3,3 +3,9 @@ pub mod Views
 pub mod Fates
 pub mod About
 pub mod Walks
+pub mod NewWords
+pub mod Renewing
+pub mod Sound
+pub mod Searching
+pub mod Adding
+pub mod Changes

@@ -22,7 +22,10 @@ use gm_syntax::line::Line;
 use gm_syntax::token::Token;
 use std::alloc::{AllocError, Global};
 
-fn block_behind<'w, 'a>(block: Option<&'w Token<'a>>, line: &'w Line<'a>) -> Option<&'w Token<'a>>
+pub(crate) fn block_behind<'w, 'a>(
+    block: Option<&'w Token<'a>>,
+    line: &'w Line<'a>,
+) -> Option<&'w Token<'a>>
     ensures { option_map (λ t. t.now) result ≡ block_behind (option_map (λ t. t.now) block.entry) (line_of line.now) }
 {
     match line {
@@ -34,7 +37,7 @@ fn block_behind<'w, 'a>(block: Option<&'w Token<'a>>, line: &'w Line<'a>) -> Opt
     }
 }
 
-fn passes(change: &Change, directive: &Option<Directive>) -> bool
+pub(crate) fn passes(change: &Change, directive: &Option<Directive>) -> bool
     ensures { result ≡ passes (about (edit_of change.now)) (option_map directive_seen directive.now) }
 {
     match directive {
@@ -44,7 +47,7 @@ fn passes(change: &Change, directive: &Option<Directive>) -> bool
 }
 
 // What a line holds, in a file that has no fault.
-fn held_at(
+pub(crate) fn held_at(
     alloc: Global,
     block: Option<&Token>,
     line: &Line,

@@ -1,6 +1,7 @@
 //! Why an operation is refused.
 
 ghost use Rattle.std.specs.Prelude.{◌≡◌};
+ghost use Rattle.gm_edit.specs.declared.fault.EditFault.TheVariants as edit;
 ghost use Rattle.gm_edit.specs.declared.fault.OpFault.TheVariants as op;
 
 use std::alloc::{AllocError, AllocFailed};
@@ -30,5 +31,24 @@ impl<T: Drop> From<AllocFailed<T>> for OpFault {
 
     fn from(_error: AllocFailed<T>) -> OpFault {
         OpFault::NoMemory
+    }
+}
+
+/// Why an operation was not applied. The file is then as it was.
+#[derive(Clone, Copy, Debug, PartialEq, Eq, Error)]
+pub enum EditFault {
+    /// A growth was refused.
+    #[error("out of memory")]
+    NoMemory,
+    /// A version that the operation puts in doesn't fit its path.
+    #[error("the version doesn't fit the path")]
+    Misfit,
+}
+
+impl From<AllocError> for EditFault {
+    ghost from_gives = { λ _ fault. fault ≡ edit.NoMemory };
+
+    fn from(_error: AllocError) -> EditFault {
+        EditFault::NoMemory
     }
 }

@@ -32,16 +32,19 @@ pub(crate) enum Change {
 /// An operation on a main module's file (go help mod edit).
 #[derive(Drop)]
 pub struct Op {
-    change: Change,
+    pub(crate) change: Change,
 }
 
 impl Model for Op {
     ghost use Rattle.gm_edit.specs.Edits.{Edit};
+    ghost use Rattle.gm_edit.specs.Sound.{IsSoundEdit};
     ghost use Rattle.gm_edit.specs.Views.{edit_of};
 
     ghost Value = { Edit };
 
     ghost view = { λ o. edit_of o.change };
+
+    ghost invariant = { λ o. IsSoundEdit (edit_of o.change) };
 }
 
 /// The operation of that name with that argument.

@@ -10,8 +10,8 @@ use thiserror::Error;
 /// The most bytes that a file may have: 16 MiB.
 pub const LIMIT: usize = 16_777_216;
 
-// How many bytes are asked for at once.
-const PIECE: usize = 65_536;
+// How many bytes are asked for at once: more than most files have, and few enough to be made ready for each small file.
+const PIECE: usize = 8_192;
 
 /// Why a reader's bytes were not read.
 #[derive(Clone, Copy, Debug, PartialEq, Eq, Error)]

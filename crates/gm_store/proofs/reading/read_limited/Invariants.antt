@@ -7,7 +7,7 @@ abbrev pub invariant-fill : goal.invariant-fill
 invariant-fill g l = record {
   given : Consumes (g.R.Read.remaining l.initial.reader) (g.R.Read.remaining l.reader) l.bytes.items;
   short : length l.bytes.items ≤ 16777217;
-  room : vec_len l.piece ≡ 65536;
+  room : vec_len l.piece ≡ 8192;
 }
 
 abbrev pub decreases-fill : goal.decreases-fill

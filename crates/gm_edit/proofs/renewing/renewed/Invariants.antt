@@ -1,0 +1,11 @@
+use Rattle.std.proofs.Common.{◌≡◌, List, drop}
+use Rattle.std.specs.Option.{option_map}
+use Rattle.gm_syntax.specs.LineViews.{lines_seen}
+use Rattle.gm_edit.specs.About.{about}
+use Rattle.gm_edit.specs.Renewing.{made_new}
+use Rattle.gm_edit.specs.Views.{edit_of}
+use Rattle.gm_edit.proofs.Renews.{IsRenewedTo}
+use Rattle.gm_edit.proofs.renewing.renewed.Given as goal
+
+abbrev pub invariant-loop-line : goal.invariant-loop-line
+invariant-loop-line l = IsRenewedTo (about (edit_of l.change)) (made_new (edit_of l.change)) (lines_seen l.lines) (lines_seen (drop l.line-index l.lines)) (option_map (λ t. t.now) l.block) l.is_done l.walk

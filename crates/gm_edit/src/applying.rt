@@ -1,0 +1,186 @@
+//! Operations applied to a main module's file.
+
+ghost use Rattle.std.specs.Prelude.{◌≡◌, ◌↔◌, IfErr, IfOk, IsErrOf, OnErr, OnOk, None, true, false};
+ghost use Rattle.gm_syntax.specs.Document.{IsDocument};
+ghost use Rattle.gm_syntax.specs.LineViews.{lines_seen, plains};
+ghost use Rattle.gm_file.specs.Directives.{Strict};
+ghost use Rattle.gm_file.specs.Faults.{does_left_fit, fault_of};
+ghost use Rattle.gm_name.specs.Names.{does_fit};
+ghost use Rattle.gm_edit.specs.Changes.{changed, edited, is_fit, put_in};
+ghost use Rattle.gm_edit.specs.Sound.{IsSoundEdit};
+ghost use Rattle.gm_edit.specs.Views.{edit_of};
+
+use crate::adding::{AddedVerb, added, copy_lines, go_added};
+use crate::dropping::dropped;
+use crate::fault::EditFault;
+use crate::new_words::{interval_words, one_word, pair_words, replace_words};
+use crate::op::{Change, Op};
+use crate::renewing::renewed;
+use crate::searching::is_there;
+use gm_file::{FileFault, MainFile};
+use gm_name::{ModPath, ModVersion, fits};
+use gm_syntax::doc::Doc;
+use gm_syntax::line::Line;
+use std::alloc::{AllocError, Global};
+use std::mem;
+
+fn does_fit(path: &ModPath, version: &ModVersion) -> bool
+    ensures { result ≡ does_fit path.now version.now }
+{
+    fits(path, version)
+}
+
+fn does_left_fit(path: &ModPath, version: &Option<ModVersion>) -> bool
+    ensures { result ≡ does_left_fit path.now version.now }
+{
+    match version {
+        None => true,
+        Some(version) => does_fit(path, version),
+    }
+}
+
+// Whether a version that an operation puts in fits its path.
+fn is_fit(change: &Change) -> bool
+    ensures { result ≡ is_fit (edit_of change.now) }
+{
+    match change {
+        Change::SetRequire((path, version)) => does_fit(path, version),
+        Change::AddExclude((path, version)) => does_fit(path, version),
+        Change::SetReplace(replace) => does_left_fit(&replace.left, &replace.version),
+        _ => true,
+    }
+}
+
+// The lines where an entry is there that the operation is about.
+#[tactic(auto, unfolding(crate::specs::Changes::changed))]
+fn changed<'a>(
+    alloc: Global,
+    change: &Change,
+    lines: &[Line<'a>],
+) -> Result<Vec<Line<'a>>, AllocError>
+    requires written { IsSoundEdit (edit_of change.now) }
+    requires document { IsDocument (plains (lines_seen lines.now)) }
+    requires sound { fault_of Strict (plains (lines_seen lines.now)) ≡ None }
+    ensures { IfOk result (λ v. lines_seen v.items ≡ changed (edit_of change.now) (lines_seen lines.now)) }
+{
+    match change {
+        Change::SetModule(_) => renewed(alloc, change, lines),
+        Change::SetGo(_) => renewed(alloc, change, lines),
+        Change::SetRequire((_, _)) => renewed(alloc, change, lines),
+        Change::DropRequire(_) => dropped(alloc, change, lines),
+        Change::AddExclude((_, _)) => copy_lines(alloc, lines),
+        Change::DropExclude((_, _)) => dropped(alloc, change, lines),
+        Change::SetReplace(_) => renewed(alloc, change, lines),
+        Change::DropReplace(_) => dropped(alloc, change, lines),
+        Change::AddRetract(_) => copy_lines(alloc, lines),
+        Change::DropRetract(_) => dropped(alloc, change, lines),
+    }
+}
+
+// The lines where none is.
+#[tactic(auto, unfolding(crate::specs::Changes::put_in))]
+fn put_in<'a>(
+    alloc: Global,
+    change: &Change,
+    lines: &[Line<'a>],
+) -> Result<Vec<Line<'a>>, AllocError>
+    requires written { IsSoundEdit (edit_of change.now) }
+    requires document { IsDocument (plains (lines_seen lines.now)) }
+    requires sound { fault_of Strict (plains (lines_seen lines.now)) ≡ None }
+    ensures { IfOk result (λ v. lines_seen v.items ≡ put_in (edit_of change.now) (lines_seen lines.now)) }
+{
+    match change {
+        Change::SetGo(text) => go_added(alloc, one_word(alloc, text.as_str())?, lines),
+        Change::SetRequire((path, version)) => {
+            let words = pair_words(alloc, path, version)?;
+            added(alloc, AddedVerb::Require, words, lines)
+        }
+        Change::AddExclude((path, version)) => {
+            let words = pair_words(alloc, path, version)?;
+            added(alloc, AddedVerb::Exclude, words, lines)
+        }
+        Change::SetReplace(replace) => {
+            let words = replace_words(alloc, replace)?;
+            added(alloc, AddedVerb::Replace, words, lines)
+        }
+        Change::AddRetract(ends) => {
+            let words = interval_words(alloc, ends)?;
+            added(alloc, AddedVerb::Retract, words, lines)
+        }
+        _ => copy_lines(alloc, lines),
+    }
+}
+
+// The lines after an operation.
+#[tactic(auto, unfolding(crate::specs::Changes::edited))]
+fn edited<'a>(
+    alloc: Global,
+    change: &Change,
+    lines: &[Line<'a>],
+) -> Result<Vec<Line<'a>>, AllocError>
+    requires written { IsSoundEdit (edit_of change.now) }
+    requires document { IsDocument (plains (lines_seen lines.now)) }
+    requires sound { fault_of Strict (plains (lines_seen lines.now)) ≡ None }
+    ensures { IfOk result (λ v. lines_seen v.items ≡ edited (edit_of change.now) (lines_seen lines.now)) }
+{
+    if is_there(alloc, change, lines)? {
+        return changed(alloc, change, lines);
+    }
+    put_in(alloc, change, lines)
+}
+
+// Puts lines without a fault in the place of a file's. They are read before the file is replaced.
+fn replace_lines<'a>(
+    alloc: Global,
+    file: &mut MainFile<'a>,
+    lines: Vec<Line<'a>>,
+) -> Result<(), EditFault>
+    requires document { IsDocument (plains (lines_seen lines.items)) }
+    requires sound { fault_of Strict (plains (lines_seen lines.items)) ≡ None }
+    ensures ok { OnOk result (file.new ≡ lines_seen lines.entry.items) }
+    ensures err { OnErr result (file.new ≡ file.old) }
+    ensures memory { IfErr result (λ fault. fault ≡ EditFault.NoMemory) }
+{
+    match MainFile::read(alloc, Doc::of_lines(lines)) {
+        Ok(read) => {
+            let _before = mem::replace(file, read);
+            Ok(())
+        }
+        Err(fault) => match fault {
+            FileFault::NoMemory => Err(EditFault::NoMemory),
+            FileFault::Directive { line: _, kind: _ } => unreachable!(),
+        },
+    }
+}
+
+// The lines of a file after an operation.
+fn lines_after<'a>(
+    alloc: Global,
+    file: &MainFile<'a>,
+    change: &Change,
+) -> Result<Vec<Line<'a>>, AllocError>
+    requires written { IsSoundEdit (edit_of change.now) }
+    requires fit { is_fit (edit_of change.now) ≡ true }
+    ensures lines { IfOk result (λ v. lines_seen v.items ≡ edited (edit_of change.now) file.now) }
+    ensures document { IfOk result (λ v. IsDocument (plains (lines_seen v.items))) }
+    ensures sound { IfOk result (λ v. fault_of Strict (plains (lines_seen v.items)) ≡ None) }
+{
+    edited(alloc, change, file.doc().lines())
+}
+
+/// Applies an operation to a file, which then holds the new lines and what strict reading gives of them (go help mod edit).
+///
+/// `Misfit` comes exactly where a version that the operation puts in doesn't fit its path, and before memory is asked for.
+/// On a refusal, also for want of memory, the file is as it was. The time is linear in the number of lines, beside that of
+/// reading them again.
+pub fn apply<'a>(alloc: Global, file: &mut MainFile<'a>, op: &Op) -> Result<(), EditFault>
+    ensures ok { OnOk result (file.new ≡ edited op.now file.old) }
+    ensures err { OnErr result (file.new ≡ file.old) }
+    ensures misfit { IsErrOf result EditFault.Misfit ↔ is_fit op.now ≡ false }
+{
+    if !is_fit(&op.change) {
+        return Err(EditFault::Misfit);
+    }
+    let lines = lines_after(alloc, file, &op.change)?;
+    replace_lines(alloc, file, lines)
+}
