@@ -15,3 +15,4 @@ pub mod Searches
 pub mod AddingSound
 pub mod AddingCode
 pub mod EditedSound
+pub mod Places

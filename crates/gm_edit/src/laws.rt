@@ -1,4 +1,4 @@
-//! A law of the definitions, the contract of a function that does nothing.
+//! Laws of the definitions, each the contract of a function that does nothing.
 
 ghost use Rattle.std.specs.Prelude.{◌≡◌, ℕ, true, List, Some, None};
 ghost use Rattle.gm_syntax.specs.Tokens.{Placed};
@@ -15,4 +15,9 @@ pub fn edited_lines_are_read()
     ensures { (text : List ℕ) (edit : Edit) (lines : List (Line Placed)) → edit_in text ≡ Some edit → is_fit edit ≡ true
         → IsDocument (plains lines) → fault_of Strict (plains lines) ≡ None
         → IsDocument (plains (edited edit lines)) × (fault_of Strict (plains (edited edit lines)) ≡ None) }
+{}
+
+/// What an operation leaves of a file doesn't depend on where its words stood: of two lists of the same lines it leaves the same lines.
+pub fn places_are_not_looked_at()
+    ensures { (edit : Edit) (lines others : List (Line Placed)) → plains lines ≡ plains others → plains (edited edit lines) ≡ plains (edited edit others) }
 {}
