@@ -1,7 +1,6 @@
 //! Worked examples of texts, with the layouts and faults that docs/SPEC.md gives.
 //!
-//! Each test takes want of memory as an answer of any call, and then ends that row: a script refuses each allocation
-//! of each test in turn.
+//! A call that memory cut short is made a second time, which has to answer: a script refuses each allocation of each test in turn.
 
 ghost use Rattle.std.specs.Prelude.{◌≡◌};
 ghost use Rattle.gm_syntax.specs.Lines.{HasNoLineFeed};
@@ -17,21 +16,22 @@ use std::alloc::{AllocError, Global};
 use std::process::Abort;
 use std::test::Fail;
 
-// A document that must read; None where memory was short.
-fn read<'a>(alloc: Global, bytes: &'a [u8]) -> Result<Option<Doc<'a>>, Fail> {
+fn read<'a>(alloc: Global, bytes: &'a [u8]) -> Result<Doc<'a>, SyntaxFault> {
     match Doc::parse(alloc, bytes) {
-        Ok(doc) => Ok(Some(doc)),
-        Err(SyntaxFault::NoMemory) => Ok(None),
-        Err(fault) => Err(Fail::new(format_args!("not read: {fault}"))),
+        Ok(doc) => Ok(doc),
+        Err(SyntaxFault::NoMemory) => Doc::parse(alloc, bytes),
+        Err(fault) => Err(fault),
     }
 }
 
-// The layout of bytes that must read; None where memory was short.
-fn formatted(alloc: Global, bytes: &[u8]) -> Result<Option<String>, Fail> {
-    match read(alloc, bytes)? {
-        None => Ok(None),
-        Some(doc) => Ok(doc.format(alloc).ok()),
-    }
+fn layout(alloc: Global, doc: &Doc) -> Result<String, AllocError> {
+    doc.format(alloc).or_else(|_| doc.format(alloc))
+}
+
+// The layout of bytes that must read.
+fn formatted(alloc: Global, bytes: &[u8]) -> Result<String, Fail> {
+    let doc = read(alloc, bytes)?;
+    Ok(layout(alloc, &doc)?)
 }
 
 const MIXED: &[u8] =
@@ -75,24 +75,16 @@ fn layouts(rt: HostRuntime) -> Result<(), Fail> {
         ("ä\u{a0}b ~\\'".as_bytes(), "ä\u{a0}b ~\\'\n"),
     ];
     for (bytes, wanted) in &rows {
-        let Some(text) = formatted(rt.alloc(), bytes)? else {
-            continue;
-        };
+        let text = formatted(rt.alloc(), bytes)?;
         assert_eq!(rt; text.as_str(), *wanted);
-        if let Some(again) = formatted(rt.alloc(), text.as_bytes())? {
-            assert_eq!(rt; again.as_str(), *wanted);
-        }
+        let again = formatted(rt.alloc(), text.as_bytes())?;
+        assert_eq!(rt; again.as_str(), *wanted);
     }
     Ok(())
 }
 
-// The fault of bytes that must have one; None where memory was short.
-fn fault_of(alloc: Global, bytes: &[u8]) -> Result<Option<SyntaxFault>, Fail> {
-    match Doc::parse(alloc, bytes) {
-        Ok(_) => Err(Fail::new("read, where a fault was due")),
-        Err(SyntaxFault::NoMemory) => Ok(None),
-        Err(fault) => Ok(Some(fault)),
-    }
+fn fault_of(alloc: Global, bytes: &[u8]) -> Option<SyntaxFault> {
+    read(alloc, bytes).err()
 }
 
 #[test]
@@ -146,36 +138,37 @@ fn faults(rt: HostRuntime) -> Result<(), Fail> {
         (b") x", 1, SyntaxKind::StrayClose),
     ];
     for (bytes, line, kind) in &rows {
-        if let Some(fault) = fault_of(rt.alloc(), bytes)? {
-            assert_eq!(rt;
-                fault,
-                SyntaxFault::Syntax {
-                    line: *line,
-                    kind: *kind
-                }
-            );
-        }
+        assert_eq!(rt;
+            fault_of(rt.alloc(), bytes),
+            Some(SyntaxFault::Syntax {
+                line: *line,
+                kind: *kind
+            })
+        );
     }
     for bytes in [&b"\xff"[..], &b"{\xc3"[..]] {
-        if let Some(fault) = fault_of(rt.alloc(), bytes)? {
-            assert_eq!(rt; fault, SyntaxFault::NotUtf8);
-        }
+        assert_eq!(rt; fault_of(rt.alloc(), bytes), Some(SyntaxFault::NotUtf8));
     }
     Ok(())
 }
 
-// A document is laid out, and its layout reads again and is laid out as the same bytes. A fault is an answer too.
-fn check_layout(rt: &impl Abort, alloc: Global, bytes: &[u8]) -> Result<(), Fail> {
-    let Ok(doc) = Doc::parse(alloc, bytes) else {
-        return Ok(());
-    };
-    let Ok(text) = doc.format(alloc) else {
-        return Ok(());
-    };
-    if let Some(again) = formatted(alloc, text.as_bytes())? {
-        assert_eq!(rt; again.as_str(), text.as_str());
-    }
+// A document is laid out, and its layout reads again and is laid out as the same bytes.
+fn check_layout(rt: &impl Abort, alloc: Global, doc: &Doc) -> Result<(), Fail> {
+    let text = layout(alloc, doc)?;
+    let again = formatted(alloc, text.as_bytes())?;
+    assert_eq!(rt; again.as_str(), text.as_str());
     Ok(())
+}
+
+// Bytes are a document with such a layout, or have a fault.
+fn check_bytes(rt: &impl Abort, alloc: Global, bytes: &[u8]) -> Result<(), Fail> {
+    match read(alloc, bytes) {
+        Ok(doc) => check_layout(rt, alloc, &doc),
+        Err(fault) => {
+            assert!(rt; fault != SyntaxFault::NoMemory);
+            Ok(())
+        }
+    }
 }
 
 #[test]
@@ -189,7 +182,7 @@ fn cut_files(rt: HostRuntime) -> Result<(), Fail> {
     ];
     for file in &files {
         for n in 0..file.len() {
-            check_layout(&rt, rt.alloc(), &file[..n])?;
+            check_bytes(&rt, rt.alloc(), &file[..n])?;
         }
     }
     Ok(())
@@ -206,13 +199,12 @@ fn sizes(rt: HostRuntime) -> Result<(), Fail> {
         }
     }
     // A comment of that length is read, and its layout, with one byte more, can't be read again.
-    if let Some(text) = formatted(rt.alloc(), bytes.as_slice())? {
-        assert_eq!(rt; text.len(), MAX_BYTES + 1);
-        assert_eq!(rt;
-            Doc::parse(rt.alloc(), text.as_bytes()).err(),
-            Some(SyntaxFault::TooMany)
-        );
-    }
+    let text = formatted(rt.alloc(), bytes.as_slice())?;
+    assert_eq!(rt; text.len(), MAX_BYTES + 1);
+    assert_eq!(rt;
+        Doc::parse(rt.alloc(), text.as_bytes()).err(),
+        Some(SyntaxFault::TooMany)
+    );
     // That there are too many comes before that they aren't UTF-8.
     if bytes.push(0xff).is_ok() {
         assert_eq!(rt;
@@ -232,18 +224,26 @@ struct Wanted<'a> {
     span: Option<Span>,
 }
 
-fn check_token(rt: &impl Abort, alloc: Global, token: &Token, wanted: &Wanted) {
+fn check_value(rt: &impl Abort, alloc: Global, token: &Token, value: &str) -> Result<(), Fail> {
+    let text = token.value(alloc).or_else(|_| token.value(alloc))?;
+    assert_eq!(rt; text.as_str(), value);
+    Ok(())
+}
+
+fn check_copy(rt: &impl Abort, alloc: Global, token: &Token) -> Result<(), Fail> {
+    let copy = token.copy(alloc).or_else(|_| token.copy(alloc))?;
+    assert_eq!(rt; copy.spelling(), token.spelling());
+    assert_eq!(rt; copy.span(), token.span());
+    Ok(())
+}
+
+fn check_token(rt: &impl Abort, alloc: Global, token: &Token, wanted: &Wanted) -> Result<(), Fail> {
     assert_eq!(rt; token.spelling(), wanted.spelling);
     assert_eq!(rt; token.kind(), wanted.kind);
     assert_eq!(rt; token.line(), wanted.line);
     assert_eq!(rt; token.span(), wanted.span);
-    if let Ok(text) = token.value(alloc) {
-        assert_eq!(rt; text.as_str(), wanted.value);
-    }
-    if let Ok(copy) = token.copy(alloc) {
-        assert_eq!(rt; copy.spelling(), wanted.spelling);
-        assert_eq!(rt; copy.span(), wanted.span);
-    }
+    check_value(rt, alloc, token, wanted.value)?;
+    check_copy(rt, alloc, token)
 }
 
 fn bare(spelling: &str, line: usize, first: usize, after: usize) -> Wanted<'_> {
@@ -271,14 +271,14 @@ fn is_closing(line: &Line) -> bool {
     }
 }
 
-fn check_opening(rt: &impl Abort, alloc: Global, line: &Line) {
+fn check_opening(rt: &impl Abort, alloc: Global, line: &Line) -> Result<(), Fail> {
     match line {
         Line::Open(verb, None) => check_token(rt, alloc, verb, &bare("require", 1, 0, 7)),
-        _ => assert!(rt; false, "not an opening"),
+        _ => Err(Fail::from("not an opening")),
     }
 }
 
-fn check_entry(rt: &impl Abort, alloc: Global, line: &Line) {
+fn check_entry(rt: &impl Abort, alloc: Global, line: &Line) -> Result<(), Fail> {
     match words_of(line) {
         [path, version] => {
             let wanted = Wanted {
@@ -291,32 +291,28 @@ fn check_entry(rt: &impl Abort, alloc: Global, line: &Line) {
                     after: 12,
                 }),
             };
-            check_token(rt, alloc, path, &wanted);
-            check_token(rt, alloc, version, &bare("v1.0.0", 2, 12, 18));
+            check_token(rt, alloc, path, &wanted)?;
+            check_token(rt, alloc, version, &bare("v1.0.0", 2, 12, 18))
         }
-        _ => assert!(rt; false, "not an entry of two words"),
+        _ => Err(Fail::from("not an entry of two words")),
     }
 }
 
 #[test]
 fn places(rt: HostRuntime) -> Result<(), Fail> {
-    let Some(doc) = read(rt.alloc(), b"require(\n\"a\"v1.0.0\n)\n")? else {
-        return Ok(());
-    };
+    let doc = read(rt.alloc(), b"require(\n\"a\"v1.0.0\n)\n")?;
     match doc.lines() {
         [opening, entry, closing] => {
-            check_opening(&rt, rt.alloc(), opening);
-            check_entry(&rt, rt.alloc(), entry);
+            check_opening(&rt, rt.alloc(), opening)?;
+            check_entry(&rt, rt.alloc(), entry)?;
             assert_eq!(rt; is_closing(closing), true);
         }
         _ => return Err(Fail::new("not three lines")),
     }
-    if let Ok(copy) = doc.copy(rt.alloc()) {
-        assert_eq!(rt; copy.lines().len(), 3);
-        if let Ok(text) = copy.format(rt.alloc()) {
-            assert_eq!(rt; text.as_str(), "require (\n\t\"a\" v1.0.0\n)\n");
-        }
-    }
+    let copy = doc.copy(rt.alloc()).or_else(|_| doc.copy(rt.alloc()))?;
+    assert_eq!(rt; copy.lines().len(), 3);
+    let text = layout(rt.alloc(), &copy)?;
+    assert_eq!(rt; text.as_str(), "require (\n\t\"a\" v1.0.0\n)\n");
     Ok(())
 }
 
@@ -330,36 +326,51 @@ fn new_word<'a>(spelling: &'a str, kind: Kind, value: &'a str) -> Wanted<'a> {
     }
 }
 
-fn check_spelled(rt: &impl Abort, alloc: Global, value: &str, spelling: &str, kind: Kind)
+fn spelled<'a>(alloc: Global, value: &str) -> Result<Token<'a>, AllocError>
     requires { HasNoLineFeed value.now }
 {
-    if let Ok(token) = Token::spell(alloc, value) {
-        check_token(rt, alloc, &token, &new_word(spelling, kind, value));
+    match Token::spell(alloc, value) {
+        Ok(token) => Ok(token),
+        Err(_) => Token::spell(alloc, value),
     }
 }
 
-fn check_value(rt: &impl Abort, alloc: Global, line: &Line, value: &str) {
+fn check_spelled(
+    rt: &impl Abort,
+    alloc: Global,
+    value: &str,
+    spelling: &str,
+    kind: Kind,
+) -> Result<(), Fail>
+    requires { HasNoLineFeed value.now }
+{
+    let token = spelled(alloc, value)?;
+    check_token(rt, alloc, &token, &new_word(spelling, kind, value))
+}
+
+fn check_mark(rt: &impl Abort, alloc: Global, punct: Punct, spelling: &str) -> Result<(), Fail> {
+    let token = Token::mark(alloc, punct).or_else(|_| Token::mark(alloc, punct))?;
+    check_token(rt, alloc, &token, &new_word(spelling, Kind::Mark, spelling))
+}
+
+fn check_lone_word(rt: &impl Abort, alloc: Global, line: &Line, value: &str) -> Result<(), Fail> {
     match words_of(line) {
-        [word] => {
-            if let Ok(text) = word.value(alloc) {
-                assert_eq!(rt; text.as_str(), value);
-            }
-        }
-        _ => assert!(rt; false, "not an entry of one word"),
+        [word] => check_value(rt, alloc, word, value),
+        _ => Err(Fail::from("not an entry of one word")),
     }
 }
 
 #[test]
 fn new_words(rt: HostRuntime) -> Result<(), Fail> {
-    check_spelled(&rt, rt.alloc(), "v1.0.0", "v1.0.0", Kind::Bare);
-    check_spelled(&rt, rt.alloc(), "a=>b", "a=>b", Kind::Bare);
-    check_spelled(&rt, rt.alloc(), "", "\"\"", Kind::Text);
-    check_spelled(&rt, rt.alloc(), "../x y", "\"../x y\"", Kind::Text);
-    check_spelled(&rt, rt.alloc(), "a//b", "\"a//b\"", Kind::Text);
-    check_spelled(&rt, rt.alloc(), "a/*b", "\"a/*b\"", Kind::Text);
-    check_spelled(&rt, rt.alloc(), "=>a", "\"=>a\"", Kind::Text);
-    check_spelled(&rt, rt.alloc(), "a`", "\"a`\"", Kind::Text);
-    check_spelled(&rt, rt.alloc(), "a\"b\\", "\"a\\\"b\\\\\"", Kind::Text);
+    check_spelled(&rt, rt.alloc(), "v1.0.0", "v1.0.0", Kind::Bare)?;
+    check_spelled(&rt, rt.alloc(), "a=>b", "a=>b", Kind::Bare)?;
+    check_spelled(&rt, rt.alloc(), "", "\"\"", Kind::Text)?;
+    check_spelled(&rt, rt.alloc(), "../x y", "\"../x y\"", Kind::Text)?;
+    check_spelled(&rt, rt.alloc(), "a//b", "\"a//b\"", Kind::Text)?;
+    check_spelled(&rt, rt.alloc(), "a/*b", "\"a/*b\"", Kind::Text)?;
+    check_spelled(&rt, rt.alloc(), "=>a", "\"=>a\"", Kind::Text)?;
+    check_spelled(&rt, rt.alloc(), "a`", "\"a`\"", Kind::Text)?;
+    check_spelled(&rt, rt.alloc(), "a\"b\\", "\"a\\\"b\\\\\"", Kind::Text)?;
     let marks = [
         (Punct::LeftParen, "("),
         (Punct::RightParen, ")"),
@@ -369,14 +380,7 @@ fn new_words(rt: HostRuntime) -> Result<(), Fail> {
         (Punct::Arrow, "=>"),
     ];
     for (punct, spelling) in &marks {
-        if let Ok(token) = Token::mark(rt.alloc(), *punct) {
-            check_token(
-                &rt,
-                rt.alloc(),
-                &token,
-                &new_word(*spelling, Kind::Mark, *spelling),
-            );
-        }
+        check_mark(&rt, rt.alloc(), *punct, *spelling)?;
     }
     let strings: [(&[u8], &str); 3] = [
         (b"`a\\\"b`", "a\\\"b"),
@@ -384,18 +388,16 @@ fn new_words(rt: HostRuntime) -> Result<(), Fail> {
         (b"\"\"", ""),
     ];
     for (bytes, value) in &strings {
-        let Some(doc) = read(rt.alloc(), bytes)? else {
-            continue;
-        };
+        let doc = read(rt.alloc(), bytes)?;
         match doc.lines() {
-            [line] => check_value(&rt, rt.alloc(), line, *value),
+            [line] => check_lone_word(&rt, rt.alloc(), line, *value)?,
             _ => return Err(Fail::new("not one line")),
         }
     }
     Ok(())
 }
 
-// Puts an entry of one new word at the end.
+// Puts an entry of one new word at the end, or leaves the document.
 fn add_entry(alloc: Global, doc: &mut Doc, value: &str) -> Result<(), AllocError>
     requires { HasNoLineFeed value.now }
 {
@@ -428,19 +430,15 @@ fn drop_first(doc: &mut Doc) -> bool {
 
 #[test]
 fn edits(rt: HostRuntime) -> Result<(), Fail> {
-    let Some(mut doc) = read(rt.alloc(), b"a // c\nb (\n\tc\n)\n")? else {
-        return Ok(());
-    };
+    let mut doc = read(rt.alloc(), b"a // c\nb (\n\tc\n)\n")?;
     if add_entry(rt.alloc(), &mut doc, "x y").is_err() {
-        return Ok(());
+        add_entry(rt.alloc(), &mut doc, "x y")?;
     }
-    if let Ok(text) = doc.format(rt.alloc()) {
-        assert_eq!(rt; text.as_str(), "a // c\nb (\n\tc\n)\n\"x y\"\n");
-    }
+    let text = layout(rt.alloc(), &doc)?;
+    assert_eq!(rt; text.as_str(), "a // c\nb (\n\tc\n)\n\"x y\"\n");
     assert_eq!(rt; drop_first(&mut doc), true);
     assert_eq!(rt; drop_first(&mut doc), false);
-    if let Ok(text) = doc.format(rt.alloc()) {
-        assert_eq!(rt; text.as_str(), "b (\n\tc\n)\n\"x y\"\n");
-    }
+    let text = layout(rt.alloc(), &doc)?;
+    assert_eq!(rt; text.as_str(), "b (\n\tc\n)\n\"x y\"\n");
     Ok(())
 }
