@@ -1,197 +1,182 @@
 //! Which texts write an operation, and worked examples of what operations leave of a file.
 //!
-//! Each test takes want of memory as an answer of any call, and then ends that row: a script refuses each allocation
-//! of each test in turn.
+//! A row that ends for want of memory is tried a second time, and has to end as it should then: a script refuses each
+//! allocation of each test in turn.
+
+mod exclusions;
+mod fields;
+mod growths;
+mod headers;
+mod replacements;
+mod requirements;
+mod retractions;
+mod spellings;
+mod worked;
 
 use crate::{EditFault, Op, OpFault, apply};
-use gm_file::{FileFault, MainFile};
+use gm_file::{Interval, MainFile, Replace, Right};
 use gm_syntax::doc::Doc;
-use gm_syntax::fault::SyntaxFault;
 use std::alloc::Global;
-use std::test::Fail;
 
-// Whether a text is read as an operation; one want of memory is taken for the answer that is expected.
-fn is_read(alloc: Global, text: &str, expected: bool) -> bool {
-    match Op::parse(alloc, text) {
-        Ok(_) => true,
-        Err(fault) => match fault {
-            OpFault::NoMemory => expected,
-            OpFault::Spelling => false,
-        },
-    }
+/// Why an operation is refused, but for want of memory.
+#[derive(Clone, Copy, Debug, PartialEq, Eq)]
+enum Refusal {
+    Spelling,
+    Misfit,
 }
 
-const WRITTEN: [&str; 17] = [
-    "module=example.com/m",
-    "go=1.21",
-    "require=example.com/a@v1.2.0",
-    "require=example.com/p@v2.0.0",
-    "droprequire=example.com/a",
-    "exclude=example.com/p@v1.0.0",
-    "dropexclude=a@v2.0.0",
-    "replace=example.com/b=./b",
-    "replace=local=../x y",
-    "replace=a@v1.0.0=b@v2.0.0",
-    "replace=a=./x=y",
-    "dropreplace=a",
-    "dropreplace=a@v2.0.0",
-    "retract=v1.0.0",
-    "retract=[v1.0.0,v1.0.0]",
-    "retract=[ v1.0.0\t,v1.1.0 ]",
-    "dropretract=[v1.0.0,v1.0.0]",
-];
-
-const UNWRITTEN: [&str; 14] = [
-    "go=v1.2",
-    "go=1",
-    "require=example.com/a",
-    "require",
-    "droprequire=example.com/a@v1.0.0",
-    "exclude=example.com/p@v1",
-    "replace=a=..@v1.0.0",
-    "replace=a=b",
-    "replace=a=./x\n",
-    "retract= v1.0.0",
-    "retract=[v1.0.0,v1.1.0] ",
-    "retract=[v1.0.0]",
-    "tool=x",
-    "",
-];
-
-#[test]
-fn written(rt: HostRuntime) -> Result<(), Fail> {
-    for text in WRITTEN.iter() {
-        if !is_read(rt.alloc(), text, true) {
-            return Err(Fail::new(format_args!("refused: {text}")));
-        }
-    }
-    Ok(())
+/// What operations come to.
+#[derive(Clone, Copy)]
+enum Wanted {
+    /// All are done, and leave a file of this layout.
+    Left(&'static str),
+    /// The operation of this number is refused, and the file has this layout.
+    Refused(usize, Refusal, &'static str),
 }
 
-#[test]
-fn unwritten(rt: HostRuntime) -> Result<(), Fail> {
-    for text in UNWRITTEN.iter() {
-        if is_read(rt.alloc(), text, false) {
-            return Err(Fail::new(format_args!("read: {text}")));
-        }
-    }
-    Ok(())
+/// A text, operations that are applied in turn up to the first that is refused, and what they come to.
+type Row = (&'static str, &'static [&'static str], Wanted);
+
+/// A main file. There is none where memory ran out, or where the text is no such file.
+fn main_file<'a>(alloc: Global, text: &'a str) -> Option<MainFile<'a>> {
+    let doc = Doc::parse(alloc, text.as_bytes()).ok()?;
+    MainFile::read(alloc, doc).ok()
 }
 
-// Whether a file has that layout; want of memory passes.
-fn is_laid_out(alloc: Global, file: &MainFile, layout: &str) -> bool {
-    match file.doc().format(alloc) {
-        Ok(text) => text.as_str() == layout,
-        Err(_) => true,
-    }
-}
-
-// Whether a file has that layout after an operation; want of memory passes.
-fn is_left(alloc: Global, file: &mut MainFile, op: &Op, layout: &str) -> bool {
+/// Applies an operation, or says why it is refused. There is no answer where memory ran out.
+fn applied(alloc: Global, file: &mut MainFile, op: &Op) -> Option<Result<(), Refusal>> {
     match apply(alloc, file, op) {
-        Ok(()) => is_laid_out(alloc, file, layout),
-        Err(fault) => match fault {
-            EditFault::NoMemory => true,
-            EditFault::Misfit => false,
-        },
+        Ok(()) => Some(Ok(())),
+        Err(EditFault::Misfit) => Some(Err(Refusal::Misfit)),
+        Err(EditFault::NoMemory) => None,
     }
 }
 
-// The same of a document, which must read as a main file.
-fn is_left_in(alloc: Global, doc: Doc, op: &Op, layout: &str) -> bool {
-    match MainFile::read(alloc, doc) {
-        Ok(mut file) => is_left(alloc, &mut file, op, layout),
-        Err(FileFault::NoMemory) => true,
-        Err(_) => false,
+/// The same of an operation's text.
+fn text_applied(alloc: Global, file: &mut MainFile, text: &str) -> Option<Result<(), Refusal>> {
+    match Op::parse(alloc, text) {
+        Ok(op) => applied(alloc, file, &op),
+        Err(OpFault::Spelling) => Some(Err(Refusal::Spelling)),
+        Err(OpFault::NoMemory) => None,
     }
 }
 
-// The same of a text, which must read as a document.
-fn is_left_of(alloc: Global, text: &str, op: &Op, layout: &str) -> bool {
-    match Doc::parse(alloc, text.as_bytes()) {
-        Ok(doc) => is_left_in(alloc, doc, op, layout),
-        Err(SyntaxFault::NoMemory) => true,
-        Err(_) => false,
-    }
-}
-
-// The same with the operation's text, which must read.
-fn leaves(alloc: Global, text: &str, written: &str, layout: &str) -> bool {
-    match Op::parse(alloc, written) {
-        Ok(op) => is_left_of(alloc, text, &op, layout),
-        Err(OpFault::NoMemory) => true,
-        Err(_) => false,
-    }
-}
-
-// A text, an operation, and the layout after it. A row that follows another goes on from what that one leaves.
-const EDITS: [(&str, &str, &str); 5] = [
-    (
-        "module example.com/m\n",
-        "go=1.21",
-        "module example.com/m\n\ngo 1.21\n",
-    ),
-    (
-        "module example.com/m\n",
-        "retract=[v1.0.0,v1.0.0]",
-        "module example.com/m\n\nretract v1.0.0\n",
-    ),
-    (
-        "module example.com/m\n\nretract v1.0.0\n",
-        "dropretract=[v1.0.0,v1.0.0]",
-        "module example.com/m\n",
-    ),
-    (
-        "module example.com/m\n",
-        "retract=[v1.0.0,v1.2.0]",
-        "module example.com/m\n\nretract [v1.0.0, v1.2.0]\n",
-    ),
-    (
-        "module example.com/m\n",
-        "replace=local=../x y",
-        "module example.com/m\n\nreplace local => \"../x y\"\n",
-    ),
-];
-
-const EDITS_IN_TURN: [(&str, &str, &str); 4] = [
-    (
-        "module example.com/m\n\nrequire (\n\texample.com/a v1.0.0 // keep\n\texample.com/a v1.1.0\n)\n\nreplace example.com/b v1.0.0 => ../b1\n",
-        "require=example.com/a@v1.2.0",
-        "module example.com/m\n\nrequire (\n\texample.com/a v1.2.0 // keep\n)\n\nreplace example.com/b v1.0.0 => ../b1\n",
-    ),
-    (
-        "module example.com/m\n\nrequire (\n\texample.com/a v1.2.0 // keep\n)\n\nreplace example.com/b v1.0.0 => ../b1\n",
-        "droprequire=example.com/a",
-        "module example.com/m\n\nreplace example.com/b v1.0.0 => ../b1\n",
-    ),
-    (
-        "module example.com/m\n\nreplace example.com/b v1.0.0 => ../b1\n",
-        "replace=example.com/b=./b",
-        "module example.com/m\n\nreplace example.com/b => ./b\n",
-    ),
-    (
-        "module example.com/m\n\nreplace example.com/b => ./b\n",
-        "exclude=example.com/p@v1.0.0",
-        "module example.com/m\n\nreplace example.com/b => ./b\n\nexclude example.com/p v1.0.0\n",
-    ),
-];
-
-#[test]
-fn edits(rt: HostRuntime) -> Result<(), Fail> {
-    for (text, written, layout) in EDITS.iter() {
-        if !leaves(rt.alloc(), text, written, layout) {
-            return Err(Fail::new(format_args!("{written}")));
+/// Applies operations in turn, up to the first that is refused: its number, and why.
+fn all_applied(
+    alloc: Global,
+    file: &mut MainFile,
+    operations: &'static [&'static str],
+) -> Option<Option<(usize, Refusal)>> {
+    for (n, text) in operations.iter().enumerate() {
+        if let Err(refusal) = text_applied(alloc, file, text)? {
+            return Some(Some((n + 1, refusal)));
         }
     }
-    Ok(())
+    Some(None)
 }
 
-#[test]
-fn edits_in_turn(rt: HostRuntime) -> Result<(), Fail> {
-    for (text, written, layout) in EDITS_IN_TURN.iter() {
-        if !leaves(rt.alloc(), text, written, layout) {
-            return Err(Fail::new(format_args!("{written}")));
+fn is_same_right(right: &Right, other: &Right) -> bool {
+    match (right, other) {
+        (Right::Folder(text), Right::Folder(other)) => text.as_str() == other.as_str(),
+        (Right::Module(path, version), Right::Module(other_path, other_version)) => {
+            *path == *other_path && *version == *other_version
+        }
+        _ => false,
+    }
+}
+
+fn is_same_replace(replace: &Replace, other: &Replace) -> bool {
+    replace.left == other.left
+        && replace.version == other.version
+        && is_same_right(&replace.right, &other.right)
+}
+
+fn are_same_replaces(replaces: &[Replace], others: &[Replace]) -> bool {
+    replaces.len() == others.len()
+        && replaces
+            .iter()
+            .zip(others.iter())
+            .all(|(a, b)| is_same_replace(a, b))
+}
+
+fn are_same_retracts(retracts: &[Interval], others: &[Interval]) -> bool {
+    retracts.len() == others.len()
+        && retracts
+            .iter()
+            .zip(others.iter())
+            .all(|(a, b)| a.low == b.low && a.high == b.high)
+}
+
+/// Whether both say the same of what stands in the place of each requirement, and of whether it is excluded.
+fn choose_the_same(file: &MainFile, other: &MainFile) -> bool {
+    file.requirements().iter().all(|asked| {
+        file.excluded(asked) == other.excluded(asked)
+            && match (file.replacement(asked), other.replacement(asked)) {
+                (Some(right), Some(other)) => is_same_right(right, other),
+                (None, None) => true,
+                _ => false,
+            }
+    })
+}
+
+/// Whether all fields of two files are the same.
+fn say_the_same(file: &MainFile, other: &MainFile) -> bool {
+    *file.module() == *other.module()
+        && file.go() == other.go()
+        && file.requirements() == other.requirements()
+        && file.excludes() == other.excludes()
+        && are_same_replaces(file.replaces(), other.replaces())
+        && are_same_retracts(file.retracts(), other.retracts())
+        && choose_the_same(file, other)
+}
+
+/// Whether a file's layout reads as a main file again, which says the same.
+fn reads_again(alloc: Global, file: &MainFile, layout: &str) -> Option<bool> {
+    let again = main_file(alloc, layout)?;
+    Some(say_the_same(file, &again))
+}
+
+fn is_wanted(refused: Option<(usize, Refusal)>, layout: &str, wanted: Wanted) -> bool {
+    match wanted {
+        Wanted::Left(text) => refused.is_none() && layout == text,
+        Wanted::Refused(number, refusal, text) => {
+            refused == Some((number, refusal)) && layout == text
         }
     }
-    Ok(())
+}
+
+fn comes_to(
+    alloc: Global,
+    file: &mut MainFile,
+    operations: &'static [&'static str],
+    wanted: Wanted,
+) -> Option<bool> {
+    let refused = all_applied(alloc, file, operations)?;
+    let layout = file.doc().format(alloc).ok()?;
+    let is_sound = reads_again(alloc, file, layout.as_str())?;
+    Some(is_sound && is_wanted(refused, layout.as_str(), wanted))
+}
+
+/// Whether the operations of a row come to what it has. There is no answer where memory ran out.
+fn tried(alloc: Global, row: Row) -> Option<bool> {
+    let mut file = main_file(alloc, row.0)?;
+    comes_to(alloc, &mut file, row.1, row.2)
+}
+
+/// The same, tried a second time where memory ran out.
+fn holds(alloc: Global, row: Row) -> bool {
+    match tried(alloc, row) {
+        Some(right) => right,
+        None => tried(alloc, row) == Some(true),
+    }
+}
+
+/// The number of the first row that does not hold.
+fn first_wrong(alloc: Global, rows: &'static [Row]) -> Option<usize> {
+    for (n, row) in rows.iter().enumerate() {
+        if !holds(alloc, *row) {
+            return Some(n);
+        }
+    }
+    None
 }
