@@ -1,4 +1,5 @@
--- Laws of what `graph`, `list` and `chain` come to, over the definitions alone.
+-- Laws of what `graph`, `list` and `chain` come to, over the definitions alone. Where no section of the Go Modules Reference is named, the
+-- law is about what is this program's own: that a run has one outcome, parts and pages of the list, and chains.
 use Rattle.std.specs.Prelude.{◌≡◌, ◌≢◌, ◌<◌, ◌≤◌, ◌⊎◌, ℕ, false, List, [], ◌∷◌, ◌++◌, length, map, Option, Some, None, Contains}
 use Rattle.std.specs.List.{flat_map}
 use Rattle.std.specs.Ordering.{is_gt}
@@ -112,7 +113,7 @@ abbrev pub PagesJoin : Type 0
 PagesJoin = (run : Given) (n : ℕ) (whole : Outcome) → 0 < n → IsListOutcome None None run whole → whole.status ≡ Done
     → (main : Main) × (held : Held) × (pages : List (List Entry)) × AreFound run main held × AreRows main (readings_by main held) (joined pages) × ArePages run main.path n None pages × (whole.text ≡ flat_map (list_text main.path) pages)
 
--- ---- `chain` is a shortest one
+-- ---- `chain` is a shortest one, over the module graph (Go Modules Reference, "Minimal version selection")
 
 -- the main module, and then steps to which an edge leads from the step before
 pub data IsWalk (edges : Edges) : Step → List Step → Type 0 where

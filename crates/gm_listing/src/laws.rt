@@ -1,4 +1,5 @@
-//! Laws over the definitions, on which the crates above may rest. The functions do nothing: each contract is a law.
+//! Laws over the definitions, on which the crates above may rest. The functions do nothing: each contract is a law. Where no section
+//! of the Go Modules Reference is named, the law is about what is this program's own.
 
 ghost use Rattle.gm_listing.specs.Laws.{AlikeChains, AlikeGraphs, AlikeLists, BuildListIsListed, ChainIsShortest, ListIsBuildList, OneChainOutcome, OneGraph, OneGraphOutcome, OneListOutcome, OneRefusal, PagesJoin, PartsOfOneList};
 
