@@ -1,12 +1,13 @@
 //! Worked examples of files, with the faults and the fields that docs/SPEC.md gives.
 //!
-//! Each test takes want of memory as an answer of any call, and then ends that row: a script refuses each allocation
-//! of each test in turn.
+//! A reading that memory cut short is tried a second time, which has to answer: a script refuses each allocation of each
+//! test in turn.
 
 use crate::DirectiveKind::{
     BadGo, BadPath, BadVersion, ConflictingReplace, Misfit, NoModule, Repeated, UnknownVerb,
     WrongArguments,
 };
+use crate::verb::Mode;
 use crate::{DepFile, DirectiveKind, FileFault, Interval, MainFile, Right};
 use gm_name::{ModPath, ModVer, ModVersion};
 use gm_syntax::doc::Doc;
@@ -24,8 +25,10 @@ fn document<'a>(alloc: Global, text: &'a str) -> Result<Option<Doc<'a>>, Fail> {
     }
 }
 
+const NO_MEMORY: &str = "no memory, at a second try too";
+
 // A main file that must read; None where memory was short.
-fn main_file<'a>(alloc: Global, text: &'a str) -> Result<Option<MainFile<'a>>, Fail> {
+fn main_file_once<'a>(alloc: Global, text: &'a str) -> Result<Option<MainFile<'a>>, Fail> {
     let Some(doc) = document(alloc, text)? else {
         return Ok(None);
     };
@@ -36,8 +39,15 @@ fn main_file<'a>(alloc: Global, text: &'a str) -> Result<Option<MainFile<'a>>, F
     }
 }
 
+fn main_file<'a>(alloc: Global, text: &'a str) -> Result<MainFile<'a>, Fail> {
+    if let Some(file) = main_file_once(alloc, text)? {
+        return Ok(file);
+    }
+    Ok(main_file_once(alloc, text)?.ok_or(NO_MEMORY)?)
+}
+
 // A dependency's file that must read; None where memory was short.
-fn dep_file(alloc: Global, text: &str) -> Result<Option<DepFile>, Fail> {
+fn dep_file_once(alloc: Global, text: &str) -> Result<Option<DepFile>, Fail> {
     let Some(doc) = document(alloc, text)? else {
         return Ok(None);
     };
@@ -48,18 +58,43 @@ fn dep_file(alloc: Global, text: &str) -> Result<Option<DepFile>, Fail> {
     }
 }
 
-// A path at a version, which must fit; None where memory was short.
-fn pair(alloc: Global, path: &str, version: &str) -> Result<Option<ModVer>, Fail> {
-    let Ok(path) = ModPath::parse(alloc, path) else {
-        return Ok(None);
-    };
-    let Ok(version) = ModVersion::parse(alloc, version) else {
-        return Ok(None);
-    };
-    match ModVer::pair(path, version) {
-        Some(pair) => Ok(Some(pair)),
-        None => Err(Fail::from("the version does not fit")),
+fn dep_file(alloc: Global, text: &str) -> Result<DepFile, Fail> {
+    if let Some(file) = dep_file_once(alloc, text)? {
+        return Ok(file);
     }
+    Ok(dep_file_once(alloc, text)?.ok_or(NO_MEMORY)?)
+}
+
+// The fault of a main file, or of a dependency's file; None where it reads, and where memory was short.
+fn fault_once(alloc: Global, mode: Mode, text: &str) -> Result<Option<FileFault>, Fail> {
+    let Some(doc) = document(alloc, text)? else {
+        return Ok(None);
+    };
+    let fault = match mode {
+        Mode::Strict => MainFile::read(alloc, doc).err(),
+        Mode::Lax => DepFile::read(alloc, &doc).err(),
+    };
+    Ok(fault.filter(|fault| *fault != FileFault::NoMemory))
+}
+
+fn fault(alloc: Global, mode: Mode, text: &str) -> Result<Option<FileFault>, Fail> {
+    if let Some(fault) = fault_once(alloc, mode, text)? {
+        return Ok(Some(fault));
+    }
+    fault_once(alloc, mode, text)
+}
+
+// A path at a version, which must fit; None where memory was short.
+fn pair_once(alloc: Global, path: &str, version: &str) -> Option<ModVer> {
+    let path = ModPath::parse(alloc, path).ok()?;
+    ModVer::pair(path, ModVersion::parse(alloc, version).ok()?)
+}
+
+fn pair(alloc: Global, path: &str, version: &str) -> Result<ModVer, Fail> {
+    if let Some(pair) = pair_once(alloc, path, version) {
+        return Ok(pair);
+    }
+    Ok(pair_once(alloc, path, version).ok_or("no path at a version that fits")?)
 }
 
 // What follows the line `module example.com/m`, and the fault.
@@ -153,27 +188,22 @@ const STRICT_FAULTS: [(&str, usize, DirectiveKind); 64] = [
     ("\n// c\nrequire a\nuse x\ngo x", 4, WrongArguments),
 ];
 
+// The fault of such a text behind the line of the module.
+fn strict_fault(alloc: Global, rest: &str) -> Result<Option<FileFault>, Fail> {
+    let text = format!(in alloc; "module example.com/m\n{rest}").or_else(|_| format!(in alloc;
+        "module example.com/m\n{rest}"
+    ))?;
+    fault(alloc, Mode::Strict, text.as_str())
+}
+
+fn at(line: usize, kind: DirectiveKind) -> Option<FileFault> {
+    Some(FileFault::Directive { line, kind })
+}
+
 #[test]
 fn strict_faults(rt: HostRuntime) -> Result<(), Fail> {
     for (rest, line, kind) in STRICT_FAULTS.iter() {
-        let Ok(text) = format!(in rt.alloc(); "module example.com/m\n{rest}") else {
-            return Ok(());
-        };
-        let Some(doc) = document(rt.alloc(), text.as_str())? else {
-            return Ok(());
-        };
-        match MainFile::read(rt.alloc(), doc) {
-            Ok(_) => return Err(Fail::new(format_args!("read: {rest}"))),
-            Err(FileFault::NoMemory) => return Ok(()),
-            Err(fault) => assert_eq!(rt;
-                fault,
-                FileFault::Directive {
-                    line: *line,
-                    kind: *kind
-                },
-                "{rest}"
-            ),
-        }
+        assert_eq!(rt; strict_fault(rt.alloc(), rest)?, at(*line, *kind), "{rest}");
     }
     Ok(())
 }
@@ -200,21 +230,11 @@ fn lax_faults(rt: HostRuntime) -> Result<(), Fail> {
         ),
     ];
     for (text, line, kind) in rows.iter() {
-        let Some(doc) = document(rt.alloc(), text)? else {
-            return Ok(());
-        };
-        match DepFile::read(rt.alloc(), &doc) {
-            Ok(_) => return Err(Fail::new(format_args!("read: {text}"))),
-            Err(FileFault::NoMemory) => return Ok(()),
-            Err(fault) => assert_eq!(rt;
-                fault,
-                FileFault::Directive {
-                    line: *line,
-                    kind: *kind
-                },
-                "{text}"
-            ),
-        }
+        assert_eq!(rt;
+            fault(rt.alloc(), Mode::Lax, text)?,
+            at(*line, *kind),
+            "{text}"
+        );
     }
     Ok(())
 }
@@ -222,36 +242,16 @@ fn lax_faults(rt: HostRuntime) -> Result<(), Fail> {
 #[test]
 fn files_without_a_module(rt: HostRuntime) -> Result<(), Fail> {
     for text in ["", "go 1.21", "module ( )", "// module m\n"] {
-        let Some(doc) = document(rt.alloc(), text)? else {
-            return Ok(());
-        };
-        match MainFile::read(rt.alloc(), doc) {
-            Ok(_) => return Err(Fail::new(format_args!("read: {text}"))),
-            Err(FileFault::NoMemory) => return Ok(()),
-            Err(fault) => assert_eq!(rt;
-                fault,
-                FileFault::Directive {
-                    line: 0,
-                    kind: NoModule
-                },
-                "{text}"
-            ),
-        }
-        let Some(doc) = document(rt.alloc(), "go 1.21\nuse x")? else {
-            return Ok(());
-        };
-        match MainFile::read(rt.alloc(), doc) {
-            Ok(_) => return Err(Fail::from("read")),
-            Err(FileFault::NoMemory) => return Ok(()),
-            Err(fault) => assert_eq!(rt;
-                fault,
-                FileFault::Directive {
-                    line: 2,
-                    kind: UnknownVerb
-                }
-            ),
-        }
+        assert_eq!(rt;
+            fault(rt.alloc(), Mode::Strict, text)?,
+            at(0, NoModule),
+            "{text}"
+        );
     }
+    assert_eq!(rt;
+        fault(rt.alloc(), Mode::Strict, "go 1.21\nuse x")?,
+        at(2, UnknownVerb)
+    );
     Ok(())
 }
 
@@ -355,10 +355,9 @@ fn projects(rt: HostRuntime) -> Result<(), Fail> {
         ),
     ];
     for (text, path, go, counts) in rows {
-        if let Some(file) = main_file(rt.alloc(), text)? {
-            assert!(rt; says(&file, path, go, counts), "{path}");
-            assert!(rt; layout_says(rt.alloc(), &file, path)?, "{path}");
-        }
+        let file = main_file(rt.alloc(), text)?;
+        assert!(rt; says(&file, path, go, counts), "{path}");
+        assert!(rt; layout_says(rt.alloc(), &file, path)?, "{path}");
     }
     Ok(())
 }
@@ -373,36 +372,34 @@ fn says(file: &MainFile, path: &str, go: (u32, u32), counts: [usize; 4]) -> bool
         && file.retracts().len() == counts[3]
 }
 
-// Whether a file's layout reads as a file of that module; want of memory passes.
+// Whether a file's layout reads as a file of that module.
 fn layout_says(alloc: Global, file: &MainFile, path: &str) -> Result<bool, Fail> {
-    let Ok(layout) = file.doc().format(alloc) else {
-        return Ok(true);
-    };
-    match main_file(alloc, layout.as_str())? {
-        Some(again) => Ok(again.module().as_str() == path),
-        None => Ok(true),
-    }
+    let layout = file
+        .doc()
+        .format(alloc)
+        .or_else(|_| file.doc().format(alloc))?;
+    let again = main_file(alloc, layout.as_str())?;
+    Ok(again.module().as_str() == path)
 }
 
 #[test]
 fn fields(rt: HostRuntime) -> Result<(), Fail> {
     let text =
         "module m\nrequire (\nb v1.0.0\na v1.0.0\nb v1.0.0\n)\nexclude \"a\" `v1.1.0`\nretract v1.0.0\nretract [ v1.1.0 , v1.2.0 ]\n";
-    if let Some(file) = main_file(rt.alloc(), text)? {
-        assert!(rt;
-            are_pairs(
-                file.requirements(),
-                &[("b", "v1.0.0"), ("a", "v1.0.0"), ("b", "v1.0.0")]
-            )
-        );
-        assert!(rt; are_pairs(file.excludes(), &[("a", "v1.1.0")]));
-        assert!(rt;
-            are_intervals(
-                file.retracts(),
-                &[("v1.0.0", "v1.0.0"), ("v1.1.0", "v1.2.0")]
-            )
-        );
-    }
+    let file = main_file(rt.alloc(), text)?;
+    assert!(rt;
+        are_pairs(
+            file.requirements(),
+            &[("b", "v1.0.0"), ("a", "v1.0.0"), ("b", "v1.0.0")]
+        )
+    );
+    assert!(rt; are_pairs(file.excludes(), &[("a", "v1.1.0")]));
+    assert!(rt;
+        are_intervals(
+            file.retracts(),
+            &[("v1.0.0", "v1.0.0"), ("v1.1.0", "v1.2.0")]
+        )
+    );
     Ok(())
 }
 
@@ -410,9 +407,7 @@ fn fields(rt: HostRuntime) -> Result<(), Fail> {
 fn choices(rt: HostRuntime) -> Result<(), Fail> {
     let text =
         "module m\nreplace a => ./x\nreplace a v1.0.0 => ./y\nreplace a => ./x\nreplace b v1.0.0 => \"./q\\\"\\\\r\"\nexclude a v1.0.0\n";
-    let Some(file) = main_file(rt.alloc(), text)? else {
-        return Ok(());
-    };
+    let file = main_file(rt.alloc(), text)?;
     assert_eq!(rt; file.replaces().len(), 4);
     // the right of the version is taken before the path's
     let rows: [(&str, &str, Option<&str>, bool); 5] = [
@@ -423,9 +418,7 @@ fn choices(rt: HostRuntime) -> Result<(), Fail> {
         ("c", "v1.0.0", None, false),
     ];
     for (path, version, right, excluded) in rows.iter() {
-        let Some(asked) = pair(rt.alloc(), path, version)? else {
-            return Ok(());
-        };
+        let asked = pair(rt.alloc(), path, version)?;
         match right {
             Some(folder) => assert!(rt;
                 is_folder(file.replacement(&asked), folder),
@@ -489,9 +482,7 @@ fn dependencies(rt: HostRuntime) -> Result<(), Fail> {
         ),
     ];
     for (text, path, go, requirements, retracts) in rows {
-        let Some(file) = dep_file(rt.alloc(), text)? else {
-            return Ok(());
-        };
+        let file = dep_file(rt.alloc(), text)?;
         match path {
             Some(path) => {
                 let declared = file.module().ok_or("no module")?;
