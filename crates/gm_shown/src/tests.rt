@@ -1,4 +1,7 @@
 //! Retractions of a few versions.
+//!
+//! A row that memory cut short is tried a second time, which has to answer: a script refuses each allocation of each test in
+//! turn.
 
 use crate::shown_versions;
 use gm_file::Interval;
@@ -33,9 +36,9 @@ fn shown_under(alloc: Global, ends: &[(&'static str, &'static str)]) -> Option<S
 }
 
 fn is_shown(alloc: Global, ends: &[(&'static str, &'static str)], wanted: &str) -> bool {
-    match shown_under(alloc, ends) {
+    match shown_under(alloc, ends).or_else(|| shown_under(alloc, ends)) {
         Some(text) => text.as_str() == wanted,
-        None => true,
+        None => false,
     }
 }
 
