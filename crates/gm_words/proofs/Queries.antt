@@ -1,12 +1,12 @@
 -- What the faults of `list` say of its entries.
-use Rattle.std.proofs.Common.{◌≡◌, ◌∙◌, ℕ, List, Option, IfSome, ap, Some, None, true, codes, sym, subst, inl, inr, refl}
+use Rattle.std.proofs.Common.{◌≡◌, ◌∙◌, ℕ, List, Option, IfSome, ap, Some, None, true, codes, sym, subst, inl, inr, refl, slice_index, arith}
 use Rattle.std.specs.Prelude.{is_some}
 use Rattle.clap.specs.Walk.{Row, Text, first_of}
 use Rattle.gm_name.specs.Path.{IsPath}
 use Rattle.gm_store.specs.declared.proxies.ProxyList.{ProxyList}
 use Rattle.gm_words.specs.Usage.{AreMeant, HasBadPath, IsEntriesFault, IsLimit, IsPlacesFault, IsProxy, IsSoundBefore, Means, has_limit}
 use Rattle.gm_words.specs.declared.usage.Command.{Command}
-use Rattle.gm_words.specs.declared.usage.Command.TheVariants.{Versions, Fmt, Graph, List as Rows, Chain}
+use Rattle.gm_words.specs.declared.usage.Command.TheVariants.{Versions, Fmt, Edit, Graph, List as Rows, Chain}
 use Rattle.gm_words.specs.declared.usage.Places.{Places}
 use Rattle.gm_words.specs.declared.usage.UsageFault.{UsageFault}
 use Rattle.gm_words.specs.declared.usage.UsageFault.TheVariants.{NoMemory, Help, Line, BadPath, BadProxy}
@@ -21,8 +21,13 @@ no_proxy (Some text) proxy none known some = cc none
 no_proxy None None none known some = cc some
 no_proxy None (Some list) none known some = known
 
+-- by the first letters
+other_name : codes "list" ≡ codes "edit" → ⊥
+other_name e = let first : 108 ≡ 101 = ap (λ (text : Text). slice_index text 0) e in absurd (omega (arith, first))
+
 no_command : (rows : List Row) (command : Command) (places : Places) → first_of (codes "proxy") rows ≡ None → Means (codes "list") rows command places → ⊥
 no_command rows Fmt places none meant = cc meant.0
+no_command rows (Edit operations) places none meant = other_name meant.0
 no_command rows (Versions path all) places none meant = cc meant.0
 no_command rows Graph places none meant = cc meant.0
 no_command rows (Chain path) places none meant = cc meant.0

@@ -1,10 +1,12 @@
 -- What the words of a command line mean.
-use Rattle.std.specs.Prelude.{◌≡◌, ◌≢◌, ◌⊎◌, ◌||◌, not, ℕ, Bool, List, [], Option, Some, None, true, false, codes, is_some, option_map, unwrap_or}
+use Rattle.std.specs.Prelude.{◌≡◌, ◌≢◌, ◌⊎◌, ◌||◌, not, ℕ, Bool, List, [], Option, Some, None, true, false, codes, is_some, map, option_map, unwrap_or, String}
 use Rattle.std.specs.List.{list_all}
 use Rattle.std.specs.Option.{option_map_or}
 use Rattle.std.specs.Str.{bytes_eq}
+use Rattle.std.specs.Global.{Global, Vec}
 use Rattle.std.specs.String.{string_bytes}
-use Rattle.clap.specs.Walk.{Row, Rule, Text, first_of}
+use Rattle.clap.specs.Lexer.{usize_max}
+use Rattle.clap.specs.Walk.{Row, Rule, Text, all_of, first_of}
 use Rattle.clap.specs.Simple.{App, new_app, new_rule, subcommand_of, with_rule, with_subcommand}
 use Rattle.clap.specs.Faults.{fault_of}
 use Rattle.clap.specs.Kinds.{IsAmong}
@@ -19,7 +21,7 @@ use Rattle.gm_store.specs.Proxies.{folders_in, folders_of, is_folder, marks_in, 
 use Rattle.gm_store.specs.declared.proxies.ProxyList.{ProxyList}
 use Rattle.gm_words.specs.Limits.{limit_of}
 use Rattle.gm_words.specs.declared.usage.Command.{Command}
-use Rattle.gm_words.specs.declared.usage.Command.TheVariants.{Versions, Fmt, Graph, List as Rows, Chain}
+use Rattle.gm_words.specs.declared.usage.Command.TheVariants.{Versions, Fmt, Edit, Graph, List as Rows, Chain}
 use Rattle.gm_words.specs.declared.usage.Places.{Places}
 use Rattle.gm_words.specs.declared.usage.UsageFault.{UsageFault}
 use Rattle.gm_words.specs.declared.usage.UsageFault.TheVariants.{NoMemory, Help, Line, BadPath, BadProxy}
@@ -31,6 +33,14 @@ word_rule name = record (new_rule name) { required = true; value_names = 1 }
 -- `fmt FILE`
 abbrev pub fmt_app : App
 fmt_app = with_rule (new_app (codes "fmt")) (word_rule (codes "file"))
+
+-- words of this name, of which one or more must be given
+abbrev pub words_rule : Text → Rule
+words_rule name = record (word_rule name) { range = Some (record { start_inclusive = 1; end_inclusive = usize_max }) }
+
+-- `edit FILE OP..`
+abbrev pub edit_app : App
+edit_app = with_rule (with_rule (new_app (codes "edit")) (word_rule (codes "file"))) (words_rule (codes "op"))
 
 -- an option `--NAME VALUE`, which may be left out
 abbrev pub option_rule : Text → Rule
@@ -71,7 +81,8 @@ bare_gomod = let app = new_app (codes "gomod") in record app { top = record app.
 -- `gomod` with its commands
 abbrev pub gomod_app : App
 gomod_app =
-    with_subcommand (with_subcommand (with_subcommand (with_subcommand (with_subcommand bare_gomod fmt_app.top) graph_app.top) list_app.top) chain_app.top) versions_app.top
+    with_subcommand (with_subcommand (with_subcommand (with_subcommand (with_subcommand (with_subcommand bare_gomod fmt_app.top) edit_app.top)
+    graph_app.top) list_app.top) chain_app.top) versions_app.top
 
 -- whether a flag is given
 abbrev pub is_given : Text → List Row → Bool
@@ -104,6 +115,10 @@ IsLimit (Some text) limit = (limit_of text ≡ limit) × (is_some limit ≡ true
 abbrev pub has_limit : Option Text → Bool
 has_limit value = option_map_or (λ text. is_some (limit_of text)) value true
 
+-- the texts that a command has, in their order
+abbrev pub texts_in : Vec (String Global) → List Text
+texts_in texts = map string_bytes texts.items
+
 -- The command and the places that a command's name and its entries stand for. All versions are asked for where `--retracted` is
 -- given, and where there is no proxy.
 abbrev pub Means : Text → List Row → Command → Places → Type 0
@@ -113,6 +128,9 @@ Means name rows (Versions path all) places =
     × (string_bytes places.main ≡ codes "go.mod") × (places.sums ≡ None)
 Means name rows Fmt places =
     (name ≡ codes "fmt") × (first_of (codes "file") rows ≡ Some (string_bytes places.main)) × (places.proxy ≡ None) × (places.sums ≡ None)
+Means name rows (Edit operations) places =
+    (name ≡ codes "edit") × (first_of (codes "file") rows ≡ Some (string_bytes places.main))
+    × (all_of (codes "op") rows ≡ Some (texts_in operations)) × (places.proxy ≡ None) × (places.sums ≡ None)
 Means name rows Graph places = (name ≡ codes "graph") × ArePlaces rows places
 Means name rows (Rows after limit) places =
     (name ≡ codes "list") × (first_of (codes "after") rows ≡ after) × IsLimit (first_of (codes "limit") rows) limit × ArePlaces rows places

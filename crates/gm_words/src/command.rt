@@ -3,13 +3,19 @@
 ghost use Rattle.std.specs.Prelude.{◌≡◌, IfOk, codes, false};
 ghost use Rattle.clap.specs.Words.{app_of, rule_of};
 ghost use Rattle.clap.specs.declared.builder.command.Command.TheViews.{out-Command};
-ghost use Rattle.gm_words.specs.Usage.{chain_app, flag_rule, fmt_app, gomod_app, graph_app, list_app, needed_rule, option_rule, query_app, versions_app, word_rule};
+ghost use Rattle.gm_words.specs.Usage.{chain_app, edit_app, flag_rule, fmt_app, gomod_app, graph_app, list_app, needed_rule, option_rule, query_app, versions_app, word_rule, words_rule};
 
 use clap::{Arg, ArgAction, Command};
 use std::alloc::{AllocError, Global};
 
 const FMT_ABOUT: &str =
     "Prints a go.mod file in its layout: single spaces between words, a tab before each line\nof a block, and at most one blank line in a row. Only the syntax is read. The file is left\nas it is.";
+
+const EDIT_ABOUT: &str =
+    "Applies operations to the go.mod file of a main module, in their order, and prints the layout of\nwhat they leave. The file is left as it is. Where an operation is not one of these, or its version\ndoes not fit its path, nothing is printed but what is wrong. An operation has no dash in front,\nwhich go mod edit has:\n  module=PATH                           the module's path\n  go=VERSION                            the go version\n  require=PATH@VERSION                  require the module at that version\n  droprequire=PATH                      require it no more\n  exclude=PATH@VERSION                  exclude that version\n  dropexclude=PATH@VERSION              exclude it no more\n  replace=PATH[@VERSION]=PATH@VERSION   put a module in another's place\n  replace=PATH[@VERSION]=FOLDER         put a folder in its place\n  dropreplace=PATH[@VERSION]            replace it no more\n  retract=VERSION, retract=[LOW,HIGH]   retract a version, or those from LOW to HIGH\n  dropretract=VERSION, dropretract=[LOW,HIGH]   retract them no more";
+
+const EDIT_EXAMPLES: &str =
+    "Examples:\n  gomod edit go.mod require=example.com/p@v1.2.0\n  gomod edit go.mod droprequire=example.com/q replace=example.com/p=../p 'retract=[v1.0.0, v1.1.0]'";
 
 const VERSIONS_ABOUT: &str =
     "Prints the module's path and its versions in ascending order, each once. With --proxy the list\nof versions is that of the proxy folders, and versions that the go.mod of the latest one\nretracts are left out. Without it the list is read from standard input, one version at the\nhead of each line, and all are printed. Pseudo-versions, versions that don't fit the path and\nother words are passed over.";
@@ -21,7 +27,7 @@ const PROXY_HELP: &str =
     "Proxy folders, as a GOPROXY server lays them out: with ',' between two the next is looked\ninto where a file is absent, with '|' also where the one before fails";
 
 const GOMOD_EXAMPLES: &str =
-    "Examples:\n  gomod fmt go.mod\n  gomod list --proxy ~/go/pkg/mod/cache/download\n  gomod graph --proxy ~/go/pkg/mod/cache/download\n  gomod chain example.com/p --proxy ~/go/pkg/mod/cache/download\n  gomod versions example.com/p --proxy ~/go/pkg/mod/cache/download\n\nWhat is wrong with a file or a list is said on standard error, with status 1, and what is\nwrong with the words with status 2. Status 3 says that memory or a device failed.";
+    "Examples:\n  gomod fmt go.mod\n  gomod edit go.mod require=example.com/p@v1.2.0\n  gomod list --proxy ~/go/pkg/mod/cache/download\n  gomod graph --proxy ~/go/pkg/mod/cache/download\n  gomod chain example.com/p --proxy ~/go/pkg/mod/cache/download\n  gomod versions example.com/p --proxy ~/go/pkg/mod/cache/download\n\nWhat is wrong with a file or a list is said on standard error, with status 1, and what is\nwrong with the words with status 2. Status 3 says that memory or a device failed.";
 
 const GRAPH_ABOUT: &str =
     "Prints the module graph of a go.mod file, as go mod graph does: each edge as a line of two fields\nwith a space between them, in ascending order. A field is the main module's path or\nPATH@VERSION. The go.mod files of other modules are read in the proxy folders, or in the\nfolders that replace directives name.";
@@ -40,20 +46,56 @@ const CHAIN_ABOUT: &str =
 const CHAIN_EXAMPLES: &str =
     "Example:\n  gomod chain example.com/p --proxy ~/go/pkg/mod/cache/download";
 
+/// FILE.
+fn file_word<'a>(alloc: Global, help: &'a str) -> Arg<'a>
+    ensures rule { rule_of result ≡ word_rule (codes "file") }
+    ensures local { result.global ≡ false }
+{
+    Arg::new(alloc, "file")
+        .value_name("FILE")
+        .required(true)
+        .help(help)
+}
+
 /// `fmt FILE`.
 fn fmt_command<'a>(alloc: Global) -> Result<Command<'a>, AllocError>
     ensures app { IfOk result (λ command. app_of command ≡ fmt_app) }
     ensures local { IfOk result (λ command. (out-Command command).has_globals ≡ false) }
 {
-    let file = Arg::new(alloc, "file")
-        .value_name("FILE")
-        .required(true)
-        .help("The file to lay out");
+    let file = file_word(alloc, "The file to lay out");
     let command = Command::new(alloc, "fmt")
         .about("Print a go.mod file in its layout")
         .long_about(FMT_ABOUT)
         .after_help("Example:\n  gomod fmt go.mod")
         .arg(file)?;
+    Ok(command)
+}
+
+/// OP, once or more.
+fn operation_words<'a>(alloc: Global) -> Arg<'a>
+    ensures rule { rule_of result ≡ words_rule (codes "op") }
+    ensures local { result.global ≡ false }
+{
+    Arg::new(alloc, "op")
+        .value_name("OP")
+        .required(true)
+        .num_args(1..)
+        .help("An operation, NAME=ARGUMENT")
+}
+
+/// `edit FILE OP..`.
+fn edit_command<'a>(alloc: Global) -> Result<Command<'a>, AllocError>
+    ensures app { IfOk result (λ command. app_of command ≡ edit_app) }
+    ensures local { IfOk result (λ command. (out-Command command).has_globals ≡ false) }
+{
+    let file = file_word(alloc, "The file to edit");
+    let operations = operation_words(alloc);
+    let command = Command::new(alloc, "edit")
+        .about("Print what operations leave of a go.mod file")
+        .long_about(EDIT_ABOUT)
+        .after_help(EDIT_EXAMPLES)
+        .arg(file)?
+        .arg(operations)?;
     Ok(command)
 }
 
@@ -241,6 +283,7 @@ pub(crate) fn gomod_command<'a>(alloc: Global) -> Result<Command<'a>, AllocError
     ensures { IfOk result (λ command. app_of command ≡ gomod_app) }
 {
     let fmt = fmt_command(alloc)?;
+    let edit = edit_command(alloc)?;
     let graph = graph_command(alloc)?;
     let list = list_command(alloc)?;
     let chain = chain_command(alloc)?;
@@ -250,6 +293,7 @@ pub(crate) fn gomod_command<'a>(alloc: Global) -> Result<Command<'a>, AllocError
         .after_help(GOMOD_EXAMPLES)
         .subcommand_required(true)
         .subcommand(fmt)?
+        .subcommand(edit)?
         .subcommand(graph)?
         .subcommand(list)?
         .subcommand(chain)?

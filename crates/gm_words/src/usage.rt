@@ -2,8 +2,8 @@
 
 ghost use Rattle.std.specs.Prelude.{◌≡◌, IfErr, IfOk, Some, codes, map, true};
 ghost use Rattle.std.specs.Option.{option_map};
-ghost use Rattle.clap.specs.Words.{first_of, found_of, rows_of, subcommand_rows_of};
-ghost use Rattle.gm_words.specs.Usage.{AskFor, IsEntriesFault, IsFaultOf, IsMeant, IsParserFault, IsPathFault, IsProxy, IsProxyFault, Means, is_given, is_line_or_memory};
+ghost use Rattle.clap.specs.Words.{all_of, first_of, found_of, rows_of, subcommand_rows_of};
+ghost use Rattle.gm_words.specs.Usage.{AskFor, IsEntriesFault, IsFaultOf, IsMeant, IsParserFault, IsPathFault, IsProxy, IsProxyFault, Means, is_given, is_line_or_memory, texts_in};
 ghost use Rattle.gm_name.specs.Path.{IsPath};
 ghost use Rattle.gm_words.specs.declared.usage.UsageFault.TheVariants.{NoMemory};
 
@@ -21,6 +21,9 @@ use thiserror::Error;
 pub enum Command {
     /// `fmt FILE`: print the layout of a go.mod file.
     Fmt,
+    /// `edit FILE OP..`: apply the operations that these texts write to a go.mod file, in their order, and print the layout of what
+    /// they leave. Of the words of a command line there is at least one.
+    Edit(Vec<String>),
     /// `versions PATH`: print the versions of the module in ascending order, of which `all` asks for those too that the latest
     /// one's file retracts.
     Versions {
@@ -127,6 +130,7 @@ fn read_matches<'a>(
 {
     match matches.subcommand() {
         Some(("fmt", found)) => read_fmt(alloc, found),
+        Some(("edit", found)) => read_edit(alloc, found),
         Some(("versions", found)) => read_versions(alloc, found),
         Some(("graph", found)) => read_graph(alloc, found),
         Some(("list", found)) => read_list(alloc, found),
@@ -140,6 +144,13 @@ pub(crate) fn value_of<'a>(found: &ArgMatches<'a>, id: &str) -> Option<&'a str>
     ensures { option_map (λ text. text.now) result ≡ first_of id.now (rows_of (found_of found.now)) }
 {
     found.get_str(id)
+}
+
+/// All values of an argument.
+fn values_of<'a, 'f>(found: &'f ArgMatches<'a>, id: &str) -> Option<&'f [&'a str]>
+    ensures { option_map (λ words. map (λ word. word.now) words.now) result ≡ all_of id.now (rows_of (found_of found.now)) }
+{
+    found.get_strs(id)
 }
 
 /// Whether a flag is given.
@@ -200,6 +211,37 @@ fn read_fmt<'a>(alloc: Global, found: &ArgMatches<'a>) -> Result<(Command, Place
         sums: None,
     };
     Ok((Command::Fmt, places))
+}
+
+/// The texts of words.
+fn copied(alloc: Global, words: &[&str]) -> Result<Vec<String>, AllocError>
+    ensures { IfOk result (λ texts. texts_in texts ≡ map (λ word. word.now) words.now) }
+{
+    let mut texts = Vec::new(alloc);
+    for word in words {
+        texts.push(String::from_str(alloc, word)?)?;
+    }
+    Ok(texts)
+}
+
+fn read_edit<'a>(alloc: Global, found: &ArgMatches<'a>) -> Result<(Command, Places), UsageFault>
+    ensures read { IfOk result (λ read. Means (codes "edit") (rows_of (found_of found.now)) read.0 read.1) }
+    ensures fault { IfErr result (IsEntriesFault (Some (codes "edit", rows_of (found_of found.now)))) }
+{
+    let Some(file) = value_of(found, "file") else {
+        return Err(line(alloc, "no FILE"));
+    };
+    let Some(operations) = values_of(found, "op") else {
+        return Err(line(alloc, "no OP"));
+    };
+    let operations = copied(alloc, operations)?;
+    let main = String::from_str(alloc, file)?;
+    let places = Places {
+        main,
+        proxy: None,
+        sums: None,
+    };
+    Ok((Command::Edit(operations), places))
 }
 
 fn read_versions<'a>(alloc: Global, found: &ArgMatches<'a>) -> Result<(Command, Places), UsageFault>
