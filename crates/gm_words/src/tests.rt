@@ -11,6 +11,8 @@ enum Outcome {
     BadPath(&'static str),
     BadProxy(&'static str),
     Fmt(&'static str),
+    /// The file and the operations.
+    Edit(&'static str, &'static [&'static str]),
     /// The path, whether all versions are asked for, and how many proxy folders there are.
     Versions(&'static str, bool, usize),
 }
@@ -24,6 +26,14 @@ fn folders_in(places: &Places) -> usize {
         Some(list) => list.folders().len(),
         None => 0,
     }
+}
+
+fn are_texts(texts: &[String], wanted: &[&str]) -> bool {
+    texts.len() == wanted.len()
+        && texts
+            .iter()
+            .zip(wanted)
+            .all(|(text, word)| text.as_str() == *word)
 }
 
 fn asks_for(read: &(Command, Places), path: &str, all: bool, folders: usize) -> bool {
@@ -47,6 +57,9 @@ fn comes_to(read: &Result<(Command, Places), UsageFault>, outcome: Outcome) -> b
         (Err(UsageFault::Line(text)), Outcome::Line(part)) => text.as_str().contains(part),
         (Err(UsageFault::BadPath(text)), Outcome::BadPath(path)) => text.as_str() == path,
         (Ok((Command::Fmt, places)), Outcome::Fmt(file)) => places.main.as_str() == file,
+        (Ok((Command::Edit(texts), places)), Outcome::Edit(file, operations)) => {
+            places.main.as_str() == file && are_texts(texts.as_slice(), operations)
+        }
         (Err(UsageFault::BadProxy(text)), Outcome::BadProxy(value)) => text.as_str() == value,
         (Ok(asked), Outcome::Versions(path, all, folders)) => {
             asks_for(asked, path, all, folders)
@@ -171,6 +184,92 @@ fn words(rt: HostRuntime) -> Result<(), Fail> {
         (
             &["gomod", "versions", "a.b/c", "--retracted", "--retracted"],
             Outcome::Line("multiple times"),
+        ),
+    ];
+    let mut answered = 0u8;
+    for (words, outcome) in rows {
+        let read = read_words(rt.alloc(), words);
+        if !is_want_of_memory(&read) {
+            assert!(rt; comes_to(&read, outcome), "{read:?}, and not {outcome:?}");
+            answered = answered.saturating_add(1);
+        }
+    }
+    assert!(rt; answered > 0, "all rows met want of memory");
+    Ok(())
+}
+
+#[test]
+fn words_of_edits(rt: HostRuntime) -> Result<(), Fail> {
+    let rows: [(&[&str], Outcome); 17] = [
+        (
+            &["gomod", "edit", "go.mod", "require=a.b/c@v1.0.0"],
+            Outcome::Edit("go.mod", &["require=a.b/c@v1.0.0"]),
+        ),
+        (
+            &[
+                "gomod",
+                "edit",
+                "d/go.mod",
+                "go=1.21",
+                "droprequire=a.b/c",
+                "retract=[v1.0.0, v1.1.0]",
+            ],
+            Outcome::Edit(
+                "d/go.mod",
+                &["go=1.21", "droprequire=a.b/c", "retract=[v1.0.0, v1.1.0]"],
+            ),
+        ),
+        (
+            &["gomod", "edit", "go.mod", "go=1.21", "go=1.21"],
+            Outcome::Edit("go.mod", &["go=1.21", "go=1.21"]),
+        ),
+        // what an operation says is not looked at here
+        (
+            &["gomod", "edit", "go.mod", "", "x"],
+            Outcome::Edit("go.mod", &["", "x"]),
+        ),
+        (
+            &["gomod", "edit", "go.mod", "--", "-x"],
+            Outcome::Edit("go.mod", &["-x"]),
+        ),
+        (
+            &["gomod", "edit", "--", "-x", "--", "-y"],
+            Outcome::Edit("-x", &["--", "-y"]),
+        ),
+        (&["gomod", "edit", "go.mod"], Outcome::Line("<OP>...")),
+        (&["gomod", "edit"], Outcome::Line("<FILE>")),
+        (&["gomod", "edit", "help"], Outcome::Line("<OP>...")),
+        (
+            &["gomod", "edit", "go.mod", "-require=a@v1.0.0"],
+            Outcome::Line("unexpected argument '-r'"),
+        ),
+        (
+            &["gomod", "edit", "go.mod", "go=1.21", "--x"],
+            Outcome::Line("unexpected argument '--x'"),
+        ),
+        (
+            &["gomod", "edit", "go.mod", "go=1.21", "--proxy", "d"],
+            Outcome::Line("'--proxy'"),
+        ),
+        (
+            &["gomod", "help", "edit"],
+            Outcome::Help("Usage: gomod edit <FILE> <OP>..."),
+        ),
+        (
+            &["gomod", "edit", "-h"],
+            Outcome::Help("Print what operations leave"),
+        ),
+        (
+            &["gomod", "edit", "--help"],
+            Outcome::Help("gomod edit go.mod require=example.com/p@v1.2.0"),
+        ),
+        (
+            &["gomod", "edit", "--help"],
+            Outcome::Help("dropretract=[LOW,HIGH]"),
+        ),
+        (
+            &["gomod", "edit", "go.mod", "go=1.21", "--help"],
+            Outcome::Help("droprequire=PATH"),
         ),
     ];
     let mut answered = 0u8;
