@@ -21,7 +21,7 @@ use Rattle.gm_graph.specs.Graph.{IsOpened}
 use Rattle.gm_graph.specs.Loading.{IsAnswered, IsNeeded}
 use Rattle.gm_listing.specs.Outcomes.{AreSums, IsMainFile, IsOutcome, Outcome as Found, Prints, PrintsChain, PrintsGraph, PrintsList, answers, device, faulty, given, too_many}
 use Rattle.gm_words.specs.declared.usage.Command.{Command}
-use Rattle.gm_words.specs.declared.usage.Command.TheVariants.{Fmt, Versions, Graph, List as Rows, Chain}
+use Rattle.gm_words.specs.declared.usage.Command.TheVariants.{Fmt, Edit, Versions, Graph, List as Rows, Chain}
 use Rattle.gm_run.specs.Needs.{GraphNeeds}
 use Rattle.gm_run.specs.Outcome.{Outcome}
 use Rattle.gm_run.specs.Queries.{RunsTo, code_of_end}
@@ -132,6 +132,8 @@ plain_done needs states old new outcome (inr refused) done = let code = ap (λ (
 pub done_answers : (command : Command) (main : List ℕ) (sums : Option (List ℕ)) (old new : Stored) (outcome : Outcome) → RunsTo command main sums old new outcome
     → outcome.status ≡ 0 → AnsweredAll (Needs command main sums) (answer_in new.asked)
 done_answers Fmt main sums old new outcome runs done = plain_done (Needs Fmt main sums) (StatesOutcome Fmt main sums) old new outcome runs done
+done_answers (Edit operations) main sums old new outcome runs done =
+    plain_done (Needs (Edit operations) main sums) (StatesOutcome (Edit operations) main sums) old new outcome runs done
 done_answers (Versions path all) main sums old new outcome runs done =
     plain_done (Needs (Versions path all) main sums) (StatesOutcome (Versions path all) main sums) old new outcome runs done
 done_answers Graph main sums old new outcome (failed, found, grown, is, shows) done =

@@ -1,10 +1,10 @@
 -- The answers of a store, as it is asked.
-use Rattle.std.proofs.Common.{◌≡◌, ◌∙◌, ◌+◌, ◌-◌, ◌<◌, ◌&&◌, zero, suc, ℕ, Bool, true, false, if◌then◌else◌, List, [], ◌∷◌, ◌++◌, length, Option, Some, None, Contains, ap, ap₂, arith, refl, subst, sym, inl, inr}
+use Rattle.std.proofs.Common.{◌≡◌, ◌∙◌, ◌-◌, ◌<◌, ◌&&◌, zero, suc, ℕ, Bool, true, false, if◌then◌else◌, List, [], ◌∷◌, ◌++◌, length, Some, Contains, ap, ap₂, arith, refl, sym}
 use Rattle.std.specs.List.{slice_get}
 use Rattle.std.specs.Str.{bytes_eq}
 use Rattle.std.proofs.lemmas.List.{length-append}
 use Rattle.std.proofs.lemmas.Slice.Eq.{bytes_eq-Decides}
-use Rattle.gm_store.specs.Asked.{Name, Reply, absent, answer_in, bytes, folder_file, list_file, mod_file, replies_in, same_name, too_long}
+use Rattle.gm_store.specs.Asked.{Name, Reply, answer_in, folder_file, list_file, mod_file, replies_in, same_name}
 
 at_end : (before : List (Name × Reply)) (last : Name × Reply) (i : ℕ) → i ≡ length before → slice_get (replies_in (before ++ last ∷ [])) i ≡ Some last.1
 at_end [] last zero e = refl

@@ -1,18 +1,18 @@
 -- What is known of how the program ends.
-use Rattle.std.proofs.Common.{◌≡◌, ◌∙◌, ◌++◌, ◌∷◌, ℕ, List, [], Option, None, Result, Ok, Err, IfOk, Contains, ap, false, inl, inr, subst, sym}
+use Rattle.std.proofs.Common.{◌≡◌, ◌∙◌, ◌++◌, ◌∷◌, ℕ, List, [], Option, None, Result, Ok, Err, IfOk, Contains, ap, false, inl, inr, string_bytes, subst, sym, true}
 use Rattle.std.specs.Global.{Vec}
 use Rattle.gm_store.specs.Asked.{Name, Reply, answer_in, list_file, reply_for}
 use Rattle.gm_store.specs.Memory.{may_give}
 use Rattle.gm_store.specs.declared.memory.MemoryFiles.{MemoryFiles}
 use Rattle.gm_store.specs.declared.reading.ReadFault.{ReadFault}
-use Rattle.gm_words.specs.declared.usage.Command.TheVariants.{Fmt, Versions, Graph, List as Rows, Chain}
+use Rattle.gm_words.specs.declared.usage.Command.TheVariants.{Fmt, Edit, Versions, Graph, List as Rows, Chain}
 use Rattle.gm_words.specs.Usage.{AskFor}
 use Rattle.gm_words.specs.declared.usage.Command.{Command}
 use Rattle.gm_words.specs.declared.usage.Places.{Places}
 use Rattle.gm_run.specs.Outcome.{Outcome}
 use Rattle.gm_run.specs.Held.{HoldsOne}
 use Rattle.gm_run.specs.Program.{AreOfOne, IsFolderOutcome, IsInputOutcome, IsProgramOutcome, IsProgramStatus, IsReadOutcome, IsServed}
-use Rattle.gm_run.specs.Runs.{ComesTo, IsFmtOutcome, Needs, StatesOutcome, Stored, is_query}
+use Rattle.gm_run.specs.Runs.{ComesTo, Needs, StatesOutcome, Stored, is_over_file, is_query}
 use Rattle.gm_run.specs.Queries.{RunsTo}
 use Rattle.gm_run.proofs.Answering.{answered_in}
 use Rattle.gm_run.specs.Written.{Ends, Sunk}
@@ -51,14 +51,37 @@ program_status out out' report report' status code same ends = elim ends.written
   | inr part ↦ inr (same ∙ part.1)
 ]
 
--- `fmt` needs no file, so its outcome is by the bytes alone
-pub fmt_wider : (name file : List ℕ) (sums : Option (List ℕ)) (old new : Stored) (read : Result (Vec ℕ) ReadFault) (content : Vec ℕ) → read ≡ Ok content
-    → file ≡ content.items → (outcome : Outcome) → ComesTo (Needs Fmt file sums) (StatesOutcome Fmt file sums) old new outcome
-    → IsReadOutcome name IsFmtOutcome read outcome
-fmt_wider name file sums old new read content is same outcome (inl stated) =
-    let P : Result (Vec ℕ) ReadFault → Type 0 = λ r. IsReadOutcome name IsFmtOutcome r outcome in
-    subst P (sym is) (subst (λ (bytes : List ℕ). IsFmtOutcome bytes outcome) same stated.0)
-fmt_wider name file sums old new read content is same outcome (inr refused) = absurd refused.2
+-- `fmt` and `edit` need no file, so their outcome is by the bytes alone
+by_bytes : (command : Command) (file : List ℕ) (sums : Option (List ℕ)) (old new : Stored) (outcome : Outcome) → is_over_file command ≡ true
+    → RunsTo command file sums old new outcome → StatesOutcome command file None (λ name. None) outcome
+by_bytes Fmt file sums old new outcome over (inl stated) = stated.0
+by_bytes Fmt file sums old new outcome over (inr refused) = absurd refused.2
+by_bytes (Edit operations) file sums old new outcome over (inl stated) = stated.0
+by_bytes (Edit operations) file sums old new outcome over (inr refused) = absurd refused.2
+by_bytes (Versions path all) file sums old new outcome over runs = cc over
+by_bytes Graph file sums old new outcome over runs = cc over
+by_bytes (Rows after limit) file sums old new outcome over runs = cc over
+by_bytes (Chain path) file sums old new outcome over runs = cc over
+
+pub file_wider : (command : Command) (name file : List ℕ) (sums : Option (List ℕ)) (old new : Stored) (read : Result (Vec ℕ) ReadFault) (content : Vec ℕ)
+    → is_over_file command ≡ true → read ≡ Ok content → file ≡ content.items → (outcome : Outcome) → RunsTo command file sums old new outcome
+    → IsReadOutcome name (λ main outcome. StatesOutcome command main None (λ name. None) outcome) read outcome
+file_wider command name file sums old new read content over is same outcome runs =
+    let P : Result (Vec ℕ) ReadFault → Type 0 = λ r. IsReadOutcome name (λ main outcome. StatesOutcome command main None (λ name. None) outcome) r outcome in
+    subst P (sym is) (subst (λ (bytes : List ℕ). StatesOutcome command bytes None (λ name. None) outcome) same (by_bytes command file sums old new outcome over runs))
+
+-- such a command is served by what was read of the file under its name
+pub file_served : (command : Command) (places : Places) (name : List ℕ) (read : Result (Vec ℕ) ReadFault) → is_over_file command ≡ true
+    → name ≡ string_bytes places.main → (outcome : Outcome)
+    → IsReadOutcome name (λ main outcome. StatesOutcome command main None (λ name. None) outcome) read outcome → IsServed command places outcome
+file_served Fmt places name read over is outcome stated =
+    (read, subst (λ (n : List ℕ). IsReadOutcome n (λ main outcome. StatesOutcome Fmt main None (λ name. None) outcome) read outcome) is stated)
+file_served (Edit operations) places name read over is outcome stated =
+    (read, subst (λ (n : List ℕ). IsReadOutcome n (λ main outcome. StatesOutcome (Edit operations) main None (λ name. None) outcome) read outcome) is stated)
+file_served (Versions path all) places name read over is outcome stated = cc over
+file_served Graph places name read over is outcome stated = cc over
+file_served (Rows after limit) places name read over is outcome stated = cc over
+file_served (Chain path) places name read over is outcome stated = cc over
 
 -- a store that holds one file answers by it
 of_one : (path list : List ℕ) (store : MemoryFiles) (asked : List (Name × Reply)) → HoldsOne (list_file path) list store
@@ -79,10 +102,11 @@ input_wider command path list store asked old new same none still held allowed o
 input_wider command path list store asked old new same none still held allowed outcome (inr refused) =
     let grown : [] ≡ refused.0 ∷ [] = sym still ∙ refused.4 ∙ ap (λ (names : List Name). names ++ refused.0 ∷ []) none in absurd (cc)
 
--- `fmt` and `versions` run to what they come to
+-- `fmt`, `edit` and `versions` run to what they come to
 pub plain_runs : (command : Command) (main : List ℕ) (sums : Option (List ℕ)) (old new : Stored) (outcome : Outcome) → is_query command ≡ false
     → RunsTo command main sums old new outcome → ComesTo (Needs command main sums) (StatesOutcome command main sums) old new outcome
 plain_runs Fmt main sums old new outcome plain runs = runs
+plain_runs (Edit operations) main sums old new outcome plain runs = runs
 plain_runs (Versions path all) main sums old new outcome plain runs = runs
 plain_runs Graph main sums old new outcome plain runs = cc plain
 plain_runs (Rows after limit) main sums old new outcome plain runs = cc plain

@@ -1,5 +1,6 @@
 mod AllAsked
 mod Answering
+mod EditsInTurn
 mod Endings
 mod InTurn
 mod Joining

@@ -5,7 +5,7 @@ use Rattle.gm_store.specs.Asked.{Name, answer_in}
 use Rattle.gm_listing.specs.Outcomes.{Given, answers, given, Outcome as Found}
 use Rattle.gm_listing.proofs.OneOutcome.{one_chain_outcome, one_graph_outcome, one_list_outcome}
 use Rattle.gm_words.specs.declared.usage.Command.{Command}
-use Rattle.gm_words.specs.declared.usage.Command.TheVariants.{Fmt, Versions, Graph, List as Rows, Chain}
+use Rattle.gm_words.specs.declared.usage.Command.TheVariants.{Fmt, Edit, Versions, Graph, List as Rows, Chain}
 use Rattle.gm_run.specs.Laws.{OneRun}
 use Rattle.gm_run.specs.Outcome.{Outcome, failed}
 use Rattle.gm_run.specs.Queries.{AnswersQuery, IsQueryOutcome, shown}
@@ -19,7 +19,7 @@ same_failed old new one other a b = append_cancel_left old one other (sym a ∙ 
 same_name : (old new : List Name) (one other : Name) → new ≡ old ++ one ∷ [] → new ≡ old ++ other ∷ [] → one ≡ other
 same_name old new one other a b = let same : one ∷ [] ≡ other ∷ [] = same_failed old new (one ∷ []) (other ∷ []) a b in cc same
 
--- `fmt` and `versions`
+-- `fmt`, `edit` and `versions`
 comes_once : (needs : Answers → Name → Type 0) (states : Answers → Outcome → Type 0)
     → ((answers : Answers) (a b : Outcome) → states answers a → states answers b → a ≡ b)
     → (old new : Stored) (a b : Outcome) → ComesTo needs states old new a → ComesTo needs states old new b → a ≡ b
@@ -34,6 +34,7 @@ comes_once needs states once old new a b (inr (name, says, need, unanswered, gro
 -- `graph`, `list` and `chain`
 query_once : (command : Command) (run : Given) (a b : Found) → IsQueryOutcome command run a → IsQueryOutcome command run b → a ≡ b
 query_once Fmt run a b is be = absurd is
+query_once (Edit operations) run a b is be = absurd is
 query_once (Versions path all) run a b is be = absurd is
 query_once Graph run a b is be = one_graph_outcome run a b is be
 query_once (Rows after limit) run a b is be = one_list_outcome _ _ run a b is be
@@ -48,6 +49,8 @@ answers_once command main sums old new a b (names, found, grown, is, says) (othe
 
 pub one_run : OneRun
 one_run Fmt main sums old new a b is be = comes_once (Needs Fmt main sums) (StatesOutcome Fmt main sums) (one_outcome Fmt main sums) old new a b is be
+one_run (Edit operations) main sums old new a b is be =
+    comes_once (Needs (Edit operations) main sums) (StatesOutcome (Edit operations) main sums) (one_outcome (Edit operations) main sums) old new a b is be
 one_run (Versions path all) main sums old new a b is be =
     comes_once (Needs (Versions path all) main sums) (StatesOutcome (Versions path all) main sums) (one_outcome (Versions path all) main sums) old new a b is be
 one_run Graph main sums old new a b is be = answers_once Graph main sums old new a b is be

@@ -6,7 +6,7 @@ use Rattle.gm_listing.specs.Laws.{AnswerAlike, AreAlike}
 use Rattle.gm_listing.specs.Outcomes.{Given, answers, given, Outcome as Found}
 use Rattle.gm_listing.proofs.OneOutcome.{alike_chains, alike_graphs, alike_lists}
 use Rattle.gm_words.specs.declared.usage.Command.{Command}
-use Rattle.gm_words.specs.declared.usage.Command.TheVariants.{Fmt, Versions, Graph, List as Rows, Chain}
+use Rattle.gm_words.specs.declared.usage.Command.TheVariants.{Fmt, Edit, Versions, Graph, List as Rows, Chain}
 use Rattle.gm_run.specs.Laws.{OneForStores}
 use Rattle.gm_run.specs.Outcome.{Outcome}
 use Rattle.gm_run.specs.Queries.{AnswersQuery, IsQueryOutcome, shown}
@@ -56,6 +56,7 @@ states_kept : (command : Command) (main : List ℕ) (sums : Option (List ℕ)) (
     → StatesOutcome command main sums one outcome → StatesOutcome command main sums other outcome
 states_kept (Versions path all) main sums one other outcome keeps is = versions_kept path all one other outcome keeps is
 states_kept Fmt main sums one other outcome keeps is = is
+states_kept (Edit operations) main sums one other outcome keeps is = is
 states_kept Graph main sums one other outcome keeps is = absurd is
 states_kept (Rows after limit) main sums one other outcome keeps is = absurd is
 states_kept (Chain path) main sums one other outcome keeps is = absurd is
@@ -88,6 +89,7 @@ module _ (command : Command) (main : List ℕ) (sums : Option (List ℕ)) (old n
     where
       by : (command : Command) (one other : Given) (found seen : Found) → AreAlike one other → IsQueryOutcome command one found → IsQueryOutcome command other seen → found ≡ seen
       by Fmt one other found seen same is be = absurd is
+      by (Edit operations) one other found seen same is be = absurd is
       by (Versions path all) one other found seen same is be = absurd is
       by Graph one other found seen same is be = alike_graphs one other found seen same is be
       by (Rows after limit) one other found seen same is be = alike_lists _ _ one other found seen same is be
@@ -103,6 +105,8 @@ module _ (command : Command) (main : List ℕ) (sums : Option (List ℕ)) (old n
 
 pub one_for_stores : OneForStores
 one_for_stores Fmt main sums old new before after a b alike sound whole is be = comes_alike Fmt main sums old new before after a b alike sound whole (Needs Fmt main sums) is be
+one_for_stores (Edit operations) main sums old new before after a b alike sound whole is be =
+    comes_alike (Edit operations) main sums old new before after a b alike sound whole (Needs (Edit operations) main sums) is be
 one_for_stores (Versions path all) main sums old new before after a b alike sound whole is be =
     comes_alike (Versions path all) main sums old new before after a b alike sound whole (Needs (Versions path all) main sums) is be
 one_for_stores Graph main sums old new before after a b alike sound whole is be = answers_alike Graph main sums old new before after a b alike sound whole is be

@@ -2,7 +2,7 @@
 use Rattle.std.proofs.Common.{◌≡◌, ℕ, List, Option, Result, Ok, true, subst, sym}
 use Rattle.gm_listing.specs.Outcomes.{answers}
 use Rattle.gm_words.specs.declared.usage.Command.{Command}
-use Rattle.gm_words.specs.declared.usage.Command.TheVariants.{Fmt, Versions, Graph, List as Rows, Chain}
+use Rattle.gm_words.specs.declared.usage.Command.TheVariants.{Fmt, Edit, Versions, Graph, List as Rows, Chain}
 use Rattle.gm_run.specs.Outcome.{Outcome}
 use Rattle.std.specs.Global.{Vec}
 use Rattle.std.specs.Option.{option_map}
@@ -17,6 +17,7 @@ use Rattle.gm_run.specs.Runs.{Stored, is_query, takes_sums}
 pub query_wider : (command : Command) (main : List ℕ) (sums : Option (List ℕ)) (old new : Stored) → is_query command ≡ true → (outcome : Outcome)
     → RunsTo command main sums old new outcome → IsQueryRun command main sums outcome
 query_wider Fmt main sums old new query outcome runs = cc query
+query_wider (Edit operations) main sums old new query outcome runs = cc query
 query_wider (Versions path all) main sums old new query outcome runs = cc query
 query_wider Graph main sums old new query outcome runs = (answers new.asked runs.0, runs.1, runs.3, runs.4)
 query_wider (Rows after limit) main sums old new query outcome runs = (answers new.asked runs.0, runs.1, runs.3, runs.4)
@@ -25,6 +26,7 @@ query_wider (Chain path) main sums old new query outcome runs = (answers new.ask
 -- such a command takes a go.sum
 pub query_takes : (command : Command) → is_query command ≡ true → takes_sums command ≡ true
 query_takes Fmt query = cc query
+query_takes (Edit operations) query = cc query
 query_takes (Versions path all) query = cc query
 query_takes Graph query = query
 query_takes (Rows after limit) query = query
@@ -41,6 +43,7 @@ sums_wider name file states read content is same outcome stated =
 pub query_served : (command : Command) (places : Places) → is_query command ≡ true → (outcome : Outcome) → IsQueryServed command places outcome
     → IsServed command places outcome
 query_served Fmt places query outcome stated = cc query
+query_served (Edit operations) places query outcome stated = cc query
 query_served (Versions path all) places query outcome stated = cc query
 query_served Graph places query outcome stated = stated
 query_served (Rows after limit) places query outcome stated = stated

@@ -1,12 +1,12 @@
 -- Runs of `versions` over a store, as far as they have come.
-use Rattle.std.proofs.Common.{◌≡◌, ◌⊎◌, ◌∙◌, ◌++◌, ◌∷◌, zero, suc, ℕ, ◌<◌, Bool, true, false, List, [], Option, Some, None, Result, Ok, Err, Contains, IfErr, IfOk, ap, ap₂, arith, codes, inl, inr, length, refl, subst, sym}
+use Rattle.std.proofs.Common.{◌≡◌, ◌⊎◌, ◌∙◌, ◌++◌, ◌∷◌, zero, suc, ℕ, ◌<◌, Bool, true, false, List, [], Some, None, Result, Ok, Err, Contains, IfErr, IfOk, ap, arith, codes, inl, inr, refl, subst, sym}
 use Rattle.std.specs.Global.{Vec}
 use Rattle.gm_name.specs.Path.{is_fetchable}
 use Rattle.gm_store.specs.Asked.{Name, Reply, absent, answer_in, bytes, list_file, mod_file, too_long}
 use Rattle.gm_store.specs.Latest.{IsLatest}
 use Rattle.gm_store.specs.Listed.{AreListed}
 use Rattle.gm_run.specs.declared.output.Output.{Output}
-use Rattle.gm_run.specs.Asking.{IsAnswered, IsLatestAsked, IsRefusedAt}
+use Rattle.gm_run.specs.Asking.{IsAnswered, IsLatestAsked}
 use Rattle.gm_run.specs.Listing.{IsListState}
 use Rattle.gm_run.specs.Dependencies.{IsMalformed}
 use Rattle.gm_run.specs.Kinds.{Place, malformed_line}
@@ -14,7 +14,7 @@ use Rattle.gm_run.specs.Reading.{IsListRead}
 use Rattle.gm_shown.specs.Shown.{shown_of}
 use Rattle.gm_run.specs.Outcome.{Outcome, failed, outcome_of, printed, refused}
 use Rattle.gm_run.specs.Runs.{AnsweredAll, AskedInTurn, ComesTo, Stored, device_line}
-use Rattle.gm_run.specs.Versions.{IsListOutcome, IsShownOutcome, IsVersionsOutcome, NeedsFile, VersionsNeed, versions_line}
+use Rattle.gm_run.specs.Versions.{IsShownOutcome, IsVersionsOutcome, NeedsFile, VersionsNeed, versions_line}
 use Rattle.gm_run.proofs.Answering.{file_answer, list_answer}
 use Rattle.gm_run.proofs.Uniqueness.{latest_once, listed_once, none_latest}
 

@@ -9,7 +9,7 @@ use Rattle.std.specs.declared.cmp.Ordering.TheVariants.{Less, Equal, Greater}
 use Rattle.std.proofs.lemmas.List.Elements.{Contains-append_cases, Contains-append_left, Contains-append_right, Contains-push, Contains-push_cases}
 use Rattle.gm_name.specs.Version.{version_cmp}
 use Rattle.gm_name.specs.VersionOrder.{version_total, version-anti}
-use Rattle.gm_store.specs.Latest.{IsGreatest, IsLatest, counts}
+use Rattle.gm_store.specs.Latest.{IsGreatest, IsLatest}
 use Rattle.gm_store.specs.Listed.{AreListed}
 
 -- ---- strictly sorted lists with the same elements

@@ -57,3 +57,7 @@ vertex_text path version = path ++ codes "@" ++ version
 -- `PATH@VERSION: Malformed LINE KIND`, of a dependency's file
 abbrev pub malformed_line : List ℕ → List ℕ → Place → List ℕ
 malformed_line path version place = vertex_text path version ++ codes ": Malformed " ++ decimal place.0 ++ codes " " ++ place.1
+
+-- `edit N: KIND`, of the operation of that number, of which the first is 1
+abbrev pub edit_line : ℕ × List ℕ → List ℕ
+edit_line refusal = codes "edit " ++ decimal refusal.0 ++ codes ": " ++ refusal.1

@@ -7,7 +7,7 @@ use Rattle.gm_run.specs.Queries.{RunsTo}
 use Rattle.gm_run.specs.Runs.{StatesOutcome, Stored}
 use Rattle.gm_run.specs.Versions.{Answers}
 
--- `fmt` and `versions`: what is read and what a store answers have one outcome
+-- `fmt`, `edit` and `versions`: what is read and what a store answers have one outcome
 abbrev pub OneStated : Type 0
 OneStated = (command : Command) (main : List ℕ) (sums : Option (List ℕ)) (answers : Answers) (one other : Outcome)
     → StatesOutcome command main sums answers one → StatesOutcome command main sums answers other → one ≡ other

@@ -1,5 +1,7 @@
 pub mod Asking
 pub mod Dependencies
+pub mod Edited
+pub mod Editing
 pub mod Reading
 pub mod Held
 pub mod Kinds

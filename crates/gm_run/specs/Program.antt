@@ -8,7 +8,7 @@ use Rattle.gm_store.specs.declared.reading.ReadFault.{ReadFault}
 use Rattle.gm_store.specs.declared.reading.ReadFault.TheVariants as reading
 use Rattle.gm_words.specs.Usage.{AskFor}
 use Rattle.gm_words.specs.declared.usage.Command.{Command}
-use Rattle.gm_words.specs.declared.usage.Command.TheVariants.{Fmt, Versions, Graph, List as Rows, Chain}
+use Rattle.gm_words.specs.declared.usage.Command.TheVariants.{Fmt, Edit, Versions, Graph, List as Rows, Chain}
 use Rattle.gm_words.specs.declared.usage.Places.{Places}
 use Rattle.gm_words.specs.declared.usage.UsageFault.{UsageFault}
 use Rattle.gm_words.specs.declared.usage.UsageFault.TheVariants as usage
@@ -74,10 +74,15 @@ abbrev pub IsQueryServed : Command → Places → Outcome → Type 0
 IsQueryServed command places outcome = (read : Result (Vec ℕ) ReadFault)
     × IsReadOutcome (string_bytes places.main) (λ main outcome. IsSumsServed command (option_map string_bytes places.sums) main outcome) read outcome
 
+-- `fmt` or `edit` over the bytes of the file that the words name
+abbrev pub IsFileServed : Command → List ℕ → Outcome → Type 0
+IsFileServed command name outcome = (read : Result (Vec ℕ) ReadFault)
+    × IsReadOutcome name (λ main outcome. StatesOutcome command main None (λ name. None) outcome) read outcome
+
 -- a command over the files that the words name
 abbrev pub IsServed : Command → Places → Outcome → Type 0
-IsServed Fmt places outcome = (read : Result (Vec ℕ) ReadFault)
-    × IsReadOutcome (string_bytes places.main) (λ main outcome. StatesOutcome Fmt main None (λ name. None) outcome) read outcome
+IsServed Fmt places outcome = IsFileServed Fmt (string_bytes places.main) outcome
+IsServed (Edit operations) places outcome = IsFileServed (Edit operations) (string_bytes places.main) outcome
 IsServed (Versions path all) places outcome = IsVersionsServed (Versions path all) path places.proxy outcome
 IsServed Graph places outcome = IsQueryServed Graph places outcome
 IsServed (Rows after limit) places outcome = IsQueryServed (Rows after limit) places outcome

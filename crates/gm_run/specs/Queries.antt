@@ -5,7 +5,7 @@ use Rattle.gm_listing.specs.Outcomes.{Given, IsChainOutcome, IsGraphOutcome, IsL
 use Rattle.gm_listing.specs.declared.output.Status.{Status as Ended}
 use Rattle.gm_listing.specs.declared.output.Status.TheVariants as ended
 use Rattle.gm_words.specs.declared.usage.Command.{Command}
-use Rattle.gm_words.specs.declared.usage.Command.TheVariants.{Fmt, Versions, Graph, List as Rows, Chain}
+use Rattle.gm_words.specs.declared.usage.Command.TheVariants.{Fmt, Edit, Versions, Graph, List as Rows, Chain}
 use Rattle.gm_run.specs.Outcome.{Outcome}
 use Rattle.gm_run.specs.Runs.{ComesTo, Needs, StatesOutcome, Stored}
 
@@ -22,6 +22,7 @@ shown found = record { text = found.text; report = found.report; status = code_o
 -- a command over a module graph, over what it stands on
 abbrev pub IsQueryOutcome : Command → Given → Found → Type 0
 IsQueryOutcome Fmt run found = ⊥
+IsQueryOutcome (Edit operations) run found = ⊥
 IsQueryOutcome (Versions path all) run found = ⊥
 IsQueryOutcome Graph run found = IsGraphOutcome run found
 IsQueryOutcome (Rows after limit) run found = IsListOutcome after limit run found
@@ -36,6 +37,8 @@ AnswersQuery command main sums old new outcome = (failed : List Name) × (found 
 -- what a run of a command comes to
 abbrev pub RunsTo : Command → List ℕ → Option (List ℕ) → Stored → Stored → Outcome → Type 0
 RunsTo Fmt main sums old new outcome = ComesTo (Needs Fmt main sums) (StatesOutcome Fmt main sums) old new outcome
+RunsTo (Edit operations) main sums old new outcome =
+    ComesTo (Needs (Edit operations) main sums) (StatesOutcome (Edit operations) main sums) old new outcome
 RunsTo (Versions path all) main sums old new outcome =
     ComesTo (Needs (Versions path all) main sums) (StatesOutcome (Versions path all) main sums) old new outcome
 RunsTo Graph main sums old new outcome = AnswersQuery Graph main sums old new outcome

@@ -7,8 +7,10 @@ use Rattle.gm_syntax.specs.Layout.{layout}
 use Rattle.gm_syntax.specs.LineViews.{plains}
 use Rattle.gm_syntax.specs.Parsed.{IsParsedAs}
 use Rattle.gm_syntax.specs.Tokens.{Placed}
+use Rattle.gm_words.specs.Usage.{texts_in}
 use Rattle.gm_words.specs.declared.usage.Command.{Command}
-use Rattle.gm_words.specs.declared.usage.Command.TheVariants.{Fmt, Versions, Graph, List as Rows, Chain}
+use Rattle.gm_words.specs.declared.usage.Command.TheVariants.{Fmt, Edit, Versions, Graph, List as Rows, Chain}
+use Rattle.gm_run.specs.Editing.{IsEditOutcome}
 use Rattle.gm_run.specs.Kinds.{Place, fault_line, place_of, vertex_text}
 use Rattle.gm_run.specs.Needs.{GraphNeeds}
 use Rattle.gm_run.specs.Outcome.{Outcome, failed, printed, refused}
@@ -24,27 +26,37 @@ IsFmtOutcome file outcome =
 -- whether a command is over a module graph
 abbrev pub is_query : Command → Bool
 is_query Fmt = false
+is_query (Edit operations) = false
 is_query (Versions path all) = false
 is_query Graph = true
 is_query (Rows after limit) = true
 is_query (Chain path) = true
 
--- `fmt` or `versions` over the main file's bytes, those of a go.sum where one is given, and the answers of a store. The commands over
+-- whether a command is over the bytes of one file alone
+abbrev pub is_over_file : Command → Bool
+is_over_file Fmt = true
+is_over_file (Edit operations) = true
+is_over_file _ = false
+
+-- `fmt`, `edit` or `versions` over the main file's bytes, those of a go.sum where one is given, and the answers of a store. The commands over
 -- a module graph have their own definition.
 abbrev pub StatesOutcome : Command → List ℕ → Option (List ℕ) → Answers → Outcome → Type 0
 StatesOutcome Fmt main sums answers outcome = IsFmtOutcome main outcome
+StatesOutcome (Edit operations) main sums answers outcome = IsEditOutcome (texts_in operations) main outcome
 StatesOutcome (Versions path all) main sums answers outcome = IsVersionsOutcome path all answers outcome
 StatesOutcome _ main sums answers outcome = ⊥
 
 -- the files that a command needs, by the answers so far
 abbrev pub Needs : Command → List ℕ → Option (List ℕ) → Answers → Name → Type 0
 Needs Fmt main sums answers name = ⊥
+Needs (Edit operations) main sums answers name = ⊥
 Needs (Versions path all) main sums answers name = VersionsNeed path all answers name
 Needs _ main sums answers name = GraphNeeds main sums answers name
 
 -- whether a command looks at a go.sum
 abbrev pub takes_sums : Command → Bool
 takes_sums Fmt = false
+takes_sums (Edit operations) = false
 takes_sums (Versions path all) = false
 takes_sums _ = true
 

@@ -2,7 +2,7 @@
 
 ghost use Rattle.std.specs.Prelude.{◌≡◌, ◌++◌, IfOk, codes, option_map};
 ghost use Rattle.std.specs.String.{string_bytes};
-ghost use Rattle.gm_run.specs.Kinds.{directive_name, directive_place, fault_line, kind_name, malformed_line, place_of, vertex_text};
+ghost use Rattle.gm_run.specs.Kinds.{directive_name, directive_place, edit_line, fault_line, kind_name, malformed_line, place_of, vertex_text};
 
 use gm_file::{DirectiveKind, FileFault};
 use gm_name::{ModPath, ModVersion, NoMemory};
@@ -68,6 +68,14 @@ pub(crate) fn fault_line(alloc: Global, line: usize, kind: &str) -> Result<Strin
     ensures { IfOk result (λ text. string_bytes text ≡ fault_line (line, kind.now)) }
 {
     let text = format!(in alloc; "go.mod:{line}: {kind}")?;
+    Ok(text)
+}
+
+/// The line that says which operation of an edit is refused, and why.
+pub(crate) fn edit_line(alloc: Global, number: usize, kind: &str) -> Result<String, NoMemory>
+    ensures { IfOk result (λ text. string_bytes text ≡ edit_line (number, kind.now)) }
+{
+    let text = format!(in alloc; "edit {number}: {kind}")?;
     Ok(text)
 }
 

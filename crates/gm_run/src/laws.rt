@@ -4,7 +4,7 @@ ghost use Rattle.gm_run.specs.Laws.{OneForStores, OneRun, OneStated};
 
 /// A command comes to one outcome: output, report and status are a function of what it reads and of what a store answers.
 pub fn one_outcome()
-    // `fmt` and `versions` over the answers of any store
+    // `fmt`, `edit` and `versions` over the answers of any store
     ensures stated { OneStated }
     // each command, by the files that the store was asked for in the run with its answers, and those at which its device failed
     ensures run { OneRun }

@@ -2,6 +2,7 @@
 #![tactic(auto)]
 
 mod asking;
+mod edit;
 mod fmt;
 mod kinds;
 pub mod laws;

@@ -7,6 +7,7 @@ ghost use Rattle.gm_run.specs.Outcome.{outcome_of};
 ghost use Rattle.gm_run.specs.Runs.{AskedInTurn, Needs, stored};
 ghost use Rattle.gm_run.specs.Queries.{RunsTo};
 
+use crate::edit::edit_outcome;
 use crate::fmt::fmt_outcome;
 use crate::output::Output;
 use crate::queries::query_outcome;
@@ -33,6 +34,7 @@ pub(crate) fn outcome<F: Files>(
     match command {
         Command::Versions { path, all } => versions_outcome(alloc, path, *all, files),
         Command::Fmt => fmt_outcome(alloc, main),
+        Command::Edit(operations) => edit_outcome(alloc, operations.as_slice(), main),
         Command::Graph => query_outcome(alloc, Query::Graph, main, sums, files),
         Command::List { after, limit } => {
             query_outcome(

@@ -1,6 +1,6 @@
 //! What the program does between its words and its status.
 
-ghost use Rattle.std.specs.Prelude.{◌≡◌, ◌++◌, ℕ, [], IfOk, List, Result, codes, false};
+ghost use Rattle.std.specs.Prelude.{◌≡◌, ◌++◌, ℕ, [], IfOk, List, None, Result, codes, false, true};
 ghost use Rattle.std.specs.Global.{Vec};
 ghost use Rattle.std.specs.Process.{exit_status};
 ghost use Rattle.std.specs.String.{string_bytes};
@@ -11,7 +11,7 @@ ghost use Rattle.gm_store.specs.Memory.{pairs, pairs_of};
 ghost use Rattle.gm_run.specs.Held.{HoldsOne};
 ghost use Rattle.gm_run.specs.Outcome.{code_of, failed, misused};
 ghost use Rattle.gm_run.specs.Program.{IsFolderOutcome, IsInputOutcome, IsProgramOutcome, IsProgramStatus, IsReadOutcome, IsServed, IsVersionsServed, unread_outcome, usage_outcome};
-ghost use Rattle.gm_run.specs.Runs.{IsFmtOutcome, is_query};
+ghost use Rattle.gm_run.specs.Runs.{StatesOutcome, is_over_file, is_query};
 ghost use Rattle.gm_run.specs.Written.{Ends, IsWritten, sunk};
 
 use crate::running::run;
@@ -81,10 +81,8 @@ fn serve<S: Input + Files + Clone + Drop + Alloc<A = Global>, O: Sink, R: Sink>(
         (code_of result) }
 {
     match command {
-        Command::Fmt => {
-            let read = read_file(rt, places.main.as_str());
-            fmt_read(rt.alloc(), places.main.as_str(), read, out, report)
-        }
+        Command::Fmt => serve_file(rt, command, places, out, report),
+        Command::Edit(_) => serve_file(rt, command, places, out, report),
         Command::Versions { path, .. } => {
             serve_versions(rt, command, path, places.proxy, out, report)
         }
@@ -94,15 +92,36 @@ fn serve<S: Input + Files + Clone + Drop + Alloc<A = Global>, O: Sink, R: Sink>(
     }
 }
 
-/// Runs `fmt` over what was read of a file, or reports that it could not be.
-fn fmt_read<O: Sink, R: Sink>(
+/// Reads the file that a command is over, and runs it.
+fn serve_file<S: Files + Clone + Drop + Alloc<A = Global>, O: Sink, R: Sink>(
+    rt: &S,
+    command: &Command,
+    places: Places,
+    out: &mut O,
+    report: &mut R,
+) -> Status
+    requires { is_over_file command.now ≡ true }
+    ensures { Ends (IsServed command.now places)
+        (sunk (O.taken out.old) (O.room out.old) (O.fault_count out.old)) (sunk (O.taken out.new) (O.room out.new) (O.fault_count out.new))
+        (sunk (R.taken report.old) (R.room report.old) (R.fault_count report.old)) (sunk (R.taken report.new) (R.room report.new) (R.fault_count report.new))
+        (code_of result) }
+{
+    let name = places.main.as_str();
+    let read = read_file(rt, name);
+    file_read(rt.alloc(), command, name, read, out, report)
+}
+
+/// Runs a command over what was read of a file, or reports that it could not be.
+fn file_read<O: Sink, R: Sink>(
     alloc: Global,
+    command: &Command,
     name: &str,
     read: Result<Vec<u8>, ReadFault>,
     out: &mut O,
     report: &mut R,
 ) -> Status
-    ensures { Ends (IsReadOutcome name.now IsFmtOutcome read)
+    requires { is_over_file command.now ≡ true }
+    ensures { Ends (IsReadOutcome name.now (λ main outcome. StatesOutcome command.now main None (λ name. None) outcome) read)
         (sunk (O.taken out.old) (O.room out.old) (O.fault_count out.old)) (sunk (O.taken out.new) (O.room out.new) (O.fault_count out.new))
         (sunk (R.taken report.old) (R.room report.old) (R.fault_count report.old)) (sunk (R.taken report.new) (R.room report.new) (R.fault_count report.new))
         (code_of result) }
@@ -112,7 +131,7 @@ fn fmt_read<O: Sink, R: Sink>(
             let mut files = MemoryFiles::new(alloc);
             run(
                 alloc,
-                &Command::Fmt,
+                command,
                 main.as_slice(),
                 None,
                 &mut files,

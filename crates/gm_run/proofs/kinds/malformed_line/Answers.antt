@@ -1,6 +1,5 @@
 use Rattle.std.proofs.Common.{◌≡◌, ◌∙◌, ◌++◌, ℕ, List, ap, append_assoc, codes, string_bytes, sym}
 use Rattle.std.specs.Fmt.{decimal}
-use Rattle.gm_run.specs.Kinds.{vertex_text}
 use Rattle.gm_run.proofs.kinds.malformed_line.Goals as goal
 
 regroup : (a b c d e : List ℕ) → a ++ (b ++ (c ++ (d ++ e))) ≡ (((a ++ b) ++ c) ++ d) ++ e

@@ -1,9 +1,7 @@
-use Rattle.std.proofs.Common.{◌≡◌, ◌∙◌, ◌++◌, ℕ, Bool, List, [], Some, None, ap, append_assoc, codes, refl, sym, subst}
-use Rattle.gm_store.specs.Asked.{Name, Reply, list_file, reply_of}
-use Rattle.gm_run.specs.Asking.{IsAsked, IsRefusedAt}
+use Rattle.std.proofs.Common.{◌∙◌, ap, append_assoc, codes, refl, sym}
 use Rattle.gm_run.specs.Outcome.{refused}
-use Rattle.gm_run.specs.Runs.{Stored, stored}
-use Rattle.gm_run.proofs.Steps.{ListAnswered, ends_device_list, ends_unfetchable, list_allowed, list_answered, list_in_turn, none_allowed, none_in_turn, read_comes, read_state}
+use Rattle.gm_run.specs.Runs.{stored}
+use Rattle.gm_run.proofs.Steps.{ends_unfetchable, list_answered, read_state}
 use Rattle.gm_run.proofs.versions.listed.Goals as goal
 
 pub returns-then-not-is_fetchable-clause-comes : goal.returns-then-not-is_fetchable-clause-comes

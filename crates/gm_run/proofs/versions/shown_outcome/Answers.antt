@@ -1,4 +1,4 @@
-use Rattle.std.proofs.Common.{◌≡◌, ◌∙◌, ap, sym}
+use Rattle.std.proofs.Common.{◌∙◌, ap, sym}
 use Rattle.gm_store.specs.Asked.{bytes, reply_of}
 use Rattle.gm_run.specs.Dependencies.{IsMalformed}
 use Rattle.gm_run.proofs.Steps.{shown_malformed}

@@ -1,9 +1,5 @@
-use Rattle.std.proofs.Common.{◌≡◌, ◌⊎◌, ℕ, false, List, [], true}
-use Rattle.gm_store.specs.Latest.{IsLatest}
-use Rattle.gm_run.specs.Asking.{IsLatestAsked}
-use Rattle.gm_run.specs.Listing.{IsListState}
 use Rattle.gm_run.specs.Runs.{stored}
-use Rattle.gm_run.proofs.Steps.{all_comes, latest_allowed, latest_comes, latest_in_turn, state_allowed}
+use Rattle.gm_run.proofs.Steps.{all_comes, latest_allowed, latest_comes, latest_in_turn}
 use Rattle.gm_run.proofs.versions.versions_outcome.Goals as goal
 
 pub returns-in-Err-clause-comes : goal.returns-in-Err-clause-comes
