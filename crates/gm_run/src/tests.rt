@@ -9,6 +9,7 @@ ghost use Rattle.gm_run.specs.Runs.{takes_sums};
 
 mod chains;
 mod dependencies;
+mod edits;
 mod faults;
 mod layouts;
 mod long_files;
