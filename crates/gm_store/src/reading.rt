@@ -10,8 +10,11 @@ use thiserror::Error;
 /// The most bytes that a file may have: 16 MiB.
 pub const LIMIT: usize = 16_777_216;
 
-// How many bytes are asked for at once: more than most files have, and few enough to be made ready for each small file.
-const PIECE: usize = 8_192;
+// How many bytes are asked for first: more than most files have, and few enough to be made ready for each small file.
+const FIRST: usize = 512;
+
+// How many bytes are asked for at once where a file has more.
+const PIECE: usize = 65_536;
 
 /// Why a reader's bytes were not read.
 #[derive(Clone, Copy, Debug, PartialEq, Eq, Error)]
@@ -58,11 +61,15 @@ pub fn read_limited<R: Read>(alloc: Global, reader: &mut R) -> Result<Vec<u8>, R
     ensures short { IfOk result (λ bytes. length bytes.items ≤ LIMIT + 1) }
 {
     let mut bytes = Vec::new(alloc);
-    let mut piece = piece_of(alloc, PIECE)?;
+    let mut piece = piece_of(alloc, FIRST)?;
     'fill: while bytes.len() <= LIMIT {
-        let wanted = (LIMIT + 1 - bytes.len()).min(PIECE);
-        if read_piece(reader, &mut piece[..wanted], &mut bytes)? == 0 {
+        let wanted = (LIMIT + 1 - bytes.len()).min(piece.len());
+        let count = read_piece(reader, &mut piece[..wanted], &mut bytes)?;
+        if count == 0 {
             return Ok(bytes);
+        }
+        if count == FIRST {
+            piece = piece_of(alloc, PIECE)?;
         }
     }
     Ok(bytes)

@@ -5,7 +5,7 @@ use Rattle.gm_store.proofs.reading.read_limited.Goals as goal
 pub returns-clause-bytes : goal.returns-clause-bytes
 returns-clause-bytes g c = full_front 16777217 _ _ _ c.fill.invariant.given c.fill.invariant.short (omega arith)
 
-pub returns-then-branch-eq0-clause-bytes : goal.returns-then-branch-eq0-clause-bytes
-returns-then-branch-eq0-clause-bytes g c =
-    ended_by 16777217 _ c.in_ok-read_piece.field-0 _ _ _ c.fill.bytes.items c.read_piece.new.bytes.items c.fill.invariant.given c.fill.invariant.short c.in_ok-read_piece.ensures c.if-branch-eq0.true
+pub returns-then-count-eq0-clause-bytes : goal.returns-then-count-eq0-clause-bytes
+returns-then-count-eq0-clause-bytes g c =
+    ended_by 16777217 _ c.in_ok-count.count _ _ _ c.fill.bytes.items c.read_piece.new.bytes.items c.fill.invariant.given c.fill.invariant.short c.in_ok-count.ensures c.if-count-eq0.true
     (omega (arith, length-take c.min-wanted.result c.deref_mut.result.now, c.deref_mut.ensures.len, c.fill.invariant.room))

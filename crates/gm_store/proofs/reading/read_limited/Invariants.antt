@@ -1,4 +1,4 @@
-use Rattle.std.proofs.Common.{◌≡◌, ◌≤◌, ◌-◌, length, vec_len}
+use Rattle.std.proofs.Common.{◌<◌, ◌≤◌, ◌-◌, length, vec_len}
 use Rattle.std.specs.Io.KnownBytes.{Consumes}
 use Rattle.gm_store.proofs.reading.read_limited.Given as goal
 
@@ -7,7 +7,7 @@ abbrev pub invariant-fill : goal.invariant-fill
 invariant-fill g l = record {
   given : Consumes (g.R.Read.remaining l.initial.reader) (g.R.Read.remaining l.reader) l.bytes.items;
   short : length l.bytes.items ≤ 16777217;
-  room : vec_len l.piece ≡ 8192;
+  room : 0 < vec_len l.piece;
 }
 
 abbrev pub decreases-fill : goal.decreases-fill
