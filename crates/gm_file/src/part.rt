@@ -1,6 +1,7 @@
 //! The parts of an entry: values, paths, versions, and the sides of a replace.
 
 ghost use Rattle.std.specs.Prelude.{◌≡◌, IfErr, IfOk, Some};
+ghost use Rattle.std.specs.Cow.{cow_str_bytes};
 ghost use Rattle.std.specs.String.{string_bytes};
 ghost use Rattle.gm_syntax.specs.Document.{is_mark};
 ghost use Rattle.gm_syntax.specs.Tokens.{words_of};
@@ -17,23 +18,31 @@ use gm_name::{ModPath, ModVer, ModVersion, PathFault, VersionFault};
 use gm_syntax::token::Token;
 use gm_syntax::word::Kind;
 use std::alloc::Global;
+use std::borrow::CowStr;
 
-fn owned_value(alloc: Global, word: &Token) -> Result<String, LineFault>
-    ensures value { IfOk result (λ text. string_bytes text ≡ value_of word.now.word) }
+fn lent_value<'w>(alloc: Global, word: &'w Token) -> Result<CowStr<'w>, LineFault>
+    ensures value { IfOk result (λ text. cow_str_bytes text ≡ value_of word.now.word) }
     ensures memory { IfErr result (λ fault. fault ≡ LineFault.NoMemory) }
 {
-    Ok(word.value(alloc)?.into_owned(alloc)?)
+    Ok(word.value(alloc)?)
 }
 
-/// The value of an argument, which is no punctuation.
+/// The value of an argument, which is no punctuation. A value without escapes is not copied.
+fn lent_argument<'w>(alloc: Global, word: &'w Token) -> Result<CowStr<'w>, LineFault>
+    ensures { IsRead cow_str_bytes DirectiveKind.WrongArguments no_kinds (argument word.now.word) result }
+{
+    match word.kind() {
+        Kind::Bare => lent_value(alloc, word),
+        Kind::Text => lent_value(alloc, word),
+        Kind::Mark => Err(LineFault::Kind(DirectiveKind::WrongArguments)),
+    }
+}
+
+/// A copy of the value of an argument, which is no punctuation.
 pub(crate) fn argument(alloc: Global, word: &Token) -> Result<String, LineFault>
     ensures { IsRead string_bytes DirectiveKind.WrongArguments no_kinds (argument word.now.word) result }
 {
-    match word.kind() {
-        Kind::Bare => owned_value(alloc, word),
-        Kind::Text => owned_value(alloc, word),
-        Kind::Mark => Err(LineFault::Kind(DirectiveKind::WrongArguments)),
-    }
+    Ok(lent_argument(alloc, word)?.into_owned(alloc)?)
 }
 
 /// The value of the one argument.
@@ -102,7 +111,8 @@ pub(crate) fn read_pair(alloc: Global, words: &[Token]) -> Result<ModVer, LineFa
 {
     match words {
         [path, version] => {
-            let (path, version) = both_values(alloc, path, version)?;
+            let path = lent_argument(alloc, path)?;
+            let version = lent_argument(alloc, version)?;
             pair_of_texts(alloc, path.as_str(), version.as_str())
         }
         _ => Err(LineFault::Kind(DirectiveKind::WrongArguments)),
