@@ -32,20 +32,23 @@ module _ (vertices : List Vertex) (turns : List Turn) (x : Vertex) (are : AreTur
   turn_vertex : (d : Depth) → list_any (same_turn (turn x d)) turns ≡ true → list_any (same_vertex x) vertices ≡ true
   turn_vertex d h = found_vertex vertices x (are.has_vertex (turn x d) (Contains-from_any exact_turn (turn x d) turns h))
 
-  pub vertex_by_top : (b : Bool) → b ≡ list_any (same_turn (turn x Top)) turns → b ≡ true → b ≡ list_any (same_vertex x) vertices
-  vertex_by_top b e is = is ∙ sym (turn_vertex Top (sym e ∙ is))
+  -- a vertex without a turn of one depth is there where it has one of the other
+  pub vertex_by_top : (b : Bool) → list_any (same_turn (turn x Deep)) turns ≡ false → b ≡ list_any (same_turn (turn x Top)) turns → b ≡ list_any (same_vertex x) vertices
+  vertex_by_top b no_deep e = both_ways b (list_any (same_vertex x) vertices)
+      (λ is. turn_vertex Top (sym e ∙ is))
+      (λ is. let there = are.has_turn x (Contains-from_any exact_vertex x vertices is) in has_top there.0 (found_turn turns (turn x there.0) there.1))
+    where
+      has_top : (d : Depth) → list_any (same_turn (turn x d)) turns ≡ true → b ≡ true
+      has_top Top h = e ∙ h
+      has_top Deep h = absurd (cc (no_deep, h))
 
-  none_of : (d : Depth) → list_any (same_turn (turn x Top)) turns ≡ false → list_any (same_turn (turn x Deep)) turns ≡ false → list_any (same_turn (turn x d)) turns ≡ false
-  none_of Top no_top no_deep = no_top
-  none_of Deep no_top no_deep = no_deep
-
-  pub vertex_by_deep : (t b : Bool) → t ≡ list_any (same_turn (turn x Top)) turns → t ≡ false → b ≡ list_any (same_turn (turn x Deep)) turns → b ≡ list_any (same_vertex x) vertices
-  vertex_by_deep t b same is_no e = both_ways b (list_any (same_vertex x) vertices)
+  pub vertex_by_deep : (b : Bool) → list_any (same_turn (turn x Top)) turns ≡ false → b ≡ list_any (same_turn (turn x Deep)) turns → b ≡ list_any (same_vertex x) vertices
+  vertex_by_deep b no_top e = both_ways b (list_any (same_vertex x) vertices)
       (λ is. turn_vertex Deep (sym e ∙ is))
       (λ is. let there = are.has_turn x (Contains-from_any exact_vertex x vertices is) in has_deep there.0 (found_turn turns (turn x there.0) there.1))
     where
       has_deep : (d : Depth) → list_any (same_turn (turn x d)) turns ≡ true → b ≡ true
-      has_deep Top h = absurd (cc (sym same ∙ is_no, h))
+      has_deep Top h = absurd (cc (no_top, h))
       has_deep Deep h = e ∙ h
 
 put_key : (old new : set.BTreeSet Vertex) (x q : Vertex) → set.Updates vertex_cmp old new x true → set.contains vertex_cmp new q ≡ cond (same_vertex q x) true (set.contains vertex_cmp old q)

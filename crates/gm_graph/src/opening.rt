@@ -64,12 +64,16 @@ impl Opening {
         }
     }
 
-    /// Whether a vertex is there.
-    fn has_vertex(&self, vertex: &ModVer) -> bool
-        requires { IsOpening self.now }
+    /// Whether a vertex without a turn of this depth is there: whether it has one of the other.
+    fn has_vertex(&self, vertex: &ModVer, depth: Depth) -> bool
+        requires opening { IsOpening self.now }
+        requires fresh { list_any (same_turn (turn vertex.now depth)) self.now.turns.items ≡ false }
         ensures { result ≡ list_any (same_vertex vertex.now) self.now.vertices.items }
     {
-        self.has_turn(vertex, Depth::Top) || self.has_turn(vertex, Depth::Deep)
+        match depth {
+            Depth::Top => self.has_turn(vertex, Depth::Deep),
+            Depth::Deep => self.has_turn(vertex, Depth::Top),
+        }
     }
 
     /// Marks a vertex at a depth.
@@ -95,7 +99,7 @@ impl Opening {
         if self.has_turn(vertex, depth) {
             return Ok(());
         }
-        if !self.has_vertex(vertex) {
+        if !self.has_vertex(vertex, depth) {
             if self.vertices.len() >= MOST {
                 return Err(AddFault::TooMany);
             }

@@ -1,8 +1,19 @@
+use Rattle.std.proofs.Common.{◌≡◌, false, subst}
+use Rattle.std.specs.List.{list_any}
+use Rattle.gm_cache.specs.declared.depth.Depth.{Depth}
+use Rattle.gm_cache.specs.Turns.{turn}
+use Rattle.gm_graph.specs.Turns.{same_turn}
 use Rattle.gm_graph.proofs.Marking.{vertex_by_top, vertex_by_deep}
 use Rattle.gm_graph.proofs.opening.Opening.has_vertex.Goals as goal
 
-pub returns-then-has_turn : goal.returns-then-has_turn
-returns-then-has_turn c = vertex_by_top c.args.self.now.vertices.items c.args.self.now.turns.items c.args.vertex.now c.requires.turns c.has_turn.result c.has_turn.ensures c.if-has_turn.true
+pub returns-in-Top : goal.returns-in-Top
+returns-in-Top c =
+    let o = c.args.self.now in
+    let x = c.args.vertex.now in
+    vertex_by_deep o.vertices.items o.turns.items x c.requires.opening.turns c.has_turn.result (subst (λ (d : Depth). list_any (same_turn (turn x d)) o.turns.items ≡ false) c.in-Top.is c.requires.fresh) c.has_turn.ensures
 
-pub returns-else-has_turn : goal.returns-else-has_turn
-returns-else-has_turn c = vertex_by_deep c.args.self.now.vertices.items c.args.self.now.turns.items c.args.vertex.now c.requires.turns c.has_turn.result c.has_turn-else-has_turn.result c.has_turn.ensures c.if-has_turn.false c.has_turn-else-has_turn.ensures
+pub returns-in-Deep : goal.returns-in-Deep
+returns-in-Deep c =
+    let o = c.args.self.now in
+    let x = c.args.vertex.now in
+    vertex_by_top o.vertices.items o.turns.items x c.requires.opening.turns c.has_turn-in-Deep.result (subst (λ (d : Depth). list_any (same_turn (turn x d)) o.turns.items ≡ false) c.in-Deep.is c.requires.fresh) c.has_turn-in-Deep.ensures
