@@ -68,7 +68,7 @@ pub fn read_limited<R: Read>(alloc: Global, reader: &mut R) -> Result<Vec<u8>, R
         if count == 0 {
             return Ok(bytes);
         }
-        if count == FIRST {
+        if count == FIRST && piece.len() == FIRST {
             piece = piece_of(alloc, PIECE)?;
         }
     }
