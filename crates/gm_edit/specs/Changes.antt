@@ -12,7 +12,7 @@ use Rattle.gm_edit.specs.About.{about, excludes_pair, is_replaced_by, replaces_l
 use Rattle.gm_edit.specs.Searching.{is_there}
 use Rattle.gm_edit.specs.Adding.{added, after_first_that, is_exclude, is_replace, is_require, is_retract, single}
 
--- whether a version that the operation puts in fits its path
+-- whether a version that the operation requires or excludes, or that stands on the left of its replace, fits its path
 abbrev pub is_fit : Edit → Bool
 is_fit (SetModule path) = true
 is_fit (SetGo text) = true

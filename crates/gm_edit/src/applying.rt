@@ -39,7 +39,7 @@ fn does_left_fit(path: &ModPath, version: &Option<ModVersion>) -> bool
     }
 }
 
-// Whether a version that an operation puts in fits its path.
+// Whether a version that an operation requires or excludes, or that stands on the left of its replace, fits its path.
 fn is_fit(change: &Change) -> bool
     ensures { result ≡ is_fit (edit_of change.now) }
 {
@@ -170,7 +170,8 @@ fn lines_after<'a>(
 
 /// Applies an operation to a file, which then holds the new lines and what strict reading gives of them (go help mod edit).
 ///
-/// `Misfit` comes exactly where a version that the operation puts in doesn't fit its path, and before memory is asked for.
+/// `Misfit` comes exactly where a version that the operation requires or excludes, or that stands on the left of its replace, doesn't
+/// fit its path, and before memory is asked for. The right of a replace isn't looked at.
 /// On a refusal, also for want of memory, the file is as it was. The time is linear in the number of lines, beside that of
 /// reading them again.
 pub fn apply<'a>(alloc: Global, file: &mut MainFile<'a>, op: &Op) -> Result<(), EditFault>

@@ -40,7 +40,7 @@ pub enum EditFault {
     /// A growth was refused.
     #[error("out of memory")]
     NoMemory,
-    /// A version that the operation puts in doesn't fit its path.
+    /// A version that the operation requires or excludes, or that stands on the left of its replace, doesn't fit its path.
     #[error("the version doesn't fit the path")]
     Misfit,
 }

@@ -28,9 +28,9 @@ use std::alloc::Global;
 ///
 /// For `edit` the main file is read strictly first, and what is wrong with it is reported as for `fmt`. Then each operation is read and
 /// applied to what those before it left: the text is the layout of what the last one leaves. The first that is refused, counted from 1,
-/// is reported as `edit N: Spelling` where it is no operation and as `edit N: Misfit` where a version that it puts in does not fit its
-/// path, and then nothing is printed. With no operation the text is the layout of the file (go help mod edit; that a refusal prints
-/// nothing is own).
+/// is reported as `edit N: Spelling` where it is no operation and as `edit N: Misfit` where a version that it requires or excludes, or
+/// that stands on the left of its replace, does not fit its path, and then nothing is printed. With no operation the text is the layout
+/// of the file (go help mod edit; that a refusal prints nothing is own).
 ///
 /// `graph`, `list` and `chain` come to what `gm_listing::answer` says: the main file is read, then the go.sum, then the files of the
 /// opened modules in the store, and the text is the edges, rows of the build list or a shortest chain, or the report says what keeps
