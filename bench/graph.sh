@@ -23,6 +23,9 @@ def write(root, path, version, requirements):
     lines = "".join(f"\t{p} {v}\n" for p, v in requirements)
     with open(f"{folder}/{version}.mod", "w", encoding="ascii") as out:
         out.write(f"module {path}\n\nrequire (\n{lines})\n")
+    # the go command wants it; gomod doesn't look at it
+    with open(f"{folder}/{version}.info", "w", encoding="ascii") as out:
+        out.write(f'{{"Version":"{version}","Time":"2020-01-01T00:00:00Z"}}')
 
 
 def write_main(root, requirements):
