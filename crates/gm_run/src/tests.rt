@@ -13,6 +13,7 @@ mod edits;
 mod faults;
 mod layouts;
 mod long_files;
+mod many_modules;
 mod projects;
 mod refusals;
 mod version_lists;

@@ -339,7 +339,20 @@ const SUMS: &[Row] = &[
             files: &[],
             asked: &[],
         },
-        &[(LIST, b"", b"go.mod:0: NoModule\n")],
+        &[
+            (LIST, b"", b"go.mod:0: NoModule\n"),
+            (Query::Graph, b"", b"go.mod:0: NoModule\n"),
+            (Query::Chain("example.com/m"), b"", b"go.mod:0: NoModule\n"),
+        ],
+    ),
+    (
+        Project {
+            main: b"module example.com/m\n)\n",
+            sums: Some(b"a b\n"),
+            files: &[],
+            asked: &[],
+        },
+        &[(LIST, b"", b"go.mod:2: StrayClose\n")],
     ),
     // the replacing path and version are looked up, and each module that the file stands for has a line
     (

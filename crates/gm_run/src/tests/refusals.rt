@@ -16,6 +16,18 @@ use gm_store::{FailingFiles, Files, Held, Mark, MemoryFolders, Shelf};
 use std::alloc::Global;
 use std::test::Fail;
 
+const CHAIN: Answer = (
+    Query::Chain("example.com/d"),
+    b"example.com/m\nexample.com/a@v1.0.0\nexample.com/c@v1.0.0\nexample.com/d@v1.0.0\n",
+    b"",
+);
+
+const PAGE: Answer = (
+    Query::List(Some("example.com/a"), Some(2)),
+    b"example.com/b v1.0.0\nexample.com/c v1.0.0\n",
+    b"",
+);
+
 /// A project, and what `list` comes to.
 type Listed = (Project, &'static [u8]);
 
@@ -57,9 +69,9 @@ fn stopped_at_one<F: Files>(
     asked == asks && files.count() == asks && refused == 1
 }
 
-/// Whether `list` over a store that refuses the ask after so many ends there. There is no answer where memory ran out.
-fn tried_to_stop(alloc: Global, project: &Project, asks: usize) -> Option<bool> {
-    let command = command(alloc, LIST)?;
+/// Whether a query over a store that refuses the ask after so many ends there. There is no answer where memory ran out.
+fn tried_to_stop(alloc: Global, project: &Project, query: Query, asks: usize) -> Option<bool> {
+    let command = command(alloc, query)?;
     let mut files = FailingFiles::after(filled(alloc, project.files)?, asks as u64);
     let rooms = (AMPLE, AMPLE);
     let ran = run_in(
@@ -77,42 +89,46 @@ fn tried_to_stop(alloc: Global, project: &Project, asks: usize) -> Option<bool> 
     Some(stopped && ran.status == Status::Device && ran.out.bytes().is_empty())
 }
 
-fn stops(alloc: Global, project: &Project, asks: usize) -> bool {
-    match tried_to_stop(alloc, project, asks) {
+fn stops(alloc: Global, project: &Project, query: Query, asks: usize) -> bool {
+    match tried_to_stop(alloc, project, query, asks) {
         Some(right) => right,
-        None => tried_to_stop(alloc, project, asks) == Some(true),
+        None => tried_to_stop(alloc, project, query, asks) == Some(true),
     }
 }
 
-/// Whether `list` over a store that would refuse one ask more goes through.
-fn tried_to_pass(alloc: Global, project: &Project, text: &'static [u8]) -> Option<bool> {
+/// Whether a query over a store that would refuse one ask more goes through.
+fn tried_to_pass(alloc: Global, project: &Project, answer: &Answer) -> Option<bool> {
     let asks = project.asked.len() as u64;
     let mut files = FailingFiles::after(filled(alloc, project.files)?, asks);
-    let answer: Answer = (LIST, text, b"");
-    comes_to(alloc, &mut files, project, &answer, (AMPLE, AMPLE))
+    comes_to(alloc, &mut files, project, answer, (AMPLE, AMPLE))
 }
 
-fn passes(alloc: Global, project: &Project, text: &'static [u8]) -> bool {
-    match tried_to_pass(alloc, project, text) {
+fn passes(alloc: Global, project: &Project, answer: &Answer) -> bool {
+    match tried_to_pass(alloc, project, answer) {
         Some(right) => right,
-        None => tried_to_pass(alloc, project, text) == Some(true),
+        None => tried_to_pass(alloc, project, answer) == Some(true),
     }
 }
 
 /// Whether the run ends at each ask that is refused, and goes through where none is.
-fn ends_at_each(alloc: Global, row: &Listed) -> bool {
-    for asks in 0..row.0.asked.len() {
-        if !stops(alloc, &row.0, asks) {
+fn ends_at_each(alloc: Global, project: &Project, answer: &Answer) -> bool {
+    for asks in 0..project.asked.len() {
+        if !stops(alloc, project, answer.0, asks) {
             return false;
         }
     }
-    passes(alloc, &row.0, row.1)
+    passes(alloc, project, answer)
+}
+
+fn lists_up_to_each(alloc: Global, row: &Listed) -> bool {
+    let answer: Answer = (LIST, row.1, b"");
+    ends_at_each(alloc, &row.0, &answer)
 }
 
 #[test]
 fn each_ask_of_a_module_refused(rt: HostRuntime) -> Result<(), Fail> {
     for row in OF_MODULES {
-        assert!(rt; ends_at_each(rt.alloc(), row), "{}", row.1.len());
+        assert!(rt; lists_up_to_each(rt.alloc(), row), "{}", row.1.len());
     }
     Ok(())
 }
@@ -120,8 +136,20 @@ fn each_ask_of_a_module_refused(rt: HostRuntime) -> Result<(), Fail> {
 #[test]
 fn each_ask_of_a_replacement_refused(rt: HostRuntime) -> Result<(), Fail> {
     for row in REPLACED {
-        assert!(rt; ends_at_each(rt.alloc(), row), "{}", row.1.len());
+        assert!(rt; lists_up_to_each(rt.alloc(), row), "{}", row.1.len());
     }
+    Ok(())
+}
+
+#[test]
+fn each_ask_under_a_chain_refused(rt: HostRuntime) -> Result<(), Fail> {
+    assert!(rt; ends_at_each(rt.alloc(), &DEEPENED, &CHAIN));
+    Ok(())
+}
+
+#[test]
+fn each_ask_under_a_page_refused(rt: HostRuntime) -> Result<(), Fail> {
+    assert!(rt; ends_at_each(rt.alloc(), &DEEPENED, &PAGE));
     Ok(())
 }
 
@@ -147,6 +175,18 @@ fn a_full_output(rt: HostRuntime) -> Result<(), Fail> {
 fn a_full_output_of_the_graph(rt: HostRuntime) -> Result<(), Fail> {
     let answer: Answer = (Query::Graph, DEEPENED_GRAPH, b"");
     assert!(rt; full_at_each_byte(rt.alloc(), &DEEPENED, &answer));
+    Ok(())
+}
+
+#[test]
+fn a_full_output_of_a_chain(rt: HostRuntime) -> Result<(), Fail> {
+    assert!(rt; full_at_each_byte(rt.alloc(), &DEEPENED, &CHAIN));
+    Ok(())
+}
+
+#[test]
+fn a_full_output_of_a_page(rt: HostRuntime) -> Result<(), Fail> {
+    assert!(rt; full_at_each_byte(rt.alloc(), &DEEPENED, &PAGE));
     Ok(())
 }
 

@@ -19,12 +19,21 @@ const LISTED: &[u8] = b"v1.0.0\nv1.1.0\nv1.2.0\nv1.3.0-rc.1\n";
 
 const ALL: &[u8] = b"example.com/p v1.0.0 v1.1.0 v1.2.0 v1.3.0-rc.1\n";
 
-/// `versions` of a path, with the bytes of its list and of the file of v1.2.0, where there are some.
+/// A list of words that aren't all versions of the module, and what is printed of it.
+const LIST: &[u8] =
+    b"v1.10.0\nv1.9.0\nv1.10.0-rc.1\n\njunk\nv0.0.0-20191109021931-daa7c04131f5\nv2.0.0\nv1.9.0";
+
+const LIST_SHOWN: &[u8] = b"example.com/p v1.9.0 v1.10.0-rc.1 v1.10.0\n";
+
+const LATEST: &str = "v1.2.0";
+
+/// `versions` of a path, with the bytes of its list and of the file of its latest version, where there are some.
 #[derive(Clone, Copy)]
 struct Asked {
     path: &'static str,
     all: bool,
     list: Option<&'static [u8]>,
+    latest: &'static str,
     file: Option<&'static [u8]>,
 }
 
@@ -33,6 +42,7 @@ fn hidden(file: &'static [u8]) -> Asked {
         path: PATH,
         all: false,
         list: Some(LISTED),
+        latest: LATEST,
         file: Some(file),
     }
 }
@@ -42,6 +52,7 @@ fn whole(path: &'static str, list: &'static [u8]) -> Asked {
         path,
         all: true,
         list: Some(list),
+        latest: LATEST,
         file: None,
     }
 }
@@ -50,8 +61,8 @@ pub(super) fn list_name(alloc: Global, path: &str) -> Option<FileName> {
     Some(FileName::List(ModPath::parse(alloc, path).ok()?))
 }
 
-fn file_name(alloc: Global, path: &str) -> Option<FileName> {
-    let version = ModVersion::parse(alloc, "v1.2.0").ok()?;
+fn file_name(alloc: Global, path: &str, version: &str) -> Option<FileName> {
+    let version = ModVersion::parse(alloc, version).ok()?;
     Some(FileName::Mod(ModPath::parse(alloc, path).ok()?, version))
 }
 
@@ -78,7 +89,8 @@ fn store_for(alloc: Global, asked: Asked) -> Option<MemoryFiles>
 {
     let store = MemoryFiles::new(alloc);
     let store = with_file(alloc, store, list_name(alloc, asked.path), asked.list)?;
-    with_file(alloc, store, file_name(alloc, asked.path), asked.file)
+    let latest = file_name(alloc, asked.path, asked.latest);
+    with_file(alloc, store, latest, asked.file)
 }
 
 fn command_for(alloc: Global, asked: Asked) -> Option<Command> {
@@ -101,15 +113,9 @@ fn versions(alloc: Global, asked: Asked, rooms: (usize, usize)) -> Option<Ran> {
     )
 }
 
-fn rows_of_one_store() -> [(Asked, Wanted); 18] {
+fn rows_of_one_store() -> [(Asked, Wanted); 19] {
     [
-        (
-            whole(
-                PATH,
-                b"v1.10.0\nv1.9.0\nv1.10.0-rc.1\n\njunk\nv0.0.0-20191109021931-daa7c04131f5\nv2.0.0\nv1.9.0",
-            ),
-            prints(b"example.com/p v1.9.0 v1.10.0-rc.1 v1.10.0\n", 1),
-        ),
+        (whole(PATH, LIST), prints(LIST_SHOWN, 1)),
         (whole(PATH, b""), prints(b"example.com/p\n", 1)),
         (
             whole(
@@ -129,6 +135,7 @@ fn rows_of_one_store() -> [(Asked, Wanted); 18] {
                 path: PATH,
                 all: false,
                 list: Some(b"junk\n"),
+                latest: LATEST,
                 file: None,
             },
             prints(b"example.com/p\n", 1),
@@ -138,6 +145,7 @@ fn rows_of_one_store() -> [(Asked, Wanted); 18] {
                 path: PATH,
                 all: false,
                 list: None,
+                latest: LATEST,
                 file: None,
             },
             refuses(b"example.com/p: Missing\n", 1),
@@ -159,6 +167,7 @@ fn rows_of_one_store() -> [(Asked, Wanted); 18] {
                 path: PATH,
                 all: true,
                 list: Some(LISTED),
+                latest: LATEST,
                 file: Some(b"module example.com/p\nretract [v1.1.0, v1.2.0]\n"),
             },
             prints(ALL, 1),
@@ -168,6 +177,7 @@ fn rows_of_one_store() -> [(Asked, Wanted); 18] {
                 path: PATH,
                 all: false,
                 list: Some(LISTED),
+                latest: LATEST,
                 file: None,
             },
             refuses(b"example.com/p@v1.2.0: Missing\n", 2),
@@ -195,9 +205,21 @@ fn rows_of_one_store() -> [(Asked, Wanted); 18] {
                 path: PATH,
                 all: false,
                 list: Some(b"v1.1.0\nv1.2.0\nv2.0.0+incompatible-\n"),
+                latest: LATEST,
                 file: Some(b"retract v1.1.0\n"),
             },
             prints(b"example.com/p v1.2.0\n", 2),
+        ),
+        // precedence alone counts, so a version without the mark hides the one with it
+        (
+            Asked {
+                path: PATH,
+                all: false,
+                list: Some(b"v1.0.0\nv1.1.0\nv2.0.0+incompatible\n"),
+                latest: "v2.0.0+incompatible",
+                file: Some(b"module example.com/p\nretract v2.0.0\n"),
+            },
+            prints(b"example.com/p v1.0.0 v1.1.0\n", 2),
         ),
     ]
 }
@@ -214,6 +236,42 @@ fn shows(alloc: Global, asked: Asked, rooms: (usize, usize), wanted: Wanted) -> 
 fn versions_of_one_store(rt: HostRuntime) -> Result<(), Fail> {
     for (asked, wanted) in rows_of_one_store() {
         assert!(rt; shows(rt.alloc(), asked, (AMPLE, AMPLE), wanted));
+    }
+    Ok(())
+}
+
+// ---- sinks
+
+#[test]
+fn an_output_with_room_for_two_words(rt: HostRuntime) -> Result<(), Fail> {
+    let wanted = Wanted {
+        text: b"example.com/p v1.9.0",
+        report: b"",
+        status: Status::Device,
+        asked: 1,
+    };
+    assert!(rt; shows(rt.alloc(), whole(PATH, LIST), (20, AMPLE), wanted));
+    Ok(())
+}
+
+#[test]
+fn an_output_full_at_each_byte(rt: HostRuntime) -> Result<(), Fail> {
+    let wanted = prints(LIST_SHOWN, 1);
+    for room in 0..=wanted.text.len() {
+        assert!(rt;
+            shows(rt.alloc(), whole(PATH, LIST), (room, AMPLE), wanted),
+            "{room}"
+        );
+    }
+    Ok(())
+}
+
+#[test]
+fn an_output_without_the_retracted_full_at_each_byte(rt: HostRuntime) -> Result<(), Fail> {
+    let asked = hidden(b"module example.com/p\nretract [v1.1.0, v1.2.0]\n");
+    let wanted = prints(b"example.com/p v1.0.0 v1.3.0-rc.1\n", 2);
+    for room in 0..=wanted.text.len() {
+        assert!(rt; shows(rt.alloc(), asked, (room, AMPLE), wanted), "{room}");
     }
     Ok(())
 }
@@ -341,9 +399,6 @@ fn several_folders(rt: HostRuntime) -> Result<(), Fail> {
 }
 
 // ---- cut lists
-
-const LIST: &[u8] =
-    b"v1.10.0\nv1.9.0\nv1.10.0-rc.1\n\njunk\nv0.0.0-20191109021931-daa7c04131f5\nv2.0.0\nv1.9.0";
 
 /// Whether the text is a line of the path and of words that stand in the list.
 fn names_only_listed(text: &[u8], list: &[u8]) -> bool {
