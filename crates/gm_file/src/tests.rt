@@ -98,7 +98,7 @@ fn pair(alloc: Global, path: &str, version: &str) -> Result<ModVer, Fail> {
 }
 
 // What follows the line `module example.com/m`, and the fault.
-const STRICT_FAULTS: [(&str, usize, DirectiveKind); 64] = [
+const STRICT_FAULTS: [(&str, usize, DirectiveKind); 66] = [
     ("use x", 2, UnknownVerb),
     ("require example.com/a", 2, WrongArguments),
     ("go (\n1.21\n)", 2, WrongArguments),
@@ -171,6 +171,8 @@ const STRICT_FAULTS: [(&str, usize, DirectiveKind); 64] = [
     ("go \"\"", 2, BadGo),
     // of two kinds on one line the first is told
     ("module a. b", 2, WrongArguments),
+    ("require a v1 x", 2, WrongArguments),
+    ("require a v2.0.0 x", 2, WrongArguments),
     ("go 1.2\ngo x y", 3, WrongArguments),
     (
         "replace a => ./x\nreplace a => ./y v1.0.0",
