@@ -232,7 +232,7 @@ fn gives_long_chain(alloc: Global, length: usize) -> Option<bool> {
 }
 
 fn long() -> usize {
-    2_000
+    65_000
 }
 
 // m requires a and b, a requires c, b requires a, c requires d.
