@@ -1,11 +1,11 @@
 -- What the commands make of what was found.
-use Rattle.std.proofs.Common.{◌≡◌, ◌++◌, ℕ, List, [], ◌∷◌, Option, Some, Result, Ok, Err, IfOk, MatchResult, sym, refl, subst, inl, inr, append-nil}
+use Rattle.std.proofs.Common.{◌≡◌, ◌∙◌, ◌++◌, ℕ, List, [], ◌∷◌, Option, Some, Result, Ok, Err, IfOk, MatchResult, sym, refl, subst, inl, inr, append-nil}
 use Rattle.gm_store.specs.Asked.{Name, Reply, name_of}
 use Rattle.gm_store.specs.declared.files.FileName.{FileName}
 use Rattle.gm_sums.specs.declared.sums.SumTable.{SumTable}
 use Rattle.gm_cache.specs.Main.{Main, main_of}
 use Rattle.gm_cache.specs.Reading.{Held, Readings, Tells, readings_by}
-use Rattle.gm_cache.specs.Refusals.{refused_by}
+use Rattle.gm_cache.specs.Refusals.{refused_by, refused_in}
 use Rattle.gm_cache.specs.declared.load_fault.LoadFault.{LoadFault}
 use Rattle.gm_cache.specs.declared.load_fault.LoadFault.TheVariants as load
 use Rattle.gm_select.specs.BuildList.{Entry, IsRestAfter}
@@ -21,8 +21,8 @@ use Rattle.gm_listing.specs.declared.query.Query.{Query}
 use Rattle.gm_listing.specs.declared.query.Query.TheVariants.{Graph, List as Rows, Chain}
 use Rattle.gm_listing.specs.Texts.{limited, list_text}
 use Rattle.gm_listing.specs.Reports.{Place, main_line}
-use Rattle.gm_listing.specs.Outcomes.{AreKnown, AreMisread, AreSums, IsAnswer, IsMainFile, IsMisread, IsRefusedRead, Outcome, PrintsFor, PrintsRows, answers, device, faulty, given, outcome_of, printed, refused, too_many}
-use Rattle.gm_listing.specs.Found.{IsAnswerOver, IsLoadReport, IsToldUnless, PrintsFound, ReadAs}
+use Rattle.gm_listing.specs.Outcomes.{AreKnown, AreMisread, AreSums, FailsInOrder, IsAnswer, IsMainFile, IsMisread, IsRefusedRead, Outcome, PrintsFor, PrintsRows, answers, device, faulty, given, outcome_of, printed, refused, too_many}
+use Rattle.gm_listing.specs.Found.{FailsOver, IsAnswerOver, IsLoadReport, IsToldUnless, PrintsFound, ReadAs}
 
 -- the rows after a path were printed
 pub rest_printed : {E : Type 0} (main : Main) (rows rest : List Entry) (path : List ℕ) (limit : Option ℕ) (result : Result Output E) → IsRestAfter main.path rows path rest
@@ -45,6 +45,20 @@ not_loaded query main table asked before after load.NoMemory outcome many due fa
 not_loaded query main table asked before after load.TooMany outcome many due failed report = ([], failed, inl (too_many (many refl) refl report))
 not_loaded query main table asked before after (load.Device name) outcome many due failed report =
     (name_of name ∷ [], failed, inl (device (name_of name) (due name refl) refl report))
+
+-- the device failed where loading says that it did
+pub load_fails : {T : Type 0} (main : Main) (table : Option SumTable) (asked : List (Name × Reply)) (before after : List Name) (result : Result T LoadFault)
+    → after ≡ before ++ refused_in result → ((name : FileName) → result ≡ Err (load.Device name) → IsDue main table asked (name_of name))
+    → FailsOver main table asked before after
+load_fails main table asked before after (Ok loaded) grown due = inl (grown ∙ append-nil before)
+load_fails main table asked before after (Err load.NoMemory) grown due = inl (grown ∙ append-nil before)
+load_fails main table asked before after (Err load.TooMany) grown due = inl (grown ∙ append-nil before)
+load_fails main table asked before after (Err (load.Device name)) grown due = inr (name_of name, due name refl, grown)
+
+pub over_fails : (file : List ℕ) (sums : Option (List ℕ)) (main : Main) (table : Option SumTable) (asked : List (Name × Reply)) (before after : List Name)
+    → ReadAs file sums main table → FailsOver main table asked before after → FailsInOrder file sums asked before after
+over_fails file sums main table asked before after read (inl none) = inl none
+over_fails file sums main table asked before after (main_file, sums_are) (inr (name, due, grown)) = inr (main, table, name, main_file, sums_are, due, grown)
 
 -- the files of the opened modules are known
 pub known : (main : Main) (table : Option SumTable) (asked : List (Name × Reply)) (loaded : Loaded) (held : Held) → Tells table asked held

@@ -1,7 +1,7 @@
 -- What loading found, what is reported of its refusals, and what the commands make of it.
-use Rattle.std.specs.Prelude.{◌≡◌, ◌⊎◌, ℕ, List, [], ◌∷◌, Option}
+use Rattle.std.specs.Prelude.{◌≡◌, ◌⊎◌, ◌++◌, ℕ, List, [], ◌∷◌, Option}
 use Rattle.std.specs.Option.{option_copied}
-use Rattle.gm_store.specs.Asked.{name_of}
+use Rattle.gm_store.specs.Asked.{Name, Reply, name_of}
 use Rattle.gm_sums.specs.declared.sums.SumTable.{SumTable}
 use Rattle.gm_cache.specs.Main.{Main}
 use Rattle.gm_cache.specs.declared.load_fault.LoadFault.{LoadFault}
@@ -11,6 +11,7 @@ use Rattle.gm_select.specs.BuildList.{IsEntryOf}
 use Rattle.gm_select.specs.Chains.{IsChain}
 use Rattle.gm_select.specs.Graph.{among}
 use Rattle.gm_graph.specs.declared.fault.Fault.{Fault}
+use Rattle.gm_graph.specs.Loading.{IsDue}
 use Rattle.gm_graph.specs.Outcome.{Outcome as Found}
 use Rattle.gm_listing.specs.declared.query.Query.{Query}
 use Rattle.gm_listing.specs.declared.query.Query.TheVariants.{Graph, List as Rows, Chain}
@@ -52,3 +53,7 @@ IsTold query main found outcome = IsToldUnless found.faults (PrintsFound query m
 
 abbrev pub IsAnswerOver : Query → Main → Option SumTable → Answers → Outcome → Type 0
 IsAnswerOver query main table told outcome = IsOutcomeOver (PrintsFor query) main table told outcome
+
+-- where both files read: the device failed at no file, or at one, which was due under the answers
+abbrev pub FailsOver : Main → Option SumTable → List (Name × Reply) → List Name → List Name → Type 0
+FailsOver main table asked before after = (after ≡ before) ⊎ ((name : Name) × IsDue main table asked name × (after ≡ before ++ name ∷ []))

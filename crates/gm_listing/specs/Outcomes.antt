@@ -1,6 +1,6 @@
 -- What `graph`, `list` and `chain` come to over the bytes of a main module's file, those of a go.sum, and a store's answers: Go
 -- Modules Reference, "Minimal version selection", "go.mod files", "go.sum files", "go mod graph", "go list -m".
-use Rattle.std.specs.Prelude.{◌≡◌, ◌<◌, ◌≤◌, ◌⊎◌, ℕ, List, [], ◌∷◌, length, Option, Some, None, Ok, Err, ⊤, codes}
+use Rattle.std.specs.Prelude.{◌≡◌, ◌<◌, ◌≤◌, ◌⊎◌, ◌++◌, ℕ, List, [], ◌∷◌, length, Option, Some, None, Ok, Err, ⊤, codes}
 use Rattle.gm_syntax.specs.Document.{Line}
 use Rattle.gm_syntax.specs.Tokens.{Placed}
 use Rattle.gm_syntax.specs.LineViews.{plains}
@@ -213,3 +213,10 @@ abbrev pub AsksInOrder : List ℕ → Option (List ℕ) → List (Name × Reply)
 AsksInOrder file sums asked =
     (asked ≡ [])
     ⊎ ((main : Main) × (table : Option SumTable) × IsMainFile file main × AreSums sums table × AsksInTurn main table asked)
+
+-- The device failed at no file; or the main module's file and the go.sum read, and it failed at one, which was due under the answers.
+abbrev pub FailsInOrder : List ℕ → Option (List ℕ) → List (Name × Reply) → List Name → List Name → Type 0
+FailsInOrder file sums asked before after =
+    (after ≡ before)
+    ⊎ ((main : Main) × (table : Option SumTable) × (name : Name) × IsMainFile file main × AreSums sums table × IsDue main table asked name
+    × (after ≡ before ++ name ∷ []))

@@ -5,8 +5,8 @@ ghost use Rattle.std.specs.Option.{option_copied};
 ghost use Rattle.gm_store.specs.Asked.{Name, Reply};
 ghost use Rattle.gm_cache.specs.Main.{main_of};
 ghost use Rattle.gm_graph.specs.Loading.{AsksInTurn};
-ghost use Rattle.gm_listing.specs.Outcomes.{AsksInOrder, IsAnswer, IsRefusedRead, answers, given, outcome_of};
-ghost use Rattle.gm_listing.specs.Found.{IsAnswerOver, IsLoadReport, ReadAs};
+ghost use Rattle.gm_listing.specs.Outcomes.{AsksInOrder, FailsInOrder, IsAnswer, IsRefusedRead, answers, given, outcome_of};
+ghost use Rattle.gm_listing.specs.Found.{FailsOver, IsAnswerOver, IsLoadReport, ReadAs};
 
 use crate::output::{Output, failed, refused};
 use crate::printing::tell;
@@ -71,6 +71,7 @@ fn answer_over<F: Files>(
     ensures comes { IfOk result (λ output. (failed : List Name) × (F.refused files.new ≡ F.refused files.old ++ failed)
         × IsAnswerOver query.entry (main_of main.now) (option_copied table.entry) (answers (F.asked files.new) failed) (outcome_of output)) }
     ensures asks { AsksInTurn (main_of main.now) (option_copied table.entry) (F.asked files.new) }
+    ensures fails { FailsOver (main_of main.now) (option_copied table.entry) (F.asked files.new) (F.refused files.old) (F.refused files.new) }
     ensures may_answer { (name : Name) (reply : Reply) → Contains (F.asked files.new) (name, reply) → F.may_answer files.old name reply }
 {
     match load(alloc, main, files, table) {
@@ -95,8 +96,8 @@ fn answer_over<F: Files>(
 /// else each opened module with its fault.
 ///
 /// Where one of the two files does not read, the store is asked for nothing. Else it is asked for the files of the modules that are
-/// opened by what it answered before, each once and no other, and each answer is one that it may give. Both hold however the run
-/// ends.
+/// opened by what it answered before, each once and no other, and each answer is one that it may give. Its device fails at one file
+/// at most, which is one of these. All this holds however the run ends.
 ///
 /// The condition is that the store was not asked before. The only refusal is want of memory; it may come in place of any answer.
 pub fn answer<F: Files>(
@@ -110,6 +111,7 @@ pub fn answer<F: Files>(
     ensures comes { IfOk result (λ output. (failed : List Name) × (F.refused files.new ≡ F.refused files.old ++ failed)
         × IsAnswer query.entry (given file.now (option_copied sums.entry) (answers (F.asked files.new) failed)) (outcome_of output)) }
     ensures asks { AsksInOrder file.now (option_copied sums.entry) (F.asked files.new) }
+    ensures fails { FailsInOrder file.now (option_copied sums.entry) (F.asked files.new) (F.refused files.old) (F.refused files.new) }
     ensures may_answer { (name : Name) (reply : Reply) → Contains (F.asked files.new) (name, reply) → F.may_answer files.old name reply }
 {
     let read = match read_files(alloc, file, sums)? {

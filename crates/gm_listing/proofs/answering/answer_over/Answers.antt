@@ -2,7 +2,7 @@ use Rattle.std.proofs.Common.{◌∙◌, Err, ap, refl}
 use Rattle.std.specs.Option.{option_copied}
 use Rattle.gm_cache.specs.Main.{main_of}
 use Rattle.gm_listing.specs.Outcomes.{outcome_of}
-use Rattle.gm_listing.proofs.Telling.{by_faults, not_loaded}
+use Rattle.gm_listing.proofs.Telling.{by_faults, load_fails, not_loaded}
 use Rattle.gm_listing.proofs.answering.answer_over.Goals as goal
 
 pub returns-in_ok-output-in-Ok-clause-comes : goal.returns-in_ok-output-in-Ok-clause-comes
@@ -19,3 +19,23 @@ returns-in_ok-output-in-Err-clause-comes g c =
     (λ name e. c.load.ensures.device name (c.in-Err.is ∙ ap Err e))
     c.in-Err.ensures.refused
     c.in_ok-output-in-Err.ensures
+
+pub returns-in_err-output-in-Ok-clause-fails : goal.returns-in_err-output-in-Ok-clause-fails
+returns-in_err-output-in-Ok-clause-fails g c =
+    load_fails (main_of c.args.main.now) (option_copied c.args.table) (g.F.Files.asked c.load.new.files) (g.F.Files.refused c.args.files.now) (g.F.Files.refused c.load.new.files)
+    c.load.result c.load.ensures.refused c.load.ensures.device
+
+pub returns-in_ok-output-in-Ok-clause-fails : goal.returns-in_ok-output-in-Ok-clause-fails
+returns-in_ok-output-in-Ok-clause-fails g c =
+    load_fails (main_of c.args.main.now) (option_copied c.args.table) (g.F.Files.asked c.load.new.files) (g.F.Files.refused c.args.files.now) (g.F.Files.refused c.load.new.files)
+    c.load.result c.load.ensures.refused c.load.ensures.device
+
+pub returns-in_err-output-in-Err-clause-fails : goal.returns-in_err-output-in-Err-clause-fails
+returns-in_err-output-in-Err-clause-fails g c =
+    load_fails (main_of c.args.main.now) (option_copied c.args.table) (g.F.Files.asked c.load.new.files) (g.F.Files.refused c.args.files.now) (g.F.Files.refused c.load.new.files)
+    c.load.result c.load.ensures.refused c.load.ensures.device
+
+pub returns-in_ok-output-in-Err-clause-fails : goal.returns-in_ok-output-in-Err-clause-fails
+returns-in_ok-output-in-Err-clause-fails g c =
+    load_fails (main_of c.args.main.now) (option_copied c.args.table) (g.F.Files.asked c.load.new.files) (g.F.Files.refused c.args.files.now) (g.F.Files.refused c.load.new.files)
+    c.load.result c.load.ensures.refused c.load.ensures.device
