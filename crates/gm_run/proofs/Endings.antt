@@ -1,27 +1,22 @@
 -- What is known of how the program ends.
-use Rattle.std.proofs.Common.{◌≡◌, ◌∙◌, ◌++◌, ◌∷◌, ℕ, List, [], Option, None, Result, Ok, Err, IfOk, Contains, ap, false, inl, inr, string_bytes, subst, sym, true}
+use Rattle.std.proofs.Common.{◌≡◌, ◌∙◌, ◌++◌, ◌∷◌, ℕ, List, [], Option, None, Result, Ok, Contains, ap, false, inl, inr, string_bytes, subst, sym, true}
 use Rattle.std.specs.Global.{Vec}
 use Rattle.gm_store.specs.Asked.{Name, Reply, answer_in, list_file, reply_for}
 use Rattle.gm_store.specs.Memory.{may_give}
 use Rattle.gm_store.specs.declared.memory.MemoryFiles.{MemoryFiles}
 use Rattle.gm_store.specs.declared.reading.ReadFault.{ReadFault}
 use Rattle.gm_words.specs.declared.usage.Command.TheVariants.{Fmt, Edit, Versions, Graph, List as Rows, Chain}
-use Rattle.gm_words.specs.Usage.{AskFor}
+use Rattle.gm_words.specs.Usage.{AskFor, IsFaultOf}
+use Rattle.gm_words.specs.declared.usage.UsageFault.{UsageFault}
 use Rattle.gm_words.specs.declared.usage.Command.{Command}
 use Rattle.gm_words.specs.declared.usage.Places.{Places}
 use Rattle.gm_run.specs.Outcome.{Outcome}
 use Rattle.gm_run.specs.Held.{HoldsOne}
-use Rattle.gm_run.specs.Program.{AreOfOne, IsFolderOutcome, IsInputOutcome, IsProgramOutcome, IsProgramStatus, IsReadOutcome, IsServed}
+use Rattle.gm_run.specs.Program.{AreOfOne, IsFolderOutcome, IsInputOutcome, IsNoText, IsProgramOutcome, IsProgramStatus, IsReadOutcome, IsServed, IsWordsOutcome, usage_outcome}
 use Rattle.gm_run.specs.Runs.{ComesTo, Needs, StatesOutcome, Stored, is_over_file, is_query}
 use Rattle.gm_run.specs.Queries.{RunsTo}
 use Rattle.gm_run.proofs.Answering.{answered_in}
 use Rattle.gm_run.specs.Written.{Ends, Sunk}
-
--- some words ask for what was read of them
-pub some_ask : {E : Type 0} (words : List (List ℕ)) (result : Result (Command × Places) E)
-    → IfOk result (λ asked. AskFor words asked.0 asked.1) → IfOk result (λ asked. (words : List (List ℕ)) × AskFor words asked.0 asked.1)
-some_ask words (Ok asked) known = (words, known)
-some_ask words (Err fault) known = tt
 
 -- an end with an outcome of one kind is one with an outcome of another, where each of the first is of the second
 pub ends_wider : (one other : Outcome → Type 0) (out out' report report' : Sunk) (status : ℕ)
@@ -32,14 +27,32 @@ ends_wider one other out out' report report' status wider ends = record {
   written = ends.written;
 }
 
--- an end with what some words ask for is one of the program
-pub program_ends : (command : Command) (places : Places) (out out' report report' : Sunk) (status code : ℕ) → code ≡ status
-    → ((words : List (List ℕ)) × AskFor words command places) → Ends (IsServed command places) out out' report report' status
-    → Ends IsProgramOutcome out out' report report' code
-program_ends command places out out' report report' status code same asked ends =
-    let P : ℕ → Type 0 = λ n. Ends IsProgramOutcome out out' report report' n in
-    subst P (sym same) (ends_wider (IsServed command places) IsProgramOutcome out out' report report' status
-    (λ outcome stated. inr (asked.0, command, places, asked.1, stated)) ends)
+-- an end with what the words ask for is one of these words
+pub words_end : (words : List (List ℕ)) (command : Command) (places : Places) (out out' report report' : Sunk) (status code : ℕ) → code ≡ status
+    → AskFor words command places → Ends (IsServed command places) out out' report report' status
+    → Ends (IsWordsOutcome words) out out' report report' code
+words_end words command places out out' report report' status code same asked ends =
+    let P : ℕ → Type 0 = λ n. Ends (IsWordsOutcome words) out out' report report' n in
+    subst P (sym same) (ends_wider (IsServed command places) (IsWordsOutcome words) out out' report report' status
+    (λ outcome stated. inr (command, places, asked, stated)) ends)
+
+-- an end with what is wrong with the words is one of these words
+pub fault_ends : (words : List (List ℕ)) (fault : UsageFault) (out out' report report' : Sunk) (status : ℕ) → IsFaultOf words fault
+    → Ends (λ outcome. outcome ≡ usage_outcome fault) out out' report report' status → Ends (IsWordsOutcome words) out out' report report' status
+fault_ends words fault out out' report report' status is ends =
+    ends_wider (λ outcome. outcome ≡ usage_outcome fault) (IsWordsOutcome words) out out' report report' status (λ outcome same. inl (fault, is, same)) ends
+
+-- an end of some words is one of the program
+pub program_ends : (words : List (List ℕ)) (out out' report report' : Sunk) (status : ℕ) → Ends (IsWordsOutcome words) out out' report report' status
+    → Ends IsProgramOutcome out out' report report' status
+program_ends words out out' report report' status ends =
+    ends_wider (IsWordsOutcome words) IsProgramOutcome out out' report report' status (λ outcome stated. inl (words, stated)) ends
+
+-- an end where a word is no text is one of the program
+pub no_text_ends : (fault : UsageFault) (out out' report report' : Sunk) (status : ℕ) → IsNoText fault
+    → Ends (λ outcome. outcome ≡ usage_outcome fault) out out' report report' status → Ends IsProgramOutcome out out' report report' status
+no_text_ends fault out out' report report' status is ends =
+    ends_wider (λ outcome. outcome ≡ usage_outcome fault) IsProgramOutcome out out' report report' status (λ outcome same. inr (fault, is, same)) ends
 
 -- the status of the process is that of the program's end
 pub program_status : (out out' report report' : Sunk) (status code : ℕ) → code ≡ status → Ends IsProgramOutcome out out' report report' status → IsProgramStatus code

@@ -4,9 +4,9 @@ use Rattle.gm_store.specs.Asked.{Name, Reply, answer_in}
 use Rattle.gm_sums.specs.declared.sums.SumTable.{SumTable}
 use Rattle.gm_cache.specs.Main.{Main}
 use Rattle.gm_graph.specs.Loading.{AsksInTurn, IsDue, nothing, more}
-use Rattle.gm_listing.specs.Outcomes.{AreSums, AsksInOrder, IsMainFile}
+use Rattle.gm_listing.specs.Outcomes.{AreSums, AsksInOrder, FailsInOrder, IsMainFile}
 use Rattle.gm_run.specs.Needs.{GraphNeeds}
-use Rattle.gm_run.specs.Runs.{AskedBehind, AskedInTurn}
+use Rattle.gm_run.specs.Runs.{AskedBehind, AskedInTurn, FailsInTurn, Stored}
 use Rattle.gm_run.specs.Versions.{Answers}
 
 abbrev Pairs : Type 0
@@ -43,3 +43,12 @@ module _ (file : List ℕ) (sums : Option (List ℕ)) (main : Main) (table : Opt
 pub in_turn : (file : List ℕ) (sums : Option (List ℕ)) (asked : Pairs) → AsksInOrder file sums asked → AskedInTurn (GraphNeeds file sums) asked
 in_turn file sums asked (inl none) = subst (λ (pairs : Pairs). AskedInTurn (GraphNeeds file sums) pairs) (sym none) tt
 in_turn file sums asked (inr (main, table, main_reads, sums_read, asks)) = due_in_turn file sums main table main_reads sums_read asks
+
+-- the file at which the device failed is needed
+pub fails_in_turn : (file : List ℕ) (sums : Option (List ℕ)) (asked : Pairs) (old new : Stored) → new.asked ≡ asked → FailsInOrder file sums asked old.refused new.refused
+    → FailsInTurn (GraphNeeds file sums) old new
+fails_in_turn file sums asked old new same (inl none) = inl none
+fails_in_turn file sums asked old new same (inr (main, table, name, main_reads, sums_read, due, grown)) =
+    let wanted : IsWanted (GraphNeeds file sums) name new.asked =
+    subst (IsWanted (GraphNeeds file sums) name) (sym same) (due_needed file sums main table main_reads sums_read asked name due) in
+    inr (name, wanted.0, wanted.1, grown)

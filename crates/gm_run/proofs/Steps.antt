@@ -12,15 +12,19 @@ use Rattle.gm_run.specs.Dependencies.{IsMalformed}
 use Rattle.gm_run.specs.Kinds.{Place, malformed_line}
 use Rattle.gm_run.specs.Reading.{IsListRead}
 use Rattle.gm_shown.specs.Shown.{shown_of}
-use Rattle.gm_run.specs.Outcome.{Outcome, failed, outcome_of, printed, refused}
-use Rattle.gm_run.specs.Runs.{AnsweredAll, AskedInTurn, ComesTo, Stored, device_line}
-use Rattle.gm_run.specs.Versions.{IsShownOutcome, IsVersionsOutcome, NeedsFile, VersionsNeed, versions_line}
+use Rattle.gm_run.specs.Outcome.{Outcome, failed, outcome_of, printed, refused, want_of_memory}
+use Rattle.gm_run.specs.Runs.{AnsweredAll, AskedInTurn, ComesTo, FailsInTurn, Stored, device_line}
+use Rattle.gm_run.specs.Versions.{Answers, IsShownOutcome, IsVersionsOutcome, NeedsFile, VersionsNeed, versions_line}
 use Rattle.gm_run.proofs.Answering.{file_answer, list_answer}
 use Rattle.gm_run.proofs.Uniqueness.{latest_once, listed_once, none_latest}
 
 -- what is asked
 abbrev pub Pairs : Type 0
 Pairs = List (Name × Reply)
+
+-- by these answers the file is needed, and is not among them
+abbrev IsWanted : (Answers → Name → Type 0) → Pairs → Name → Type 0
+IsWanted needs asked name = needs (answer_in asked) name × (answer_in asked name ≡ None)
 
 module _ (path : List ℕ) (all : Bool) where
   Needed : Pairs → Type 0
@@ -103,14 +107,22 @@ module _ (path : List ℕ) (all : Bool) where
     ends_all list versions fetchable listed every asked same is =
         inl (inr (bytes list, fetchable, list_is (bytes list) asked, (versions, listed, inl (every, is))), no_file list versions listed every asked, same)
 
+    -- the file of the latest version is needed and not answered
+    file_wanted : (list : List ℕ) (versions : List (List ℕ)) (latest : List ℕ) → is_fetchable path ≡ true → all ≡ false
+        → AreListed path list versions → IsLatest versions latest → new.asked ≡ (list_file path, bytes list) ∷ []
+        → IsWanted (VersionsNeed path all) new.asked (mod_file path latest)
+    file_wanted list versions latest fetchable some listed latest_is asked =
+        let needed : VersionsNeed path all (answer_in new.asked) (mod_file path latest) =
+        (fetchable, inr (subst (λ (a : Pairs). NeedsFile path all (answer_in a) (mod_file path latest)) (sym asked) (file_needed list versions latest [] some listed latest_is))) in
+        (needed, ap (λ (a : Pairs). answer_in a (mod_file path latest)) asked)
+
     pub ends_device_file : (list : List ℕ) (versions : List (List ℕ)) (latest : List ℕ) → is_fetchable path ≡ true → all ≡ false
         → AreListed path list versions → IsLatest versions latest → new.asked ≡ (list_file path, bytes list) ∷ []
         → output ≡ failed (device_line (mod_file path latest)) → new.refused ≡ old.refused ++ mod_file path latest ∷ []
         → ComesTo (VersionsNeed path all) (IsVersionsOutcome path all) old new output
     ends_device_file list versions latest fetchable some listed latest_is asked is grown =
-        let needed : VersionsNeed path all (answer_in new.asked) (mod_file path latest) =
-        (fetchable, inr (subst (λ (a : Pairs). NeedsFile path all (answer_in a) (mod_file path latest)) (sym asked) (file_needed list versions latest [] some listed latest_is))) in
-        inr (mod_file path latest, is, needed, ap (λ (a : Pairs). answer_in a (mod_file path latest)) asked, grown)
+        let wanted : IsWanted (VersionsNeed path all) new.asked (mod_file path latest) = file_wanted list versions latest fetchable some listed latest_is asked in
+        inr (mod_file path latest, is, wanted.0, wanted.1, grown)
 
     both_list : (list latest : List ℕ) (reply : Reply) → new.asked ≡ (list_file path, bytes list) ∷ (mod_file path latest, reply) ∷ []
         → answer_in new.asked (list_file path) ≡ Some (bytes list)
@@ -224,12 +236,21 @@ pub shown_asked : {E : Type 0} (path : List ℕ) (versions : List (List ℕ)) (l
     → IfOk result (λ output. IsShownOutcome path versions latest answer (outcome_of output)) → IsLatestAsked path versions latest may old new result
 shown_asked path versions latest may old new answer reply (Ok output) answered same known =
     inl (reply, answered, subst (λ (r : Reply). IsShownOutcome path versions latest r (outcome_of output)) same known)
-shown_asked path versions latest may old new answer reply (Err e) answered same known = inr (reply, answered.0, answered.1)
+shown_asked path versions latest may old new answer reply (Err e) answered same known = inr (reply, answered)
 
 module _ (path : List ℕ) (mid new : Stored) (latest : List ℕ) where
   grown : (list : List ℕ) (reply : Reply) → mid.asked ≡ (list_file path, bytes list) ∷ [] → new.asked ≡ mid.asked ++ (mod_file path latest, reply) ∷ []
       → new.asked ≡ (list_file path, bytes list) ∷ (mod_file path latest, reply) ∷ []
   grown list reply first second = second ∙ ap (λ (a : Pairs). a ++ (mod_file path latest, reply) ∷ []) first
+
+-- the device failed at the file of the latest version
+file_fails : (path : List ℕ) (all : Bool) (may : Name → Reply → Type 0) (old mid new : Stored) (versions : List (List ℕ)) (latest : List ℕ)
+    → IsListState path may old mid versions → all ≡ false → IsLatest versions latest → new.asked ≡ mid.asked
+    → new.refused ≡ mid.refused ++ mod_file path latest ∷ [] → FailsInTurn (VersionsNeed path all) old new
+file_fails path all may old mid new versions latest state some is same more =
+    let wanted : IsWanted (VersionsNeed path all) new.asked (mod_file path latest) =
+    file_wanted path all old new want_of_memory state.list versions latest state.fetchable some state.listed is (same ∙ state.asked) in
+    inr (mod_file path latest, wanted.0, wanted.1, more ∙ ap (λ (r : List Name). r ++ mod_file path latest ∷ []) state.unrefused)
 
 module _ {E : Type 0} (path : List ℕ) (all : Bool) (may later : Name → Reply → Type 0) (old mid new : Stored) (versions : List (List ℕ)) (latest : List ℕ) where
   pub latest_comes : (result : Result Output E) → IsListState path may old mid versions → all ≡ false → IsLatest versions latest
@@ -248,18 +269,26 @@ module _ {E : Type 0} (path : List ℕ) (all : Bool) (may later : Name → Reply
   latest_in_turn (Ok output) state some is (inl a) =
       both_in_turn path all new.asked state.list versions latest a.0 state.fetchable some state.listed is (grown path mid new latest state.list a.0 state.asked a.1.1)
   latest_in_turn (Ok output) state some is (inr a) = list_in_turn path all new.asked (bytes state.list) state.fetchable (a.1 ∙ state.asked)
-  latest_in_turn (Err e) state some is (inl a) = list_in_turn path all new.asked (bytes state.list) state.fetchable (a ∙ state.asked)
+  latest_in_turn (Err e) state some is (inl a) = list_in_turn path all new.asked (bytes state.list) state.fetchable (a.0 ∙ state.asked)
   latest_in_turn (Err e) state some is (inr a) =
-      both_in_turn path all new.asked state.list versions latest a.0 state.fetchable some state.listed is (grown path mid new latest state.list a.0 state.asked a.2)
+      both_in_turn path all new.asked state.list versions latest a.0 state.fetchable some state.listed is (grown path mid new latest state.list a.0 state.asked a.1.1)
 
   pub latest_allowed : (result : Result Output E) → IsListState path may old mid versions → ((name : Name) (r : Reply) → later name r → may name r)
       → IsLatestAsked path versions latest later mid new result → (name : Name) (r : Reply) → Contains new.asked (name, r) → may name r
   latest_allowed (Ok output) state same (inl a) =
       both_allowed may new.asked (list_file path) (mod_file path latest) (bytes state.list) a.0 state.allowed (same _ _ a.1.0) (grown path mid new latest state.list a.0 state.asked a.1.1)
   latest_allowed (Ok output) state same (inr a) = one_allowed may new.asked (list_file path) (bytes state.list) state.allowed (a.1 ∙ state.asked)
-  latest_allowed (Err e) state same (inl a) = one_allowed may new.asked (list_file path) (bytes state.list) state.allowed (a ∙ state.asked)
+  latest_allowed (Err e) state same (inl a) = one_allowed may new.asked (list_file path) (bytes state.list) state.allowed (a.0 ∙ state.asked)
   latest_allowed (Err e) state same (inr a) =
-      both_allowed may new.asked (list_file path) (mod_file path latest) (bytes state.list) a.0 state.allowed (same _ _ a.1) (grown path mid new latest state.list a.0 state.asked a.2)
+      both_allowed may new.asked (list_file path) (mod_file path latest) (bytes state.list) a.0 state.allowed (same _ _ a.1.0) (grown path mid new latest state.list a.0 state.asked a.1.1)
+
+  pub latest_fails : (result : Result Output E) → IsListState path may old mid versions → all ≡ false → IsLatest versions latest
+      → IsLatestAsked path versions latest later mid new result → FailsInTurn (VersionsNeed path all) old new
+  latest_fails (Ok output) state some is (inl a) = inl (a.1.2 ∙ state.unrefused)
+  latest_fails (Ok output) state some is (inr a) = file_fails path all may old mid new versions latest state some is a.1 a.2
+  latest_fails (Err e) state some is (inl (same, inl none)) = inl (none ∙ state.unrefused)
+  latest_fails (Err e) state some is (inl (same, inr more)) = file_fails path all may old mid new versions latest state some is same more
+  latest_fails (Err e) state some is (inr a) = inl (a.1.2 ∙ state.unrefused)
 
 -- the latest one's file does not read
 pub shown_malformed : {E : Type 0} (path : List ℕ) (versions : List (List ℕ)) (latest file line : List ℕ) (answer : Reply) (place : Place) (result : Result Output E)

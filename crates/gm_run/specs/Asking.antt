@@ -6,6 +6,10 @@ use Rattle.gm_run.specs.Outcome.{failed, outcome_of}
 use Rattle.gm_run.specs.Runs.{Stored, device_line}
 use Rattle.gm_run.specs.Versions.{IsShownOutcome}
 
+-- nothing was answered, and the device failed at this file or at none
+abbrev pub IsFailedAsk : Name → Stored → Stored → Type 0
+IsFailedAsk name old new = (new.asked ≡ old.asked) × ((new.refused ≡ old.refused) ⊎ (new.refused ≡ old.refused ++ name ∷ []))
+
 -- the file is answered, as the store may answer
 abbrev pub IsAnswered : Name → (Name → Reply → Type 0) → Stored → Stored → Reply → Type 0
 IsAnswered name may old new reply = may name reply × (new.asked ≡ old.asked ++ (name, reply) ∷ []) × (new.refused ≡ old.refused)
@@ -17,7 +21,7 @@ IsRefusedAt name old new output = (outcome_of output ≡ failed (device_line nam
 abbrev pub IsAsked : {E : Type 0} → Name → (Name → Reply → Type 0) → Stored → Stored → Result (Option Output) E → Type 0
 IsAsked name may old new (Ok None) = (reply : Reply) × IsAnswered name may old new reply
 IsAsked name may old new (Ok (Some output)) = IsRefusedAt name old new output
-IsAsked name may old new (Err e) = new.asked ≡ old.asked
+IsAsked name may old new (Err e) = IsFailedAsk name old new
 
 -- the file of the latest version is asked for, and the output is by its answer or reports the device
 abbrev pub IsLatestAsked : {E : Type 0} → List ℕ → List (List ℕ) → List ℕ → (Name → Reply → Type 0) → Stored → Stored → Result Output E → Type 0
@@ -25,4 +29,4 @@ IsLatestAsked path versions latest may old new (Ok output) =
     ((reply : Reply) × IsAnswered (mod_file path latest) may old new reply × IsShownOutcome path versions latest reply (outcome_of output))
     ⊎ IsRefusedAt (mod_file path latest) old new output
 IsLatestAsked path versions latest may old new (Err e) =
-    (new.asked ≡ old.asked) ⊎ ((reply : Reply) × may (mod_file path latest) reply × (new.asked ≡ old.asked ++ (mod_file path latest, reply) ∷ []))
+    IsFailedAsk (mod_file path latest) old new ⊎ ((reply : Reply) × IsAnswered (mod_file path latest) may old new reply)

@@ -6,7 +6,7 @@ use Rattle.gm_store.specs.Asked.{Name, Reply, list_file, reply_for, same_name}
 use Rattle.gm_store.specs.declared.proxies.ProxyList.{ProxyList}
 use Rattle.gm_store.specs.declared.reading.ReadFault.{ReadFault}
 use Rattle.gm_store.specs.declared.reading.ReadFault.TheVariants as reading
-use Rattle.gm_words.specs.Usage.{AskFor}
+use Rattle.gm_words.specs.Usage.{AskFor, IsFaultOf}
 use Rattle.gm_words.specs.declared.usage.Command.{Command}
 use Rattle.gm_words.specs.declared.usage.Command.TheVariants.{Fmt, Edit, Versions, Graph, List as Rows, Chain}
 use Rattle.gm_words.specs.declared.usage.Places.{Places}
@@ -88,11 +88,22 @@ IsServed Graph places outcome = IsQueryServed Graph places outcome
 IsServed (Rows after limit) places outcome = IsQueryServed (Rows after limit) places outcome
 IsServed (Chain path) places outcome = IsQueryServed (Chain path) places outcome
 
--- what the program comes to: a fault of the words, or what some words ask for over the files that they name
+-- what the program comes to for these words: their fault, or what they ask for over the files that they name
+abbrev pub IsWordsOutcome : List (List ℕ) → Outcome → Type 0
+IsWordsOutcome words outcome =
+    ((fault : UsageFault) × IsFaultOf words fault × (outcome ≡ usage_outcome fault))
+    ⊎ ((command : Command) × (places : Places) × AskFor words command places × IsServed command places outcome)
+
+-- the fault of a command line of which a word is no text, or for which memory ran out
+abbrev pub IsNoText : UsageFault → Type 0
+IsNoText usage.NoMemory = Unit {0}
+IsNoText (usage.Line text) = string_bytes text ≡ codes "error: a word is not UTF-8\n"
+IsNoText fault = ⊥
+
+-- what the program comes to: that of its words, or their fault where one of them is no text
 abbrev pub IsProgramOutcome : Outcome → Type 0
 IsProgramOutcome outcome =
-    ((fault : UsageFault) × (outcome ≡ usage_outcome fault))
-    ⊎ ((words : List (List ℕ)) × (command : Command) × (places : Places) × AskFor words command places × IsServed command places outcome)
+    ((words : List (List ℕ)) × IsWordsOutcome words outcome) ⊎ ((fault : UsageFault) × IsNoText fault × (outcome ≡ usage_outcome fault))
 
 -- the status of the process: that of what the program comes to, or 3, where memory runs out or an output fails
 abbrev pub IsProgramStatus : ℕ → Type 0

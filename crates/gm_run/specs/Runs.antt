@@ -83,6 +83,12 @@ AskedInTurn needs asked = AskedBehind needs [] asked
 abbrev pub AnsweredAll : (Answers → Name → Type 0) → Answers → Type 0
 AnsweredAll needs answers = (name : Name) → needs answers name → (reply : Reply) × (answers name ≡ Some reply)
 
+-- the device failed at no file, or at one that is needed by the answers and is not among them
+abbrev pub FailsInTurn : (Answers → Name → Type 0) → Stored → Stored → Type 0
+FailsInTurn needs old new =
+    (new.refused ≡ old.refused)
+    ⊎ ((name : Name) × needs (answer_in new.asked) name × (answer_in new.asked name ≡ None) × (new.refused ≡ old.refused ++ name ∷ []))
+
 -- where the device failed
 abbrev pub name_text : Name → List ℕ
 name_text (mod_file path version) = vertex_text path version

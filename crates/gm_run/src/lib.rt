@@ -16,7 +16,7 @@ mod status;
 mod versions;
 mod writing;
 
-pub use crate::program::{exit_code, status_of};
+pub use crate::program::{exit_code, status_of, status_of_words};
 pub use crate::running::run;
 pub use crate::status::Status;
 

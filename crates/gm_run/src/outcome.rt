@@ -4,7 +4,7 @@ ghost use Rattle.std.specs.Prelude.{◌≡◌, [], Contains, IfOk};
 ghost use Rattle.std.specs.Option.{option_map};
 ghost use Rattle.gm_store.specs.Asked.{Name, Reply};
 ghost use Rattle.gm_run.specs.Outcome.{outcome_of};
-ghost use Rattle.gm_run.specs.Runs.{AskedInTurn, Needs, stored};
+ghost use Rattle.gm_run.specs.Runs.{AskedInTurn, FailsInTurn, Needs, stored};
 ghost use Rattle.gm_run.specs.Queries.{RunsTo};
 
 use crate::edit::edit_outcome;
@@ -29,6 +29,7 @@ pub(crate) fn outcome<F: Files>(
     requires { F.asked files.old ≡ [] }
     ensures comes { IfOk result (λ output. RunsTo command.now main.now (option_map (λ sums. sums.now) sums.entry) (stored (F.asked files.old) (F.refused files.old)) (stored (F.asked files.new) (F.refused files.new)) (outcome_of output)) }
     ensures in_turn { AskedInTurn (Needs command.now main.now (option_map (λ sums. sums.now) sums.entry)) (F.asked files.new) }
+    ensures fails { FailsInTurn (Needs command.now main.now (option_map (λ sums. sums.now) sums.entry)) (stored (F.asked files.old) (F.refused files.old)) (stored (F.asked files.new) (F.refused files.new)) }
     ensures answers { (name : Name) (reply : Reply) → Contains (F.asked files.new) (name, reply) → F.may_answer files.old name reply }
 {
     match command {

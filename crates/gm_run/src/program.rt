@@ -1,16 +1,15 @@
 //! What the program does between its words and its status.
 
-ghost use Rattle.std.specs.Prelude.{◌≡◌, ◌++◌, ℕ, [], IfOk, List, None, Result, codes, false, true};
+ghost use Rattle.std.specs.Prelude.{◌≡◌, ◌++◌, ℕ, [], IfErr, IfOk, List, None, Result, codes, false, map, true};
 ghost use Rattle.std.specs.Global.{Vec};
 ghost use Rattle.std.specs.Process.{exit_status};
 ghost use Rattle.std.specs.String.{string_bytes};
 ghost use Rattle.gm_store.specs.declared.reading.ReadFault.{ReadFault};
-ghost use Rattle.gm_words.specs.Usage.{AskFor};
 ghost use Rattle.gm_store.specs.Asked.{list_file};
 ghost use Rattle.gm_store.specs.Memory.{pairs, pairs_of};
 ghost use Rattle.gm_run.specs.Held.{HoldsOne};
 ghost use Rattle.gm_run.specs.Outcome.{code_of, failed, misused};
-ghost use Rattle.gm_run.specs.Program.{IsFolderOutcome, IsInputOutcome, IsProgramOutcome, IsProgramStatus, IsReadOutcome, IsServed, IsVersionsServed, unread_outcome, usage_outcome};
+ghost use Rattle.gm_run.specs.Program.{IsFolderOutcome, IsInputOutcome, IsNoText, IsProgramOutcome, IsProgramStatus, IsReadOutcome, IsServed, IsVersionsServed, IsWordsOutcome, unread_outcome, usage_outcome};
 ghost use Rattle.gm_run.specs.Runs.{StatesOutcome, is_over_file, is_query};
 ghost use Rattle.gm_run.specs.Written.{Ends, IsWritten, sunk};
 
@@ -42,15 +41,8 @@ pub fn exit_code(rt: &HostRuntime) -> ExitCode
     ExitCode::from(status_of(rt, &mut out, &mut report))
 }
 
-/// Reads the words of the command line, reads the file that they name or standard input, and runs the command. The
-/// answer is the status of the process. `versions` reads standard input only where no proxy folders are given.
-///
-/// `graph`, `list` and `chain` read the main file and then the go.sum where one is named; the first that can't be read is reported, and
-/// then nothing is read as a go.mod.
-///
-/// Of a file or of standard input at most 16,777,217 bytes are read, from which the command sees that there are too
-/// many. What can't be read is reported as `gomod: cannot read NAME`, with status 3, where the name of standard input
-/// is `-`. Help goes to `out` with status 0, what is wrong with the words to `report` with status 2.
+/// Reads the words of the command line, and does what `status_of_words` does for them. Where one of them is no text, the report says
+/// so, with status 2.
 pub fn status_of<S: Env + Input + Files + Clone + Drop + Alloc<A = Global>, O: Sink, R: Sink>(
     rt: &S,
     out: &mut O,
@@ -61,7 +53,38 @@ pub fn status_of<S: Env + Input + Files + Clone + Drop + Alloc<A = Global>, O: S
         (sunk (R.taken report.old) (R.room report.old) (R.fault_count report.old)) (sunk (R.taken report.new) (R.room report.new) (R.fault_count report.new))
         result }
 {
-    match command_of(rt) {
+    let words = match words_of(rt) {
+        Ok(words) => words,
+        Err(fault) => return tell(rt.alloc(), &fault, out, report),
+    };
+    match texts_of(rt.alloc(), words.as_slice()) {
+        Ok(texts) => status_of_words(rt, texts.as_slice(), out, report),
+        Err(_) => end(out, b"", report, NO_MEMORY, Status::Device).code(),
+    }
+}
+
+/// Reads the words of a command line, of which the first is the program's name, reads the file that they name or standard input, and
+/// runs the command. The answer is the status of the process. `versions` reads standard input only where no proxy folders are given.
+///
+/// `graph`, `list` and `chain` read the main file and then the go.sum where one is named; the first that can't be read is reported, and
+/// then nothing is read as a go.mod.
+///
+/// Of a file or of standard input at most 16,777,217 bytes are read, from which the command sees that there are too
+/// many. What can't be read is reported as `gomod: cannot read NAME`, with status 3, where the name of standard input
+/// is `-`. Help goes to `out` with status 0, what is wrong with the words to `report` with status 2: which fault it is, is what
+/// `gm_words::read_words` says of these words.
+pub fn status_of_words<S: Input + Files + Clone + Drop + Alloc<A = Global>, O: Sink, R: Sink>(
+    rt: &S,
+    words: &[&str],
+    out: &mut O,
+    report: &mut R,
+) -> u8
+    ensures { Ends (IsWordsOutcome (map (λ word. word.now) words.now))
+        (sunk (O.taken out.old) (O.room out.old) (O.fault_count out.old)) (sunk (O.taken out.new) (O.room out.new) (O.fault_count out.new))
+        (sunk (R.taken report.old) (R.room report.old) (R.fault_count report.old)) (sunk (R.taken report.new) (R.room report.new) (R.fault_count report.new))
+        result }
+{
+    match read_words(rt.alloc(), words) {
         Ok((command, places)) => serve(rt, &command, places, out, report).code(),
         Err(fault) => tell(rt.alloc(), &fault, out, report),
     }
@@ -256,15 +279,6 @@ pub(crate) fn folders_of<S: Files + Clone + Drop + Alloc<A = Global>>(
     Ok(FolderFiles::new(system, rt.alloc(), main, folders))
 }
 
-/// What the words of the command line ask for.
-fn command_of<S: Env + Alloc<A = Global>>(rt: &S) -> Result<(Command, Places), UsageFault>
-    ensures { IfOk result (λ asked. (words : List (List ℕ)) × AskFor words asked.0 asked.1) }
-{
-    let words = words_of(rt)?;
-    let texts = texts_of(rt.alloc(), words.as_slice())?;
-    read_words(rt.alloc(), texts.as_slice())
-}
-
 /// The texts of words.
 fn texts_of(alloc: Global, words: &[String]) -> Result<Vec<&str>, AllocError> {
     let mut texts = Vec::new(alloc);
@@ -275,7 +289,9 @@ fn texts_of(alloc: Global, words: &[String]) -> Result<Vec<&str>, AllocError> {
 }
 
 /// The words of the command line. One that is no text is a fault.
-fn words_of<S: Env + Alloc<A = Global>>(rt: &S) -> Result<Vec<String>, UsageFault> {
+fn words_of<S: Env + Alloc<A = Global>>(rt: &S) -> Result<Vec<String>, UsageFault>
+    ensures { IfErr result IsNoText }
+{
     match env::args(rt) {
         Ok(words) => Ok(words.collect(rt.alloc())?),
         Err(error) if error.kind() == ErrorKind::InvalidData => {

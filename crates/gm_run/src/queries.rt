@@ -7,7 +7,7 @@ ghost use Rattle.gm_listing.specs.Outcomes.{IsAnswer, answers, given, Outcome as
 ghost use Rattle.gm_run.specs.Needs.{GraphNeeds};
 ghost use Rattle.gm_run.specs.Outcome.{code_of, outcome_of};
 ghost use Rattle.gm_run.specs.Queries.{code_of_end, shown};
-ghost use Rattle.gm_run.specs.Runs.{AskedInTurn};
+ghost use Rattle.gm_run.specs.Runs.{AskedInTurn, FailsInTurn, stored};
 
 use crate::output::Output;
 use crate::status::Status;
@@ -52,6 +52,7 @@ pub(crate) fn query_outcome<F: Files>(
         × IsAnswer query.entry (given main.now (option_map (λ sums. sums.now) sums.entry) (answers (F.asked files.new) failed)) found
         × (outcome_of output ≡ shown found)) }
     ensures in_turn { AskedInTurn (GraphNeeds main.now (option_map (λ sums. sums.now) sums.entry)) (F.asked files.new) }
+    ensures fails { FailsInTurn (GraphNeeds main.now (option_map (λ sums. sums.now) sums.entry)) (stored (F.asked files.old) (F.refused files.old)) (stored (F.asked files.new) (F.refused files.new)) }
     ensures answers { (name : Name) (reply : Reply) → Contains (F.asked files.new) (name, reply) → F.may_answer files.old name reply }
 {
     let found = answer(alloc, query, main, sums, files)?;

@@ -4,7 +4,7 @@ ghost use Rattle.std.specs.Prelude.{◌≡◌, [], Contains, None, false};
 ghost use Rattle.std.specs.Option.{option_map};
 ghost use Rattle.gm_store.specs.Asked.{Name, Reply, answer_in};
 ghost use Rattle.gm_run.specs.Outcome.{code_of};
-ghost use Rattle.gm_run.specs.Runs.{AnsweredAll, AskedInTurn, Needs, stored, takes_sums};
+ghost use Rattle.gm_run.specs.Runs.{AnsweredAll, AskedInTurn, FailsInTurn, Needs, stored, takes_sums};
 ghost use Rattle.gm_run.specs.Queries.{RunsTo};
 ghost use Rattle.gm_run.specs.Written.{Ends, sunk};
 
@@ -37,8 +37,8 @@ use std::alloc::Global;
 /// them from being found.
 ///
 /// Whatever the command and however the run ends, the store is asked for no file but those that are needed by what was read and
-/// answered before, each once, and each answer is one that it may give. Where the status is `Done`, each file that is needed was
-/// answered. `graph`, `list` and `chain` need the files of the opened modules, and none where the main file or the go.sum does not
+/// answered before, each once, and each answer is one that it may give. Its device fails at one file at most, which was needed too.
+/// Where the status is `Done`, each file that is needed was answered. `graph`, `list` and `chain` need the files of the opened modules, and none where the main file or the go.sum does not
 /// read (Go Modules Reference, "Minimal version selection" and "Module graph pruning").
 ///
 /// A text goes to `out` with the status `Done`, a report to `report` with `Fault`. Where the store's device fails the report is
@@ -63,6 +63,8 @@ pub fn run<F: Files, O: Sink, R: Sink>(
     // each file was needed by the answers before it, and is asked for once; where the run is done, each that is needed is answered
     ensures in_turn { AskedInTurn (Needs command.now main.now (option_map (λ sums. sums.now) sums.entry)) (F.asked files.new) }
     ensures all_answered { result ≡ Status.Done → AnsweredAll (Needs command.now main.now (option_map (λ sums. sums.now) sums.entry)) (answer_in (F.asked files.new)) }
+    // the device fails at one file at most, which is needed by the answers and not among them
+    ensures fails { FailsInTurn (Needs command.now main.now (option_map (λ sums. sums.now) sums.entry)) (stored (F.asked files.old) (F.refused files.old)) (stored (F.asked files.new) (F.refused files.new)) }
     ensures answers { (name : Name) (reply : Reply) → Contains (F.asked files.new) (name, reply) → F.may_answer files.old name reply }
 {
     match outcome(alloc, command, main, sums, files) {

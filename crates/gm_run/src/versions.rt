@@ -12,7 +12,7 @@ ghost use Rattle.gm_run.specs.Asking.{IsLatestAsked};
 ghost use Rattle.gm_run.specs.Listing.{IsListState};
 ghost use Rattle.gm_run.specs.Outcome.{outcome_of, printed};
 ghost use Rattle.gm_run.specs.Reading.{IsFileRead, IsListRead};
-ghost use Rattle.gm_run.specs.Runs.{AskedInTurn, ComesTo, stored};
+ghost use Rattle.gm_run.specs.Runs.{AskedInTurn, ComesTo, FailsInTurn, stored};
 ghost use Rattle.gm_run.specs.Versions.{IsShownOutcome, IsVersionsOutcome, VersionsNeed, versions_line};
 
 use crate::asking::{ask_for, last_answer};
@@ -142,6 +142,7 @@ fn listed<F: Files>(
     ensures listed { IfOk result (λ read. IfOk read (λ versions. IsListState path.now (F.may_answer files.old) (stored (F.asked files.old) (F.refused files.old)) (stored (F.asked files.new) (F.refused files.new)) versions.items)) }
     ensures comes { (all : Bool) → IfOk result (λ read. IfErr read (λ output. ComesTo (VersionsNeed path.now all) (IsVersionsOutcome path.now all) (stored (F.asked files.old) (F.refused files.old)) (stored (F.asked files.new) (F.refused files.new)) (outcome_of output))) }
     ensures in_turn { (all : Bool) → AskedInTurn (VersionsNeed path.now all) (F.asked files.new) }
+    ensures fails { (all : Bool) → FailsInTurn (VersionsNeed path.now all) (stored (F.asked files.old) (F.refused files.old)) (stored (F.asked files.new) (F.refused files.new)) }
     ensures answers { (name : Name) (reply : Reply) → Contains (F.asked files.new) (name, reply) → F.may_answer files.old name reply }
     ensures same_store { (name : Name) (reply : Reply) → F.may_answer files.new name reply → F.may_answer files.old name reply }
 {
@@ -184,6 +185,7 @@ pub(crate) fn versions_outcome<F: Files>(
     requires { F.asked files.old ≡ [] }
     ensures comes { IfOk result (λ output. ComesTo (VersionsNeed path.now all) (IsVersionsOutcome path.now all) (stored (F.asked files.old) (F.refused files.old)) (stored (F.asked files.new) (F.refused files.new)) (outcome_of output)) }
     ensures in_turn { AskedInTurn (VersionsNeed path.now all) (F.asked files.new) }
+    ensures fails { FailsInTurn (VersionsNeed path.now all) (stored (F.asked files.old) (F.refused files.old)) (stored (F.asked files.new) (F.refused files.new)) }
     ensures answers { (name : Name) (reply : Reply) → Contains (F.asked files.new) (name, reply) → F.may_answer files.old name reply }
 {
     let versions = match listed(alloc, path, files)? {

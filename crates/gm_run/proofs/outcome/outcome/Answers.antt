@@ -23,3 +23,15 @@ returns-in-List-clause-in_turn g c = rw c.in-List.is c.query_outcome-in-List.ens
 
 pub returns-in-Chain-clause-in_turn : goal.returns-in-Chain-clause-in_turn
 returns-in-Chain-clause-in_turn g c = rw c.in-Chain.is c.query_outcome-in-Chain.ensures.in_turn
+
+pub returns-in-Versions-clause-fails : goal.returns-in-Versions-clause-fails
+returns-in-Versions-clause-fails g c = rw c.in-Versions.is c.versions_outcome.ensures.fails
+
+pub returns-in-Graph-clause-fails : goal.returns-in-Graph-clause-fails
+returns-in-Graph-clause-fails g c = rw c.in-Graph.is c.query_outcome.ensures.fails
+
+pub returns-in-List-clause-fails : goal.returns-in-List-clause-fails
+returns-in-List-clause-fails g c = rw c.in-List.is c.query_outcome-in-List.ensures.fails
+
+pub returns-in-Chain-clause-fails : goal.returns-in-Chain-clause-fails
+returns-in-Chain-clause-fails g c = rw c.in-Chain.is c.query_outcome-in-Chain.ensures.fails

@@ -1,6 +1,8 @@
-use Rattle.gm_run.proofs.Endings.{program_ends}
+use Rattle.gm_run.proofs.Endings.{no_text_ends, program_ends}
 use Rattle.gm_run.proofs.program.status_of.Goals as goal
 
-pub returns-in-Ok : goal.returns-in-Ok
-returns-in-Ok g c =
-    program_ends c.in-Ok.command c.in-Ok.places _ _ _ _ _ c.code.result c.code.ensures c.in-Ok.ensures c.serve.ensures
+pub returns-in-Err : goal.returns-in-Err
+returns-in-Err g c = no_text_ends c.in-Err.fault _ _ _ _ _ c.in-Err.ensures c.tell.ensures
+
+pub returns-in-Ok-texts_of : goal.returns-in-Ok-texts_of
+returns-in-Ok-texts_of g c = program_ends _ _ _ _ _ _ c.status_of_words.ensures

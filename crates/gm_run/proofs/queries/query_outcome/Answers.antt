@@ -1,5 +1,7 @@
+use Rattle.std.proofs.Common.{refl}
 use Rattle.std.specs.Option.{option_map}
-use Rattle.gm_run.proofs.InTurn.{in_turn}
+use Rattle.gm_run.specs.Runs.{stored}
+use Rattle.gm_run.proofs.InTurn.{fails_in_turn, in_turn}
 use Rattle.gm_run.proofs.queries.query_outcome.Goals as goal
 
 pub returns-in_err-found-clause-in_turn : goal.returns-in_err-found-clause-in_turn
@@ -9,3 +11,13 @@ returns-in_err-found-clause-in_turn g c =
 pub returns-clause-in_turn : goal.returns-clause-in_turn
 returns-clause-in_turn g c =
     in_turn c.args.main.now (option_map (λ sums. sums.now) c.args.sums) (g.F.Files.asked c.answer.new.files) c.answer.ensures.asks
+
+pub returns-in_err-found-clause-fails : goal.returns-in_err-found-clause-fails
+returns-in_err-found-clause-fails g c =
+    fails_in_turn c.args.main.now (option_map (λ sums. sums.now) c.args.sums) (g.F.Files.asked c.answer.new.files)
+    (stored (g.F.Files.asked c.args.files.now) (g.F.Files.refused c.args.files.now)) (stored (g.F.Files.asked c.answer.new.files) (g.F.Files.refused c.answer.new.files)) refl c.answer.ensures.fails
+
+pub returns-clause-fails : goal.returns-clause-fails
+returns-clause-fails g c =
+    fails_in_turn c.args.main.now (option_map (λ sums. sums.now) c.args.sums) (g.F.Files.asked c.answer.new.files)
+    (stored (g.F.Files.asked c.args.files.now) (g.F.Files.refused c.args.files.now)) (stored (g.F.Files.asked c.answer.new.files) (g.F.Files.refused c.answer.new.files)) refl c.answer.ensures.fails

@@ -1,5 +1,5 @@
 use Rattle.gm_run.specs.Runs.{stored}
-use Rattle.gm_run.proofs.Steps.{all_comes, latest_allowed, latest_comes, latest_in_turn}
+use Rattle.gm_run.proofs.Steps.{all_comes, latest_allowed, latest_comes, latest_fails, latest_in_turn}
 use Rattle.gm_run.proofs.versions.versions_outcome.Goals as goal
 
 pub returns-in-Err-clause-comes : goal.returns-in-Err-clause-comes
@@ -45,3 +45,20 @@ returns-clause-comes g c =
     let every = rw c.as_slice.ensures.value at c.in-None.ensures in
     let known = rw c.as_slice-in-None.ensures.value at c.all_outcome.ensures in
     all_comes c.args.path.now c.args.all (g.F.Files.may_answer c.args.files.now) old mid c.in-Ok.versions.items c.all_outcome.result state every known
+
+pub returns-in-Some-clause-fails : goal.returns-in-Some-clause-fails
+returns-in-Some-clause-fails g c =
+    let old = stored (g.F.Files.asked c.args.files.now) (g.F.Files.refused c.args.files.now) in
+    let mid = stored (g.F.Files.asked c.listed.new.files) (g.F.Files.refused c.listed.new.files) in
+    let new = stored (g.F.Files.asked c.latest_outcome.new.files) (g.F.Files.refused c.latest_outcome.new.files) in
+    let state = rw c.in-Ok.is at c.in_ok-versions.ensures.listed in
+    let latest = rw c.as_slice.ensures.value at c.in-Some.ensures in
+    let asked = rw c.as_slice-in-Some.ensures.value at c.latest_outcome.ensures.asked in
+    latest_fails c.args.path.now c.args.all (g.F.Files.may_answer c.args.files.now) (g.F.Files.may_answer c.listed.new.files) old mid new c.in-Ok.versions.items c.in-Some.latest.now
+    c.latest_outcome.result state latest.0 latest.1 asked
+
+pub returns-in_err-versions-clause-fails : goal.returns-in_err-versions-clause-fails
+returns-in_err-versions-clause-fails g c = c.listed.ensures.fails c.args.all
+
+pub returns-in-Err-clause-fails : goal.returns-in-Err-clause-fails
+returns-in-Err-clause-fails g c = c.listed.ensures.fails c.args.all
