@@ -22,7 +22,8 @@ use Rattle.gm_words.specs.Usage.{texts_in}
 use Rattle.gm_words.specs.declared.usage.Command.{Command}
 use Rattle.gm_words.specs.declared.usage.Command.TheVariants.{Fmt, Edit, Versions, Graph, List as Rows, Chain}
 use Rattle.gm_run.specs.Dependencies.{IsDependency, IsMisread}
-use Rattle.gm_run.specs.Kinds.{Place, directive_name, fault_line, malformed_line, place_of}
+use Rattle.gm_cache.specs.ClassWords.{directive_word}
+use Rattle.gm_run.specs.Kinds.{Place, fault_line, malformed_line, place_of}
 use Rattle.gm_run.specs.Outcome.{Outcome, printed, refused}
 use Rattle.gm_run.specs.Editing.{IsEditOutcome, edited_in_turn, edits_outcome, refusals_from}
 use Rattle.gm_run.specs.Runs.{IsFmtOutcome, StatesOutcome}
@@ -81,7 +82,7 @@ misread_once mode file one other (inr a) (inl b) = absurd (no_fault file a.0 b.0
 misread_once mode file one other (inr a) (inr b) =
     let e : Some a.1 ≡ Some b.1 = sym a.3 ∙ ap (λ (ls : List (Line Word)). fault_of mode ls) (same_plains file a.0 b.0 a.2 b.2) ∙ b.3 in
     let same : a.1 ≡ b.1 = cc in
-    let place : Fault → Place = λ fault. (fault.0, directive_name fault.1) in a.4 ∙ ap place same ∙ sym b.4
+    let place : Fault → Place = λ fault. (fault.0, directive_word fault.1) in a.4 ∙ ap place same ∙ sym b.4
 
 -- ---- edit
 

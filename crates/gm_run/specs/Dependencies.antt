@@ -8,7 +8,8 @@ use Rattle.gm_syntax.specs.Tokens.{Placed}
 use Rattle.gm_file.specs.Directives.{Lax, Mode}
 use Rattle.gm_file.specs.Faults.{Fault, fault_of}
 use Rattle.gm_file.specs.Fields.{Dependency, dependency_of}
-use Rattle.gm_run.specs.Kinds.{Place, directive_name, place_of}
+use Rattle.gm_cache.specs.ClassWords.{directive_word}
+use Rattle.gm_run.specs.Kinds.{Place, place_of}
 
 -- the bytes are a document without a fault of lax reading, which says this
 abbrev pub IsDependency : List ℕ → Dependency → Type 0
@@ -20,7 +21,7 @@ abbrev pub IsMisread : Mode → List ℕ → Place → Type 0
 IsMisread mode bytes place =
     ((fault : SyntaxFault) × IsParsedAs bytes (Err fault) × (place_of fault ≡ Some place))
     ⊎ ((lines : List (Line Placed)) × (fault : Fault) × IsParsedAs bytes (Ok lines) × (fault_of mode (plains lines) ≡ Some fault)
-    × (place ≡ (fault.0, directive_name fault.1)))
+    × (place ≡ (fault.0, directive_word fault.1)))
 
 -- they are no dependency's file, and that is wrong there
 abbrev pub IsMalformed : List ℕ → Place → Type 0

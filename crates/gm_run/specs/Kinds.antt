@@ -3,32 +3,9 @@ use Rattle.std.specs.Prelude.{◌++◌, ℕ, List, Option, Some, None, codes}
 use Rattle.std.specs.Fmt.{decimal}
 use Rattle.gm_syntax.specs.declared.fault.SyntaxFault.{SyntaxFault}
 use Rattle.gm_syntax.specs.declared.fault.SyntaxFault.TheVariants as faults
-use Rattle.gm_syntax.specs.declared.fault.SyntaxKind.{SyntaxKind}
-use Rattle.gm_syntax.specs.declared.fault.SyntaxKind.TheVariants as kinds
-use Rattle.gm_file.specs.declared.fault.DirectiveKind.{DirectiveKind}
-use Rattle.gm_file.specs.declared.fault.DirectiveKind.TheVariants as directives
 use Rattle.gm_file.specs.declared.fault.FileFault.{FileFault}
 use Rattle.gm_file.specs.declared.fault.FileFault.TheVariants as file
-
-abbrev pub kind_name : SyntaxKind → List ℕ
-kind_name kinds.BadByte = codes "BadByte"
-kind_name kinds.OpenString = codes "OpenString"
-kind_name kinds.BadEscape = codes "BadEscape"
-kind_name kinds.BlockComment = codes "BlockComment"
-kind_name kinds.StrayClose = codes "StrayClose"
-kind_name kinds.NestedOpen = codes "NestedOpen"
-kind_name kinds.OpenBlock = codes "OpenBlock"
-
-abbrev pub directive_name : DirectiveKind → List ℕ
-directive_name directives.UnknownVerb = codes "UnknownVerb"
-directive_name directives.WrongArguments = codes "WrongArguments"
-directive_name directives.BadPath = codes "BadPath"
-directive_name directives.BadVersion = codes "BadVersion"
-directive_name directives.Misfit = codes "Misfit"
-directive_name directives.Repeated = codes "Repeated"
-directive_name directives.NoModule = codes "NoModule"
-directive_name directives.ConflictingReplace = codes "ConflictingReplace"
-directive_name directives.BadGo = codes "BadGo"
+use Rattle.gm_cache.specs.ClassWords.{directive_word, syntax_word}
 
 -- a line, of which 0 is the whole file, and the name of what is wrong there
 abbrev pub Place : Type 0
@@ -39,12 +16,12 @@ abbrev pub place_of : SyntaxFault → Option Place
 place_of faults.NoMemory = None
 place_of faults.TooMany = Some (0, codes "TooMany")
 place_of faults.NotUtf8 = Some (0, codes "NotUtf8")
-place_of (faults.Syntax line kind) = Some (line, kind_name kind)
+place_of (faults.Syntax line kind) = Some (line, syntax_word kind)
 
 -- where the directives of a file are wrong
 abbrev pub directive_place : FileFault → Option Place
 directive_place file.NoMemory = None
-directive_place (file.Directive line kind) = Some (line, directive_name kind)
+directive_place (file.Directive line kind) = Some (line, directive_word kind)
 
 -- `go.mod:LINE: KIND`, of the main file
 abbrev pub fault_line : Place → List ℕ

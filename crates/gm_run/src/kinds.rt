@@ -2,44 +2,13 @@
 
 ghost use Rattle.std.specs.Prelude.{◌≡◌, ◌++◌, IfOk, codes, option_map};
 ghost use Rattle.std.specs.String.{string_bytes};
-ghost use Rattle.gm_run.specs.Kinds.{directive_name, directive_place, edit_line, fault_line, kind_name, malformed_line, place_of, vertex_text};
+ghost use Rattle.gm_run.specs.Kinds.{directive_place, edit_line, fault_line, malformed_line, place_of, vertex_text};
 
-use gm_file::{DirectiveKind, FileFault};
+use gm_cache::Misreading;
+use gm_file::FileFault;
 use gm_name::{ModPath, ModVersion, NoMemory};
-use gm_syntax::fault::{SyntaxFault, SyntaxKind};
+use gm_syntax::fault::SyntaxFault;
 use std::alloc::Global;
-
-/// The name of what is wrong with a line's words.
-fn kind_name(kind: SyntaxKind) -> &'static str
-    ensures { result.now ≡ kind_name kind }
-{
-    match kind {
-        SyntaxKind::BadByte => "BadByte",
-        SyntaxKind::OpenString => "OpenString",
-        SyntaxKind::BadEscape => "BadEscape",
-        SyntaxKind::BlockComment => "BlockComment",
-        SyntaxKind::StrayClose => "StrayClose",
-        SyntaxKind::NestedOpen => "NestedOpen",
-        SyntaxKind::OpenBlock => "OpenBlock",
-    }
-}
-
-/// The name of what is wrong with a directive.
-fn directive_name(kind: DirectiveKind) -> &'static str
-    ensures { result.now ≡ directive_name kind }
-{
-    match kind {
-        DirectiveKind::UnknownVerb => "UnknownVerb",
-        DirectiveKind::WrongArguments => "WrongArguments",
-        DirectiveKind::BadPath => "BadPath",
-        DirectiveKind::BadVersion => "BadVersion",
-        DirectiveKind::Misfit => "Misfit",
-        DirectiveKind::Repeated => "Repeated",
-        DirectiveKind::NoModule => "NoModule",
-        DirectiveKind::ConflictingReplace => "ConflictingReplace",
-        DirectiveKind::BadGo => "BadGo",
-    }
-}
 
 /// The line and the name of what is wrong with a file's syntax; line 0 is the whole file. There is none for want of memory.
 pub(crate) fn place_of(fault: SyntaxFault) -> Option<(usize, &'static str)>
@@ -47,9 +16,9 @@ pub(crate) fn place_of(fault: SyntaxFault) -> Option<(usize, &'static str)>
 {
     match fault {
         SyntaxFault::NoMemory => None,
-        SyntaxFault::TooMany => Some((0, "TooMany")),
-        SyntaxFault::NotUtf8 => Some((0, "NotUtf8")),
-        SyntaxFault::Syntax { line, kind } => Some((line, kind_name(kind))),
+        SyntaxFault::TooMany => Some((0, Misreading::TooMany.word())),
+        SyntaxFault::NotUtf8 => Some((0, Misreading::NotUtf8.word())),
+        SyntaxFault::Syntax { line, kind } => Some((line, Misreading::Syntax(kind).word())),
     }
 }
 
@@ -59,7 +28,7 @@ pub(crate) fn directive_place(fault: FileFault) -> Option<(usize, &'static str)>
 {
     match fault {
         FileFault::NoMemory => None,
-        FileFault::Directive { line, kind } => Some((line, directive_name(kind))),
+        FileFault::Directive { line, kind } => Some((line, Misreading::Directive(kind).word())),
     }
 }
 
