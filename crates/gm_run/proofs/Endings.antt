@@ -54,14 +54,19 @@ pub no_text_ends : (fault : UsageFault) (out out' report report' : Sunk) (status
 no_text_ends fault out out' report report' status is ends =
     ends_wider (λ outcome. outcome ≡ usage_outcome fault) IsProgramOutcome out out' report report' status (λ outcome same. inr (fault, is, same)) ends
 
+-- the same end with the same status
+pub same_status : (out out' report report' : Sunk) (status code : ℕ) → code ≡ status → Ends IsProgramOutcome out out' report report' status
+    → Ends IsProgramOutcome out out' report report' code
+same_status out out' report report' status code same ends = subst (λ (n : ℕ). Ends IsProgramOutcome out out' report report' n) (sym same) ends
+
 -- the status of the process is that of the program's end
-pub program_status : (out out' report report' : Sunk) (status code : ℕ) → code ≡ status → Ends IsProgramOutcome out out' report report' status → IsProgramStatus code
-program_status out out' report report' status code same ends = elim ends.written [
+pub program_status : (out out' report report' : Sunk) (status : ℕ) → Ends IsProgramOutcome out out' report report' status → IsProgramStatus status
+program_status out out' report report' status ends = elim ends.written [
   | inl whole ↦ elim ends.as_stated [
-    | inl stated ↦ inl (ends.outcome, stated, same ∙ whole.1)
-    | inr memory ↦ inr (same ∙ whole.1 ∙ ap (λ (outcome : Outcome). outcome.status) memory)
+    | inl stated ↦ inl (ends.outcome, stated, whole.1)
+    | inr memory ↦ inr (whole.1 ∙ ap (λ (outcome : Outcome). outcome.status) memory)
   ]
-  | inr part ↦ inr (same ∙ part.1)
+  | inr part ↦ inr part.1
 ]
 
 -- `fmt` and `edit` need no file, so their outcome is by the bytes alone

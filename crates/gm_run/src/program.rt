@@ -38,7 +38,21 @@ pub fn exit_code(rt: &HostRuntime) -> ExitCode
 {
     let mut out = StdSink::new(rt.stdout());
     let mut report = StdSink::new(rt.stderr());
-    ExitCode::from(status_of(rt, &mut out, &mut report))
+    ended(rt, &mut out, &mut report)
+}
+
+/// The program over two sinks, with the status of the process.
+fn ended<S: Env + Input + Files + Clone + Drop + Alloc<A = Global>, O: Sink, R: Sink>(
+    rt: &S,
+    out: &mut O,
+    report: &mut R,
+) -> ExitCode
+    ensures { Ends IsProgramOutcome
+        (sunk (O.taken out.old) (O.room out.old) (O.fault_count out.old)) (sunk (O.taken out.new) (O.room out.new) (O.fault_count out.new))
+        (sunk (R.taken report.old) (R.room report.old) (R.fault_count report.old)) (sunk (R.taken report.new) (R.room report.new) (R.fault_count report.new))
+        (exit_status result) }
+{
+    ExitCode::from(status_of(rt, out, report))
 }
 
 /// Reads the words of the command line, and does what `status_of_words` does for them. Where one of them is no text, the report says
