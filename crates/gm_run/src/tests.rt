@@ -15,6 +15,7 @@ mod layouts;
 mod long_files;
 mod many_modules;
 mod projects;
+mod real_folders;
 mod refusals;
 mod version_lists;
 mod worked;

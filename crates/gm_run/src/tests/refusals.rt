@@ -29,9 +29,9 @@ const PAGE: Answer = (
 );
 
 /// A project, and what `list` comes to.
-type Listed = (Project, &'static [u8]);
+pub(super) type Listed = (Project, &'static [u8]);
 
-const OF_MODULES: &[Listed] = &[
+pub(super) const OF_MODULES: &[Listed] = &[
     (GREATEST, GREATEST_LISTED),
     (PRUNED, PRUNED_LISTED),
     (UNPRUNED, UNPRUNED_LISTED),

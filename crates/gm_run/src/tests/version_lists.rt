@@ -29,12 +29,12 @@ const LATEST: &str = "v1.2.0";
 
 /// `versions` of a path, with the bytes of its list and of the file of its latest version, where there are some.
 #[derive(Clone, Copy)]
-struct Asked {
-    path: &'static str,
+pub(super) struct Asked {
+    pub(super) path: &'static str,
     all: bool,
-    list: Option<&'static [u8]>,
-    latest: &'static str,
-    file: Option<&'static [u8]>,
+    pub(super) list: Option<&'static [u8]>,
+    pub(super) latest: &'static str,
+    pub(super) file: Option<&'static [u8]>,
 }
 
 fn hidden(file: &'static [u8]) -> Asked {
@@ -93,7 +93,7 @@ fn store_for(alloc: Global, asked: Asked) -> Option<MemoryFiles>
     with_file(alloc, store, latest, asked.file)
 }
 
-fn command_for(alloc: Global, asked: Asked) -> Option<Command> {
+pub(super) fn command_for(alloc: Global, asked: Asked) -> Option<Command> {
     Some(Command::Versions {
         path: ModPath::parse(alloc, asked.path).ok()?,
         all: asked.all,
@@ -113,7 +113,7 @@ fn versions(alloc: Global, asked: Asked, rooms: (usize, usize)) -> Option<Ran> {
     )
 }
 
-fn rows_of_one_store() -> [(Asked, Wanted); 19] {
+pub(super) fn rows_of_one_store() -> [(Asked, Wanted); 19] {
     [
         (whole(PATH, LIST), prints(LIST_SHOWN, 1)),
         (whole(PATH, b""), prints(b"example.com/p\n", 1)),
