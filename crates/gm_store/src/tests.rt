@@ -3,11 +3,13 @@
 //! One refused growth is forgiven, by a second try: want of memory twice in a row fails a test.
 
 mod folders;
+mod latest_versions;
 mod lists;
 mod names;
 mod proxies;
 mod reading;
 mod sinks;
+mod steps;
 mod stores;
 
 use crate::{FileName, NoMemory};

@@ -4,11 +4,15 @@ use crate::{NoMemory, versions_of};
 use gm_name::{ModPath, ModVersion, PathFault};
 use std::test::Fail;
 
-fn path(rt: &HostRuntime, text: &str) -> Result<ModPath, PathFault> {
+pub(super) fn path(rt: &HostRuntime, text: &str) -> Result<ModPath, PathFault> {
     ModPath::parse(rt.alloc(), text).or_else(|_| ModPath::parse(rt.alloc(), text))
 }
 
-fn versions(rt: &HostRuntime, path: &ModPath, list: &[u8]) -> Result<Vec<ModVersion>, NoMemory> {
+pub(super) fn versions(
+    rt: &HostRuntime,
+    path: &ModPath,
+    list: &[u8],
+) -> Result<Vec<ModVersion>, NoMemory> {
     versions_of(rt.alloc(), path, list).or_else(|_| versions_of(rt.alloc(), path, list))
 }
 
