@@ -1,7 +1,20 @@
 //! Shortest chains: ties, cycles, and which version they end at.
 
-use super::projects::{LIST, Project, Query, Row, holds};
+use super::projects::{File, LIST, Project, Query, Row, holds};
 use std::test::Fail;
+
+const B_REQUIRES_C: File = (
+    "example.com/b@v1.0.0",
+    b"module example.com/b\nrequire example.com/c v1.0.0\n",
+);
+
+const C: File = ("example.com/c@v1.0.0", b"module example.com/c\n");
+
+const A_B_AND_C: &[&str] = &[
+    "example.com/a@v1.0.0",
+    "example.com/b@v1.0.0",
+    "example.com/c@v1.0.0",
+];
 
 const CHAINS: &[Row] = &[
     // the least of two predecessors
@@ -14,17 +27,10 @@ const CHAINS: &[Row] = &[
                     "example.com/a@v1.0.0",
                     b"module example.com/a\nrequire example.com/c v1.0.0\n",
                 ),
-                (
-                    "example.com/b@v1.0.0",
-                    b"module example.com/b\nrequire example.com/c v1.0.0\n",
-                ),
-                ("example.com/c@v1.0.0", b"module example.com/c\n"),
+                B_REQUIRES_C,
+                C,
             ],
-            asked: &[
-                "example.com/a@v1.0.0",
-                "example.com/b@v1.0.0",
-                "example.com/c@v1.0.0",
-            ],
+            asked: A_B_AND_C,
         },
         &[(
             Query::Chain("example.com/c"),
@@ -42,17 +48,10 @@ const CHAINS: &[Row] = &[
                     "example.com/a@v1.0.0",
                     b"module example.com/a\nrequire example.com/b v1.0.0\n",
                 ),
-                (
-                    "example.com/b@v1.0.0",
-                    b"module example.com/b\nrequire example.com/c v1.0.0\n",
-                ),
-                ("example.com/c@v1.0.0", b"module example.com/c\n"),
+                B_REQUIRES_C,
+                C,
             ],
-            asked: &[
-                "example.com/a@v1.0.0",
-                "example.com/b@v1.0.0",
-                "example.com/c@v1.0.0",
-            ],
+            asked: A_B_AND_C,
         },
         &[(
             Query::Chain("example.com/c"),
@@ -70,7 +69,7 @@ const CHAINS: &[Row] = &[
                     "example.com/a@v1.0.0",
                     b"module example.com/a\nrequire example.com/c v1.1.0\n",
                 ),
-                ("example.com/c@v1.0.0", b"module example.com/c\n"),
+                C,
                 ("example.com/c@v1.1.0", b"module example.com/c\n"),
             ],
             asked: &[
@@ -144,7 +143,7 @@ const CHAINS: &[Row] = &[
                     "example.com/a@v1.9.0",
                     b"module example.com/a\nrequire example.com/c v1.0.0\n",
                 ),
-                ("example.com/c@v1.0.0", b"module example.com/c\n"),
+                C,
             ],
             asked: &[
                 "example.com/a@v1.10.0",

@@ -4,8 +4,8 @@ ghost use Rattle.std.specs.Prelude.{◌≡◌, [], IfSome};
 ghost use Rattle.gm_store.specs.Views.{asked_by};
 
 use super::module_file;
-use super::stores::{Lies, ROWS, answered_once, content, list_name};
-use crate::{AskFault, FileName, Files, FolderFiles, LIMIT, Mark, ProxyList};
+use super::stores::{Lies, ROWS, answers_once, content, list_name};
+use crate::{FileName, FolderFiles, LIMIT, Mark, ProxyList};
 use std::{env, fs, io, process};
 
 // A text below a folder.
@@ -73,14 +73,9 @@ fn folders_answer(
     lay_list(rt, below(rt, root, "first").ok()?.as_str(), first).ok()?;
     lay_list(rt, below(rt, root, "second").ok()?.as_str(), second).ok()?;
     let mut store = store_below(rt, root, mark)?;
-    let name = list_name(rt)?;
-    let is_answered = match store.ask(&name) {
-        Ok(()) => answered_once(&store, &name, want),
-        Err(AskFault::Device) => want == Lies::Broken && store.count() == 0,
-        Err(AskFault::NoMemory) => return None,
-    };
+    let is_answered = answers_once(&mut store, &list_name(rt)?, want, faults);
     fs::remove_dir_all(rt, root).ok()?;
-    Some(is_answered && store.faults() == faults)
+    is_answered
 }
 
 #[test]
@@ -143,11 +138,8 @@ const FILES: &'static [(
 // What a store over folders answers to a name.
 fn store_answers(rt: &HostRuntime, root: &str, name: &FileName, want: Lies) -> Option<bool> {
     let mut store = store_below(rt, root, Mark::Comma)?;
-    match store.ask(name) {
-        Ok(()) => Some(answered_once(&store, name, want) && store.faults() == 0),
-        Err(AskFault::Device) => Some(want == Lies::Broken && store.faults() == 1),
-        Err(AskFault::NoMemory) => None,
-    }
+    let faults = if want == Lies::Broken { 1 } else { 0 };
+    answers_once(&mut store, name, want, faults)
 }
 
 // What is answered to a name where one file lies in a folder.

@@ -47,8 +47,26 @@ fn answers(answer: &Answer, lies: Lies) -> bool {
 }
 
 // Whether a store was asked for this name alone and answered what lies there.
-pub(super) fn answered_once<S: Files>(store: &S, name: &FileName, lies: Lies) -> bool {
+fn answered_once<S: Files>(store: &S, name: &FileName, lies: Lies) -> bool {
     store.count() == 1 && store.name(0).is_same(name) && answers(store.answer(0), lies)
+}
+
+// Whether a store that was asked for nothing answers a name so, with this count of failures. A broken file stands for a failed
+// device. There is no answer where memory ran out.
+pub(super) fn answers_once<S: Files>(
+    store: &mut S,
+    name: &FileName,
+    want: Lies,
+    faults: u64,
+) -> Option<bool>
+    requires { S.asked store.old ≡ [] }
+{
+    let is_answered = match store.ask(name) {
+        Ok(()) => answered_once(store, name, want),
+        Err(AskFault::Device) => want == Lies::Broken && store.count() == 0,
+        Err(AskFault::NoMemory) => return None,
+    };
+    Some(is_answered && store.faults() == faults)
 }
 
 fn path(rt: &HostRuntime) -> Option<ModPath> {
@@ -207,7 +225,7 @@ pub(super) const ROWS: &'static [(Lies, Mark, Lies, Lies, u64)] = &[
     (Lies::Nothing, Mark::Comma, Lies::Nothing, Lies::Nothing, 0),
 ];
 
-// What two folders answer, with the count of failures; a broken file stands for a failed device.
+// What two folders answer, with the count of failures.
 fn folders_answer(
     rt: &HostRuntime,
     first: Lies,
@@ -217,13 +235,7 @@ fn folders_answer(
     faults: u64,
 ) -> Option<bool> {
     let mut store = folders(rt, first, mark, second)?;
-    let name = list_name(rt)?;
-    let is_answered = match store.ask(&name) {
-        Ok(()) => answered_once(&store, &name, want),
-        Err(AskFault::Device) => want == Lies::Broken && store.count() == 0,
-        Err(AskFault::NoMemory) => return None,
-    };
-    Some(is_answered && store.faults() == faults)
+    answers_once(&mut store, &list_name(rt)?, want, faults)
 }
 
 #[test]
