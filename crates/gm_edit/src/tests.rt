@@ -3,6 +3,7 @@
 //! A row that ends for want of memory is tried a second time, and has to end as it should then: a script refuses each
 //! allocation of each test in turn.
 
+mod comments;
 mod exclusions;
 mod fields;
 mod growths;
