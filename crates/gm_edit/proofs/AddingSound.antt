@@ -56,7 +56,7 @@ said-held block (line ∷ lines) =
 pub file-held : (lines : List (Line Placed)) → directives Strict (plains lines) ≡ held_from None lines
 file-held lines = said-held None lines
 
-held-append : (block : Option Placed) (front back : List (Line Placed)) → held_from block (front ++ back) ≡ held_from block front ++ held_from (block_after block front) back
+pub held-append : (block : Option Placed) (front back : List (Line Placed)) → held_from block (front ++ back) ≡ held_from block front ++ held_from (block_after block front) back
 held-append block [] back = refl
 held-append block (line ∷ front) back =
     let held : List Directive = option_to_list (held_at block line) in
@@ -65,7 +65,7 @@ held-append block (line ∷ front) back =
 
 -- ---- the lines behind a place, and others there
 
-back-sound : (earlier : List Directive) (block : Option Placed) (front back : List (Line Placed)) → SoundFrom earlier block (front ++ back) → SoundFrom (earlier ++ held_from block front) (block_after block front) back
+pub back-sound : (earlier : List Directive) (block : Option Placed) (front back : List (Line Placed)) → SoundFrom earlier block (front ++ back) → SoundFrom (earlier ++ held_from block front) (block_after block front) back
 back-sound earlier block [] back sound = subst (λ (ds : List Directive). SoundFrom ds block back) (sym (append-nil earlier)) sound
 back-sound earlier block (line ∷ front) back sound =
     let held : List Directive = option_to_list (held_at block line) in
@@ -332,7 +332,7 @@ verb-passed verb.Retract (Retracts ends) e = refl
 verb-passed v d e = absurd cc
 
 -- the verb of the block that is open, if one is
-abbrev IsOfVerb : AddedVerb → Option Placed → Type 0
+abbrev pub IsOfVerb : AddedVerb → Option Placed → Type 0
 IsOfVerb v None = ⊤
 IsOfVerb v (Some t) = verb_in Strict t.word.spelling ≡ verb_of v
 
@@ -346,7 +346,7 @@ passing-verb v (Some t) (Open opened suffix) (Some d) is e = absurd cc
 passing-verb v (Some t) (Close suffix) (Some d) is e = absurd cc
 passing-verb v (Some t) (Entry words suffix) (Some d) is e = sym (verb-said (verb_in Strict t.word.spelling) (words_of words) d is) ∙ verb-passed v d e
 
-passing-level : (test : Directive → Bool) (block : Option Placed) (line : Line Placed) → passes test (held_at block line) ≡ true → block_behind block line ≡ block
+pub passing-level : (test : Directive → Bool) (block : Option Placed) (line : Line Placed) → passes test (held_at block line) ≡ true → block_behind block line ≡ block
 unfolding item_at
 passing-level test block Blank e = refl
 passing-level test block (Comment text) e = refl
@@ -379,7 +379,7 @@ mapped-further None spot e = absurd cc
 mapped-further (Some s) spot e = (s, refl, cc)
 
 -- behind the last entry of a verb
-abbrev IsVerbSpot : AddedVerb → Option Placed → List (Line Placed) → Spot → Type 0
+abbrev pub IsVerbSpot : AddedVerb → Option Placed → List (Line Placed) → Spot → Type 0
 IsVerbSpot v block lines spot = IsIn block lines spot × IsOfVerb v (block_after block (take spot.before lines))
 
 last-step : (v : AddedVerb) (block : Option Placed) (line : Line Placed) (lines : List (Line Placed)) (later : Option Spot) (spot : Spot)
@@ -394,7 +394,7 @@ last-step v block line lines None spot h e =
     let level : block_behind block line ≡ block = passing-level (is_of v) block line here.0 in
     subst (IsVerbSpot v block (line ∷ lines)) here.1 (in-here (is_of v) block line lines here.0, subst (IsOfVerb v) (sym level) (passing-verb v block line (held_at block line) refl here.0))
 
-last-is : (v : AddedVerb) (block : Option Placed) (lines : List (Line Placed)) (spot : Spot) → behind_last (is_of v) block lines ≡ Some spot → IsVerbSpot v block lines spot
+pub last-is : (v : AddedVerb) (block : Option Placed) (lines : List (Line Placed)) (spot : Spot) → behind_last (is_of v) block lines ≡ Some spot → IsVerbSpot v block lines spot
 last-is v block [] spot e = absurd cc
 last-is v block (line ∷ lines) spot e = last-step v block line lines (behind_last (is_of v) (block_behind block line) lines) spot (λ s f. last-is v (block_behind block line) lines s f) e
 
@@ -442,7 +442,7 @@ past-inside lines n sound is =
     ap (block_after None) (take-add n (close_len back) lines) ∙ block-append None (take n lines) (take (close_len back) back)
     ∙ closed-in (held_from None (take n lines)) (block_after None (take n lines)) back is (back-sound [] None (take n lines) back whole)
 
-past-outside : (lines : List (Line Placed)) (spot : Spot) → SoundFrom [] None lines → IsIn None lines spot → block_after None (take (past_block lines spot) lines) ≡ None
+pub past-outside : (lines : List (Line Placed)) (spot : Spot) → SoundFrom [] None lines → IsIn None lines spot → block_after None (take (past_block lines spot) lines) ≡ None
 past-outside lines spot sound is = elim (cases_Bool spot.inside) [
   | inl inside ↦ rw inside (past-inside lines spot.before sound (is.inside ∙ inside))
   | inr outside ↦ rw outside (no-block (block_after None (take spot.before lines)) (is.inside ∙ outside))
@@ -474,7 +474,7 @@ verb-written verb.Exclude = refl
 verb-written verb.Replace = refl
 verb-written verb.Retract = refl
 
-entry-fits : (v : AddedVerb) (arguments : List Placed) (new : Directive) (block : Option Placed) → IsOfVerb v block → IsAddition v arguments new → Fits block new (entry_at (is_some block) (verb_text v) arguments)
+pub entry-fits : (v : AddedVerb) (arguments : List Placed) (new : Directive) (block : Option Placed) → IsOfVerb v block → IsAddition v arguments new → Fits block new (entry_at (is_some block) (verb_text v) arguments)
 unfolding item_at
 entry-fits v arguments new None is so = single-fits (verb_text v) (verb_of v) arguments new (verb-written v) so.filled so.says so.alone
 entry-fits v arguments new (Some t) is so = record { stands = so.inside; holds = ap (λ (x : Verb). directive_of x (words_of arguments)) is ∙ so.says; level = refl }

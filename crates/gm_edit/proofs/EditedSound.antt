@@ -46,7 +46,7 @@ or-nothing : (b : Bool) → b ≡ (b || false)
 or-nothing true = refl
 or-nothing false = refl
 
-passes-list : (test : Directive → Bool) (held : Option Directive) → passes test held ≡ list_any test (option_to_list held)
+pub passes-list : (test : Directive → Bool) (held : Option Directive) → passes test held ≡ list_any test (option_to_list held)
 passes-list test None = refl
 passes-list test (Some d) = or-nothing (test d)
 
@@ -57,7 +57,7 @@ or-none false b e = (refl, e)
 or-neither : (a b : Bool) → a ≡ false → b ≡ false → (a || b) ≡ false
 or-neither a b e f = rw (e, f) refl
 
-none-from : (test : Directive → Bool) (block : Option Placed) (lines : List (Line Placed)) → is_there_from test block lines ≡ false → list_any test (held_from block lines) ≡ false
+pub none-from : (test : Directive → Bool) (block : Option Placed) (lines : List (Line Placed)) → is_there_from test block lines ≡ false → list_any test (held_from block lines) ≡ false
 none-from test block [] e = refl
 none-from test block (line ∷ lines) e =
     let parts = or-none (passes test (held_at block line)) (is_there_from test (block_behind block line) lines) e in
@@ -78,7 +78,7 @@ entry-inside arguments are = entry_stands true (words_of arguments) None (record
   closes_nothing = are.closes_nothing;
 })
 
-entry-alone : (text : List ℕ) (arguments : List Placed) → HasNoLineFeed text → AreArguments arguments → CanStand false (plain (single text arguments))
+pub entry-alone : (text : List ℕ) (arguments : List Placed) → HasNoLineFeed text → AreArguments arguments → CanStand false (plain (single text arguments))
 entry-alone text arguments plain_text are = entry_stands false (new_word text ∷ words_of arguments) None (record {
   are_words = (made-stands text plain_text, are.words);
   is_suffix = tt;
@@ -93,10 +93,10 @@ verb-feed verb.Exclude = no-feed (λ b. not (b == 10)) refl (codes "exclude") re
 verb-feed verb.Replace = no-feed (λ b. not (b == 10)) refl (codes "replace") refl
 verb-feed verb.Retract = no-feed (λ b. not (b == 10)) refl (codes "retract") refl
 
-addition : (v : AddedVerb) (arguments : List Placed) (new : Directive) → AreArguments arguments → directive_of (verb_of v) (words_of arguments) ≡ Some new → IsAddition v arguments new
+pub addition : (v : AddedVerb) (arguments : List Placed) (new : Directive) → AreArguments arguments → directive_of (verb_of v) (words_of arguments) ≡ Some new → IsAddition v arguments new
 addition v arguments new are says = record { inside = entry-inside arguments are; alone = entry-alone (verb_text v) arguments (verb-feed v) are; filled = are.no_block; says = says }
 
-pair-are : (p : Pair) → IsPairOfNames p → AreArguments (pair_words p)
+pub pair-are : (p : Pair) → IsPairOfNames p → AreArguments (pair_words p)
 pair-are p names = record {
   words = (made-stands p.0 (path-feed p.0 names.0), (made-stands p.1 (version-feed p.1 names.1), tt));
   filled = omega arith;
@@ -105,11 +105,11 @@ pair-are p names = record {
   no_block = rw (made-no-mark 40 p.0) refl;
 }
 
-require-says : (p : Pair) → IsPairOfNames p → directive_of ForRequire (words_of (pair_words p)) ≡ Some (Requires p)
+pub require-says : (p : Pair) → IsPairOfNames p → directive_of ForRequire (words_of (pair_words p)) ≡ Some (Requires p)
 unfolding directive_of
 require-says p names = rw (made-value p.0 (path-feed p.0 names.0), made-value p.1 (version-feed p.1 names.1)) refl
 
-exclude-says : (p : Pair) → IsPairOfNames p → directive_of ForExclude (words_of (pair_words p)) ≡ Some (Excludes p)
+pub exclude-says : (p : Pair) → IsPairOfNames p → directive_of ForExclude (words_of (pair_words p)) ≡ Some (Excludes p)
 unfolding directive_of
 exclude-says p names = rw (made-value p.0 (path-feed p.0 names.0), made-value p.1 (version-feed p.1 names.1)) refl
 
@@ -125,7 +125,7 @@ ends-kinds : (ends : Pair) (earlier : List Directive) → AreVersions ends → d
 unfolding directive_kinds
 ends-kinds ends earlier are = rw (are.0, are.1) refl
 
-ends-are : (ends : Pair) → AreVersions ends → AreArguments (interval_words ends)
+pub ends-are : (ends : Pair) → AreVersions ends → AreArguments (interval_words ends)
 ends-are ends are =
     let low = version-feed ends.0 are.0 in
     let high = version-feed ends.1 are.1 in
@@ -140,7 +140,7 @@ ends-are ends are =
       })
     ]
 
-ends-says : (ends : Pair) → AreVersions ends → directive_of ForRetract (words_of (interval_words ends)) ≡ Some (Retracts ends)
+pub ends-says : (ends : Pair) → AreVersions ends → directive_of ForRetract (words_of (interval_words ends)) ≡ Some (Retracts ends)
 unfolding directive_of
 ends-says ends are =
     let low = made-value ends.0 (version-feed ends.0 are.0) in
@@ -150,7 +150,7 @@ ends-says ends are =
       | inr apart ↦ rw (apart, low, high) refl
     ]
 
-go-named : verb_in Strict (new_word (codes "go")).spelling ≡ ForGo
+pub go-named : verb_in Strict (new_word (codes "go")).spelling ≡ ForGo
 unfolding can_be_bare bare_len is_word_byte is_blank is_bracket_or_comma is_quote is_bad
 go-named = refl
 

@@ -326,7 +326,7 @@ more-lines b m ms ys sound = subst (λ (all : List Marked). SoundFrom ys None (O
 more-marks : (new : Directive) (there : Bool) (b : Block) (m : Marked) (ms : List Marked) → OldMarks new there (Some b) (m ∷ ms) → OldMarks new there (Some (with_marked b m)) ms
 more-marks new there b m ms marked = subst (AreMarked new there (Some b.verb)) (sym (append_assoc b.inner (m ∷ []) ms)) marked
 
-emptied-inner : (before : Option (List ℕ)) (inner : List Fate) (suffix : Option (List ℕ)) → is_emptied before inner suffix ≡ true → list_all leaves_nothing inner ≡ true
+pub emptied-inner : (before : Option (List ℕ)) (inner : List Fate) (suffix : Option (List ℕ)) → is_emptied before inner suffix ≡ true → list_all leaves_nothing inner ≡ true
 emptied-inner before inner suffix e =
     let outer = and_both (list_any is_none inner && list_all leaves_nothing inner && is_none before) (is_none suffix) e in
     let next = and_both (list_any is_none inner && list_all leaves_nothing inner) (is_none before) outer.0 in

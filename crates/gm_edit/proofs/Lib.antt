@@ -16,3 +16,5 @@ pub mod AddingSound
 pub mod AddingCode
 pub mod EditedSound
 pub mod Places
+pub mod Said
+pub mod SaidAfter

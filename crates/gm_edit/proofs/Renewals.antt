@@ -224,7 +224,7 @@ version-same None (Some w) e = absurd cc
 version-same (Some v) None e = absurd cc
 version-same (Some v) (Some w) e = ap Some ((bytes_eq-Decides v w).0 e)
 
-version-itself : (v : Option (List ℕ)) → is_same_version v v ≡ true
+pub version-itself : (v : Option (List ℕ)) → is_same_version v v ≡ true
 version-itself None = refl
 version-itself (Some v) = (bytes_eq-Decides v v).1 refl
 

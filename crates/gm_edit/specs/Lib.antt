@@ -9,3 +9,4 @@ pub mod Sound
 pub mod Searching
 pub mod Adding
 pub mod Changes
+pub mod Laws

@@ -8,6 +8,7 @@ ghost use Rattle.gm_file.specs.Directives.{Strict};
 ghost use Rattle.gm_file.specs.Faults.{fault_of};
 ghost use Rattle.gm_edit.specs.Changes.{edited, is_fit};
 ghost use Rattle.gm_edit.specs.Edits.{Edit, edit_in};
+ghost use Rattle.gm_edit.specs.Laws.{AddedIsThere, DroppedIsGone, OthersStay, SetStandsAlone};
 
 /// The lines of a file without a fault, after an operation that some text writes and that puts in no version that doesn't
 /// fit its path, are a document, and strict reading of them has no fault.
@@ -20,4 +21,25 @@ pub fn edited_lines_are_read()
 /// What an operation leaves of a file doesn't depend on where its words stood: of two lists of the same lines it leaves the same lines.
 pub fn places_are_not_looked_at()
     ensures { (edit : Edit) (lines others : List (Line Placed)) → plains lines ≡ plains others → plains (edited edit lines) ≡ plains (edited edit others) }
+{}
+
+/// Of what an operation drops nothing is left: after `droprequire=P` no directive requires P, and so on.
+pub fn what_is_dropped_is_gone()
+    ensures { DroppedIsGone }
+{}
+
+/// After `require=P@V` one directive alone requires P, at V; after `module=P` and `go=V` it is the one module, the one go
+/// directive; after a `replace` the one with that left, or with that path where the left has no version.
+pub fn what_is_set_stands_alone()
+    ensures { SetStandsAlone }
+{}
+
+/// After `exclude=P@V` that is excluded, and after `retract=[V,W]` that is retracted.
+pub fn what_is_added_is_there()
+    ensures { AddedIsThere }
+{}
+
+/// The directives that an operation isn't about are the same list before and after it.
+pub fn other_directives_stay()
+    ensures { OthersStay }
 {}
