@@ -11,6 +11,7 @@ mod headers;
 mod replacements;
 mod requirements;
 mod retractions;
+mod same_sets;
 mod spellings;
 mod worked;
 
