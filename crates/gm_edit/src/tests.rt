@@ -8,6 +8,7 @@ mod exclusions;
 mod fields;
 mod growths;
 mod headers;
+mod places;
 mod replacements;
 mod requirements;
 mod retractions;
