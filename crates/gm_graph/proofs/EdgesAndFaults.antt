@@ -1,12 +1,13 @@
 -- Gathering edges and faults.
-use Rattle.std.proofs.Common.{◌≡◌, ◌+◌, ◌<◌, cond, ℕ, Bool, List, [], ◌∷◌, ◌++◌, length, take, get_or, Option, Some, None, Contains, ap, ◌∙◌, sym, subst, inl, inr, arith, append_assoc, append-nil}
+use Rattle.std.proofs.Common.{◌≡◌, cond, zero, suc, Bool, List, [], ◌∷◌, ◌++◌, Option, Some, None, Contains, ap, ◌∙◌, sym, refl, subst, inl, inr, arith, append_assoc, append-nil}
 use Rattle.std.specs.Prelude.{if◌then◌else◌}
 use Rattle.std.specs.BTreeMap as map
 use Rattle.std.specs.BTreeMap.{is_at}
 use Rattle.std.specs.Map.{lookup}
 use Rattle.std.specs.Ordering.{is_eq}
-use Rattle.std.proofs.lemmas.List.{take_more}
-use Rattle.std.proofs.lemmas.List.Elements.{Contains-append_left, Contains-push, Contains-push_cases}
+use Rattle.std.specs.List.Sorted.{IsPermutation}
+use Rattle.std.proofs.lemmas.List.Elements.{Contains-append_cases, Contains-append_left, Contains-append_right}
+use Rattle.std.proofs.lemmas.List.Sorted.{Contains-permutation, IsPermutation-sym}
 use Rattle.gm_file.proofs.Sets.{pair-ties}
 use Rattle.gm_cache.specs.declared.class.Class.{Class}
 use Rattle.gm_cache.specs.declared.finding.Finding.{Finding}
@@ -14,11 +15,16 @@ use Rattle.gm_cache.specs.declared.finding.Finding.TheVariants.{Fault}
 use Rattle.gm_cache.specs.Main.{Main, Vertex, kept}
 use Rattle.gm_cache.specs.Reading.{Readings}
 use Rattle.gm_select.specs.declared.step.Edge.{Edge}
+use Rattle.gm_select.specs.declared.step.Step.{Step}
 use Rattle.gm_select.specs.declared.step.Step.TheVariants.{Main as FromMain, Of}
 use Rattle.gm_select.specs.Graph.{edge, vertex_cmp}
+use Rattle.gm_select.specs.Order.{HaveSame}
 use Rattle.gm_graph.specs.declared.gathering.Gathered.{Gathered}
-use Rattle.gm_graph.specs.Gathering.{AddsEdges, AreGathered, faults_in, found_fault, noted}
+use Rattle.gm_graph.specs.declared.leaving.Leaving.{Leaving}
+use Rattle.gm_graph.specs.Gathering.{AddsEdges, AreGathered, edges_in, faults_in, found_fault, noted}
 use Rattle.gm_graph.specs.Graph.{IsEdge, same_vertex}
+use Rattle.gm_graph.specs.Leaving.{edges_from, edges_of}
+use Rattle.gm_graph.proofs.Mapped.{from_mapped, in_mapped}
 
 -- a fault that is put into the map
 pub fault_put : (old new : map.BTreeMap Vertex Class) (x v : Vertex) (class : Class) (found : Finding) → found ≡ Fault class → v ≡ x
@@ -36,60 +42,61 @@ no_fault_put old new x found e same q =
     ap (λ (m : map.BTreeMap Vertex Class). map.get vertex_cmp m q) same
     ∙ ap (λ (o : Option Class). noted o x (λ y. map.get vertex_cmp old y) q) (sym e)
 
-pub edges_none : (old : List Edge) (x : Vertex) → AddsEdges old old x []
-edges_none old x = record {
-  extends = ([], sym (append-nil old));
-  each = λ y h. absurd (omega (arith, h.1));
-  only = λ one h. inl h;
-}
+-- ---- the edges of groups, each of which leaves one step
 
--- one more edge
-pub edges_more : (old mid new : List Edge) (x : Vertex) (ys : List Vertex) (i : ℕ) (y : Vertex) → i < length ys → y ≡ get_or ys i y → AddsEdges old mid x (take i ys) → new ≡ mid ++ edge (Of x) y ∷ [] → AddsEdges old new x (take (i + 1) ys)
-edges_more old mid new x ys i y below is before more =
-    let longer : take (i + 1) ys ≡ take i ys ++ y ∷ [] = take_more ys i y below ∙ ap (λ (m : Vertex). take i ys ++ m ∷ []) (sym is) in
-    subst (λ (l : List Vertex). AddsEdges old new x l) (sym longer) (record {
-      extends = (before.extends.0 ++ edge (Of x) y ∷ [], more ∙ ap (λ (es : List Edge). es ++ edge (Of x) y ∷ []) before.extends.1 ∙ append_assoc old before.extends.0 (edge (Of x) y ∷ []));
-      each = λ z h. subst (λ (es : List Edge). Contains es (edge (Of x) z)) (sym more) (elim (Contains-push_cases (take i ys) y z h) [
-        | inl there ↦ Contains-append_left mid (edge (Of x) y ∷ []) (edge (Of x) z) (before.each z there)
-        | inr same ↦ subst (λ (w : Vertex). Contains (mid ++ edge (Of x) y ∷ []) (edge (Of x) w)) same (Contains-push mid (edge (Of x) y))
-      ]);
-      only = λ one h. elim (Contains-push_cases mid (edge (Of x) y) one (subst (λ (es : List Edge). Contains es one) more h)) [
-        | inl there ↦ elim (before.only one there) [
-          | inl in_old ↦ inl in_old
-          | inr found ↦ inr (found.0, Contains-append_left (take i ys) (y ∷ []) found.0 found.1, found.2)
-        ]
-        | inr same ↦ inr (y, Contains-push (take i ys) y, sym same)
+from_each : (one : Leaving) (y : Vertex) → Contains one.to.items y → Contains (edges_from one) (edge one.from y)
+from_each one y h = in_mapped (λ (z : Vertex). edge one.from z) one.to.items y h
+
+from_only : (one : Leaving) (e : Edge) → Contains (edges_from one) e → (y : Vertex) × Contains one.to.items y × (e ≡ edge one.from y)
+from_only one e h = let found = from_mapped (λ (z : Vertex). edge one.from z) one.to.items e h in (found.0, found.1, sym found.2)
+
+pub edges_push : (all : List Leaving) (one : Leaving) → edges_of (all ++ one ∷ []) ≡ edges_of all ++ edges_from one
+edges_push [] one = append-nil (edges_from one)
+edges_push (first ∷ all) one = ap (λ (es : List Edge). edges_from first ++ es) (edges_push all one) ∙ sym (append_assoc (edges_from first) (edges_of all) (edges_from one))
+
+-- the edges of one more vertex
+pub edges_more : (old new : List Leaving) (one : Leaving) (x : Vertex) (ys : List Vertex) → new ≡ old ++ one ∷ [] → one.from ≡ Of x → HaveSame ys one.to.items → AddsEdges (edges_of old) (edges_of new) x ys
+edges_more old new one x ys more from same =
+    let whole : edges_of new ≡ edges_of old ++ edges_from one = ap edges_of more ∙ edges_push old one in
+    record {
+      extends = (edges_from one, whole);
+      each = λ y h. subst (λ (es : List Edge). Contains es (edge (Of x) y)) (sym whole)
+          (Contains-append_right (edges_of old) (edges_from one) (edge (Of x) y) (subst (λ (s : Step). Contains (edges_from one) (edge s y)) from (from_each one y ((same y).0 h))));
+      only = λ e h. elim (Contains-append_cases (edges_of old) (edges_from one) e (subst (λ (es : List Edge). Contains es e) whole h)) [
+        | inl there ↦ inl there
+        | inr new ↦ (let found = from_only one e new in inr (found.0, (same found.0).1 found.1, found.2 ∙ ap (λ (s : Step). edge s found.0) from))
       ];
-    })
+    }
 
--- edges from the main module to each of these, and no others
-pub record AreMainEdges (ys : List Vertex) (edges : List Edge) : Type 0 where
-  pub each : (y : Vertex) → Contains ys y → Contains edges (edge FromMain y)
-  pub only : (one : Edge) → Contains edges one → (y : Vertex) × Contains ys y × (one ≡ edge FromMain y)
+pub main_gathered : (g : Gathered) (one : Leaving) (ys : List Vertex) → g.leaving.items ≡ one ∷ [] → one.from ≡ FromMain → HaveSame ys one.to.items → g.faults.entries ≡ [] → (main : Main) (readings : Readings) → ys ≡ kept main main.requirements → AreGathered main readings (edges_in g) (faults_in g)
+main_gathered g one ys are from same none main readings is =
+    let whole : edges_in g ≡ edges_from one = ap edges_of are ∙ append-nil (edges_from one) in
+    record {
+      from_main = λ y t. subst (λ (es : List Edge). Contains es (edge FromMain y)) (sym whole)
+          (subst (λ (s : Step). Contains (edges_from one) (edge s y)) from (from_each one y ((same y).0 (subst (λ (l : List Vertex). Contains l y) (sym is) t))));
+      only = λ e h.
+          let found = from_only one e (subst (λ (es : List Edge). Contains es e) whole h) in
+          let edge_is : e ≡ edge FromMain found.0 = found.2 ∙ ap (λ (s : Step). edge s found.0) from in
+          subst (λ (a : Edge). IsEdge main readings a.from a.to) (sym edge_is) (subst (λ (l : List Vertex). Contains l found.0) is ((same found.0).1 found.1));
+      known = λ x class h. cc (sym h ∙ ap (λ (es : List (Vertex × Class)). lookup (is_at (vertex_cmp x)) es) none);
+    }
 
-pub main_edges_none : (edges : List Edge) → edges ≡ [] → AreMainEdges [] edges
-main_edges_none edges e = subst (λ (es : List Edge). AreMainEdges [] es) (sym e) (record {
-  each = λ y h. absurd (omega (arith, h.1));
-  only = λ one h. absurd (omega (arith, h.1));
-})
+-- an edge of groups is one of a group
+edges_each : (all : List Leaving) (one : Leaving) (e : Edge) → Contains all one → Contains (edges_from one) e → Contains (edges_of all) e
+edges_each [] one e there h = absurd (omega (arith, there.1))
+edges_each (first ∷ all) one e (zero, below, is) h = Contains-append_left (edges_from first) (edges_of all) e (subst (λ (o : Leaving). Contains (edges_from o) e) (sym is) h)
+edges_each (first ∷ all) one e (suc k, below, is) h = Contains-append_right (edges_from first) (edges_of all) e (edges_each all one e (k, omega arith, is) h)
 
-pub main_edges_more : (old new : List Edge) (ys : List Vertex) (i : ℕ) (y : Vertex) → i < length ys → y ≡ get_or ys i y → AreMainEdges (take i ys) old → new ≡ old ++ edge FromMain y ∷ [] → AreMainEdges (take (i + 1) ys) new
-main_edges_more old new ys i y below is before more =
-    let longer : take (i + 1) ys ≡ take i ys ++ y ∷ [] = take_more ys i y below ∙ ap (λ (m : Vertex). take i ys ++ m ∷ []) (sym is) in
-    subst (λ (l : List Vertex). AreMainEdges l new) (sym longer) (record {
-      each = λ z h. subst (λ (es : List Edge). Contains es (edge FromMain z)) (sym more) (elim (Contains-push_cases (take i ys) y z h) [
-        | inl there ↦ Contains-append_left old (edge FromMain y ∷ []) (edge FromMain z) (before.each z there)
-        | inr same ↦ subst (λ (w : Vertex). Contains (old ++ edge FromMain y ∷ []) (edge FromMain w)) same (Contains-push old (edge FromMain y))
-      ]);
-      only = λ one h. elim (Contains-push_cases old (edge FromMain y) one (subst (λ (es : List Edge). Contains es one) more h)) [
-        | inl there ↦ (let found = before.only one there in (found.0, Contains-append_left (take i ys) (y ∷ []) found.0 found.1, found.2))
-        | inr same ↦ (y, Contains-push (take i ys) y, sym same)
-      ];
-    })
+edges_only : (all : List Leaving) (e : Edge) → Contains (edges_of all) e → (one : Leaving) × Contains all one × Contains (edges_from one) e
+edges_only [] e h = absurd (omega (arith, h.1))
+edges_only (first ∷ all) e h = elim (Contains-append_cases (edges_from first) (edges_of all) e h) [
+  | inl here ↦ (first, (0, omega arith, refl), here)
+  | inr later ↦ (let (one, (k, below, is), at) = edges_only all e later in (one, (suc k, omega arith, is), at))
+]
 
-pub main_gathered : (g : Gathered) (ys : List Vertex) → AreMainEdges ys g.edges.items → g.faults.entries ≡ [] → (main : Main) (readings : Readings) → ys ≡ kept main main.requirements → AreGathered main readings g.edges.items (faults_in g)
-main_gathered g ys are none main readings is = record {
-  from_main = λ y t. are.each y (subst (λ (l : List Vertex). Contains l y) (sym is) t);
-  only = λ one h. let found = are.only one h in subst (λ (e : Edge). IsEdge main readings e.from e.to) (sym found.2) (subst (λ (l : List Vertex). Contains l found.0) is found.1);
-  known = λ x class h. cc (sym h ∙ ap (λ (es : List (Vertex × Class)). lookup (is_at (vertex_cmp x)) es) none);
-}
+-- groups in another order have the same edges
+pub edges_permuted : (old new : List Leaving) → IsPermutation old new → HaveSame (edges_of old) (edges_of new)
+edges_permuted old new same e = (along old new same, along new old (IsPermutation-sym old new same))
+  where
+    along : (a b : List Leaving) → IsPermutation a b → Contains (edges_of a) e → Contains (edges_of b) e
+    along a b is h = let (one, there, at) = edges_only a e h in edges_each b one e (Contains-permutation a b one is there) at

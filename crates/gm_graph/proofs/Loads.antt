@@ -18,7 +18,7 @@ use Rattle.gm_graph.specs.declared.fault.Fault.{Fault}
 use Rattle.gm_graph.specs.declared.gathering.Gathered.{Gathered}
 use Rattle.gm_graph.specs.declared.opening.Opening.{Opening}
 use Rattle.gm_graph.specs.Following.{IsOpenedIn}
-use Rattle.gm_graph.specs.Gathering.{fault}
+use Rattle.gm_graph.specs.Gathering.{edges_in, fault}
 use Rattle.gm_graph.specs.Graph.{IsEdge}
 use Rattle.gm_graph.specs.Loading.{AreTooMany, AreTurns, AsksInTurn, Told}
 use Rattle.gm_graph.specs.Turns.{OverflowsWith}
@@ -35,8 +35,8 @@ module _ (old new : Cache) (pairs : List (Name × Reply)) (opening : Opening) (g
   abbrev readings : Readings
   readings = readings_by (main_in old) (held_of new)
 
-  pub gathered_rooted : IsRooted (among gathered.edges.items)
-  gathered_rooted = list_rooted main readings gathered.edges.items opened.edges
+  pub gathered_rooted : IsRooted (among (edges_in gathered))
+  gathered_rooted = list_rooted main readings (edges_in gathered) opened.edges
 
   faults_are : (faults : List Fault) → faults ≡ map (λ e. fault e.0 e.1) gathered.faults.entries → tree.IsOrdered vertex_cmp gathered.faults → AreFaults main readings faults
   faults_are faults e ordered = subst (λ (fs : List Fault). AreFaults main readings fs) (sym e) (record {
@@ -47,11 +47,11 @@ module _ (old new : Cache) (pairs : List (Name × Reply)) (opening : Opening) (g
     );
   })
 
-  edges_are : (edges : List Edge) → HaveSame gathered.edges.items edges → (e : Edge) → Contains edges e ↔ IsEdge main readings e.from e.to
+  edges_are : (edges : List Edge) → HaveSame (edges_in gathered) edges → (e : Edge) → Contains edges e ↔ IsEdge main readings e.from e.to
   edges_are edges same e = ((λ h. (opened.edges e).0 ((same e).1 h)), (λ h. (same e).0 ((opened.edges e).1 h)))
 
   pub loads : (loaded : Outcome) → AsksInTurn main (sums_in old) pairs → loaded.main ≡ main.path → loaded.faults ≡ map (λ e. fault e.0 e.1) gathered.faults.entries → tree.IsOrdered vertex_cmp gathered.faults
-      → IsAscending edge_cmp loaded.edges → HaveSame gathered.edges.items loaded.edges → IsBuildList main.path main.replaces (among loaded.edges) loaded.rows → loaded.turns ≡ turns_in new
+      → IsAscending edge_cmp loaded.edges → HaveSame (edges_in gathered) loaded.edges → IsBuildList main.path main.replaces (among loaded.edges) loaded.rows → loaded.turns ≡ turns_in new
       → Told main (sums_in old) pairs (IsLoaded main pairs loaded)
   loads loaded asks path_is faults ordered ascending same rows turns = (
     held_of new,
@@ -71,7 +71,7 @@ module _ (old new : Cache) (pairs : List (Name × Reply)) (opening : Opening) (g
 -- the same of the main file and the go.sum that the cache was made of
 pub loads_of : (old new : Cache) (pairs : List (Name × Reply)) (opening : Opening) (gathered : Gathered) → IsOpenedIn old new pairs opening gathered → (main : Main) (sums : Option SumTable) → main_in old ≡ main → sums_in old ≡ sums
     → (loaded : Outcome) → AsksInTurn (main_in old) (sums_in old) pairs → loaded.main ≡ main.path → loaded.faults ≡ map (λ e. fault e.0 e.1) gathered.faults.entries → tree.IsOrdered vertex_cmp gathered.faults
-    → IsAscending edge_cmp loaded.edges → HaveSame gathered.edges.items loaded.edges → IsBuildList main.path main.replaces (among loaded.edges) loaded.rows → loaded.turns ≡ turns_in new
+    → IsAscending edge_cmp loaded.edges → HaveSame (edges_in gathered) loaded.edges → IsBuildList main.path main.replaces (among loaded.edges) loaded.rows → loaded.turns ≡ turns_in new
     → Told main sums pairs (IsLoaded main pairs loaded)
 loads_of old new pairs opening gathered opened main sums main_is sums_are loaded asks path_is faults ordered ascending same rows turns =
     subst (λ (m : Main). Told m sums pairs (IsLoaded m pairs loaded)) main_is (subst (λ (s : Option SumTable). Told (main_in old) s pairs (IsLoaded (main_in old) pairs loaded)) sums_are

@@ -55,5 +55,8 @@ module _ (main : List ℕ) (replaces : List Replacing) (edges : List Edge) (entr
     reached = λ entry there none. none (entry_reached entry (subst (λ (es : List Entry). Contains es entry) list.entries_are there));
   }
 
+pub same_along : (old mid new : List Edge) → HaveSame old mid → HaveSame mid new → HaveSame old new
+same_along old mid new a b e = ((λ h. (b e).0 ((a e).0 h)), (λ h. (a e).1 ((b e).1 h)))
+
 pub sorted_rooted : (old new : List Edge) → HaveSame old new → IsRooted (among old) → IsRooted (among new)
 sorted_rooted old new same rooted = same_rooted (among old) (among new) (λ s y. same (edge s y)) rooted

@@ -14,7 +14,7 @@ use Rattle.gm_cache.proofs.Keeping.{readings_stay}
 use Rattle.gm_graph.specs.declared.gathering.Gathered.{Gathered}
 use Rattle.gm_graph.specs.declared.opening.Opening.{Opening}
 use Rattle.gm_graph.specs.Following.{Continues, IsFollowed, IsOpenedIn, readings_in}
-use Rattle.gm_graph.specs.Gathering.{AreGathered, faults_in}
+use Rattle.gm_graph.specs.Gathering.{AreGathered, edges_in, faults_in}
 use Rattle.gm_graph.specs.Loading.{AsksInTurn}
 use Rattle.gm_graph.specs.Marks.{IsOpening}
 use Rattle.gm_graph.specs.Turns.{AreFirstTurns}
@@ -34,11 +34,11 @@ pub record IsAt (main : Main) (sums : Option SumTable) (cache : Cache) (pairs : 
   pub knows : Knows cache pairs
   pub lent : turns_in cache ≡ take at opening.turns.items
   pub queue : IsQueue main (readings_by main (held_of cache)) opening.turns.items at
-  pub harvest : IsGatheredTo main (readings_by main (held_of cache)) opening.turns.items gathered.edges.items (faults_in gathered) at
+  pub harvest : IsGatheredTo main (readings_by main (held_of cache)) opening.turns.items (edges_in gathered) (faults_in gathered) at
   pub asks : AsksInTurn main sums pairs
 
 pub first_step : (cache : Cache) (pairs : List (Name × Reply)) (opening : Opening) (gathered : Gathered) → pairs ≡ [] → Knows cache [] → turns_in cache ≡ [] → IsOpening opening → AreFirstTurns (main_in cache) opening.turns.items
-    → ((readings : Readings) → AreGathered (main_in cache) readings gathered.edges.items (faults_in gathered)) → IsAt (main_in cache) (sums_in cache) cache pairs opening gathered 0
+    → ((readings : Readings) → AreGathered (main_in cache) readings (edges_in gathered) (faults_in gathered)) → IsAt (main_in cache) (sums_in cache) cache pairs opening gathered 0
 first_step cache pairs opening gathered none knows lent is first are = record {
   place = omega arith;
   is_opening = is;
@@ -71,7 +71,7 @@ step main sums old new pairs longer opening opened before after at x depth is be
       knows = knows;
       lent = lent_more (turns_in old) (turns_in new) opening.turns.items opened.turns.items extends.0 at (turn x depth) is.lent lent extends.1 below here;
       queue = queue_more main a b opening.turns.items opened.turns.items at x depth is.queue keeps below here done.follows;
-      harvest = gathered_more main a b opening.turns.items opened.turns.items before.edges.items after.edges.items (faults_in before) (faults_in after) at x depth keeps extends
+      harvest = gathered_more main a b opening.turns.items opened.turns.items (edges_in before) (edges_in after) (faults_in before) (faults_in after) at x depth keeps extends
           (IsTrueTurn-kept main a b keeps x depth (is.queue.sound (turn x depth) (at, below, here))) below here (λ k d lt. (is.queue.done k d lt).answered) is.harvest done.gathers;
       asks = asks_more main sums old is.main_is is.sums_are pairs is.knows opening.turns.items at x depth is.queue.sound below here longer is.asks for;
     }
@@ -90,6 +90,6 @@ last_step old new pairs opening gathered at is past =
       opening = is.is_opening;
       turns = are_turns main r opening.vertices.items turns is.is_opening.turns all;
       known = opened_known main r opening.vertices.items turns is.is_opening.turns all;
-      edges = edges_exactly main r turns gathered.edges.items (faults_in gathered) at past all is.harvest;
-      faults = faults_exactly main r turns gathered.edges.items (faults_in gathered) at past all is.harvest;
+      edges = edges_exactly main r turns (edges_in gathered) (faults_in gathered) at past all is.harvest;
+      faults = faults_exactly main r turns (edges_in gathered) (faults_in gathered) at past all is.harvest;
     }

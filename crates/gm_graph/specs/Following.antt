@@ -13,7 +13,7 @@ use Rattle.gm_cache.specs.declared.class.Class.{Class}
 use Rattle.gm_select.specs.declared.step.Edge.{Edge}
 use Rattle.gm_graph.specs.declared.gathering.Gathered.{Gathered}
 use Rattle.gm_graph.specs.declared.opening.Opening.{Opening}
-use Rattle.gm_graph.specs.Gathering.{Gathers, faults_in}
+use Rattle.gm_graph.specs.Gathering.{Gathers, edges_in, faults_in}
 use Rattle.gm_graph.specs.Graph.{IsEdge, IsOpened}
 use Rattle.gm_graph.specs.Loading.{AreTurns}
 use Rattle.gm_graph.specs.Marks.{IsOpening}
@@ -32,7 +32,7 @@ lender_of (Sound name) = Some (name_of name)
 pub record IsFollowed (main : Main) (readings : Readings) (old new : Opening) (before after : Gathered) (x : Vertex) (d : Depth) : Type 0 where
   pub opening : IsOpening new
   pub follows : Follows main readings old.turns.items new.turns.items (turn x d)
-  pub gathers : Gathers main readings old.turns.items before.edges.items after.edges.items (faults_in before) (faults_in after) (turn x d)
+  pub gathers : Gathers main readings old.turns.items (edges_in before) (edges_in after) (faults_in before) (faults_in after) (turn x d)
 
 -- the same main file and go.sum, and each file that was known stays known
 pub record Continues (old new : Cache) : Type 0 where
@@ -53,5 +53,5 @@ pub record IsOpenedIn (old new : Cache) (pairs : List (Name × Reply)) (opened :
   pub opening : IsOpening opened
   pub turns : AreTurns (main_in old) (readings_by (main_in old) (held_of new)) opened.turns.items
   pub known : (x : Vertex) → IsOpened (main_in old) (readings_by (main_in old) (held_of new)) x → IsSome (readings_by (main_in old) (held_of new) x)
-  pub edges : (one : Edge) → Contains gathered.edges.items one ↔ IsEdge (main_in old) (readings_by (main_in old) (held_of new)) one.from one.to
+  pub edges : (one : Edge) → Contains (edges_in gathered) one ↔ IsEdge (main_in old) (readings_by (main_in old) (held_of new)) one.from one.to
   pub faults : (x : Vertex) (class : Class) → (faults_in gathered x ≡ Some class) ↔ (IsOpened (main_in old) (readings_by (main_in old) (held_of new)) x × (fault_of (readings_by (main_in old) (held_of new)) x ≡ Some class))

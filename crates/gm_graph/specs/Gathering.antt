@@ -17,11 +17,16 @@ use Rattle.gm_select.specs.Graph.{edge, vertex_cmp}
 use Rattle.gm_graph.specs.declared.fault.Fault.{Fault as HeldFault}
 use Rattle.gm_graph.specs.declared.gathering.Gathered.{Gathered}
 use Rattle.gm_graph.specs.Graph.{IsEdge, IsOpened, IsTop, same_vertex}
+use Rattle.gm_graph.specs.Leaving.{edges_of}
 use Rattle.gm_graph.specs.Turns.{Extends, same_turn}
 
 -- a vertex and its fault
 abbrev pub fault : Vertex → Class → HeldFault
 fault x class = record { vertex = x; class = class }
+
+-- the edges that were gathered
+abbrev pub edges_in : Gathered → List Edge
+edges_in gathered = edges_of gathered.leaving.items
 
 -- the fault under a vertex, if there is one
 abbrev pub Faults : Type 0

@@ -2,6 +2,7 @@ pub mod Graph
 pub mod Turns
 pub mod Marks
 pub mod Loading
+pub mod Leaving
 pub mod Gathering
 pub mod Following
 pub mod Outcome

@@ -1,24 +1,24 @@
 //! The edges and faults that are gathered while turns are followed.
 
-ghost use Rattle.std.specs.Prelude.{◌≡◌, ◌++◌, ◌∷◌, [], IfOk, OnOk, map};
+ghost use Rattle.std.specs.Prelude.{◌≡◌, IfOk, OnOk, map};
 ghost use Rattle.std.specs.BTreeMap as tree;
 ghost use Rattle.gm_cache.specs.Main.{Main, Vertex, kept};
 ghost use Rattle.gm_cache.specs.Reading.{Readings};
-ghost use Rattle.gm_select.specs.declared.step.Step.TheVariants.{Main as FromMain, Of};
-ghost use Rattle.gm_select.specs.Graph.{edge, vertex_cmp};
-ghost use Rattle.gm_graph.specs.Gathering.{AddsEdges, AreGathered, fault, faults_in, found_fault, noted};
+ghost use Rattle.gm_select.specs.Graph.{vertex_cmp};
+ghost use Rattle.gm_graph.specs.Gathering.{AddsEdges, AreGathered, edges_in, fault, faults_in, found_fault, noted};
 
 use crate::fault::Fault;
+use crate::leaving::Leaving;
 use gm_cache::{Class, Finding};
 use gm_name::ModVer;
-use gm_select::{Edge, Step};
+use gm_select::Step;
 use std::alloc::{AllocError, Global};
 use std::collections::BTreeMap;
 
-/// Edges in the order in which they were found, and the faults of vertices.
+/// Edges in the order in which their steps were followed, and the faults of vertices.
 #[derive(Drop)]
 pub(crate) struct Gathered {
-    pub(crate) edges: Vec<Edge>,
+    pub(crate) leaving: Vec<Leaving>,
     pub(crate) faults: BTreeMap<ModVer, Class>,
 }
 
@@ -31,7 +31,7 @@ impl Gathered {
         finding: &Finding,
     ) -> Result<(), AllocError>
         ensures faults { OnOk result ((x : Vertex) → faults_in self.new x ≡ noted (found_fault finding.now) vertex.now (faults_in self.old) x) }
-        ensures edges { self.new.edges.items ≡ self.old.edges.items }
+        ensures edges { edges_in self.new ≡ edges_in self.old }
     {
         if let Finding::Fault(class) = finding {
             self.faults.insert(vertex.copy(alloc)?, *class)?;
@@ -46,53 +46,24 @@ impl Gathered {
         vertex: &ModVer,
         required: &[ModVer],
     ) -> Result<(), AllocError>
-        ensures edges { OnOk result (AddsEdges self.old.edges.items self.new.edges.items vertex.now required.now) }
+        ensures edges { OnOk result (AddsEdges (edges_in self.old) (edges_in self.new) vertex.now required.now) }
         ensures faults { (x : Vertex) → faults_in self.new x ≡ faults_in self.old x }
     {
-        for y in required {
-            push_edge(alloc, &mut self.edges, vertex, y)?;
-        }
+        let one = Leaving::new(alloc, Step::Of(vertex.copy(alloc)?), required)?;
+        self.leaving.push(one)?;
         Ok(())
     }
 }
 
-/// Puts an edge between two vertices at the end.
-fn push_edge(
-    alloc: Global,
-    edges: &mut Vec<Edge>,
-    from: &ModVer,
-    to: &ModVer,
-) -> Result<(), AllocError>
-    ensures { OnOk result (edges.new.items ≡ edges.old.items ++ edge (Of from.now) to.now ∷ []) }
-{
-    edges.push(Edge {
-        from: Step::Of(from.copy(alloc)?),
-        to: to.copy(alloc)?,
-    })?;
-    Ok(())
-}
-
-/// Puts an edge from the main module at the end.
-fn push_main_edge(alloc: Global, edges: &mut Vec<Edge>, to: &ModVer) -> Result<(), AllocError>
-    ensures { OnOk result (edges.new.items ≡ edges.old.items ++ edge FromMain to.now ∷ []) }
-{
-    edges.push(Edge {
-        from: Step::Main,
-        to: to.copy(alloc)?,
-    })?;
-    Ok(())
-}
-
 /// The edges from the main module to what it requires, and no faults.
 pub(crate) fn main_edges(alloc: Global, required: &[ModVer]) -> Result<Gathered, AllocError>
-    ensures { IfOk result (λ gathered. (main : Main) (readings : Readings) → required.now ≡ kept main main.requirements → AreGathered main readings gathered.edges.items (faults_in gathered)) }
+    ensures { IfOk result (λ gathered. (main : Main) (readings : Readings) → required.now ≡ kept main main.requirements → AreGathered main readings (edges_in gathered) (faults_in gathered)) }
 {
-    let mut edges = Vec::new(alloc);
-    for y in required {
-        push_main_edge(alloc, &mut edges, y)?;
-    }
+    let one = Leaving::new(alloc, Step::Main, required)?;
+    let mut leaving = Vec::new(alloc);
+    leaving.push(one)?;
     Ok(Gathered {
-        edges,
+        leaving,
         faults: BTreeMap::new(alloc),
     })
 }

@@ -5,6 +5,7 @@ mod fault;
 mod following;
 mod gathering;
 pub mod laws;
+mod leaving;
 mod loaded;
 mod loading;
 mod opening;

@@ -15,7 +15,7 @@ ghost use Rattle.gm_select.specs.Graph.{among, edge_cmp, vertex_cmp};
 ghost use Rattle.gm_select.specs.Order.{HaveSame, IsAscending};
 ghost use Rattle.std.specs.BTreeMap as tree;
 ghost use Rattle.gm_graph.specs.Following.{IsOpenedIn, readings_in};
-ghost use Rattle.gm_graph.specs.Gathering.{AreGathered, fault, faults_in};
+ghost use Rattle.gm_graph.specs.Gathering.{AreGathered, edges_in, fault, faults_in};
 ghost use Rattle.gm_graph.specs.Loading.{AreTooMany, AsksInTurn, IsDue, Told};
 ghost use Rattle.gm_graph.specs.Marks.{IsOpening};
 ghost use Rattle.gm_graph.specs.Outcome.{IsLoaded};
@@ -23,6 +23,7 @@ ghost use Rattle.gm_graph.specs.Turns.{AreFirstTurns};
 
 use crate::following::follow;
 use crate::gathering::{Gathered, fault_list, main_edges};
+use crate::leaving::all_edges;
 use crate::loaded::Loaded;
 use crate::opening::{Opening, copy_turn};
 use crate::starting::{begin, kept_requirements};
@@ -46,7 +47,7 @@ fn open_in_turn<F: Files>(
     requires lent { turns_in cache.old ≡ [] }
     requires opening { IsOpening opening.old }
     requires first { AreFirstTurns (main_in cache.old) opening.old.turns.items }
-    requires gathered { (readings : Readings) → AreGathered (main_in cache.old) readings gathered.old.edges.items (faults_in gathered.old) }
+    requires gathered { (readings : Readings) → AreGathered (main_in cache.old) readings (edges_in gathered.old) (faults_in gathered.old) }
     ensures opened { OnOk result (IsOpenedIn cache.old cache.new (F.asked files.new) opening.new gathered.new) }
     ensures too_many { result ≡ Err LoadFault.TooMany → Told (main_in cache.old) (sums_in cache.old) (F.asked files.new) (AreTooMany (main_in cache.old)) }
     ensures asks { AsksInTurn (main_in cache.old) (sums_in cache.old) (F.asked files.new) }
@@ -80,19 +81,20 @@ fn put_together(
     cache: Cache<'_>,
     gathered: Gathered,
 ) -> Result<Loaded, AllocError>
-    requires { IsRooted (among gathered.edges.items) }
+    requires { IsRooted (among (edges_in gathered)) }
     ensures main { IfOk result (λ loaded. loaded.main ≡ (main_of main.now).path) }
     ensures faults { IfOk result (λ loaded. loaded.faults ≡ map (λ entry. fault entry.0 entry.1) gathered.faults.entries) }
     ensures ordered { OnOk result (tree.IsOrdered vertex_cmp gathered.faults) }
     ensures ascending { IfOk result (λ loaded. IsAscending edge_cmp loaded.edges) }
-    ensures edges { IfOk result (λ loaded. HaveSame gathered.edges.items loaded.edges) }
+    ensures edges { IfOk result (λ loaded. HaveSame (edges_in gathered) loaded.edges) }
     ensures rows { IfOk result (λ loaded. IsBuildList (main_of main.now).path (main_of main.now).replaces (among loaded.edges) loaded.rows) }
     ensures turns { IfOk result (λ loaded. loaded.turns ≡ turns_in cache.entry) }
 {
-    let Gathered { edges, faults } = gathered;
+    let Gathered { leaving, faults } = gathered;
     let path = main_says::path(main).copy(alloc)?;
     let faults = fault_list(alloc, faults)?;
-    let edges = sorted_edges(edges);
+    let found = all_edges(alloc, leaving)?;
+    let edges = sorted_edges(found);
     let rows = build_list(alloc, main, &edges)?;
     Ok(Loaded::new(path, faults, edges, rows, cache.into_turns()))
 }

@@ -4,7 +4,7 @@ use Rattle.gm_cache.specs.declared.depth.Depth.TheVariants.{Deep}
 use Rattle.gm_cache.specs.Main.{Vertex}
 use Rattle.gm_graph.specs.declared.gathering.Gathered.{Gathered}
 use Rattle.gm_graph.specs.Following.{readings_in}
-use Rattle.gm_graph.specs.Gathering.{AddsEdges, faults_in}
+use Rattle.gm_graph.specs.Gathering.{AddsEdges, edges_in, faults_in}
 use Rattle.gm_graph.specs.Turns.{AddsAll, OverflowsWith}
 use Rattle.gm_graph.proofs.Deepening.{follows_adds, follows_nothing}
 use Rattle.gm_graph.proofs.Turning.{finding_known, gathers_edges, gathers_no_edges}
@@ -25,8 +25,8 @@ returns-then-not-leads-clause-followed c =
       gathers = elim c.if-gathers.branch [
         | then-gathers+in-Ok-add_edges w ↦
             gathers_edges main held turns x d found c.requires.finding c.args.gathered.now c.note.new.self c.if-gathers.gathered c.in-Ok.ensures.faults c.in-Ok.ensures.edges
-            (subst (λ (ys : List Vertex). AddsEdges c.note.new.self.edges.items c.if-gathers.gathered.edges.items x ys) c.in-Ok-lend.ensures.lent
-            (subst (λ (g : Gathered). AddsEdges c.note.new.self.edges.items g.edges.items x c.in-Ok-lend.lent.now) (sym w.gathered-is) w.in-Ok-add_edges.ensures.edges))
+            (subst (λ (ys : List Vertex). AddsEdges (edges_in c.note.new.self) (edges_in c.if-gathers.gathered) x ys) c.in-Ok-lend.ensures.lent
+            (subst (λ (g : Gathered). AddsEdges (edges_in c.note.new.self) (edges_in g) x c.in-Ok-lend.lent.now) (sym w.gathered-is) w.in-Ok-add_edges.ensures.edges))
             (λ q. ap (λ (g : Gathered). faults_in g q) w.gathered-is ∙ w.in-Ok-add_edges.ensures.faults q)
         | else-gathers w ↦
             gathers_no_edges main held turns x d found c.requires.finding c.args.gathered.now c.note.new.self c.if-gathers.gathered c.in-Ok.ensures.faults c.in-Ok.ensures.edges
@@ -49,8 +49,8 @@ returns-in-Ok-add_all-clause-followed c =
       gathers = elim c.if-gathers.branch [
         | then-gathers+in-Ok-add_edges w ↦
             gathers_edges main held turns x d found c.requires.finding c.args.gathered.now c.note.new.self c.if-gathers.gathered c.in-Ok.ensures.faults c.in-Ok.ensures.edges
-            (subst (λ (ys : List Vertex). AddsEdges c.note.new.self.edges.items c.if-gathers.gathered.edges.items x ys) c.in-Ok-lend.ensures.lent
-            (subst (λ (g : Gathered). AddsEdges c.note.new.self.edges.items g.edges.items x c.in-Ok-lend.lent.now) (sym w.gathered-is) w.in-Ok-add_edges.ensures.edges))
+            (subst (λ (ys : List Vertex). AddsEdges (edges_in c.note.new.self) (edges_in c.if-gathers.gathered) x ys) c.in-Ok-lend.ensures.lent
+            (subst (λ (g : Gathered). AddsEdges (edges_in c.note.new.self) (edges_in g) x c.in-Ok-lend.lent.now) (sym w.gathered-is) w.in-Ok-add_edges.ensures.edges))
             (λ q. ap (λ (g : Gathered). faults_in g q) w.gathered-is ∙ w.in-Ok-add_edges.ensures.faults q)
         | else-gathers w ↦
             gathers_no_edges main held turns x d found c.requires.finding c.args.gathered.now c.note.new.self c.if-gathers.gathered c.in-Ok.ensures.faults c.in-Ok.ensures.edges
