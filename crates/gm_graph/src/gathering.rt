@@ -49,6 +49,9 @@ impl Gathered {
         ensures edges { OnOk result (AddsEdges (edges_in self.old) (edges_in self.new) vertex.now required.now) }
         ensures faults { (x : Vertex) → faults_in self.new x ≡ faults_in self.old x }
     {
+        if required.is_empty() {
+            return Ok(());
+        }
         let one = Leaving::new(alloc, Step::Of(vertex.copy(alloc)?), required)?;
         self.leaving.push(one)?;
         Ok(())
