@@ -19,6 +19,3 @@ mod writing;
 pub use crate::program::{exit_code, status_of, status_of_words};
 pub use crate::running::run;
 pub use crate::status::Status;
-
-#[cfg(test)]
-mod tests;

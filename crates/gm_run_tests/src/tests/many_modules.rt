@@ -5,8 +5,8 @@ ghost use Rattle.gm_store.specs.Memory.{pairs_of};
 
 use super::projects::{LIST, command};
 use super::{AMPLE, Ran, met_want_of_memory, run_in, tells};
-use crate::Status;
 use gm_name::{ModPath, ModVersion};
+use gm_run::Status;
 use gm_store::{FileName, MemoryFiles};
 use std::alloc::Global;
 use std::test::Fail;

@@ -6,8 +6,8 @@ ghost use Rattle.gm_store.specs.Memory.{pairs, pairs_of};
 use super::{
     AMPLE, Ran, Wanted, copied, fails, is_wanted, met_want_of_memory, prints, refuses, run_in,
 };
-use crate::Status;
 use gm_name::{ModPath, ModVersion};
+use gm_run::Status;
 use gm_store::{FailingFiles, FileName, Held, Mark, MemoryFiles, MemoryFolders, Shelf};
 use gm_words::Command;
 use std::alloc::Global;

@@ -1,7 +1,7 @@
 //! `fmt`.
 
 use super::{AMPLE, Ran, Wanted, is_wanted, met_want_of_memory, prints, refuses, run_in};
-use crate::Status;
+use gm_run::Status;
 use gm_store::MemoryFiles;
 use gm_words::Command;
 use std::alloc::Global;

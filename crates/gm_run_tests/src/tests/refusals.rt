@@ -11,7 +11,7 @@ use super::worked::{
     GREATEST_LISTED, LOCAL, LOCAL_LISTED, PRUNED, PRUNED_LISTED, UNPRUNED, UNPRUNED_LISTED,
 };
 use super::{AMPLE, Ran, copied, met_want_of_memory, run_in};
-use crate::Status;
+use gm_run::Status;
 use gm_store::{FailingFiles, Files, Held, Mark, MemoryFolders, Shelf};
 use std::alloc::Global;
 use std::test::Fail;

@@ -5,8 +5,8 @@ ghost use Rattle.gm_run.specs.Runs.{takes_sums};
 ghost use Rattle.gm_store.specs.Memory.{pairs_of};
 
 use super::{AMPLE, Wanted, copied, is_wanted, run_in};
-use crate::Status;
 use gm_name::{ModPath, ModVersion};
+use gm_run::Status;
 use gm_store::{FileName, Files, MemoryFiles};
 use gm_words::Command;
 use std::alloc::Global;

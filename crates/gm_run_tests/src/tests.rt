@@ -20,7 +20,7 @@ mod refusals;
 mod version_lists;
 mod worked;
 
-use crate::{Status, run};
+use gm_run::{Status, run};
 use gm_store::{Files, MemorySink};
 use gm_words::Command;
 use std::alloc::Global;
