@@ -73,13 +73,6 @@ no-filter : (test : Directive → Bool) (ds : List Directive) → list_any test 
 no-filter test [] e = refl
 no-filter test (d ∷ ds) e = let parts = or-none (test d) (list_any test ds) e in filter-none test d ds parts.0 ∙ no-filter test ds parts.1
 
-pub one-any : (test : Directive → Bool) (d : Directive) (ds : List Directive) → filter test ds ≡ d ∷ [] → list_any test ds ≡ true
-one-any test d [] e = absurd cc
-one-any test d (x ∷ ds) e = elim (cases_Bool (test x)) [
-  | inl holds ↦ rw holds refl
-  | inr fails ↦ rw fails (one-any test d ds (sym (filter-none test x ds fails) ∙ e))
-]
-
 -- of what a line holds
 gone-held : (test : Directive → Bool) (held : Option Directive) (rest : List Directive) → passes test held ≡ true → filter (others test) (option_to_list held ++ rest) ≡ filter (others test) rest
 gone-held test None rest e = absurd cc

@@ -1,5 +1,5 @@
 -- What an operation leaves of what a file says.
-use Rattle.std.proofs.Common.{◌≡◌, ℕ, ◌==◌, ◌&&◌, ◌||◌, not, Bool, true, false, List, [], ◌∷◌, ◌++◌, Option, Some, None, refl, sym, ap, ◌∙◌, append-nil, append_assoc, inl, inr}
+use Rattle.std.proofs.Common.{◌≡◌, if◌then◌else◌, ℕ, ◌==◌, ◌&&◌, ◌||◌, not, Bool, true, false, List, [], ◌∷◌, ◌++◌, Option, Some, None, refl, sym, ap, ◌∙◌, append-nil, append_assoc, inl, inr}
 use Rattle.std.specs.Prelude.{codes, filter}
 use Rattle.std.specs.Option.{option_to_list}
 use Rattle.std.specs.List.{list_any}
@@ -17,7 +17,7 @@ use Rattle.gm_edit.specs.About.{about, excludes_pair, is_covered_by, is_replaced
 use Rattle.gm_edit.specs.Adding.{single}
 use Rattle.gm_edit.specs.Changes.{changed, edited, is_fit, put_in}
 use Rattle.gm_edit.specs.Fates.{held_at, passes}
-use Rattle.gm_edit.specs.Laws.{AddedIsThere, DroppedIsGone, IsEditOf, OthersStay, SetStandsAlone, is_addition, is_drop, set_by}
+use Rattle.gm_edit.specs.Laws.{AddedIsThere, DroppedIsGone, IsEditOf, OthersStay, SetStandsAlone, added_by, is_drop, set_by}
 use Rattle.gm_edit.specs.NewWords.{interval_words, made_word, pair_words, replace_words}
 use Rattle.gm_edit.specs.Renewing.{with_arguments, with_last}
 use Rattle.gm_edit.specs.Searching.{is_there, is_there_from}
@@ -27,7 +27,7 @@ use Rattle.gm_edit.proofs.EditedSound.{addition, ends-are, ends-says, entry-alon
 use Rattle.gm_edit.proofs.Feeds.{go-feed, no-feed}
 use Rattle.gm_edit.proofs.Made.{AreArguments, one-are}
 use Rattle.gm_edit.proofs.Renewals.{go-renewal, go-says, module-renewal, replace-are, replace-renewal, replace-says, require-renewal, version-itself}
-use Rattle.gm_edit.proofs.Said.{IsPutIn, added-put, after-first-put, dropped-held, others, others-none, others-twice, one-any, put-alone, put-others, renewed-alone, renewed-others}
+use Rattle.gm_edit.proofs.Said.{IsPutIn, added-put, after-first-put, dropped-held, others, others-none, others-twice, put-alone, put-others, renewed-alone, renewed-others}
 use Rattle.gm_edit.proofs.Sound.{SoundFrom, sound-file}
 use Rattle.gm_edit.proofs.Written.{written-sound}
 
@@ -235,42 +235,49 @@ alone-after edit lines d good fit sound e = elim (cases_Bool (is_there (about ed
 
 -- ---- what it adds
 
-addition-changes-nothing : (edit : Edit) (lines : List (Line Placed)) → is_addition edit ≡ true → changed edit lines ≡ lines
+addition-changes-nothing : (edit : Edit) (lines : List (Line Placed)) (d : Directive) → added_by edit ≡ Some d → changed edit lines ≡ lines
 unfolding changed
-addition-changes-nothing (AddExclude p) lines e = refl
-addition-changes-nothing (AddRetract ends) lines e = refl
-addition-changes-nothing (SetModule path) lines e = absurd cc
-addition-changes-nothing (SetGo text) lines e = absurd cc
-addition-changes-nothing (SetRequire p) lines e = absurd cc
-addition-changes-nothing (DropRequire path) lines e = absurd cc
-addition-changes-nothing (DropExclude p) lines e = absurd cc
-addition-changes-nothing (SetReplace r) lines e = absurd cc
-addition-changes-nothing (DropReplace left) lines e = absurd cc
-addition-changes-nothing (DropRetract ends) lines e = absurd cc
+addition-changes-nothing (AddExclude p) lines d e = refl
+addition-changes-nothing (AddRetract ends) lines d e = refl
+addition-changes-nothing (SetModule path) lines d e = absurd cc
+addition-changes-nothing (SetGo text) lines d e = absurd cc
+addition-changes-nothing (SetRequire p) lines d e = absurd cc
+addition-changes-nothing (DropRequire path) lines d e = absurd cc
+addition-changes-nothing (DropExclude p) lines d e = absurd cc
+addition-changes-nothing (SetReplace r) lines d e = absurd cc
+addition-changes-nothing (DropReplace left) lines d e = absurd cc
+addition-changes-nothing (DropRetract ends) lines d e = absurd cc
 
-put-in-there : (edit : Edit) (lines : List (Line Placed)) → IsSoundEdit edit → SoundFrom [] None lines → is_there (about edit) lines ≡ false → is_addition edit ≡ true
-    → list_any (about edit) (held_from None (put_in edit lines)) ≡ true
-put-in-there (AddExclude p) lines good sound none e =
+put-in-once : (edit : Edit) (lines : List (Line Placed)) (d : Directive) → IsSoundEdit edit → SoundFrom [] None lines → is_there (about edit) lines ≡ false → added_by edit ≡ Some d
+    → filter (about edit) (held_from None (put_in edit lines)) ≡ d ∷ []
+put-in-once (AddExclude p) lines d good sound none e =
     let test : Directive → Bool = excludes_pair p in
-    one-any test (Excludes p) (held_from None (put_in (AddExclude p) lines)) (put-alone test (Excludes p) (held_from None lines) _ (pair-itself p) (none-from test None lines none) (exclude-put p lines good sound))
-put-in-there (AddRetract ends) lines good sound none e =
+    let same : Excludes p ≡ d = cc in
+    put-alone test (Excludes p) (held_from None lines) _ (pair-itself p) (none-from test None lines none) (exclude-put p lines good sound) ∙ ap (λ (x : Directive). x ∷ []) same
+put-in-once (AddRetract ends) lines d good sound none e =
     let test : Directive → Bool = retracts_ends ends in
-    one-any test (Retracts ends) (held_from None (put_in (AddRetract ends) lines)) (put-alone test (Retracts ends) (held_from None lines) _ (pair-itself ends) (none-from test None lines none) (retract-put ends lines good sound))
-put-in-there (SetModule path) lines good sound none e = absurd cc
-put-in-there (SetGo text) lines good sound none e = absurd cc
-put-in-there (SetRequire p) lines good sound none e = absurd cc
-put-in-there (DropRequire path) lines good sound none e = absurd cc
-put-in-there (DropExclude p) lines good sound none e = absurd cc
-put-in-there (SetReplace r) lines good sound none e = absurd cc
-put-in-there (DropReplace left) lines good sound none e = absurd cc
-put-in-there (DropRetract ends) lines good sound none e = absurd cc
+    let same : Retracts ends ≡ d = cc in
+    put-alone test (Retracts ends) (held_from None lines) _ (pair-itself ends) (none-from test None lines none) (retract-put ends lines good sound) ∙ ap (λ (x : Directive). x ∷ []) same
+put-in-once (SetModule path) lines d good sound none e = absurd cc
+put-in-once (SetGo text) lines d good sound none e = absurd cc
+put-in-once (SetRequire p) lines d good sound none e = absurd cc
+put-in-once (DropRequire path) lines d good sound none e = absurd cc
+put-in-once (DropExclude p) lines d good sound none e = absurd cc
+put-in-once (SetReplace r) lines d good sound none e = absurd cc
+put-in-once (DropReplace left) lines d good sound none e = absurd cc
+put-in-once (DropRetract ends) lines d good sound none e = absurd cc
 
-there-after : (edit : Edit) (lines : List (Line Placed)) → IsSoundEdit edit → SoundFrom [] None lines → is_addition edit ≡ true → list_any (about edit) (held_from None (edited edit lines)) ≡ true
+abbrev once_or_as_before : Edit → Directive → List Directive → List Directive
+once_or_as_before edit d said = if list_any (about edit) said then filter (about edit) said else d ∷ []
+
+added-after : (edit : Edit) (lines : List (Line Placed)) (d : Directive) → IsSoundEdit edit → SoundFrom [] None lines → added_by edit ≡ Some d
+    → filter (about edit) (held_from None (edited edit lines)) ≡ once_or_as_before edit d (held_from None lines)
 unfolding edited
-there-after edit lines good sound e = elim (cases_Bool (is_there (about edit) lines)) [
+added-after edit lines d good sound e = elim (cases_Bool (is_there (about edit) lines)) [
   | inl there ↦
-      rw there (ap (λ (ls : List (Line Placed)). list_any (about edit) (held_from None ls)) (addition-changes-nothing edit lines e) ∙ sym (there-is (about edit) None lines) ∙ there)
-  | inr none ↦ rw none (put-in-there edit lines good sound none e)
+      let any : list_any (about edit) (held_from None lines) ≡ true = sym (there-is (about edit) None lines) ∙ there in
+      rw (there, any) (ap (λ (ls : List (Line Placed)). filter (about edit) (held_from None ls)) (addition-changes-nothing edit lines d e))
+  | inr none ↦ rw (none, none-from (about edit) None lines none) (put-in-once edit lines d good sound none e)
 ]
 
 -- ---- the laws
@@ -287,7 +294,9 @@ set-stands-alone = λ edit lines d is e.
     ap (filter (about edit)) (file-held (edited edit lines)) ∙ alone-after edit lines d sound.0 is.1 sound.1 e
 
 pub added-is-there : AddedIsThere
-added-is-there = λ edit lines is e. let sound = sound-of edit lines is in ap (list_any (about edit)) (file-held (edited edit lines)) ∙ there-after edit lines sound.0 sound.1 e
+added-is-there = λ edit lines d is e.
+    let sound = sound-of edit lines is in
+    ap (filter (about edit)) (file-held (edited edit lines)) ∙ added-after edit lines d sound.0 sound.1 e ∙ ap (once_or_as_before edit d) (sym (file-held lines))
 
 pub others-stay : OthersStay
 others-stay = λ edit lines is.

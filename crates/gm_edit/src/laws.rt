@@ -34,7 +34,8 @@ pub fn what_is_set_stands_alone()
     ensures { SetStandsAlone }
 {}
 
-/// After `exclude=P@V` that is excluded, and after `retract=[V,W]` that is retracted.
+/// After `exclude=P@V` one directive excludes that where none did before, and where some did the same do; so with
+/// `retract=[V,W]`, whose ends are V and W.
 pub fn what_is_added_is_there()
     ensures { AddedIsThere }
 {}
