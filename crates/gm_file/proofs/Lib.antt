@@ -11,6 +11,7 @@ pub mod Sets
 pub mod Indexed
 pub mod Saying
 pub mod Ordered
+pub mod LineSaid
 pub mod Lines
 pub mod Whole
 pub mod Retracted

@@ -38,7 +38,9 @@ pub fn relative_name(alloc: Global, name: &FileName) -> Result<String, NoMemory>
 pub(crate) fn below(alloc: Global, folder: &str, text: &str) -> Result<String, NoMemory>
     ensures { IfOk result (λ place. string_bytes place ≡ below folder.now text.now) }
 {
-    let mut place = String::from_str(alloc, folder)?;
+    let room = folder.len().saturating_add(text.len()).saturating_add(1);
+    let mut place = String::with_capacity(alloc, room)?;
+    place.push_str(folder)?;
     if !ends_in_slash(folder) {
         place.push_str("/")?;
     }

@@ -20,22 +20,8 @@ turns-init g c = record {
 pub turns-smaller : goal.turns-smaller
 turns-smaller g c = let few = few_turns c.turns.opening.vertices.items c.turns.opening.turns.items c.turns.invariant.state.is_opening.turns in omega arith
 
-pub turns-smaller-in_ok-follow : goal.turns-smaller-in_ok-follow
-turns-smaller-in_ok-follow g c = let few = few_turns c.turns.opening.vertices.items c.turns.opening.turns.items c.turns.invariant.state.is_opening.turns in omega arith
-
 pub turns-preserved : goal.turns-preserved
 turns-preserved g c =
-    let here = subst (λ (t : Turn). get_or c.turns.opening.turns.items c.turns.at t ≡ t) (sym c.in-Ok.ensures) (sym c.index.ensures) in
-    record {
-      state = step (main_in c.args.cache.now) (sums_in c.args.cache.now) c.turns.cache c.follow.new.cache (g.F.Files.asked c.turns.files) (g.F.Files.asked c.follow.new.files) c.turns.opening c.follow.new.opening c.turns.gathered c.follow.new.gathered c.turns.at c.in-Ok.one.vertex c.in-Ok.one.depth
-          c.turns.invariant.state (omega arith) here c.in_ok-follow.ensures.knows c.in_ok-follow.ensures.continues c.in_ok-follow.ensures.turns c.in_ok-follow.ensures.followed c.follow.ensures.asks;
-      may = may_along _ _ _ _ _ c.turns.invariant.same_store c.turns.invariant.may c.follow.ensures.may;
-      same_store = λ n r h. c.turns.invariant.same_store n r (c.follow.ensures.same_store n r h);
-      refused = c.in_ok-follow.ensures.refused ∙ append-nil _ ∙ c.turns.invariant.refused;
-    }
-
-pub turns-preserved-in_ok-follow : goal.turns-preserved-in_ok-follow
-turns-preserved-in_ok-follow g c =
     let here = subst (λ (t : Turn). get_or c.turns.opening.turns.items c.turns.at t ≡ t) (sym c.in-Ok.ensures) (sym c.index.ensures) in
     record {
       state = step (main_in c.args.cache.now) (sums_in c.args.cache.now) c.turns.cache c.follow.new.cache (g.F.Files.asked c.turns.files) (g.F.Files.asked c.follow.new.files) c.turns.opening c.follow.new.opening c.turns.gathered c.follow.new.gathered c.turns.at c.in-Ok.one.vertex c.in-Ok.one.depth

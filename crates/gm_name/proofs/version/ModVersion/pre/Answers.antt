@@ -5,7 +5,7 @@ use Rattle.gm_name.proofs.version.ModVersion.pre.Goals as goal
 
 pub returns-clause-valid : goal.returns-clause-valid
 returns-clause-valid c =
-    let text = string_bytes c.self.inside.text in
+    let text = string_bytes c.self.inside.shared.value.text in
     let valid = (version-parts text c.self.invariant.0).0 in
-    let same = parts-read text (parts_of c.self.inside.read) c.self.invariant.1 in
-    rw c.as_str.ensures (rw same at valid.3)
+    let same = parts-read text (parts_of c.self.inside.shared.value.read) c.self.invariant.1 in
+    rw (c.as_str.ensures, c.deref.ensures) (rw same at valid.3)
