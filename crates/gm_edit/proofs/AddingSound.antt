@@ -1,6 +1,6 @@
 -- Lines with one more entry stay a document without a fault.
-use Rattle.std.proofs.Common.{◌≡◌, ℕ, suc, ◌+◌, ◌≤◌, ◌||◌, ◌&&◌, not, Bool, true, false, List, [], ◌∷◌, ◌++◌, length, map, take, drop, take-add, Option, Some, None, is_some, refl, sym, ap, subst, ◌∙◌, append-nil, append_assoc, arith, inl, inr}
-use Rattle.std.specs.Prelude.{if◌then◌else◌, codes, insert, ⊤, ◌⊎◌}
+use Rattle.std.proofs.Common.{◌≡◌, ℕ, ◌+◌, ◌≤◌, ◌||◌, ◌&&◌, not, Bool, true, false, List, [], ◌∷◌, ◌++◌, length, take, drop, take-add, Option, Some, None, is_some, refl, sym, ap, subst, ◌∙◌, append-nil, append_assoc, arith, inl, inr}
+use Rattle.std.specs.Prelude.{if◌then◌else◌, ⊤, ◌⊎◌}
 use Rattle.std.specs.Option.{option_map, option_or, option_to_list}
 use Rattle.std.specs.List.{cons_option, filter_map, list_any}
 use Rattle.std.proofs.lemmas.Bool.{cases_Bool}
@@ -17,12 +17,12 @@ use Rattle.gm_syntax.specs.LineViews.{plain, plains}
 use Rattle.gm_syntax.proofs.Changes.{blank_stands}
 use Rattle.gm_file.specs.declared.fault.DirectiveKind.{DirectiveKind}
 use Rattle.gm_file.specs.declared.fault.DirectiveKind.TheVariants.{BadGo, Repeated, ConflictingReplace}
-use Rattle.gm_file.specs.Directives.{Strict, Verb, ForModule, ForGo, ForRequire, ForExclude, ForReplace, ForRetract, ForNothing, Unknown, Directive, DeclaresModule, DeclaresGo, Requires, Excludes, Replaces, Retracts, Kept, Pair, Left, Right, Folder, Module, Replacing, Item, Silent, Opening, Saying, block_after, block_behind, directive_in, directive_of, directives, ends_of, is_empty_block, item_at, one_of, pair_of, replacing_of, said, seats_from, verb_in}
-use Rattle.gm_file.specs.Faults.{conflicts, directive_kinds, ends_kinds, fault_of, go_in, is_conflict, is_go, is_module, is_same_left, is_same_right, is_same_version, item_kinds, pair_kinds, path_kinds, saying_kinds, sides_kinds, unless}
+use Rattle.gm_file.specs.Directives.{Strict, Verb, ForModule, ForGo, ForRequire, ForExclude, ForReplace, ForRetract, ForNothing, Unknown, Directive, DeclaresModule, DeclaresGo, Requires, Excludes, Replaces, Retracts, Kept, Left, Right, Folder, Module, Replacing, Item, Silent, Opening, Saying, block_after, block_behind, directive_in, directive_of, directives, ends_of, is_empty_block, item_at, one_of, pair_of, replacing_of, said, seats_from, verb_in}
+use Rattle.gm_file.specs.Faults.{conflicts, directive_kinds, fault_of, go_in, is_conflict, is_go, is_module, is_same_left, is_same_right, is_same_version, item_kinds, path_kinds, saying_kinds, sides_kinds, unless}
 use Rattle.gm_edit.specs.declared.adding.AddedVerb.{AddedVerb}
 use Rattle.gm_edit.specs.declared.adding.AddedVerb.TheVariants as verb
 use Rattle.gm_edit.specs.declared.adding.Spot.{Spot}
-use Rattle.gm_edit.specs.Adding.{added, added_at, after_first_that, behind_first, behind_last, behind_line, close_len, entry_at, further, is_exclude, is_of, is_replace, is_require, is_retract, past_block, put_behind, single, verb_text}
+use Rattle.gm_edit.specs.Adding.{added, added_at, after_first_that, behind_first, behind_last, behind_line, close_len, entry_at, further, is_of, past_block, put_behind, single, verb_text}
 use Rattle.gm_edit.specs.Fates.{held_at, item_of, passes, word_of}
 use Rattle.gm_edit.proofs.Sound.{SoundFrom, both-nil, file-sound, nil-parts, sound-file}
 use Rattle.gm_edit.proofs.Leaving.{AreMild, Near, clashes, kinds-near}

@@ -1,6 +1,5 @@
 -- The loop that drops entries.
-use Rattle.std.proofs.Common.{◌≡◌, ℕ, Bool, true, false, List, [], ◌∷◌, ◌++◌, Option, Some, None, Ok, Err, Bor, refl, sym, ap, subst, ◌∙◌}
-use Rattle.std.specs.Prelude.{if◌then◌else◌, ⊤}
+use Rattle.std.proofs.Common.{◌≡◌, Bool, true, false, List, [], ◌∷◌, ◌++◌, Option, Some, None, Ok, Err, Bor, refl, sym, ap, subst, ◌∙◌}
 use Rattle.std.specs.Option.{option_map, option_to_list}
 use Rattle.gm_syntax.specs.Words.{Word}
 use Rattle.gm_syntax.specs.Tokens.{Placed}
@@ -14,7 +13,7 @@ use Rattle.gm_file.specs.Directives.{Strict, Directive, DeclaresModule, Declares
 use Rattle.gm_file.specs.Faults.{item_kinds}
 use Rattle.gm_file.specs.Fields.{first}
 use Rattle.gm_edit.specs.declared.walk.Walk as declared_walk
-use Rattle.gm_edit.specs.Fates.{Fate, IsRight, dropped, dropping_from, fate_of, held_at, item_of, left_from, passes, word_of}
+use Rattle.gm_edit.specs.Fates.{Fate, IsRight, dropped, dropping_from, fate_of, held_at, left_from, passes, word_of}
 use Rattle.gm_edit.specs.Walks.{left_by}
 use Rattle.gm_edit.proofs.Sound.{SoundFrom}
 use Rattle.gm_edit.proofs.Leaving.{AreMarked, AreMild, IsGone, Marked, Near, fates_in, left-sound, lines_in}

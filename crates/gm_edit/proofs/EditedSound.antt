@@ -1,6 +1,6 @@
 -- The lines after an operation are a document without a fault.
-use Rattle.std.proofs.Common.{◌≡◌, ℕ, ◌==◌, ◌<◌, ◌||◌, not, Bool, true, false, List, [], ◌∷◌, ◌++◌, length, Option, Some, None, is_some, refl, sym, ap, subst, ◌∙◌, arith, inl, inr}
-use Rattle.std.specs.Prelude.{if◌then◌else◌, codes}
+use Rattle.std.proofs.Common.{◌≡◌, ℕ, ◌==◌, ◌||◌, not, Bool, true, false, List, [], ◌∷◌, Option, Some, None, refl, sym, ap, ◌∙◌, arith, inl, inr}
+use Rattle.std.specs.Prelude.{codes}
 use Rattle.std.specs.Option.{option_to_list}
 use Rattle.std.specs.List.{list_any}
 use Rattle.std.specs.Str.{bytes_eq}
@@ -16,9 +16,8 @@ use Rattle.gm_syntax.specs.Document.{Line, Entry, CanStand, IsDocument}
 use Rattle.gm_syntax.specs.LineViews.{plain, plains}
 use Rattle.gm_syntax.proofs.NewWords.{mark_stands}
 use Rattle.gm_syntax.proofs.Changes.{entry_stands}
-use Rattle.gm_name.specs.Names.{does_fit, is_version}
-use Rattle.gm_file.specs.Directives.{Strict, Pair, Left, Replacing, Directive, DeclaresModule, DeclaresGo, Requires, Excludes, Replaces, Retracts, Kept, Verb, ForGo, ForRequire, ForExclude, ForRetract, block_behind, directive_of, directives, verb_in}
-use Rattle.gm_file.specs.GoVersions.{strict_go}
+use Rattle.gm_name.specs.Names.{does_fit}
+use Rattle.gm_file.specs.Directives.{Strict, Pair, Left, Replacing, Directive, DeclaresModule, DeclaresGo, Requires, Excludes, Replaces, Retracts, Kept, ForGo, ForRequire, ForExclude, ForRetract, block_behind, directive_of, directives, verb_in}
 use Rattle.gm_file.specs.Faults.{conflicts, directive_kinds, fault_of, is_go, is_module}
 use Rattle.gm_edit.specs.declared.adding.AddedVerb.{AddedVerb}
 use Rattle.gm_edit.specs.declared.adding.AddedVerb.TheVariants as verb

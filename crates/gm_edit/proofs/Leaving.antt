@@ -1,12 +1,11 @@
 -- Lines of which one is made new, and others go, stay a document without a fault.
 use Rattle.std.proofs.Common.{◌≡◌, ℕ, ◌||◌, ◌&&◌, not, Bool, true, false, List, [], ◌∷◌, ◌++◌, map, Option, Some, None, is_some, is_none, refl, sym, ap, subst, ◌∙◌, append-nil, append_assoc, inl, inr}
-use Rattle.std.specs.Prelude.{if◌then◌else◌, ⊤, ◌⊎◌}
+use Rattle.std.specs.Prelude.{⊤, ◌⊎◌}
 use Rattle.std.specs.Option.{option_map, option_to_list}
-use Rattle.std.specs.List.{cons_option, filter_map, list_all, list_any}
+use Rattle.std.specs.List.{list_all, list_any}
 use Rattle.std.proofs.lemmas.Bool.{cases_Bool}
 use Rattle.std.proofs.lemmas.List.{map-append}
 use Rattle.std.proofs.lemmas.List.Folds.{list_any-append}
-use Rattle.gm_syntax.specs.Words.{Word}
 use Rattle.gm_syntax.specs.Tokens.{Placed}
 use Rattle.gm_syntax.specs.Document.{Line, Blank, Comment, Open, Close, Entry, CanStand}
 use Rattle.gm_syntax.specs.LineViews.{plain}
@@ -14,7 +13,7 @@ use Rattle.gm_file.specs.declared.fault.DirectiveKind.{DirectiveKind}
 use Rattle.gm_file.specs.declared.fault.DirectiveKind.TheVariants.{BadGo, Repeated, ConflictingReplace}
 use Rattle.gm_file.specs.Directives.{Strict, Directive, DeclaresModule, DeclaresGo, Requires, Excludes, Replaces, Retracts, Kept, Item, Silent, Opening, Saying, Verb, block_behind, directive_in, directive_of, item_at, verb_in}
 use Rattle.gm_file.specs.Faults.{conflicts, directive_kinds, go_in, is_go, is_module, item_kinds, path_kinds, saying_kinds, sides_kinds, unless}
-use Rattle.gm_edit.specs.Fates.{Begun, Fate, begin, block_lines, held_at, is_blank, is_emptied, item_of, itself, kept, leaves_nothing, left_from, with_line, word_of}
+use Rattle.gm_edit.specs.Fates.{Begun, Fate, held_at, is_blank, is_emptied, item_of, kept, leaves_nothing, left_from, with_line}
 use Rattle.gm_edit.proofs.Sound.{SoundFrom, both-nil, nil-parts}
 use Rattle.gm_name.proofs.NameTests.{and_both}
 

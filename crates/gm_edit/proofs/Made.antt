@@ -1,8 +1,6 @@
 -- The words that an edit makes, and what an entry says when its arguments are made new.
-use Rattle.std.proofs.Common.{◌≡◌, ℕ, ◌+◌, ◌-◌, ◌<◌, ◌&&◌, ◌||◌, not, Bool, true, false, List, [], ◌∷◌, ◌++◌, length, map, take, Option, Some, None, is_some, refl, sym, ap, subst, ◌∙◌, arith, inl, inr}
-use Rattle.std.specs.Prelude.{if◌then◌else◌, ⊤}
+use Rattle.std.proofs.Common.{◌≡◌, ℕ, ◌<◌, true, false, List, [], ◌∷◌, ◌++◌, length, Option, Some, None, is_some, refl, sym, ap, subst, ◌∙◌, arith, inl, inr}
 use Rattle.std.specs.List.{AllByRecursion, list_any}
-use Rattle.std.specs.Option.{option_map}
 use Rattle.std.proofs.lemmas.Bool.{cases_Bool}
 use Rattle.gm_syntax.specs.declared.word.Kind.{Kind}
 use Rattle.gm_syntax.specs.declared.word.Kind.TheVariants.{Bare, Text, Mark}
@@ -17,12 +15,12 @@ use Rattle.gm_syntax.specs.LineViews.{plain}
 use Rattle.gm_syntax.proofs.Spelled.{is_bare_word, bare_word_is}
 use Rattle.gm_syntax.proofs.NewWords.{new_word_no_mark, new_word_stands, value_is}
 use Rattle.gm_syntax.proofs.Changes.{entry_stands, standing_entry}
-use Rattle.gm_file.specs.Values.{argument, argument_of_kind, both}
-use Rattle.gm_file.specs.Directives.{Strict, Pair, pair, Directive, DeclaresModule, DeclaresGo, Requires, Excludes, Replaces, Retracts, Kept, Item, Saying, Verb, ForModule, ForGo, ForRequire, ForExclude, ForReplace, ForRetract, ForNothing, Unknown, directive_in, directive_of, ends_of, is_empty_block, item_at, main_verb, one_of, pair_of, replacing_of}
+use Rattle.gm_file.specs.Values.{argument, argument_of_kind}
+use Rattle.gm_file.specs.Directives.{Strict, Pair, pair, Directive, DeclaresModule, DeclaresGo, Requires, Excludes, Replaces, Retracts, Kept, Saying, Verb, ForModule, ForGo, ForRequire, ForExclude, ForReplace, ForRetract, ForNothing, Unknown, directive_in, directive_of, ends_of, is_empty_block, item_at, main_verb, one_of, pair_of, replacing_of}
 use Rattle.gm_file.specs.Faults.{directive_kinds, is_module, item_kinds, saying_kinds}
-use Rattle.gm_edit.specs.Fates.{held_at, item_of, word_of}
+use Rattle.gm_edit.specs.Fates.{held_at, item_of}
 use Rattle.gm_edit.specs.NewWords.{made_word}
-use Rattle.gm_edit.specs.Renewing.{before_arguments, with_arguments, with_last}
+use Rattle.gm_edit.specs.Renewing.{with_arguments, with_last}
 use Rattle.gm_edit.proofs.Leaving.{IsMadeNew, clashes}
 use Rattle.gm_edit.proofs.Parts.{both-are, map-some}
 

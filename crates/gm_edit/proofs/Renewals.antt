@@ -1,8 +1,6 @@
 -- The operations that make an entry new.
-use Rattle.std.proofs.Common.{◌≡◌, ℕ, ◌<◌, ◌&&◌, ◌||◌, not, Bool, true, false, List, [], ◌∷◌, ◌++◌, length, Option, Some, None, is_some, refl, sym, ap, subst, ◌∙◌, arith, inl, inr}
-use Rattle.std.specs.Prelude.{if◌then◌else◌, ⊤}
-use Rattle.std.specs.List.{AllByRecursion, list_any}
-use Rattle.std.specs.Option.{option_map}
+use Rattle.std.proofs.Common.{◌≡◌, ℕ, ◌&&◌, not, Bool, true, false, List, [], ◌∷◌, ◌++◌, Option, Some, None, is_some, refl, sym, ap, subst, ◌∙◌, arith, inl, inr}
+use Rattle.std.specs.List.{list_any}
 use Rattle.std.specs.Str.{bytes_eq}
 use Rattle.std.proofs.lemmas.Bool.{cases_Bool, true≢false}
 use Rattle.std.proofs.lemmas.Slice.Eq.{bytes_eq-Decides}
@@ -13,26 +11,25 @@ use Rattle.gm_syntax.specs.Words.{Word}
 use Rattle.gm_syntax.specs.Bare.{can_be_bare, new_word}
 use Rattle.gm_syntax.specs.Spelling.{IsWord}
 use Rattle.gm_syntax.specs.Tokens.{Placed, words_of}
-use Rattle.gm_syntax.specs.Document.{Line, Entry, CanStand, IsEntry}
+use Rattle.gm_syntax.specs.Document.{Line, Entry, CanStand}
 use Rattle.gm_syntax.specs.LineViews.{plain}
 use Rattle.gm_syntax.proofs.NewWords.{mark_stands}
 use Rattle.gm_syntax.proofs.Changes.{standing_entry}
 use Rattle.gm_name.proofs.NameTests.{and_both}
-use Rattle.gm_name.specs.Names.{does_fit, is_path, is_version}
-use Rattle.gm_file.specs.Values.{argument, is_folder}
+use Rattle.gm_name.specs.Names.{does_fit, is_path}
+use Rattle.gm_file.specs.Values.{argument}
 use Rattle.gm_file.specs.GoVersions.{strict_go}
-use Rattle.gm_file.specs.Directives.{Strict, Pair, Left, Right, Folder, Module, Replacing, Directive, DeclaresModule, DeclaresGo, Requires, Excludes, Replaces, Retracts, Kept, Verb, ForModule, ForGo, ForRequire, ForReplace, directive_of, is_arrow, main_verb, one_of, pair_of, replacing_of}
+use Rattle.gm_file.specs.Directives.{Strict, Pair, Left, Right, Folder, Module, Replacing, Directive, DeclaresModule, DeclaresGo, Requires, Excludes, Replaces, Retracts, Kept, Verb, ForModule, ForGo, ForRequire, ForReplace, directive_of, is_arrow, main_verb, one_of, pair_of}
 use Rattle.gm_file.specs.Faults.{conflicts, directive_kinds, does_left_fit, is_go, is_module, is_same_left, is_same_right, is_same_version, left_version_kinds, path_kinds, pair_kinds, right_path_kinds, right_version_kinds, sides_kinds, unless}
-use Rattle.gm_edit.specs.Edits.{SetModule, SetGo, SetRequire, SetReplace}
 use Rattle.gm_edit.specs.About.{is_covered_by, is_replaced_by, requires_path}
 use Rattle.gm_edit.specs.Fates.{held_at}
-use Rattle.gm_edit.specs.NewWords.{left_words, left_words_of, made_mark, made_word, replace_words, right_words}
+use Rattle.gm_edit.specs.NewWords.{left_words_of, made_mark, made_word, replace_words, right_words}
 use Rattle.gm_edit.specs.Renewing.{with_arguments, with_last}
 use Rattle.gm_edit.specs.Sound.{IsPairOfNames, IsSoundLeft, IsSoundRight, IsSoundVersion}
 use Rattle.gm_edit.proofs.Feeds.{byte-feed, go-feed, path-feed, version-feed}
 use Rattle.gm_edit.proofs.Folders.{path-no-folder}
 use Rattle.gm_edit.proofs.Leaving.{AreMild, IsMadeNew, clashes}
-use Rattle.gm_edit.proofs.Made.{AreArguments, IsHeldBy, IsFront, all-arguments, entry-made, held-by, made-no-mark, made-stands, made-value, one-are, one-argument, one-last, says-verb, two-are, two-arguments, two-last, verb_for}
+use Rattle.gm_edit.proofs.Made.{AreArguments, IsFront, all-arguments, entry-made, held-by, made-no-mark, made-stands, made-value, one-are, one-argument, one-last, says-verb, two-are, two-arguments, two-last}
 use Rattle.gm_edit.proofs.Parts.{map-some}
 use Rattle.gm_edit.proofs.Renews.{IsRenewal, later-marked, module-later}
 use Rattle.gm_edit.proofs.Sound.{both-nil}

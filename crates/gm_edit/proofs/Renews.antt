@@ -1,7 +1,7 @@
 -- The loop that makes an entry new, and that its lines stay a document without a fault.
-use Rattle.std.proofs.Common.{◌≡◌, ℕ, ◌&&◌, ◌||◌, not, Bool, true, false, List, [], ◌∷◌, ◌++◌, Option, Some, None, is_some, refl, sym, ap, subst, ◌∙◌, inl, inr}
-use Rattle.std.specs.Prelude.{if◌then◌else◌, ⊤}
-use Rattle.std.specs.Option.{option_map, option_to_list}
+use Rattle.std.proofs.Common.{◌≡◌, ◌||◌, not, Bool, true, false, List, [], ◌∷◌, ◌++◌, Option, Some, None, is_some, refl, sym, ap, subst, ◌∙◌, inl, inr}
+use Rattle.std.specs.Prelude.{if◌then◌else◌}
+use Rattle.std.specs.Option.{option_to_list}
 use Rattle.std.specs.List.{list_any}
 use Rattle.std.proofs.lemmas.Bool.{cases_Bool}
 use Rattle.std.proofs.lemmas.List.Folds.{list_any-append}
@@ -12,11 +12,11 @@ use Rattle.gm_file.specs.declared.fault.DirectiveKind.TheVariants.{Repeated}
 use Rattle.gm_file.specs.Directives.{Strict, Directive, DeclaresModule, DeclaresGo, Requires, Excludes, Replaces, Retracts, Kept, Item, Silent, Opening, Saying, Verb, block_behind, directive_in, directive_of, verb_in}
 use Rattle.gm_file.specs.Faults.{directive_kinds, is_module, item_kinds, path_kinds, saying_kinds, unless}
 use Rattle.gm_edit.specs.declared.walk.Walk as declared_walk
-use Rattle.gm_edit.specs.Fates.{Fate, IsRight, dropping_from, held_at, item_of, left_from, passes, renewed, renewing_from}
+use Rattle.gm_edit.specs.Fates.{Fate, IsRight, held_at, item_of, left_from, passes, renewed, renewing_from}
 use Rattle.gm_edit.specs.Renewing.{new_fate, renewing_behind}
 use Rattle.gm_edit.specs.Walks.{left_by}
 use Rattle.gm_edit.proofs.Sound.{SoundFrom, nil-parts}
-use Rattle.gm_edit.proofs.Leaving.{AreMarked, AreMild, IsGone, IsMadeNew, Marked, Near, clashes, fates_in, left-sound, lines_in}
+use Rattle.gm_edit.proofs.Leaving.{AreMarked, AreMild, IsMadeNew, Marked, Near, fates_in, left-sound, lines_in}
 use Rattle.gm_edit.proofs.Drops.{dropping, dropping-fates, dropping-lines, gone-line}
 
 -- ---- the loop

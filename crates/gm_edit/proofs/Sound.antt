@@ -1,7 +1,7 @@
 -- Lines that are a document without a fault, one after the other.
-use Rattle.std.proofs.Common.{◌≡◌, ℕ, ◌+◌, ◌||◌, ◌&&◌, not, Bool, true, false, List, [], ◌∷◌, ◌++◌, length, map, Option, Some, None, is_some, refl, sym, ap, subst, ◌∙◌, append-nil, append_assoc}
+use Rattle.std.proofs.Common.{◌≡◌, ◌+◌, Bool, true, false, List, [], ◌∷◌, ◌++◌, length, map, Option, Some, None, is_some, refl, sym, ap, subst, ◌∙◌, append-nil, append_assoc}
 use Rattle.std.specs.Option.{option_map, option_or, option_to_list}
-use Rattle.std.specs.List.{cons_option, filter_map, flat_map, list_all, list_any}
+use Rattle.std.specs.List.{cons_option, filter_map, flat_map, list_any}
 use Rattle.std.proofs.lemmas.List.Elements.{filter_map-append}
 use Rattle.std.specs.Prelude.{if◌then◌else◌}
 use Rattle.gm_syntax.specs.Words.{Word}
@@ -9,9 +9,9 @@ use Rattle.gm_syntax.specs.Tokens.{Placed}
 use Rattle.gm_syntax.specs.Document.{Line, Blank, Comment, Open, Close, Entry, CanStand, IsDocument, inside_after, inside_past, start}
 use Rattle.gm_syntax.specs.LineViews.{plain, plains}
 use Rattle.gm_file.specs.declared.fault.DirectiveKind.{DirectiveKind}
-use Rattle.gm_file.specs.declared.fault.DirectiveKind.TheVariants.{Repeated, ConflictingReplace, NoModule}
-use Rattle.gm_file.specs.Directives.{Strict, Directive, DeclaresModule, DeclaresGo, Requires, Excludes, Replaces, Retracts, Kept, Item, Silent, Opening, Saying, Seat, Verb, block_behind, block_after, directive_in, directive_of, directives, item_at, said, seats, seats_from, verb_in}
-use Rattle.gm_file.specs.Faults.{Fault, conflicts, directive_kinds, fault_of, faults, faults_after, first_of, is_go, is_module, item_kinds, missing_module, saying_kinds, unless, with_before_from}
+use Rattle.gm_file.specs.declared.fault.DirectiveKind.TheVariants.{NoModule}
+use Rattle.gm_file.specs.Directives.{Strict, Directive, Seat, block_behind, directives, item_at, said, seats_from}
+use Rattle.gm_file.specs.Faults.{Fault, fault_of, faults, faults_after, first_of, is_module, item_kinds, missing_module, with_before_from}
 use Rattle.gm_syntax.proofs.Changes.{StandFrom, lines_stand, standing_lines}
 use Rattle.gm_file.proofs.First.{first-none}
 use Rattle.gm_edit.specs.Fates.{held_at, item_of, word_of}

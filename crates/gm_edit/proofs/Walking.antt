@@ -1,12 +1,11 @@
 -- Walks over the lines of a file.
-use Rattle.std.proofs.Common.{◌≡◌, ℕ, suc, ◌+◌, ◌<◌, ◌||◌, Bool, true, false, List, [], ◌∷◌, ◌++◌, length, get_or, drop, take, drop-cons, Option, Some, None, is_none, refl, sym, ap, ◌∙◌, append_assoc, arith}
-use Rattle.std.specs.Prelude.{if◌then◌else◌}
+use Rattle.std.proofs.Common.{◌≡◌, ℕ, suc, ◌+◌, ◌<◌, ◌||◌, Bool, false, List, [], ◌∷◌, ◌++◌, length, get_or, drop, drop-cons, Option, Some, None, is_none, refl, sym, ap, ◌∙◌, append_assoc, arith}
 use Rattle.gm_syntax.specs.Tokens.{Placed}
 use Rattle.gm_syntax.specs.Document.{Line, Close}
 use Rattle.std.specs.List.{list_all, list_any}
 use Rattle.std.proofs.lemmas.List.Folds.{list_all-map}
 use Rattle.gm_syntax.specs.declared.line.Line as declared
-use Rattle.gm_edit.specs.Fates.{Begun, Fate, block_lines, is_emptied, leaves_nothing, left_from, opened_lines}
+use Rattle.gm_edit.specs.Fates.{Begun, Fate, is_emptied, leaves_nothing, left_from, opened_lines}
 use Rattle.gm_edit.specs.Walks.{fate_seen, fates_seen}
 
 pub any-seen : (fates : List (Option declared.Line)) → list_any is_none (fates_seen fates) ≡ list_any (λ f. is_none (fate_seen f)) fates

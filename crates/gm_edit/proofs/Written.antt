@@ -1,17 +1,14 @@
 -- What the parts of a written operation are.
-use Rattle.std.proofs.Common.{◌≡◌, ℕ, ◌&&◌, not, Bool, true, false, List, [], ◌∷◌, Option, Some, None, is_some, refl, sym, ap, subst, ◌∙◌, inl, inr}
-use Rattle.std.specs.Prelude.{if◌then◌else◌, option_and_then, ⊤}
-use Rattle.std.specs.Option.{option_map}
+use Rattle.std.proofs.Common.{◌≡◌, ℕ, true, List, Some, is_some, subst, inl, inr}
 use Rattle.std.proofs.lemmas.Bool.{cases_Bool}
-use Rattle.gm_syntax.specs.Lines.{HasNoLineFeed}
 use Rattle.gm_name.specs.Names.{is_path, is_version}
-use Rattle.gm_file.specs.Values.{both, is_folder}
+use Rattle.gm_file.specs.Values.{is_folder}
 use Rattle.gm_file.specs.GoVersions.{strict_go}
-use Rattle.gm_file.specs.Directives.{Pair, pair, Left, left_with, left_without, Right, Folder, Module, Replacing, replacing}
+use Rattle.gm_file.specs.Directives.{Pair, pair, Left, left_without, Right, Folder, Replacing, replacing}
 use Rattle.gm_edit.specs.declared.name.Name.{Name}
 use Rattle.gm_edit.specs.declared.name.Name.TheVariants as name
-use Rattle.gm_edit.specs.Edits.{Edit, SetModule, SetGo, SetRequire, DropRequire, AddExclude, DropExclude, SetReplace, DropReplace, AddRetract, DropRetract, both_versions_in, cut_at, edit_in, folder_in, go_text_in, has_byte, inside_brackets, interval_in, is_bracketed, left_in, left_of_pair, module_of_pair, name_in, named, named_in, one_version_in, pair_in, path_and_version_in, path_in, replacing_in, right_in, sides_in, trimmed, two_versions_in, version_in}
-use Rattle.gm_edit.specs.Sound.{AreVersions, IsPairOfNames, IsSoundEdit, IsSoundLeft, IsSoundRight, IsSoundVersion}
+use Rattle.gm_edit.specs.Edits.{Edit, SetModule, SetGo, SetRequire, DropRequire, AddExclude, DropExclude, SetReplace, DropReplace, AddRetract, DropRetract, both_versions_in, cut_at, edit_in, go_text_in, has_byte, inside_brackets, interval_in, is_bracketed, left_in, left_of_pair, module_of_pair, name_in, named, named_in, pair_in, path_and_version_in, path_in, replacing_in, right_in, sides_in, trimmed, two_versions_in, version_in}
+use Rattle.gm_edit.specs.Sound.{AreVersions, IsPairOfNames, IsSoundEdit, IsSoundLeft, IsSoundRight}
 use Rattle.gm_edit.proofs.Feeds.{if-some, if-other}
 use Rattle.gm_edit.proofs.Parts.{both-are, map-some, then-some}
 

@@ -1,7 +1,7 @@
 -- Which directives an operation is about.
-use Rattle.std.specs.Prelude.{ℕ, ◌&&◌, Bool, true, false, List, Option, Some, None}
+use Rattle.std.specs.Prelude.{ℕ, ◌&&◌, Bool, false, List, Option, Some, None}
 use Rattle.std.specs.Str.{bytes_eq}
-use Rattle.gm_file.specs.Directives.{Pair, Left, Directive, DeclaresModule, DeclaresGo, Requires, Excludes, Replaces, Retracts, Kept}
+use Rattle.gm_file.specs.Directives.{Pair, Left, Directive, Requires, Excludes, Replaces, Retracts}
 use Rattle.gm_file.specs.Faults.{is_go, is_module, is_same_left}
 use Rattle.gm_edit.specs.Edits.{Edit, SetModule, SetGo, SetRequire, DropRequire, AddExclude, DropExclude, SetReplace, DropReplace, AddRetract, DropRetract}
 

@@ -3,8 +3,8 @@ use Rattle.std.specs.Prelude.{ℕ, suc, ◌+◌, if◌then◌else◌, Bool, true
 use Rattle.std.specs.Option.{option_map, option_or}
 use Rattle.gm_syntax.specs.Bare.{new_word}
 use Rattle.gm_syntax.specs.Tokens.{Placed}
-use Rattle.gm_syntax.specs.Document.{Line, Blank, Comment, Open, Close, Entry}
-use Rattle.gm_file.specs.Directives.{Directive, DeclaresModule, DeclaresGo, Requires, Excludes, Replaces, Retracts, Kept, block_behind}
+use Rattle.gm_syntax.specs.Document.{Line, Blank, Close, Entry}
+use Rattle.gm_file.specs.Directives.{Directive, Requires, Excludes, Replaces, Retracts, block_behind}
 use Rattle.gm_edit.specs.declared.adding.AddedVerb.{AddedVerb}
 use Rattle.gm_edit.specs.declared.adding.AddedVerb.TheVariants as verb
 use Rattle.gm_edit.specs.declared.adding.Spot.{Spot}

@@ -3,7 +3,7 @@ use Rattle.std.specs.Prelude.{◌≡◌, ℕ, true, false, List, Option, Some, N
 use Rattle.gm_name.specs.Names.{is_path, is_version}
 use Rattle.gm_file.specs.Values.{is_folder}
 use Rattle.gm_file.specs.GoVersions.{strict_go}
-use Rattle.gm_file.specs.Directives.{Pair, Left, Right, Folder, Module, Replacing}
+use Rattle.gm_file.specs.Directives.{Pair, Left, Right, Folder, Module}
 use Rattle.gm_edit.specs.Edits.{Edit, SetModule, SetGo, SetRequire, DropRequire, AddExclude, DropExclude, SetReplace, DropReplace, AddRetract, DropRetract, edit_in, has_byte}
 
 -- a path and a version

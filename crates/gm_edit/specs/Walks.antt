@@ -1,5 +1,5 @@
 -- What a walk over the lines of a file stands for. No public contract cites it.
-use Rattle.std.specs.Prelude.{ℕ, List, ◌++◌, map, Option}
+use Rattle.std.specs.Prelude.{List, ◌++◌, map, Option}
 use Rattle.std.specs.Option.{option_map}
 use Rattle.gm_syntax.specs.Tokens.{Placed, comment_of}
 use Rattle.gm_syntax.specs.Document.{Line}

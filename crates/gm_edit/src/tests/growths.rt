@@ -28,12 +28,22 @@ fn leaves(alloc: Global, file: &mut MainFile, op: &Op, before: &str, after: &str
     has_layout(alloc, file, after)
 }
 
+/// The same of an operation's text.
+fn text_leaves(
+    alloc: Global,
+    file: &mut MainFile,
+    text: &str,
+    before: &str,
+    after: &str,
+) -> Option<bool> {
+    let op = Op::parse(alloc, text).ok()?;
+    leaves(alloc, file, &op, before, after)
+}
+
 fn tried(alloc: Global) -> Option<bool> {
-    let require = Op::parse(alloc, "require=a@v1.2.0").ok()?;
-    let replace = Op::parse(alloc, "replace=a=./a").ok()?;
     let mut file = main_file(alloc, FILE)?;
-    let is_required = leaves(alloc, &mut file, &require, FILE, REQUIRED)?;
-    let is_replaced = leaves(alloc, &mut file, &replace, REQUIRED, REPLACED)?;
+    let is_required = text_leaves(alloc, &mut file, "require=a@v1.2.0", FILE, REQUIRED)?;
+    let is_replaced = text_leaves(alloc, &mut file, "replace=a=./a", REQUIRED, REPLACED)?;
     Some(is_required && is_replaced)
 }
 

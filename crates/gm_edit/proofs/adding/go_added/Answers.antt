@@ -1,9 +1,8 @@
-use Rattle.std.proofs.Common.{◌≡◌, ◌∷◌, ◌∙◌, [], None, ap, arith, codes, sym}
-use Rattle.std.proofs.Common.{◌≤◌, length}
+use Rattle.std.proofs.Common.{◌≡◌, ◌∷◌, ◌∙◌, [], arith, codes, sym}
 use Rattle.gm_syntax.specs.Document.{Blank}
 use Rattle.gm_syntax.specs.LineViews.{line_of, lines_seen}
 use Rattle.gm_file.specs.Faults.{is_module}
-use Rattle.gm_edit.specs.Adding.{after_first_that, past_block, single}
+use Rattle.gm_edit.specs.Adding.{after_first_that, single}
 use Rattle.gm_edit.proofs.AddingCode.{if-ok, in-copies, in-lines, past-in-range, put-last, put-there}
 use Rattle.gm_edit.proofs.AddingSound.{first-in-range}
 use Rattle.gm_edit.proofs.adding.go_added.Goals as goal

@@ -1,10 +1,7 @@
-use Rattle.std.proofs.Common.{ap, drop, ◌+◌}
-use Rattle.std.specs.Option.{option_map}
-use Rattle.gm_syntax.specs.LineViews.{line_of, lines_seen}
+use Rattle.gm_syntax.specs.LineViews.{lines_seen}
 use Rattle.gm_file.specs.Faults.{is_module}
-use Rattle.gm_edit.proofs.AddingCode.{meet-begin, meet-found, meet-more, meet-none}
+use Rattle.gm_edit.proofs.AddingCode.{meet-begin}
 use Rattle.gm_edit.proofs.Sound.{sound-file}
-use Rattle.gm_edit.proofs.Walking.{drop-next}
 use Rattle.gm_edit.proofs.adding.module_spot.Goals as goal
 
 pub loop-n-init : goal.loop-n-init

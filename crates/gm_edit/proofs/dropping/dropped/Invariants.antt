@@ -1,7 +1,6 @@
-use Rattle.std.proofs.Common.{◌≡◌, List, drop}
+use Rattle.std.proofs.Common.{drop}
 use Rattle.std.specs.Option.{option_map}
 use Rattle.gm_syntax.specs.LineViews.{lines_seen}
-use Rattle.gm_file.specs.Directives.{Directive}
 use Rattle.gm_edit.specs.About.{about}
 use Rattle.gm_edit.specs.Views.{edit_of}
 use Rattle.gm_edit.proofs.Drops.{IsDroppedTo}

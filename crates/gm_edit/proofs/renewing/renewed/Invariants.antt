@@ -1,4 +1,4 @@
-use Rattle.std.proofs.Common.{◌≡◌, List, drop}
+use Rattle.std.proofs.Common.{drop}
 use Rattle.std.specs.Option.{option_map}
 use Rattle.gm_syntax.specs.LineViews.{lines_seen}
 use Rattle.gm_edit.specs.About.{about}
