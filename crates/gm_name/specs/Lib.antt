@@ -1,5 +1,6 @@
 pub mod Element
 pub mod Escape
+pub mod Fingerprint
 pub mod Fit
 pub mod Laws
 pub mod Names
