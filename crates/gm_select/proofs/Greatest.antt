@@ -1,5 +1,5 @@
 -- The greatest versions so far, and the end of one more edge.
-use Rattle.std.proofs.Common.{◌≡◌, ◌≢◌, ◌+◌, ◌<◌, ℕ, Bool, true, false, cond, List, [], ◌∷◌, ◌++◌, length, take, get_or, map, Option, Some, None, Contains, append_assoc, append-nil, ap, ap₂, ◌∙◌, sym, refl, subst, inl, inr, ◌⊎◌, arith}
+use Rattle.std.proofs.Common.{◌≡◌, ◌≢◌, ◌+◌, ◌<◌, ℕ, Bool, true, false, not, cond, List, [], ◌∷◌, ◌++◌, length, take, get_or, map, Option, Some, None, Contains, append_assoc, append-nil, ap, ap₂, ◌∙◌, sym, refl, subst, inl, inr, ◌⊎◌, arith}
 use Rattle.std.proofs.lemmas.List.{take_more, length-map, get_or-map, get_or_default}
 use Rattle.std.proofs.lemmas.Option.{slice_get-get_or}
 use Rattle.std.proofs.lemmas.Map.Entries.{btree_map_get_place}
@@ -20,9 +20,11 @@ use Rattle.gm_name.specs.Version.{version_cmp}
 use Rattle.gm_name.specs.VersionOrder.{version-anti, version_total}
 use Rattle.gm_file.specs.Directives.{Replacing}
 use Rattle.gm_select.specs.declared.step.Edge.{Edge}
-use Rattle.gm_select.specs.Graph.{Vertex, IsEnd, among, edge}
+use Rattle.gm_select.specs.Graph.{Vertex, IsEnd, among, edge, vertex_cmp}
+use Rattle.gm_select.specs.StepOrder.{vertex-anti}
 use Rattle.gm_select.specs.BuildList.{Entry, IsSelected, IsBuildList, entry_of, main_entry}
 use Rattle.gm_select.specs.Greatest.{IsGreatest, is_above}
+use Rattle.gm_select.proofs.Marked.{tie}
 
 not_above_itself : (r : Ordering) → r ≡ ordering_reverse r → is_gt r ≡ false
 not_above_itself Less e = refl
@@ -68,6 +70,14 @@ end_kept edges e y (s, h) = (s, Contains-append_left edges (e ∷ []) (edge s y)
 end_new : (edges : List Edge) (e : Edge) → IsEnd (among (edges ++ e ∷ [])) e.to
 end_new edges e = (e.from, Contains-push edges e)
 
+-- ends stay ends, and the new edge's is one
+pub ends_more : (edges : List Edge) (e : Edge) (old new : Vertex → Bool) → ((x : Vertex) → new x ≡ cond (is_eq (vertex_cmp e.to x)) true (old x)) → ((x : Vertex) → old x ≡ true → IsEnd (among edges) x) → (x : Vertex) → new x ≡ true → IsEnd (among (edges ++ e ∷ [])) x
+ends_more edges e old new puts are x h = go (is_eq (vertex_cmp e.to x)) refl
+  where
+    go : (b : Bool) → is_eq (vertex_cmp e.to x) ≡ b → IsEnd (among (edges ++ e ∷ [])) x
+    go true is = subst (λ (y : Vertex). IsEnd (among (edges ++ e ∷ [])) y) (vertex-anti e.to x (tie _ is)) (end_new edges e)
+    go false is = end_kept edges e x (are x (sym (puts x ∙ ap (λ (b : Bool). cond b true (old x)) is) ∙ h))
+
 -- a vertex that is not above the greatest of its path leaves it so
 selected_kept : (main : List ℕ) (edges : List Edge) (e : Edge) (x : Vertex) → (e.to.0 ≡ x.0 → is_gt (version_cmp e.to.1 x.1) ≡ false) → IsSelected main (among edges) x → IsSelected main (among (edges ++ e ∷ [])) x
 selected_kept main edges e x low is = record {
@@ -83,6 +93,16 @@ selected_kept main edges e x low is = record {
 pub greatest_main : (main : List ℕ) (edges : List Edge) (path : List ℕ) (e : Edge) (o : Option Vertex) → e.to.0 ≡ main → IsGreatest main (among edges) path o → IsGreatest main (among (edges ++ e ∷ [])) path o
 greatest_main main edges path e None is g = λ y h same. elim (end_cases edges e y h) [ inl there ↦ g y there same | inr new ↦ sym same ∙ ap (λ (z : Vertex). z.0) (sym new) ∙ is ]
 greatest_main main edges path e (Some x) is g = (g.0, selected_kept main edges e x (λ same. absurd (g.1.not_main (sym same ∙ is))) g.1)
+
+-- what is not new in a set is there
+pub is_there : (is_new is_in : Bool) → is_new ≡ not is_in → is_new ≡ false → is_in ≡ true
+is_there is_new true e f = refl
+is_there is_new false e f = absurd (false≢true (sym f ∙ e))
+
+-- nor does one more edge to a vertex that an edge ends at
+pub greatest_again : (main : List ℕ) (edges : List Edge) (path : List ℕ) (e : Edge) (o : Option Vertex) → IsEnd (among edges) e.to → IsGreatest main (among edges) path o → IsGreatest main (among (edges ++ e ∷ [])) path o
+greatest_again main edges path e None is g = λ y h same. elim (end_cases edges e y h) [ inl there ↦ g y there same | inr new ↦ g y (subst (λ (z : Vertex). IsEnd (among edges) z) new is) same ]
+greatest_again main edges path e (Some x) is g = (g.0, selected_kept main edges e x (λ same. g.1.greatest e.to is same) g.1)
 
 -- nor does one of another path
 greatest_other : (main : List ℕ) (edges : List Edge) (path : List ℕ) (e : Edge) (o : Option Vertex) → e.to.0 ≢ path → IsGreatest main (among edges) path o → IsGreatest main (among (edges ++ e ∷ [])) path o
@@ -133,9 +153,8 @@ greatest_put main edges path e p x old new is_path is_vertex puts =
     greatest_insert main edges path e old new (λ q. puts q ∙ ap (λ (a : List ℕ). cond (is_eq (slice_cmp nat_cmp a q)) (Some x) (old q)) is_path ∙ ap (λ (y : Vertex). cond (is_eq (slice_cmp nat_cmp e.to.0 q)) (Some y) (old q)) is_vertex)
 
 -- one more of a list
-pub greatest_step : (main : List ℕ) (edges : List Edge) (i : ℕ) (e : Edge) (path : List ℕ) (o : Option Vertex) → i < length edges → e ≡ get_or edges i e → IsGreatest main (among (take i edges ++ e ∷ [])) path o → IsGreatest main (among (take (i + 1) edges)) path o
-greatest_step main edges i e path o below is g =
-    subst (λ (l : List Edge). IsGreatest main (among l) path o) (sym (take_more edges i e below ∙ ap (λ (a : Edge). take i edges ++ a ∷ []) (sym is))) g
+pub edges_more : (edges : List Edge) (i : ℕ) (e : Edge) → i < length edges → e ≡ get_or edges i e → take i edges ++ e ∷ [] ≡ take (i + 1) edges
+edges_more edges i e below is = sym (take_more edges i e below ∙ ap (λ (a : Edge). take i edges ++ a ∷ []) (sym is))
 
 -- ---- the rows of a map that has the greatest versions
 

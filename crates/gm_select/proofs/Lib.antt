@@ -1,6 +1,7 @@
 pub mod Sorts
 pub mod RestRows
 pub mod Same
+pub mod Marked
 pub mod Greatest
 pub mod Ranges
 pub mod Marking

@@ -5,7 +5,7 @@ use Rattle.std.proofs.lemmas.Bool.{false≢true}
 use Rattle.std.proofs.lemmas.Cmp.{nat_list_eq_equiv}
 use Rattle.std.specs.Str.{bytes_eq}
 use Rattle.std.proofs.lemmas.Slice.Eq.{bytes_eq-Decides}
-use Rattle.gm_select.specs.BuildList.{Entry, IsAt, IsEntryOf, IsListed, IsRestAfter, path_of}
+use Rattle.gm_select.specs.BuildList.{Entry, IsAt, IsEntryOf, IsListed, path_of}
 use Rattle.gm_select.specs.declared.step.Step.{Step}
 
 -- the entries are some of other paths, and then what is left

@@ -2,7 +2,10 @@
 use Rattle.std.specs.Prelude.{◌≡◌, ℕ, Bool, true, List, Option, Some, None}
 use Rattle.std.specs.Ordering.{is_gt}
 use Rattle.gm_name.specs.Version.{version_cmp}
-use Rattle.gm_select.specs.Graph.{Vertex, Edges, IsEnd}
+use Rattle.gm_select.specs.declared.step.Edge.{Edge}
+use Rattle.gm_select.specs.declared.vertex_set.VertexSet.{VertexSet}
+use Rattle.gm_select.specs.Graph.{Vertex, Edges, IsEnd, among}
+use Rattle.gm_select.specs.VertexSet.{has}
 use Rattle.gm_select.specs.BuildList.{IsSelected}
 
 -- none where no edge ends at the path, or where it is the main module's
@@ -14,3 +17,7 @@ IsGreatest main edges path (Some x) = (x.0 ≡ path) × IsSelected main edges x
 abbrev pub is_above : Vertex → Option Vertex → Bool
 is_above x None = true
 is_above x (Some held) = is_gt (version_cmp x.1 held.1)
+
+-- an edge ends at each vertex of the set
+abbrev pub AreEnds : VertexSet → List Edge → Type 0
+AreEnds seen edges = (x : Vertex) → has seen x ≡ true → IsEnd (among edges) x

@@ -2,6 +2,7 @@ pub mod Graph
 pub mod StepOrder
 pub mod Order
 pub mod BuildList
+pub mod VertexSet
 pub mod Greatest
 pub mod Chains
 pub mod Levels

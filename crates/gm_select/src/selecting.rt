@@ -6,11 +6,12 @@ ghost use Rattle.std.specs.Cmp.Lexicographic.{slice_cmp};
 ghost use Rattle.std.specs.BTreeMap.{IsOrdered, get};
 ghost use Rattle.gm_select.specs.declared.step.Edge.{Edge};
 ghost use Rattle.gm_select.specs.Graph.{among};
-ghost use Rattle.gm_select.specs.Greatest.{IsGreatest, is_above};
+ghost use Rattle.gm_select.specs.Greatest.{AreEnds, IsGreatest, is_above};
 ghost use Rattle.gm_select.specs.BuildList.{IsBuildList, entries_seen, entry_of, entry_seen, main_entry, main_path, main_replaces};
 
 use crate::row::Row;
 use crate::step::{Edge, Step};
+use crate::vertex_set::VertexSet;
 use gm_file::MainFile;
 use gm_name::{ModPath, ModVer, NoMemory};
 use std::alloc::{AllocError, Global};
@@ -26,8 +27,8 @@ fn is_above(best: &BTreeMap<ModPath, ModVer>, vertex: &ModVer) -> bool
     }
 }
 
-// Takes the end of one more edge into account.
-fn count_in(
+// Takes the end of one more edge into account, at which no other has ended.
+fn count_new(
     alloc: Global,
     best: &mut BTreeMap<ModPath, ModVer>,
     main: &ModPath,
@@ -45,6 +46,24 @@ fn count_in(
     let path = vertex.path().copy(alloc)?;
     let held = vertex.copy(alloc)?;
     best.insert(path, held)?;
+    Ok(())
+}
+
+// Takes the end of one more edge into account. Many edges end at one vertex, which is looked at once.
+fn count_in(
+    alloc: Global,
+    best: &mut BTreeMap<ModPath, ModVer>,
+    seen: &mut VertexSet,
+    main: &ModPath,
+    next: &Edge,
+) -> Result<(), AllocError>
+    ensures greatest { OnOk result ((edges : List Edge) (path : List ℕ) → AreEnds seen.old edges → IsGreatest main.now (among edges) path (get (slice_cmp nat_cmp) best.old path) → IsGreatest main.now (among (edges ++ next.now ∷ [])) path (get (slice_cmp nat_cmp) best.new path)) }
+    ensures seen { OnOk result ((edges : List Edge) → AreEnds seen.old edges → AreEnds seen.new (edges ++ next.now ∷ [])) }
+{
+    let is_new = seen.insert(alloc, &next.to)?;
+    if is_new {
+        count_new(alloc, best, main, next)?;
+    }
     Ok(())
 }
 
@@ -91,8 +110,9 @@ pub fn build_list(alloc: Global, main: &MainFile<'_>, edges: &[Edge]) -> Result<
     ensures { IfOk result (λ rows. IsBuildList (main_path main.now) (main_replaces main.now) (among edges.now) (entries_seen rows.items)) }
 {
     let mut best = BTreeMap::new(alloc);
+    let mut seen = VertexSet::new(alloc);
     for next in edges {
-        count_in(alloc, &mut best, main.module(), next)?;
+        count_in(alloc, &mut best, &mut seen, main.module(), next)?;
     }
     let rows = rows_of(alloc, main, best)?;
     Ok(rows)
