@@ -1,7 +1,6 @@
 -- Marks of vertices and turns.
 use Rattle.std.proofs.Common.{◌≡◌, ◌||◌, ◌&&◌, cond, Bool, true, false, List, [], ◌∷◌, ◌++◌, Contains, ap, ◌∙◌, sym, refl, subst}
-use Rattle.std.specs.BTreeSet as set
-use Rattle.std.specs.BTreeMap.{is_at}
+use Rattle.std.specs.Ordering.{is_eq}
 use Rattle.std.specs.List.{list_any}
 use Rattle.std.specs.Cmp.{both_ways}
 use Rattle.std.specs.Prelude.{if◌then◌else◌}
@@ -16,6 +15,8 @@ use Rattle.gm_cache.specs.Main.{Vertex}
 use Rattle.gm_graph.specs.declared.opening.Opening.{Opening}
 use Rattle.gm_graph.specs.Graph.{same_vertex}
 use Rattle.gm_select.specs.Graph.{vertex_cmp}
+use Rattle.gm_select.specs.declared.vertex_set.VertexSet.{VertexSet}
+use Rattle.gm_select.specs.VertexSet.{has}
 use Rattle.gm_graph.specs.Marks.{AreMarks, IsOpening, marked}
 use Rattle.gm_graph.specs.Turns.{AreTurnsOf, same_turn}
 use Rattle.gm_graph.proofs.Adding.{no_turns, same_lists}
@@ -51,8 +52,12 @@ module _ (vertices : List Vertex) (turns : List Turn) (x : Vertex) (are : AreTur
       has_deep Top h = absurd (cc (no_top, h))
       has_deep Deep h = e ∙ h
 
-put_key : (old new : set.BTreeSet Vertex) (x q : Vertex) → set.Updates vertex_cmp old new x true → set.contains vertex_cmp new q ≡ cond (same_vertex q x) true (set.contains vertex_cmp old q)
-put_key old new x q updates = updates.0 q ∙ ap (λ (b : Bool). cond b true (set.contains vertex_cmp old q)) (pair-ties x q ∙ vertices_equivalence.symm x q)
+-- one more vertex of a set
+abbrev pub IsPut : VertexSet → VertexSet → Vertex → Type 0
+IsPut old new x = (q : Vertex) → has new q ≡ cond (is_eq (vertex_cmp x q)) true (has old q)
+
+put_key : (old new : VertexSet) (x q : Vertex) → IsPut old new x → has new q ≡ cond (same_vertex q x) true (has old q)
+put_key old new x q puts = puts q ∙ ap (λ (b : Bool). cond b true (has old q)) (pair-ties x q ∙ vertices_equivalence.symm x q)
 
 and_true : (b : Bool) → (b && true) ≡ b
 and_true true = refl
@@ -66,44 +71,39 @@ and_false false = refl
 abbrev pub IsMarkedToo : Opening → Opening → Vertex → Depth → Type 0
 IsMarkedToo old new x depth = (q : Vertex) (d : Depth) → marked new d q ≡ (if same_turn (turn q d) (turn x depth) then true else marked old d q)
 
-abbrev with_tops : Opening → set.BTreeSet Vertex → Opening
+abbrev with_tops : Opening → VertexSet → Opening
 with_tops o marks = record { turns = o.turns; vertices = o.vertices; tops = marks; deeps = o.deeps }
 
-abbrev with_deeps : Opening → set.BTreeSet Vertex → Opening
+abbrev with_deeps : Opening → VertexSet → Opening
 with_deeps o marks = record { turns = o.turns; vertices = o.vertices; tops = o.tops; deeps = marks }
 
-top_put : (o : Opening) (marks : set.BTreeSet Vertex) (x : Vertex) → set.Updates vertex_cmp o.tops marks x true → IsMarkedToo o (with_tops o marks) x Top
-top_put o marks x updates q Top = put_key o.tops marks x q updates ∙ ap (λ (b : Bool). cond b true (set.contains vertex_cmp o.tops q)) (sym (and_true (same_vertex q x)))
-top_put o marks x updates q Deep = ap (λ (b : Bool). cond b true (set.contains vertex_cmp o.deeps q)) (sym (and_false (same_vertex q x)))
+top_put : (o : Opening) (marks : VertexSet) (x : Vertex) → IsPut o.tops marks x → IsMarkedToo o (with_tops o marks) x Top
+top_put o marks x updates q Top = put_key o.tops marks x q updates ∙ ap (λ (b : Bool). cond b true (has o.tops q)) (sym (and_true (same_vertex q x)))
+top_put o marks x updates q Deep = ap (λ (b : Bool). cond b true (has o.deeps q)) (sym (and_false (same_vertex q x)))
 
-deep_put : (o : Opening) (marks : set.BTreeSet Vertex) (x : Vertex) → set.Updates vertex_cmp o.deeps marks x true → IsMarkedToo o (with_deeps o marks) x Deep
-deep_put o marks x updates q Top = ap (λ (b : Bool). cond b true (set.contains vertex_cmp o.tops q)) (sym (and_false (same_vertex q x)))
-deep_put o marks x updates q Deep = put_key o.deeps marks x q updates ∙ ap (λ (b : Bool). cond b true (set.contains vertex_cmp o.deeps q)) (sym (and_true (same_vertex q x)))
+deep_put : (o : Opening) (marks : VertexSet) (x : Vertex) → IsPut o.deeps marks x → IsMarkedToo o (with_deeps o marks) x Deep
+deep_put o marks x updates q Top = ap (λ (b : Bool). cond b true (has o.tops q)) (sym (and_false (same_vertex q x)))
+deep_put o marks x updates q Deep = put_key o.deeps marks x q updates ∙ ap (λ (b : Bool). cond b true (has o.deeps q)) (sym (and_true (same_vertex q x)))
 
-pub put_top : (o : Opening) (marks : set.BTreeSet Vertex) (x y : Vertex) (depth : Depth) → depth ≡ Top → y ≡ x → set.Updates vertex_cmp o.tops marks y true → IsMarkedToo o (with_tops o marks) x depth
-put_top o marks x y depth e f updates =
-    subst (λ (d : Depth). IsMarkedToo o (with_tops o marks) x d) (sym e) (subst (λ (z : Vertex). IsMarkedToo o (with_tops o marks) z Top) f (top_put o marks y updates))
+pub put_top : (o : Opening) (marks : VertexSet) (x : Vertex) (depth : Depth) → depth ≡ Top → IsPut o.tops marks x → IsMarkedToo o (with_tops o marks) x depth
+put_top o marks x depth e puts = subst (λ (d : Depth). IsMarkedToo o (with_tops o marks) x d) (sym e) (top_put o marks x puts)
 
-pub put_deep : (o : Opening) (marks : set.BTreeSet Vertex) (x y : Vertex) (depth : Depth) → depth ≡ Deep → y ≡ x → set.Updates vertex_cmp o.deeps marks y true → IsMarkedToo o (with_deeps o marks) x depth
-put_deep o marks x y depth e f updates =
-    subst (λ (d : Depth). IsMarkedToo o (with_deeps o marks) x d) (sym e) (subst (λ (z : Vertex). IsMarkedToo o (with_deeps o marks) z Deep) f (deep_put o marks y updates))
+pub put_deep : (o : Opening) (marks : VertexSet) (x : Vertex) (depth : Depth) → depth ≡ Deep → IsPut o.deeps marks x → IsMarkedToo o (with_deeps o marks) x depth
+put_deep o marks x depth e puts = subst (λ (d : Depth). IsMarkedToo o (with_deeps o marks) x d) (sym e) (deep_put o marks x puts)
 
 pub marked_same : (a b : Opening) → a.tops ≡ b.tops → a.deeps ≡ b.deeps → (q : Vertex) (d : Depth) → marked a d q ≡ marked b d q
-marked_same a b e f q Top = ap (λ (s : set.BTreeSet Vertex). set.contains vertex_cmp s q) e
-marked_same a b e f q Deep = ap (λ (s : set.BTreeSet Vertex). set.contains vertex_cmp s q) f
+marked_same a b e f q Top = ap (λ (s : VertexSet). has s q) e
+marked_same a b e f q Deep = ap (λ (s : VertexSet). has s q) f
 
 none_found : (d : Depth) (x : Vertex) (turns : List Turn) → turns ≡ [] → list_any (same_turn (turn x d)) turns ≡ false
 none_found d x turns e = ap (list_any (same_turn (turn x d))) e
 
-none_marked : (s : set.BTreeSet Vertex) (x : Vertex) → s.keys ≡ [] → set.contains vertex_cmp s x ≡ false
-none_marked s x e = ap (list_any (is_at (vertex_cmp x))) e
-
-no_marks : (o : Opening) → o.turns.items ≡ [] → o.tops.keys ≡ [] → o.deeps.keys ≡ [] → AreMarks o
-no_marks o e f g x Top = none_marked o.tops x f ∙ sym (none_found Top x o.turns.items e)
-no_marks o e f g x Deep = none_marked o.deeps x g ∙ sym (none_found Deep x o.turns.items e)
+no_marks : (o : Opening) → o.turns.items ≡ [] → ((x : Vertex) → has o.tops x ≡ false) → ((x : Vertex) → has o.deeps x ≡ false) → AreMarks o
+no_marks o e f g x Top = f x ∙ sym (none_found Top x o.turns.items e)
+no_marks o e f g x Deep = g x ∙ sym (none_found Deep x o.turns.items e)
 
 -- nothing is opened
-pub opening_none : (o : Opening) → o.turns.items ≡ [] → o.vertices.items ≡ [] → o.tops.keys ≡ [] → o.deeps.keys ≡ [] → IsOpening o
+pub opening_none : (o : Opening) → o.turns.items ≡ [] → o.vertices.items ≡ [] → ((x : Vertex) → has o.tops x ≡ false) → ((x : Vertex) → has o.deeps x ≡ false) → IsOpening o
 opening_none o e v f g = record {
   turns = same_lists o.vertices.items [] o.turns.items [] v e no_turns;
   marks = no_marks o e f g;

@@ -1,19 +1,18 @@
--- The marks of vertices, which are found by their order.
+-- The marks of vertices.
 use Rattle.std.specs.Prelude.{◌≡◌, Bool}
-use Rattle.std.specs.BTreeSet as set
 use Rattle.std.specs.List.{list_any}
 use Rattle.gm_cache.specs.declared.depth.Depth.{Depth}
 use Rattle.gm_cache.specs.declared.depth.Depth.TheVariants.{Top, Deep}
 use Rattle.gm_cache.specs.Main.{Vertex}
-use Rattle.gm_select.specs.Graph.{vertex_cmp}
+use Rattle.gm_select.specs.VertexSet.{has}
 use Rattle.gm_graph.specs.declared.opening.Opening.{Opening}
 use Rattle.gm_graph.specs.Turns.{AreTurnsOf, same_turn}
 use Rattle.gm_cache.specs.Turns.{turn}
 
 -- whether a vertex is marked at a depth
 abbrev pub marked : Opening → Depth → Vertex → Bool
-marked opening Top x = set.contains vertex_cmp opening.tops x
-marked opening Deep x = set.contains vertex_cmp opening.deeps x
+marked opening Top x = has opening.tops x
+marked opening Deep x = has opening.deeps x
 
 -- the marks are those of the turns
 abbrev pub AreMarks : Opening → Type 0

@@ -1,6 +1,6 @@
 //! Following one turn of the queue.
 
-ghost use Rattle.std.specs.Prelude.{◌≡◌, ◌++◌, ◌∷◌, [], not, None, Some, OnOk, Ok, Err, true};
+ghost use Rattle.std.specs.Prelude.{◌≡◌, ◌++◌, ◌∷◌, [], not, None, Some, IfOk, OnOk, Ok, Err, true};
 ghost use Rattle.std.specs.Option.{option_map};
 ghost use Rattle.gm_store.specs.Asked.{answer_in, name_of};
 ghost use Rattle.gm_store.specs.declared.files.FileName.{FileName};
@@ -19,7 +19,7 @@ use crate::opening::{AddFault, Opening};
 use gm_cache::{Cache, Depth, Finding, LoadFault};
 use gm_name::ModVer;
 use gm_store::{FileName, Files};
-use std::alloc::Global;
+use std::alloc::{AllocError, Global};
 
 /// What the requirements of a vertex are lent by.
 fn lender(finding: &Finding) -> Option<&FileName>
@@ -46,13 +46,21 @@ fn leads_on(cache: &Cache<'_>, vertex: &ModVer, depth: Depth, finding: &Finding)
 }
 
 /// Whether the edges of a vertex are gathered in its turn to this depth.
-fn gathers(opening: &Opening, vertex: &ModVer, depth: Depth) -> bool
+fn gathers(
+    alloc: Global,
+    opening: &Opening,
+    vertex: &ModVer,
+    depth: Depth,
+) -> Result<bool, AllocError>
     requires { IsOpening opening.now }
-    ensures { result ≡ gathers opening.now.turns.items (turn vertex.now depth) }
+    ensures { IfOk result (λ is_first. is_first ≡ gathers opening.now.turns.items (turn vertex.now depth)) }
 {
     match depth {
-        Depth::Top => true,
-        Depth::Deep => !opening.has_turn(vertex, Depth::Top),
+        Depth::Top => Ok(true),
+        Depth::Deep => {
+            let has_top = opening.has_turn(alloc, vertex, Depth::Top)?;
+            Ok(!has_top)
+        }
     }
 }
 
@@ -75,7 +83,9 @@ fn open_below(
     ensures not_refused { refused_in result ≡ [] }
 {
     let leads = leads_on(cache, vertex, depth, finding);
-    let gathers = gathers(opening, vertex, depth);
+    let Ok(gathers) = gathers(alloc, opening, vertex, depth) else {
+        return Err(LoadFault::NoMemory);
+    };
     let Ok(()) = gathered.note(alloc, vertex, finding) else {
         return Err(LoadFault::NoMemory);
     };

@@ -1,19 +1,17 @@
 //! The turns of a queue, each of which opens a vertex to a depth.
 
 ghost use Rattle.std.specs.Prelude.{◌≡◌, ◌≤◌, ◌⊎◌, if◌then◌else◌, ◌∷◌, [], ◌++◌, ℕ, List, length, Contains, IfOk, OnOk, Some, None, Ok, Err, true, false};
-ghost use Rattle.std.specs.BTreeSet as set;
 ghost use Rattle.std.specs.Bool.{MatchBool};
 ghost use Rattle.gm_cache.specs.Main.{Vertex, is_pruned_by, kept, main_of};
 ghost use Rattle.gm_graph.specs.Graph.{same_vertex};
 ghost use Rattle.gm_graph.specs.Turns.{AddsAll, AreTurnsOf, OverflowsWith};
 ghost use Rattle.gm_cache.specs.Turns.{turn};
-ghost use Rattle.gm_select.specs.Graph.{vertex_cmp};
 ghost use Rattle.gm_graph.specs.Marks.{IsOpening, marked};
 
 use gm_cache::{Depth, Turn};
 use gm_name::ModVer;
+use gm_select::VertexSet;
 use std::alloc::{AllocError, Global};
-use std::collections::BTreeSet;
 
 /// The turns in the order in which they were found, the vertices among them, and the marks of both: which vertices have a
 /// turn of each depth.
@@ -21,8 +19,8 @@ use std::collections::BTreeSet;
 pub(crate) struct Opening {
     pub(crate) turns: Vec<Turn>,
     pub(crate) vertices: Vec<ModVer>,
-    tops: BTreeSet<ModVer>,
-    deeps: BTreeSet<ModVer>,
+    tops: VertexSet,
+    deeps: VertexSet,
 }
 
 /// The most vertices that are opened.
@@ -48,31 +46,41 @@ impl Opening {
         Opening {
             turns: Vec::new(alloc),
             vertices: Vec::new(alloc),
-            tops: BTreeSet::new(alloc),
-            deeps: BTreeSet::new(alloc),
+            tops: VertexSet::new(alloc),
+            deeps: VertexSet::new(alloc),
         }
     }
 
     /// Whether a turn is there.
-    pub(crate) fn has_turn(&self, vertex: &ModVer, depth: Depth) -> bool
+    pub(crate) fn has_turn(
+        &self,
+        alloc: Global,
+        vertex: &ModVer,
+        depth: Depth,
+    ) -> Result<bool, AllocError>
         requires { IsOpening self.now }
-        ensures { result ≡ list_any (same_turn (turn vertex.now depth)) self.now.turns.items }
+        ensures { IfOk result (λ is_there. is_there ≡ list_any (same_turn (turn vertex.now depth)) self.now.turns.items) }
     {
         match depth {
-            Depth::Top => self.tops.contains(vertex),
-            Depth::Deep => self.deeps.contains(vertex),
+            Depth::Top => self.tops.contains(alloc, vertex),
+            Depth::Deep => self.deeps.contains(alloc, vertex),
         }
     }
 
     /// Whether a vertex without a turn of this depth is there: whether it has one of the other.
-    fn has_vertex(&self, vertex: &ModVer, depth: Depth) -> bool
+    fn has_vertex(
+        &self,
+        alloc: Global,
+        vertex: &ModVer,
+        depth: Depth,
+    ) -> Result<bool, AllocError>
         requires opening { IsOpening self.now }
         requires fresh { list_any (same_turn (turn vertex.now depth)) self.now.turns.items ≡ false }
-        ensures { result ≡ list_any (same_vertex vertex.now) self.now.vertices.items }
+        ensures { IfOk result (λ is_there. is_there ≡ list_any (same_vertex vertex.now) self.now.vertices.items) }
     {
         match depth {
-            Depth::Top => self.has_turn(vertex, Depth::Deep),
-            Depth::Deep => self.has_turn(vertex, Depth::Top),
+            Depth::Top => self.has_turn(alloc, vertex, Depth::Deep),
+            Depth::Deep => self.has_turn(alloc, vertex, Depth::Top),
         }
     }
 
@@ -82,11 +90,11 @@ impl Opening {
         ensures turns { self.new.turns.items ≡ self.old.turns.items }
         ensures vertices { self.new.vertices.items ≡ self.old.vertices.items }
     {
-        let copy = vertex.copy(alloc)?;
         match depth {
-            Depth::Top => put(&mut self.tops, copy),
-            Depth::Deep => put(&mut self.deeps, copy),
-        }
+            Depth::Top => self.tops.insert(alloc, vertex)?,
+            Depth::Deep => self.deeps.insert(alloc, vertex)?,
+        };
+        Ok(())
     }
 
     /// Adds a turn where it is not there. `TooMany` comes where the vertex is new, and there are `MOST` vertices.
@@ -96,10 +104,16 @@ impl Opening {
         ensures adds { OnOk result (AddsTurn self.old.turns.items self.new.turns.items (turn vertex.now depth)) }
         ensures too_many { result ≡ Err AddFault.TooMany → (MOST ≤ length self.old.vertices.items) × (list_any (same_vertex vertex.now) self.old.vertices.items ≡ false) }
     {
-        if self.has_turn(vertex, depth) {
+        let Ok(has_turn) = self.has_turn(alloc, vertex, depth) else {
+            return Err(AddFault::NoMemory);
+        };
+        if has_turn {
             return Ok(());
         }
-        if !self.has_vertex(vertex, depth) {
+        let Ok(has_vertex) = self.has_vertex(alloc, vertex, depth) else {
+            return Err(AddFault::NoMemory);
+        };
+        if !has_vertex {
             if self.vertices.len() >= MOST {
                 return Err(AddFault::TooMany);
             }
@@ -156,14 +170,6 @@ fn push_turn(
         vertex: vertex.copy(alloc)?,
         depth,
     })?;
-    Ok(())
-}
-
-/// Puts a vertex into a set.
-fn put(marks: &mut BTreeSet<ModVer>, vertex: ModVer) -> Result<(), AllocError>
-    ensures { OnOk result (set.Updates vertex_cmp marks.old marks.new vertex true) }
-{
-    marks.insert(vertex)?;
     Ok(())
 }
 

@@ -24,13 +24,13 @@ returns-then-not-leads-clause-followed c =
       follows = follows_nothing main (readings_in c.args.cache.now) turns x d (finding_known main held x found c.requires.finding) (sym c.leads_on-leads.ensures ∙ c.if-not-leads.true);
       gathers = elim c.if-gathers.branch [
         | then-gathers+in-Ok-add_edges w ↦
-            gathers_edges main held turns x d found c.requires.finding c.args.gathered.now c.note.new.self c.if-gathers.gathered c.in-Ok.ensures.faults c.in-Ok.ensures.edges
+            gathers_edges main held turns x d found c.requires.finding c.args.gathered.now c.note.new.self c.if-gathers.gathered c.in-Ok-note.ensures.faults c.in-Ok-note.ensures.edges
             (subst (λ (ys : List Vertex). AddsEdges (edges_in c.note.new.self) (edges_in c.if-gathers.gathered) x ys) c.in-Ok-lend.ensures.lent
             (subst (λ (g : Gathered). AddsEdges (edges_in c.note.new.self) (edges_in g) x c.in-Ok-lend.lent.now) (sym w.gathered-is) w.in-Ok-add_edges.ensures.edges))
             (λ q. ap (λ (g : Gathered). faults_in g q) w.gathered-is ∙ w.in-Ok-add_edges.ensures.faults q)
         | else-gathers w ↦
-            gathers_no_edges main held turns x d found c.requires.finding c.args.gathered.now c.note.new.self c.if-gathers.gathered c.in-Ok.ensures.faults c.in-Ok.ensures.edges
-            (sym c.gathers-gathers.ensures ∙ w.if-gathers.false) w.gathered-is
+            gathers_no_edges main held turns x d found c.requires.finding c.args.gathered.now c.note.new.self c.if-gathers.gathered c.in-Ok-note.ensures.faults c.in-Ok-note.ensures.edges
+            (sym c.in-Ok.ensures ∙ w.if-gathers.false) w.gathered-is
       ];
     }
 
@@ -48,13 +48,13 @@ returns-in-Ok-add_all-clause-followed c =
           (subst (λ (ys : List Vertex). AddsAll turns c.add_all.new.self.turns.items ys Deep) c.in-Ok-lend.ensures.lent c.in-Ok-add_all.ensures.adds);
       gathers = elim c.if-gathers.branch [
         | then-gathers+in-Ok-add_edges w ↦
-            gathers_edges main held turns x d found c.requires.finding c.args.gathered.now c.note.new.self c.if-gathers.gathered c.in-Ok.ensures.faults c.in-Ok.ensures.edges
+            gathers_edges main held turns x d found c.requires.finding c.args.gathered.now c.note.new.self c.if-gathers.gathered c.in-Ok-note.ensures.faults c.in-Ok-note.ensures.edges
             (subst (λ (ys : List Vertex). AddsEdges (edges_in c.note.new.self) (edges_in c.if-gathers.gathered) x ys) c.in-Ok-lend.ensures.lent
             (subst (λ (g : Gathered). AddsEdges (edges_in c.note.new.self) (edges_in g) x c.in-Ok-lend.lent.now) (sym w.gathered-is) w.in-Ok-add_edges.ensures.edges))
             (λ q. ap (λ (g : Gathered). faults_in g q) w.gathered-is ∙ w.in-Ok-add_edges.ensures.faults q)
         | else-gathers w ↦
-            gathers_no_edges main held turns x d found c.requires.finding c.args.gathered.now c.note.new.self c.if-gathers.gathered c.in-Ok.ensures.faults c.in-Ok.ensures.edges
-            (sym c.gathers-gathers.ensures ∙ w.if-gathers.false) w.gathered-is
+            gathers_no_edges main held turns x d found c.requires.finding c.args.gathered.now c.note.new.self c.if-gathers.gathered c.in-Ok-note.ensures.faults c.in-Ok-note.ensures.edges
+            (sym c.in-Ok.ensures ∙ w.if-gathers.false) w.gathered-is
       ];
     }
 
