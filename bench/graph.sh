@@ -1,7 +1,8 @@
 #!/usr/bin/env bash
 # Times `gomod list`, `graph` and `chain` over proxy folders of 1,000, 10,000 and 65,000 modules with five requirements each, of
 # 1,000 modules with 200 requirements each, over a chain 65,000 deep and a main file with 65,535 requirements, beside `cat` of the
-# same files, and `go list -m all` with a warm module cache where there is a go command.
+# same files, and, where there is a go command, `go list -m all` with a cold module cache (one run) and with a warm one, and
+# whether it prints the same bytes.
 set -euo pipefail
 cd "$(dirname "$0")/.."
 gomod=$(./build | tail -n 1)
@@ -62,15 +63,39 @@ PY
 # Of three runs the one with the least time.
 best() { for _ in 1 2 3; do python3 bench/measure.py "$@"; done | sort -n | head -n 1; }
 
-# Prints the times and the memory of a command, and what they are for each module.
+# Prints times and memory that were measured, and what they are for each module.
+tell() {
+  local what=$1 modules=$2 took=$3 busy=$4 memory=$5
+  awk -v what="$what" -v modules="$modules" -v took="$took" -v busy="$busy" -v memory="$memory" 'BEGIN {
+    printf "%-20s %6.2f s, of the processor %6.2f s, %5.0f MB; a module %5.1f us, %5.1f KB\n", what, took, busy, memory / 1e6, busy * 1e6 / modules, memory / 1e3 / modules
+  }'
+}
+
+# The same of a command, the best of three runs, which is to end well.
 show() {
   local what=$1 modules=$2 took busy memory status
   shift 2
   read -r took busy memory status < <(best - "$@")
   [ "$status" = 0 ] || { echo "$what ended with status $status" >&2; exit 1; }
-  awk -v what="$what" -v modules="$modules" -v took="$took" -v busy="$busy" -v memory="$memory" 'BEGIN {
-    printf "%-14s %6.2f s, of the processor %6.2f s, %5.0f MB; a module %5.1f us, %5.1f KB\n", what, took, busy, memory / 1e6, busy * 1e6 / modules, memory / 1e3 / modules
-  }'
+  tell "$what" "$modules" "$took" "$busy" "$memory"
+}
+
+# The go command beside it, over a copy of the main file, since it may write to that.
+show_go() {
+  local name=$1 modules=$2 root=$work/$1 took busy memory status
+  local list=(sh -c 'cd "$1" && exec go list -m all' go "$work/go-$1")
+  mkdir -p "$work/go-$name"
+  cp "$root/go.mod" "$work/go-$name"
+  export GOPROXY="file://$root/proxy" GOFLAGS='-mod=mod -modcacherw' GONOSUMDB='*' GOMODCACHE="$work/cache-$name"
+  read -r took busy memory status < <(python3 bench/measure.py - "${list[@]}")
+  [ "$status" = 0 ] || { echo "go list -m all ended with status $status"; return; }
+  tell "go list -m all, cold" "$modules" "$took" "$busy" "$memory"
+  show "go list -m all, warm" "$modules" "${list[@]}"
+  if cmp -s <("${list[@]}") <("$gomod" list --mod "$root/go.mod" --proxy "$root/proxy"); then
+    echo "go list -m all and gomod list print the same bytes"
+  else
+    echo "go list -m all and gomod list print different bytes"
+  fi
 }
 
 for name in 1000 10000 65000 wide deep flat; do
@@ -83,8 +108,6 @@ for name in 1000 10000 65000 wide deep flat; do
   show "gomod chain" "$modules" "$gomod" chain "$last" --mod "$root/go.mod" --proxy "$root/proxy"
   show "cat" "$modules" sh -c 'find "$1" -name "*.mod" -exec cat {} +' cat "$root/proxy"
   if command -v go > /dev/null; then
-    export GOPROXY="file://$root/proxy" GOFLAGS=-mod=mod GONOSUMDB='*' GOMODCACHE="$work/cache-$name"
-    (cd "$root" && go list -m all > /dev/null 2>&1) || true
-    show "go list -m all" "$modules" sh -c 'cd "$1" && go list -m all' go "$root"
+    show_go "$name" "$modules"
   fi
 done
