@@ -90,8 +90,8 @@ pub enum Class {
     /// whole file.
     #[error("line {line}: {kind}")]
     Malformed { line: usize, kind: Misreading },
-    /// The file declares another path than the vertex's own, and none of the replacing module, or no path. Through a
-    /// folder every path is right.
+    /// The file declares no path, or one that is neither the vertex's own nor, where a module stands in its place, that
+    /// module's. Through a folder every path is right.
     #[error("wrong path")]
     WrongPath,
 }

@@ -15,7 +15,7 @@ use crate::renewing::is_about_at;
 use gm_syntax::line::Line;
 use std::alloc::{AllocError, Global};
 
-/// Whether a line holds what an operation is about.
+/// Whether one of the lines of a file holds what an operation is about.
 pub(crate) fn is_there(alloc: Global, change: &Change, lines: &[Line]) -> Result<bool, AllocError>
     requires document { IsDocument (plains (lines_seen lines.now)) }
     requires sound { fault_of Strict (plains (lines_seen lines.now)) ≡ None }

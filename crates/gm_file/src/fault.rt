@@ -11,7 +11,7 @@ use thiserror::Error;
 /// What is wrong with a line of directives. Of several kinds on one line, the first in this order is told.
 #[derive(Clone, Copy, Debug, PartialEq, Eq, Error)]
 pub enum DirectiveKind {
-    /// An entry, or the opening of a block, has a verb that no directive has. A verb in quotes is one.
+    /// An entry, or the opening of a block, has a verb that no directive has; in quotes no verb is one.
     #[error("unknown verb")]
     UnknownVerb,
     /// The number or the kind of the words is wrong, or a block opens for `go`.

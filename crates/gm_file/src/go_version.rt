@@ -106,7 +106,8 @@ fn second_number(text: &str) -> Option<u32>
     }
 }
 
-/// The first two numbers of a go version of a main file, or None for another text.
+/// The first two numbers of a go version of a main file (Go Modules Reference, "go directive"), such as `1.21`, `1.21.3` or
+/// `1.21rc1`, or None for another text.
 #[tactic(auto, unfolding(crate::specs::GoVersions::strict_go))]
 pub fn strict_go(text: &str) -> Option<(u32, u32)>
     ensures { result ≡ strict_go text.now }

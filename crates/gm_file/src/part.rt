@@ -1,4 +1,4 @@
-//! The parts of an entry: values, paths, versions, and the sides of a replace.
+//! The parts of an entry: values, paths and versions.
 
 ghost use Rattle.std.specs.Prelude.{◌≡◌, IfErr, IfOk, Some};
 ghost use Rattle.std.specs.Cow.{cow_str_bytes};

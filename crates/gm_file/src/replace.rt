@@ -49,7 +49,8 @@ impl Right {
     }
 }
 
-/// A replaced module, or one version of it, and what stands in its place.
+/// A replaced module, or one version of it, and what stands in its place. Without a version each one is replaced that has no
+/// `replace` of its own.
 #[derive(Drop)]
 pub struct Replace {
     pub left: ModPath,

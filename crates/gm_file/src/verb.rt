@@ -11,7 +11,9 @@ use gm_syntax::word::Kind;
 /// How a file is read: strictly, as the main file, or laxly, as a dependency's file.
 #[derive(Clone, Copy, Debug, PartialEq, Eq)]
 pub enum Mode {
+    /// Every verb is to be known, and every entry right.
     Strict,
+    /// `module`, `go` and `require` are to be right; a wrong `retract` retracts nothing, and any other verb is passed over.
     Lax,
 }
 
@@ -67,6 +69,8 @@ pub(crate) fn verb_in(mode: Mode, text: &str) -> Verb
     }
 }
 
+/// Whether the right of a `replace` is a folder (Go Modules Reference, "replace directive"): `.`, `..`, or a text that begins
+/// with `./`, `../` or `/`.
 #[tactic(auto, unfolding(crate::specs::Values::is_folder))]
 pub fn is_folder(text: &str) -> bool
     ensures { result ≡ is_folder text.now }

@@ -8,7 +8,7 @@ use crate::step::Step;
 use gm_file::Right;
 use gm_name::ModPath;
 
-/// A row of the build list: the main module or the selected version of a path, and what stands in its place.
+/// A row of the build list: the main module or the selected version of a path, and what stands in its place, if it is replaced.
 #[derive(Drop)]
 pub struct Row {
     pub step: Step,

@@ -1,4 +1,5 @@
-//! What gomod reads and writes of the outside: version lists, readers and sinks.
+//! What gomod reads and writes of the outside: stores of files, in memory and over proxy folders, version lists, readers and
+//! sinks.
 #![tactic(auto)]
 
 mod blanks;

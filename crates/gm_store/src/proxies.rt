@@ -18,8 +18,10 @@ pub enum Mark {
 /// Why a text is no proxy list.
 #[derive(Clone, Copy, Debug, PartialEq, Eq, Error)]
 pub enum ProxyFault {
+    /// A growth was refused.
     #[error("out of memory")]
     NoMemory,
+    /// A piece between the marks is empty, `direct` or `off`.
     #[error("not a list of proxy folders")]
     BadProxy,
 }

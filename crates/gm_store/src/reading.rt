@@ -19,8 +19,10 @@ const PIECE: usize = 65_536;
 /// Why a reader's bytes were not read.
 #[derive(Clone, Copy, Debug, PartialEq, Eq, Error)]
 pub enum ReadFault {
+    /// A growth was refused.
     #[error("out of memory")]
     NoMemory,
+    /// The reader failed.
     #[error("cannot read")]
     Device,
 }

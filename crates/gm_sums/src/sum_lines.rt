@@ -61,7 +61,7 @@ fn is_good_line(line: &[u8]) -> bool
     }
 }
 
-// How many lines stand before the first that is not good.
+// How many lines stand before the first that is not good, or none where all are good.
 pub(crate) fn first_bad_line(text: &[u8]) -> Option<usize>
     ensures found { MatchOption result (HasGoodLines text.now) (λ before. (before ≡ lines_before_bad text.now) × (before < length (lines text.now))) }
     ensures within { IfSome result (λ before. before ≤ length text.now) }

@@ -68,7 +68,8 @@ impl SumTable {
     /// line, and so do hashes of whole modules.
     ///
     /// `TooMany` comes exactly where the text has more than `LIMIT` bytes, whatever its lines; else `BadSum` with the lowest
-    /// line that is not blank and has not three fields of UTF-8.
+    /// line that is not blank and has not three fields of UTF-8. `NoMemory` comes where a growth is refused, in place of any
+    /// other answer.
     pub fn read(alloc: Global, text: &[u8]) -> Result<SumTable, SumFault>
         ensures ok { IfOk result (λ table. ReadsAs table text.now) }
         ensures good { OnOk result (HasGoodLines text.now) }

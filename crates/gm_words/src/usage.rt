@@ -82,7 +82,7 @@ impl From<AllocError> for UsageFault {
 
 /// Reads the words of a command line, of which the first is the program's name.
 ///
-/// `Help` comes where help is asked for, by `help`, `-h` or `--help`, also behind a command. `Line` comes where the
+/// `Help` comes where help is asked for, by `help` as the first word, or by `-h` or `--help`, also behind a command. `Line` comes where the
 /// words are those of no command, with too few or too many behind it: it has what the parser says of them. It comes too where the
 /// value of `--limit` is not one or more ASCII digits that write a number from 1 to 4,294,967,295. `BadPath` comes where the words
 /// are else those of `versions` or `chain`, but PATH is no module path, or those of `list`, but that of `--after` is none. `BadProxy`
