@@ -1,7 +1,7 @@
 //! Loading over a store in memory: worked rows, of which a plain body finds the same by rounds.
 //!
-//! A test takes one want of memory as an answer, and goes on with its next row: a script refuses each allocation of each test in
-//! turn. A second one fails the test.
+//! A row that comes to no answer is tried a second time, and has to hold then: a script refuses each allocation of each test in
+//! turn. So a row that is refused for another cause than want of memory fails its test.
 
 ghost use Rattle.std.specs.Prelude.{◌≡◌, [], IfSome};
 ghost use Rattle.gm_store.specs.Memory.{pairs_of};
@@ -78,17 +78,6 @@ fn table(alloc: Global, text: Option<&str>) -> Option<Option<SumTable>> {
     match text {
         None => Some(None),
         Some(text) => Some(Some(SumTable::read(alloc, text.as_bytes()).ok()?)),
-    }
-}
-
-// Whether an answer is the right one. Want of memory is taken as one, and counted.
-fn holds(answer: Option<bool>, refusals: &mut u32) -> bool {
-    match answer {
-        Some(right) => right,
-        None => {
-            *refusals = refusals.saturating_add(1);
-            true
-        }
     }
 }
 
@@ -189,16 +178,24 @@ fn finds(alloc: Global, main: &MainFile<'_>, case: Case) -> Option<bool> {
     Some(one == other && is_wanted(&one, case))
 }
 
-// Whether loading finds what a case says. There is no answer where memory runs out.
+// Whether loading finds what a case says. There is no answer where memory runs out, or where something is refused.
 fn loads(alloc: Global, case: Case) -> Option<bool> {
     let main = main_file(alloc, case.main)?;
     finds(alloc, &main, case)
 }
 
-// The title of the first case that loads as it should not, or nothing.
-fn first_wrong(alloc: Global, cases: &'static [Case], refusals: &mut u32) -> &'static str {
+// The same, tried a second time where there was no answer.
+fn holds(alloc: Global, case: Case) -> bool {
+    match loads(alloc, case) {
+        Some(right) => right,
+        None => loads(alloc, case) == Some(true),
+    }
+}
+
+// The title of the first case that does not hold, or nothing.
+fn first_wrong(alloc: Global, cases: &'static [Case]) -> &'static str {
     for case in cases {
-        if !holds(loads(alloc, *case), refusals) {
+        if !holds(alloc, *case) {
             return case.title;
         }
     }
@@ -207,52 +204,45 @@ fn first_wrong(alloc: Global, cases: &'static [Case], refusals: &mut u32) -> &'s
 
 #[test]
 fn opens_modules(rt: HostRuntime) -> Result<(), Fail> {
-    let mut refusals = 0;
-    let wrong = first_wrong(rt.alloc(), OPENED, &mut refusals);
+    let wrong = first_wrong(rt.alloc(), OPENED);
     assert!(rt; wrong.is_empty(), "{wrong}");
-    assert!(rt; refusals < 2);
     Ok(())
 }
 
 #[test]
 fn checks_files(rt: HostRuntime) -> Result<(), Fail> {
-    let mut refusals = 0;
-    let wrong = first_wrong(rt.alloc(), CHECKED, &mut refusals);
+    let wrong = first_wrong(rt.alloc(), CHECKED);
     assert!(rt; wrong.is_empty(), "{wrong}");
-    assert!(rt; refusals < 2);
     Ok(())
 }
 
 #[test]
 fn heeds_the_main_file(rt: HostRuntime) -> Result<(), Fail> {
-    let mut refusals = 0;
-    let wrong = first_wrong(rt.alloc(), SAID, &mut refusals);
+    let wrong = first_wrong(rt.alloc(), SAID);
     assert!(rt; wrong.is_empty(), "{wrong}");
-    assert!(rt; refusals < 2);
     Ok(())
 }
 
 #[test]
 fn follows_cycles(rt: HostRuntime) -> Result<(), Fail> {
-    let mut refusals = 0;
-    let wrong = first_wrong(rt.alloc(), CIRCLED, &mut refusals);
+    let wrong = first_wrong(rt.alloc(), CIRCLED);
     assert!(rt; wrong.is_empty(), "{wrong}");
-    assert!(rt; refusals < 2);
     Ok(())
 }
 
 #[test]
 fn replaces_modules(rt: HostRuntime) -> Result<(), Fail> {
-    let mut refusals = 0;
-    let wrong = first_wrong(rt.alloc(), REPLACED, &mut refusals);
+    let wrong = first_wrong(rt.alloc(), REPLACED);
     assert!(rt; wrong.is_empty(), "{wrong}");
-    assert!(rt; refusals < 2);
     Ok(())
 }
 
 // ---- the turns
 
-const TURNS: &'static [(&'static str, &'static [File], &'static str)] = &[
+/// The main file, the other files, and the turns that loading takes.
+type Turned = (&'static str, &'static [File], &'static str);
+
+const TURNS: &'static [Turned] = &[
     ("module example.com/m\n\ngo 1.21\n", &[], ""),
     (
         "module example.com/m\n\ngo 1.17\n\nrequire example.com/a v1.0.0\n",
@@ -304,25 +294,26 @@ const TURNS: &'static [(&'static str, &'static [File], &'static str)] = &[
     ),
 ];
 
-fn takes_turns(
-    alloc: Global,
-    text: &'static str,
-    files: &'static [File],
-    want: &str,
-) -> Option<bool> {
-    let main = main_file(alloc, text)?;
-    let found = loaded_words(alloc, &main, None, files)?;
-    Some(found.turns.as_str() == want)
+// Whether loading takes the turns of a row. There is no answer where memory runs out, or where something is refused.
+fn takes_turns(alloc: Global, row: Turned) -> Option<bool> {
+    let main = main_file(alloc, row.0)?;
+    let found = loaded_words(alloc, &main, None, row.1)?;
+    Some(found.turns.as_str() == row.2)
+}
+
+// The same, tried a second time where there was no answer.
+fn has_turns(alloc: Global, row: Turned) -> bool {
+    match takes_turns(alloc, row) {
+        Some(right) => right,
+        None => takes_turns(alloc, row) == Some(true),
+    }
 }
 
 #[test]
 fn reads_each_module_once_or_twice(rt: HostRuntime) -> Result<(), Fail> {
-    let mut refusals = 0;
-    for (main, files, want) in TURNS {
-        let answer = takes_turns(rt.alloc(), main, *files, want);
-        assert!(rt; holds(answer, &mut refusals), "{want}");
+    for row in TURNS {
+        assert!(rt; has_turns(rt.alloc(), *row), "{}", row.2);
     }
-    assert!(rt; refusals < 2);
     Ok(())
 }
 
@@ -380,19 +371,24 @@ fn stops_in_turn(alloc: Global, main: &MainFile<'_>, files: &'static [File]) -> 
     Some(right)
 }
 
-// Whether loading stops at each ask in turn.
-fn stops_at_each(alloc: Global, text: &'static str, files: &'static [File]) -> Option<bool> {
-    let main = main_file(alloc, text)?;
-    stops_in_turn(alloc, &main, files)
+// Whether loading stops at each ask in turn. There is no answer where memory runs out, or where something else is refused.
+fn stops_at_each(alloc: Global, row: Turned) -> Option<bool> {
+    let main = main_file(alloc, row.0)?;
+    stops_in_turn(alloc, &main, row.1)
+}
+
+// The same, tried a second time where there was no answer.
+fn has_stops(alloc: Global, row: Turned) -> bool {
+    match stops_at_each(alloc, row) {
+        Some(right) => right,
+        None => stops_at_each(alloc, row) == Some(true),
+    }
 }
 
 #[test]
 fn stops_at_a_failing_device(rt: HostRuntime) -> Result<(), Fail> {
-    let mut refusals = 0;
-    for (main, files, want) in TURNS {
-        let answer = stops_at_each(rt.alloc(), main, *files);
-        assert!(rt; holds(answer, &mut refusals), "{want}");
+    for row in TURNS {
+        assert!(rt; has_stops(rt.alloc(), *row), "{}", row.2);
     }
-    assert!(rt; refusals < 2);
     Ok(())
 }

@@ -3,7 +3,7 @@
 ghost use Rattle.std.specs.Prelude.{◌≡◌, [], IfSome};
 ghost use Rattle.gm_store.specs.Memory.{pairs_of};
 
-use super::{holds, main_file, name};
+use super::{main_file, name};
 use crate::{Loaded, load};
 use gm_cache::LoadFault;
 use gm_file::MainFile;
@@ -98,13 +98,36 @@ fn opens_one_more(alloc: Global, path: &str) -> Option<bool> {
     stops(alloc, &main)
 }
 
+/// A main file that requires many modules.
+#[derive(Clone, Copy)]
+enum Large {
+    Present,
+    Local,
+    /// One module more than may be opened, of paths that begin so.
+    OneMore(&'static str),
+}
+
+fn opens(alloc: Global, large: Large) -> Option<bool> {
+    match large {
+        Large::Present => opens_present_modules(alloc),
+        Large::Local => opens_local_modules(alloc),
+        Large::OneMore(path) => opens_one_more(alloc, path),
+    }
+}
+
+// Whether such a file is opened as it should be, tried a second time where there was no answer.
+fn holds(alloc: Global, large: Large) -> bool {
+    match opens(alloc, large) {
+        Some(right) => right,
+        None => opens(alloc, large) == Some(true),
+    }
+}
+
 #[test]
 fn large_main_files(rt: HostRuntime) -> Result<(), Fail> {
-    let mut refusals = 0;
-    assert!(rt; holds(opens_present_modules(rt.alloc()), &mut refusals));
-    assert!(rt; holds(opens_local_modules(rt.alloc()), &mut refusals));
-    assert!(rt; holds(opens_one_more(rt.alloc(), "example.com/n"), &mut refusals));
-    assert!(rt; holds(opens_one_more(rt.alloc(), "n"), &mut refusals));
-    assert!(rt; refusals < 2);
+    assert!(rt; holds(rt.alloc(), Large::Present));
+    assert!(rt; holds(rt.alloc(), Large::Local));
+    assert!(rt; holds(rt.alloc(), Large::OneMore("example.com/n")));
+    assert!(rt; holds(rt.alloc(), Large::OneMore("n")));
     Ok(())
 }
