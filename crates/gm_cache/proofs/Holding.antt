@@ -1,22 +1,11 @@
--- What a cache holds, and what its look-ups find.
-use Rattle.std.proofs.Common.{◌≡◌, ◌∙◌, Bool, true, false, Option, Some, None, Result, Ok, Err, ap, cond}
-use Rattle.std.specs.BTreeMap.{BTreeMap, get_by}
+-- What a cache holds.
+use Rattle.std.proofs.Common.{◌≡◌, Bool, true, false, Option, Some, None, Result, Ok, Err, ap, cond}
 use Rattle.gm_file.specs.Fields.{Dependency}
 use Rattle.gm_file.specs.Directives.{Right}
-use Rattle.gm_store.specs.Asked.{name_of}
-use Rattle.gm_store.specs.declared.files.FileName.{FileName}
-use Rattle.gm_store.specs.contracts.files.FileNameOrd.TheImpl.{cmp-value}
-use Rattle.gm_store.proofs.NameOrder.{found_by}
 use Rattle.gm_cache.specs.declared.class.Class.{Class}
 use Rattle.gm_cache.specs.declared.class.Class.TheVariants.{WrongPath}
-use Rattle.gm_cache.specs.declared.summary.Summary.{Summary}
 use Rattle.gm_cache.specs.Main.{Main, Vertex, replacement_of}
 use Rattle.gm_cache.specs.Reading.{Held, file_of, is_askable, is_right_path, reading_if, readings_by, with_right_path}
-use Rattle.gm_cache.specs.Summaries.{found_in}
-
--- a look-up finds what lies under the name
-pub found_under : (summaries : BTreeMap FileName (Result Summary Class)) (name : FileName) (r : Option (Result Summary Class)) → r ≡ get_by (cmp-value.it name) summaries → r ≡ found_in summaries (name_of name)
-found_under summaries name r h = h ∙ found_by name summaries.entries
 
 abbrev or_wrong : Bool → Dependency → Result Dependency Class
 or_wrong b file = cond b (Ok file) (Err WrongPath)

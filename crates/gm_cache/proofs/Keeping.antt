@@ -3,13 +3,14 @@ use Rattle.std.proofs.Common.{◌≡◌, ◌∙◌, Bool, true, false, cond, Lis
 use Rattle.std.specs.Option.{option_map}
 use Rattle.std.specs.Map.{lookup}
 use Rattle.gm_file.specs.Fields.{Dependency}
-use Rattle.gm_store.specs.Asked.{Name, Reply, answer_in, name_of, same_name}
-use Rattle.gm_store.specs.declared.files.FileName.{FileName}
+use Rattle.gm_store.specs.Asked.{Name, Reply, answer_in, same_name}
 use Rattle.gm_sums.specs.declared.sums.SumTable.{SumTable}
 use Rattle.gm_cache.specs.declared.class.Class.{Class}
+use Rattle.gm_cache.specs.declared.marking.MarkedName.{MarkedName}
 use Rattle.gm_cache.specs.declared.summary.Summary.{Summary}
 use Rattle.gm_cache.specs.declared.cache.Cache.{Cache}
 use Rattle.gm_cache.specs.Main.{Main, Vertex, main_of, replacement_of}
+use Rattle.gm_cache.specs.Marks.{is_under}
 use Rattle.gm_cache.specs.Reading.{Held, IsTold, Keeps, KeepsHeld, Tells, file_of, is_askable, reading_if, readings_by, with_right_path}
 use Rattle.gm_cache.specs.Summaries.{IsKept, said}
 use Rattle.gm_cache.specs.Cached.{HoldsSame, Knows, held_of, main_in, sums_in}
@@ -89,8 +90,8 @@ readings_stay main old new keeps x reading e = reading_stays (is_askable (file_o
 -- ---- a cache that holds the same
 
 -- what a map holds of the file of each name
-abbrev held_among : List (FileName × Result Summary Class) → Held
-held_among entries name = option_map said (lookup (λ file. same_name name (name_of file)) entries)
+abbrev held_among : List (MarkedName × Result Summary Class) → Held
+held_among entries name = option_map said (lookup (is_under name) entries)
 
 pub main_same : (old new : Cache) → HoldsSame old new → main_in new ≡ main_in old
 main_same old new same = ap main_of same.main
@@ -103,5 +104,5 @@ pub knows_still : (old new : Cache) (pairs : List (Name × Reply)) → HoldsSame
 knows_still old new pairs same knows = record {
   tells = subst (λ (s : Option SumTable). Tells s pairs (held_of new)) (sym same.sums) (subst (λ (h : Held). Tells (sums_in old) pairs h) (sym (held_same old new same)) knows.tells);
   lends = λ name one e. subst (λ (m : Main). IsKept m one) (sym (main_same old new same))
-      (knows.lends name one (ap (λ (es : List (FileName × Result Summary Class)). lookup (λ file. same_name name (name_of file)) es) (sym same.entries) ∙ e));
+      (knows.lends name one (ap (λ (es : List (MarkedName × Result Summary Class)). lookup (is_under name) es) (sym same.entries) ∙ e));
 }

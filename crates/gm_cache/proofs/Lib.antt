@@ -1,5 +1,6 @@
 pub mod Excluding
 pub mod Holding
+pub mod Numbered
 pub mod Telling
 pub mod Growing
 pub mod Lending

@@ -1,6 +1,7 @@
 pub mod Main
 pub mod Reading
 pub mod Asking
+pub mod Marks
 pub mod Summaries
 pub mod Turns
 pub mod Cached

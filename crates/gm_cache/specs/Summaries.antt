@@ -4,15 +4,16 @@ use Rattle.std.specs.Option.{option_map}
 use Rattle.std.specs.BTreeMap.{BTreeMap}
 use Rattle.std.specs.Map.{lookup}
 use Rattle.gm_file.specs.Fields.{Dependency}
-use Rattle.gm_store.specs.Asked.{Name, name_of, same_name}
-use Rattle.gm_store.specs.declared.files.FileName.{FileName}
+use Rattle.gm_store.specs.Asked.{Name, same_name}
 use Rattle.gm_cache.specs.declared.class.Class.{Class}
+use Rattle.gm_cache.specs.declared.marking.MarkedName.{MarkedName}
 use Rattle.gm_cache.specs.declared.summary.Summary.{Summary}
 use Rattle.gm_cache.specs.Main.{Main, Vertex, kept}
+use Rattle.gm_cache.specs.Marks.{is_under}
 
 -- what lies under a name
-abbrev pub found_in : BTreeMap FileName (Result Summary Class) → Name → Option (Result Summary Class)
-found_in summaries name = lookup (λ file. same_name name (name_of file)) summaries.entries
+abbrev pub found_in : BTreeMap MarkedName (Result Summary Class) → Name → Option (Result Summary Class)
+found_in summaries name = lookup (is_under name) summaries.entries
 
 -- what a summary says of a file
 abbrev pub said : Result Summary Class → Result Dependency Class
@@ -33,7 +34,7 @@ lent_found (Some (Ok summary)) = lent_by summary
 lent_found (Some (Err class)) = []
 
 -- the requirements that are lent under a name, or without one
-abbrev pub lent_in : BTreeMap FileName (Result Summary Class) → Option Name → List Vertex
+abbrev pub lent_in : BTreeMap MarkedName (Result Summary Class) → Option Name → List Vertex
 lent_in summaries None = []
 lent_in summaries (Some name) = lent_found (found_in summaries name)
 
@@ -43,5 +44,5 @@ IsKept main (Ok summary) = lent_by summary ≡ kept main summary.file.requiremen
 IsKept main (Err class) = ⊤
 
 -- one more file is kept, and the others stay
-abbrev pub KeepsToo : BTreeMap FileName (Result Summary Class) → BTreeMap FileName (Result Summary Class) → Name → Result Summary Class → Type 0
+abbrev pub KeepsToo : BTreeMap MarkedName (Result Summary Class) → BTreeMap MarkedName (Result Summary Class) → Name → Result Summary Class → Type 0
 KeepsToo old new name one = (other : Name) → found_in new other ≡ (if same_name other name then Some one else found_in old other)

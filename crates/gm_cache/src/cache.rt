@@ -5,6 +5,7 @@ ghost use Rattle.std.specs.Option.{option_copied, option_map};
 ghost use Rattle.gm_store.specs.Asked.{Name, Reply, answer_in, name_of, reply_of};
 ghost use Rattle.gm_store.specs.declared.files.FileName.{FileName};
 ghost use Rattle.gm_cache.specs.Main.{Vertex, main_of};
+ghost use Rattle.gm_cache.specs.Marks.{IsMarked};
 ghost use Rattle.gm_cache.specs.Asking.{AsksAtMost, AsksFor, MayGrow, MayLess};
 ghost use Rattle.gm_cache.specs.Reading.{IsFileReading, KeepsHeld, file_of, is_askable as may_be_asked, is_unpruned, is_unpruned_in, readings_by, requirements_of, said_in};
 ghost use Rattle.gm_cache.specs.Refusals.{refused_in};
@@ -15,6 +16,7 @@ use crate::class::Class;
 use crate::depth::{Depth, Turn};
 use crate::finding::Finding;
 use crate::load_fault::LoadFault;
+use crate::marking::{MarkedName, mark, mark_any, mark_copy};
 use crate::naming::{file_name, is_askable};
 use crate::paths::is_right_path;
 use crate::reading::read_answer;
@@ -34,7 +36,7 @@ pub struct Cache<'a> {
     alloc: Global,
     main: &'a MainFile<'a>,
     sums: Option<&'a SumTable>,
-    summaries: BTreeMap<FileName, Result<Summary, Class>>,
+    summaries: BTreeMap<MarkedName, Result<Summary, Class>>,
     turns: Vec<Turn>,
 }
 
@@ -101,47 +103,55 @@ impl<'a> Cache<'a> {
     }
 
     /// Reads the file of that name unless it is known.
-    fn read_file<F: Files>(&mut self, files: &mut F, name: &FileName) -> Result<(), AskFault>
-        requires { Knows self.old (F.asked files.old) }
+    fn read_file<F: Files>(&mut self, files: &mut F, key: &MarkedName) -> Result<(), AskFault>
+        requires knows { Knows self.old (F.asked files.old) }
+        requires marked { IsMarked key.now }
         ensures knows { OnOk result (Knows self.new (F.asked files.new)) }
-        ensures found { OnOk result (IsSome (summary_at self.new (name_of name.now))) }
+        ensures found { OnOk result (IsSome (summary_at self.new (name_of key.now.name))) }
         ensures lent { LentSame self.old self.new }
         ensures grows { KeepsHeld (held_of self.old) (held_of self.new) }
         ensures err { OnErr result (HoldsSame self.old self.new) }
-        ensures asks { AsksAtMost (F.asked files.old) (F.asked files.new) (name_of name.now) }
-        ensures device { result ≡ Err AskFault.Device → (F.asked files.new ≡ F.asked files.old) × (answer_in (F.asked files.old) (name_of name.now) ≡ None) × (F.refused files.new ≡ F.refused files.old ++ name_of name.now ∷ []) }
+        ensures asks { AsksAtMost (F.asked files.old) (F.asked files.new) (name_of key.now.name) }
+        ensures device { result ≡ Err AskFault.Device → (F.asked files.new ≡ F.asked files.old) × (answer_in (F.asked files.old) (name_of key.now.name) ≡ None) × (F.refused files.new ≡ F.refused files.old ++ name_of key.now.name ∷ []) }
         ensures not_refused { (result ≡ Err AskFault.Device → ⊥) → F.refused files.new ≡ F.refused files.old }
         ensures cause { result ≡ Err AskFault.Device → (F.fault_count files.old < F.fault_count files.new) ⊎ (F.fault_count files.old ≡ 2 ^ 64 - 1) }
         ensures may { MayGrow (F.may_answer files.old) (F.asked files.old) (F.asked files.new) }
         ensures same_store { MayLess (F.may_answer files.new) (F.may_answer files.old) }
     {
-        if summary_under(&self.summaries, name).is_some() {
+        if summary_under(&self.summaries, key).is_some() {
             return Ok(());
         }
-        files.ask(name)?;
-        let one = summarize(self.alloc, self.main, self.sums, name, last_answer(files));
+        files.ask(&key.name)?;
+        let one = summarize(
+            self.alloc,
+            self.main,
+            self.sums,
+            &key.name,
+            last_answer(files),
+        );
         let Ok(one) = one else {
             return Err(AskFault::NoMemory);
         };
-        let Ok(()) = keep(self.alloc, &mut self.summaries, name, one) else {
+        let Ok(()) = keep(self.alloc, &mut self.summaries, key, one) else {
             return Err(AskFault::NoMemory);
         };
         Ok(())
     }
 
     /// What is found of a vertex whose file is known.
-    fn find(&self, x: &ModVer, name: FileName) -> Finding
-        requires file { name_of name ≡ file_of (main_in self.now) x.now }
-        requires askable { may_be_asked (name_of name) ≡ true }
-        requires found { IsSome (summary_at self.now (name_of name)) }
+    fn find(&self, x: &ModVer, key: MarkedName) -> Finding
+        requires marked { IsMarked key }
+        requires file { name_of key.name ≡ file_of (main_in self.now) x.now }
+        requires askable { may_be_asked (name_of key.name) ≡ true }
+        requires found { IsSome (summary_at self.now (name_of key.name)) }
         ensures { IsFinding (main_in self.now) (held_of self.now) x.now result }
     {
-        match summary_under(&self.summaries, &name) {
+        match summary_under(&self.summaries, &key) {
             None => unreachable!(),
             Some(Err(class)) => Finding::Fault(*class),
             Some(Ok(summary)) => {
                 if is_right_path(self.main, x, &summary.file) {
-                    Finding::Sound(name)
+                    Finding::Sound(key.name)
                 } else {
                     Finding::Fault(Class::WrongPath)
                 }
@@ -174,10 +184,11 @@ impl<'a> Cache<'a> {
         if !is_askable(&name) {
             return Ok(Finding::Fault(Class::NotFetchable));
         }
-        match self.read_file(files, &name) {
-            Ok(()) => Ok(self.find(x, name)),
+        let key = mark(name);
+        match self.read_file(files, &key) {
+            Ok(()) => Ok(self.find(x, key)),
             Err(AskFault::NoMemory) => Err(LoadFault::NoMemory),
-            Err(AskFault::Device) => Err(LoadFault::Device(name)),
+            Err(AskFault::Device) => Err(LoadFault::Device(key.name)),
         }
     }
 
@@ -195,17 +206,19 @@ impl<'a> Cache<'a> {
         ensures lent { IfOk result (λ lent. lent.now ≡ requirements_of (main_in self.old) (readings_by (main_in self.old) (held_of self.old)) vertex.now) }
         ensures* after { sem 𝓛 (Lends self.entry (turn vertex.now depth) result) }
     {
+        let key = mark_any(self.alloc, name)?;
         push_turn(self.alloc, &mut self.turns, vertex, depth)?;
-        Ok(lent_in(&self.summaries, name))
+        Ok(lent_in(&self.summaries, key))
     }
 
     /// Whether the file of that name is known, has no fault and is not pruned: whether its go version is lower than 1.17
-    /// by its first two numbers. Takes no memory.
-    pub fn is_unpruned(&self, name: &FileName) -> bool
-        ensures held { result ≡ is_unpruned_in (said_in (held_of self.now (name_of name.now))) }
-        ensures vertex { (x : Vertex) → IsLender (main_in self.now) (held_of self.now) x (Some (name_of name.now)) → result ≡ is_unpruned (readings_by (main_in self.now) (held_of self.now)) x }
+    /// by its first two numbers.
+    pub fn is_unpruned(&self, name: &FileName) -> Result<bool, NoMemory>
+        ensures held { IfOk result (λ is. is ≡ is_unpruned_in (said_in (held_of self.now (name_of name.now)))) }
+        ensures vertex { (x : Vertex) → IsLender (main_in self.now) (held_of self.now) x (Some (name_of name.now)) → IfOk result (λ is. is ≡ is_unpruned (readings_by (main_in self.now) (held_of self.now)) x) }
     {
-        is_unpruned_in(summary_under(&self.summaries, name))
+        let key = mark_copy(self.alloc, name)?;
+        Ok(is_unpruned_in(summary_under(&self.summaries, &key)))
     }
 
     /// The vertices and depths that requirements were lent for, in order.

@@ -8,6 +8,7 @@ mod finding;
 pub mod laws;
 mod load_fault;
 pub mod main_says;
+mod marking;
 mod naming;
 mod paths;
 mod reading;

@@ -1,41 +1,44 @@
 //! What is kept of files, by their names.
 
-ghost use Rattle.std.specs.Prelude.{◌≡◌, OnOk, OnErr};
+ghost use Rattle.std.specs.Prelude.{◌≡◌, IfSome, OnOk, OnErr};
 ghost use Rattle.std.specs.Option.{option_copied, option_map};
 ghost use Rattle.std.specs.BTreeMap.{IsUnchanged};
 ghost use Rattle.gm_store.specs.Asked.{name_of};
+ghost use Rattle.gm_cache.specs.Marks.{IsMarked};
 ghost use Rattle.gm_cache.specs.Reading.{is_unpruned_in, said_in};
 ghost use Rattle.gm_cache.specs.Summaries.{KeepsToo, found_in, lent_found, lent_in, said};
 
 use crate::class::Class;
 use crate::main_says::is_pruned;
+use crate::marking::MarkedName;
 use crate::summary::Summary;
 use gm_name::{ModVer, NoMemory};
-use gm_store::{FileName, copy_name};
 use std::alloc::Global;
 use std::collections::BTreeMap;
 
 /// What is kept under a name.
 pub(crate) fn summary_under<'s>(
-    summaries: &'s BTreeMap<FileName, Result<Summary, Class>>,
-    name: &FileName,
+    summaries: &'s BTreeMap<MarkedName, Result<Summary, Class>>,
+    key: &MarkedName,
 ) -> Option<&'s Result<Summary, Class>>
-    ensures { option_copied result ≡ found_in summaries.now (name_of name.now) }
+    requires { IsMarked key.now }
+    ensures { option_copied result ≡ found_in summaries.now (name_of key.now.name) }
 {
-    summaries.get(name)
+    summaries.get(key)
 }
 
 /// Keeps one more.
 pub(crate) fn keep(
     alloc: Global,
-    summaries: &mut BTreeMap<FileName, Result<Summary, Class>>,
-    name: &FileName,
+    summaries: &mut BTreeMap<MarkedName, Result<Summary, Class>>,
+    key: &MarkedName,
     one: Result<Summary, Class>,
 ) -> Result<(), NoMemory>
-    ensures ok { OnOk result (KeepsToo summaries.old summaries.new (name_of name.now) one) }
+    requires { IsMarked key.now }
+    ensures ok { OnOk result (KeepsToo summaries.old summaries.new (name_of key.now.name) one) }
     ensures err { OnErr result (IsUnchanged summaries.old summaries.new) }
 {
-    let copy = copy_name(alloc, name)?;
+    let copy = key.copy(alloc)?;
     summaries.insert(copy, one)?;
     Ok(())
 }
@@ -64,13 +67,14 @@ fn lent_found<'s>(kept: Option<&'s Result<Summary, Class>>) -> &'s [ModVer]
 
 /// The requirements that are lent under a name, or without one.
 pub(crate) fn lent_in<'s>(
-    summaries: &'s BTreeMap<FileName, Result<Summary, Class>>,
-    name: Option<&FileName>,
+    summaries: &'s BTreeMap<MarkedName, Result<Summary, Class>>,
+    key: Option<MarkedName>,
 ) -> &'s [ModVer]
-    ensures { result.now ≡ lent_in summaries.now (option_map (λ n. name_of n.now) name.entry) }
+    requires { IfSome key IsMarked }
+    ensures { result.now ≡ lent_in summaries.now (option_map (λ k. name_of k.name) key) }
 {
-    match name {
+    match key {
         None => &[],
-        Some(name) => lent_found(summary_under(summaries, name)),
+        Some(key) => lent_found(summary_under(summaries, &key)),
     }
 }

@@ -323,7 +323,9 @@ fn lends_one(
     match finding {
         Finding::Fault(_) => Some(false),
         Finding::Sound(name) => {
-            let unpruned = cache.is_unpruned(&name);
+            let Ok(unpruned) = cache.is_unpruned(&name) else {
+                return None;
+            };
             let Ok(lent) = cache.lend(&x, Depth::Deep, Some(&name)) else {
                 return None;
             };

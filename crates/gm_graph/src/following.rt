@@ -17,9 +17,9 @@ ghost use Rattle.gm_graph.specs.Turns.{FollowOverflows, leads_on};
 use crate::gathering::Gathered;
 use crate::opening::{AddFault, Opening};
 use gm_cache::{Cache, Depth, Finding, LoadFault};
-use gm_name::ModVer;
+use gm_name::{ModVer, NoMemory};
 use gm_store::{FileName, Files};
-use std::alloc::{AllocError, Global};
+use std::alloc::Global;
 
 /// What the requirements of a vertex are lent by.
 fn lender(finding: &Finding) -> Option<&FileName>
@@ -32,16 +32,21 @@ fn lender(finding: &Finding) -> Option<&FileName>
 }
 
 /// Whether the requirements of a vertex are opened, from a turn to this depth.
-fn leads_on(cache: &Cache<'_>, vertex: &ModVer, depth: Depth, finding: &Finding) -> bool
+fn leads_on(
+    cache: &Cache<'_>,
+    vertex: &ModVer,
+    depth: Depth,
+    finding: &Finding,
+) -> Result<bool, NoMemory>
     requires { IsFinding (main_in cache.now) (held_of cache.now) vertex.now finding.now }
-    ensures { result ≡ leads_on (readings_in cache.now) vertex.now depth }
+    ensures { IfOk result (λ leads. leads ≡ leads_on (readings_in cache.now) vertex.now depth) }
 {
     match depth {
         Depth::Top => match finding {
-            Finding::Fault(_) => false,
+            Finding::Fault(_) => Ok(false),
             Finding::Sound(name) => cache.is_unpruned(name),
         },
-        Depth::Deep => true,
+        Depth::Deep => Ok(true),
     }
 }
 
@@ -51,7 +56,7 @@ fn gathers(
     opening: &Opening,
     vertex: &ModVer,
     depth: Depth,
-) -> Result<bool, AllocError>
+) -> Result<bool, NoMemory>
     requires { IsOpening opening.now }
     ensures { IfOk result (λ is_first. is_first ≡ gathers opening.now.turns.items (turn vertex.now depth)) }
 {
@@ -82,7 +87,9 @@ fn open_below(
     ensures too_many { result ≡ Err LoadFault.TooMany → FollowOverflows (main_in cache.old) (readings_in cache.old) opening.old.vertices.items vertex.now depth }
     ensures not_refused { refused_in result ≡ [] }
 {
-    let leads = leads_on(cache, vertex, depth, finding);
+    let Ok(leads) = leads_on(cache, vertex, depth, finding) else {
+        return Err(LoadFault::NoMemory);
+    };
     let Ok(gathers) = gathers(alloc, opening, vertex, depth) else {
         return Err(LoadFault::NoMemory);
     };

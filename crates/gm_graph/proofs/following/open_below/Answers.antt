@@ -21,7 +21,7 @@ returns-then-not-leads-clause-followed c =
     let found = c.args.finding.now in
     record {
       opening = c.requires.opening;
-      follows = follows_nothing main (readings_in c.args.cache.now) turns x d (finding_known main held x found c.requires.finding) (sym c.leads_on-leads.ensures ∙ c.if-not-leads.true);
+      follows = follows_nothing main (readings_in c.args.cache.now) turns x d (finding_known main held x found c.requires.finding) (sym c.in-Ok.ensures ∙ c.if-not-leads.true);
       gathers = elim c.if-gathers.branch [
         | then-gathers+in-Ok-add_edges w ↦
             gathers_edges main held turns x d found c.requires.finding c.args.gathered.now c.note.new.self c.if-gathers.gathered c.in-Ok-note.ensures.faults c.in-Ok-note.ensures.edges
@@ -30,7 +30,7 @@ returns-then-not-leads-clause-followed c =
             (λ q. ap (λ (g : Gathered). faults_in g q) w.gathered-is ∙ w.in-Ok-add_edges.ensures.faults q)
         | else-gathers w ↦
             gathers_no_edges main held turns x d found c.requires.finding c.args.gathered.now c.note.new.self c.if-gathers.gathered c.in-Ok-note.ensures.faults c.in-Ok-note.ensures.edges
-            (sym c.in-Ok.ensures ∙ w.if-gathers.false) w.gathered-is
+            (sym c.in-Ok-gathers.ensures ∙ w.if-gathers.false) w.gathered-is
       ];
     }
 
@@ -44,7 +44,7 @@ returns-in-Ok-add_all-clause-followed c =
     let found = c.args.finding.now in
     record {
       opening = c.in-Ok-add_all.ensures.opening;
-      follows = follows_adds main (readings_in c.args.cache.now) turns c.add_all.new.self.turns.items x d (finding_known main held x found c.requires.finding) (sym c.leads_on-leads.ensures ∙ c.if-not-leads.false)
+      follows = follows_adds main (readings_in c.args.cache.now) turns c.add_all.new.self.turns.items x d (finding_known main held x found c.requires.finding) (sym c.in-Ok.ensures ∙ c.if-not-leads.false)
           (subst (λ (ys : List Vertex). AddsAll turns c.add_all.new.self.turns.items ys Deep) c.in-Ok-lend.ensures.lent c.in-Ok-add_all.ensures.adds);
       gathers = elim c.if-gathers.branch [
         | then-gathers+in-Ok-add_edges w ↦
@@ -54,12 +54,12 @@ returns-in-Ok-add_all-clause-followed c =
             (λ q. ap (λ (g : Gathered). faults_in g q) w.gathered-is ∙ w.in-Ok-add_edges.ensures.faults q)
         | else-gathers w ↦
             gathers_no_edges main held turns x d found c.requires.finding c.args.gathered.now c.note.new.self c.if-gathers.gathered c.in-Ok-note.ensures.faults c.in-Ok-note.ensures.edges
-            (sym c.in-Ok.ensures ∙ w.if-gathers.false) w.gathered-is
+            (sym c.in-Ok-gathers.ensures ∙ w.if-gathers.false) w.gathered-is
       ];
     }
 
 pub returns-in-Err-TooMany-clause-too_many : goal.returns-in-Err-TooMany-clause-too_many
 returns-in-Err-TooMany-clause-too_many c = λ _. (
-  sym c.leads_on-leads.ensures ∙ c.if-not-leads.false,
+  sym c.in-Ok.ensures ∙ c.if-not-leads.false,
   subst (λ (ys : List Vertex). OverflowsWith c.args.opening.now.vertices.items ys) c.in-Ok-lend.ensures.lent (c.in-Err-TooMany.ensures.too_many (ap Err c.in-Err-TooMany.field-0-is)),
 )

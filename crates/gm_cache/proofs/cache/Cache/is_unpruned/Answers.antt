@@ -1,6 +1,7 @@
 use Rattle.std.proofs.Common.{◌∙◌, sym, ap, Option, Result}
 use Rattle.std.specs.Option.{option_map}
 use Rattle.gm_file.specs.Fields.{Dependency}
+use Rattle.gm_store.specs.Asked.{Name}
 use Rattle.gm_cache.specs.declared.class.Class.{Class}
 use Rattle.gm_cache.specs.declared.summary.Summary.{Summary}
 use Rattle.gm_cache.specs.Reading.{is_unpruned_in, said_in}
@@ -10,7 +11,7 @@ use Rattle.gm_cache.proofs.Holding.{held_sound}
 use Rattle.gm_cache.proofs.cache.Cache.is_unpruned.Goals as goal
 
 pub returns-clause-held : goal.returns-clause-held
-returns-clause-held c = c.is_unpruned_in.ensures ∙ ap (λ (o : Option (Result Summary Class)). is_unpruned_in (said_in (option_map said o))) c.summary_under.ensures
+returns-clause-held c = c.is_unpruned_in.ensures ∙ ap (λ (o : Option (Result Summary Class)). is_unpruned_in (said_in (option_map said o))) c.summary_under.ensures ∙ ap (λ (n : Name). is_unpruned_in (said_in (held_of c.args.self.now n))) c.in_ok-key.ensures.name
 
 pub returns-clause-vertex : goal.returns-clause-vertex
 returns-clause-vertex c x lender =
