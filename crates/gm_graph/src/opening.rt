@@ -68,12 +68,7 @@ impl Opening {
     }
 
     /// Whether a vertex without a turn of this depth is there: whether it has one of the other.
-    fn has_vertex(
-        &self,
-        alloc: Global,
-        vertex: &ModVer,
-        depth: Depth,
-    ) -> Result<bool, AllocError>
+    fn has_vertex(&self, alloc: Global, vertex: &ModVer, depth: Depth) -> Result<bool, AllocError>
         requires opening { IsOpening self.now }
         requires fresh { list_any (same_turn (turn vertex.now depth)) self.now.turns.items ≡ false }
         ensures { IfOk result (λ is_there. is_there ≡ list_any (same_vertex vertex.now) self.now.vertices.items) }
