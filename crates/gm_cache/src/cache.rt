@@ -212,7 +212,7 @@ impl<'a> Cache<'a> {
     }
 
     /// Whether the file of that name is known, has no fault and is not pruned: whether its go version is lower than 1.17
-    /// by its first two numbers.
+    /// by its first two numbers. The only refusal is want of memory.
     pub fn is_unpruned(&self, name: &FileName) -> Result<bool, NoMemory>
         ensures held { IfOk result (λ is. is ≡ is_unpruned_in (said_in (held_of self.now (name_of name.now)))) }
         ensures vertex { (x : Vertex) → IsLender (main_in self.now) (held_of self.now) x (Some (name_of name.now)) → IfOk result (λ is. is ≡ is_unpruned (readings_by (main_in self.now) (held_of self.now)) x) }
