@@ -1,0 +1,85 @@
+//! Names that were read before.
+
+ghost use Rattle.std.specs.Prelude.{◌≡◌, ◌↔◌, IfOk, IsErrOf};
+ghost use Rattle.gm_name.specs.Path.{IsPath};
+ghost use Rattle.gm_name.specs.Version.{IsNotCanonical, IsSemVer, IsVersion};
+
+use crate::fnv::fingerprint;
+use crate::path::{ModPath, PathFault};
+use crate::version::{ModVersion, VersionFault};
+use std::alloc::{AllocError, Global};
+use std::collections::BTreeMap;
+
+/// Paths and versions that were read before, for whoever reads many names of which most are equal: what is read again shares
+/// the memory of what was read first, and is not tested again.
+///
+/// What is read through one of these is what `ModPath::parse` and `ModVersion::parse` read. Under each fingerprint one name
+/// is kept, so a look-up among n names takes log n comparisons of numbers and one of texts, whatever the names are.
+#[derive(Drop)]
+pub struct KnownNames {
+    room: usize,
+    paths: BTreeMap<u64, ModPath>,
+    versions: BTreeMap<u64, ModVersion>,
+}
+
+// Keeps one name under a number, in place of another, where there is room.
+fn keep<T: Drop>(
+    names: &mut BTreeMap<u64, T>,
+    room: usize,
+    number: u64,
+    name: T,
+) -> Result<(), AllocError> {
+    if names.len() < room {
+        names.insert(number, name)?;
+    }
+    Ok(())
+}
+
+impl KnownNames {
+    /// No names, and room for that many paths and as many versions. It takes no memory before a name is kept.
+    pub fn new(alloc: Global, room: usize) -> KnownNames {
+        KnownNames {
+            room,
+            paths: BTreeMap::new(alloc),
+            versions: BTreeMap::new(alloc),
+        }
+    }
+
+    /// The module path that a text spells, as `ModPath::parse` reads it.
+    ///
+    /// `BadPath` exactly where the text is no module path.
+    pub fn path(&mut self, alloc: Global, text: &str) -> Result<ModPath, PathFault>
+        ensures ok { IfOk result (λ path. (path ≡ text.now) × IsPath text.now) }
+        ensures bad { IsErrOf result PathFault.BadPath ↔ ¬ (IsPath text.now) }
+    {
+        let number = fingerprint(0, text);
+        if let Some(held) = self.paths.get(&number) {
+            if held.as_str() == text {
+                return Ok(held.copy(alloc)?);
+            }
+        }
+        let path = ModPath::parse(alloc, text)?;
+        keep(&mut self.paths, self.room, number, path.copy(alloc)?)?;
+        Ok(path)
+    }
+
+    /// The version that a text spells, as `ModVersion::parse` reads it.
+    ///
+    /// `NotCanonical` and `BadVersion` come where they come there, and `NoMemory` only on versions, whatever their build.
+    pub fn version(&mut self, alloc: Global, text: &str) -> Result<ModVersion, VersionFault>
+        ensures ok { IfOk result (λ version. (version ≡ text.now) × IsVersion text.now) }
+        ensures not_canonical { IsErrOf result VersionFault.NotCanonical → IsNotCanonical text.now × ¬ (IsVersion text.now) }
+        ensures bad { IsErrOf result VersionFault.BadVersion → ¬ (IsVersion text.now) × ¬ (IsNotCanonical text.now) }
+        ensures memory { IsErrOf result VersionFault.NoMemory → IsSemVer text.now }
+    {
+        let number = fingerprint(0, text);
+        if let Some(held) = self.versions.get(&number) {
+            if held.as_str() == text {
+                return Ok(held.copy(alloc)?);
+            }
+        }
+        let version = ModVersion::parse(alloc, text)?;
+        keep(&mut self.versions, self.room, number, version.copy(alloc)?)?;
+        Ok(version)
+    }
+}
