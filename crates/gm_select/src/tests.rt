@@ -7,7 +7,9 @@ ghost use Rattle.std.specs.Prelude.{IfSome};
 ghost use Rattle.gm_select.specs.Graph.{edge_cmp};
 ghost use Rattle.gm_select.specs.Order.{IsAscending};
 
-use crate::{ChainFault, Edge, Row, Rows, Step, build_list, chain, rest_after, sorted_edges};
+use crate::{
+    ChainFault, Edge, Row, Rows, Step, VertexSet, build_list, chain, rest_after, sorted_edges,
+};
 use gm_file::{MainFile, Right};
 use gm_name::{ModPath, ModVer, ModVersion};
 use gm_syntax::doc::Doc;
@@ -419,6 +421,51 @@ fn long_chains(rt: HostRuntime) -> Result<(), Fail> {
     for length in [1, long()] {
         let answer = gives_long_chain(rt.alloc(), length);
         assert!(rt; holds(answer, &mut refusals), "{length}");
+    }
+    assert!(rt; refusals < 2);
+    Ok(())
+}
+
+// Whether a vertex is in a set only after it was put in, and was new there or not, as told.
+fn goes_in(alloc: Global, set: &mut VertexSet, name: Name, is_new: bool) -> Option<bool> {
+    let vertex = vertex(alloc, name.0, name.1)?;
+    let was_in = set.contains(alloc, &vertex).ok()?;
+    let was_new = set.insert(alloc, &vertex).ok()?;
+    let is_in = set.contains(alloc, &vertex).ok()?;
+    Some(was_in != is_new && was_new == is_new && is_in)
+}
+
+// Whether all of these go into one set, each of which is new there or not.
+fn go_in(alloc: Global, rows: &'static [(Name, bool)]) -> Option<bool> {
+    let mut set = VertexSet::new(alloc);
+    for (name, is_new) in rows {
+        if !goes_in(alloc, &mut set, *name, *is_new)? {
+            return Some(false);
+        }
+    }
+    Some(true)
+}
+
+const SETS: &[&[(Name, bool)]] = &[
+    &[
+        (("a.com/x", "v1.0.0"), true),
+        (("a.com/x", "v1.1.0"), true),
+        (("a.com/y", "v1.0.0"), true),
+        (("a.com/x", "v1.0.0"), false),
+        (("a.com/y", "v1.0.0"), false),
+    ],
+    &[
+        (("a.com/x", "v1.0.0"), true),
+        (("a.com/x", "v1.0.0"), false),
+    ],
+];
+
+#[test]
+fn sets(rt: HostRuntime) -> Result<(), Fail> {
+    let mut refusals = 0;
+    for rows in SETS {
+        let answer = go_in(rt.alloc(), rows);
+        assert!(rt; holds(answer, &mut refusals));
     }
     assert!(rt; refusals < 2);
     Ok(())

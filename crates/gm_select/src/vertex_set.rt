@@ -1,6 +1,6 @@
 //! Sets of module versions.
 
-ghost use Rattle.std.specs.Prelude.{◌≡◌, IfOk, OnOk, cond, false, not, true};
+ghost use Rattle.std.specs.Prelude.{◌≡◌, IfOk, OnErr, OnOk, cond, false, not, true};
 ghost use Rattle.std.specs.Ordering.{is_eq};
 ghost use Rattle.std.specs.BTreeSet as set;
 ghost use Rattle.gm_select.specs.Graph.{Vertex, vertex_cmp};
@@ -23,7 +23,7 @@ impl Marked {
     fn new(alloc: Global, vertex: &ModVer) -> Result<Marked, AllocError>
         ensures { IfOk result (λ one. one ≡ marked vertex.now) }
     {
-        let start = fingerprint(0, vertex.path().as_str());
+        let start = vertex.path().fingerprint();
         Ok(Marked {
             number: fingerprint(start, vertex.version().as_str()),
             vertex: vertex.copy(alloc)?,
@@ -56,10 +56,12 @@ impl VertexSet {
         Ok(self.marked.contains(&one))
     }
 
-    /// Puts a vertex into the set, and says whether it was new there. The only refusal is want of memory.
+    /// Puts a vertex into the set, and says whether it was new there. The only refusal is want of memory, which leaves the set
+    /// as it was.
     pub fn insert(&mut self, alloc: Global, vertex: &ModVer) -> Result<bool, AllocError>
         ensures is_new { IfOk result (λ is_new. is_new ≡ not (has self.old vertex.now)) }
         ensures has { OnOk result ((x : Vertex) → has self.new x ≡ cond (is_eq (vertex_cmp vertex.now x)) true (has self.old x)) }
+        ensures err { OnErr result ((x : Vertex) → has self.new x ≡ has self.old x) }
     {
         let one = Marked::new(alloc, vertex)?;
         let is_new = self.marked.insert(one)?;
