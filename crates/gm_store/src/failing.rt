@@ -62,12 +62,8 @@ impl Files for FailingFiles {
     {
         match self.left {
             Some(0) => {
-                let Ok(copy) = copy_name(self.inside.alloc(), name) else {
-                    return Err(AskFault::NoMemory);
-                };
-                let Ok(()) = self.refused.push(copy) else {
-                    return Err(AskFault::NoMemory);
-                };
+                let copy = copy_name(self.inside.alloc(), name)?;
+                self.refused.push(copy)?;
                 self.left = None;
                 Err(AskFault::Device)
             }

@@ -2,9 +2,10 @@
 
 ghost use Rattle.std.specs.Prelude.{◌≡◌, ◌+◌, ◌-◌, ◌^◌, ◌<◌, ◌⊎◌, ℕ, List, [], ◌∷◌, ◌++◌, length, slice_get, Some, None, OnOk, OnErr, IfOk};
 ghost use Rattle.gm_store.specs.Asked.{name_of};
+ghost use Rattle.gm_store.specs.declared.files.AskFault.TheVariants as ask_fault;
 
 use gm_name::{ModPath, ModVersion, NoMemory};
-use std::alloc::Global;
+use std::alloc::{AllocError, AllocFailed, Global};
 use thiserror::Error;
 
 /// The name of a file that a store is asked for.
@@ -72,6 +73,22 @@ pub enum AskFault {
     /// The store's device failed in that call.
     #[error("the device failed")]
     Device,
+}
+
+impl From<AllocError> for AskFault {
+    ghost from_gives = { λ _ fault. fault ≡ ask_fault.NoMemory };
+
+    fn from(_error: AllocError) -> AskFault {
+        AskFault::NoMemory
+    }
+}
+
+impl<T: Drop> From<AllocFailed<T>> for AskFault {
+    ghost from_gives = { λ _ fault. fault ≡ ask_fault.NoMemory };
+
+    fn from(_error: AllocFailed<T>) -> AskFault {
+        AskFault::NoMemory
+    }
 }
 
 /// A store that is asked for each file at most once, and keeps the answers in the order of the asks.

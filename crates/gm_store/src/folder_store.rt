@@ -81,24 +81,16 @@ impl<F: Folders> Files for FolderStore<F> {
     {
         // Read, so that its range is known also where a growth is refused.
         let _faults = self.faults;
-        let Ok(copy) = copy_name(self.alloc, name) else {
-            return Err(AskFault::NoMemory);
-        };
+        let copy = copy_name(self.alloc, name)?;
         let marks = marks_for(name, &self.marks);
-        let Ok(outcome) = walk(&self.folders, marks, name, &mut self.faults) else {
-            return Err(AskFault::NoMemory);
-        };
+        let outcome = walk(&self.folders, marks, name, &mut self.faults)?;
         match outcome {
             Some(answer) => {
-                let Ok(()) = self.asked.push(Asked { name: copy, answer }) else {
-                    return Err(AskFault::NoMemory);
-                };
+                self.asked.push(Asked { name: copy, answer })?;
                 Ok(())
             }
             None => {
-                let Ok(()) = self.refused.push(copy) else {
-                    return Err(AskFault::NoMemory);
-                };
+                self.refused.push(copy)?;
                 Err(AskFault::Device)
             }
         }

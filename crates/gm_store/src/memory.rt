@@ -84,15 +84,9 @@ impl Files for MemoryFiles {
     ghost may_answer = { may_give };
 
     fn ask(&mut self, name: &FileName) -> Result<(), AskFault> {
-        let Ok(answer) = self.look_up(name) else {
-            return Err(AskFault::NoMemory);
-        };
-        let Ok(name) = copy_name(self.alloc, name) else {
-            return Err(AskFault::NoMemory);
-        };
-        let Ok(()) = self.asked.push(Asked { name, answer }) else {
-            return Err(AskFault::NoMemory);
-        };
+        let answer = self.look_up(name)?;
+        let name = copy_name(self.alloc, name)?;
+        self.asked.push(Asked { name, answer })?;
         Ok(())
     }
 

@@ -1,9 +1,10 @@
 //! Reading a limited number of bytes.
 
 ghost use Rattle.gm_store.specs.Pieces.{AddsPiece};
+ghost use Rattle.gm_store.specs.declared.reading.ReadFault.TheVariants as read_fault;
 ghost use Rattle.std.specs.Prelude.{◌≡◌, ◌+◌, ◌≤◌, length, take, IfOk, IfSome, vec_len};
 
-use std::alloc::Global;
+use std::alloc::{AllocError, Global};
 use std::io::Read;
 use thiserror::Error;
 
@@ -27,14 +28,19 @@ pub enum ReadFault {
     Device,
 }
 
+impl From<AllocError> for ReadFault {
+    ghost from_gives = { λ _ fault. fault ≡ read_fault.NoMemory };
+
+    fn from(_error: AllocError) -> ReadFault {
+        ReadFault::NoMemory
+    }
+}
+
 // So many bytes, to read a piece into.
 fn piece_of(alloc: Global, length: usize) -> Result<Vec<u8>, ReadFault>
     ensures { IfOk result (λ piece. vec_len piece ≡ length) }
 {
-    let Ok(piece) = vec![in alloc; 0u8; length] else {
-        return Err(ReadFault::NoMemory);
-    };
-    Ok(piece)
+    Ok(vec![in alloc; 0u8; length]?)
 }
 
 // Reads once, as much as there is room for, and adds what came.
@@ -48,9 +54,7 @@ fn read_piece<R: Read>(
     let Ok(count) = reader.read(room) else {
         return Err(ReadFault::Device);
     };
-    let Ok(()) = bytes.extend_from_slice(&room[..count]) else {
-        return Err(ReadFault::NoMemory);
-    };
+    bytes.extend_from_slice(&room[..count])?;
     Ok(count)
 }
 
