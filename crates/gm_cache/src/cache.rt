@@ -23,7 +23,7 @@ use crate::reading::read_answer;
 use crate::shelf::{is_unpruned_in, keep, lent_in, summary_under};
 use crate::summary::{Summary, summary_of};
 use gm_file::MainFile;
-use gm_name::{ModVer, NoMemory};
+use gm_name::{KnownNames, ModVer, NoMemory};
 use gm_store::{Answer, AskFault, FileName, Files};
 use gm_sums::SumTable;
 use std::alloc::Global;
@@ -36,9 +36,13 @@ pub struct Cache<'a> {
     alloc: Global,
     main: &'a MainFile<'a>,
     sums: Option<&'a SumTable>,
+    names: KnownNames,
     summaries: BTreeMap<MarkedName, Result<Summary, Class>>,
     turns: Vec<Turn>,
 }
+
+/// How many paths, and how many versions, are known when they are read again. More may be read, but share nothing.
+const MOST_KNOWN: usize = 65_536;
 
 /// The answer to the last ask.
 fn last_answer<F: Files>(files: &F) -> &Answer
@@ -51,6 +55,7 @@ fn last_answer<F: Files>(files: &F) -> &Answer
 /// What an answer says, with the requirements less the excluded ones, or what is wrong with it.
 fn summarize(
     alloc: Global,
+    names: &mut KnownNames,
     main: &MainFile,
     sums: Option<&SumTable>,
     name: &FileName,
@@ -59,7 +64,7 @@ fn summarize(
     ensures reading { IfOk result (λ one. IsFileReading (option_copied sums.entry) (name_of name.now) (reply_of answer.now) (said one)) }
     ensures kept { IfOk result (IsKept (main_of main.now)) }
 {
-    match read_answer(alloc, sums, name, answer)? {
+    match read_answer(alloc, names, sums, name, answer)? {
         Ok(file) => Ok(Ok(summary_of(alloc, main, file)?)),
         Err(class) => Ok(Err(class)),
     }
@@ -97,6 +102,7 @@ impl<'a> Cache<'a> {
             alloc,
             main,
             sums,
+            names: KnownNames::new(alloc, MOST_KNOWN),
             summaries: BTreeMap::new(alloc),
             turns: Vec::new(alloc),
         }
@@ -124,17 +130,13 @@ impl<'a> Cache<'a> {
         files.ask(&key.name)?;
         let one = summarize(
             self.alloc,
+            &mut self.names,
             self.main,
             self.sums,
             &key.name,
             last_answer(files),
-        );
-        let Ok(one) = one else {
-            return Err(AskFault::NoMemory);
-        };
-        let Ok(()) = keep(self.alloc, &mut self.summaries, key, one) else {
-            return Err(AskFault::NoMemory);
-        };
+        )?;
+        keep(self.alloc, &mut self.summaries, key, one)?;
         Ok(())
     }
 

@@ -23,11 +23,9 @@ fn number_of(name: &FileName) -> u64
     ensures { result ≡ number_of (name_of name.now) }
 {
     match name {
-        FileName::Mod(path, version) => {
-            fingerprint(fingerprint(0, path.as_str()), version.as_str())
-        }
+        FileName::Mod(path, version) => fingerprint(path.fingerprint(), version.as_str()),
         FileName::Folder(text) => fingerprint(0, text.as_str()),
-        FileName::List(path) => fingerprint(0, path.as_str()),
+        FileName::List(path) => path.fingerprint(),
     }
 }
 

@@ -7,7 +7,7 @@ ghost use Rattle.gm_cache.specs.Reading.{IsContentReading, IsFileReading, class_
 
 use crate::class::{Class, Misreading};
 use gm_file::{DepFile, FileFault};
-use gm_name::NoMemory;
+use gm_name::{KnownNames, NoMemory};
 use gm_store::{Answer, FileName};
 use gm_sums::{Sum, SumTable, mod_hash};
 use gm_syntax::doc::Doc;
@@ -48,7 +48,11 @@ fn sum_fault(
 }
 
 /// What the bytes of a file say, or where they do not read.
-fn read_bytes(alloc: Global, content: &[u8]) -> Result<Result<DepFile, Class>, NoMemory>
+fn read_bytes(
+    alloc: Global,
+    names: &mut KnownNames,
+    content: &[u8],
+) -> Result<Result<DepFile, Class>, NoMemory>
     ensures { IfOk result (IsContentReading content.now) }
 {
     let doc = match Doc::parse(alloc, content) {
@@ -60,7 +64,7 @@ fn read_bytes(alloc: Global, content: &[u8]) -> Result<Result<DepFile, Class>, N
             return Ok(Err(malformed(line, Misreading::Syntax(kind))));
         }
     };
-    match DepFile::read(alloc, &doc) {
+    match DepFile::read(alloc, names, &doc) {
         Ok(file) => Ok(Ok(file)),
         Err(FileFault::NoMemory) => Err(AllocError),
         Err(FileFault::Directive { line, kind }) => {
@@ -78,6 +82,7 @@ fn malformed(line: usize, kind: Misreading) -> Class
 /// What an answer says, or what is wrong with it.
 pub(crate) fn read_answer(
     alloc: Global,
+    names: &mut KnownNames,
     sums: Option<&SumTable>,
     name: &FileName,
     answer: &Answer,
@@ -89,7 +94,7 @@ pub(crate) fn read_answer(
         Answer::TooLong => Ok(Err(Class::TooLong)),
         Answer::Bytes(content) => match sum_fault(alloc, sums, name, content)? {
             Some(class) => Ok(Err(class)),
-            None => read_bytes(alloc, content),
+            None => read_bytes(alloc, names, content),
         },
     }
 }

@@ -13,7 +13,7 @@ use crate::fields::{Fields, read_lines};
 use crate::replace::Interval;
 use crate::retractions::read_retractions;
 use crate::verb::Mode;
-use gm_name::{ModPath, ModVer};
+use gm_name::{KnownNames, ModPath, ModVer};
 use gm_syntax::doc::Doc;
 use std::alloc::Global;
 use std::marker::Model;
@@ -44,7 +44,10 @@ impl DepFile {
     /// A document with a fault is refused with `FileFault::Directive`: the lowest line with one, and of what is wrong
     /// there the first kind in the order of `DirectiveKind`. A `retract` is never a fault: an entry that strict reading
     /// would refuse retracts nothing. `NoMemory` may come in place of any answer.
-    pub fn read(alloc: Global, doc: &Doc) -> Result<DepFile, FileFault>
+    ///
+    /// Names are read through those that are known, so that files that name the same modules share their memory. What is read
+    /// doesn't depend on them.
+    pub fn read(alloc: Global, names: &mut KnownNames, doc: &Doc) -> Result<DepFile, FileFault>
         ensures ok { IfOk result (λ file. (file ≡ dependency_of (plains doc.now)) × (fault_of Lax (plains doc.now) ≡ None)) }
         ensures fault { IfErr result (TellsFault Lax (plains doc.now)) }
     {
@@ -53,8 +56,8 @@ impl DepFile {
             go,
             requirements,
             ..
-        } = read_lines(alloc, Mode::Lax, doc.lines())?;
-        let retracts = read_retractions(alloc, doc.lines())?;
+        } = read_lines(alloc, names, Mode::Lax, doc.lines())?;
+        let retracts = read_retractions(alloc, names, doc.lines())?;
         Ok(DepFile {
             declared,
             go: go.unwrap_or((1, 16)),

@@ -11,14 +11,14 @@ ghost use Rattle.gm_file.specs.Reading.{early_kinds};
 ghost use Rattle.gm_file.specs.VerbViews.{mode_seen};
 ghost use Rattle.gm_file.specs.Views.{TellsFault};
 
-use crate::directive::{Directive, read_line};
+use crate::directive::{Directive, read_line_knowing};
 use crate::exclusions::Exclusions;
 use crate::fault::{DirectiveKind, FileFault, LineFault};
 use crate::go_version::{lax_go, strict_go};
 use crate::replace::Interval;
 use crate::replacements::Replacements;
 use crate::verb::Mode;
-use gm_name::{ModPath, ModVer};
+use gm_name::{KnownNames, ModPath, ModVer};
 use gm_syntax::line::Line;
 use gm_syntax::token::Token;
 use std::alloc::Global;
@@ -120,6 +120,7 @@ impl Fields {
     fn read_line(
         &mut self,
         alloc: Global,
+        names: &mut KnownNames,
         mode: Mode,
         block: Option<&Token>,
         line: &Line,
@@ -128,7 +129,7 @@ impl Fields {
         ensures found { OnOk result (AreFound self.new) }
         ensures added { IsLineAdded (mode_seen mode) self.old self.new (item_at (option_map (λ t. t.now.word) block.entry, plain (line_of line.now))) result }
     {
-        match read_line(alloc, mode, block, line)? {
+        match read_line_knowing(alloc, names, mode, block, line)? {
             Some(directive) => self.add(alloc, mode, directive),
             None => Ok(()),
         }
@@ -152,14 +153,19 @@ pub(crate) fn block_behind<'w, 'a>(
 }
 
 /// What the lines say, or the first fault of the lowest line that has one.
-pub(crate) fn read_lines(alloc: Global, mode: Mode, lines: &[Line]) -> Result<Fields, FileFault>
+pub(crate) fn read_lines(
+    alloc: Global,
+    names: &mut KnownNames,
+    mode: Mode,
+    lines: &[Line],
+) -> Result<Fields, FileFault>
     ensures ok { IfOk result (AreRead (mode_seen mode) (plains (lines_seen lines.now))) }
     ensures fault { IfErr result (TellsFault (mode_seen mode) (plains (lines_seen lines.now))) }
 {
     let mut fields = Fields::new(alloc);
     let mut block = None;
     for (n, line) in lines.iter().enumerate() {
-        if let Err(fault) = fields.read_line(alloc, mode, block, line) {
+        if let Err(fault) = fields.read_line(alloc, names, mode, block, line) {
             return Err(fault.at_line(n + 1));
         }
         block = block_behind(block, line);

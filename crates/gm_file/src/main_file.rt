@@ -14,7 +14,7 @@ use crate::fields::{Fields, read_lines};
 use crate::replace::{Interval, Replace, Right};
 use crate::replacements::Replacements;
 use crate::verb::Mode;
-use gm_name::{ModPath, ModVer};
+use gm_name::{KnownNames, ModPath, ModVer};
 use gm_syntax::doc::Doc;
 use std::alloc::Global;
 use std::marker::Model;
@@ -57,6 +57,7 @@ impl<'a> MainFile<'a> {
         ensures ok { IfOk result (λ file. (file ≡ doc.entry) × (fault_of Strict (plains doc.entry) ≡ None)) }
         ensures fault { IfErr result (TellsFault Strict (plains doc.entry)) }
     {
+        let mut names = KnownNames::new(alloc, 0);
         let Fields {
             declared,
             go,
@@ -64,7 +65,7 @@ impl<'a> MainFile<'a> {
             excludes,
             replaces,
             retracts,
-        } = read_lines(alloc, Mode::Strict, doc.lines())?;
+        } = read_lines(alloc, &mut names, Mode::Strict, doc.lines())?;
         let Some(declared) = declared else {
             return Err(FileFault::Directive {
                 line: 0,

@@ -14,7 +14,7 @@ ghost use Rattle.gm_file.specs.Views.{interval_seen, texts_seen};
 
 use crate::fault::{DirectiveKind, LineFault};
 use crate::replace::Interval;
-use gm_name::{ModPath, ModVer, ModVersion, PathFault, VersionFault};
+use gm_name::{KnownNames, ModPath, ModVer, ModVersion, PathFault, VersionFault};
 use gm_syntax::token::Token;
 use gm_syntax::word::Kind;
 use std::alloc::Global;
@@ -68,10 +68,14 @@ pub(crate) fn both_values(
     Ok((first, second))
 }
 
-pub(crate) fn read_path(alloc: Global, text: &str) -> Result<ModPath, LineFault>
+pub(crate) fn read_path(
+    alloc: Global,
+    names: &mut KnownNames,
+    text: &str,
+) -> Result<ModPath, LineFault>
     ensures { IsRead (λ path. path) DirectiveKind.WrongArguments path_kinds (Some text.now) result }
 {
-    match ModPath::parse(alloc, text) {
+    match names.path(alloc, text) {
         Ok(path) => Ok(path),
         Err(fault) => match fault {
             PathFault::NoMemory => Err(LineFault::NoMemory),
@@ -80,10 +84,14 @@ pub(crate) fn read_path(alloc: Global, text: &str) -> Result<ModPath, LineFault>
     }
 }
 
-pub(crate) fn read_version(alloc: Global, text: &str) -> Result<ModVersion, LineFault>
+pub(crate) fn read_version(
+    alloc: Global,
+    names: &mut KnownNames,
+    text: &str,
+) -> Result<ModVersion, LineFault>
     ensures { IsRead (λ version. version) DirectiveKind.WrongArguments version_kinds (Some text.now) result }
 {
-    match ModVersion::parse(alloc, text) {
+    match names.version(alloc, text) {
         Ok(version) => Ok(version),
         Err(fault) => match fault {
             VersionFault::NoMemory => Err(LineFault::NoMemory),
@@ -94,11 +102,16 @@ pub(crate) fn read_version(alloc: Global, text: &str) -> Result<ModVersion, Line
 }
 
 /// A path and a version that fits it, of their texts.
-fn pair_of_texts(alloc: Global, path: &str, version: &str) -> Result<ModVer, LineFault>
+fn pair_of_texts(
+    alloc: Global,
+    names: &mut KnownNames,
+    path: &str,
+    version: &str,
+) -> Result<ModVer, LineFault>
     ensures { IsRead (λ pair. pair) DirectiveKind.WrongArguments pair_kinds (Some (path.now, version.now)) result }
 {
-    let path = read_path(alloc, path)?;
-    let version = read_version(alloc, version)?;
+    let path = read_path(alloc, names, path)?;
+    let version = read_version(alloc, names, version)?;
     match ModVer::pair(path, version) {
         Some(pair) => Ok(pair),
         None => Err(LineFault::Kind(DirectiveKind::Misfit)),
@@ -106,25 +119,34 @@ fn pair_of_texts(alloc: Global, path: &str, version: &str) -> Result<ModVer, Lin
 }
 
 /// The path and the version of a `require` or an `exclude`.
-pub(crate) fn read_pair(alloc: Global, words: &[Token]) -> Result<ModVer, LineFault>
+pub(crate) fn read_pair(
+    alloc: Global,
+    names: &mut KnownNames,
+    words: &[Token],
+) -> Result<ModVer, LineFault>
     ensures { IsRead (λ pair. pair) DirectiveKind.WrongArguments pair_kinds (pair_of (words_of words.now)) result }
 {
     match words {
         [path, version] => {
             let path = lent_argument(alloc, path)?;
             let version = lent_argument(alloc, version)?;
-            pair_of_texts(alloc, path.as_str(), version.as_str())
+            pair_of_texts(alloc, names, path.as_str(), version.as_str())
         }
         _ => Err(LineFault::Kind(DirectiveKind::WrongArguments)),
     }
 }
 
 /// Two ends of an interval, of their texts.
-fn interval_of_texts(alloc: Global, low: &str, high: &str) -> Result<Interval, LineFault>
+fn interval_of_texts(
+    alloc: Global,
+    names: &mut KnownNames,
+    low: &str,
+    high: &str,
+) -> Result<Interval, LineFault>
     ensures { IsRead interval_seen DirectiveKind.WrongArguments ends_kinds (Some (low.now, high.now)) result }
 {
-    let low = read_version(alloc, low)?;
-    let high = read_version(alloc, high)?;
+    let low = read_version(alloc, names, low)?;
+    let high = read_version(alloc, names, high)?;
     Ok(Interval { low, high })
 }
 
@@ -152,20 +174,24 @@ pub(crate) fn is_empty_block(words: &[Token]) -> bool
 }
 
 /// The versions of a `retract`.
-pub(crate) fn read_interval(alloc: Global, words: &[Token]) -> Result<Interval, LineFault>
+pub(crate) fn read_interval(
+    alloc: Global,
+    names: &mut KnownNames,
+    words: &[Token],
+) -> Result<Interval, LineFault>
     ensures { IsRead interval_seen DirectiveKind.WrongArguments ends_kinds (ends_of (words_of words.now)) result }
 {
     match words {
         [version] => {
             let text = argument(alloc, version)?;
-            interval_of_texts(alloc, text.as_str(), text.as_str())
+            interval_of_texts(alloc, names, text.as_str(), text.as_str())
         }
         [open, low, comma, high, close] => {
             if !(is_mark(b'[', open) && is_mark(b',', comma) && is_mark(b']', close)) {
                 return Err(LineFault::Kind(DirectiveKind::WrongArguments));
             }
             let (low, high) = both_values(alloc, low, high)?;
-            interval_of_texts(alloc, low.as_str(), high.as_str())
+            interval_of_texts(alloc, names, low.as_str(), high.as_str())
         }
         _ => Err(LineFault::Kind(DirectiveKind::WrongArguments)),
     }

@@ -13,6 +13,7 @@ use crate::fault::LineFault;
 use crate::fields::block_behind;
 use crate::part::{is_empty_block, read_interval};
 use crate::replace::Interval;
+use gm_name::KnownNames;
 use gm_syntax::line::Line;
 use gm_syntax::token::Token;
 use std::alloc::{AllocError, Global};
@@ -46,10 +47,14 @@ fn entry_of<'w, 'a>(
 }
 
 /// The interval that the words of an entry retract; `None` where strict reading would refuse them.
-fn interval_in(alloc: Global, words: &[Token]) -> Result<Option<Interval>, AllocError>
+fn interval_in(
+    alloc: Global,
+    names: &mut KnownNames,
+    words: &[Token],
+) -> Result<Option<Interval>, AllocError>
     ensures { IfOk result (λ interval. option_map interval_seen interval ≡ retraction_in (words_of words.now)) }
 {
-    match read_interval(alloc, words) {
+    match read_interval(alloc, names, words) {
         Ok(interval) => Ok(Some(interval)),
         Err(fault) => match fault {
             LineFault::NoMemory => Err(AllocError),
@@ -61,6 +66,7 @@ fn interval_in(alloc: Global, words: &[Token]) -> Result<Option<Interval>, Alloc
 /// The interval that a line retracts.
 fn retraction_at(
     alloc: Global,
+    names: &mut KnownNames,
     block: Option<&Token>,
     line: &Line,
 ) -> Result<Option<Interval>, AllocError>
@@ -72,17 +78,21 @@ fn retraction_at(
     if verb.spelling() != "retract" {
         return Ok(None);
     }
-    interval_in(alloc, words)
+    interval_in(alloc, names, words)
 }
 
 /// The intervals that the lines retract, in order. An entry that strict reading would refuse retracts none.
-pub(crate) fn read_retractions(alloc: Global, lines: &[Line]) -> Result<Vec<Interval>, AllocError>
+pub(crate) fn read_retractions(
+    alloc: Global,
+    names: &mut KnownNames,
+    lines: &[Line],
+) -> Result<Vec<Interval>, AllocError>
     ensures { IfOk result (λ intervals. intervals_seen intervals.items ≡ lax_retracts_of (plains (lines_seen lines.now))) }
 {
     let mut intervals = Vec::new(alloc);
     let mut block = None;
     for line in lines {
-        if let Some(interval) = retraction_at(alloc, block, line)? {
+        if let Some(interval) = retraction_at(alloc, names, block, line)? {
             intervals.push(interval)?;
         }
         block = block_behind(block, line);

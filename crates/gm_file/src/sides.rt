@@ -14,7 +14,7 @@ use crate::fault::{DirectiveKind, LineFault};
 use crate::part::{argument, both_values, read_path, read_version};
 use crate::replace::{Replace, Right};
 use crate::verb::{is_arrow, is_folder};
-use gm_name::{ModPath, ModVersion, fits};
+use gm_name::{KnownNames, ModPath, ModVersion, fits};
 use gm_syntax::token::Token;
 use std::alloc::Global;
 
@@ -98,12 +98,13 @@ fn right_text(alloc: Global, words: &[Token]) -> Result<RightText, LineFault>
 
 fn read_left_version(
     alloc: Global,
+    names: &mut KnownNames,
     version: &Option<String>,
 ) -> Result<Option<ModVersion>, LineFault>
     ensures { IsRead (λ version. version) DirectiveKind.WrongArguments left_version_kinds (Some (option_map string_bytes version.now)) result }
 {
     match version {
-        Some(text) => Ok(Some(read_version(alloc, text.as_str())?)),
+        Some(text) => Ok(Some(read_version(alloc, names, text.as_str())?)),
         None => Ok(None),
     }
 }
@@ -118,11 +119,16 @@ fn does_left_fit(path: &ModPath, version: &Option<ModVersion>) -> bool
     }
 }
 
-fn replace_by_folder(alloc: Global, left: &LeftText, folder: String) -> Result<Replace, LineFault>
+fn replace_by_folder(
+    alloc: Global,
+    names: &mut KnownNames,
+    left: &LeftText,
+    folder: String,
+) -> Result<Replace, LineFault>
     ensures { IsRead replace_seen DirectiveKind.WrongArguments replacing_kinds (Some (replacing (left_text_seen left.now) (Folder (string_bytes folder)))) result }
 {
-    let path = read_path(alloc, left.path.as_str())?;
-    let version = read_left_version(alloc, &left.version)?;
+    let path = read_path(alloc, names, left.path.as_str())?;
+    let version = read_left_version(alloc, names, &left.version)?;
     if !does_left_fit(&path, &version) {
         return Err(LineFault::Kind(DirectiveKind::Misfit));
     }
@@ -135,16 +141,17 @@ fn replace_by_folder(alloc: Global, left: &LeftText, folder: String) -> Result<R
 
 fn replace_by_module(
     alloc: Global,
+    names: &mut KnownNames,
     left: &LeftText,
     path: &str,
     version: &str,
 ) -> Result<Replace, LineFault>
     ensures { IsRead replace_seen DirectiveKind.WrongArguments replacing_kinds (Some (replacing (left_text_seen left.now) (Module path.now version.now))) result }
 {
-    let left_path = read_path(alloc, left.path.as_str())?;
-    let path = read_path(alloc, path)?;
-    let left_version = read_left_version(alloc, &left.version)?;
-    let version = read_version(alloc, version)?;
+    let left_path = read_path(alloc, names, left.path.as_str())?;
+    let path = read_path(alloc, names, path)?;
+    let left_version = read_left_version(alloc, names, &left.version)?;
+    let version = read_version(alloc, names, version)?;
     if !does_left_fit(&left_path, &left_version) {
         return Err(LineFault::Kind(DirectiveKind::Misfit));
     }
@@ -155,19 +162,28 @@ fn replace_by_module(
     })
 }
 
-fn replace_of_texts(alloc: Global, left: &LeftText, right: RightText) -> Result<Replace, LineFault>
+fn replace_of_texts(
+    alloc: Global,
+    names: &mut KnownNames,
+    left: &LeftText,
+    right: RightText,
+) -> Result<Replace, LineFault>
     ensures { IsRead replace_seen DirectiveKind.WrongArguments replacing_kinds (Some (replacing (left_text_seen left.now) (right_text_seen right))) result }
 {
     match right {
-        RightText::Folder(folder) => replace_by_folder(alloc, left, folder),
+        RightText::Folder(folder) => replace_by_folder(alloc, names, left, folder),
         RightText::Module(path, version) => {
-            replace_by_module(alloc, left, path.as_str(), version.as_str())
+            replace_by_module(alloc, names, left, path.as_str(), version.as_str())
         }
     }
 }
 
 /// The replacement that the words of a `replace` say.
-pub(crate) fn read_replace(alloc: Global, words: &[Token]) -> Result<Replace, LineFault>
+pub(crate) fn read_replace(
+    alloc: Global,
+    names: &mut KnownNames,
+    words: &[Token],
+) -> Result<Replace, LineFault>
     ensures { IsRead replace_seen DirectiveKind.WrongArguments replacing_kinds (replacing_of (words_of words.now)) result }
 {
     let Some((before, after)) = split_at_arrow(words) else {
@@ -175,5 +191,5 @@ pub(crate) fn read_replace(alloc: Global, words: &[Token]) -> Result<Replace, Li
     };
     let left = left_text(alloc, before)?;
     let right = right_text(alloc, after)?;
-    replace_of_texts(alloc, &left, right)
+    replace_of_texts(alloc, names, &left, right)
 }

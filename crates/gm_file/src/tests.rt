@@ -9,7 +9,7 @@ use crate::DirectiveKind::{
 };
 use crate::verb::Mode;
 use crate::{DepFile, DirectiveKind, FileFault, Interval, MainFile, Right};
-use gm_name::{ModPath, ModVer, ModVersion};
+use gm_name::{KnownNames, ModPath, ModVer, ModVersion};
 use gm_syntax::doc::Doc;
 use gm_syntax::fault::SyntaxFault;
 use std::alloc::Global;
@@ -51,7 +51,7 @@ fn dep_file_once(alloc: Global, text: &str) -> Result<Option<DepFile>, Fail> {
     let Some(doc) = document(alloc, text)? else {
         return Ok(None);
     };
-    match DepFile::read(alloc, &doc) {
+    match DepFile::read(alloc, &mut KnownNames::new(alloc, 8), &doc) {
         Ok(file) => Ok(Some(file)),
         Err(FileFault::NoMemory) => Ok(None),
         Err(fault) => Err(Fail::new(format_args!("not read: {fault}"))),
@@ -72,7 +72,7 @@ fn fault_once(alloc: Global, mode: Mode, text: &str) -> Result<Option<FileFault>
     };
     let fault = match mode {
         Mode::Strict => MainFile::read(alloc, doc).err(),
-        Mode::Lax => DepFile::read(alloc, &doc).err(),
+        Mode::Lax => DepFile::read(alloc, &mut KnownNames::new(alloc, 8), &doc).err(),
     };
     Ok(fault.filter(|fault| *fault != FileFault::NoMemory))
 }

@@ -87,22 +87,12 @@ fn open_below(
     ensures too_many { result ≡ Err LoadFault.TooMany → FollowOverflows (main_in cache.old) (readings_in cache.old) opening.old.vertices.items vertex.now depth }
     ensures not_refused { refused_in result ≡ [] }
 {
-    let Ok(leads) = leads_on(cache, vertex, depth, finding) else {
-        return Err(LoadFault::NoMemory);
-    };
-    let Ok(gathers) = gathers(alloc, opening, vertex, depth) else {
-        return Err(LoadFault::NoMemory);
-    };
-    let Ok(()) = gathered.note(alloc, vertex, finding) else {
-        return Err(LoadFault::NoMemory);
-    };
-    let Ok(lent) = cache.lend(vertex, depth, lender(finding)) else {
-        return Err(LoadFault::NoMemory);
-    };
+    let leads = leads_on(cache, vertex, depth, finding)?;
+    let gathers = gathers(alloc, opening, vertex, depth)?;
+    gathered.note(alloc, vertex, finding)?;
+    let lent = cache.lend(vertex, depth, lender(finding))?;
     if gathers {
-        let Ok(()) = gathered.add_edges(alloc, vertex, lent) else {
-            return Err(LoadFault::NoMemory);
-        };
+        gathered.add_edges(alloc, vertex, lent)?;
     }
     if !leads {
         return Ok(());

@@ -57,9 +57,7 @@ fn open_in_turn<F: Files>(
 {
     let mut at = 0;
     'turns: while at < opening.turns.len() {
-        let Ok(one) = copy_turn(alloc, &opening.turns[at]) else {
-            return Err(LoadFault::NoMemory);
-        };
+        let one = copy_turn(alloc, &opening.turns[at])?;
         follow(
             alloc,
             cache,
@@ -122,17 +120,10 @@ pub fn load<F: Files>(
     ensures refused { F.refused files.new ≡ F.refused files.old ++ refused_in result }
     ensures may_answer { (name : Name) (reply : Reply) → Contains (F.asked files.new) (name, reply) → F.may_answer files.old name reply }
 {
-    let Ok(required) = kept_requirements(alloc, main) else {
-        return Err(LoadFault::NoMemory);
-    };
+    let required = kept_requirements(alloc, main)?;
     let mut opening = begin(alloc, main, &required)?;
-    let Ok(mut gathered) = main_edges(alloc, &required) else {
-        return Err(LoadFault::NoMemory);
-    };
+    let mut gathered = main_edges(alloc, &required)?;
     let mut cache = Cache::new(alloc, main, sums);
     open_in_turn(alloc, &mut cache, files, &mut opening, &mut gathered)?;
-    let Ok(loaded) = put_together(alloc, main, cache, gathered) else {
-        return Err(LoadFault::NoMemory);
-    };
-    Ok(loaded)
+    Ok(put_together(alloc, main, cache, gathered)?)
 }

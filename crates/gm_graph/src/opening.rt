@@ -7,6 +7,7 @@ ghost use Rattle.gm_graph.specs.Graph.{same_vertex};
 ghost use Rattle.gm_graph.specs.Turns.{AddsAll, AreTurnsOf, OverflowsWith};
 ghost use Rattle.gm_cache.specs.Turns.{turn};
 ghost use Rattle.gm_graph.specs.Marks.{IsOpening, marked};
+ghost use Rattle.gm_graph.specs.declared.opening.AddFault.TheVariants as add;
 
 use gm_cache::{Depth, Turn};
 use gm_name::ModVer;
@@ -31,6 +32,14 @@ pub(crate) const MOST: usize = 65_536;
 pub(crate) enum AddFault {
     NoMemory,
     TooMany,
+}
+
+impl From<AllocError> for AddFault {
+    ghost from_gives = { λ _ fault. fault ≡ add.NoMemory };
+
+    fn from(_error: AllocError) -> AddFault {
+        AddFault::NoMemory
+    }
 }
 
 impl Opening {
@@ -99,29 +108,19 @@ impl Opening {
         ensures adds { OnOk result (AddsTurn self.old.turns.items self.new.turns.items (turn vertex.now depth)) }
         ensures too_many { result ≡ Err AddFault.TooMany → (MOST ≤ length self.old.vertices.items) × (list_any (same_vertex vertex.now) self.old.vertices.items ≡ false) }
     {
-        let Ok(has_turn) = self.has_turn(alloc, vertex, depth) else {
-            return Err(AddFault::NoMemory);
-        };
+        let has_turn = self.has_turn(alloc, vertex, depth)?;
         if has_turn {
             return Ok(());
         }
-        let Ok(has_vertex) = self.has_vertex(alloc, vertex, depth) else {
-            return Err(AddFault::NoMemory);
-        };
+        let has_vertex = self.has_vertex(alloc, vertex, depth)?;
         if !has_vertex {
             if self.vertices.len() >= MOST {
                 return Err(AddFault::TooMany);
             }
-            let Ok(()) = push_vertex(alloc, &mut self.vertices, vertex) else {
-                return Err(AddFault::NoMemory);
-            };
+            push_vertex(alloc, &mut self.vertices, vertex)?;
         }
-        let Ok(()) = push_turn(alloc, &mut self.turns, vertex, depth) else {
-            return Err(AddFault::NoMemory);
-        };
-        let Ok(()) = self.mark(alloc, vertex, depth) else {
-            return Err(AddFault::NoMemory);
-        };
+        push_turn(alloc, &mut self.turns, vertex, depth)?;
+        self.mark(alloc, vertex, depth)?;
         Ok(())
     }
 

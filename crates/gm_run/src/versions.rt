@@ -19,7 +19,7 @@ use crate::asking::{ask_for, last_answer};
 use crate::kinds::{class_line, directive_place, list_line, malformed_line, place_of};
 use crate::output::{Output, printed, refused};
 use gm_file::{DepFile, Interval};
-use gm_name::{ModPath, ModVersion, NoMemory};
+use gm_name::{KnownNames, ModPath, ModVersion, NoMemory};
 use gm_shown::shown_versions;
 use gm_store::{Answer, FileName, Files, latest, versions_of};
 use gm_syntax::doc::Doc;
@@ -76,7 +76,7 @@ fn read_file(alloc: Global, file: &[u8]) -> Result<Result<DepFile, (usize, &'sta
     ensures { IfOk result (IsFileRead file.now) }
 {
     let place = match Doc::parse(alloc, file) {
-        Ok(doc) => match DepFile::read(alloc, &doc) {
+        Ok(doc) => match DepFile::read(alloc, &mut KnownNames::new(alloc, 0), &doc) {
             Ok(dependency) => return Ok(Ok(dependency)),
             Err(fault) => directive_place(fault),
         },

@@ -5,7 +5,7 @@ use super::File;
 use crate::Fault;
 use gm_cache::{Class, Depth, Misreading, Turn};
 use gm_file::{DepFile, FileFault, MainFile, Right};
-use gm_name::{ModVer, NoMemory};
+use gm_name::{KnownNames, ModVer, NoMemory};
 use gm_select::{Edge, Row, Step};
 use gm_store::FileName;
 use gm_sums::{Sum, SumTable, mod_hash};
@@ -108,7 +108,7 @@ fn read(alloc: Global, text: &str) -> Result<Result<DepFile, Class>, NoMemory> {
             return Ok(Err(malformed(line, Misreading::Syntax(kind))));
         }
     };
-    match DepFile::read(alloc, &doc) {
+    match DepFile::read(alloc, &mut KnownNames::new(alloc, 0), &doc) {
         Ok(file) => Ok(Ok(file)),
         Err(FileFault::NoMemory) => Err(AllocError),
         Err(FileFault::Directive { line, kind }) => {

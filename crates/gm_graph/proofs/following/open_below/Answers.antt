@@ -9,7 +9,7 @@ use Rattle.gm_graph.specs.Turns.{AddsAll, OverflowsWith}
 use Rattle.gm_graph.proofs.Deepening.{follows_adds, follows_nothing}
 use Rattle.gm_graph.proofs.Turning.{finding_known, gathers_edges, gathers_no_edges}
 use Rattle.gm_graph.proofs.following.open_below.Goals as goal
-use Rattle.gm_graph.proofs.following.open_below.Goals.{then-gathers+in-Ok-add_edges, else-gathers}
+use Rattle.gm_graph.proofs.following.open_below.Goals.{then-gathers+in_ok-add_edges, else-gathers}
 
 pub returns-then-not-leads-clause-followed : goal.returns-then-not-leads-clause-followed
 returns-then-not-leads-clause-followed c =
@@ -21,21 +21,21 @@ returns-then-not-leads-clause-followed c =
     let found = c.args.finding.now in
     record {
       opening = c.requires.opening;
-      follows = follows_nothing main (readings_in c.args.cache.now) turns x d (finding_known main held x found c.requires.finding) (sym c.in-Ok.ensures ∙ c.if-not-leads.true);
+      follows = follows_nothing main (readings_in c.args.cache.now) turns x d (finding_known main held x found c.requires.finding) (sym c.in_ok-leads.ensures ∙ c.if-not-leads.true);
       gathers = elim c.if-gathers.branch [
-        | then-gathers+in-Ok-add_edges w ↦
-            gathers_edges main held turns x d found c.requires.finding c.args.gathered.now c.note.new.self c.if-gathers.gathered c.in-Ok-note.ensures.faults c.in-Ok-note.ensures.edges
-            (subst (λ (ys : List Vertex). AddsEdges (edges_in c.note.new.self) (edges_in c.if-gathers.gathered) x ys) c.in-Ok-lend.ensures.lent
-            (subst (λ (g : Gathered). AddsEdges (edges_in c.note.new.self) (edges_in g) x c.in-Ok-lend.lent.now) (sym w.gathered-is) w.in-Ok-add_edges.ensures.edges))
-            (λ q. ap (λ (g : Gathered). faults_in g q) w.gathered-is ∙ w.in-Ok-add_edges.ensures.faults q)
+        | then-gathers+in_ok-add_edges w ↦
+            gathers_edges main held turns x d found c.requires.finding c.args.gathered.now c.note.new.self c.if-gathers.gathered c.in_ok-note.ensures.faults c.in_ok-note.ensures.edges
+            (subst (λ (ys : List Vertex). AddsEdges (edges_in c.note.new.self) (edges_in c.if-gathers.gathered) x ys) c.in_ok-lent.ensures.lent
+            (subst (λ (g : Gathered). AddsEdges (edges_in c.note.new.self) (edges_in g) x c.in_ok-lent.lent.now) (sym w.gathered-is) w.in_ok-add_edges.ensures.edges))
+            (λ q. ap (λ (g : Gathered). faults_in g q) w.gathered-is ∙ w.in_ok-add_edges.ensures.faults q)
         | else-gathers w ↦
-            gathers_no_edges main held turns x d found c.requires.finding c.args.gathered.now c.note.new.self c.if-gathers.gathered c.in-Ok-note.ensures.faults c.in-Ok-note.ensures.edges
-            (sym c.in-Ok-gathers.ensures ∙ w.if-gathers.false) w.gathered-is
+            gathers_no_edges main held turns x d found c.requires.finding c.args.gathered.now c.note.new.self c.if-gathers.gathered c.in_ok-note.ensures.faults c.in_ok-note.ensures.edges
+            (sym c.in_ok-gathers.ensures ∙ w.if-gathers.false) w.gathered-is
       ];
     }
 
-pub returns-in-Ok-add_all-clause-followed : goal.returns-in-Ok-add_all-clause-followed
-returns-in-Ok-add_all-clause-followed c =
+pub returns-in-Ok-clause-followed : goal.returns-in-Ok-clause-followed
+returns-in-Ok-clause-followed c =
     let main = main_in c.args.cache.now in
     let held = held_of c.args.cache.now in
     let turns = c.args.opening.now.turns.items in
@@ -43,23 +43,23 @@ returns-in-Ok-add_all-clause-followed c =
     let d = c.args.depth in
     let found = c.args.finding.now in
     record {
-      opening = c.in-Ok-add_all.ensures.opening;
-      follows = follows_adds main (readings_in c.args.cache.now) turns c.add_all.new.self.turns.items x d (finding_known main held x found c.requires.finding) (sym c.in-Ok.ensures ∙ c.if-not-leads.false)
-          (subst (λ (ys : List Vertex). AddsAll turns c.add_all.new.self.turns.items ys Deep) c.in-Ok-lend.ensures.lent c.in-Ok-add_all.ensures.adds);
+      opening = c.in-Ok.ensures.opening;
+      follows = follows_adds main (readings_in c.args.cache.now) turns c.add_all.new.self.turns.items x d (finding_known main held x found c.requires.finding) (sym c.in_ok-leads.ensures ∙ c.if-not-leads.false)
+          (subst (λ (ys : List Vertex). AddsAll turns c.add_all.new.self.turns.items ys Deep) c.in_ok-lent.ensures.lent c.in-Ok.ensures.adds);
       gathers = elim c.if-gathers.branch [
-        | then-gathers+in-Ok-add_edges w ↦
-            gathers_edges main held turns x d found c.requires.finding c.args.gathered.now c.note.new.self c.if-gathers.gathered c.in-Ok-note.ensures.faults c.in-Ok-note.ensures.edges
-            (subst (λ (ys : List Vertex). AddsEdges (edges_in c.note.new.self) (edges_in c.if-gathers.gathered) x ys) c.in-Ok-lend.ensures.lent
-            (subst (λ (g : Gathered). AddsEdges (edges_in c.note.new.self) (edges_in g) x c.in-Ok-lend.lent.now) (sym w.gathered-is) w.in-Ok-add_edges.ensures.edges))
-            (λ q. ap (λ (g : Gathered). faults_in g q) w.gathered-is ∙ w.in-Ok-add_edges.ensures.faults q)
+        | then-gathers+in_ok-add_edges w ↦
+            gathers_edges main held turns x d found c.requires.finding c.args.gathered.now c.note.new.self c.if-gathers.gathered c.in_ok-note.ensures.faults c.in_ok-note.ensures.edges
+            (subst (λ (ys : List Vertex). AddsEdges (edges_in c.note.new.self) (edges_in c.if-gathers.gathered) x ys) c.in_ok-lent.ensures.lent
+            (subst (λ (g : Gathered). AddsEdges (edges_in c.note.new.self) (edges_in g) x c.in_ok-lent.lent.now) (sym w.gathered-is) w.in_ok-add_edges.ensures.edges))
+            (λ q. ap (λ (g : Gathered). faults_in g q) w.gathered-is ∙ w.in_ok-add_edges.ensures.faults q)
         | else-gathers w ↦
-            gathers_no_edges main held turns x d found c.requires.finding c.args.gathered.now c.note.new.self c.if-gathers.gathered c.in-Ok-note.ensures.faults c.in-Ok-note.ensures.edges
-            (sym c.in-Ok-gathers.ensures ∙ w.if-gathers.false) w.gathered-is
+            gathers_no_edges main held turns x d found c.requires.finding c.args.gathered.now c.note.new.self c.if-gathers.gathered c.in_ok-note.ensures.faults c.in_ok-note.ensures.edges
+            (sym c.in_ok-gathers.ensures ∙ w.if-gathers.false) w.gathered-is
       ];
     }
 
 pub returns-in-Err-TooMany-clause-too_many : goal.returns-in-Err-TooMany-clause-too_many
 returns-in-Err-TooMany-clause-too_many c = λ _. (
-  sym c.in-Ok.ensures ∙ c.if-not-leads.false,
-  subst (λ (ys : List Vertex). OverflowsWith c.args.opening.now.vertices.items ys) c.in-Ok-lend.ensures.lent (c.in-Err-TooMany.ensures.too_many (ap Err c.in-Err-TooMany.field-0-is)),
+  sym c.in_ok-leads.ensures ∙ c.if-not-leads.false,
+  subst (λ (ys : List Vertex). OverflowsWith c.args.opening.now.vertices.items ys) c.in_ok-lent.ensures.lent (c.in-Err-TooMany.ensures.too_many (ap Err c.in-Err-TooMany.field-0-is)),
 )

@@ -9,19 +9,19 @@ use Rattle.gm_graph.proofs.Dues.{asks_nothing}
 use Rattle.gm_graph.proofs.Loads.{gathered_rooted, loads_of, too_many_first}
 use Rattle.gm_graph.proofs.loading.load.Goals as goal
 
-pub returns-in_default-clause-asks : goal.returns-in_default-clause-asks
-returns-in_default-clause-asks g c = asks_nothing _ _ _ c.requires
+pub returns-in_err-required-clause-asks : goal.returns-in_err-required-clause-asks
+returns-in_err-required-clause-asks g c = asks_nothing _ _ _ c.requires
 
 pub returns-in_err-opening-clause-asks : goal.returns-in_err-opening-clause-asks
 returns-in_err-opening-clause-asks g c = asks_nothing _ _ _ c.requires
 
-pub returns-in_default-main_edges-clause-asks : goal.returns-in_default-main_edges-clause-asks
-returns-in_default-main_edges-clause-asks g c = asks_nothing _ _ _ c.requires
+pub returns-in_err-gathered-clause-asks : goal.returns-in_err-gathered-clause-asks
+returns-in_err-gathered-clause-asks g c = asks_nothing _ _ _ c.requires
 
 pub returns-in_err-opening-clause-too_many : goal.returns-in_err-opening-clause-too_many
 returns-in_err-opening-clause-too_many g c = λ e.
-    too_many_first (main_of c.args.main.now) (option_copied c.args.sums) (g.F.Files.asked c.args.files.now) c.deref.result.now c.requires (c.deref.ensures.value ∙ c.in-Ok.ensures)
-    (c.in_err-opening.ensures.too_many (ap Err (sym (rw e at c.from_residual.ensures.1))))
+    too_many_first (main_of c.args.main.now) (option_copied c.args.sums) (g.F.Files.asked c.args.files.now) c.deref.result.now c.requires (c.deref.ensures.value ∙ c.in_ok-required.ensures)
+    (c.in_err-opening.ensures.too_many (ap Err (sym (rw e at c.from_residual-in_err-opening.ensures.1))))
 
 pub returns-in_err-open_in_turn-clause-device : goal.returns-in_err-open_in_turn-clause-device
 returns-in_err-open_in_turn-clause-device g c = λ name e.
@@ -35,7 +35,7 @@ put_together-requires g c = gathered_rooted _ _ _ c.open_in_turn.new.opening c.o
 
 pub returns-clause-loaded : goal.returns-clause-loaded
 returns-clause-loaded g c =
-    let told = c.in-Ok-put_together.ensures in
+    let told = c.in_ok-put_together.ensures in
     loads_of c.new-cache.result c.open_in_turn.new.cache (g.F.Files.asked c.open_in_turn.new.files) c.open_in_turn.new.opening c.open_in_turn.new.gathered c.in_ok-open_in_turn.ensures.opened
-    (main_of c.args.main.now) (option_copied c.args.sums) c.new-cache.ensures.main c.new-cache.ensures.sums c.in-Ok-put_together.loaded c.open_in_turn.ensures.asks
+    (main_of c.args.main.now) (option_copied c.args.sums) c.new-cache.ensures.main c.new-cache.ensures.sums c.in_ok-put_together.field-0 c.open_in_turn.ensures.asks
     told.main told.faults told.ordered told.ascending told.edges told.rows told.turns

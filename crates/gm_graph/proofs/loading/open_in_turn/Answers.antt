@@ -22,9 +22,9 @@ turns-smaller g c = let few = few_turns c.turns.opening.vertices.items c.turns.o
 
 pub turns-preserved : goal.turns-preserved
 turns-preserved g c =
-    let here = subst (λ (t : Turn). get_or c.turns.opening.turns.items c.turns.at t ≡ t) (sym c.in-Ok.ensures) (sym c.index.ensures) in
+    let here = subst (λ (t : Turn). get_or c.turns.opening.turns.items c.turns.at t ≡ t) (sym c.in_ok-one.ensures) (sym c.index.ensures) in
     record {
-      state = step (main_in c.args.cache.now) (sums_in c.args.cache.now) c.turns.cache c.follow.new.cache (g.F.Files.asked c.turns.files) (g.F.Files.asked c.follow.new.files) c.turns.opening c.follow.new.opening c.turns.gathered c.follow.new.gathered c.turns.at c.in-Ok.one.vertex c.in-Ok.one.depth
+      state = step (main_in c.args.cache.now) (sums_in c.args.cache.now) c.turns.cache c.follow.new.cache (g.F.Files.asked c.turns.files) (g.F.Files.asked c.follow.new.files) c.turns.opening c.follow.new.opening c.turns.gathered c.follow.new.gathered c.turns.at c.in_ok-one.one.vertex c.in_ok-one.one.depth
           c.turns.invariant.state (omega arith) here c.in_ok-follow.ensures.knows c.in_ok-follow.ensures.continues c.in_ok-follow.ensures.turns c.in_ok-follow.ensures.followed c.follow.ensures.asks;
       may = may_along _ _ _ _ _ c.turns.invariant.same_store c.turns.invariant.may c.follow.ensures.may;
       same_store = λ n r h. c.turns.invariant.same_store n r (c.follow.ensures.same_store n r h);
@@ -37,29 +37,29 @@ returns-clause-opened g c = last_step c.args.cache.now c.turns.cache (g.F.Files.
 pub returns-clause-asks : goal.returns-clause-asks
 returns-clause-asks g c = c.turns.invariant.state.asks
 
-pub returns-in_default-clause-asks : goal.returns-in_default-clause-asks
-returns-in_default-clause-asks g c = c.turns.invariant.state.asks
+pub returns-in_err-one-clause-asks : goal.returns-in_err-one-clause-asks
+returns-in_err-one-clause-asks g c = c.turns.invariant.state.asks
 
 pub returns-in_err-follow-clause-asks : goal.returns-in_err-follow-clause-asks
 returns-in_err-follow-clause-asks g c =
-    let here = subst (λ (t : Turn). get_or c.turns.opening.turns.items c.turns.at t ≡ t) (sym c.in-Ok.ensures) (sym c.index.ensures) in
+    let here = subst (λ (t : Turn). get_or c.turns.opening.turns.items c.turns.at t ≡ t) (sym c.in_ok-one.ensures) (sym c.index.ensures) in
     let state = c.turns.invariant.state in
-    asks_more (main_in c.args.cache.now) (sums_in c.args.cache.now) c.turns.cache state.main_is state.sums_are (g.F.Files.asked c.turns.files) state.knows c.turns.opening.turns.items c.turns.at c.in-Ok.one.vertex c.in-Ok.one.depth state.queue.sound (omega arith) here
+    asks_more (main_in c.args.cache.now) (sums_in c.args.cache.now) c.turns.cache state.main_is state.sums_are (g.F.Files.asked c.turns.files) state.knows c.turns.opening.turns.items c.turns.at c.in_ok-one.one.vertex c.in_ok-one.one.depth state.queue.sound (omega arith) here
     (g.F.Files.asked c.follow.new.files) state.asks c.follow.ensures.asks
 
 pub returns-in_err-follow-clause-too_many : goal.returns-in_err-follow-clause-too_many
 returns-in_err-follow-clause-too_many g c = λ e.
-    let here = subst (λ (t : Turn). get_or c.turns.opening.turns.items c.turns.at t ≡ t) (sym c.in-Ok.ensures) (sym c.index.ensures) in
+    let here = subst (λ (t : Turn). get_or c.turns.opening.turns.items c.turns.at t ≡ t) (sym c.in_ok-one.ensures) (sym c.index.ensures) in
     let state = c.turns.invariant.state in
-    many_here (main_in c.args.cache.now) (sums_in c.args.cache.now) c.turns.cache state.main_is state.sums_are (g.F.Files.asked c.turns.files) state.knows c.turns.opening.turns.items c.turns.at c.in-Ok.one.vertex c.in-Ok.one.depth state.queue.sound (omega arith) here
-    (g.F.Files.asked c.follow.new.files) c.turns.opening state.is_opening.turns (c.in_err-follow.ensures.too_many (ap Err (sym (rw e at c.from_residual.ensures.1))))
+    many_here (main_in c.args.cache.now) (sums_in c.args.cache.now) c.turns.cache state.main_is state.sums_are (g.F.Files.asked c.turns.files) state.knows c.turns.opening.turns.items c.turns.at c.in_ok-one.one.vertex c.in_ok-one.one.depth state.queue.sound (omega arith) here
+    (g.F.Files.asked c.follow.new.files) c.turns.opening state.is_opening.turns (c.in_err-follow.ensures.too_many (ap Err (sym (rw e at c.from_residual-in_err-follow.ensures.1))))
 
 pub returns-in_err-follow-clause-device : goal.returns-in_err-follow-clause-device
 returns-in_err-follow-clause-device g c = λ name e.
-    let here = subst (λ (t : Turn). get_or c.turns.opening.turns.items c.turns.at t ≡ t) (sym c.in-Ok.ensures) (sym c.index.ensures) in
+    let here = subst (λ (t : Turn). get_or c.turns.opening.turns.items c.turns.at t ≡ t) (sym c.in_ok-one.ensures) (sym c.index.ensures) in
     let state = c.turns.invariant.state in
-    let said = c.in_err-follow.ensures.device name (ap Err (sym (rw e at c.from_residual.ensures.1))) in
-    due_here (main_in c.args.cache.now) (sums_in c.args.cache.now) c.turns.cache state.main_is state.sums_are (g.F.Files.asked c.turns.files) state.knows c.turns.opening.turns.items c.turns.at c.in-Ok.one.vertex c.in-Ok.one.depth state.queue.sound (omega arith) here
+    let said = c.in_err-follow.ensures.device name (ap Err (sym (rw e at c.from_residual-in_err-follow.ensures.1))) in
+    due_here (main_in c.args.cache.now) (sums_in c.args.cache.now) c.turns.cache state.main_is state.sums_are (g.F.Files.asked c.turns.files) state.knows c.turns.opening.turns.items c.turns.at c.in_ok-one.one.vertex c.in_ok-one.one.depth state.queue.sound (omega arith) here
     (g.F.Files.asked c.follow.new.files) _ said.0 said.1 said.2 said.3
 
 pub returns-in_err-follow-clause-may : goal.returns-in_err-follow-clause-may
@@ -67,7 +67,7 @@ returns-in_err-follow-clause-may g c = may_along _ _ _ _ _ c.turns.invariant.sam
 
 pub returns-in_err-follow-clause-refused : goal.returns-in_err-follow-clause-refused
 returns-in_err-follow-clause-refused g c =
-    let same = refused_same c.from_residual.result c.in_err-follow.field-0.0 (λ f e. rw e at c.from_residual.ensures.1) c.from_residual.ensures.0 in
+    let same = refused_same c.from_residual-in_err-follow.result c.in_err-follow.field-0.0 (λ f e. rw e at c.from_residual-in_err-follow.ensures.1) c.from_residual-in_err-follow.ensures.0 in
     c.in_err-follow.ensures.refused
     ∙ ap (λ (ns : List Name). ns ++ refused_by c.in_err-follow.field-0.0) c.turns.invariant.refused
     ∙ ap (λ (ns : List Name). g.F.Files.refused c.args.files.now ++ ns) (sym same)

@@ -6,9 +6,9 @@ use Rattle.gm_cache.proofs.cache.Cache.read_file.Goals as goal
 pub returns-clause-knows : goal.returns-clause-knows
 returns-clause-knows g c =
     let asked = c.in_ok-ask.ensures.ok in
-    knows_last _ _ _ _ _ asked.0 _ c.in-Ok.one c.requires.knows
+    knows_last _ _ _ _ _ asked.0 _ c.in_ok-one.one c.requires.knows
     (none_copied c.summary_under.result c.is_some.result _ c.summary_under.ensures c.is_some.ensures c.if-is_some.false)
-    refl refl c.in-Ok-keep.ensures.ok asked.2 (c.last_answer.ensures _ _ asked.0 asked.2) c.in-Ok.ensures.reading c.in-Ok.ensures.kept
+    refl refl c.in_ok-keep.ensures.ok asked.2 (c.last_answer.ensures _ _ asked.0 asked.2) c.in_ok-one.ensures.reading c.in_ok-one.ensures.kept
 
 pub returns-clause-may : goal.returns-clause-may
 returns-clause-may g c = let asked = c.in_ok-ask.ensures.ok in may_more _ _ _ _ asked.0 asked.1 asked.2
