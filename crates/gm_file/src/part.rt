@@ -110,12 +110,16 @@ fn pair_of_texts(
 ) -> Result<ModVer, LineFault>
     ensures { IsRead (λ pair. pair) DirectiveKind.WrongArguments pair_kinds (Some (path.now, version.now)) result }
 {
+    if let Some(held) = names.pair(path, version) {
+        return Ok(held.copy(alloc)?);
+    }
     let path = read_path(alloc, names, path)?;
     let version = read_version(alloc, names, version)?;
-    match ModVer::pair(path, version) {
-        Some(pair) => Ok(pair),
-        None => Err(LineFault::Kind(DirectiveKind::Misfit)),
-    }
+    let Some(pair) = ModVer::pair(path, version) else {
+        return Err(LineFault::Kind(DirectiveKind::Misfit));
+    };
+    names.keep_pair(alloc, &pair)?;
+    Ok(pair)
 }
 
 /// The path and the version of a `require` or an `exclude`.

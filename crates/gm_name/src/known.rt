@@ -1,17 +1,19 @@
 //! Names that were read before.
 
-ghost use Rattle.std.specs.Prelude.{◌≡◌, ◌↔◌, IfOk, IsErrOf};
+ghost use Rattle.std.specs.Prelude.{◌≡◌, ◌↔◌, IfOk, IfSome, IsErrOf};
+ghost use Rattle.gm_name.specs.Fit.{Fits};
 ghost use Rattle.gm_name.specs.Path.{IsPath};
 ghost use Rattle.gm_name.specs.Version.{IsNotCanonical, IsSemVer, IsVersion};
 
+use crate::fit::ModVer;
 use crate::fnv::fingerprint;
 use crate::path::{ModPath, PathFault};
 use crate::version::{ModVersion, VersionFault};
 use std::alloc::{AllocError, Global};
 use std::collections::BTreeMap;
 
-/// Paths and versions that were read before, for whoever reads many names of which most are equal: what is read again shares
-/// the memory of what was read first, and is not tested again.
+/// Paths, versions and pairs of them that were read before, for whoever reads many names of which most are equal: what is
+/// read again shares the memory of what was read first, and is not tested again.
 ///
 /// What is read through one of these is what `ModPath::parse` and `ModVersion::parse` read. Under each fingerprint one name
 /// is kept, so a look-up among n names takes log n comparisons of numbers and one of texts, whatever the names are.
@@ -20,6 +22,7 @@ pub struct KnownNames {
     room: usize,
     paths: BTreeMap<u64, ModPath>,
     versions: BTreeMap<u64, ModVersion>,
+    pairs: BTreeMap<u64, ModVer>,
 }
 
 // Keeps one name under a number, in place of another, where there is room.
@@ -36,13 +39,37 @@ fn keep<T: Drop>(
 }
 
 impl KnownNames {
-    /// No names, and room for that many paths and as many versions. It takes no memory before a name is kept.
+    /// No names, and room for that many paths, as many versions and as many pairs. It takes no memory before a name is kept.
     pub fn new(alloc: Global, room: usize) -> KnownNames {
         KnownNames {
             room,
             paths: BTreeMap::new(alloc),
             versions: BTreeMap::new(alloc),
+            pairs: BTreeMap::new(alloc),
         }
+    }
+
+    /// The pair of a path and a version that fits it which these texts spell, if it was kept. The call takes no memory.
+    pub fn pair(&self, path: &str, version: &str) -> Option<&ModVer>
+        ensures pair { IfSome result (λ pair. pair.now ≡ (path.now, version.now)) }
+        ensures path { IfSome result (λ pair. IsPath path.now) }
+        ensures version { IfSome result (λ pair. IsVersion version.now) }
+        ensures fit { IfSome result (λ pair. Fits path.now version.now) }
+    {
+        let number = fingerprint(fingerprint(0, path), version);
+        let held = self.pairs.get(&number)?;
+        if held.path().as_str() == path && held.version().as_str() == version {
+            Some(held)
+        } else {
+            None
+        }
+    }
+
+    /// Keeps a pair, where there is room, for whoever reads it again. The only refusal is want of memory.
+    pub fn keep_pair(&mut self, alloc: Global, pair: &ModVer) -> Result<(), AllocError> {
+        let start = pair.path().fingerprint();
+        let number = fingerprint(start, pair.version().as_str());
+        keep(&mut self.pairs, self.room, number, pair.copy(alloc)?)
     }
 
     /// The module path that a text spells, as `ModPath::parse` reads it.
