@@ -14,8 +14,11 @@ pub const LIMIT: usize = 16_777_216;
 // How many bytes are asked for first: more than most files have, and few enough to be made ready for each small file.
 const FIRST: usize = 512;
 
-// How many bytes are asked for at once where a file has more.
-const PIECE: usize = 65_536;
+// How many bytes are asked for at once at most.
+const MOST: usize = 65_536;
+
+// By what each piece that was filled is followed by a larger one.
+const GROWTH: usize = 16;
 
 /// Why a reader's bytes were not read.
 #[derive(Clone, Copy, Debug, PartialEq, Eq, Error)]
@@ -74,8 +77,8 @@ pub fn read_limited<R: Read>(alloc: Global, reader: &mut R) -> Result<Vec<u8>, R
         if count == 0 {
             return Ok(bytes);
         }
-        if count == FIRST && piece.len() == FIRST {
-            piece = piece_of(alloc, PIECE)?;
+        if count == piece.len() && count < MOST {
+            piece = piece_of(alloc, (count * GROWTH).min(MOST))?;
         }
     }
     Ok(bytes)
