@@ -123,7 +123,7 @@ module _ (main : Main) (readings : Readings) (vertices : List Vertex) (turns : L
   opened_turn x (inl top) = (Top, (exact.each x Top).1 top)
   opened_turn x (inr deep) = (Deep, (exact.each x Deep).1 deep)
 
-  opened_exactly : (x : Vertex) → Contains vertices x ↔ IsOpened main readings x
+  pub opened_exactly : (x : Vertex) → Contains vertices x ↔ IsOpened main readings x
   opened_exactly x = (
     (λ h. let one = are.has_turn x h in opened_from main readings x one.0 ((exact.each x one.0).0 one.1)),
     (λ h. let one = opened_turn x h in are.has_vertex (turn x one.0) one.1),

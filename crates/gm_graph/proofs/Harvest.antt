@@ -83,7 +83,7 @@ pub opened_kept : (main : Main) (a b : Readings) → Keeps a b → (x : Vertex) 
 opened_kept main a b keeps x (inl top) = inl top
 opened_kept main a b keeps x (inr deep) = inr (IsDeep-kept main a b keeps deep)
 
-edge_kept : (main : Main) (a b : Readings) → Keeps a b → (s : Step) (y : Vertex) → IsEdge main a s y → IsEdge main b s y
+pub edge_kept : (main : Main) (a b : Readings) → Keeps a b → (s : Step) (y : Vertex) → IsEdge main a s y → IsEdge main b s y
 edge_kept main a b keeps FromMain y t = t
 edge_kept main a b keeps (Of x) y (opened, r) = (opened_kept main a b keeps x opened, requirement-kept main a b keeps x y r)
 

@@ -1,5 +1,5 @@
 -- What is put together is what loading answers.
-use Rattle.std.proofs.Common.{◌≡◌, ◌↔◌, List, [], None, map, Option, Contains, ap, ◌∙◌, sym, subst}
+use Rattle.std.proofs.Common.{◌≡◌, ◌↔◌, ◌++◌, List, [], None, map, Option, Contains, ap, ◌∙◌, sym, subst}
 use Rattle.std.specs.BTreeMap as tree
 use Rattle.gm_store.specs.Asked.{Name, Reply}
 use Rattle.gm_sums.specs.declared.sums.SumTable.{SumTable}
@@ -11,7 +11,7 @@ use Rattle.gm_cache.specs.Reading.{Readings, readings_by}
 use Rattle.gm_select.specs.declared.step.Edge.{Edge}
 use Rattle.gm_select.specs.BuildList.{IsBuildList}
 use Rattle.gm_select.specs.Chains.{IsRooted}
-use Rattle.gm_select.specs.Graph.{among, edge_cmp, vertex_cmp}
+use Rattle.gm_select.specs.Graph.{AreEnds, among, edge_cmp, vertex_cmp}
 use Rattle.gm_select.specs.Order.{HaveSame, IsAscending}
 use Rattle.gm_select.proofs.Same.{same_build_list}
 use Rattle.gm_graph.specs.declared.fault.Fault.{Fault}
@@ -25,6 +25,7 @@ use Rattle.gm_graph.specs.Turns.{OverflowsWith}
 use Rattle.gm_graph.proofs.Queueing.{many_first}
 use Rattle.gm_graph.specs.Outcome.{AreFaults, IsLoaded, Outcome}
 use Rattle.gm_graph.proofs.Exactly.{answered, asked_exactly, few_opened}
+use Rattle.gm_graph.proofs.Leaves.{ends_among}
 use Rattle.gm_graph.proofs.Mapped.{fault_listed, faults_ascend}
 use Rattle.gm_graph.proofs.Rooted.{list_rooted, same_edges}
 
@@ -37,6 +38,9 @@ module _ (old new : Cache) (pairs : List (Name × Reply)) (opening : Opening) (g
 
   pub gathered_rooted : IsRooted (among (edges_in gathered))
   gathered_rooted = list_rooted main readings (edges_in gathered) opened.edges
+
+  pub gathered_ends : AreEnds (opening.vertices.items ++ opening.leaves.items) (among (edges_in gathered))
+  gathered_ends = ends_among main readings (opening.vertices.items ++ opening.leaves.items) (edges_in gathered) opened.edges opened.ends
 
   faults_are : (faults : List Fault) → faults ≡ map (λ e. fault e.0 e.1) gathered.faults.entries → tree.IsOrdered vertex_cmp gathered.faults → AreFaults main readings faults
   faults_are faults e ordered = subst (λ (fs : List Fault). AreFaults main readings fs) (sym e) (record {

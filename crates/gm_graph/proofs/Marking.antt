@@ -72,10 +72,10 @@ abbrev pub IsMarkedToo : Opening → Opening → Vertex → Depth → Type 0
 IsMarkedToo old new x depth = (q : Vertex) (d : Depth) → marked new d q ≡ (if same_turn (turn q d) (turn x depth) then true else marked old d q)
 
 abbrev with_tops : Opening → VertexSet → Opening
-with_tops o marks = record { turns = o.turns; vertices = o.vertices; tops = marks; deeps = o.deeps }
+with_tops o marks = record { turns = o.turns; vertices = o.vertices; leaves = o.leaves; tops = marks; deeps = o.deeps }
 
 abbrev with_deeps : Opening → VertexSet → Opening
-with_deeps o marks = record { turns = o.turns; vertices = o.vertices; tops = o.tops; deeps = marks }
+with_deeps o marks = record { turns = o.turns; vertices = o.vertices; leaves = o.leaves; tops = o.tops; deeps = marks }
 
 top_put : (o : Opening) (marks : VertexSet) (x : Vertex) → IsPut o.tops marks x → IsMarkedToo o (with_tops o marks) x Top
 top_put o marks x updates q Top = put_key o.tops marks x q updates ∙ ap (λ (b : Bool). cond b true (has o.tops q)) (sym (and_true (same_vertex q x)))

@@ -22,6 +22,7 @@ use Rattle.gm_graph.proofs.AddingAll.{no_shorter}
 use Rattle.gm_graph.proofs.Deepening.{IsTrueTurn-kept}
 use Rattle.gm_graph.proofs.Dues.{asks_more, asks_nothing, knows_nothing, lent_more}
 use Rattle.gm_graph.proofs.Harvest.{IsGatheredTo, edges_exactly, faults_exactly, gathered_more}
+use Rattle.gm_graph.proofs.Leaves.{AreLeaves, ends_exactly, leaves_more, no_leaves}
 use Rattle.gm_graph.proofs.Queueing.{IsQueue, queue_all, queue_more, queue_none}
 use Rattle.gm_graph.proofs.Rounds.{are_turns, opened_known}
 
@@ -34,12 +35,13 @@ pub record IsAt (main : Main) (sums : Option SumTable) (cache : Cache) (pairs : 
   pub knows : Knows cache pairs
   pub lent : turns_in cache ≡ take at opening.turns.items
   pub queue : IsQueue main (readings_by main (held_of cache)) opening.turns.items at
+  pub leaves : AreLeaves main (readings_by main (held_of cache)) opening.turns.items opening.leaves.items at
   pub harvest : IsGatheredTo main (readings_by main (held_of cache)) opening.turns.items (edges_in gathered) (faults_in gathered) at
   pub asks : AsksInTurn main sums pairs
 
-pub first_step : (cache : Cache) (pairs : List (Name × Reply)) (opening : Opening) (gathered : Gathered) → pairs ≡ [] → Knows cache [] → turns_in cache ≡ [] → IsOpening opening → AreFirstTurns (main_in cache) opening.turns.items
+pub first_step : (cache : Cache) (pairs : List (Name × Reply)) (opening : Opening) (gathered : Gathered) → pairs ≡ [] → Knows cache [] → turns_in cache ≡ [] → IsOpening opening → opening.leaves.items ≡ [] → AreFirstTurns (main_in cache) opening.turns.items
     → ((readings : Readings) → AreGathered (main_in cache) readings (edges_in gathered) (faults_in gathered)) → IsAt (main_in cache) (sums_in cache) cache pairs opening gathered 0
-first_step cache pairs opening gathered none knows lent is first are = record {
+first_step cache pairs opening gathered none knows lent is bare first are = record {
   place = omega arith;
   is_opening = is;
   main_is = refl;
@@ -47,6 +49,7 @@ first_step cache pairs opening gathered none knows lent is first are = record {
   knows = knows_nothing cache pairs none knows;
   lent = lent;
   queue = queue_none _ _ _ first;
+  leaves = no_leaves _ _ _ _ bare;
   harvest = record { are = are _; each = λ k d h. absurd (omega arith) };
   asks = asks_nothing _ _ _ none;
 }
@@ -70,6 +73,8 @@ step main sums old new pairs longer opening opened before after at x depth is be
       sums_are = continues.sums ∙ is.sums_are;
       knows = knows;
       lent = lent_more (turns_in old) (turns_in new) opening.turns.items opened.turns.items extends.0 at (turn x depth) is.lent lent extends.1 below here;
+      leaves = leaves_more main a b keeps opening.turns.items opened.turns.items opening.leaves.items opened.leaves.items at x depth extends
+          (IsTrueTurn-kept main a b keeps x depth (is.queue.sound (turn x depth) (at, below, here))) below here (λ k d lt. (is.queue.done k d lt).answered) done.leaves is.leaves;
       queue = queue_more main a b opening.turns.items opened.turns.items at x depth is.queue keeps below here done.follows;
       harvest = gathered_more main a b opening.turns.items opened.turns.items (edges_in before) (edges_in after) (faults_in before) (faults_in after) at x depth keeps extends
           (IsTrueTurn-kept main a b keeps x depth (is.queue.sound (turn x depth) (at, below, here))) below here (λ k d lt. (is.queue.done k d lt).answered) is.harvest done.gathers;
@@ -90,6 +95,7 @@ last_step old new pairs opening gathered at is past =
       opening = is.is_opening;
       turns = are_turns main r opening.vertices.items turns is.is_opening.turns all;
       known = opened_known main r opening.vertices.items turns is.is_opening.turns all;
+      ends = ends_exactly main r opening.vertices.items turns opening.leaves.items at is.is_opening.turns past all is.leaves;
       edges = edges_exactly main r turns (edges_in gathered) (faults_in gathered) at past all is.harvest;
       faults = faults_exactly main r turns (edges_in gathered) (faults_in gathered) at past all is.harvest;
     }

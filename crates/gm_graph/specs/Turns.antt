@@ -23,6 +23,11 @@ leads_on_in summary Deep = true
 abbrev pub leads_on : Readings → Vertex → Depth → Bool
 leads_on readings x = leads_on_in (said_in (readings x))
 
+-- the leaves, with the requirements of a turn that leads no further
+abbrev pub leaves_with : Bool → List Vertex → List Vertex → List Vertex
+leaves_with true leaves xs = leaves
+leaves_with false leaves xs = leaves ++ xs
+
 -- what the turn's vertex says is known, and what the turn leads to is among the turns
 pub record IsDone (main : Main) (readings : Readings) (turns : List Turn) (one : Turn) : Type 0 where
   pub answered : IsSome (readings one.vertex)

@@ -95,6 +95,7 @@ fn open_below(
         gathered.add_edges(alloc, vertex, lent)?;
     }
     if !leads {
+        opening.add_leaves(alloc, lent)?;
         return Ok(());
     }
     match opening.add_all(alloc, lent, Depth::Deep) {

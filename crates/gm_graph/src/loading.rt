@@ -11,7 +11,7 @@ ghost use Rattle.gm_cache.specs.Refusals.{refused_in};
 ghost use Rattle.gm_cache.specs.Main.{main_of};
 ghost use Rattle.gm_select.specs.BuildList.{IsBuildList};
 ghost use Rattle.gm_select.specs.Chains.{IsRooted};
-ghost use Rattle.gm_select.specs.Graph.{among, edge_cmp, vertex_cmp};
+ghost use Rattle.gm_select.specs.Graph.{AreEnds, among, edge_cmp, vertex_cmp};
 ghost use Rattle.gm_select.specs.Order.{HaveSame, IsAscending};
 ghost use Rattle.std.specs.BTreeMap as tree;
 ghost use Rattle.gm_graph.specs.Following.{IsOpenedIn, readings_in};
@@ -23,13 +23,12 @@ ghost use Rattle.gm_graph.specs.Turns.{AreFirstTurns};
 
 use crate::following::follow;
 use crate::gathering::{Gathered, fault_list, main_edges};
-use crate::leaving::all_edges;
 use crate::loaded::Loaded;
 use crate::opening::{Opening, copy_turn};
 use crate::starting::{begin, kept_requirements};
 use gm_cache::{Cache, LoadFault, main_says};
 use gm_file::MainFile;
-use gm_select::{build_list, sorted_edges};
+use gm_select::build_list;
 use gm_store::Files;
 use gm_sums::SumTable;
 use std::alloc::{AllocError, Global};
@@ -46,6 +45,7 @@ fn open_in_turn<F: Files>(
     requires knows { Knows cache.old [] }
     requires lent { turns_in cache.old ≡ [] }
     requires opening { IsOpening opening.old }
+    requires leaves { opening.old.leaves.items ≡ [] }
     requires first { AreFirstTurns (main_in cache.old) opening.old.turns.items }
     requires gathered { (readings : Readings) → AreGathered (main_in cache.old) readings (edges_in gathered.old) (faults_in gathered.old) }
     ensures opened { OnOk result (IsOpenedIn cache.old cache.new (F.asked files.new) opening.new gathered.new) }
@@ -72,14 +72,16 @@ fn open_in_turn<F: Files>(
     Ok(())
 }
 
-/// What was found, put together: the edges sorted, and the build list that they make.
+/// What was found, put together, with the build list that the ends of the edges make.
 fn put_together(
     alloc: Global,
     main: &MainFile,
     cache: Cache<'_>,
+    opening: Opening,
     gathered: Gathered,
 ) -> Result<Loaded, AllocError>
-    requires { IsRooted (among (edges_in gathered)) }
+    requires rooted { IsRooted (among (edges_in gathered)) }
+    requires ends { AreEnds (opening.vertices.items ++ opening.leaves.items) (among (edges_in gathered)) }
     ensures main { IfOk result (λ loaded. loaded.main ≡ (main_of main.now).path) }
     ensures faults { IfOk result (λ loaded. loaded.faults ≡ map (λ entry. fault entry.0 entry.1) gathered.faults.entries) }
     ensures ordered { OnOk result (tree.IsOrdered vertex_cmp gathered.faults) }
@@ -91,10 +93,9 @@ fn put_together(
     let Gathered { leaving, faults } = gathered;
     let path = main_says::path(main).copy(alloc)?;
     let faults = fault_list(alloc, faults)?;
-    let found = all_edges(alloc, leaving)?;
-    let edges = sorted_edges(found);
-    let rows = build_list(alloc, main, &edges)?;
-    Ok(Loaded::new(path, faults, edges, rows, cache.into_turns()))
+    let ends = opening.into_ends()?;
+    let rows = build_list(alloc, main, &ends)?;
+    Ok(Loaded::new(path, faults, leaving, rows, cache.into_turns()))
 }
 
 /// Loads the files of the modules that the main module's file leads to, and finds their faults, the edges of the graph and the
@@ -125,5 +126,5 @@ pub fn load<F: Files>(
     let mut gathered = main_edges(alloc, &required)?;
     let mut cache = Cache::new(alloc, main, sums);
     open_in_turn(alloc, &mut cache, files, &mut opening, &mut gathered)?;
-    Ok(put_together(alloc, main, cache, gathered)?)
+    Ok(put_together(alloc, main, cache, opening, gathered)?)
 }

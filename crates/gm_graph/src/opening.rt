@@ -15,11 +15,12 @@ use gm_select::VertexSet;
 use std::alloc::{AllocError, Global};
 
 /// The turns in the order in which they were found, the vertices among them, and the marks of both: which vertices have a
-/// turn of each depth.
+/// turn of each depth. What is required where a turn leads no further are leaves, which may repeat.
 #[derive(Drop)]
 pub(crate) struct Opening {
     pub(crate) turns: Vec<Turn>,
     pub(crate) vertices: Vec<ModVer>,
+    pub(crate) leaves: Vec<ModVer>,
     tops: VertexSet,
     deeps: VertexSet,
 }
@@ -51,10 +52,12 @@ impl Opening {
         ensures opening { IsOpening result }
         ensures empty { result.turns.items ≡ [] }
         ensures no_vertices { result.vertices.items ≡ [] }
+        ensures no_leaves { result.leaves.items ≡ [] }
     {
         Opening {
             turns: Vec::new(alloc),
             vertices: Vec::new(alloc),
+            leaves: Vec::new(alloc),
             tops: VertexSet::new(alloc),
             deeps: VertexSet::new(alloc),
         }
@@ -93,6 +96,7 @@ impl Opening {
         ensures marked { OnOk result ((q : Vertex) (d : Depth) → marked self.new d q ≡ (if same_turn (turn q d) (turn vertex.now depth) then true else marked self.old d q)) }
         ensures turns { self.new.turns.items ≡ self.old.turns.items }
         ensures vertices { self.new.vertices.items ≡ self.old.vertices.items }
+        ensures leaves { self.new.leaves.items ≡ self.old.leaves.items }
     {
         match depth {
             Depth::Top => self.tops.insert(alloc, vertex)?,
@@ -106,6 +110,7 @@ impl Opening {
         requires { IsOpening self.old }
         ensures opening { OnOk result (IsOpening self.new) }
         ensures adds { OnOk result (AddsTurn self.old.turns.items self.new.turns.items (turn vertex.now depth)) }
+        ensures leaves { OnOk result (self.new.leaves.items ≡ self.old.leaves.items) }
         ensures too_many { result ≡ Err AddFault.TooMany → (MOST ≤ length self.old.vertices.items) × (list_any (same_vertex vertex.now) self.old.vertices.items ≡ false) }
     {
         let has_turn = self.has_turn(alloc, vertex, depth)?;
@@ -134,6 +139,7 @@ impl Opening {
         requires { IsOpening self.old }
         ensures opening { OnOk result (IsOpening self.new) }
         ensures adds { OnOk result (AddsAll self.old.turns.items self.new.turns.items list.now depth) }
+        ensures leaves { OnOk result (self.new.leaves.items ≡ self.old.leaves.items) }
         ensures too_many { result ≡ Err AddFault.TooMany → OverflowsWith self.old.vertices.items list.now }
     {
         for y in list {
@@ -141,6 +147,42 @@ impl Opening {
         }
         Ok(())
     }
+
+    /// Adds these vertices to the leaves.
+    pub(crate) fn add_leaves(&mut self, alloc: Global, list: &[ModVer]) -> Result<(), AllocError>
+        requires { IsOpening self.old }
+        ensures opening { OnOk result (IsOpening self.new) }
+        ensures turns { OnOk result (self.new.turns.items ≡ self.old.turns.items) }
+        ensures leaves { OnOk result (self.new.leaves.items ≡ self.old.leaves.items ++ list.now) }
+    {
+        push_copies(alloc, &mut self.leaves, list)
+    }
+
+    /// The vertices and the leaves.
+    pub(crate) fn into_ends(self) -> Result<Vec<ModVer>, AllocError>
+        ensures { IfOk result (λ ends. ends.items ≡ self.vertices.items ++ self.leaves.items) }
+    {
+        let Opening {
+            vertices,
+            leaves,
+            ..
+        } = self;
+        let mut ends = vertices;
+        for y in leaves {
+            ends.push(y)?;
+        }
+        Ok(ends)
+    }
+}
+
+/// Puts copies of vertices at the end.
+fn push_copies(alloc: Global, vertices: &mut Vec<ModVer>, list: &[ModVer]) -> Result<(), AllocError>
+    ensures { OnOk result (vertices.new.items ≡ vertices.old.items ++ list.now) }
+{
+    for y in list {
+        vertices.push(y.copy(alloc)?)?;
+    }
+    Ok(())
 }
 
 /// Puts a copy of a vertex at the end.

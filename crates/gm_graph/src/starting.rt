@@ -34,6 +34,7 @@ pub(crate) fn first_turns(
     requires { required.now ≡ kept (main_of main.now) (main_of main.now).requirements }
     ensures opening { IfOk result IsOpening }
     ensures first { IfOk result (λ opening. AreFirstTurns (main_of main.now) opening.turns.items) }
+    ensures leaves { IfOk result (λ opening. opening.leaves.items ≡ []) }
     ensures too_many { result ≡ Err AddFault.TooMany → OverflowsWith [] required.now }
 {
     let mut opening = Opening::new(alloc);
@@ -53,6 +54,7 @@ pub(crate) fn begin(
     requires { required.now ≡ kept (main_of main.now) (main_of main.now).requirements }
     ensures opening { IfOk result IsOpening }
     ensures first { IfOk result (λ opening. AreFirstTurns (main_of main.now) opening.turns.items) }
+    ensures leaves { IfOk result (λ opening. opening.leaves.items ≡ []) }
     ensures too_many { result ≡ Err LoadFault.TooMany → OverflowsWith [] required.now }
     ensures not_refused { refused_in result ≡ [] }
 {

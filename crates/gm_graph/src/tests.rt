@@ -118,13 +118,18 @@ fn rows_words(alloc: Global, loaded: &Loaded) -> Result<String, NoMemory> {
     words::rows(alloc, loaded.build_list())
 }
 
+fn edges_words(alloc: Global, loaded: &Loaded) -> Result<String, NoMemory> {
+    let edges = loaded.edges(alloc)?;
+    words::edges(alloc, &edges)
+}
+
 fn found_by_queue(alloc: Global, store: &MemoryFiles, loaded: &Loaded) -> Result<Found, NoMemory> {
     let asked = names_asked(alloc, store)?;
     let turns = turns_made(alloc, loaded)?;
     Ok(Found {
         asked: words::names(alloc, &asked)?,
         faults: words::faults(alloc, loaded.faults())?,
-        edges: words::edges(alloc, loaded.edges())?,
+        edges: edges_words(alloc, loaded)?,
         rows: rows_words(alloc, loaded)?,
         turns: words::turns(alloc, &turns)?,
     })

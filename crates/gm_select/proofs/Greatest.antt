@@ -1,5 +1,5 @@
--- The greatest versions so far, and the end of one more edge.
-use Rattle.std.proofs.Common.{◌≡◌, ◌≢◌, ◌+◌, ◌<◌, ℕ, Bool, true, false, not, cond, List, [], ◌∷◌, ◌++◌, length, take, get_or, map, Option, Some, None, Contains, append_assoc, append-nil, ap, ap₂, ◌∙◌, sym, refl, subst, inl, inr, ◌⊎◌, arith}
+-- The greatest versions among some ends, and one more of them.
+use Rattle.std.proofs.Common.{◌≡◌, ◌≢◌, ◌+◌, ◌<◌, ℕ, Bool, true, false, cond, List, [], ◌∷◌, ◌++◌, length, take, get_or, map, Option, Some, None, Contains, append_assoc, append-nil, ap, ap₂, ◌∙◌, sym, refl, subst, inl, inr, ◌⊎◌, arith}
 use Rattle.std.proofs.lemmas.List.{take_more, length-map, get_or-map, get_or_default}
 use Rattle.std.proofs.lemmas.Option.{slice_get-get_or}
 use Rattle.std.proofs.lemmas.Map.Entries.{btree_map_get_place}
@@ -19,12 +19,10 @@ use Rattle.std.proofs.lemmas.List.Elements.{Contains-append_left, Contains-push,
 use Rattle.gm_name.specs.Version.{version_cmp}
 use Rattle.gm_name.specs.VersionOrder.{version-anti, version_total}
 use Rattle.gm_file.specs.Directives.{Replacing}
-use Rattle.gm_select.specs.declared.step.Edge.{Edge}
-use Rattle.gm_select.specs.Graph.{Vertex, IsEnd, among, edge, vertex_cmp}
-use Rattle.gm_select.specs.StepOrder.{vertex-anti}
+use Rattle.gm_select.specs.declared.step.Step.TheVariants.{Main}
+use Rattle.gm_select.specs.Graph.{Vertex, IsEnd}
 use Rattle.gm_select.specs.BuildList.{Entry, IsSelected, IsBuildList, entry_of, main_entry}
-use Rattle.gm_select.specs.Greatest.{IsGreatest, is_above}
-use Rattle.gm_select.proofs.Marked.{tie}
+use Rattle.gm_select.specs.Greatest.{IsGreatest, ending, is_above}
 
 not_above_itself : (r : Ordering) → r ≡ ordering_reverse r → is_gt r ≡ false
 not_above_itself Less e = refl
@@ -59,112 +57,94 @@ neither_above a b h g = elim (gt_false _ h) [
   | inr e ↦ version-anti a b e
 ]
 
--- ---- one more edge
+-- ---- one more end
 
-end_cases : (edges : List Edge) (e : Edge) (y : Vertex) → IsEnd (among (edges ++ e ∷ [])) y → IsEnd (among edges) y ⊎ (e.to ≡ y)
-end_cases edges e y (s, h) = elim (Contains-push_cases edges e (edge s y) h) [ inl there ↦ inl (s, there) | inr same ↦ inr (ap (λ (a : Edge). a.to) same) ]
+end_cases : (ends : List Vertex) (e y : Vertex) → IsEnd (ending (ends ++ e ∷ [])) y → IsEnd (ending ends) y ⊎ (e ≡ y)
+end_cases ends e y (s, h) = elim (Contains-push_cases ends e y h) [ inl there ↦ inl (s, there) | inr same ↦ inr same ]
 
-end_kept : (edges : List Edge) (e : Edge) (y : Vertex) → IsEnd (among edges) y → IsEnd (among (edges ++ e ∷ [])) y
-end_kept edges e y (s, h) = (s, Contains-append_left edges (e ∷ []) (edge s y) h)
+end_kept : (ends : List Vertex) (e y : Vertex) → IsEnd (ending ends) y → IsEnd (ending (ends ++ e ∷ [])) y
+end_kept ends e y (s, h) = (s, Contains-append_left ends (e ∷ []) y h)
 
-end_new : (edges : List Edge) (e : Edge) → IsEnd (among (edges ++ e ∷ [])) e.to
-end_new edges e = (e.from, Contains-push edges e)
-
--- ends stay ends, and the new edge's is one
-pub ends_more : (edges : List Edge) (e : Edge) (old new : Vertex → Bool) → ((x : Vertex) → new x ≡ cond (is_eq (vertex_cmp e.to x)) true (old x)) → ((x : Vertex) → old x ≡ true → IsEnd (among edges) x) → (x : Vertex) → new x ≡ true → IsEnd (among (edges ++ e ∷ [])) x
-ends_more edges e old new puts are x h = go (is_eq (vertex_cmp e.to x)) refl
-  where
-    go : (b : Bool) → is_eq (vertex_cmp e.to x) ≡ b → IsEnd (among (edges ++ e ∷ [])) x
-    go true is = subst (λ (y : Vertex). IsEnd (among (edges ++ e ∷ [])) y) (vertex-anti e.to x (tie _ is)) (end_new edges e)
-    go false is = end_kept edges e x (are x (sym (puts x ∙ ap (λ (b : Bool). cond b true (old x)) is) ∙ h))
+end_new : (ends : List Vertex) (e : Vertex) → IsEnd (ending (ends ++ e ∷ [])) e
+end_new ends e = (Main, Contains-push ends e)
 
 -- a vertex that is not above the greatest of its path leaves it so
-selected_kept : (main : List ℕ) (edges : List Edge) (e : Edge) (x : Vertex) → (e.to.0 ≡ x.0 → is_gt (version_cmp e.to.1 x.1) ≡ false) → IsSelected main (among edges) x → IsSelected main (among (edges ++ e ∷ [])) x
-selected_kept main edges e x low is = record {
+selected_kept : (main : List ℕ) (ends : List Vertex) (e x : Vertex) → (e.0 ≡ x.0 → is_gt (version_cmp e.1 x.1) ≡ false) → IsSelected main (ending ends) x → IsSelected main (ending (ends ++ e ∷ [])) x
+selected_kept main ends e x low is = record {
   not_main = is.not_main;
-  is_end = end_kept edges e x is.is_end;
-  greatest = λ y h same. elim (end_cases edges e y h) [
+  is_end = end_kept ends e x is.is_end;
+  greatest = λ y h same. elim (end_cases ends e y h) [
     | inl there ↦ is.greatest y there same
     | inr new ↦ subst (λ (z : Vertex). is_gt (version_cmp z.1 x.1) ≡ false) new (low (ap (λ (z : Vertex). z.0) new ∙ same))
   ];
 }
 
--- the end of an edge of the main module's path changes nothing
-pub greatest_main : (main : List ℕ) (edges : List Edge) (path : List ℕ) (e : Edge) (o : Option Vertex) → e.to.0 ≡ main → IsGreatest main (among edges) path o → IsGreatest main (among (edges ++ e ∷ [])) path o
-greatest_main main edges path e None is g = λ y h same. elim (end_cases edges e y h) [ inl there ↦ g y there same | inr new ↦ sym same ∙ ap (λ (z : Vertex). z.0) (sym new) ∙ is ]
-greatest_main main edges path e (Some x) is g = (g.0, selected_kept main edges e x (λ same. absurd (g.1.not_main (sym same ∙ is))) g.1)
-
--- what is not new in a set is there
-pub is_there : (is_new is_in : Bool) → is_new ≡ not is_in → is_new ≡ false → is_in ≡ true
-is_there is_new true e f = refl
-is_there is_new false e f = absurd (false≢true (sym f ∙ e))
-
--- nor does one more edge to a vertex that an edge ends at
-pub greatest_again : (main : List ℕ) (edges : List Edge) (path : List ℕ) (e : Edge) (o : Option Vertex) → IsEnd (among edges) e.to → IsGreatest main (among edges) path o → IsGreatest main (among (edges ++ e ∷ [])) path o
-greatest_again main edges path e None is g = λ y h same. elim (end_cases edges e y h) [ inl there ↦ g y there same | inr new ↦ g y (subst (λ (z : Vertex). IsEnd (among edges) z) new is) same ]
-greatest_again main edges path e (Some x) is g = (g.0, selected_kept main edges e x (λ same. g.1.greatest e.to is same) g.1)
+-- one of the main module's path changes nothing
+pub greatest_main : (main : List ℕ) (ends : List Vertex) (path : List ℕ) (e : Vertex) (o : Option Vertex) → e.0 ≡ main → IsGreatest main (ending ends) path o → IsGreatest main (ending (ends ++ e ∷ [])) path o
+greatest_main main ends path e None is g = λ y h same. elim (end_cases ends e y h) [ inl there ↦ g y there same | inr new ↦ sym same ∙ ap (λ (z : Vertex). z.0) (sym new) ∙ is ]
+greatest_main main ends path e (Some x) is g = (g.0, selected_kept main ends e x (λ same. absurd (g.1.not_main (sym same ∙ is))) g.1)
 
 -- nor does one of another path
-greatest_other : (main : List ℕ) (edges : List Edge) (path : List ℕ) (e : Edge) (o : Option Vertex) → e.to.0 ≢ path → IsGreatest main (among edges) path o → IsGreatest main (among (edges ++ e ∷ [])) path o
-greatest_other main edges path e None other g = λ y h same. elim (end_cases edges e y h) [ inl there ↦ g y there same | inr new ↦ absurd (other (ap (λ (z : Vertex). z.0) new ∙ same)) ]
-greatest_other main edges path e (Some x) other g = (g.0, selected_kept main edges e x (λ same. absurd (other (same ∙ g.0))) g.1)
+greatest_other : (main : List ℕ) (ends : List Vertex) (path : List ℕ) (e : Vertex) (o : Option Vertex) → e.0 ≢ path → IsGreatest main (ending ends) path o → IsGreatest main (ending (ends ++ e ∷ [])) path o
+greatest_other main ends path e None other g = λ y h same. elim (end_cases ends e y h) [ inl there ↦ g y there same | inr new ↦ absurd (other (ap (λ (z : Vertex). z.0) new ∙ same)) ]
+greatest_other main ends path e (Some x) other g = (g.0, selected_kept main ends e x (λ same. absurd (other (same ∙ g.0))) g.1)
 
 -- nor does one that is not above the greatest so far
-greatest_beaten : (main : List ℕ) (edges : List Edge) (e : Edge) (o : Option Vertex) → is_above e.to o ≡ false → IsGreatest main (among edges) e.to.0 o → IsGreatest main (among (edges ++ e ∷ [])) e.to.0 o
-greatest_beaten main edges e None low g = absurd (false≢true (sym low))
-greatest_beaten main edges e (Some x) low g = (g.0, selected_kept main edges e x (λ same. low) g.1)
+greatest_beaten : (main : List ℕ) (ends : List Vertex) (e : Vertex) (o : Option Vertex) → is_above e o ≡ false → IsGreatest main (ending ends) e.0 o → IsGreatest main (ending (ends ++ e ∷ [])) e.0 o
+greatest_beaten main ends e None low g = absurd (false≢true (sym low))
+greatest_beaten main ends e (Some x) low g = (g.0, selected_kept main ends e x (λ same. low) g.1)
 
 -- one that is above all so far is the greatest
-greatest_new : (main : List ℕ) (edges : List Edge) (e : Edge) (o : Option Vertex) → e.to.0 ≢ main → is_above e.to o ≡ true → IsGreatest main (among edges) e.to.0 o → IsGreatest main (among (edges ++ e ∷ [])) e.to.0 (Some e.to)
-greatest_new main edges e o not_main above g = (refl, record { not_main = not_main; is_end = end_new edges e; greatest = top o above g })
+greatest_new : (main : List ℕ) (ends : List Vertex) (e : Vertex) (o : Option Vertex) → e.0 ≢ main → is_above e o ≡ true → IsGreatest main (ending ends) e.0 o → IsGreatest main (ending (ends ++ e ∷ [])) e.0 (Some e)
+greatest_new main ends e o not_main above g = (refl, record { not_main = not_main; is_end = end_new ends e; greatest = top o above g })
   where
-    itself : (y : Vertex) → e.to ≡ y → is_gt (version_cmp y.1 e.to.1) ≡ false
-    itself y new = subst (λ (z : Vertex). is_gt (version_cmp z.1 e.to.1) ≡ false) new (equal_itself e.to.1)
+    itself : (y : Vertex) → e ≡ y → is_gt (version_cmp y.1 e.1) ≡ false
+    itself y new = subst (λ (z : Vertex). is_gt (version_cmp z.1 e.1) ≡ false) new (equal_itself e.1)
 
-    top : (o : Option Vertex) → is_above e.to o ≡ true → IsGreatest main (among edges) e.to.0 o → (y : Vertex) → IsEnd (among (edges ++ e ∷ [])) y → y.0 ≡ e.to.0 → is_gt (version_cmp y.1 e.to.1) ≡ false
-    top None above g y h same = elim (end_cases edges e y h) [ inl there ↦ absurd (not_main (g y there same)) | inr new ↦ itself y new ]
-    top (Some x) above g y h same = elim (end_cases edges e y h) [ inl there ↦ below_more y.1 x.1 e.to.1 (g.1.greatest y there (same ∙ sym g.0)) above | inr new ↦ itself y new ]
+    top : (o : Option Vertex) → is_above e o ≡ true → IsGreatest main (ending ends) e.0 o → (y : Vertex) → IsEnd (ending (ends ++ e ∷ [])) y → y.0 ≡ e.0 → is_gt (version_cmp y.1 e.1) ≡ false
+    top None above g y h same = elim (end_cases ends e y h) [ inl there ↦ absurd (not_main (g y there same)) | inr new ↦ itself y new ]
+    top (Some x) above g y h same = elim (end_cases ends e y h) [ inl there ↦ below_more y.1 x.1 e.1 (g.1.greatest y there (same ∙ sym g.0)) above | inr new ↦ itself y new ]
 
 -- the greatest versions stay where a vertex is not above that of its path
-pub greatest_stays : (main : List ℕ) (edges : List Edge) (path : List ℕ) (e : Edge) (best : List ℕ → Option Vertex) → is_above e.to (best e.to.0) ≡ false → IsGreatest main (among edges) path (best path) → IsGreatest main (among (edges ++ e ∷ [])) path (best path)
-greatest_stays main edges path e best low g = go (bytes_eq e.to.0 path) refl
+pub greatest_stays : (main : List ℕ) (ends : List Vertex) (path : List ℕ) (e : Vertex) (best : List ℕ → Option Vertex) → is_above e (best e.0) ≡ false → IsGreatest main (ending ends) path (best path) → IsGreatest main (ending (ends ++ e ∷ [])) path (best path)
+greatest_stays main ends path e best low g = go (bytes_eq e.0 path) refl
   where
-    go : (b : Bool) → bytes_eq e.to.0 path ≡ b → IsGreatest main (among (edges ++ e ∷ [])) path (best path)
+    go : (b : Bool) → bytes_eq e.0 path ≡ b → IsGreatest main (ending (ends ++ e ∷ [])) path (best path)
     go true is =
-        let same = (bytes_eq-Decides e.to.0 path).0 is in
-        subst (λ (p : List ℕ). IsGreatest main (among (edges ++ e ∷ [])) p (best p)) same
-        (greatest_beaten main edges e (best e.to.0) low (subst (λ (p : List ℕ). IsGreatest main (among edges) p (best p)) (sym same) g))
-    go false is = greatest_other main edges path e (best path) (λ same. false≢true (sym is ∙ (bytes_eq-Decides e.to.0 path).1 same)) g
+        let same = (bytes_eq-Decides e.0 path).0 is in
+        subst (λ (p : List ℕ). IsGreatest main (ending (ends ++ e ∷ [])) p (best p)) same
+        (greatest_beaten main ends e (best e.0) low (subst (λ (p : List ℕ). IsGreatest main (ending ends) p (best p)) (sym same) g))
+    go false is = greatest_other main ends path e (best path) (λ same. false≢true (sym is ∙ (bytes_eq-Decides e.0 path).1 same)) g
 
 -- and are those of the map with the vertex put in where it is above
-greatest_insert : (main : List ℕ) (edges : List Edge) (path : List ℕ) (e : Edge) (old new : List ℕ → Option Vertex) → ((q : List ℕ) → new q ≡ cond (is_eq (slice_cmp nat_cmp e.to.0 q)) (Some e.to) (old q)) → e.to.0 ≢ main → is_above e.to (old e.to.0) ≡ true → IsGreatest main (among edges) path (old path) → IsGreatest main (among (edges ++ e ∷ [])) path (new path)
-greatest_insert main edges path e old new puts not_main above g = subst (λ (o : Option Vertex). IsGreatest main (among (edges ++ e ∷ [])) path o) (sym (puts path)) (go (is_eq (slice_cmp nat_cmp e.to.0 path)) refl)
+greatest_insert : (main : List ℕ) (ends : List Vertex) (path : List ℕ) (e : Vertex) (old new : List ℕ → Option Vertex) → ((q : List ℕ) → new q ≡ cond (is_eq (slice_cmp nat_cmp e.0 q)) (Some e) (old q)) → e.0 ≢ main → is_above e (old e.0) ≡ true → IsGreatest main (ending ends) path (old path) → IsGreatest main (ending (ends ++ e ∷ [])) path (new path)
+greatest_insert main ends path e old new puts not_main above g = subst (λ (o : Option Vertex). IsGreatest main (ending (ends ++ e ∷ [])) path o) (sym (puts path)) (go (is_eq (slice_cmp nat_cmp e.0 path)) refl)
   where
-    go : (b : Bool) → is_eq (slice_cmp nat_cmp e.to.0 path) ≡ b → IsGreatest main (among (edges ++ e ∷ [])) path (cond b (Some e.to) (old path))
+    go : (b : Bool) → is_eq (slice_cmp nat_cmp e.0 path) ≡ b → IsGreatest main (ending (ends ++ e ∷ [])) path (cond b (Some e) (old path))
     go true is =
-        let same = (bytes_eq-Decides e.to.0 path).0 (sym (is_eq-slice_cmp e.to.0 path) ∙ is) in
-        subst (λ (p : List ℕ). IsGreatest main (among (edges ++ e ∷ [])) p (Some e.to)) same
-        (greatest_new main edges e (old e.to.0) not_main above (subst (λ (p : List ℕ). IsGreatest main (among edges) p (old p)) (sym same) g))
-    go false is = greatest_other main edges path e (old path) (λ same. false≢true (sym is ∙ is_eq-slice_cmp e.to.0 path ∙ (bytes_eq-Decides e.to.0 path).1 same)) g
+        let same = (bytes_eq-Decides e.0 path).0 (sym (is_eq-slice_cmp e.0 path) ∙ is) in
+        subst (λ (p : List ℕ). IsGreatest main (ending (ends ++ e ∷ [])) p (Some e)) same
+        (greatest_new main ends e (old e.0) not_main above (subst (λ (p : List ℕ). IsGreatest main (ending ends) p (old p)) (sym same) g))
+    go false is = greatest_other main ends path e (old path) (λ same. false≢true (sym is ∙ is_eq-slice_cmp e.0 path ∙ (bytes_eq-Decides e.0 path).1 same)) g
 
 -- the same with copies of the path and the vertex
-pub greatest_put : (main : List ℕ) (edges : List Edge) (path : List ℕ) (e : Edge) (p : List ℕ) (x : Vertex) (old new : List ℕ → Option Vertex) → p ≡ e.to.0 → x ≡ e.to → ((q : List ℕ) → new q ≡ cond (is_eq (slice_cmp nat_cmp p q)) (Some x) (old q)) → e.to.0 ≢ main → is_above e.to (old e.to.0) ≡ true → IsGreatest main (among edges) path (old path) → IsGreatest main (among (edges ++ e ∷ [])) path (new path)
-greatest_put main edges path e p x old new is_path is_vertex puts =
-    greatest_insert main edges path e old new (λ q. puts q ∙ ap (λ (a : List ℕ). cond (is_eq (slice_cmp nat_cmp a q)) (Some x) (old q)) is_path ∙ ap (λ (y : Vertex). cond (is_eq (slice_cmp nat_cmp e.to.0 q)) (Some y) (old q)) is_vertex)
+pub greatest_put : (main : List ℕ) (ends : List Vertex) (path : List ℕ) (e : Vertex) (p : List ℕ) (x : Vertex) (old new : List ℕ → Option Vertex) → p ≡ e.0 → x ≡ e → ((q : List ℕ) → new q ≡ cond (is_eq (slice_cmp nat_cmp p q)) (Some x) (old q)) → e.0 ≢ main → is_above e (old e.0) ≡ true → IsGreatest main (ending ends) path (old path) → IsGreatest main (ending (ends ++ e ∷ [])) path (new path)
+greatest_put main ends path e p x old new is_path is_vertex puts =
+    greatest_insert main ends path e old new (λ q. puts q ∙ ap (λ (a : List ℕ). cond (is_eq (slice_cmp nat_cmp a q)) (Some x) (old q)) is_path ∙ ap (λ (y : Vertex). cond (is_eq (slice_cmp nat_cmp e.0 q)) (Some y) (old q)) is_vertex)
 
 -- one more of a list
-pub edges_more : (edges : List Edge) (i : ℕ) (e : Edge) → i < length edges → e ≡ get_or edges i e → take i edges ++ e ∷ [] ≡ take (i + 1) edges
-edges_more edges i e below is = sym (take_more edges i e below ∙ ap (λ (a : Edge). take i edges ++ a ∷ []) (sym is))
+pub ends_more : (ends : List Vertex) (i : ℕ) (e : Vertex) → i < length ends → e ≡ get_or ends i e → take i ends ++ e ∷ [] ≡ take (i + 1) ends
+ends_more ends i e below is = sym (take_more ends i e below ∙ ap (λ (a : Vertex). take i ends ++ a ∷ []) (sym is))
 
 -- ---- the rows of a map that has the greatest versions
 
 exact_by_cmp : (a b : List ℕ) → is_eq (slice_cmp nat_cmp a b) ≡ true → a ≡ b
 exact_by_cmp a b h = (bytes_eq-Decides a b).0 (sym (is_eq-slice_cmp a b) ∙ h)
 
-pub same_list : (main : List ℕ) (replaces : List Replacing) (xs ys : List Edge) (entries more : List Entry) → xs ≡ ys → entries ≡ more → IsBuildList main replaces (among xs) more → IsBuildList main replaces (among ys) entries
-same_list main replaces xs ys entries more e f h = subst (λ (r : List Entry). IsBuildList main replaces (among ys) r) (sym f) (subst (λ (v : List Edge). IsBuildList main replaces (among v) more) e h)
+pub same_list : (main : List ℕ) (replaces : List Replacing) (xs ys : List Vertex) (entries more : List Entry) → xs ≡ ys → entries ≡ more → IsBuildList main replaces (ending xs) more → IsBuildList main replaces (ending ys) entries
+same_list main replaces xs ys entries more e f h = subst (λ (r : List Entry). IsBuildList main replaces (ending ys) r) (sym f) (subst (λ (v : List Vertex). IsBuildList main replaces (ending v) more) e h)
 
-module _ (main : List ℕ) (replaces : List Replacing) (edges : List Edge) (best : BTreeMap (List ℕ) Vertex) (ordered : IsOrdered (slice_cmp nat_cmp) best) (greatest : (path : List ℕ) → IsGreatest main (among edges) path (get (slice_cmp nat_cmp) best path)) where
+module _ (main : List ℕ) (replaces : List Replacing) (ends : List Vertex) (best : BTreeMap (List ℕ) Vertex) (ordered : IsOrdered (slice_cmp nat_cmp) best) (greatest : (path : List ℕ) → IsGreatest main (ending ends) path (get (slice_cmp nat_cmp) best path)) where
   abbrev Held : Type 0
   Held = List ℕ × Vertex
 
@@ -173,15 +153,15 @@ module _ (main : List ℕ) (replaces : List Replacing) (edges : List Edge) (best
   held_at k held inside is =
       btree_map_get_place nat_list_cmp_total best k held.0 held.1 ordered (slice_get-get_or best.entries k held inside ∙ ap (λ (h : Held). Some h) is)
 
-  greatest_at : (k : ℕ) (held : Held) → k < length best.entries → get_or best.entries k held ≡ held → (held.1.0 ≡ held.0) × IsSelected main (among edges) held.1
-  greatest_at k held inside is = subst (λ (o : Option Vertex). IsGreatest main (among edges) held.0 o) (held_at k held inside is) (greatest held.0)
+  greatest_at : (k : ℕ) (held : Held) → k < length best.entries → get_or best.entries k held ≡ held → (held.1.0 ≡ held.0) × IsSelected main (ending ends) held.1
+  greatest_at k held inside is = subst (λ (o : Option Vertex). IsGreatest main (ending ends) held.0 o) (held_at k held inside is) (greatest held.0)
 
   row_held : (x : Vertex) → get (slice_cmp nat_cmp) best x.0 ≡ Some x → Contains (map (λ (h : Held). h.1) best.entries) x
   row_held x h =
       let found = Contains-from_lookup {eq = λ a b. is_eq (slice_cmp nat_cmp a b)} exact_by_cmp x.0 x best.entries h in
       (found.0, rw length-map found.1, get_or-map (λ (e : Held). e.1) best.entries found.0 (x.0, x) x found.1 ∙ ap (λ (e : Held). e.1) found.2)
 
-  vertex_is : (x : Vertex) → IsSelected main (among edges) x → (o : Option Vertex) → IsGreatest main (among edges) x.0 o → o ≡ Some x
+  vertex_is : (x : Vertex) → IsSelected main (ending ends) x → (o : Option Vertex) → IsGreatest main (ending ends) x.0 o → o ≡ Some x
   vertex_is x r None g = absurd (r.not_main (g x r.is_end refl))
   vertex_is x r (Some v) g =
       let versions : v.1 ≡ x.1 = neither_above v.1 x.1 (r.greatest v g.1.is_end g.0) (g.1.greatest x r.is_end (sym g.0)) in
@@ -199,14 +179,14 @@ module _ (main : List ℕ) (replaces : List Replacing) (edges : List Edge) (best
       ∙ (greatest_at k held inside (held_same k (d.0, d) inside)).0
       ∙ sym (get_or-map (λ (h : Held). h.0) best.entries k (d.0, d) d.0 inside)
 
-  selected_at : (x : Vertex) → Contains (map (λ (h : Held). h.1) best.entries) x → IsSelected main (among edges) x
+  selected_at : (x : Vertex) → Contains (map (λ (h : Held). h.1) best.entries) x → IsSelected main (ending ends) x
   selected_at x (k, below, at) =
       let inside : k < length best.entries = rw length-map at below in
       let held : Held = get_or best.entries k (x.0, x) in
       let is : held.1 ≡ x = sym (get_or-map (λ (h : Held). h.1) best.entries k (x.0, x) x inside) ∙ at in
-      subst (λ (y : Vertex). IsSelected main (among edges) y) is (greatest_at k held inside (held_same k (x.0, x) inside)).1
+      subst (λ (y : Vertex). IsSelected main (ending ends) y) is (greatest_at k held inside (held_same k (x.0, x) inside)).1
 
-  pub built : IsBuildList main replaces (among edges) (main_entry ∷ map (entry_of replaces) (map (λ held. held.1) best.entries))
+  pub built : IsBuildList main replaces (ending ends) (main_entry ∷ map (entry_of replaces) (map (λ held. held.1) best.entries))
   built = record {
     selected = map (λ held. held.1) best.entries;
     entries_are = refl;
@@ -221,25 +201,25 @@ module _ (main : List ℕ) (replaces : List Replacing) (edges : List Edge) (best
     );
   }
 
--- ---- there is a greatest version of each path that edges end at
+-- ---- there is a greatest version of each path that ends have
 
-abbrev pub Bests : List ℕ → List Edge → Type 0
-Bests main edges = (best : List ℕ → Option Vertex) × ((path : List ℕ) → IsGreatest main (among edges) path (best path))
+abbrev pub Bests : List ℕ → List Vertex → Type 0
+Bests main ends = (best : List ℕ → Option Vertex) × ((path : List ℕ) → IsGreatest main (ending ends) path (best path))
 
-one_best : (main : List ℕ) (done : List Edge) (e : Edge) → Bests main done → Bests main (done ++ e ∷ [])
-one_best main done e (best, g) = of_main (bytes_eq e.to.0 main) refl
+one_best : (main : List ℕ) (done : List Vertex) (e : Vertex) → Bests main done → Bests main (done ++ e ∷ [])
+one_best main done e (best, g) = of_main (bytes_eq e.0 main) refl
   where
-    above : (b : Bool) → is_above e.to (best e.to.0) ≡ b → e.to.0 ≢ main → Bests main (done ++ e ∷ [])
-    above true is apart = ((λ q. cond (is_eq (slice_cmp nat_cmp e.to.0 q)) (Some e.to) (best q)), λ path. greatest_insert main done path e best (λ q. cond (is_eq (slice_cmp nat_cmp e.to.0 q)) (Some e.to) (best q)) (λ q. refl) apart is (g path))
+    above : (b : Bool) → is_above e (best e.0) ≡ b → e.0 ≢ main → Bests main (done ++ e ∷ [])
+    above true is apart = ((λ q. cond (is_eq (slice_cmp nat_cmp e.0 q)) (Some e) (best q)), λ path. greatest_insert main done path e best (λ q. cond (is_eq (slice_cmp nat_cmp e.0 q)) (Some e) (best q)) (λ q. refl) apart is (g path))
     above false is apart = (best, λ path. greatest_stays main done path e best is (g path))
 
-    of_main : (b : Bool) → bytes_eq e.to.0 main ≡ b → Bests main (done ++ e ∷ [])
-    of_main true is = (best, λ path. greatest_main main done path e (best path) ((bytes_eq-Decides e.to.0 main).0 is) (g path))
-    of_main false is = above (is_above e.to (best e.to.0)) refl (λ same. false≢true (sym is ∙ (bytes_eq-Decides e.to.0 main).1 same))
+    of_main : (b : Bool) → bytes_eq e.0 main ≡ b → Bests main (done ++ e ∷ [])
+    of_main true is = (best, λ path. greatest_main main done path e (best path) ((bytes_eq-Decides e.0 main).0 is) (g path))
+    of_main false is = above (is_above e (best e.0)) refl (λ same. false≢true (sym is ∙ (bytes_eq-Decides e.0 main).1 same))
 
-all_bests : (main : List ℕ) (done rest : List Edge) → Bests main done → Bests main (done ++ rest)
-all_bests main done [] b = subst (λ (l : List Edge). Bests main l) (sym (append-nil done)) b
-all_bests main done (e ∷ rest) b = subst (λ (l : List Edge). Bests main l) (append_assoc done (e ∷ []) rest) (all_bests main (done ++ e ∷ []) rest (one_best main done e b))
+all_bests : (main : List ℕ) (done rest : List Vertex) → Bests main done → Bests main (done ++ rest)
+all_bests main done [] b = subst (λ (l : List Vertex). Bests main l) (sym (append-nil done)) b
+all_bests main done (e ∷ rest) b = subst (λ (l : List Vertex). Bests main l) (append_assoc done (e ∷ []) rest) (all_bests main (done ++ e ∷ []) rest (one_best main done e b))
 
-pub bests : (main : List ℕ) (edges : List Edge) → Bests main edges
-bests main edges = all_bests main [] edges ((λ path. None), λ path y h. absurd (let there = h.1.1 in omega (arith, there)))
+pub bests : (main : List ℕ) (ends : List Vertex) → Bests main ends
+bests main ends = all_bests main [] ends ((λ path. None), λ path y h. absurd (let there = h.1.1 in omega (arith, there)))

@@ -13,16 +13,18 @@ use Rattle.std.proofs.lemmas.List.Elements.{Contains-append_right, Contains-get_
 use Rattle.gm_name.specs.Version.{version_cmp}
 use Rattle.gm_file.specs.Directives.{Replacing, Right}
 use Rattle.gm_file.specs.Fields.{replacement_of}
+use Rattle.gm_select.specs.declared.step.Edge.{Edge}
 use Rattle.gm_select.specs.declared.step.Step.{Step}
 use Rattle.gm_select.specs.declared.step.Step.TheVariants.{Main, Of}
 use Rattle.gm_select.specs.Graph.{Vertex, Edges, among, step_cmp}
 use Rattle.gm_select.specs.StepOrder.{step-anti, step_total}
 use Rattle.gm_select.specs.BuildList.{Entry, IsAt, IsBuildList, IsEntryOf, IsSelected, entry_of, main_entry, path_cmp, path_of}
-use Rattle.gm_select.specs.Greatest.{IsGreatest}
+use Rattle.gm_select.specs.Greatest.{IsGreatest, ending}
 use Rattle.gm_select.specs.Chains.{at_main, along, IsBefore, IsChain, begins, goes_on, IsLevel, IsReached, IsRooted}
 use Rattle.gm_select.specs.Laws.{ArePages, no_more, one_more, joined, ChainIsShortest, EntriesAreReached, MainIsFirst, OneBuildList, OneChain, OneRest, PagesExist, PagesJoin, RowsAreEnds, RowsSatisfy}
 use Rattle.gm_select.proofs.Ascending.{less_itself, member_cases, member_head, member_tail, pairs_split, same_lists}
 use Rattle.gm_select.proofs.Greatest.{bests}
+use Rattle.gm_select.proofs.Same.{EndAlike, alike_selected, ending_ends, ends_alike, ends_of}
 use Rattle.gm_select.proofs.RestRows.{one_at, one_entry}
 
 path_total : IsTotalOrder path_cmp
@@ -94,11 +96,17 @@ pub rows_are_ends : RowsAreEnds
 rows_are_ends main replaces edges entries list x right there = (row_selected main replaces (among edges) entries list x right there).is_end
 
 pub rows_satisfy : RowsSatisfy
-rows_satisfy main replaces edges entries list y end apart = go ((bests main edges).0 y.0) ((bests main edges).1 y.0)
+rows_satisfy main replaces edges entries list y end apart = go ((bests main ends).0 y.0) ((bests main ends).1 y.0)
   where
-    go : (o : Option Vertex) → IsGreatest main (among edges) y.0 o → (x : Vertex) × (right : Option Right) × Contains entries (Of x, right) × (x.0 ≡ y.0) × (is_gt (version_cmp y.1 x.1) ≡ false)
-    go None g = absurd (apart (g y end refl))
-    go (Some x) (is, selected) = (x, replacement_of replaces x, selected_row main replaces (among edges) entries list x selected, is, selected.greatest y end (sym is))
+    ends : List Vertex
+    ends = map (λ (e : Edge). e.to) edges
+
+    alike : EndAlike (ending ends) (among edges)
+    alike = ends_alike ends (ending ends) (among edges) (ending_ends ends) (ends_of edges)
+
+    go : (o : Option Vertex) → IsGreatest main (ending ends) y.0 o → (x : Vertex) × (right : Option Right) × Contains entries (Of x, right) × (x.0 ≡ y.0) × (is_gt (version_cmp y.1 x.1) ≡ false)
+    go None g = absurd (apart (g y ((alike y).1 end) refl))
+    go (Some x) (is, selected) = (x, replacement_of replaces x, selected_row main replaces (among edges) entries list x (alike_selected main (ending ends) (among edges) alike x selected), is, selected.greatest y ((alike y).1 end) (sym is))
 
 pub same_build_lists : (main : List ℕ) (replaces : List Replacing) (E : Edges) (a b : List Entry) → IsBuildList main replaces E a → IsBuildList main replaces E b → a ≡ b
 same_build_lists main replaces E a b x y =

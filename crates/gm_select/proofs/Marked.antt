@@ -10,7 +10,7 @@ use Rattle.gm_select.specs.Graph.{Vertex, vertex_cmp}
 use Rattle.gm_select.specs.StepOrder.{vertex-anti}
 use Rattle.gm_select.specs.VertexSet.{marked, marked_cmp, number_of}
 
-pub tie : (r : Ordering) → is_eq r ≡ true → r ≡ Equal
+tie : (r : Ordering) → is_eq r ≡ true → r ≡ Equal
 tie Less h = absurd (cc h)
 tie Equal h = refl
 tie Greater h = absurd (cc h)

@@ -1,6 +1,6 @@
 -- The module graph: its vertices are module paths at versions, and its edges go from the main module or a vertex to a vertex that it
 -- requires (Go Modules Reference, "Minimal version selection").
-use Rattle.std.specs.Prelude.{ℕ, List, Contains}
+use Rattle.std.specs.Prelude.{◌↔◌, ℕ, List, Contains}
 use Rattle.std.specs.declared.cmp.Ordering.{Ordering}
 use Rattle.std.specs.declared.cmp.Ordering.TheVariants.{Less, Equal, Greater}
 use Rattle.std.specs.Ordering.{nat_cmp, ordering_then}
@@ -28,6 +28,10 @@ among edges s y = Contains edges (edge s y)
 -- an edge ends at the vertex
 abbrev pub IsEnd : Edges → Vertex → Type 0
 IsEnd edges x = (s : Step) × edges s x
+
+-- the list has the vertices that edges end at, and no others
+abbrev pub AreEnds : List Vertex → Edges → Type 0
+AreEnds ends edges = (x : Vertex) → Contains ends x ↔ IsEnd edges x
 
 -- the order of vertices: by the bytes of the path, and then by the version
 abbrev pub vertex_cmp : Vertex → Vertex → Ordering

@@ -1,11 +1,8 @@
--- The vertex with the greatest version of a path among the ends of some edges.
-use Rattle.std.specs.Prelude.{◌≡◌, ℕ, Bool, true, List, Option, Some, None}
+-- The vertex with the greatest version of a path that some edges end at.
+use Rattle.std.specs.Prelude.{◌≡◌, ℕ, Bool, true, List, Option, Some, None, Contains}
 use Rattle.std.specs.Ordering.{is_gt}
 use Rattle.gm_name.specs.Version.{version_cmp}
-use Rattle.gm_select.specs.declared.step.Edge.{Edge}
-use Rattle.gm_select.specs.declared.vertex_set.VertexSet.{VertexSet}
-use Rattle.gm_select.specs.Graph.{Vertex, Edges, IsEnd, among}
-use Rattle.gm_select.specs.VertexSet.{has}
+use Rattle.gm_select.specs.Graph.{Vertex, Edges, IsEnd}
 use Rattle.gm_select.specs.BuildList.{IsSelected}
 
 -- none where no edge ends at the path, or where it is the main module's
@@ -18,6 +15,6 @@ abbrev pub is_above : Vertex → Option Vertex → Bool
 is_above x None = true
 is_above x (Some held) = is_gt (version_cmp x.1 held.1)
 
--- an edge ends at each vertex of the set
-abbrev pub AreEnds : VertexSet → List Edge → Type 0
-AreEnds seen edges = (x : Vertex) → has seen x ≡ true → IsEnd (among edges) x
+-- every step leads to each vertex of the list: these are edges with no other ends
+abbrev pub ending : List Vertex → Edges
+ending ends s y = Contains ends y

@@ -1,17 +1,16 @@
 //! Minimal version selection.
 
-ghost use Rattle.std.specs.Prelude.{◌≡◌, ◌++◌, ◌∷◌, [], not, List, ℕ, IfOk, OnOk, map};
+ghost use Rattle.std.specs.Prelude.{◌≡◌, ◌++◌, ◌∷◌, [], List, ℕ, IfOk, OnOk, map};
 ghost use Rattle.std.specs.Ordering.{nat_cmp};
 ghost use Rattle.std.specs.Cmp.Lexicographic.{slice_cmp};
 ghost use Rattle.std.specs.BTreeMap.{IsOrdered, get};
 ghost use Rattle.gm_select.specs.declared.step.Edge.{Edge};
-ghost use Rattle.gm_select.specs.Graph.{among};
-ghost use Rattle.gm_select.specs.Greatest.{AreEnds, IsGreatest, is_above};
+ghost use Rattle.gm_select.specs.Graph.{AreEnds, Vertex, among};
+ghost use Rattle.gm_select.specs.Greatest.{IsGreatest, ending, is_above};
 ghost use Rattle.gm_select.specs.BuildList.{IsBuildList, entries_seen, entry_of, entry_seen, main_entry, main_path, main_replaces};
 
 use crate::row::Row;
-use crate::step::{Edge, Step};
-use crate::vertex_set::VertexSet;
+use crate::step::Step;
 use gm_file::MainFile;
 use gm_name::{ModPath, ModVer, NoMemory};
 use std::alloc::{AllocError, Global};
@@ -27,43 +26,24 @@ fn is_above(best: &BTreeMap<ModPath, ModVer>, vertex: &ModVer) -> bool
     }
 }
 
-// Takes the end of one more edge into account, at which no other has ended.
-fn count_new(
-    alloc: Global,
-    best: &mut BTreeMap<ModPath, ModVer>,
-    main: &ModPath,
-    next: &Edge,
-) -> Result<(), AllocError>
-    ensures { OnOk result ((edges : List Edge) (path : List ℕ) → IsGreatest main.now (among edges) path (get (slice_cmp nat_cmp) best.old path) → IsGreatest main.now (among (edges ++ next.now ∷ [])) path (get (slice_cmp nat_cmp) best.new path)) }
-{
-    let vertex = &next.to;
-    if *vertex.path() == *main {
-        return Ok(());
-    }
-    if !is_above(best, vertex) {
-        return Ok(());
-    }
-    let path = vertex.path().copy(alloc)?;
-    let held = vertex.copy(alloc)?;
-    best.insert(path, held)?;
-    Ok(())
-}
-
-// Takes the end of one more edge into account. Many edges end at one vertex, which is looked at once.
+// Takes one more vertex that edges end at into account.
 fn count_in(
     alloc: Global,
     best: &mut BTreeMap<ModPath, ModVer>,
-    seen: &mut VertexSet,
     main: &ModPath,
-    next: &Edge,
+    end: &ModVer,
 ) -> Result<(), AllocError>
-    ensures greatest { OnOk result ((edges : List Edge) (path : List ℕ) → AreEnds seen.old edges → IsGreatest main.now (among edges) path (get (slice_cmp nat_cmp) best.old path) → IsGreatest main.now (among (edges ++ next.now ∷ [])) path (get (slice_cmp nat_cmp) best.new path)) }
-    ensures seen { OnOk result ((edges : List Edge) → AreEnds seen.old edges → AreEnds seen.new (edges ++ next.now ∷ [])) }
+    ensures { OnOk result ((ends : List Vertex) (path : List ℕ) → IsGreatest main.now (ending ends) path (get (slice_cmp nat_cmp) best.old path) → IsGreatest main.now (ending (ends ++ end.now ∷ [])) path (get (slice_cmp nat_cmp) best.new path)) }
 {
-    let is_new = seen.insert(alloc, &next.to)?;
-    if is_new {
-        count_new(alloc, best, main, next)?;
+    if *end.path() == *main {
+        return Ok(());
     }
+    if !is_above(best, end) {
+        return Ok(());
+    }
+    let path = end.path().copy(alloc)?;
+    let held = end.copy(alloc)?;
+    best.insert(path, held)?;
     Ok(())
 }
 
@@ -103,16 +83,16 @@ fn rows_of(
 
 /// The build list of a module graph (Go Modules Reference, "Minimal version selection"): first the main module, then each path that
 /// edges end at, other than the main module's, once, at the greatest version that an edge ends at, in ascending order of path bytes.
-/// With each row stands what the main file puts in its place.
+/// `ends` are the vertices that edges end at, in any order; a vertex may stand there more than once. With each row stands what the
+/// main file puts in its place.
 ///
-/// The only refusal is want of memory. It takes n log n steps for n edges.
-pub fn build_list(alloc: Global, main: &MainFile<'_>, edges: &[Edge]) -> Result<Vec<Row>, NoMemory>
-    ensures { IfOk result (λ rows. IsBuildList (main_path main.now) (main_replaces main.now) (among edges.now) (entries_seen rows.items)) }
+/// The only refusal is want of memory. It takes n log n steps for n ends.
+pub fn build_list(alloc: Global, main: &MainFile<'_>, ends: &[ModVer]) -> Result<Vec<Row>, NoMemory>
+    ensures { IfOk result (λ rows. (edges : List Edge) → AreEnds ends.now (among edges) → IsBuildList (main_path main.now) (main_replaces main.now) (among edges) (entries_seen rows.items)) }
 {
     let mut best = BTreeMap::new(alloc);
-    let mut seen = VertexSet::new(alloc);
-    for next in edges {
-        count_in(alloc, &mut best, &mut seen, main.module(), next)?;
+    for end in ends {
+        count_in(alloc, &mut best, main.module(), end)?;
     }
     let rows = rows_of(alloc, main, best)?;
     Ok(rows)

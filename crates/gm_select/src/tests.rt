@@ -78,14 +78,44 @@ fn edges(alloc: Global, arcs: &'static [Arc]) -> Option<Vec<Edge>>
     Some(edges)
 }
 
-fn rows(alloc: Global, main: &str, edges: &[Edge]) -> Option<Vec<Row>> {
+// The vertex that each edge ends at.
+fn ends(alloc: Global, edges: &[Edge]) -> Option<Vec<ModVer>> {
+    let mut ends = Vec::new(alloc);
+    for edge in edges {
+        let Ok(end) = edge.to.copy(alloc) else {
+            return None;
+        };
+        if ends.push(end).is_err() {
+            return None;
+        }
+    }
+    Some(ends)
+}
+
+fn vertices(alloc: Global, names: &'static [Name]) -> Option<Vec<ModVer>> {
+    let mut vertices = Vec::new(alloc);
+    for (path, version) in names {
+        let vertex = vertex(alloc, path, version)?;
+        if vertices.push(vertex).is_err() {
+            return None;
+        }
+    }
+    Some(vertices)
+}
+
+fn rows_of(alloc: Global, main: &str, ends: &[ModVer]) -> Option<Vec<Row>> {
     let Ok(doc) = Doc::parse(alloc, main.as_bytes()) else {
         return None;
     };
     let Ok(file) = MainFile::read(alloc, doc) else {
         return None;
     };
-    build_list(alloc, &file, edges).ok()
+    build_list(alloc, &file, ends).ok()
+}
+
+fn rows(alloc: Global, main: &str, edges: &[Edge]) -> Option<Vec<Row>> {
+    let ends = ends(alloc, edges)?;
+    rows_of(alloc, main, &ends)
 }
 
 fn is_step(step: &Step, path: &str, version: &str) -> bool {
@@ -147,6 +177,13 @@ fn gives_rows(
 ) -> Option<bool> {
     let edges = edges(alloc, arcs)?;
     let rows = rows(alloc, main, &edges)?;
+    Some(are_rows(&rows, lines))
+}
+
+// Whether the ends give these rows.
+fn ends_give_rows(alloc: Global, names: &'static [Name], lines: &'static [Line]) -> Option<bool> {
+    let ends = vertices(alloc, names)?;
+    let rows = rows_of(alloc, MAIN, &ends)?;
     Some(are_rows(&rows, lines))
 }
 
@@ -302,6 +339,33 @@ const LISTS: &[(&'static str, &'static [Arc], &'static [Line])] = &[
     ),
 ];
 
+// The same ends in two orders, in the second of which two stand twice.
+const ORDERS: &[&[Name]] = &[
+    &[
+        ("a", "v1.0.0"),
+        ("b", "v1.0.0"),
+        ("c", "v1.9.0"),
+        ("c", "v1.10.0"),
+        ("m", "v0.9.0"),
+    ],
+    &[
+        ("c", "v1.10.0"),
+        ("m", "v0.9.0"),
+        ("b", "v1.0.0"),
+        ("c", "v1.9.0"),
+        ("c", "v1.10.0"),
+        ("a", "v1.0.0"),
+        ("c", "v1.9.0"),
+    ],
+];
+
+const ORDERED: &[Line] = &[
+    ("", "", "", ""),
+    ("a", "v1.0.0", "", ""),
+    ("b", "v1.0.0", "", ""),
+    ("c", "v1.10.0", "", ""),
+];
+
 const RESTS: &[(
     &'static [Arc],
     &'static str,
@@ -388,6 +452,17 @@ fn lists(rt: HostRuntime) -> Result<(), Fail> {
     for (main, arcs, lines) in LISTS {
         let answer = gives_rows(rt.alloc(), main, arcs, lines);
         assert!(rt; holds(answer, &mut refusals), "{main}");
+    }
+    assert!(rt; refusals < 2);
+    Ok(())
+}
+
+#[test]
+fn orders(rt: HostRuntime) -> Result<(), Fail> {
+    let mut refusals = 0;
+    for names in ORDERS {
+        let answer = ends_give_rows(rt.alloc(), names, ORDERED);
+        assert!(rt; holds(answer, &mut refusals));
     }
     assert!(rt; refusals < 2);
     Ok(())

@@ -1,11 +1,14 @@
-use Rattle.std.proofs.Common.{◌∙◌, sym, ap, subst, List, Err}
+use Rattle.std.proofs.Common.{◌∙◌, ◌++◌, sym, ap, subst, Bool, List, Err}
 use Rattle.gm_cache.specs.Cached.{held_of, main_in}
 use Rattle.gm_cache.specs.declared.depth.Depth.TheVariants.{Deep}
+use Rattle.gm_cache.specs.declared.depth.Turn.{Turn}
 use Rattle.gm_cache.specs.Main.{Vertex}
+use Rattle.gm_cache.specs.Reading.{requirements_of}
+use Rattle.gm_cache.specs.Turns.{turn}
 use Rattle.gm_graph.specs.declared.gathering.Gathered.{Gathered}
 use Rattle.gm_graph.specs.Following.{readings_in}
 use Rattle.gm_graph.specs.Gathering.{AddsEdges, edges_in, faults_in}
-use Rattle.gm_graph.specs.Turns.{AddsAll, OverflowsWith}
+use Rattle.gm_graph.specs.Turns.{AddsAll, Follows, OverflowsWith, leaves_with}
 use Rattle.gm_graph.proofs.Deepening.{follows_adds, follows_nothing}
 use Rattle.gm_graph.proofs.Turning.{finding_known, gathers_edges, gathers_no_edges}
 use Rattle.gm_graph.proofs.following.open_below.Goals as goal
@@ -16,12 +19,17 @@ returns-then-not-leads-clause-followed c =
     let main = main_in c.args.cache.now in
     let held = held_of c.args.cache.now in
     let turns = c.args.opening.now.turns.items in
+    let leaves = c.args.opening.now.leaves.items in
     let x = c.args.vertex.now in
     let d = c.args.depth in
     let found = c.args.finding.now in
     record {
-      opening = c.requires.opening;
-      follows = follows_nothing main (readings_in c.args.cache.now) turns x d (finding_known main held x found c.requires.finding) (sym c.in_ok-leads.ensures ∙ c.if-not-leads.true);
+      opening = c.in_ok-add_leaves.ensures.opening;
+      follows = subst (λ (ts : List Turn). Follows main (readings_in c.args.cache.now) turns ts (turn x d)) (sym c.in_ok-add_leaves.ensures.turns)
+          (follows_nothing main (readings_in c.args.cache.now) turns x d (finding_known main held x found c.requires.finding) (sym c.in_ok-leads.ensures ∙ c.if-not-leads.true));
+      leaves = c.in_ok-add_leaves.ensures.leaves
+          ∙ ap (λ (ys : List Vertex). leaves ++ ys) c.in_ok-lent.ensures.lent
+          ∙ ap (λ (b : Bool). leaves_with b leaves (requirements_of main (readings_in c.args.cache.now) x)) (sym (sym c.in_ok-leads.ensures ∙ c.if-not-leads.true));
       gathers = elim c.if-gathers.branch [
         | then-gathers+in_ok-add_edges w ↦
             gathers_edges main held turns x d found c.requires.finding c.args.gathered.now c.note.new.self c.if-gathers.gathered c.in_ok-note.ensures.faults c.in_ok-note.ensures.edges
@@ -39,6 +47,7 @@ returns-in-Ok-clause-followed c =
     let main = main_in c.args.cache.now in
     let held = held_of c.args.cache.now in
     let turns = c.args.opening.now.turns.items in
+    let leaves = c.args.opening.now.leaves.items in
     let x = c.args.vertex.now in
     let d = c.args.depth in
     let found = c.args.finding.now in
@@ -46,6 +55,7 @@ returns-in-Ok-clause-followed c =
       opening = c.in-Ok.ensures.opening;
       follows = follows_adds main (readings_in c.args.cache.now) turns c.add_all.new.self.turns.items x d (finding_known main held x found c.requires.finding) (sym c.in_ok-leads.ensures ∙ c.if-not-leads.false)
           (subst (λ (ys : List Vertex). AddsAll turns c.add_all.new.self.turns.items ys Deep) c.in_ok-lent.ensures.lent c.in-Ok.ensures.adds);
+      leaves = c.in-Ok.ensures.leaves ∙ ap (λ (b : Bool). leaves_with b leaves (requirements_of main (readings_in c.args.cache.now) x)) (sym (sym c.in_ok-leads.ensures ∙ c.if-not-leads.false));
       gathers = elim c.if-gathers.branch [
         | then-gathers+in_ok-add_edges w ↦
             gathers_edges main held turns x d found c.requires.finding c.args.gathered.now c.note.new.self c.if-gathers.gathered c.in_ok-note.ensures.faults c.in_ok-note.ensures.edges

@@ -4,9 +4,9 @@ use Rattle.gm_store.specs.Asked.{name_of}
 use Rattle.gm_sums.specs.declared.sums.SumTable.{SumTable}
 use Rattle.gm_cache.specs.Cached.{main_in}
 use Rattle.gm_cache.specs.Main.{Main, main_of}
-use Rattle.gm_graph.specs.Loading.{IsDue}
+use Rattle.gm_graph.specs.Loading.{AreTooMany, IsDue, Told}
 use Rattle.gm_graph.proofs.Dues.{asks_nothing}
-use Rattle.gm_graph.proofs.Loads.{gathered_rooted, loads_of, too_many_first}
+use Rattle.gm_graph.proofs.Loads.{gathered_ends, gathered_rooted, loads_of, too_many_first}
 use Rattle.gm_graph.proofs.loading.load.Goals as goal
 
 pub returns-in_err-required-clause-asks : goal.returns-in_err-required-clause-asks
@@ -30,8 +30,18 @@ returns-in_err-open_in_turn-clause-device g c = λ name e.
     (subst (λ (s : Option SumTable). IsDue (main_in c.new-cache.result) s pairs (name_of name)) c.new-cache.ensures.sums
     (c.in_err-open_in_turn.ensures.device name (ap Err (sym (rw e at c.from_residual-in_err-open_in_turn.ensures.1)))))
 
+pub returns-in_err-open_in_turn-clause-too_many : goal.returns-in_err-open_in_turn-clause-too_many
+returns-in_err-open_in_turn-clause-too_many g c = λ e.
+    let pairs = g.F.Files.asked c.open_in_turn.new.files in
+    subst (λ (m : Main). Told m (option_copied c.args.sums) pairs (AreTooMany m)) c.new-cache.ensures.main
+    (subst (λ (s : Option SumTable). Told (main_in c.new-cache.result) s pairs (AreTooMany (main_in c.new-cache.result))) c.new-cache.ensures.sums
+    (c.in_err-open_in_turn.ensures.too_many (ap Err (sym (rw e at c.from_residual-in_err-open_in_turn.ensures.1)))))
+
 pub put_together-requires : goal.put_together-requires
-put_together-requires g c = gathered_rooted _ _ _ c.open_in_turn.new.opening c.open_in_turn.new.gathered c.in_ok-open_in_turn.ensures.opened
+put_together-requires g c = record {
+  rooted = gathered_rooted _ _ _ c.open_in_turn.new.opening c.open_in_turn.new.gathered c.in_ok-open_in_turn.ensures.opened;
+  ends = gathered_ends _ _ _ c.open_in_turn.new.opening c.open_in_turn.new.gathered c.in_ok-open_in_turn.ensures.opened;
+}
 
 pub returns-clause-loaded : goal.returns-clause-loaded
 returns-clause-loaded g c =

@@ -11,7 +11,7 @@ use Rattle.gm_graph.proofs.loading.open_in_turn.Goals as goal
 
 pub turns-init : goal.turns-init
 turns-init g c = record {
-  state = first_step c.args.cache.now (g.F.Files.asked c.args.files.now) c.args.opening.now c.args.gathered.now c.requires.asked c.requires.knows c.requires.lent c.requires.opening c.requires.first c.requires.gathered;
+  state = first_step c.args.cache.now (g.F.Files.asked c.args.files.now) c.args.opening.now c.args.gathered.now c.requires.asked c.requires.knows c.requires.lent c.requires.opening c.requires.leaves c.requires.first c.requires.gathered;
   may = may_none _ _;
   same_store = λ n r h. h;
   refused = refl;

@@ -29,7 +29,7 @@ returns-clause-opening c =
     let x = c.args.vertex.now in
     let d = c.args.depth in
     let same = c.if-not-has_vertex.self in
-    let mid : Opening = record { turns = c.push_turn.new.turns; vertices = same.vertices; tops = same.tops; deeps = same.deeps } in
+    let mid : Opening = record { turns = c.push_turn.new.turns; vertices = same.vertices; leaves = same.leaves; tops = same.tops; deeps = same.deeps } in
     elim c.if-not-has_vertex.branch [
       | then-not-has_vertex+else-len-ge-MOST+in_ok-push_vertex w ↦
           let more = c.in_ok-mark.ensures.turns ∙ c.in_ok-push_turn.ensures ∙ ap (λ (o : Opening). o.turns.items ++ turn x d ∷ []) w.self-is in

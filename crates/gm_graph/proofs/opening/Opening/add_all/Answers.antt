@@ -1,4 +1,4 @@
-use Rattle.std.proofs.Common.{sym, ap, arith, Err, take, ◌∷◌, []}
+use Rattle.std.proofs.Common.{◌∙◌, sym, ap, arith, Err, take, ◌∷◌, []}
 use Rattle.gm_graph.proofs.Adding.{overflow_later, overflow_one}
 use Rattle.gm_graph.proofs.AddingAll.{adds_more, front_of, one_of}
 use Rattle.gm_graph.proofs.opening.Opening.add_all.Goals as goal
@@ -7,6 +7,7 @@ pub loop-y-preserved : goal.loop-y-preserved
 loop-y-preserved c = record {
   opening = c.in_ok-add.ensures.opening;
   adds = adds_more c.args.self.now.turns.items c.loop-y.self.turns.items c.add.new.self.turns.items c.args.list.now c.loop-y.y-index c.y-item.result c.args.depth (omega arith) c.y-item.is c.loop-y.invariant.adds c.in_ok-add.ensures.adds;
+  leaves = c.in_ok-add.ensures.leaves ∙ c.loop-y.invariant.leaves;
 }
 
 pub returns-in_err-add-clause-too_many : goal.returns-in_err-add-clause-too_many

@@ -1,4 +1,4 @@
-use Rattle.std.proofs.Common.{take}
+use Rattle.std.proofs.Common.{◌≡◌, take}
 use Rattle.gm_graph.specs.Marks.{IsOpening}
 use Rattle.gm_graph.specs.Turns.{AddsAll}
 use Rattle.gm_graph.proofs.opening.Opening.add_all.Given as goal
@@ -7,4 +7,5 @@ abbrev pub invariant-loop-y : goal.invariant-loop-y
 invariant-loop-y l = record {
   opening : IsOpening l.self;
   adds : AddsAll l.fn.self.turns.items l.self.turns.items (take l.y-index l.list) l.depth;
+  leaves : l.self.leaves.items ≡ l.fn.self.leaves.items;
 }
