@@ -46,9 +46,9 @@ pair-read path version p v q is-p sound-p is-v sound-v is-q fit =
     let f : version ≡ v = cc in
     (cc (ap (λ (x : List ℕ). Some (pair x version)) e, ap (λ (x : List ℕ). Some (pair p x)) f), rw is-q (pair-sound p v sound-p sound-v fit))
 
-pub pair-unfit : (path version p v : List ℕ) → Some path ≡ Some p → path_kinds p ≡ [] → Some version ≡ Some v → version_kinds v ≡ [] → ¬ (Fits p v)
-    → first (pair_kinds (path, version)) ≡ Some Misfit
-pair-unfit path version p v is-p sound-p is-v sound-v none =
-    let e : path ≡ p = cc in
-    let f : version ≡ v = cc in
-    rw (e, f) (pair-misfit p v sound-p sound-v none)
+-- two texts of which one is no name
+pub pair-bad-path : (path version : List ℕ) → ¬ (IsPath path) → first (pair_kinds (path, version)) ≡ Some BadPath
+pair-bad-path path version fails = rw (path-bad path fails) refl
+
+pub pair-bad-version : (path version : List ℕ) → IsPath path → ¬ (IsVersion version) → first (pair_kinds (path, version)) ≡ Some BadVersion
+pair-bad-version path version holds fails = rw (path-sound path holds, version-bad version fails) refl

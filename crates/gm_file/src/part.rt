@@ -14,7 +14,7 @@ ghost use Rattle.gm_file.specs.Views.{interval_seen, texts_seen};
 
 use crate::fault::{DirectiveKind, LineFault};
 use crate::replace::Interval;
-use gm_name::{KnownNames, ModPath, ModVer, ModVersion, PathFault, VersionFault};
+use gm_name::{KnownNames, ModPath, ModVer, ModVersion, PairFault, PathFault, VersionFault};
 use gm_syntax::token::Token;
 use gm_syntax::word::Kind;
 use std::alloc::Global;
@@ -110,16 +110,15 @@ fn pair_of_texts(
 ) -> Result<ModVer, LineFault>
     ensures { IsRead (λ pair. pair) DirectiveKind.WrongArguments pair_kinds (Some (path.now, version.now)) result }
 {
-    if let Some(held) = names.pair(path, version) {
-        return Ok(held.copy(alloc)?);
+    match names.pair(alloc, path, version) {
+        Ok(pair) => Ok(pair),
+        Err(fault) => match fault {
+            PairFault::NoMemory => Err(LineFault::NoMemory),
+            PairFault::BadPath => Err(LineFault::Kind(DirectiveKind::BadPath)),
+            PairFault::BadVersion => Err(LineFault::Kind(DirectiveKind::BadVersion)),
+            PairFault::Misfit => Err(LineFault::Kind(DirectiveKind::Misfit)),
+        },
     }
-    let path = read_path(alloc, names, path)?;
-    let version = read_version(alloc, names, version)?;
-    let Some(pair) = ModVer::pair(path, version) else {
-        return Err(LineFault::Kind(DirectiveKind::Misfit));
-    };
-    names.keep_pair(alloc, &pair)?;
-    Ok(pair)
 }
 
 /// The path and the version of a `require` or an `exclude`.

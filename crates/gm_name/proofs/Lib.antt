@@ -2,6 +2,7 @@ pub mod Escapes
 pub mod Majors
 pub mod Marks
 pub mod Numbers
+pub mod PairFaults
 pub mod Paths
 pub mod Stamps
 pub mod Tails

@@ -5,6 +5,7 @@ pub mod Fit
 pub mod Laws
 pub mod Names
 pub mod Number
+pub mod PairFaults
 pub mod Path
 pub mod Precedence
 pub mod Pseudo

@@ -4,6 +4,8 @@ ghost use Rattle.std.specs.Prelude.{◌≡◌, ◌↔◌, IfOk, IfSome, IsErrOf}
 ghost use Rattle.gm_name.specs.Fit.{Fits};
 ghost use Rattle.gm_name.specs.Path.{IsPath};
 ghost use Rattle.gm_name.specs.Version.{IsNotCanonical, IsSemVer, IsVersion};
+ghost use Rattle.gm_name.specs.PairFaults.{of_path, of_version};
+ghost use Rattle.gm_name.specs.declared.known.PairFault.TheVariants as pair;
 
 use crate::fit::ModVer;
 use crate::fnv::fingerprint;
@@ -11,6 +13,55 @@ use crate::path::{ModPath, PathFault};
 use crate::version::{ModVersion, VersionFault};
 use std::alloc::{AllocError, Global};
 use std::collections::BTreeMap;
+use thiserror::Error;
+
+/// Why `KnownNames::pair` gave no pair.
+#[derive(Clone, Copy, Debug, PartialEq, Eq, Error)]
+pub enum PairFault {
+    /// Memory ran out.
+    #[error("out of memory")]
+    NoMemory,
+    /// The first text is no module path.
+    #[error("not a module path")]
+    BadPath,
+    /// The second text is no version.
+    #[error("not a version")]
+    BadVersion,
+    /// The version doesn't fit the path.
+    #[error("the version does not fit the path")]
+    Misfit,
+}
+
+impl From<AllocError> for PairFault {
+    ghost from_gives = { λ _ fault. fault ≡ pair.NoMemory };
+
+    fn from(_error: AllocError) -> PairFault {
+        PairFault::NoMemory
+    }
+}
+
+impl From<PathFault> for PairFault {
+    ghost from_gives = { λ path fault. fault ≡ of_path path };
+
+    fn from(fault: PathFault) -> PairFault {
+        match fault {
+            PathFault::NoMemory => PairFault::NoMemory,
+            PathFault::BadPath => PairFault::BadPath,
+        }
+    }
+}
+
+impl From<VersionFault> for PairFault {
+    ghost from_gives = { λ version fault. fault ≡ of_version version };
+
+    fn from(fault: VersionFault) -> PairFault {
+        match fault {
+            VersionFault::NoMemory => PairFault::NoMemory,
+            VersionFault::BadVersion => PairFault::BadVersion,
+            VersionFault::NotCanonical => PairFault::BadVersion,
+        }
+    }
+}
 
 /// Paths, versions and pairs of them that were read before, for whoever reads many names of which most are equal: what is
 /// read again shares the memory of what was read first, and is not tested again.
@@ -49,8 +100,8 @@ impl KnownNames {
         }
     }
 
-    /// The pair of a path and a version that fits it which these texts spell, if it was kept. The call takes no memory.
-    pub fn pair(&self, path: &str, version: &str) -> Option<&ModVer>
+    // The pair that these texts spell, if it was kept.
+    fn known_pair(&self, path: &str, version: &str) -> Option<&ModVer>
         ensures pair { IfSome result (λ pair. pair.now ≡ (path.now, version.now)) }
         ensures path { IfSome result (λ pair. IsPath path.now) }
         ensures version { IfSome result (λ pair. IsVersion version.now) }
@@ -65,11 +116,34 @@ impl KnownNames {
         }
     }
 
-    /// Keeps a pair, where there is room, for whoever reads it again. The only refusal is want of memory.
-    pub fn keep_pair(&mut self, alloc: Global, pair: &ModVer) -> Result<(), AllocError> {
+    // Keeps a pair for whoever reads it again.
+    fn keep_pair(&mut self, alloc: Global, pair: &ModVer) -> Result<(), AllocError> {
         let start = pair.path().fingerprint();
         let number = fingerprint(start, pair.version().as_str());
         keep(&mut self.pairs, self.room, number, pair.copy(alloc)?)
+    }
+
+    /// The path and the version that two texts spell, as `path` and `version` read them and `ModVer::pair` puts them together.
+    ///
+    /// `BadPath` exactly where the first text is no module path; of two that are names, `Misfit` where the version doesn't fit
+    /// the path, and `BadVersion` where the second is no version, canonical or not.
+    pub fn pair(&mut self, alloc: Global, path: &str, version: &str) -> Result<ModVer, PairFault>
+        ensures pair { IfOk result (λ pair. pair ≡ (path.now, version.now)) }
+        ensures fit { IfOk result (λ pair. IsPath path.now × IsVersion version.now × Fits path.now version.now) }
+        ensures bad_path { IsErrOf result PairFault.BadPath ↔ ¬ (IsPath path.now) }
+        ensures bad_version { IsErrOf result PairFault.BadVersion → IsPath path.now × ¬ (IsVersion version.now) }
+        ensures misfit { IsErrOf result PairFault.Misfit → IsPath path.now × IsVersion version.now × ¬ (Fits path.now version.now) }
+    {
+        if let Some(held) = self.known_pair(path, version) {
+            return Ok(held.copy(alloc)?);
+        }
+        let path = self.path(alloc, path)?;
+        let version = self.version(alloc, version)?;
+        let Some(pair) = ModVer::pair(path, version) else {
+            return Err(PairFault::Misfit);
+        };
+        self.keep_pair(alloc, &pair)?;
+        Ok(pair)
     }
 
     /// The module path that a text spells, as `ModPath::parse` reads it.

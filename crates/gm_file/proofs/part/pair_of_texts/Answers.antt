@@ -1,16 +1,21 @@
-use Rattle.std.proofs.Common.{◌∙◌, refl}
-use Rattle.gm_file.proofs.PartKinds.{pair-read, pair-unfit, path-sound, version-sound}
+use Rattle.std.proofs.Common.{Err, ap, refl}
+use Rattle.gm_file.proofs.PartKinds.{pair-bad-path, pair-bad-version, pair-misfit, pair-read, path-sound, version-sound}
 use Rattle.gm_file.proofs.part.pair_of_texts.Goals as goal
 
-pub returns-in-Some : goal.returns-in-Some
-returns-in-Some c =
-    let path = c.args.path.now in
-    let version = c.args.version.now in
-    let known = c.in-Some.ensures in
-    pair-read _ _ _ _ _ refl (path-sound path known.path) refl (version-sound version known.version) (c.in_ok-copy.ensures ∙ known.pair) known.fit
+pub returns-in-Ok : goal.returns-in-Ok
+returns-in-Ok c =
+    let fit = c.in-Ok.ensures.fit in
+    pair-read _ _ _ _ _ refl (path-sound _ fit.0) refl (version-sound _ fit.1) c.in-Ok.ensures.pair fit.2
 
-pub returns-in_default-pair : goal.returns-in_default-pair
-returns-in_default-pair c = pair-unfit _ _ _ _ c.in_ok-path.ensures.0 c.in_ok-path.ensures.1 c.in_ok-version.ensures.0 c.in_ok-version.ensures.1 c.in_default-pair.ensures.none
+pub returns-in-BadPath : goal.returns-in-BadPath
+returns-in-BadPath c = pair-bad-path _ _ (c.in-Err.ensures.bad_path.0 (ap Err c.in-BadPath.is))
 
-pub returns : goal.returns
-returns c = pair-read _ _ _ _ _ c.in_ok-path.ensures.0 c.in_ok-path.ensures.1 c.in_ok-version.ensures.0 c.in_ok-version.ensures.1 c.in-Some-pair.ensures.some.0 c.in-Some-pair.ensures.some.1
+pub returns-in-BadVersion : goal.returns-in-BadVersion
+returns-in-BadVersion c =
+    let bad = c.in-Err.ensures.bad_version (ap Err c.in-BadVersion.is) in
+    pair-bad-version _ _ bad.0 bad.1
+
+pub returns-in-Misfit : goal.returns-in-Misfit
+returns-in-Misfit c =
+    let bad = c.in-Err.ensures.misfit (ap Err c.in-Misfit.is) in
+    pair-misfit _ _ (path-sound _ bad.0) (version-sound _ bad.1) bad.2

@@ -1,11 +1,26 @@
-use Rattle.std.proofs.Common.{◌≡◌, ◌∙◌, List, ℕ, subst, sym}
-use Rattle.std.proofs.lemmas.Slice.Eq.{bytes_eq-Decides}
+use Rattle.std.proofs.Common.{List, ℕ, refl, subst}
+use Rattle.std.proofs.lemmas.Result.{err_from_is_err_and}
+use Rattle.gm_name.proofs.PairFaults.{bad-version}
 use Rattle.gm_name.specs.Fit.{Fits}
 use Rattle.gm_name.proofs.known.KnownNames.pair.Goals as goal
 
-pub returns-then-eq-2-clause-fit : goal.returns-then-eq-2-clause-fit
-returns-then-eq-2-clause-fit c =
-    let held = c.in_ok-held.held.now in
-    let same_path : held.0 ≡ c.args.path.now = sym c.path.ensures.path ∙ sym c.as_str.ensures.text ∙ (bytes_eq-Decides _ _).0 (sym c.eq.ensures ∙ c.if-eq.true) in
-    let same_version : held.1 ≡ c.args.version.now = sym c.version.ensures ∙ sym c.as_str-then-eq.ensures.text ∙ (bytes_eq-Decides _ _).0 (sym c.eq-then-eq.ensures ∙ c.if-eq-2.true) in
-    subst (λ (p : List ℕ). Fits p c.args.version.now) same_path (subst (λ (v : List ℕ). Fits held.0 v) same_version c.path.ensures.fit)
+pub returns-in_err-version-clause-bad_version : goal.returns-in_err-version-clause-bad_version
+returns-in_err-version-clause-bad_version c =
+    let p = err_from_is_err_and c.from_residual-in_err-version.result c.from_residual-in_err-version.ensures.1 in
+    rw (p.1, p.2) (λ is. (c.in_ok-path.ensures.ok.1, bad-version c.in_err-version.field-0.0 _ refl is (λ e. (c.in_err-version.ensures.not_canonical e).1) (λ e. (c.in_err-version.ensures.bad e).0)))
+
+pub returns-in_default-pair-clause-misfit : goal.returns-in_default-pair-clause-misfit
+returns-in_default-pair-clause-misfit c = λ is. (
+  c.in_ok-path.ensures.ok.1,
+  c.in_ok-version.ensures.ok.1,
+  subst (λ (v : List ℕ). Fits c.args.path.now v → ⊥) c.in_ok-version.ensures.ok.0
+      (subst (λ (p : List ℕ). Fits p c.in_ok-version.version → ⊥) c.in_ok-path.ensures.ok.0 c.in_default-pair.ensures.none),
+)
+
+pub returns-clause-fit : goal.returns-clause-fit
+returns-clause-fit c = (
+  c.in_ok-path.ensures.ok.1,
+  c.in_ok-version.ensures.ok.1,
+  subst (λ (v : List ℕ). Fits c.args.path.now v) c.in_ok-version.ensures.ok.0
+      (subst (λ (p : List ℕ). Fits p c.in_ok-version.version) c.in_ok-path.ensures.ok.0 c.in-Some-pair.ensures.some.1),
+)
