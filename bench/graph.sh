@@ -1,13 +1,19 @@
 #!/usr/bin/env bash
 # Times `gomod list`, `graph` and `chain` over proxy folders of 1,000, 10,000 and 65,000 modules with five requirements each, of
 # 1,000 modules with 200 requirements each, over a chain 65,000 deep and a main file with 65,535 requirements, beside `cat` of the
-# same files, and, where there is a go command, `go list -m all` with a cold module cache (one run) and with a warm one, and
-# whether it prints the same bytes.
+# same files. Beside it, in the same run, where there is a Rust compiler, a plain Rust program (plain.rs), and where there is a go
+# command, `go list -m all` with a cold module cache (one run) and with a warm one, and whether they print the same bytes.
 set -euo pipefail
 cd "$(dirname "$0")/.."
 gomod=$(./build | tail -n 1)
 work=$(mktemp -d)
 trap 'rm -rf "$work"' EXIT
+
+plain=
+if command -v rustc > /dev/null; then
+  plain=$work/plain
+  rustc -O -o "$plain" bench/plain.rs
+fi
 
 # The same files at each run. A path has up to three versions, each a module of its own.
 python3 - "$work" << 'PY'
@@ -80,6 +86,17 @@ show() {
   tell "$what" "$modules" "$took" "$busy" "$memory"
 }
 
+# Whether a command prints what gomod lists.
+compare() {
+  local what=$1 root=$2
+  shift 2
+  if cmp -s <("$@") <("$gomod" list --mod "$root/go.mod" --proxy "$root/proxy"); then
+    echo "$what and gomod list print the same bytes"
+  else
+    echo "$what and gomod list print different bytes"
+  fi
+}
+
 # The go command beside it, over a copy of the main file, since it may write to that.
 show_go() {
   local name=$1 modules=$2 root=$work/$1 took busy memory status
@@ -91,11 +108,7 @@ show_go() {
   [ "$status" = 0 ] || { echo "go list -m all ended with status $status"; return; }
   tell "go list -m all, cold" "$modules" "$took" "$busy" "$memory"
   show "go list -m all, warm" "$modules" "${list[@]}"
-  if cmp -s <("${list[@]}") <("$gomod" list --mod "$root/go.mod" --proxy "$root/proxy"); then
-    echo "go list -m all and gomod list print the same bytes"
-  else
-    echo "go list -m all and gomod list print different bytes"
-  fi
+  compare "go list -m all" "$root" "${list[@]}"
 }
 
 for name in 1000 10000 65000 wide deep flat; do
@@ -107,6 +120,10 @@ for name in 1000 10000 65000 wide deep flat; do
   last=$("$gomod" list --mod "$root/go.mod" --proxy "$root/proxy" | tail -n 1 | cut -d ' ' -f 1)
   show "gomod chain" "$modules" "$gomod" chain "$last" --mod "$root/go.mod" --proxy "$root/proxy"
   show "cat" "$modules" sh -c 'find "$1" -name "*.mod" -exec cat {} +' cat "$root/proxy"
+  if [ -n "$plain" ]; then
+    show "plain program" "$modules" "$plain" "$root/go.mod" "$root/proxy"
+    compare "plain program" "$root" "$plain" "$root/go.mod" "$root/proxy"
+  fi
   if command -v go > /dev/null; then
     show_go "$name" "$modules"
   fi
