@@ -234,8 +234,8 @@ fn main_file<'a>(alloc: Global, text: &'a str) -> Option<MainFile<'a>> {
 // The words of what is found of a vertex.
 fn words(alloc: Global, finding: &Finding) -> Result<String, NoMemory> {
     match finding {
-        Finding::Sound(_) => String::from_str(alloc, "Sound"),
-        Finding::Fault(class) => fault_words(alloc, *class),
+        Finding::Sound(_) => Ok(String::from_str(alloc, "Sound")?),
+        Finding::Fault(class) => Ok(fault_words(alloc, *class)?),
     }
 }
 
@@ -320,19 +320,13 @@ fn lends_one(
     let Ok(finding) = cache.known(&mut files, &x) else {
         return None;
     };
-    match finding {
-        Finding::Fault(_) => Some(false),
-        Finding::Sound(name) => {
-            let Ok(unpruned) = cache.is_unpruned(&name) else {
-                return None;
-            };
-            let Ok(lent) = cache.lend(&x, Depth::Deep, Some(&name)) else {
-                return None;
-            };
-            let one = is_one(lent, &want);
-            Some(one && unpruned && cache.turns().len() == 1)
-        }
-    }
+    let Finding::Sound(name) = finding else {
+        return Some(false);
+    };
+    let unpruned = cache.is_unpruned(&name).ok()?;
+    let lent = cache.lend(&x, Depth::Deep, Some(&name)).ok()?;
+    let one = is_one(lent, &want);
+    Some(one && unpruned && cache.turns().len() == 1)
 }
 
 const EXCLUDES: &str = "module example.com/m\nexclude example.com/c v1.0.0\n";

@@ -69,7 +69,8 @@ fn gathers(
     }
 }
 
-/// Lends the requirements of a vertex: gathers its edges, and opens what they lead to.
+/// Lends the requirements of a vertex: gathers its edges, and opens what they lead to, or, where the turn leads no further,
+/// adds them to the leaves.
 fn open_below(
     alloc: Global,
     cache: &mut Cache<'_>,

@@ -21,10 +21,22 @@ fn copies(alloc: Global, list: &[ModVer]) -> Result<Vec<ModVer>, AllocError>
     ensures { IfOk result (λ copied. copied.items ≡ list.now) }
 {
     let mut copied = Vec::with_capacity(alloc, list.len())?;
-    for y in list {
-        copied.push(y.copy(alloc)?)?;
-    }
+    push_copies(alloc, &mut copied, list)?;
     Ok(copied)
+}
+
+/// Puts copies of vertices at the end.
+pub(crate) fn push_copies(
+    alloc: Global,
+    vertices: &mut Vec<ModVer>,
+    list: &[ModVer],
+) -> Result<(), AllocError>
+    ensures { OnOk result (vertices.new.items ≡ vertices.old.items ++ list.now) }
+{
+    for y in list {
+        vertices.push(y.copy(alloc)?)?;
+    }
+    Ok(())
 }
 
 impl Leaving {

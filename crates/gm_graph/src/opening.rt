@@ -9,6 +9,7 @@ ghost use Rattle.gm_cache.specs.Turns.{turn};
 ghost use Rattle.gm_graph.specs.Marks.{IsOpening, marked};
 ghost use Rattle.gm_graph.specs.declared.opening.AddFault.TheVariants as add;
 
+use crate::leaving::push_copies;
 use gm_cache::{Depth, Turn};
 use gm_name::ModVer;
 use gm_select::VertexSet;
@@ -173,16 +174,6 @@ impl Opening {
         }
         Ok(ends)
     }
-}
-
-/// Puts copies of vertices at the end.
-fn push_copies(alloc: Global, vertices: &mut Vec<ModVer>, list: &[ModVer]) -> Result<(), AllocError>
-    ensures { OnOk result (vertices.new.items ≡ vertices.old.items ++ list.now) }
-{
-    for y in list {
-        vertices.push(y.copy(alloc)?)?;
-    }
-    Ok(())
 }
 
 /// Puts a copy of a vertex at the end.

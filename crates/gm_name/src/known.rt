@@ -91,7 +91,9 @@ fn keep<T: Drop>(
 
 impl KnownNames {
     /// No names, and room for that many paths, as many versions and as many pairs. It takes no memory before a name is kept.
-    pub fn new(alloc: Global, room: usize) -> KnownNames {
+    pub fn new(alloc: Global, room: usize) -> KnownNames
+        ensures { result.room ≡ room }
+    {
         KnownNames {
             room,
             paths: BTreeMap::new(alloc),
@@ -117,17 +119,24 @@ impl KnownNames {
     }
 
     // Keeps a pair for whoever reads it again.
-    fn keep_pair(&mut self, alloc: Global, pair: &ModVer) -> Result<(), AllocError> {
-        let start = pair.path().fingerprint();
-        let number = fingerprint(start, pair.version().as_str());
-        keep(&mut self.pairs, self.room, number, pair.copy(alloc)?)
+    fn keep_pair(&mut self, alloc: Global, pair: &ModVer) -> Result<(), AllocError>
+        ensures { self.new.room ≡ self.old.room }
+    {
+        keep(
+            &mut self.pairs,
+            self.room,
+            pair.fingerprint(),
+            pair.copy(alloc)?,
+        )
     }
 
     /// The path and the version that two texts spell, as `path` and `version` read them and `ModVer::pair` puts them together.
     ///
-    /// `BadPath` exactly where the first text is no module path; of two that are names, `Misfit` where the version doesn't fit
-    /// the path, and `BadVersion` where the second is no version, canonical or not.
+    /// `BadPath` exactly where the first text is no module path; else `BadVersion` where the second is no version, and of two that
+    /// are names `Misfit` where the version doesn't fit the path. Of two texts of which the first is a path `NoMemory` may come in
+    /// place of any answer.
     pub fn pair(&mut self, alloc: Global, path: &str, version: &str) -> Result<ModVer, PairFault>
+        ensures room { self.new.room ≡ self.old.room }
         ensures pair { IfOk result (λ pair. pair ≡ (path.now, version.now)) }
         ensures fit { IfOk result (λ pair. IsPath path.now × IsVersion version.now × Fits path.now version.now) }
         ensures bad_path { IsErrOf result PairFault.BadPath ↔ ¬ (IsPath path.now) }
@@ -150,6 +159,7 @@ impl KnownNames {
     ///
     /// `BadPath` exactly where the text is no module path.
     pub fn path(&mut self, alloc: Global, text: &str) -> Result<ModPath, PathFault>
+        ensures room { self.new.room ≡ self.old.room }
         ensures ok { IfOk result (λ path. (path ≡ text.now) × IsPath text.now) }
         ensures bad { IsErrOf result PathFault.BadPath ↔ ¬ (IsPath text.now) }
     {
@@ -168,6 +178,7 @@ impl KnownNames {
     ///
     /// `NotCanonical` and `BadVersion` come where they come there, and `NoMemory` only on versions, whatever their build.
     pub fn version(&mut self, alloc: Global, text: &str) -> Result<ModVersion, VersionFault>
+        ensures room { self.new.room ≡ self.old.room }
         ensures ok { IfOk result (λ version. (version ≡ text.now) × IsVersion text.now) }
         ensures not_canonical { IsErrOf result VersionFault.NotCanonical → IsNotCanonical text.now × ¬ (IsVersion text.now) }
         ensures bad { IsErrOf result VersionFault.BadVersion → ¬ (IsVersion text.now) × ¬ (IsNotCanonical text.now) }

@@ -6,7 +6,7 @@ ghost use Rattle.std.specs.BTreeSet as set;
 ghost use Rattle.gm_select.specs.Graph.{Vertex, vertex_cmp};
 ghost use Rattle.gm_select.specs.VertexSet.{has, marked};
 
-use gm_name::{ModVer, fingerprint};
+use gm_name::ModVer;
 use std::alloc::{AllocError, Global};
 use std::collections::BTreeSet;
 
@@ -23,9 +23,8 @@ impl Marked {
     fn new(alloc: Global, vertex: &ModVer) -> Result<Marked, AllocError>
         ensures { IfOk result (λ one. one ≡ marked vertex.now) }
     {
-        let start = vertex.path().fingerprint();
         Ok(Marked {
-            number: fingerprint(start, vertex.version().as_str()),
+            number: vertex.fingerprint(),
             vertex: vertex.copy(alloc)?,
         })
     }
