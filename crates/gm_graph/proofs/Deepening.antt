@@ -1,6 +1,6 @@
 -- Opened vertices under answers that grow, and turns that are all done.
 use Rattle.std.proofs.Common.{◌≡◌, true, false, List, [], Option, Some, None, IsSome, Result, Contains, ap, ◌∙◌, sym, refl, subst, inl, inr, arith, append-nil}
-use Rattle.std.proofs.lemmas.Bool.{false≢true}
+use Rattle.std.proofs.lemmas.Bool.{cases_Bool, false≢true}
 use Rattle.gm_file.specs.Fields.{Dependency}
 use Rattle.gm_cache.specs.Main.{Main, Vertex, is_pruned_by}
 use Rattle.gm_cache.specs.Reading.{Keeps, Readings, is_unpruned_in, requirements_in, requirements_of, said_in}
@@ -8,7 +8,7 @@ use Rattle.gm_cache.specs.declared.depth.Turn.{Turn}
 use Rattle.gm_cache.specs.declared.depth.Depth.{Depth}
 use Rattle.gm_cache.specs.declared.depth.Depth.TheVariants.{Top, Deep}
 use Rattle.gm_cache.specs.declared.class.Class.{Class}
-use Rattle.gm_graph.specs.Graph.{IsTop, IsDeep, from_main, from_top, from_deep, IsOpenedTo}
+use Rattle.gm_graph.specs.Graph.{IsTop, IsDeep, from_main, from_top, from_deep, TakesTurn}
 use Rattle.gm_graph.specs.Turns.{leads_on, leads_on_in, IsDone, AddsAll, Follows}
 use Rattle.gm_cache.specs.Turns.{turn}
 
@@ -32,12 +32,15 @@ module _ (main : Main) (a b : Readings) (keeps : Keeps a b) where
 
 -- turns of which each is done, and which begin as the main file says, have every vertex that is opened deeply
 pub IsDeep-among : (main : Main) (answers : Readings) (turns : List Turn)
-    → ((x : Vertex) → IsTop main x → Contains turns (turn x Top))
+    → (is_pruned_by main.go ≡ true → (x : Vertex) → IsTop main x → Contains turns (turn x Top))
     → (is_pruned_by main.go ≡ false → (x : Vertex) → IsTop main x → Contains turns (turn x Deep))
     → ((one : Turn) → Contains turns one → IsDone main answers turns one)
     → {x : Vertex} → IsDeep main answers x → Contains turns (turn x Deep)
 IsDeep-among main answers turns tops deeps done (from_main p t) = deeps p _ t
-IsDeep-among main answers turns tops deeps done (from_top {x} {y} t u r) = (done (turn x Top) (tops x t)).followed u y r
+IsDeep-among main answers turns tops deeps done (from_top {x} {y} t u r) = elim (cases_Bool (is_pruned_by main.go)) [
+  | inl pruned ↦ (done (turn x Top) (tops pruned x t)).followed u y r
+  | inr unpruned ↦ (done (turn x Deep) (deeps unpruned x t)).followed refl y r
+]
 IsDeep-among main answers turns tops deeps done (from_deep {x} {y} d r) = (done (turn x Deep) (IsDeep-among main answers turns tops deeps done d)).followed refl y r
 
 -- what a turn leads to was added
@@ -74,11 +77,11 @@ module _ (main : Main) (a b : Readings) (keeps : Keeps a b) where
         followed = λ leads y h. done.followed (subst (λ (o : Option (Result Dependency Class)). leads_on_in (said_in o) one.depth ≡ true) same leads) y (subst (λ (o : Option (Result Dependency Class)). Contains (requirements_in main (said_in o)) y) same h);
       }
 
-  pub IsTrueTurn-kept : (x : Vertex) (d : Depth) → IsOpenedTo main a x d → IsOpenedTo main b x d
+  pub IsTrueTurn-kept : (x : Vertex) (d : Depth) → TakesTurn main a x d → TakesTurn main b x d
   IsTrueTurn-kept x Top h = h
   IsTrueTurn-kept x Deep h = IsDeep-kept main a b keeps h
 
 -- what a true turn leads to is opened deeply
-pub leads_to_deep : (main : Main) (answers : Readings) (x : Vertex) (d : Depth) (y : Vertex) → IsOpenedTo main answers x d → leads_on answers x d ≡ true → Contains (requirements_of main answers x) y → IsDeep main answers y
-leads_to_deep main answers x Top y opened leads h = from_top opened leads h
-leads_to_deep main answers x Deep y opened leads h = from_deep opened h
+pub leads_to_deep : (main : Main) (answers : Readings) (x : Vertex) (d : Depth) (y : Vertex) → TakesTurn main answers x d → leads_on answers x d ≡ true → Contains (requirements_of main answers x) y → IsDeep main answers y
+leads_to_deep main answers x Top y taken leads h = from_top taken.1 leads h
+leads_to_deep main answers x Deep y taken leads h = from_deep taken h

@@ -1,12 +1,11 @@
 -- Gathering edges and faults.
-use Rattle.std.proofs.Common.{◌≡◌, ◌+◌, ◌<◌, ℕ, cond, zero, suc, length, get_or, take, Bool, List, [], ◌∷◌, ◌++◌, Option, Some, None, Contains, ap, ◌∙◌, sym, refl, subst, inl, inr, arith, append_assoc, append-nil}
+use Rattle.std.proofs.Common.{◌≡◌, cond, zero, suc, Bool, List, [], ◌∷◌, ◌++◌, Option, Some, None, Contains, ap, ◌∙◌, sym, refl, subst, inl, inr, arith, append_assoc, append-nil}
 use Rattle.std.specs.Prelude.{if◌then◌else◌}
 use Rattle.std.specs.BTreeMap as map
 use Rattle.std.specs.BTreeMap.{is_at}
 use Rattle.std.specs.Map.{lookup}
 use Rattle.std.specs.Ordering.{is_eq}
 use Rattle.std.specs.List.Sorted.{IsPermutation}
-use Rattle.std.proofs.lemmas.List.{take_more}
 use Rattle.std.proofs.lemmas.List.Elements.{Contains-append_cases, Contains-append_left, Contains-append_right}
 use Rattle.std.proofs.lemmas.List.Sorted.{Contains-permutation, IsPermutation-sym}
 use Rattle.gm_file.proofs.Sets.{pair-ties}
@@ -63,13 +62,9 @@ edges_none old x ys none = record {
   only = λ e h. inl h;
 }
 
-have_same : {X : Type 0} (xs ys : List X) → ys ≡ xs → HaveSame xs ys
-have_same {X} xs ys is x = ((λ h. subst (λ (l : List X). Contains l x) (sym is) h), (λ h. subst (λ (l : List X). Contains l x) is h))
-
 -- the edges of one more vertex
-pub edges_more : (old new : List Leaving) (one : Leaving) (x : Vertex) (ys : List Vertex) → new ≡ old ++ one ∷ [] → one.from ≡ Of x → one.to.items ≡ ys → AddsEdges (edges_of old) (edges_of new) x ys
-edges_more old new one x ys more from to =
-    let same : HaveSame ys one.to.items = have_same ys one.to.items to in
+pub edges_more : (old new : List Leaving) (one : Leaving) (x : Vertex) (ys : List Vertex) → new ≡ old ++ one ∷ [] → one.from ≡ Of x → HaveSame ys one.to.items → AddsEdges (edges_of old) (edges_of new) x ys
+edges_more old new one x ys more from same =
     let whole : edges_of new ≡ edges_of old ++ edges_from one = ap edges_of more ∙ edges_push old one in
     record {
       extends = (edges_from one, whole);
@@ -81,9 +76,8 @@ edges_more old new one x ys more from to =
       ];
     }
 
-pub main_gathered : (g : Gathered) (one : Leaving) (ys : List Vertex) → g.leaving.items ≡ one ∷ [] → one.from ≡ FromMain → one.to.items ≡ ys → g.faults.entries ≡ [] → (main : Main) (readings : Readings) → ys ≡ kept main main.requirements → AreGathered main readings (edges_in g) (faults_in g)
-main_gathered g one ys are from to none main readings is =
-    let same : HaveSame ys one.to.items = have_same ys one.to.items to in
+pub main_gathered : (g : Gathered) (one : Leaving) (ys : List Vertex) → g.leaving.items ≡ one ∷ [] → one.from ≡ FromMain → HaveSame ys one.to.items → g.faults.entries ≡ [] → (main : Main) (readings : Readings) → ys ≡ kept main main.requirements → AreGathered main readings (edges_in g) (faults_in g)
+main_gathered g one ys are from same none main readings is =
     let whole : edges_in g ≡ edges_from one = ap edges_of are ∙ append-nil (edges_from one) in
     record {
       from_main = λ y t. subst (λ (es : List Edge). Contains es (edge FromMain y)) (sym whole)
@@ -114,32 +108,3 @@ edges_permuted old new same e = (along old new same, along new old (IsPermutatio
   where
     along : (a b : List Leaving) → IsPermutation a b → Contains (edges_of a) e → Contains (edges_of b) e
     along a b is h = let (one, there, at) = edges_only a e h in edges_each b one e (Contains-permutation a b one is there) at
-
--- ---- copies of groups, each in another order
-
-append_same : (a b c d : List Edge) → HaveSame a b → HaveSame c d → HaveSame (a ++ c) (b ++ d)
-append_same a b c d same other e = (along a b c d (λ h. (same e).0 h) (λ h. (other e).0 h), along b a d c (λ h. (same e).1 h) (λ h. (other e).1 h))
-  where
-    along : (p q r s : List Edge) → (Contains p e → Contains q e) → (Contains r e → Contains s e) → Contains (p ++ r) e → Contains (q ++ s) e
-    along p q r s f g h = elim (Contains-append_cases p r e h) [
-      | inl here ↦ Contains-append_left q s e (f here)
-      | inr later ↦ Contains-append_right q s e (g later)
-    ]
-
-from_same : (old new : Leaving) → new.from ≡ old.from → HaveSame old.to.items new.to.items → HaveSame (edges_from old) (edges_from new)
-from_same old new from same e = (
-  (λ h. let found = from_only old e h in
-      subst (λ (a : Edge). Contains (edges_from new) a) (ap (λ (s : Step). edge s found.0) from ∙ sym found.2) (from_each new found.0 ((same found.0).0 found.1))),
-  (λ h. let found = from_only new e h in
-      subst (λ (a : Edge). Contains (edges_from old) a) (ap (λ (s : Step). edge s found.0) (sym from) ∙ sym found.2) (from_each old found.0 ((same found.0).1 found.1))),
-)
-
--- one more copy
-pub copies_more : (old copied more : List Leaving) (one copy : Leaving) → more ≡ copied ++ copy ∷ [] → HaveSame (edges_of old) (edges_of copied) → copy.from ≡ one.from → HaveSame one.to.items copy.to.items → HaveSame (edges_of (old ++ one ∷ [])) (edges_of more)
-copies_more old copied more one copy is same from to =
-    subst (λ (es : List Edge). HaveSame es (edges_of more)) (sym (edges_push old one))
-    (subst (λ (es : List Edge). HaveSame (edges_of old ++ edges_from one) es) (sym (ap edges_of is ∙ edges_push copied copy))
-    (append_same (edges_of old) (edges_of copied) (edges_from one) (edges_from copy) same (from_same one copy from to)))
-
-pub take_one : {X : Type 0} (xs : List X) (i : ℕ) (x : X) → i < length xs → x ≡ get_or xs i x → take i xs ++ x ∷ [] ≡ take (i + 1) xs
-take_one {X} xs i x below is = sym (take_more xs i x below ∙ ap (λ (y : X). take i xs ++ y ∷ []) (sym is))

@@ -5,7 +5,7 @@ use Rattle.std.specs.List.{IsDistinct, list_any}
 use Rattle.std.specs.Cmp.{IsEquivalence}
 use Rattle.std.specs.Cmp.Derive.{both_true}
 use Rattle.std.specs.Str.{bytes_eq}
-use Rattle.std.proofs.lemmas.Bool.{false≢true}
+use Rattle.std.proofs.lemmas.Bool.{cases_Bool, false≢true}
 use Rattle.std.proofs.lemmas.Cmp.{nat_list_eq_equiv}
 use Rattle.std.proofs.lemmas.Map.Keys.{IsDistinct-push}
 use Rattle.std.proofs.lemmas.Map.Made.{length-le_from_is_member, is_member-Decides}
@@ -17,11 +17,11 @@ use Rattle.gm_cache.specs.declared.class.Class.{Class}
 use Rattle.gm_cache.specs.declared.depth.Turn.{Turn}
 use Rattle.gm_cache.specs.declared.depth.Depth.{Depth}
 use Rattle.gm_cache.specs.declared.depth.Depth.TheVariants.{Top, Deep}
-use Rattle.gm_cache.specs.Main.{Main, Vertex}
+use Rattle.gm_cache.specs.Main.{Main, Vertex, is_pruned_by}
 use Rattle.gm_cache.specs.Reading.{Held, IsTold, Keeps, Readings, Tells, file_of, is_askable, reading_if, readings_by}
 use Rattle.gm_cache.specs.Turns.{turn}
 use Rattle.gm_cache.proofs.Keeping.{readings_stay, told_stays}
-use Rattle.gm_graph.specs.Graph.{IsOpened, same_vertex}
+use Rattle.gm_graph.specs.Graph.{IsOpened, from_main, same_vertex}
 use Rattle.gm_graph.specs.Loading.{AreAsked, AreFew, AreTurns, AsksInTurn, IsAnswered, IsNeeded, nothing, more}
 use Rattle.gm_graph.specs.Turns.{AreTurnsOf}
 use Rattle.gm_graph.proofs.Harvest.{opened_kept}
@@ -120,7 +120,10 @@ same_vertex-Decides a b = (exact_vertex a b, λ e. subst (λ (t : Vertex). same_
 
 module _ (main : Main) (readings : Readings) (vertices : List Vertex) (turns : List Turn) (are : AreTurnsOf vertices turns) (exact : AreTurns main readings turns) where
   opened_turn : (x : Vertex) → IsOpened main readings x → (d : Depth) × Contains turns (turn x d)
-  opened_turn x (inl top) = (Top, (exact.each x Top).1 top)
+  opened_turn x (inl top) = elim (cases_Bool (is_pruned_by main.go)) [
+    | inl pruned ↦ (Top, (exact.each x Top).1 (pruned, top))
+    | inr unpruned ↦ (Deep, (exact.each x Deep).1 (from_main unpruned top))
+  ]
   opened_turn x (inr deep) = (Deep, (exact.each x Deep).1 deep)
 
   pub opened_exactly : (x : Vertex) → Contains vertices x ↔ IsOpened main readings x

@@ -20,7 +20,7 @@ use Rattle.gm_select.specs.declared.step.Step.{Step}
 use Rattle.gm_select.specs.declared.step.Step.TheVariants.{Main as FromMain, Of}
 use Rattle.gm_select.specs.Graph.{edge}
 use Rattle.gm_graph.specs.Gathering.{AreGathered, Faults, Gathers, IsGathered, gathers, noted}
-use Rattle.gm_graph.specs.Graph.{IsEdge, IsOpened, IsOpenedTo, same_vertex}
+use Rattle.gm_graph.specs.Graph.{IsEdge, IsOpened, TakesTurn, same_vertex}
 use Rattle.gm_graph.specs.Turns.{Extends, same_turn}
 use Rattle.gm_graph.proofs.Sameness.{exact_turn, exact_vertex, vertices_equivalence}
 use Rattle.gm_graph.proofs.Deepening.{IsDeep-kept, known-same, requirement-kept}
@@ -88,7 +88,7 @@ edge_kept main a b keeps FromMain y t = t
 edge_kept main a b keeps (Of x) y (opened, r) = (opened_kept main a b keeps x opened, requirement-kept main a b keeps x y r)
 
 module _ (main : Main) (a b : Readings) (keeps : Keeps a b) (old new : List Turn) (extends : Extends old new) (edges more : List Edge) (before after : Faults) (x : Vertex) (depth : Depth)
-    (opened : IsOpenedTo main b x depth) (g : Gathers main b old edges more before after (turn x depth)) where
+    (opened : TakesTurn main b x depth) (g : Gathers main b old edges more before after (turn x depth)) where
   still_there : (e : Edge) → Contains edges e → Contains more e
   still_there e h = subst (λ (es : List Edge). Contains es e) (sym g.extends.1) (Contains-append_left edges g.extends.0 e h)
 
@@ -122,7 +122,7 @@ module _ (main : Main) (a b : Readings) (keeps : Keeps a b) (old new : List Turn
       }
 
 pub gathered_more : (main : Main) (a b : Readings) (old new : List Turn) (edges more : List Edge) (before after : Faults) (at : ℕ) (x : Vertex) (depth : Depth)
-    → Keeps a b → Extends old new → IsOpenedTo main b x depth → at < length old → get_or old at (turn x depth) ≡ turn x depth → ((k : ℕ) (d : Turn) → k < at → IsSome (a (get_or old k d).vertex))
+    → Keeps a b → Extends old new → TakesTurn main b x depth → at < length old → get_or old at (turn x depth) ≡ turn x depth → ((k : ℕ) (d : Turn) → k < at → IsSome (a (get_or old k d).vertex))
     → IsGatheredTo main a old edges before at → Gathers main b old edges more before after (turn x depth) → IsGatheredTo main b new more after (at + 1)
 gathered_more main a b old new edges more before after at x depth keeps extends opened below here known is g = record {
   are = are_more main a b keeps old new extends edges more before after x depth opened g is.are;

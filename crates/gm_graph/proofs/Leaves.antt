@@ -13,7 +13,7 @@ use Rattle.gm_cache.specs.Turns.{turn}
 use Rattle.gm_select.specs.declared.step.Edge.{Edge}
 use Rattle.gm_select.specs.declared.step.Step.TheVariants.{Main as FromMain, Of}
 use Rattle.gm_select.specs.Graph.{AreEnds, among, edge}
-use Rattle.gm_graph.specs.Graph.{IsDeep, IsEdge, IsOpened, IsOpenedTo, IsVertex, from_deep, from_main, from_top}
+use Rattle.gm_graph.specs.Graph.{IsDeep, IsEdge, IsOpened, TakesTurn, IsVertex, from_deep, from_main, from_top}
 use Rattle.gm_graph.specs.Turns.{AreTurnsOf, Extends, leads_on, leads_on_in, leaves_with}
 use Rattle.gm_graph.proofs.Deepening.{known-same}
 use Rattle.gm_graph.proofs.Exactly.{opened_exactly}
@@ -59,7 +59,7 @@ module _ (main : Main) (a b : Readings) (keeps : Keeps a b) where
       let same : b one.vertex ≡ a one.vertex = known-same (a one.vertex) (b one.vertex) (keeps one.vertex) known in
       more y (is (subst (λ (o : Option (Result Dependency Class)). leads_on_in (said_in o) one.depth ≡ false) same leads) y (subst (λ (o : Option (Result Dependency Class)). Contains (requirements_in main (said_in o)) y) same h))
 
-  pub leaves_more : (old new : List Turn) (leaves more : List Vertex) (at : ℕ) (x : Vertex) (depth : Depth) → Extends old new → IsOpenedTo main b x depth → at < length old → get_or old at (turn x depth) ≡ turn x depth
+  pub leaves_more : (old new : List Turn) (leaves more : List Vertex) (at : ℕ) (x : Vertex) (depth : Depth) → Extends old new → TakesTurn main b x depth → at < length old → get_or old at (turn x depth) ≡ turn x depth
       → ((k : ℕ) (d : Turn) → k < at → IsSome (a (get_or old k d).vertex)) → more ≡ leaves_with (leads_on b x depth) leaves (requirements_of main b x) → AreLeaves main a old leaves at → AreLeaves main b new more (at + 1)
   leaves_more old new leaves more at x depth extends opened below here known is are = record {
     only = λ y h. elim (with_only (leads_on b x depth) leaves (requirements_of main b x) y (subst (λ (l : List Vertex). Contains l y) is h)) [

@@ -13,7 +13,6 @@ pub mod Dues
 pub mod Stepping
 pub mod Listing
 pub mod Mapped
-pub mod Ordered
 pub mod Rooted
 pub mod Exactly
 pub mod Leaves

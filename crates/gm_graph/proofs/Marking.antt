@@ -3,7 +3,7 @@ use Rattle.std.proofs.Common.{◌≡◌, ◌||◌, ◌&&◌, cond, Bool, true, f
 use Rattle.std.specs.Ordering.{is_eq}
 use Rattle.std.specs.List.{list_any}
 use Rattle.std.specs.Cmp.{both_ways}
-use Rattle.std.specs.Prelude.{if◌then◌else◌}
+use Rattle.std.specs.Prelude.{if◌then◌else◌, not}
 use Rattle.std.proofs.lemmas.Map.Views.{Contains-from_any, list_any-from_Contains}
 use Rattle.std.proofs.lemmas.List.Folds.{list_any-append}
 use Rattle.gm_file.proofs.Sets.{pair-ties}
@@ -17,7 +17,7 @@ use Rattle.gm_graph.specs.Graph.{same_vertex}
 use Rattle.gm_select.specs.Graph.{vertex_cmp}
 use Rattle.gm_select.specs.declared.vertex_set.VertexSet.{VertexSet}
 use Rattle.gm_select.specs.VertexSet.{has}
-use Rattle.gm_graph.specs.Marks.{AreMarks, IsOpening, marked}
+use Rattle.gm_graph.specs.Marks.{AreMarks, IsOpening, marked, other_depth}
 use Rattle.gm_graph.specs.Turns.{AreTurnsOf, same_turn}
 use Rattle.gm_graph.proofs.Adding.{no_turns, same_lists}
 use Rattle.gm_graph.proofs.Sameness.{exact_turn, exact_vertex, turns_equivalence, vertices_equivalence}
@@ -34,7 +34,7 @@ module _ (vertices : List Vertex) (turns : List Turn) (x : Vertex) (are : AreTur
   turn_vertex d h = found_vertex vertices x (are.has_vertex (turn x d) (Contains-from_any exact_turn (turn x d) turns h))
 
   -- a vertex without a turn of one depth is there where it has one of the other
-  pub vertex_by_top : (b : Bool) → list_any (same_turn (turn x Deep)) turns ≡ false → b ≡ list_any (same_turn (turn x Top)) turns → b ≡ list_any (same_vertex x) vertices
+  vertex_by_top : (b : Bool) → list_any (same_turn (turn x Deep)) turns ≡ false → b ≡ list_any (same_turn (turn x Top)) turns → b ≡ list_any (same_vertex x) vertices
   vertex_by_top b no_deep e = both_ways b (list_any (same_vertex x) vertices)
       (λ is. turn_vertex Top (sym e ∙ is))
       (λ is. let there = are.has_turn x (Contains-from_any exact_vertex x vertices is) in has_top there.0 (found_turn turns (turn x there.0) there.1))
@@ -43,7 +43,7 @@ module _ (vertices : List Vertex) (turns : List Turn) (x : Vertex) (are : AreTur
       has_top Top h = e ∙ h
       has_top Deep h = absurd (cc (no_deep, h))
 
-  pub vertex_by_deep : (b : Bool) → list_any (same_turn (turn x Top)) turns ≡ false → b ≡ list_any (same_turn (turn x Deep)) turns → b ≡ list_any (same_vertex x) vertices
+  vertex_by_deep : (b : Bool) → list_any (same_turn (turn x Top)) turns ≡ false → b ≡ list_any (same_turn (turn x Deep)) turns → b ≡ list_any (same_vertex x) vertices
   vertex_by_deep b no_top e = both_ways b (list_any (same_vertex x) vertices)
       (λ is. turn_vertex Deep (sym e ∙ is))
       (λ is. let there = are.has_turn x (Contains-from_any exact_vertex x vertices is) in has_deep there.0 (found_turn turns (turn x there.0) there.1))
@@ -115,11 +115,48 @@ marked_or true false = refl
 marked_or false true = refl
 marked_or false false = refl
 
--- one more turn, and its mark
-pub marks_more : (old mid new : Opening) (x : Vertex) (depth : Depth) → AreMarks old → ((q : Vertex) (d : Depth) → marked mid d q ≡ marked old d q) → IsMarkedToo mid new x depth → new.turns.items ≡ old.turns.items ++ turn x depth ∷ [] → AreMarks new
-marks_more old mid new x depth are same more turns q d =
-    more q d
-    ∙ ap (λ (m : Bool). if same_turn (turn q d) (turn x depth) then true else m) (same q d ∙ are q d)
-    ∙ marked_or (same_turn (turn q d) (turn x depth)) (list_any (same_turn (turn q d)) old.turns.items)
-    ∙ sym (list_any-append (same_turn (turn q d)) old.turns.items (turn x depth ∷ []))
-    ∙ ap (list_any (same_turn (turn q d))) (sym turns)
+module _ (old mid : Opening) (x : Vertex) (depth : Depth) (more : IsMarkedToo old mid x depth) where
+  -- one more turn, and its mark
+  pub marks_more : (new : Opening) → AreMarks old → ((q : Vertex) (d : Depth) → marked new d q ≡ marked mid d q) → new.turns.items ≡ old.turns.items ++ turn x depth ∷ [] → AreMarks new
+  marks_more new are same turns q d =
+      same q d
+      ∙ more q d
+      ∙ ap (λ (m : Bool). if same_turn (turn q d) (turn x depth) then true else m) (are q d)
+      ∙ marked_or (same_turn (turn q d) (turn x depth)) (list_any (same_turn (turn q d)) old.turns.items)
+      ∙ sym (list_any-append (same_turn (turn q d)) old.turns.items (turn x depth ∷ []))
+      ∙ ap (list_any (same_turn (turn q d))) (sym turns)
+
+  stays_marked : (b m : Bool) → (b ≡ true → m ≡ true) → (if b then true else m) ≡ m
+  stays_marked true m h = sym (h refl)
+  stays_marked false m h = refl
+
+  -- a mark that was there
+  pub marks_stay : AreMarks old → marked old depth x ≡ true → mid.turns.items ≡ old.turns.items → AreMarks mid
+  marks_stay are was turns q d =
+      more q d
+      ∙ stays_marked (same_turn (turn q d) (turn x depth)) (marked old d q) (λ same. subst (λ (t : Turn). marked old t.depth t.vertex ≡ true) (sym (exact_turn (turn q d) (turn x depth) same)) was)
+      ∙ are q d
+      ∙ ap (list_any (same_turn (turn q d))) (sym turns)
+
+-- what marking says of what was marked
+pub was_marked : (b m : Bool) → b ≡ not m → b ≡ false → m ≡ true
+was_marked b true e f = refl
+was_marked b false e f = cc
+
+pub was_not_marked : (b m : Bool) → b ≡ not m → b ≡ true → m ≡ false
+was_not_marked b true e f = cc
+was_not_marked b false e f = refl
+
+-- a new mark leaves those of the other depth
+other_mark : (old mid : Opening) (x : Vertex) (depth : Depth) → IsMarkedToo old mid x depth → marked mid (other_depth depth) x ≡ marked old (other_depth depth) x
+other_mark old mid x Top more = more x Deep ∙ ap (λ (b : Bool). if b then true else marked old Deep x) (and_false (same_vertex x x))
+other_mark old mid x Deep more = more x Top ∙ ap (λ (b : Bool). if b then true else marked old Top x) (and_false (same_vertex x x))
+
+vertex_by_turn : (vertices : List Vertex) (turns : List Turn) (x : Vertex) (depth : Depth) (b : Bool) → AreTurnsOf vertices turns → list_any (same_turn (turn x depth)) turns ≡ false → b ≡ list_any (same_turn (turn x (other_depth depth))) turns → b ≡ list_any (same_vertex x) vertices
+vertex_by_turn vertices turns x Top b are fresh e = vertex_by_deep vertices turns x are b fresh e
+vertex_by_turn vertices turns x Deep b are fresh e = vertex_by_top vertices turns x are b fresh e
+
+-- a vertex that is newly marked at one depth is there where it is marked at the other
+pub vertex_by_mark : (old mid : Opening) (x : Vertex) (depth : Depth) (b : Bool) → IsOpening old → IsMarkedToo old mid x depth → marked old depth x ≡ false → b ≡ marked mid (other_depth depth) x → b ≡ list_any (same_vertex x) old.vertices.items
+vertex_by_mark old mid x depth b is more new e =
+    vertex_by_turn old.vertices.items old.turns.items x depth b is.turns (sym (is.marks x depth) ∙ new) (e ∙ other_mark old mid x depth more ∙ is.marks x (other_depth depth))

@@ -1,5 +1,5 @@
 -- A queue of turns of which a front is done.
-use Rattle.std.proofs.Common.{◌≡◌, ◌+◌, ◌≤◌, ◌<◌, ℕ, false, List, [], ◌++◌, length, get_or, Contains, ap, ◌∙◌, sym, subst, inl, inr, arith}
+use Rattle.std.proofs.Common.{◌≡◌, ◌+◌, ◌≤◌, ◌<◌, ℕ, true, false, List, [], ◌++◌, length, get_or, Contains, ap, ◌∙◌, sym, subst, inl, inr, arith}
 use Rattle.std.proofs.lemmas.Grind.{common_steps}
 use Rattle.std.proofs.lemmas.List.{get_or_default}
 use Rattle.std.proofs.lemmas.Bool.{cases_eq}
@@ -15,9 +15,9 @@ use Rattle.gm_cache.specs.Turns.{turn}
 use Rattle.gm_graph.proofs.Deepening.{IsDone-kept, IsTrueTurn-kept, leads_to_deep}
 use Rattle.gm_graph.proofs.Rounds.{AreFollowed, along, opened_from}
 
--- The first turns and more, each opened as it says, and those up to this place done.
+-- The first turns and more, each one that its vertex takes, and those up to this place done.
 pub record IsQueue (main : Main) (answers : Readings) (turns : List Turn) (at : ℕ) : Type 0 where
-  pub tops : (x : Vertex) → IsTop main x → Contains turns (turn x Top)
+  pub tops : is_pruned_by main.go ≡ true → (x : Vertex) → IsTop main x → Contains turns (turn x Top)
   pub deeps : is_pruned_by main.go ≡ false → (x : Vertex) → IsTop main x → Contains turns (turn x Deep)
   pub sound : AllTrue main answers turns
   pub done : (k : ℕ) (d : Turn) → k < at → IsDone main answers turns (get_or turns k d)
@@ -41,7 +41,7 @@ get_or-along old new rest k d e below = ap (λ (t : List Turn). get_or t k d) e 
 
 pub queue_more : (main : Main) (a b : Readings) (old new : List Turn) (at : ℕ) (x : Vertex) (depth : Depth) → IsQueue main a old at → Keeps a b → at < length old → get_or old at (turn x depth) ≡ turn x depth → Follows main b old new (turn x depth) → IsQueue main b new (at + 1)
 queue_more main a b old new at x depth queue keeps below here follows = record {
-  tops = λ y t. along old new (turn y Top) follows.extends (queue.tops y t);
+  tops = λ p y t. along old new (turn y Top) follows.extends (queue.tops p y t);
   deeps = λ p y t. along old new (turn y Deep) follows.extends (queue.deeps p y t);
   sound = λ next there. elim (follows.only next there) [
     | inl in_old ↦ IsTrueTurn-kept main a b keeps next.vertex next.depth (queue.sound next in_old)

@@ -7,7 +7,7 @@ use Rattle.gm_select.specs.declared.step.Edge.{Edge}
 use Rattle.gm_select.specs.declared.step.Step.TheVariants.{Main as FromMain, Of}
 use Rattle.gm_select.specs.BuildList.{Entry, IsBuildList, IsSelected, entry_of, main_entry}
 use Rattle.gm_select.specs.Chains.{IsReached, IsRooted, along, at_main}
-use Rattle.gm_select.specs.Graph.{among, edge, edge_cmp}
+use Rattle.gm_select.specs.Graph.{AreEnds, among, edge, edge_cmp}
 use Rattle.gm_select.specs.Order.{HaveSame, IsAscending}
 use Rattle.gm_select.proofs.Same.{AreSame, same_back, same_rooted}
 use Rattle.gm_graph.specs.Graph.{IsDeep, IsEdge, IsOpened, IsTop, from_deep, from_main, from_top}
@@ -60,3 +60,10 @@ same_along old mid new a b e = ((λ h. (b e).0 ((a e).0 h)), (λ h. (a e).1 ((b 
 
 pub sorted_rooted : (old new : List Edge) → HaveSame old new → IsRooted (among old) → IsRooted (among new)
 sorted_rooted old new same rooted = same_rooted (among old) (among new) (λ s y. same (edge s y)) rooted
+
+-- the same edges have the same ends
+pub ends_along : (ends : List Vertex) (old new : List Edge) → HaveSame old new → AreEnds ends (among old) → AreEnds ends (among new)
+ends_along ends old new same are y = (
+  (λ h. let end = (are y).0 h in (end.0, (same (edge end.0 y)).0 end.1)),
+  (λ end. (are y).1 (end.0, (same (edge end.0 y)).1 end.1)),
+)

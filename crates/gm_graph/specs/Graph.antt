@@ -28,10 +28,11 @@ pub data IsDeep (main : Main) (readings : Readings) : Vertex → Type 0 where
 abbrev pub IsOpened : Main → Readings → Vertex → Type 0
 IsOpened main readings x = IsTop main x ⊎ IsDeep main readings x
 
--- the vertex is opened to this depth
-abbrev pub IsOpenedTo : Main → Readings → Vertex → Depth → Type 0
-IsOpenedTo main readings x Top = IsTop main x
-IsOpenedTo main readings x Deep = IsDeep main readings x
+-- The requirements of the vertex are read for this depth: a deeply opened vertex is read for that, and one at the top for the top
+-- where the main file is pruned, since else it is opened deeply too.
+abbrev pub TakesTurn : Main → Readings → Vertex → Depth → Type 0
+TakesTurn main readings x Top = (is_pruned_by main.go ≡ true) × IsTop main x
+TakesTurn main readings x Deep = IsDeep main readings x
 
 -- an edge goes from the main module, or from an opened vertex, to each of its requirements
 abbrev pub IsEdge : Main → Readings → Step → Vertex → Type 0

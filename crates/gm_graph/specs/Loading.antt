@@ -9,7 +9,7 @@ use Rattle.gm_cache.specs.Main.{Main, Vertex}
 use Rattle.gm_cache.specs.Reading.{Held, Readings, file_of, is_askable, readings_by}
 use Rattle.gm_graph.specs.Graph.{same_vertex}
 use Rattle.gm_cache.specs.Reading.{Tells}
-use Rattle.gm_graph.specs.Graph.{IsOpened, IsOpenedTo}
+use Rattle.gm_graph.specs.Graph.{IsOpened, TakesTurn}
 use Rattle.gm_graph.specs.Turns.{same_turn}
 use Rattle.gm_cache.specs.Turns.{turn}
 
@@ -39,10 +39,10 @@ pub record AreAsked (main : Main) (readings : Readings) (names : List Name) : Ty
   pub once : IsDistinct same_name names
   pub each : (name : Name) → Contains names name ↔ IsNeeded main readings name
 
--- One turn for each vertex that is opened at the top, and one for each that is opened deeply.
+-- One turn for each vertex that is opened deeply, and, where the main file is pruned, one for each at the top.
 pub record AreTurns (main : Main) (readings : Readings) (turns : List Turn) : Type 0 where
   pub once : IsDistinct same_turn turns
-  pub each : (x : Vertex) (d : Depth) → Contains turns (turn x d) ↔ IsOpenedTo main readings x d
+  pub each : (x : Vertex) (d : Depth) → Contains turns (turn x d) ↔ TakesTurn main readings x d
 
 -- more than 65,536 vertices are opened
 abbrev pub AreTooMany : Main → Readings → Type 0

@@ -9,6 +9,11 @@ use Rattle.gm_graph.specs.declared.opening.Opening.{Opening}
 use Rattle.gm_graph.specs.Turns.{AreTurnsOf, same_turn}
 use Rattle.gm_cache.specs.Turns.{turn}
 
+-- the depth that this one isn't
+abbrev pub other_depth : Depth → Depth
+other_depth Top = Deep
+other_depth Deep = Top
+
 -- whether a vertex is marked at a depth
 abbrev pub marked : Opening → Depth → Vertex → Bool
 marked opening Top x = has opening.tops x

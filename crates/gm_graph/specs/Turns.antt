@@ -9,11 +9,11 @@ use Rattle.gm_cache.specs.Main.{Main, Vertex, is_pruned_by}
 use Rattle.gm_cache.specs.Reading.{Readings, is_unpruned_in, requirements_of, said_in}
 use Rattle.gm_graph.specs.Graph.{same_vertex}
 use Rattle.gm_cache.specs.Turns.{turn}
-use Rattle.gm_graph.specs.Graph.{IsTop, IsOpenedTo}
+use Rattle.gm_graph.specs.Graph.{IsTop, TakesTurn}
 
--- a turn is opened as it says
+-- a turn is one that its vertex takes
 abbrev pub IsTrueTurn : Main → Readings → Turn → Type 0
-IsTrueTurn main readings turn = IsOpenedTo main readings turn.vertex turn.depth
+IsTrueTurn main readings turn = TakesTurn main readings turn.vertex turn.depth
 
 -- what a turn requires is opened deeply
 abbrev pub leads_on_in : Option Dependency → Depth → Bool
@@ -71,15 +71,20 @@ pub record Follows (main : Main) (readings : Readings) (old new : List Turn) (on
   pub done : IsDone main readings new one
   pub only : (next : Turn) → Contains new next → Contains old next ⊎ ((leads_on readings one.vertex one.depth ≡ true) × ((y : Vertex) × Contains (requirements_of main readings one.vertex) y × (next ≡ turn y Deep)))
 
--- each turn is opened as it says
+-- each turn is one that its vertex takes
 abbrev pub AllTrue : Main → Readings → List Turn → Type 0
 AllTrue main readings turns = (one : Turn) → Contains turns one → IsTrueTurn main readings one
 
 -- the turns that the main file gives, and no others
 pub record AreFirstTurns (main : Main) (turns : List Turn) : Type 0 where
-  pub tops : (x : Vertex) → IsTop main x → Contains turns (turn x Top)
+  pub tops : is_pruned_by main.go ≡ true → (x : Vertex) → IsTop main x → Contains turns (turn x Top)
   pub deeps : is_pruned_by main.go ≡ false → (x : Vertex) → IsTop main x → Contains turns (turn x Deep)
   pub sound : (readings : Readings) → AllTrue main readings turns
+
+-- the depth of the first turns
+abbrev pub depth_by : Bool → Depth
+depth_by true = Top
+depth_by false = Deep
 
 -- more than 65,536 vertices, each once, which were there or are among these
 abbrev pub OverflowsWith : List Vertex → List Vertex → Type 0

@@ -2,14 +2,14 @@
 
 ghost use Rattle.std.specs.Prelude.{◌≡◌, ◌++◌, [], IfOk, OnOk};
 ghost use Rattle.gm_select.specs.Order.{HaveSame};
-ghost use Rattle.gm_graph.specs.Leaving.{ascending_edges, edges_from, edges_of};
+ghost use Rattle.gm_graph.specs.Leaving.{edges_from, edges_of};
 
 use gm_name::ModVer;
-use gm_select::{Edge, Step, sorted_edges};
+use gm_select::{Edge, Step};
 use std::alloc::{AllocError, Global};
 
 /// The edges that leave a step, by what they reach. Many edges leave one step, so few of these are sorted, and each holds
-/// its step once. They are put in order only where the edges are asked for: the build list wants none.
+/// its step once.
 #[derive(Drop, PartialEq, Eq, PartialOrd, Ord)]
 pub(crate) struct Leaving {
     pub(crate) from: Step,
@@ -43,25 +43,11 @@ impl Leaving {
     /// The edges from a step to each of these.
     pub(crate) fn new(alloc: Global, from: Step, required: &[ModVer]) -> Result<Leaving, AllocError>
         ensures from { IfOk result (λ one. one.from ≡ from) }
-        ensures to { IfOk result (λ one. one.to.items ≡ required.now) }
+        ensures to { IfOk result (λ one. HaveSame required.now one.to.items) }
     {
-        Ok(Leaving {
-            from,
-            to: copies(alloc, required)?,
-        })
-    }
-
-    /// The same edges, those to lower vertices first.
-    fn sorted_copy(&self, alloc: Global) -> Result<Leaving, AllocError>
-        ensures from { IfOk result (λ one. one.from ≡ self.now.from) }
-        ensures to { IfOk result (λ one. HaveSame self.now.to.items one.to.items) }
-    {
-        let mut to = copies(alloc, &self.to)?;
+        let mut to = copies(alloc, required)?;
         to.sort_unstable();
-        Ok(Leaving {
-            from: self.from.copy(alloc)?,
-            to,
-        })
+        Ok(Leaving { from, to })
     }
 
     /// Puts the edges at the end.
@@ -79,35 +65,32 @@ impl Leaving {
     }
 }
 
+/// How many edges these are.
+fn count(all: &[Leaving]) -> usize {
+    let mut edges: usize = 0;
+    for one in all {
+        edges = edges.saturating_add(one.to.len());
+    }
+    edges
+}
+
 /// All these edges, in the same order.
 fn in_order(alloc: Global, all: Vec<Leaving>) -> Result<Vec<Edge>, AllocError>
     ensures { IfOk result (λ edges. edges.items ≡ edges_of all.items) }
 {
-    let mut edges = Vec::new(alloc);
+    let mut edges = Vec::with_capacity(alloc, count(&all))?;
     for one in all {
         one.push_edges(alloc, &mut edges)?;
     }
     Ok(edges)
 }
 
-/// Sorted copies of these.
-fn sorted_copies(alloc: Global, all: &[Leaving]) -> Result<Vec<Leaving>, AllocError>
-    ensures { IfOk result (λ copied. HaveSame (edges_of all.now) (edges_of copied.items)) }
+/// All these edges. Those of a lower step come first where no two leave one step, so that little is left to sort.
+pub(crate) fn all_edges(alloc: Global, all: Vec<Leaving>) -> Result<Vec<Edge>, AllocError>
+    ensures { IfOk result (λ edges. HaveSame (edges_of all.items) edges.items) }
 {
-    let mut copied = Vec::with_capacity(alloc, all.len())?;
-    for one in all {
-        copied.push(one.sorted_copy(alloc)?)?;
-    }
-    Ok(copied)
-}
-
-/// All these edges, in strictly ascending order. Those of a lower step come first where no two leave one step, so that little
-/// is left to sort.
-pub(crate) fn ascending_edges(alloc: Global, all: &[Leaving]) -> Result<Vec<Edge>, AllocError>
-    ensures { IfOk result (λ edges. edges.items ≡ ascending_edges (edges_of all.now)) }
-{
-    let mut ordered = sorted_copies(alloc, all)?;
+    let mut ordered = all;
     ordered.sort_unstable();
     let edges = in_order(alloc, ordered)?;
-    Ok(sorted_edges(edges))
+    Ok(edges)
 }

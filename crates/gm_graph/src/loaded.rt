@@ -5,13 +5,11 @@ ghost use Rattle.gm_select.specs.BuildList.{IsEntryOf, IsListed, IsRestAfter, en
 ghost use Rattle.gm_select.specs.Chains.{IsChain};
 ghost use Rattle.gm_select.specs.Graph.{among};
 ghost use Rattle.gm_select.specs.declared.step.Step.{Step};
-ghost use Rattle.gm_graph.specs.Leaving.{ascending_edges, edges_of};
 ghost use Rattle.gm_graph.specs.Outcome.{AreReached};
 
 use crate::fault::Fault;
-use crate::leaving::{Leaving, ascending_edges};
 use gm_cache::Turn;
-use gm_name::{ModPath, NoMemory};
+use gm_name::ModPath;
 use gm_select::{ChainFault, Edge, NotListed, Row, Rows, Step};
 use std::alloc::Global;
 use std::marker::Model;
@@ -22,21 +20,20 @@ use std::marker::Model;
 pub struct Loaded {
     main: ModPath,
     faults: Vec<Fault>,
-    leaving: Vec<Leaving>,
+    edges: Vec<Edge>,
     rows: Vec<Row>,
     turns: Vec<Turn>,
 }
 
 impl Model for Loaded {
     ghost use Rattle.gm_select.specs.BuildList.{entries_seen};
-    ghost use Rattle.gm_graph.specs.Leaving.{ascending_edges, edges_of};
     ghost use Rattle.gm_graph.specs.Outcome.{AreReached, Outcome};
 
     ghost Value = { Outcome };
 
-    ghost view = { λ l. record { main = l.main; faults = l.faults.items; edges = ascending_edges (edges_of l.leaving.items); rows = entries_seen l.rows.items; turns = l.turns.items } };
+    ghost view = { λ l. record { main = l.main; faults = l.faults.items; edges = l.edges.items; rows = entries_seen l.rows.items; turns = l.turns.items } };
 
-    ghost invariant = { λ l. AreReached (ascending_edges (edges_of l.leaving.items)) (entries_seen l.rows.items) };
+    ghost invariant = { λ l. AreReached l.edges.items (entries_seen l.rows.items) };
 }
 
 impl Loaded {
@@ -44,21 +41,21 @@ impl Loaded {
     pub(crate) fn new(
         main: ModPath,
         faults: Vec<Fault>,
-        leaving: Vec<Leaving>,
+        edges: Vec<Edge>,
         rows: Vec<Row>,
         turns: Vec<Turn>,
     ) -> Loaded
-        requires { AreReached (ascending_edges (edges_of leaving.items)) (entries_seen rows.items) }
+        requires { AreReached edges.items (entries_seen rows.items) }
         ensures main { result.main ≡ main }
         ensures faults { result.faults ≡ faults.items }
-        ensures edges { result.edges ≡ ascending_edges (edges_of leaving.items) }
+        ensures edges { result.edges ≡ edges.items }
         ensures rows { result.rows ≡ entries_seen rows.items }
         ensures turns { result.turns ≡ turns.items }
     {
         Loaded {
             main,
             faults,
-            leaving,
+            edges,
             rows,
             turns,
         }
@@ -71,12 +68,11 @@ impl Loaded {
         self.faults.as_slice()
     }
 
-    /// The edges of the graph, in strictly ascending order. They are put in order here, in n log n steps for n edges, since the
-    /// build list doesn't want them. The only refusal is want of memory.
-    pub fn edges(&self, alloc: Global) -> Result<Vec<Edge>, NoMemory>
-        ensures { IfOk result (λ edges. edges.items ≡ self.now.edges) }
+    /// The edges of the graph, in strictly ascending order. It takes no memory.
+    pub fn edges(&self) -> &[Edge]
+        ensures { result.now ≡ self.now.edges }
     {
-        ascending_edges(alloc, &self.leaving)
+        self.edges.as_slice()
     }
 
     /// The vertices and depths for which requirements were read, each once. It takes no memory.
@@ -115,7 +111,6 @@ impl Loaded {
         ensures chain { IfOk result (λ steps. (s : Step) × IsEntryOf self.now.main self.now.rows path.now s × IsChain (among self.now.edges) s steps.items) }
         ensures not_listed { IsErrOf result ChainFault.NotListed → ¬ (IsListed self.now.main self.now.rows path.now) }
     {
-        let edges = self.edges(alloc)?;
-        gm_select::chain(alloc, &self.main, &edges, &self.rows, path)
+        gm_select::chain(alloc, &self.main, &self.edges, &self.rows, path)
     }
 }

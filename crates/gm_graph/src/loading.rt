@@ -23,12 +23,13 @@ ghost use Rattle.gm_graph.specs.Turns.{AreFirstTurns};
 
 use crate::following::follow;
 use crate::gathering::{Gathered, fault_list, main_edges};
+use crate::leaving::all_edges;
 use crate::loaded::Loaded;
 use crate::opening::{Opening, copy_turn};
 use crate::starting::{begin, kept_requirements};
 use gm_cache::{Cache, LoadFault, main_says};
 use gm_file::MainFile;
-use gm_select::build_list;
+use gm_select::{build_list, sorted_edges};
 use gm_store::Files;
 use gm_sums::SumTable;
 use std::alloc::{AllocError, Global};
@@ -72,7 +73,7 @@ fn open_in_turn<F: Files>(
     Ok(())
 }
 
-/// What was found, put together, with the build list that the ends of the edges make.
+/// What was found, put together: the edges sorted, and the build list that their ends make.
 fn put_together(
     alloc: Global,
     main: &MainFile,
@@ -93,9 +94,13 @@ fn put_together(
     let Gathered { leaving, faults } = gathered;
     let path = main_says::path(main).copy(alloc)?;
     let faults = fault_list(alloc, faults)?;
+    // What the cache holds goes before the edges come.
+    let turns = cache.into_turns();
     let ends = opening.into_ends()?;
-    let rows = build_list(alloc, main, &ends)?;
-    Ok(Loaded::new(path, faults, leaving, rows, cache.into_turns()))
+    let rows = build_list(alloc, main, ends)?;
+    let found = all_edges(alloc, leaving)?;
+    let edges = sorted_edges(found);
+    Ok(Loaded::new(path, faults, edges, rows, turns))
 }
 
 /// Loads the files of the modules that the main module's file leads to, and finds their faults, the edges of the graph and the

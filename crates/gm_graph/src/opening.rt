@@ -1,12 +1,12 @@
 //! The turns of a queue, each of which opens a vertex to a depth.
 
-ghost use Rattle.std.specs.Prelude.{◌≡◌, ◌≤◌, ◌⊎◌, if◌then◌else◌, ◌∷◌, [], ◌++◌, ℕ, List, length, Contains, IfOk, OnOk, Some, None, Ok, Err, true, false};
+ghost use Rattle.std.specs.Prelude.{◌≡◌, ◌≤◌, ◌⊎◌, if◌then◌else◌, ◌∷◌, [], ◌++◌, ℕ, List, length, Contains, IfOk, OnOk, Some, None, Ok, Err, true, false, not};
 ghost use Rattle.std.specs.Bool.{MatchBool};
 ghost use Rattle.gm_cache.specs.Main.{Vertex, is_pruned_by, kept, main_of};
 ghost use Rattle.gm_graph.specs.Graph.{same_vertex};
 ghost use Rattle.gm_graph.specs.Turns.{AddsAll, AreTurnsOf, OverflowsWith};
 ghost use Rattle.gm_cache.specs.Turns.{turn};
-ghost use Rattle.gm_graph.specs.Marks.{IsOpening, marked};
+ghost use Rattle.gm_graph.specs.Marks.{IsOpening, marked, other_depth};
 ghost use Rattle.gm_graph.specs.declared.opening.AddFault.TheVariants as add;
 
 use crate::leaving::push_copies;
@@ -80,30 +80,34 @@ impl Opening {
         }
     }
 
-    /// Whether a vertex without a turn of this depth is there: whether it has one of the other.
-    fn has_vertex(&self, alloc: Global, vertex: &ModVer, depth: Depth) -> Result<bool, AllocError>
-        requires opening { IsOpening self.now }
-        requires fresh { list_any (same_turn (turn vertex.now depth)) self.now.turns.items ≡ false }
-        ensures { IfOk result (λ is_there. is_there ≡ list_any (same_vertex vertex.now) self.now.vertices.items) }
-    {
-        match depth {
-            Depth::Top => self.has_turn(alloc, vertex, Depth::Deep),
-            Depth::Deep => self.has_turn(alloc, vertex, Depth::Top),
-        }
-    }
-
-    /// Marks a vertex at a depth.
-    fn mark(&mut self, alloc: Global, vertex: &ModVer, depth: Depth) -> Result<(), AllocError>
+    /// Marks a vertex at a depth, and says whether it was not marked there.
+    fn mark(&mut self, alloc: Global, vertex: &ModVer, depth: Depth) -> Result<bool, AllocError>
+        ensures is_new { IfOk result (λ is_new. is_new ≡ not (marked self.old depth vertex.now)) }
         ensures marked { OnOk result ((q : Vertex) (d : Depth) → marked self.new d q ≡ (if same_turn (turn q d) (turn vertex.now depth) then true else marked self.old d q)) }
         ensures turns { self.new.turns.items ≡ self.old.turns.items }
         ensures vertices { self.new.vertices.items ≡ self.old.vertices.items }
         ensures leaves { self.new.leaves.items ≡ self.old.leaves.items }
     {
-        match depth {
+        let is_new = match depth {
             Depth::Top => self.tops.insert(alloc, vertex)?,
             Depth::Deep => self.deeps.insert(alloc, vertex)?,
         };
-        Ok(())
+        Ok(is_new)
+    }
+
+    /// Whether a vertex is marked at the other depth.
+    fn is_marked_apart(
+        &self,
+        alloc: Global,
+        vertex: &ModVer,
+        depth: Depth,
+    ) -> Result<bool, AllocError>
+        ensures { IfOk result (λ is_marked. is_marked ≡ marked self.now (other_depth depth) vertex.now) }
+    {
+        match depth {
+            Depth::Top => self.deeps.contains(alloc, vertex),
+            Depth::Deep => self.tops.contains(alloc, vertex),
+        }
     }
 
     /// Adds a turn where it is not there. `TooMany` comes where the vertex is new, and there are `MOST` vertices.
@@ -114,11 +118,11 @@ impl Opening {
         ensures leaves { OnOk result (self.new.leaves.items ≡ self.old.leaves.items) }
         ensures too_many { result ≡ Err AddFault.TooMany → (MOST ≤ length self.old.vertices.items) × (list_any (same_vertex vertex.now) self.old.vertices.items ≡ false) }
     {
-        let has_turn = self.has_turn(alloc, vertex, depth)?;
-        if has_turn {
+        let is_new = self.mark(alloc, vertex, depth)?;
+        if !is_new {
             return Ok(());
         }
-        let has_vertex = self.has_vertex(alloc, vertex, depth)?;
+        let has_vertex = self.is_marked_apart(alloc, vertex, depth)?;
         if !has_vertex {
             if self.vertices.len() >= MOST {
                 return Err(AddFault::TooMany);
@@ -126,7 +130,6 @@ impl Opening {
             push_vertex(alloc, &mut self.vertices, vertex)?;
         }
         push_turn(alloc, &mut self.turns, vertex, depth)?;
-        self.mark(alloc, vertex, depth)?;
         Ok(())
     }
 

@@ -1,10 +1,10 @@
 //! What the main module's file requires, and the turns that it begins with.
 
 ghost use Rattle.std.specs.Prelude.{◌≡◌, [], IfOk, Err};
-ghost use Rattle.gm_cache.specs.Main.{kept, main_of};
+ghost use Rattle.gm_cache.specs.Main.{is_pruned_by, kept, main_of};
 ghost use Rattle.gm_cache.specs.Refusals.{refused_in};
 ghost use Rattle.gm_graph.specs.Marks.{IsOpening};
-ghost use Rattle.gm_graph.specs.Turns.{AreFirstTurns, OverflowsWith};
+ghost use Rattle.gm_graph.specs.Turns.{AreFirstTurns, OverflowsWith, depth_by};
 
 use crate::opening::{AddFault, Opening};
 use gm_cache::{Depth, LoadFault, main_says};
@@ -25,7 +25,18 @@ pub(crate) fn kept_requirements(alloc: Global, main: &MainFile) -> Result<Vec<Mo
     Ok(list)
 }
 
-/// The turns of what the main file requires: at the top, and deeply too where the file is not pruned.
+/// The depth to which what the main file requires is opened.
+fn first_depth(main: &MainFile) -> Depth
+    ensures { result ≡ depth_by (is_pruned_by (main_of main.now).go) }
+{
+    if main_says::is_main_pruned(main) {
+        Depth::Top
+    } else {
+        Depth::Deep
+    }
+}
+
+/// The turns of what the main file requires: at the top, or deeply where the file is not pruned.
 pub(crate) fn first_turns(
     alloc: Global,
     main: &MainFile,
@@ -38,10 +49,7 @@ pub(crate) fn first_turns(
     ensures too_many { result ≡ Err AddFault.TooMany → OverflowsWith [] required.now }
 {
     let mut opening = Opening::new(alloc);
-    opening.add_all(alloc, required, Depth::Top)?;
-    if !main_says::is_main_pruned(main) {
-        opening.add_all(alloc, required, Depth::Deep)?;
-    }
+    opening.add_all(alloc, required, first_depth(main))?;
     Ok(opening)
 }
 

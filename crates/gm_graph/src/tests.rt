@@ -118,18 +118,13 @@ fn rows_words(alloc: Global, loaded: &Loaded) -> Result<String, NoMemory> {
     words::rows(alloc, loaded.build_list())
 }
 
-fn edges_words(alloc: Global, loaded: &Loaded) -> Result<String, NoMemory> {
-    let edges = loaded.edges(alloc)?;
-    words::edges(alloc, &edges)
-}
-
 fn found_by_queue(alloc: Global, store: &MemoryFiles, loaded: &Loaded) -> Result<Found, NoMemory> {
     let asked = names_asked(alloc, store)?;
     let turns = turns_made(alloc, loaded)?;
     Ok(Found {
         asked: words::names(alloc, &asked)?,
         faults: words::faults(alloc, loaded.faults())?,
-        edges: edges_words(alloc, loaded)?,
+        edges: words::edges(alloc, loaded.edges())?,
         rows: rows_words(alloc, loaded)?,
         turns: words::turns(alloc, &turns)?,
     })
@@ -295,7 +290,7 @@ const TURNS: &'static [Turned] = &[
             ),
             ("example.com/c", "v1.0.0", "module example.com/c\n"),
         ],
-        "a top, a deep, b top, b deep, c deep",
+        "a deep, b deep, c deep",
     ),
 ];
 

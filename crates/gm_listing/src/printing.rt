@@ -25,8 +25,7 @@ use std::alloc::{AllocError, Global};
 fn print_graph(alloc: Global, main: &MainFile<'_>, loaded: &Loaded) -> Result<Output, NoMemory>
     ensures { IfOk result (λ output. PrintsEdges (main_of main.now) loaded.now (outcome_of output)) }
 {
-    let edges = loaded.edges(alloc)?;
-    let text = graph_text(alloc, main_says::path(main), &edges)?;
+    let text = graph_text(alloc, main_says::path(main), loaded.edges())?;
     Ok(printed(alloc, text))
 }
 

@@ -19,11 +19,10 @@ use Rattle.gm_select.specs.declared.step.Step.TheVariants.{Main, Of}
 use Rattle.gm_select.specs.Graph.{Vertex, Edges, among, step_cmp}
 use Rattle.gm_select.specs.StepOrder.{step-anti, step_total}
 use Rattle.gm_select.specs.BuildList.{Entry, IsAt, IsBuildList, IsEntryOf, IsSelected, entry_of, main_entry, path_cmp, path_of}
-use Rattle.gm_select.specs.Greatest.{IsGreatest, ending}
 use Rattle.gm_select.specs.Chains.{at_main, along, IsBefore, IsChain, begins, goes_on, IsLevel, IsReached, IsRooted}
 use Rattle.gm_select.specs.Laws.{ArePages, no_more, one_more, joined, ChainIsShortest, EntriesAreReached, MainIsFirst, OneBuildList, OneChain, OneRest, PagesExist, PagesJoin, RowsAreEnds, RowsSatisfy}
 use Rattle.gm_select.proofs.Ascending.{less_itself, member_cases, member_head, member_tail, pairs_split, same_lists}
-use Rattle.gm_select.proofs.Greatest.{bests}
+use Rattle.gm_select.proofs.Greatest.{IsGreatest, bests, ending}
 use Rattle.gm_select.proofs.Same.{EndAlike, alike_selected, ending_ends, ends_alike, ends_of}
 use Rattle.gm_select.proofs.RestRows.{one_at, one_entry}
 

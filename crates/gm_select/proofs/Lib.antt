@@ -3,6 +3,7 @@ pub mod RestRows
 pub mod Same
 pub mod Marked
 pub mod Greatest
+pub mod Selected
 pub mod Ranges
 pub mod Marking
 pub mod Leveling

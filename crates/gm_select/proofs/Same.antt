@@ -9,7 +9,8 @@ use Rattle.gm_select.specs.declared.step.Step.{Step}
 use Rattle.gm_select.specs.declared.step.Step.TheVariants.{Main, Of}
 use Rattle.gm_select.specs.Graph.{AreEnds, Vertex, Edges, IsEnd, among, edge}
 use Rattle.gm_select.specs.BuildList.{Entry, IsSelected, IsBuildList}
-use Rattle.gm_select.specs.Greatest.{ending}
+use Rattle.gm_select.specs.Order.{HaveSame}
+use Rattle.gm_select.proofs.Greatest.{ending}
 use Rattle.gm_select.specs.Chains.{Leads, at_main, along, IsLevel, IsBefore, IsChain, begins, goes_on, IsReached, IsRooted}
 
 -- the one relation holds where the other does
@@ -34,6 +35,9 @@ ends_alike ends E F e f y = ((λ end. (f y).0 ((e y).1 end)), (λ end. (e y).0 (
 
 pub ending_ends : (ends : List Vertex) → AreEnds ends (ending ends)
 ending_ends ends y = ((λ there. (Main, there)), (λ end. end.1))
+
+pub ends_same : (xs ys : List Vertex) (E : Edges) → HaveSame xs ys → AreEnds xs E → AreEnds ys E
+ends_same xs ys E same are y = ((λ h. (are y).0 ((same y).1 h)), (λ end. (same y).0 ((are y).1 end)))
 
 -- the ends of the edges of a list, one for each
 pub ends_of : (edges : List Edge) → AreEnds (map (λ (e : Edge). e.to) edges) (among edges)

@@ -1,13 +1,14 @@
 -- A list that was sorted and freed of repeats.
-use Rattle.std.proofs.Common.{◌≡◌, Bool, List, Contains, ◌∙◌, sym, subst}
+use Rattle.std.proofs.Common.{◌≡◌, Bool, true, List, length, Contains, ◌∙◌, sym, refl, subst}
 use Rattle.std.specs.declared.cmp.Ordering.{Ordering}
-use Rattle.std.specs.Ordering.{eq_by_cmp}
+use Rattle.std.specs.declared.cmp.Ordering.TheVariants.{Less, Equal, Greater}
+use Rattle.std.specs.Ordering.{eq_by_cmp, is_lt}
 use Rattle.std.specs.Cmp.{IsTotalOrder, IsEquivalence, Equal-is}
-use Rattle.std.specs.List.{dedup}
+use Rattle.std.specs.List.{AllAdjacentBelow, dedup}
 use Rattle.std.specs.List.Sorted.{IsSorted, IsPermutation}
 use Rattle.std.proofs.lemmas.List.Kept.{Any-dedup, Contains-from_dedup, IsStrictlySortedBy-dedup}
 use Rattle.std.proofs.lemmas.List.Sorted.{Contains-permutation, IsPermutation-sym}
-use Rattle.std.proofs.lemmas.Map.Keys.{Less-from_sorted}
+use Rattle.std.proofs.lemmas.Map.Keys.{Less-from_sorted, sorted_from_all_adjacent}
 use Rattle.gm_select.specs.Order.{IsAscending, HaveSame, AreTellable}
 
 module _ {T : Type 0} {cmp : T → T → Ordering} (total : IsTotalOrder cmp) {eq : T → T → Bool} (ties : (x y : T) → eq x y ≡ eq_by_cmp cmp x y) where
@@ -28,3 +29,13 @@ module _ {T : Type 0} {cmp : T → T → Ordering} (total : IsTotalOrder cmp) {e
           let inside = Contains-permutation ys xs y (IsPermutation-sym xs ys same) (Contains-from_dedup eq ys y there) in
           let is : x ≡ y = tellable x y h inside ((Equal-is (cmp x y)).0 (sym (ties x y) ∙ e)) in
           subst (λ (z : T). Contains (dedup eq ys) z) (sym is) there
+
+-- each is below the next
+pub from_adjacent : {T : Type 0} {cmp : T → T → Ordering} → IsTotalOrder cmp → (xs : List T) → AllAdjacentBelow (λ x y. true ≡ is_lt (cmp x y)) xs (length xs) → IsAscending cmp xs
+from_adjacent {T} {cmp} total xs each i j d lt below =
+    Less-from_sorted cmp xs i j d (sorted_from_all_adjacent total xs d (λ k inside. lt_Less _ (sym (each k d inside)))) lt below
+  where
+    lt_Less : (r : Ordering) → is_lt r ≡ true → r ≡ Less
+    lt_Less Less e = refl
+    lt_Less Equal e = cc
+    lt_Less Greater e = cc

@@ -1,20 +1,17 @@
--- The vertex with the greatest version of a path that some edges end at.
-use Rattle.std.specs.Prelude.{◌≡◌, ℕ, Bool, true, List, Option, Some, None, Contains}
-use Rattle.std.specs.Ordering.{is_gt}
-use Rattle.gm_name.specs.Version.{version_cmp}
-use Rattle.gm_select.specs.Graph.{Vertex, Edges, IsEnd}
-use Rattle.gm_select.specs.BuildList.{IsSelected}
+-- The greatest of each path, among vertices in ascending order: the last of that path.
+use Rattle.std.specs.Prelude.{ℕ, Bool, false, not, ◌&&◌, List, [], ◌∷◌, if◌then◌else◌}
+use Rattle.std.specs.Str.{bytes_eq}
+use Rattle.gm_select.specs.Graph.{Vertex}
 
--- none where no edge ends at the path, or where it is the main module's
-abbrev pub IsGreatest : List ℕ → Edges → List ℕ → Option Vertex → Type 0
-IsGreatest main edges path None = (y : Vertex) → IsEnd edges y → y.0 ≡ path → path ≡ main
-IsGreatest main edges path (Some x) = (x.0 ≡ path) × IsSelected main edges x
+-- whether the first of these vertices has the path
+abbrev pub begins_with : List ℕ → List Vertex → Bool
+begins_with path [] = false
+begins_with path (first ∷ rest) = bytes_eq first.0 path
 
--- the version is above that of the other vertex, if there is one
-abbrev pub is_above : Vertex → Option Vertex → Bool
-is_above x None = true
-is_above x (Some held) = is_gt (version_cmp x.1 held.1)
+-- whether the path is not the main module's, and none of the vertices behind has it
+abbrev pub is_selected : List ℕ → Vertex → List Vertex → Bool
+is_selected main x behind = not (bytes_eq x.0 main) && not (begins_with x.0 behind)
 
--- every step leads to each vertex of the list: these are edges with no other ends
-abbrev pub ending : List Vertex → Edges
-ending ends s y = Contains ends y
+abbrev pub greatest_of : List ℕ → List Vertex → List Vertex
+greatest_of main [] = []
+greatest_of main (x ∷ behind) = if is_selected main x behind then x ∷ greatest_of main behind else greatest_of main behind

@@ -103,7 +103,7 @@ fn vertices(alloc: Global, names: &'static [Name]) -> Option<Vec<ModVer>> {
     Some(vertices)
 }
 
-fn rows_of(alloc: Global, main: &str, ends: &[ModVer]) -> Option<Vec<Row>> {
+fn rows_of(alloc: Global, main: &str, ends: Vec<ModVer>) -> Option<Vec<Row>> {
     let Ok(doc) = Doc::parse(alloc, main.as_bytes()) else {
         return None;
     };
@@ -115,7 +115,7 @@ fn rows_of(alloc: Global, main: &str, ends: &[ModVer]) -> Option<Vec<Row>> {
 
 fn rows(alloc: Global, main: &str, edges: &[Edge]) -> Option<Vec<Row>> {
     let ends = ends(alloc, edges)?;
-    rows_of(alloc, main, &ends)
+    rows_of(alloc, main, ends)
 }
 
 fn is_step(step: &Step, path: &str, version: &str) -> bool {
@@ -183,7 +183,7 @@ fn gives_rows(
 // Whether the ends give these rows.
 fn ends_give_rows(alloc: Global, names: &'static [Name], lines: &'static [Line]) -> Option<bool> {
     let ends = vertices(alloc, names)?;
-    let rows = rows_of(alloc, MAIN, &ends)?;
+    let rows = rows_of(alloc, MAIN, ends)?;
     Some(are_rows(&rows, lines))
 }
 

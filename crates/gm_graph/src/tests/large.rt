@@ -56,21 +56,16 @@ fn is_too_many(loading: &Result<Loaded, LoadFault>) -> Option<bool> {
     }
 }
 
-fn has_rows(alloc: Global, loaded: &Loaded, count: usize) -> Option<bool> {
-    let edges = loaded.edges(alloc).ok()?;
-    let has_edges = edges.len() == count;
-    Some(has_edges && lists(loaded, count))
-}
-
-fn lists(loaded: &Loaded, count: usize) -> bool {
-    loaded.faults().is_empty() && loaded.build_list().len() == count.saturating_add(1)
+fn has_rows(loaded: &Loaded, count: usize) -> bool {
+    loaded.faults().is_empty()
+        && loaded.edges().len() == count
+        && loaded.build_list().len() == count.saturating_add(1)
 }
 
 fn lists_all(alloc: Global, main: &MainFile<'_>) -> Option<bool> {
     let mut store = filled(alloc, most())?;
     let loaded = load(alloc, main, &mut store, None).ok()?;
-    let has_rows = has_rows(alloc, &loaded, most())?;
-    Some(has_rows && store.count() == most())
+    Some(has_rows(&loaded, most()) && store.count() == most())
 }
 
 fn opens_present_modules(alloc: Global) -> Option<bool> {

@@ -403,10 +403,11 @@ fn rows(alloc: Global, main: &MainFile<'_>, edges: &[Edge]) -> Result<Vec<Row>, 
     Ok(rows)
 }
 
-fn turns(alloc: Global, opened: &[Opened]) -> Result<Vec<Turn>, NoMemory> {
+// A module at the top is read for that where the main file is pruned; else it is opened deeply too.
+fn turns(alloc: Global, main: &MainFile<'_>, opened: &[Opened]) -> Result<Vec<Turn>, NoMemory> {
     let mut turns = Vec::new(alloc);
     for one in opened {
-        if one.top {
+        if one.top && is_pruned(main.go()) {
             let vertex = one.vertex.copy(alloc)?;
             let depth = Depth::Top;
             turns.push(Turn { vertex, depth })?;
@@ -434,6 +435,6 @@ pub(super) fn load(
         faults: faults(alloc, main, given, &list)?,
         rows: rows(alloc, main, &edges)?,
         edges,
-        turns: turns(alloc, &opened)?,
+        turns: turns(alloc, main, &opened)?,
     })
 }

@@ -1,6 +1,11 @@
-use Rattle.std.proofs.Common.{◌≡◌, ◌++◌, ◌∷◌, map}
-use Rattle.gm_select.specs.BuildList.{entries_seen, entry_of, main_entry, main_replaces}
+use Rattle.std.proofs.Common.{◌≡◌, ◌++◌, ◌∷◌, length, map}
+use Rattle.gm_select.specs.BuildList.{entries_seen, entry_of, main_entry, main_path, main_replaces}
+use Rattle.gm_select.specs.Greatest.{greatest_of}
 use Rattle.gm_select.proofs.selecting.rows_of.Given as goal
 
-abbrev pub invariant-loop-vertex : goal.invariant-loop-vertex
-invariant-loop-vertex l = entries_seen l.rows.items ++ map (entry_of (main_replaces l.main)) (map (λ held. held.1) l.vertex-iterator) ≡ main_entry ∷ map (entry_of (main_replaces l.main)) (map (λ held. held.1) l.fn.best.entries)
+-- the rows so far and those of what is left are all
+abbrev pub invariant-ends : goal.invariant-ends
+invariant-ends l = entries_seen l.rows.items ++ map (entry_of (main_replaces l.main)) (greatest_of (main_path l.main) l.left) ≡ main_entry ∷ map (entry_of (main_replaces l.main)) (greatest_of (main_path l.main) l.fn.ends)
+
+abbrev pub decreases-ends : goal.decreases-ends
+decreases-ends l = length l.left
