@@ -15,7 +15,8 @@ if command -v rustc > /dev/null; then
   rustc -O -o "$plain" bench/plain.rs
 fi
 
-# The same files at each run. A path has up to three versions, each a module of its own.
+# The same files at each run. A path has up to three versions, each a module of its own. Requirements stand as the go command
+# leaves them, in the order of their paths and each once.
 python3 - "$work" << 'PY'
 import os
 import random
@@ -27,7 +28,7 @@ work = sys.argv[1]
 def write(root, path, version, requirements):
     folder = f"{root}/proxy/{path}/@v"
     os.makedirs(folder, exist_ok=True)
-    lines = "".join(f"\t{p} {v}\n" for p, v in requirements)
+    lines = "".join(f"\t{p} {v}\n" for p, v in sorted(requirements))
     with open(f"{folder}/{version}.mod", "w", encoding="ascii") as out:
         out.write(f"module {path}\n\nrequire (\n{lines})\n")
     # the go command wants it; gomod doesn't look at it
@@ -37,7 +38,7 @@ def write(root, path, version, requirements):
 
 def write_main(root, requirements):
     os.makedirs(f"{root}/proxy", exist_ok=True)
-    lines = "".join(f"\t{p} {v}\n" for p, v in requirements)
+    lines = "".join(f"\t{p} {v}\n" for p, v in sorted(requirements))
     with open(f"{root}/go.mod", "w", encoding="ascii") as out:
         out.write(f"module example.com/main\n\ngo 1.16\n\nrequire (\n{lines})\n")
 
@@ -47,8 +48,9 @@ def scattered(name, count, width):
     modules = [(f"example.com/m{place // 3:05d}", f"v1.{place % 3}.0") for place in range(count)]
     for place, (path, version) in enumerate(modules):
         # the next one in the list, so that all are reached, and others anywhere
-        others = [modules[(place + 1) % count]] + chance.sample(modules, width - 1)
-        write(f"{work}/{name}", path, version, others)
+        next_one = modules[(place + 1) % count]
+        others = [module for module in chance.sample(modules, width) if module != next_one]
+        write(f"{work}/{name}", path, version, [next_one] + others[: width - 1])
     write_main(f"{work}/{name}", chance.sample(modules, 20))
 
 
