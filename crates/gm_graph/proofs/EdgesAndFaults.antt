@@ -47,7 +47,7 @@ no_fault_put old new x found e same q =
 from_each : (one : Leaving) (y : Vertex) → Contains one.to.items y → Contains (edges_from one) (edge one.from y)
 from_each one y h = in_mapped (λ (z : Vertex). edge one.from z) one.to.items y h
 
-from_only : (one : Leaving) (e : Edge) → Contains (edges_from one) e → (y : Vertex) × Contains one.to.items y × (e ≡ edge one.from y)
+pub from_only : (one : Leaving) (e : Edge) → Contains (edges_from one) e → (y : Vertex) × Contains one.to.items y × (e ≡ edge one.from y)
 from_only one e h = let found = from_mapped (λ (z : Vertex). edge one.from z) one.to.items e h in (found.0, found.1, sym found.2)
 
 pub edges_push : (all : List Leaving) (one : Leaving) → edges_of (all ++ one ∷ []) ≡ edges_of all ++ edges_from one
@@ -95,7 +95,7 @@ edges_each [] one e there h = absurd (omega (arith, there.1))
 edges_each (first ∷ all) one e (zero, below, is) h = Contains-append_left (edges_from first) (edges_of all) e (subst (λ (o : Leaving). Contains (edges_from o) e) (sym is) h)
 edges_each (first ∷ all) one e (suc k, below, is) h = Contains-append_right (edges_from first) (edges_of all) e (edges_each all one e (k, omega arith, is) h)
 
-edges_only : (all : List Leaving) (e : Edge) → Contains (edges_of all) e → (one : Leaving) × Contains all one × Contains (edges_from one) e
+pub edges_only : (all : List Leaving) (e : Edge) → Contains (edges_of all) e → (one : Leaving) × Contains all one × Contains (edges_from one) e
 edges_only [] e h = absurd (omega (arith, h.1))
 edges_only (first ∷ all) e h = elim (Contains-append_cases (edges_from first) (edges_of all) e h) [
   | inl here ↦ (first, (0, omega arith, refl), here)

@@ -5,6 +5,7 @@ pub mod Deepening
 pub mod Rounds
 pub mod Marking
 pub mod EdgesAndFaults
+pub mod InOrder
 pub mod Turning
 pub mod Caching
 pub mod Queueing

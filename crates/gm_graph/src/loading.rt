@@ -23,13 +23,13 @@ ghost use Rattle.gm_graph.specs.Turns.{AreFirstTurns};
 
 use crate::following::follow;
 use crate::gathering::{Gathered, fault_list, main_edges};
-use crate::leaving::all_edges;
+use crate::leaving::ascending_edges;
 use crate::loaded::Loaded;
 use crate::opening::{Opening, copy_turn};
 use crate::starting::{begin, kept_requirements};
 use gm_cache::{Cache, LoadFault, main_says};
 use gm_file::MainFile;
-use gm_select::{build_list, sorted_edges};
+use gm_select::build_list;
 use gm_store::Files;
 use gm_sums::SumTable;
 use std::alloc::{AllocError, Global};
@@ -98,8 +98,7 @@ fn put_together(
     let turns = cache.into_turns();
     let ends = opening.into_ends()?;
     let rows = build_list(alloc, main, ends)?;
-    let found = all_edges(alloc, leaving)?;
-    let edges = sorted_edges(found);
+    let edges = ascending_edges(alloc, leaving)?;
     Ok(Loaded::new(path, faults, edges, rows, turns))
 }
 

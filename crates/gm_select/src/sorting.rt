@@ -6,8 +6,8 @@ ghost use Rattle.gm_select.specs.Order.{AreTellable, HaveSame, IsAscending};
 
 use crate::step::Edge;
 
-// Whether each is below the next.
-fn is_ascending<T: Ord>(items: &[T]) -> bool
+/// Whether each is below the next. It takes no memory, and a comparison for each.
+pub fn is_ascending<T: Ord>(items: &[T]) -> bool
     ensures { result ≡ true → IsAscending T.cmp items.now }
 {
     items.is_sorted_by(|a, b| a.cmp(b).is_lt())

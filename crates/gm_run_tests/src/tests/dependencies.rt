@@ -11,7 +11,7 @@ type Reading = (&'static [u8], &'static [u8]);
 const READINGS: &[Reading] = &[
     // other directives are passed over, whatever their arguments
     (
-        b"module example.com/a\nexclude x\nreplace y\nuse z\n\"require\" example.com/b v1.0.0\nexclude (\nx y\n)\nuse (\n)\nfoo ( )\n( )\n",
+        b"module example.com/a\nexclude x\nreplace y\nuse z\n\"require\" example.com/b v1.0.0\nexclude (\nx y\n)\nreplace (\nx\n)\nuse (\n)\nfoo ( )\n( )\n",
         b"",
     ),
     (b"\"module\" x\nmodule ( )\nmodule example.com/a\n", b""),

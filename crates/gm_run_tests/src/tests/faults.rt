@@ -326,6 +326,15 @@ const SUMS: &[Row] = &[
     (
         Project {
             main: DIFFLIB_REQUIRED,
+            sums: Some(b"a b\n"),
+            files: DIFFLIB_FILES,
+            asked: &[],
+        },
+        &[(LIST, b"", b"go.sum:1: BadSum\n")],
+    ),
+    (
+        Project {
+            main: DIFFLIB_REQUIRED,
             sums: Some(b"a b \xff\n"),
             files: DIFFLIB_FILES,
             asked: &[],

@@ -164,17 +164,31 @@ fn full_at_each_byte(alloc: Global, project: &Project, answer: &Answer) -> bool 
     true
 }
 
+fn reports_at_each_byte(alloc: Global, project: &Project, answer: &Answer) -> bool {
+    for room in 0..=answer.2.len() {
+        if !holds_in(alloc, project, answer, (AMPLE, room)) {
+            return false;
+        }
+    }
+    true
+}
+
+// A sink that a run writes nothing to may have no room.
+fn either_full_at_each_byte(alloc: Global, project: &Project, answer: &Answer) -> bool {
+    full_at_each_byte(alloc, project, answer) && reports_at_each_byte(alloc, project, answer)
+}
+
 #[test]
 fn a_full_output(rt: HostRuntime) -> Result<(), Fail> {
     let answer: Answer = (LIST, GREATEST_LISTED, b"");
-    assert!(rt; full_at_each_byte(rt.alloc(), &GREATEST, &answer));
+    assert!(rt; either_full_at_each_byte(rt.alloc(), &GREATEST, &answer));
     Ok(())
 }
 
 #[test]
 fn a_full_output_of_the_graph(rt: HostRuntime) -> Result<(), Fail> {
     let answer: Answer = (Query::Graph, DEEPENED_GRAPH, b"");
-    assert!(rt; full_at_each_byte(rt.alloc(), &DEEPENED, &answer));
+    assert!(rt; either_full_at_each_byte(rt.alloc(), &DEEPENED, &answer));
     Ok(())
 }
 
@@ -190,19 +204,10 @@ fn a_full_output_of_a_page(rt: HostRuntime) -> Result<(), Fail> {
     Ok(())
 }
 
-fn reports_at_each_byte(alloc: Global, project: &Project, answer: &Answer) -> bool {
-    for room in 0..=answer.2.len() {
-        if !holds_in(alloc, project, answer, (AMPLE, room)) {
-            return false;
-        }
-    }
-    true
-}
-
 #[test]
 fn a_full_report(rt: HostRuntime) -> Result<(), Fail> {
     let answer: Answer = (LIST, b"", FAULTS);
-    assert!(rt; reports_at_each_byte(rt.alloc(), &FAULTY, &answer));
+    assert!(rt; either_full_at_each_byte(rt.alloc(), &FAULTY, &answer));
     Ok(())
 }
 

@@ -5,26 +5,26 @@ use Rattle.gm_select.specs.BuildList.{Entry, IsBuildList, entries_seen, main_pat
 use Rattle.gm_select.specs.Graph.{AreEnds, among}
 use Rattle.gm_select.specs.Order.{HaveSame}
 use Rattle.gm_graph.specs.Gathering.{edges_in}
-use Rattle.gm_graph.proofs.Rooted.{are_reached, ends_along, same_along, sorted_rooted}
+use Rattle.gm_graph.proofs.Rooted.{are_reached, ends_along, sorted_rooted}
 use Rattle.gm_graph.proofs.loading.put_together.Goals as goal
 
 pub new-requires : goal.new-requires
 new-requires c =
     let found = edges_in c.args.gathered in
-    let edges = c.sorted_edges-edges.result.items in
-    let same : HaveSame found edges = same_along _ _ _ c.in_ok-found.ensures c.sorted_edges-edges.ensures.members in
+    let edges = c.in_ok-edges.edges.items in
+    let same : HaveSame found edges = c.in_ok-edges.ensures.members in
     are_reached (main_path c.args.main.now) (main_replaces c.args.main.now) edges (entries_seen c.in_ok-rows.rows.items) (sorted_rooted found edges same c.requires.rooted)
     (c.in_ok-rows.ensures edges (subst (λ (ends : List Vertex). AreEnds ends (among edges)) (sym c.in_ok-ends.ensures) (ends_along _ found edges same c.requires.ends)))
-    c.sorted_edges-edges.ensures.ascending
+    c.in_ok-edges.ensures.ascending
 
 pub returns-clause-edges : goal.returns-clause-edges
-returns-clause-edges c = subst (λ (es : List Edge). HaveSame (edges_in c.args.gathered) es) (sym c.new.ensures.edges) (same_along _ _ _ c.in_ok-found.ensures c.sorted_edges-edges.ensures.members)
+returns-clause-edges c = subst (λ (es : List Edge). HaveSame (edges_in c.args.gathered) es) (sym c.new.ensures.edges) c.in_ok-edges.ensures.members
 
 pub returns-clause-rows : goal.returns-clause-rows
 returns-clause-rows c =
     let found = edges_in c.args.gathered in
-    let edges = c.sorted_edges-edges.result.items in
-    let same : HaveSame found edges = same_along _ _ _ c.in_ok-found.ensures c.sorted_edges-edges.ensures.members in
+    let edges = c.in_ok-edges.edges.items in
+    let same : HaveSame found edges = c.in_ok-edges.ensures.members in
     let path = main_path c.args.main.now in
     let replaces = main_replaces c.args.main.now in
     let entries = entries_seen c.in_ok-rows.rows.items in

@@ -1,0 +1,65 @@
+-- Groups of edges in ascending order, one behind another, are edges in ascending order.
+use Rattle.std.proofs.Common.{◌≡◌, ◌+◌, ◌<◌, ℕ, List, [], ◌∷◌, ◌++◌, length, take, get_or, Contains, ap, ap₂, ◌∙◌, sym, subst, inl, inr, arith}
+use Rattle.std.specs.Prelude.{All, AllPairs}
+use Rattle.std.specs.declared.cmp.Ordering.{Ordering}
+use Rattle.std.specs.declared.cmp.Ordering.TheVariants.{Less}
+use Rattle.std.specs.Ordering.{ordering_then}
+use Rattle.std.proofs.lemmas.List.{get_or-map, length-map, take_more}
+use Rattle.std.proofs.lemmas.List.Elements.{Contains-append_cases, Contains-get_or, Contains-push_cases}
+use Rattle.std.proofs.lemmas.List.Kept.{AllPairs-cons}
+use Rattle.gm_cache.specs.Main.{Vertex}
+use Rattle.gm_select.specs.declared.step.Edge.{Edge}
+use Rattle.gm_select.specs.Graph.{edge, edge_cmp, step_cmp, vertex_cmp}
+use Rattle.gm_select.specs.Order.{IsAscending}
+use Rattle.gm_select.proofs.Ascending.{member_head, member_tail, pairs_head, pairs_tail}
+use Rattle.gm_select.proofs.Ranges.{step_itself}
+use Rattle.gm_graph.specs.declared.leaving.Leaving.{Leaving}
+use Rattle.gm_graph.specs.Leaving.{edges_from, edges_of}
+use Rattle.gm_graph.proofs.EdgesAndFaults.{edges_only, from_only}
+
+-- pairs within two lists and between them
+pairs_append : {T : Type 0} (R : T → T → Type 0) (xs ys : List T) → AllPairs R xs → AllPairs R ys → ((x y : T) → Contains xs x → Contains ys y → R x y) → AllPairs R (xs ++ ys)
+pairs_append R [] ys a b between = b
+pairs_append {T} R (x ∷ xs) ys a b between =
+    AllPairs-cons R x (xs ++ ys) firsts (pairs_append R xs ys (pairs_tail R x xs a) b (λ y z h k. between y z (member_tail x y xs h) k))
+  where
+    firsts : All (R x) (xs ++ ys)
+    firsts k d below = elim (Contains-append_cases xs ys (get_or (xs ++ ys) k d) (Contains-get_or (xs ++ ys) k d below)) [
+      | inl h ↦ pairs_head R x (get_or (xs ++ ys) k d) xs a h
+      | inr h ↦ between x (get_or (xs ++ ys) k d) (member_head x xs) h
+    ]
+
+-- the edges of a group whose ends ascend
+from_ascends : (one : Leaving) → IsAscending vertex_cmp one.to.items → IsAscending edge_cmp (edges_from one)
+from_ascends one up i j d lt below =
+    let inside : j < length one.to.items = rw length-map at below in
+    let left = get_or-map (λ (y : Vertex). edge one.from y) one.to.items i d.to d (omega arith) in
+    let right = get_or-map (λ (y : Vertex). edge one.from y) one.to.items j d.to d inside in
+    ap₂ edge_cmp left right
+    ∙ ap (λ (o : Ordering). ordering_then o (vertex_cmp (get_or one.to.items i d.to) (get_or one.to.items j d.to))) (step_itself one.from)
+    ∙ up i j d.to lt inside
+
+abbrev LeavesLower : Leaving → Leaving → Type 0
+LeavesLower a b = step_cmp a.from b.from ≡ Less
+
+pub edges_ascend : (all : List Leaving) → AllPairs (λ (a b : Leaving). step_cmp a.from b.from ≡ Less) all → ((one : Leaving) → Contains all one → IsAscending vertex_cmp one.to.items) → IsAscending edge_cmp (edges_of all)
+edges_ascend [] steps each = λ i j d lt below. absurd (omega (arith, below))
+edges_ascend (one ∷ all) steps each =
+    pairs_append (λ (a b : Edge). edge_cmp a b ≡ Less) (edges_from one) (edges_of all)
+    (from_ascends one (each one (member_head one all)))
+    (edges_ascend all (pairs_tail LeavesLower one all steps) (λ other h. each other (member_tail one other all h)))
+    between
+  where
+    between : (a b : Edge) → Contains (edges_from one) a → Contains (edges_of all) b → edge_cmp a b ≡ Less
+    between a b h k =
+        let (y, there, is) = from_only one a h in
+        let (other, later, at) = edges_only all b k in
+        let (z, found, same) = from_only other b at in
+        ap₂ edge_cmp is same ∙ ap (λ (o : Ordering). ordering_then o (vertex_cmp y z)) (pairs_head LeavesLower one other all steps later)
+
+-- one more of the groups
+pub each_more : (P : Leaving → Type 0) (all : List Leaving) (i : ℕ) (x : Leaving) → i < length all → x ≡ get_or all i x → ((one : Leaving) → Contains (take i all) one → P one) → P x → (one : Leaving) → Contains (take (i + 1) all) one → P one
+each_more P all i x below is before now one h = elim (Contains-push_cases (take i all) x one (subst (λ (ones : List Leaving). Contains ones one) (take_more all i x below ∙ ap (λ (o : Leaving). take i all ++ o ∷ []) (sym is)) h)) [
+  | inl old ↦ before one old
+  | inr same ↦ subst P same now
+]
