@@ -75,7 +75,7 @@ best() { for _ in 1 2 3; do python3 bench/measure.py "$@"; done | sort -n | head
 tell() {
   local what=$1 modules=$2 took=$3 busy=$4 memory=$5
   awk -v what="$what" -v modules="$modules" -v took="$took" -v busy="$busy" -v memory="$memory" 'BEGIN {
-    printf "%-20s %6.2f s, of the processor %6.2f s, %5.0f MB; a module %5.1f us, %5.1f KB\n", what, took, busy, memory / 1e6, busy * 1e6 / modules, memory / 1e3 / modules
+    printf "%-20s %6.2f s, of the processor %6.2f s, %5.0f MB; a module %5.1f us of the processor, %5.1f KB\n", what, took, busy, memory / 1e6, busy * 1e6 / modules, memory / 1e3 / modules
   }'
 }
 
