@@ -176,5 +176,5 @@ pub some_steps : (steps : List Step) (n : ℕ) → length steps ≡ n → (n == 
 some_steps [] n is h = absurd (let apart = eqb-false n 0 h in apart (sym is))
 some_steps (s ∷ steps) n is h = refl
 
-pub no_entries : (m : BTreeMap Vertex ℕ) → m.entries ≡ [] → (y : Vertex) → get vertex_cmp m y ≡ None
-no_entries m is y = ap (λ (es : List (Vertex × ℕ)). lookup (λ q. is_eq (vertex_cmp y q)) es) is
+pub no_entries : {X : Type 0} (m : BTreeMap Vertex X) → m.entries ≡ [] → (y : Vertex) → get vertex_cmp m y ≡ None
+no_entries {X} m is y = ap (λ (es : List (Vertex × X)). lookup (λ q. is_eq (vertex_cmp y q)) es) is

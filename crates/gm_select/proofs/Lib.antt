@@ -7,7 +7,9 @@ pub mod Selected
 pub mod Ranges
 pub mod Marking
 pub mod Leveling
+pub mod Numbered
 pub mod Stepping
 pub mod Walking
 pub mod Ascending
+pub mod Inserting
 pub mod Lawful

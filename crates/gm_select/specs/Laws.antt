@@ -20,9 +20,13 @@ abbrev pub RowsSatisfy : Type 0
 RowsSatisfy = (main : List ℕ) (replaces : List Replacing) (edges : List Edge) (entries : List Entry) → IsBuildList main replaces (among edges) entries
     → (y : Vertex) → IsEnd (among edges) y → y.0 ≢ main → (x : Vertex) × (right : Option Right) × Contains entries (Of x, right) × (x.0 ≡ y.0) × (is_gt (version_cmp y.1 x.1) ≡ false)
 
--- the edges have one build list
+-- the edges have at most one build list
 abbrev pub OneBuildList : Type 0
 OneBuildList = (main : List ℕ) (replaces : List Replacing) (edges : List Edge) (a b : List Entry) → IsBuildList main replaces (among edges) a → IsBuildList main replaces (among edges) b → a ≡ b
+
+-- and there is one
+abbrev pub SomeBuildList : Type 0
+SomeBuildList = (main : List ℕ) (replaces : List Replacing) (edges : List Edge) → (entries : List Entry) × IsBuildList main replaces (among edges) entries
 
 -- a path has one rest
 abbrev pub OneRest : Type 0

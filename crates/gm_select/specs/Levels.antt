@@ -67,10 +67,9 @@ abbrev pub IsBest : List Edge → Numbers → Vertex → Option Step → Type 0
 IsBest edges numbers y None = (t : Step) → among edges t y → is_nearer numbers t y ≡ false
 IsBest edges numbers y (Some s) = among edges s y × (is_nearer numbers s y ≡ true) × ((t : Step) → among edges t y → is_nearer numbers t y ≡ true → is_lt (step_cmp t s) ≡ false)
 
--- the step is below the other one, if there is one
-abbrev pub is_lower : Step → Option Step → Bool
-is_lower s None = true
-is_lower s (Some t) = is_lt (step_cmp s t)
+-- none of the edges leaves a higher step than that
+abbrev pub LeaveUpTo : List Edge → Step → Type 0
+LeaveUpTo edges s = (e : Edge) → Contains edges e → is_lt (step_cmp s e.from) ≡ false
 
 -- a map's step before a step: the main module has none
 abbrev pub before_in : BTreeMap Vertex Step → Step → Option Step

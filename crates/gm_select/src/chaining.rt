@@ -1,19 +1,22 @@
 //! The shortest chain of requirements.
 
-ghost use Rattle.std.specs.Prelude.{◌≡◌, ◌++◌, ◌∷◌, [], List, IfErr, IfNone, IfOk, IfSome, IsErrOf, OnOk};
+ghost use Rattle.std.specs.Prelude.{◌≡◌, ◌↔◌, ◌++◌, ◌∷◌, [], ℕ, List, Contains, Some, IfErr, IfNone, IfOk, IfSome, IsErrOf, OnOk, map};
 ghost use Rattle.std.specs.Option.{option_map};
+ghost use Rattle.std.specs.BTreeMap as tree;
 ghost use Rattle.std.specs.BTreeMap.{get};
-ghost use Rattle.gm_select.specs.Graph.{Vertex, among, edge_cmp, vertex_cmp};
+ghost use Rattle.gm_select.specs.Graph.{Vertex, among, edge_cmp, step_cmp, vertex_cmp};
 ghost use Rattle.gm_select.specs.Order.{IsAscending};
 ghost use Rattle.gm_select.specs.BuildList.{IsEntryOf, IsListed, entries_seen};
 ghost use Rattle.gm_select.specs.Chains.{IsChain, IsReached};
-ghost use Rattle.gm_select.specs.Levels.{AreLevels, IsBest, Numbers, before_in, is_lower, is_nearer, level_in};
+ghost use Rattle.gm_select.specs.Levels.{AreLevels, IsBest, LeaveUpTo, Numbers, before_in, is_one_less, level_in};
 ghost use Rattle.gm_select.specs.declared.step.Edge.{Edge};
 ghost use Rattle.gm_select.specs.declared.step.Step.{Step};
+ghost use Rattle.gm_select.specs.declared.step.Step.TheVariants.{Main, Of};
 ghost use Rattle.gm_select.specs.declared.chaining.ChainFault.TheVariants.{NoMemory};
 
-use crate::levels::{level_of, levels_of};
+use crate::levels::{leaving, level_of, levels_of};
 use crate::row::{Row, row_at};
+use crate::sorting::sorted;
 use crate::step::{Edge, Step};
 use gm_name::{ModPath, ModVer};
 use std::alloc::{AllocError, Global};
@@ -50,42 +53,30 @@ fn entry_of<'a>(main: &ModPath, rows: &'a [Row], path: &ModPath) -> Option<&'a S
     }
 }
 
-// Whether an edge leads one level further.
-fn is_nearer(levels: &BTreeMap<ModVer, usize>, edge: &Edge) -> bool
-    ensures { result ≡ is_nearer (level_in levels.now) edge.now.from edge.now.to }
+// Whether a vertex is one level further than a step of that level.
+fn is_next(levels: &BTreeMap<ModVer, usize>, near: usize, vertex: &ModVer) -> bool
+    ensures { result ≡ is_one_less (Some near) (get vertex_cmp levels.now vertex.now) }
 {
-    match level_of(levels, &edge.from) {
-        Some(near) => match levels.get(&edge.to) {
-            Some(far) => near < *far && *far - near == 1,
-            None => false,
-        },
+    match levels.get(vertex) {
+        Some(far) => near < *far && *far - near == 1,
         None => false,
     }
 }
 
-// Whether an edge leaves a lower step than the one that is held for its end, if one is.
-fn is_lower(before: &BTreeMap<ModVer, Step>, edge: &Edge) -> bool
-    ensures { result ≡ is_lower edge.now.from (get vertex_cmp before.now edge.now.to) }
-{
-    match before.get(&edge.to) {
-        Some(held) => edge.from < *held,
-        None => true,
-    }
-}
-
-// Takes one more edge into account.
+// Takes one more edge into account, which leaves a step of that level, and no lower one than those before it.
 fn note(
     alloc: Global,
     levels: &BTreeMap<ModVer, usize>,
     before: &mut BTreeMap<ModVer, Step>,
+    near: usize,
     edge: &Edge,
 ) -> Result<(), AllocError>
-    ensures { OnOk result ((edges : List Edge) (y : Vertex) → IsBest edges (level_in levels.now) y (get vertex_cmp before.old y) → IsBest (edges ++ edge.now ∷ []) (level_in levels.now) y (get vertex_cmp before.new y)) }
+    ensures { OnOk result ((done : List Edge) (y : Vertex) → level_in levels.now edge.now.from ≡ Some near → LeaveUpTo done edge.now.from → IsBest done (level_in levels.now) y (get vertex_cmp before.old y) → IsBest (done ++ edge.now ∷ []) (level_in levels.now) y (get vertex_cmp before.new y)) }
 {
-    if !is_nearer(levels, edge) {
+    if !is_next(levels, near, &edge.to) {
         return Ok(());
     }
-    if !is_lower(before, edge) {
+    if before.contains_key(&edge.to) {
         return Ok(());
     }
     let vertex = edge.to.copy(alloc)?;
@@ -94,17 +85,63 @@ fn note(
     Ok(())
 }
 
-// For each vertex the least of the steps that an edge leaves to it, one level nearer to the main module.
+// The same of all edges that leave one step.
+fn note_all(
+    alloc: Global,
+    levels: &BTreeMap<ModVer, usize>,
+    before: &mut BTreeMap<ModVer, Step>,
+    near: usize,
+    edges: &[Edge],
+) -> Result<(), AllocError>
+    ensures { OnOk result ((done : List Edge) (step : Step) → ((e : Edge) → Contains edges.now e → e.from ≡ step) → level_in levels.now step ≡ Some near → LeaveUpTo done step → ((y : Vertex) → IsBest done (level_in levels.now) y (get vertex_cmp before.old y)) → (y : Vertex) → IsBest (done ++ edges.now) (level_in levels.now) y (get vertex_cmp before.new y)) }
+{
+    for edge in edges {
+        note(alloc, levels, before, near, edge)?;
+    }
+    Ok(())
+}
+
+// The main module, and the vertices that have a level.
+fn all_steps(alloc: Global, levels: &BTreeMap<ModVer, usize>) -> Result<Vec<Step>, AllocError>
+    ensures steps { IfOk result (λ steps. steps.items ≡ Main ∷ map (λ entry. Of entry.0) levels.now.entries) }
+    ensures ordered { OnOk result (tree.IsOrdered vertex_cmp levels.now) }
+{
+    let mut steps = Vec::new(alloc);
+    steps.push(Step::Main)?;
+    for (vertex, _) in levels {
+        steps.push(Step::Of(vertex.copy(alloc)?))?;
+    }
+    Ok(steps)
+}
+
+// The steps that have a level, in ascending order.
+fn numbered_steps(alloc: Global, levels: &BTreeMap<ModVer, usize>) -> Result<Vec<Step>, AllocError>
+    ensures ascending { IfOk result (λ steps. IsAscending step_cmp steps.items) }
+    ensures members { IfOk result (λ steps. (s : Step) → Contains steps.items s ↔ ((n : ℕ) × (level_in levels.now s ≡ Some n))) }
+{
+    let steps = all_steps(alloc, levels)?;
+    Ok(sorted(steps))
+}
+
+// For each vertex the least of the steps from which an edge leads to it, one level further. Steps come in ascending order, so the
+// first that is found is the least, and a long path is not compared for each edge that leaves it.
 fn steps_before(
     alloc: Global,
     edges: &[Edge],
     levels: &BTreeMap<ModVer, usize>,
+    steps: &[Step],
 ) -> Result<BTreeMap<ModVer, Step>, AllocError>
+    requires edges { IsAscending edge_cmp edges.now }
+    requires steps { IsAscending step_cmp steps.now }
+    requires numbered { (s : Step) → Contains steps.now s ↔ ((n : ℕ) × (level_in levels.now s ≡ Some n)) }
     ensures { IfOk result (λ before. (y : Vertex) → IsBest edges.now (level_in levels.now) y (get vertex_cmp before y)) }
 {
     let mut before = BTreeMap::new(alloc);
-    for edge in edges {
-        note(alloc, levels, &mut before, edge)?;
+    for step in steps {
+        match level_of(levels, step) {
+            Some(near) => note_all(alloc, levels, &mut before, near, leaving(edges, step))?,
+            None => unreachable!(),
+        }
     }
     Ok(before)
 }
@@ -169,7 +206,8 @@ pub fn chain(
     let Some(level) = level_of(&levels, entry) else {
         return Err(ChainFault::NotListed);
     };
-    let before = steps_before(alloc, edges, &levels)?;
+    let numbered = numbered_steps(alloc, &levels)?;
+    let before = steps_before(alloc, edges, &levels, &numbered)?;
     let steps = walk_back(alloc, &before, entry, level)?;
     Ok(steps)
 }

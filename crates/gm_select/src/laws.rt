@@ -1,6 +1,6 @@
 //! Laws over the definitions, on which the crates above may rest. The functions do nothing: each contract is a law.
 
-ghost use Rattle.gm_select.specs.Laws.{ChainIsShortest, EntriesAreReached, MainIsFirst, OneBuildList, OneChain, OneRest, PagesExist, PagesJoin, RowsAreEnds, RowsSatisfy};
+ghost use Rattle.gm_select.specs.Laws.{ChainIsShortest, EntriesAreReached, MainIsFirst, OneBuildList, OneChain, OneRest, PagesExist, PagesJoin, RowsAreEnds, RowsSatisfy, SomeBuildList};
 
 /// Each row's version is one that an edge ends at.
 pub fn rows_are_ends()
@@ -13,9 +13,10 @@ pub fn rows_satisfy()
     ensures { RowsSatisfy }
 {}
 
-/// Edges have one build list.
+/// Each list of edges has a build list, and no other.
 pub fn one_build_list()
-    ensures { OneBuildList }
+    ensures unique { OneBuildList }
+    ensures exist { SomeBuildList }
 {}
 
 /// A path has one rest.

@@ -22,8 +22,8 @@ fn from_step<'a>(edges: &'a [Edge], step: &Step) -> &'a [Edge]
     &edges[first..]
 }
 
-// The edges that leave a step.
-fn leaving<'a>(edges: &'a [Edge], step: &Step) -> &'a [Edge]
+/// The edges that leave a step.
+pub(crate) fn leaving<'a>(edges: &'a [Edge], step: &Step) -> &'a [Edge]
     requires { IsAscending edge_cmp edges.now }
     ensures { (e : Edge) → Contains result.now e ↔ (Contains edges.now e × (e.from ≡ step.now)) }
 {

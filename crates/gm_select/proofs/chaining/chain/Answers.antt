@@ -1,4 +1,5 @@
-use Rattle.std.proofs.Common.{◌≡◌, ◌∙◌, sym, Some, None, ap}
+use Rattle.std.proofs.Common.{◌≡◌, ◌↔◌, ◌∙◌, ℕ, List, Contains, sym, Some, None, ap, subst}
+use Rattle.gm_select.specs.declared.step.Step.{Step}
 use Rattle.gm_select.specs.BuildList.{entries_seen}
 use Rattle.gm_select.specs.Levels.{level_in}
 use Rattle.gm_select.proofs.RestRows.{entry_listed, one_entry}
@@ -14,3 +15,7 @@ returns-in_default-level_of-clause-not_listed c = λ e (s, entry, (n, leads)).
     let same = one_entry c.args.main.now (entries_seen c.args.rows.now) c.args.path.now s c.in-Some.entry.now entry c.in-Some.ensures.some in
     let none : None ≡ Some m = c.in_default-level_of.ensures ∙ ap (level_in c.in_ok-levels.levels) (sym same) ∙ is in
     cc none
+
+pub steps_before-requires-clause-numbered : goal.steps_before-requires-clause-numbered
+steps_before-requires-clause-numbered c =
+    subst (λ (ss : List Step). (s : Step) → Contains ss s ↔ ((n : ℕ) × (level_in c.in_ok-levels.levels s ≡ Some n))) (sym c.deref.ensures.value) c.in_ok-numbered.ensures.members
