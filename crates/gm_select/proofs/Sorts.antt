@@ -1,5 +1,6 @@
 -- A list that was sorted and freed of repeats.
-use Rattle.std.proofs.Common.{◌≡◌, Bool, true, List, length, Contains, ◌∙◌, sym, refl, subst}
+use Rattle.std.proofs.Common.{◌≡◌, ◌+◌, ◌<◌, ℕ, Bool, true, false, List, [], ◌∷◌, length, get_or, Contains, ap, ◌∙◌, sym, refl, subst, arith}
+use Rattle.std.proofs.lemmas.Bool.{false≢true}
 use Rattle.std.specs.declared.cmp.Ordering.{Ordering}
 use Rattle.std.specs.declared.cmp.Ordering.TheVariants.{Less, Equal, Greater}
 use Rattle.std.specs.Ordering.{eq_by_cmp, is_lt}
@@ -39,3 +40,8 @@ from_adjacent {T} {cmp} total xs each i j d lt below =
     lt_Less Less e = refl
     lt_Less Equal e = cc
     lt_Less Greater e = cc
+
+-- one is not below the next
+pub not_ascending : {T : Type 0} (cmp : T → T → Ordering) (xs : List T) (k : ℕ) → k + 1 < length xs → ((d : T) → false ≡ is_lt (cmp (get_or xs k d) (get_or xs (k + 1) d))) → IsAscending cmp xs → ⊥
+not_ascending cmp [] k below low up = omega (arith, below)
+not_ascending cmp (x ∷ xs) k below low up = false≢true (low x ∙ ap is_lt (up k (k + 1) x (omega arith) below))

@@ -1,6 +1,6 @@
 //! Sorting without repeats.
 
-ghost use Rattle.std.specs.Prelude.{◌≡◌, true};
+ghost use Rattle.std.specs.Prelude.{◌≡◌, false, true};
 ghost use Rattle.gm_select.specs.Graph.{edge_cmp};
 ghost use Rattle.gm_select.specs.Order.{AreTellable, HaveSame, IsAscending};
 
@@ -8,7 +8,8 @@ use crate::step::Edge;
 
 /// Whether each is below the next. It takes no memory, and a comparison for each.
 pub fn is_ascending<T: Ord>(items: &[T]) -> bool
-    ensures { result ≡ true → IsAscending T.cmp items.now }
+    ensures yes { result ≡ true → IsAscending T.cmp items.now }
+    ensures no { result ≡ false → IsAscending T.cmp items.now → ⊥ }
 {
     items.is_sorted_by(|a, b| a.cmp(b).is_lt())
 }

@@ -9,7 +9,7 @@ use Rattle.gm_graph.proofs.leaving.each_ascends.Goals as goal
 
 pub loop-one-preserved : goal.loop-one-preserved
 loop-one-preserved c =
-    each_more (λ (one : Leaving). IsAscending vertex_cmp one.to.items) c.args.all.now c.loop-one.one-index c.one-item.result (omega arith) c.one-item.is c.loop-one.invariant (subst (λ (ys : List Vertex). IsAscending vertex_cmp ys) c.deref.ensures.value (c.is_ascending.ensures c.if-not-is_ascending.false))
+    each_more (λ (one : Leaving). IsAscending vertex_cmp one.to.items) c.args.all.now c.loop-one.one-index c.one-item.result (omega arith) c.one-item.is c.loop-one.invariant (subst (λ (ys : List Vertex). IsAscending vertex_cmp ys) c.deref.ensures.value (c.is_ascending.ensures.yes c.if-not-is_ascending.false))
 
 pub returns : goal.returns
 returns c = λ is one h.
