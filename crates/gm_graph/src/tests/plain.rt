@@ -1,5 +1,5 @@
 //! The plain body of loading: rounds over the list of opened modules, each of which reads every file again, until one adds nothing.
-//! It is slow, and has no queue, no marks, no cache and no running maximum.
+//! It is slow, and has no queue, no marks and no cache.
 
 use super::File;
 use crate::Fault;
