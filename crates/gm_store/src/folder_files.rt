@@ -33,8 +33,7 @@ impl<R: rt::Files> FolderStore<Places<R>> {
     /// The files of proxy folders, and of the folders beside the main file, of which nothing was asked.
     ///
     /// A file that is not found is absent, and every other error of the system, but for want of memory, is a failure of the
-    /// device. At most
-    /// `LIMIT + 1` bytes of a file are read.
+    /// device. At most `LIMIT + 1` bytes of a file are read.
     pub fn new(system: R, alloc: Global, main: String, proxy: ProxyList) -> FolderFiles<R>
         ensures main { main_folder (folders_under result) ≡ string_bytes main }
         ensures proxies { proxy_folders (folders_under result) ≡ folders_in proxy }
