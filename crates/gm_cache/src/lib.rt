@@ -21,5 +21,3 @@ pub use crate::depth::{Depth, Turn};
 pub use crate::finding::Finding;
 pub use crate::load_fault::LoadFault;
 
-#[cfg(test)]
-mod tests;

@@ -19,5 +19,3 @@ pub use crate::applying::apply;
 pub use crate::fault::{EditFault, OpFault};
 pub use crate::op::Op;
 
-#[cfg(test)]
-mod tests;

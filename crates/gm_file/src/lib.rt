@@ -20,5 +20,3 @@ pub use crate::fault::{DirectiveKind, FileFault};
 pub use crate::main_file::MainFile;
 pub use crate::replace::{Interval, Replace, Right};
 
-#[cfg(test)]
-mod tests;

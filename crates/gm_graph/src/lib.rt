@@ -15,5 +15,3 @@ pub use crate::fault::Fault;
 pub use crate::loaded::Loaded;
 pub use crate::loading::load;
 
-#[cfg(test)]
-mod tests;

@@ -22,5 +22,3 @@ pub use crate::report::{
 };
 pub use crate::row_lines::list_text;
 
-#[cfg(test)]
-mod tests;

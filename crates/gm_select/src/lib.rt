@@ -19,5 +19,3 @@ pub use crate::sorting::{is_ascending, sorted, sorted_edges};
 pub use crate::step::{Edge, Step};
 pub use crate::vertex_set::VertexSet;
 
-#[cfg(test)]
-mod tests;

@@ -6,5 +6,3 @@ mod sweep;
 
 pub use crate::shown::shown_versions;
 
-#[cfg(test)]
-mod tests;

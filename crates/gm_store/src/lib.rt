@@ -48,5 +48,3 @@ pub use crate::std_sink::StdSink;
 pub use crate::stepping::{Looked, Next, step};
 pub use gm_name::NoMemory;
 
-#[cfg(test)]
-mod tests;

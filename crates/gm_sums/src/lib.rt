@@ -9,5 +9,3 @@ pub use crate::hashing::mod_hash;
 pub use crate::sums::{Sum, SumFault, SumTable};
 pub use gm_name::NoMemory;
 
-#[cfg(test)]
-mod tests;

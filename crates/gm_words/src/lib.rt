@@ -7,7 +7,3 @@ mod usage;
 
 pub use crate::usage::{Command, Places, UsageFault, read_words};
 
-#[cfg(test)]
-mod query_tests;
-#[cfg(test)]
-mod tests;
