@@ -1,8 +1,0 @@
-//! The program, whose stored run prints a shortest chain over a proxy folder.
-#![tactic(auto)]
-
-use std::process::ExitCode;
-
-fn main(rt: HostRuntime) -> ExitCode {
-    gm_run::exit_code(&rt)
-}

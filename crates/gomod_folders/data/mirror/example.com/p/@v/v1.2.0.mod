@@ -1,3 +1,0 @@
-module example.com/p
-
-retract v1.0.0

@@ -1,5 +1,0 @@
-module example.com/local
-
-go 1.21
-
-require example.com/e v1.0.0
