@@ -20,4 +20,3 @@ pub use crate::class::{Class, Misreading};
 pub use crate::depth::{Depth, Turn};
 pub use crate::finding::Finding;
 pub use crate::load_fault::LoadFault;
-

@@ -18,4 +18,3 @@ mod walk;
 pub use crate::applying::apply;
 pub use crate::fault::{EditFault, OpFault};
 pub use crate::op::Op;
-

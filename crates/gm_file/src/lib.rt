@@ -19,4 +19,3 @@ pub use crate::dep_file::DepFile;
 pub use crate::fault::{DirectiveKind, FileFault};
 pub use crate::main_file::MainFile;
 pub use crate::replace::{Interval, Replace, Right};
-

@@ -14,4 +14,3 @@ mod starting;
 pub use crate::fault::Fault;
 pub use crate::loaded::Loaded;
 pub use crate::loading::load;
-

@@ -21,4 +21,3 @@ pub use crate::report::{
     syntax_report,
 };
 pub use crate::row_lines::list_text;
-

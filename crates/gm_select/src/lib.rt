@@ -18,4 +18,3 @@ pub use crate::selecting::build_list;
 pub use crate::sorting::{is_ascending, sorted, sorted_edges};
 pub use crate::step::{Edge, Step};
 pub use crate::vertex_set::VertexSet;
-

@@ -5,4 +5,3 @@ mod shown;
 mod sweep;
 
 pub use crate::shown::shown_versions;
-

@@ -47,4 +47,3 @@ pub use crate::sinks::{Sink, WriteFault, write_all};
 pub use crate::std_sink::StdSink;
 pub use crate::stepping::{Looked, Next, step};
 pub use gm_name::NoMemory;
-

@@ -8,4 +8,3 @@ mod sums;
 pub use crate::hashing::mod_hash;
 pub use crate::sums::{Sum, SumFault, SumTable};
 pub use gm_name::NoMemory;
-

@@ -6,4 +6,3 @@ mod query;
 mod usage;
 
 pub use crate::usage::{Command, Places, UsageFault, read_words};
-
