@@ -1,15 +1,18 @@
 #!/usr/bin/env bash
-# Refuses each allocation of each test in turn, and lists what goes wrong then.
+# Refuses each allocation of each command of the cases and of each test in turn, and lists what goes wrong then.
 #
-#   tools/refuse-memory.sh            every crate of crates.txt that has tests
-#   tools/refuse-memory.sh NAME..     these crates
+#   tools/refuse-memory.sh            all cases but the large ones, and every crate of crates.txt that has tests
+#   tools/refuse-memory.sh --cases FILE.txt.. TITLE..   the cases of these files, or those whose titles have one of these texts
+#   tools/refuse-memory.sh NAME..     the tests of these crates
 #   tools/refuse-memory.sh --but WORD NAME..   without the tests whose names have that word
 #
-# A test of this repository takes one refusal of memory as an answer, so with any one allocation refused it still has to end
-# well. A test that fails, or a program that crashes or hangs, is printed with the number of the refused allocation. The status
-# is 1 where that happened, and 0 where every test stood every refusal. The merge gate runs the same tests with none refused.
+# A command whose memory is refused has to say so, or to come to what its case says. A test of this repository takes one refusal
+# of memory as an answer, so with any one allocation refused it still has to end well. What does not, and a program that crashes
+# or hangs, is printed with the number of the refused allocation. The status is 1 where that happened, and 0 where all stood every
+# refusal. The merge gate runs the same cases and tests with none refused.
 #
-# It needs a C compiler (`cc`), and `rt` for a crate whose tests are not built: `rt test` leaves them in out/NAME_tests.
+# It needs a C compiler (`cc`), bin/gomod (./build makes it) and python3 for the cases, and `rt` for a crate whose tests are not
+# built: `rt test` leaves them in out/NAME_tests.
 set -euo pipefail
 cd "$(dirname "$0")/.."
 
@@ -18,6 +21,21 @@ most=200000 # more allocations than any test makes: a guard against a count that
 work=$(mktemp -d)
 trap 'rm -rf "$work"' EXIT
 cc -O1 -shared -fPIC -o "$work/refuse_memory.so" tools/refuse_memory.c
+
+# The commands of cases, but for those whose files are made large.
+refuse_in_cases() {
+  REFUSE_MEMORY=$work/refuse_memory.so tools/program.sh "$@"
+}
+if [ "${1-}" = --cases ]; then
+  shift
+  refuse_in_cases "$@"
+  exit
+fi
+cases_stand=0
+if [ $# -eq 0 ]; then
+  mapfile -t files < <(grep -Le '^-- .* \(repeat\|fill\) [0-9]* --$' crates/run_cases/data/*.txt)
+  refuse_in_cases "${files[@]}" || cases_stand=1
+fi
 
 # The tests to leave out: `large_` for those that ask for memory more often than the guard allows.
 but=
@@ -78,3 +96,4 @@ if [ "$failures" -ne 0 ]; then
   echo "$failures failures"
   exit 1
 fi
+exit $cases_stand

@@ -1,4 +1,4 @@
-//! The program, whose stored run ends with status 1: a file of a proxy has another hash than the go.sum says.
+//! The program, whose stored run reports the modules whose hashes are not those of a go.sum.
 #![tactic(auto)]
 
 use std::process::ExitCode;

@@ -1,0 +1,133 @@
+//! Escapes of bytes that a line of text can't show.
+
+use std::alloc::{AllocError, AllocFailed, Global};
+
+/// Why escaped text has no bytes.
+#[derive(Clone, Copy, Debug, PartialEq, Eq)]
+pub(crate) enum EscapeFault {
+    /// A growth was refused.
+    NoMemory,
+    /// A backslash is followed by what is no escape.
+    NoEscape,
+}
+
+impl From<AllocError> for EscapeFault {
+    fn from(_error: AllocError) -> EscapeFault {
+        EscapeFault::NoMemory
+    }
+}
+
+impl<T: Drop> From<AllocFailed<T>> for EscapeFault {
+    fn from(_error: AllocFailed<T>) -> EscapeFault {
+        EscapeFault::NoMemory
+    }
+}
+
+/// What the bytes so far ended in.
+#[derive(Clone, Copy)]
+enum State {
+    Plain,
+    /// A backslash.
+    Backslash,
+    /// A backslash and `x`.
+    Hexadecimal,
+    /// A backslash, `x` and a first digit.
+    FirstDigit(u8),
+}
+
+/// Takes escaped text byte by byte, and keeps the bytes that it stands for.
+#[derive(Drop)]
+pub(crate) struct Unescaper {
+    bytes: Vec<u8>,
+    state: State,
+}
+
+impl Unescaper {
+    pub(crate) fn new(alloc: Global) -> Unescaper {
+        Unescaper {
+            bytes: Vec::new(alloc),
+            state: State::Plain,
+        }
+    }
+
+    /// Whether an escape is begun and not ended.
+    pub(crate) fn is_inside_escape(&self) -> bool {
+        !matches!(self.state, State::Plain)
+    }
+
+    /// Takes a byte that is no part of an escape.
+    pub(crate) fn push(&mut self, byte: u8) -> Result<(), EscapeFault> {
+        self.bytes.push(byte)?;
+        Ok(())
+    }
+
+    /// Takes the next byte of the text.
+    pub(crate) fn take(&mut self, byte: u8) -> Result<(), EscapeFault> {
+        match self.state {
+            State::Plain if byte == b'\\' => self.state = State::Backslash,
+            State::Plain => self.push(byte)?,
+            State::Backslash if byte == b'x' => self.state = State::Hexadecimal,
+            State::Backslash => self.end(escaped(byte))?,
+            State::Hexadecimal => match digit(byte) {
+                Some(first) => self.state = State::FirstDigit(first),
+                None => return Err(EscapeFault::NoEscape),
+            },
+            State::FirstDigit(first) => self.end(joined(first, byte))?,
+        }
+        Ok(())
+    }
+
+    /// Ends an escape.
+    fn end(&mut self, byte: Option<u8>) -> Result<(), EscapeFault> {
+        let Some(byte) = byte else {
+            return Err(EscapeFault::NoEscape);
+        };
+        self.state = State::Plain;
+        self.push(byte)
+    }
+
+    /// The bytes so far.
+    pub(crate) fn into_bytes(self) -> Vec<u8> {
+        self.bytes
+    }
+}
+
+/// The byte that a backslash and this byte stand for.
+fn escaped(byte: u8) -> Option<u8> {
+    match byte {
+        b'n' => Some(b'\n'),
+        b'r' => Some(b'\r'),
+        b't' => Some(b'\t'),
+        b'0' => Some(0),
+        b'\\' | b'"' => Some(byte),
+        _ => None,
+    }
+}
+
+/// The value of a hexadecimal digit.
+fn digit(byte: u8) -> Option<u8> {
+    match byte {
+        b'0'..=b'9' => Some(byte - b'0'),
+        b'a'..=b'f' => Some(byte - b'a' + 10),
+        b'A'..=b'F' => Some(byte - b'A' + 10),
+        _ => None,
+    }
+}
+
+/// The byte of two digits.
+fn joined(first: u8, second: u8) -> Option<u8> {
+    let second = digit(second)?;
+    first.checked_mul(16)?.checked_add(second)
+}
+
+/// The bytes that escaped text stands for.
+pub(crate) fn unescaped(alloc: Global, text: &str) -> Result<Vec<u8>, EscapeFault> {
+    let mut unescaper = Unescaper::new(alloc);
+    for byte in text.as_bytes() {
+        unescaper.take(*byte)?;
+    }
+    if unescaper.is_inside_escape() {
+        return Err(EscapeFault::NoEscape);
+    }
+    Ok(unescaper.into_bytes())
+}

@@ -1,0 +1,40 @@
+//! What a command comes to.
+
+use gm_store::MemorySink;
+use std::alloc::{AllocError, Global};
+
+/// The status of a command that an output, a file or memory failed.
+pub(crate) const DEVICE: u8 = 3;
+
+/// What a command wrote, and its status.
+#[derive(Drop)]
+pub(crate) struct Outcome {
+    pub(crate) out: MemorySink,
+    pub(crate) report: MemorySink,
+    pub(crate) status: u8,
+}
+
+impl Outcome {
+    /// Whether two commands came to the same.
+    pub(crate) fn is_same(&self, other: &Outcome) -> bool {
+        self.out.bytes() == other.out.bytes()
+            && self.report.bytes() == other.report.bytes()
+            && self.status == other.status
+    }
+}
+
+/// How many bytes the outputs of a command take.
+#[derive(Clone, Copy)]
+pub(crate) struct Rooms {
+    pub(crate) out: usize,
+    pub(crate) report: usize,
+}
+
+impl Rooms {
+    /// Outputs that take these bytes.
+    pub(crate) fn sinks(&self, alloc: Global) -> Result<(MemorySink, MemorySink), AllocError> {
+        let out = MemorySink::new(alloc, self.out)?;
+        let report = MemorySink::new(alloc, self.report)?;
+        Ok((out, report))
+    }
+}

@@ -1,0 +1,159 @@
+//! The program over files of cases.
+
+use crate::cases::{Case, Content};
+use crate::checking::check_case;
+use crate::faults::CaseFault;
+use crate::reading::read_cases;
+use crate::telling::Told;
+use std::process::ExitCode;
+use std::{env, fs, io};
+
+/// Where it is told how a case differs.
+#[derive(Clone, Copy)]
+pub enum Tells {
+    /// To standard error, as a program over cases that all pass does.
+    ToError,
+    /// To standard output, where it is compared.
+    ToOutput,
+}
+
+/// How many cases passed, and how many did not.
+#[derive(Clone, Copy)]
+struct Tally {
+    passed: usize,
+    failed: usize,
+}
+
+impl Tally {
+    fn count(&mut self, passes: bool) {
+        if passes {
+            self.passed = self.passed.saturating_add(1);
+        } else {
+            self.failed = self.failed.saturating_add(1);
+        }
+    }
+}
+
+/// The ending of the words that name files of cases.
+const ENDING: &str = ".txt";
+
+/// The program. Its words that end in `.txt` name files of cases, and any others choose the cases whose title has one of them. It runs
+/// these cases, tells of each that does not pass how it differs, and prints how many passed and failed. The status is 0 where all
+/// passed, 1 where one did not, and 3 where a file of cases can't be read or the cases can't be run.
+pub fn exit_code(rt: &HostRuntime, tells: Tells) -> ExitCode {
+    match run_files(rt, tells) {
+        Ok(Tally { failed: 0, .. }) => ExitCode::SUCCESS,
+        Ok(_) => ExitCode::from(1),
+        Err(error) => {
+            let _ = eprintln!(rt; "run_cases: {error}");
+            ExitCode::from(3)
+        }
+    }
+}
+
+fn run_files(rt: &HostRuntime, tells: Tells) -> io::Result<Tally> {
+    let mut tally = Tally {
+        passed: 0,
+        failed: 0,
+    };
+    let words: Vec<String> = env::args(rt)?.skip(1).collect(rt.alloc())?;
+    for word in &words {
+        if word.as_str().ends_with(ENDING) {
+            run_file(rt, tells, word.as_str(), words.as_slice(), &mut tally)?;
+        }
+    }
+    let Tally { passed, failed } = tally;
+    println!(rt; "{passed} passed, {failed} failed")?;
+    Ok(tally)
+}
+
+/// Runs the cases of a file.
+fn run_file(
+    rt: &HostRuntime,
+    tells: Tells,
+    name: &str,
+    words: &[String],
+    tally: &mut Tally,
+) -> io::Result<()> {
+    let text = match fs::read_to_string(rt, name) {
+        Ok(text) => text,
+        Err(error) => {
+            tally.count(false);
+            let line = format!(in rt.alloc(); "{name}: {error}\n")?;
+            return tell(rt, tells, line.as_str());
+        }
+    };
+    match read_cases(rt.alloc(), text.as_str()) {
+        Ok(mut cases) => {
+            for case in &mut cases {
+                read_copies(rt, case)?;
+            }
+            run_cases(rt, tells, name, cases.as_slice(), words, tally)
+        }
+        Err(CaseFault::Line(number, fault)) => {
+            tally.count(false);
+            let line = format!(in rt.alloc(); "{name}:{number}: {fault}\n")?;
+            tell(rt, tells, line.as_str())
+        }
+        Err(CaseFault::NoMemory) => Err(io::Error::from(io::ErrorKind::OutOfMemory)),
+    }
+}
+
+/// Reads the files that a case has copies of.
+fn read_copies(rt: &HostRuntime, case: &mut Case<'_>) -> io::Result<()> {
+    for file in &mut case.files {
+        let bytes = match &file.content {
+            Content::Copy(name) => fs::read(rt, name.as_str())?,
+            _ => continue,
+        };
+        file.content = Content::Bytes(bytes);
+    }
+    Ok(())
+}
+
+fn run_cases(
+    rt: &HostRuntime,
+    tells: Tells,
+    name: &str,
+    cases: &[Case<'_>],
+    words: &[String],
+    tally: &mut Tally,
+) -> io::Result<()> {
+    for (number, case) in cases.iter().enumerate() {
+        if !is_chosen(case, words) {
+            continue;
+        }
+        let mut told = Told::new(rt.alloc());
+        check_case(rt, number, case, &mut told)?;
+        tally.count(told.is_empty());
+        if !told.is_empty() {
+            let line = case.line;
+            let title = case.title;
+            let head = format!(in rt.alloc(); "{name}:{line}: {title}\n")?;
+            tell(rt, tells, head.as_str())?;
+            tell(rt, tells, told.as_str())?;
+        }
+    }
+    Ok(())
+}
+
+/// Whether the words choose a case: where no word chooses titles, all cases are.
+fn is_chosen(case: &Case<'_>, words: &[String]) -> bool {
+    let mut chooses = false;
+    for word in words {
+        if !word.as_str().ends_with(ENDING) {
+            chooses = true;
+            if case.title.contains(word.as_str()) {
+                return true;
+            }
+        }
+    }
+    !chooses
+}
+
+fn tell(rt: &HostRuntime, tells: Tells, text: &str) -> io::Result<()> {
+    match tells {
+        Tells::ToError => eprint!(rt; "{text}"),
+        Tells::ToOutput => print!(rt; "{text}"),
+    }
+}

@@ -1,0 +1,69 @@
+//! What command lines come to where a store fails at a file, or the files of a proxy folder are divided between two.
+
+use crate::memory::{Asked, InMemory, outcome_in_memory};
+use crate::outcomes::{DEVICE, Rooms};
+use crate::stores::Form;
+use crate::views::View;
+use std::alloc::{AllocError, Global};
+
+/// The outputs of a command that writes a line.
+const A_LINE: Rooms = Rooms {
+    out: 65_536,
+    report: 65_536,
+};
+
+/// Whether the files that were asked for are these.
+fn are_asked(asked: &[Asked], wanted: &[Asked]) -> bool {
+    asked.len() == wanted.len()
+        && asked
+            .iter()
+            .zip(wanted)
+            .all(|(one, other)| one.label == other.label)
+}
+
+/// Lets the device of the store fail at each file that a command asks for in turn. It has to write nothing, to report that file, and to
+/// ask for the files before it and no other. The file at which it does otherwise is given, if there is one.
+pub(crate) fn unsound_refusal<'a>(
+    alloc: Global,
+    view: &View<'_>,
+    words: &[&str],
+    wanted: &'a InMemory,
+) -> Result<Option<&'a Asked>, AllocError> {
+    for (index, asked) in wanted.asked.iter().enumerate() {
+        let form = Form::Broken(&asked.name);
+        let Some(found) = outcome_in_memory(alloc, view, words, form, A_LINE)? else {
+            return Ok(Some(asked));
+        };
+        let before = wanted.asked.iter().take(index);
+        let label = asked.label.as_str();
+        let line = format!(in alloc; "gomod: device at {label}\n")?;
+        let is_sound = found.outcome.status == DEVICE
+            && found.outcome.out.bytes().is_empty()
+            && found.outcome.report.bytes() == line.as_str().as_bytes()
+            && found.asked.len() == index
+            && before
+                .zip(&found.asked)
+                .all(|(one, other)| one.label == other.label);
+        if !is_sound {
+            return Ok(Some(asked));
+        }
+    }
+    Ok(None)
+}
+
+/// Whether a command comes to the same over the files of one proxy folder that are divided between two, and asks for the same files.
+pub(crate) fn stands_division(
+    alloc: Global,
+    view: &View<'_>,
+    words: &[&str],
+    wanted: &InMemory,
+    rooms: Rooms,
+) -> Result<bool, AllocError> {
+    match outcome_in_memory(alloc, view, words, Form::Divided, rooms)? {
+        Some(found) => Ok(
+            found.outcome.is_same(&wanted.outcome)
+                && are_asked(found.asked.as_slice(), wanted.asked.as_slice()),
+        ),
+        None => Ok(false),
+    }
+}

@@ -1,0 +1,115 @@
+//! Calls about what lies around modules: hashes and sums, lists of versions, and the places of files.
+
+use crate::call_faults::CallFault;
+use gm_name::{ModPath, ModVersion};
+use gm_store::{FileName, Looked, Mark};
+use gm_sums::SumTable;
+use std::alloc::Global;
+
+/// The hash of a file as the go.mod of a module.
+pub(crate) fn hash(alloc: Global, bytes: &[u8]) -> Result<String, CallFault> {
+    let mut text = gm_sums::mod_hash(alloc, bytes)?;
+    text.push('\n')?;
+    Ok(text)
+}
+
+/// What a go.sum says of a hash.
+pub(crate) fn check(
+    alloc: Global,
+    bytes: &[u8],
+    pair: (&str, &str),
+    hash: &str,
+) -> Result<String, CallFault> {
+    let path = ModPath::parse(alloc, pair.0)?;
+    let version = ModVersion::parse(alloc, pair.1)?;
+    let table = SumTable::read(alloc, bytes)?;
+    let sum = table.check(&path, &version, hash);
+    Ok(format!(in alloc; "{sum:?}\n")?)
+}
+
+/// The versions of a list file.
+pub(crate) fn listed(alloc: Global, path: &str, bytes: &[u8]) -> Result<String, CallFault> {
+    let path = ModPath::parse(alloc, path)?;
+    let mut text = String::new(alloc);
+    for version in &gm_store::versions_of(alloc, &path, bytes)? {
+        writeln!(text, "{version}")?;
+    }
+    Ok(text)
+}
+
+/// The latest version of a list file.
+pub(crate) fn latest(alloc: Global, path: &str, bytes: &[u8]) -> Result<String, CallFault> {
+    let path = ModPath::parse(alloc, path)?;
+    let versions = gm_store::versions_of(alloc, &path, bytes)?;
+    match gm_store::latest(versions.as_slice()) {
+        Some(version) => Ok(format!(in alloc; "{version}\n")?),
+        None => Ok(String::from_str(alloc, "none\n")?),
+    }
+}
+
+/// Where the file of a name lies.
+fn place(alloc: Global, name: &FileName) -> Result<String, CallFault> {
+    let mut text = gm_store::relative_name(alloc, name)?;
+    text.push('\n')?;
+    Ok(text)
+}
+
+/// Where the .mod file of a version lies.
+pub(crate) fn place_of_version(
+    alloc: Global,
+    path: &str,
+    version: &str,
+) -> Result<String, CallFault> {
+    let path = ModPath::parse(alloc, path)?;
+    let version = ModVersion::parse(alloc, version)?;
+    place(alloc, &FileName::Mod(path, version))
+}
+
+/// Where the list of a module's versions lies.
+pub(crate) fn place_of_list(alloc: Global, path: &str) -> Result<String, CallFault> {
+    let path = ModPath::parse(alloc, path)?;
+    place(alloc, &FileName::List(path))
+}
+
+/// Where the go.mod of a folder lies.
+pub(crate) fn place_in_folder(alloc: Global, folder: &str) -> Result<String, CallFault> {
+    let folder = String::from_str(alloc, folder)?;
+    place(alloc, &FileName::Folder(folder))
+}
+
+/// The folder that a file lies in.
+pub(crate) fn folder_of(alloc: Global, file: &str) -> Result<String, CallFault> {
+    let mut text = gm_store::folder_of(alloc, file)?;
+    text.push('\n')?;
+    Ok(text)
+}
+
+/// What a look into a folder found, by its name.
+fn looked_named(alloc: Global, name: &str) -> Option<Looked> {
+    match name {
+        "Found" => Some(Looked::Found(Vec::new(alloc))),
+        "TooLong" => Some(Looked::TooLong),
+        "Absent" => Some(Looked::Absent),
+        "Failed" => Some(Looked::Failed),
+        _ => None,
+    }
+}
+
+/// What follows a folder: a mark, or nothing after the last one.
+fn mark_named(name: &str) -> Option<Option<Mark>> {
+    match name {
+        "comma" => Some(Some(Mark::Comma)),
+        "bar" => Some(Some(Mark::Bar)),
+        "last" => Some(None),
+        _ => None,
+    }
+}
+
+/// What follows a look into a folder.
+pub(crate) fn step(alloc: Global, looked: &str, mark: &str) -> Result<String, CallFault> {
+    let (Some(looked), Some(mark)) = (looked_named(alloc, looked), mark_named(mark)) else {
+        return Err(CallFault::NoCall);
+    };
+    let next = gm_store::step(&looked, mark);
+    Ok(format!(in alloc; "{next:?}\n")?)
+}

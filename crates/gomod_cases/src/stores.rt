@@ -1,0 +1,239 @@
+//! Stores in memory that stand for the proxy folders of a command.
+
+ghost use Rattle.std.specs.Prelude.{◌≡◌, [], IfSome};
+ghost use Rattle.gm_store.specs.Views.{asked_by};
+
+use crate::places::tidied;
+use crate::views::View;
+use gm_file::{MainFile, Right};
+use gm_name::{ModPath, ModVersion, unescape};
+use gm_store::{
+    FileName, Held, Mark, MemoryFolders, ProxyList, Shelf, copy_name, folder_of, relative_name,
+};
+use gm_syntax::doc::Doc;
+use std::alloc::{AllocError, Global};
+
+/// How stores in memory stand for the proxy folders of a command.
+#[derive(Clone, Copy)]
+pub(crate) enum Form<'a> {
+    /// One folder in memory for each that the words name, with the marks between them.
+    Named,
+    /// The files of the one folder that the words name, divided between two, with `,` between them.
+    Divided,
+    /// As `Named`, but for a file at which the device fails.
+    Broken(&'a FileName),
+}
+
+/// The folders of a store that is being filled.
+#[derive(Drop)]
+pub(crate) struct Folders {
+    proxies: Vec<Shelf>,
+    marks: Vec<Mark>,
+    beside: Shelf,
+}
+
+impl Folders {
+    /// No files: one proxy folder, and the folder beside the main file.
+    pub(crate) fn new(alloc: Global) -> Result<Folders, AllocError> {
+        let mut folders = Folders {
+            proxies: Vec::new(alloc),
+            marks: Vec::new(alloc),
+            beside: Shelf::new(alloc),
+        };
+        folders.proxies.push(Shelf::new(alloc))?;
+        Ok(folders)
+    }
+
+    /// The folders that the words name, with the files that a case has in them.
+    pub(crate) fn named(
+        alloc: Global,
+        view: &View<'_>,
+        list: &ProxyList,
+        form: Form<'_>,
+    ) -> Result<Folders, AllocError> {
+        let mut folders = Folders {
+            proxies: Vec::new(alloc),
+            marks: Vec::new(alloc),
+            beside: Shelf::new(alloc),
+        };
+        if let (Form::Divided, [folder]) = (form, list.folders()) {
+            for part in 0..2usize {
+                let shelf = filled(alloc, view, folder.as_str(), Some(part))?;
+                folders.proxies.push(shelf)?;
+            }
+            folders.marks.push(Mark::Comma)?;
+            return Ok(folders);
+        }
+        for folder in list.folders() {
+            let shelf = filled(alloc, view, folder.as_str(), None)?;
+            folders.proxies.push(shelf)?;
+        }
+        for mark in list.marks() {
+            folders.marks.push(*mark)?;
+        }
+        Ok(folders)
+    }
+
+    /// Puts a file into the first proxy folder, or beside the main file.
+    pub(crate) fn put(&mut self, name: FileName, held: Held) -> Result<(), AllocError> {
+        if matches!(name, FileName::Folder(_)) {
+            return self.beside.put(name, held);
+        }
+        match self.proxies.first_mut() {
+            Some(shelf) => shelf.put(name, held),
+            None => Ok(()),
+        }
+    }
+
+    /// Lets the device fail at a file.
+    pub(crate) fn break_at(&mut self, alloc: Global, form: Form<'_>) -> Result<(), AllocError> {
+        match form {
+            Form::Broken(name) => self.put(copy_name(alloc, name)?, Held::Broken),
+            Form::Named | Form::Divided => Ok(()),
+        }
+    }
+
+    /// Puts the go.mod files of the folders that a main file has in the place of modules beside it.
+    pub(crate) fn put_replacements(
+        &mut self,
+        alloc: Global,
+        view: &View<'_>,
+        main: &str,
+        bytes: &[u8],
+    ) -> Result<(), AllocError> {
+        let folder = folder_of(alloc, main)?;
+        let Ok(doc) = Doc::parse(alloc, bytes) else {
+            return Ok(());
+        };
+        let Ok(file) = MainFile::read(alloc, doc) else {
+            return Ok(());
+        };
+        for replace in file.replaces() {
+            if let Right::Folder(text) = &replace.right {
+                self.put_folder(alloc, view, folder.as_str(), text.as_str())?;
+            }
+        }
+        Ok(())
+    }
+
+    /// Puts the go.mod of a folder beside the main file, if the case has it.
+    fn put_folder(
+        &mut self,
+        alloc: Global,
+        view: &View<'_>,
+        main: &str,
+        text: &str,
+    ) -> Result<(), AllocError> {
+        let name = FileName::Folder(String::from_str(alloc, text)?);
+        let relative = relative_name(alloc, &name)?;
+        let relative = relative.as_str();
+        let place = if relative.starts_with('/') {
+            tidied(alloc, relative)?
+        } else {
+            let joined = format!(in alloc; "{main}/{relative}")?;
+            tidied(alloc, joined.as_str())?
+        };
+        match bytes_at(alloc, view, place.as_str())? {
+            Some(bytes) => self.put(name, Held::Content(bytes)),
+            None => Ok(()),
+        }
+    }
+
+    /// The store over these folders, if there is one more folder than marks.
+    pub(crate) fn into_store(self, alloc: Global) -> Option<MemoryFolders>
+        ensures { IfSome result (λ store. asked_by store ≡ []) }
+    {
+        let Folders {
+            proxies,
+            marks,
+            beside,
+        } = self;
+        if proxies.len() > 0 && proxies.len() - 1 == marks.len() {
+            Some(MemoryFolders::in_memory(alloc, proxies, marks, beside))
+        } else {
+            None
+        }
+    }
+}
+
+/// The bytes of the file of a case that lies in a place.
+fn bytes_at(alloc: Global, view: &View<'_>, place: &str) -> Result<Option<Vec<u8>>, AllocError> {
+    for file in &view.case.files {
+        let Some(bytes) = view.bytes(file) else {
+            continue;
+        };
+        let name = tidied(alloc, file.name.as_str())?;
+        if name.as_str() == place {
+            return Ok(Some(copied(alloc, bytes)?));
+        }
+    }
+    Ok(None)
+}
+
+/// The files of a case in a proxy folder: all of them, or of each two the first or the second.
+fn filled(
+    alloc: Global,
+    view: &View<'_>,
+    folder: &str,
+    part: Option<usize>,
+) -> Result<Shelf, AllocError> {
+    let folder = tidied(alloc, folder)?;
+    let mut shelf = Shelf::new(alloc);
+    let mut count = 0usize;
+    for file in &view.case.files {
+        let Some(bytes) = view.bytes(file) else {
+            continue;
+        };
+        let name = tidied(alloc, file.name.as_str())?;
+        let Some(name) = name_in(alloc, folder.as_str(), name.as_str())? else {
+            continue;
+        };
+        count = count.saturating_add(1);
+        if part.is_none_or(|part| part == count % 2) {
+            shelf.put(name, Held::Content(copied(alloc, bytes)?))?;
+        }
+    }
+    Ok(shelf)
+}
+
+/// Bytes of their own.
+fn copied(alloc: Global, bytes: &[u8]) -> Result<Vec<u8>, AllocError> {
+    let mut copy = Vec::new(alloc);
+    copy.extend_from_slice(bytes)?;
+    Ok(copy)
+}
+
+/// Which file of a proxy lies in a place, if it lies in this folder.
+fn name_in(alloc: Global, folder: &str, place: &str) -> Result<Option<FileName>, AllocError> {
+    let Some(rest) = place
+        .strip_prefix(folder)
+        .and_then(|rest| rest.strip_prefix('/'))
+    else {
+        return Ok(None);
+    };
+    let Some((path, file)) = rest.split_once("/@v/") else {
+        return Ok(None);
+    };
+    let Some(path) = path_of(alloc, path) else {
+        return Ok(None);
+    };
+    if file == "list" {
+        return Ok(Some(FileName::List(path)));
+    }
+    let Some(version) = file.strip_suffix(".mod") else {
+        return Ok(None);
+    };
+    Ok(version_of(alloc, version).map(|version| FileName::Mod(path, version)))
+}
+
+/// The module path that a name of a folder escapes.
+fn path_of(alloc: Global, name: &str) -> Option<ModPath> {
+    let text = unescape(alloc, name).ok()?;
+    ModPath::parse(alloc, text.as_str()).ok()
+}
+
+/// The version that the name of a file escapes.
+fn version_of(alloc: Global, name: &str) -> Option<ModVersion> {
+    let text = unescape(alloc, name).ok()?;
+    ModVersion::parse(alloc, text.as_str()).ok()
+}

@@ -1,0 +1,238 @@
+#!/usr/bin/env bash
+# Runs bin/gomod itself over the cases of command lines, and compares standard output, standard error and the status.
+#
+#   tools/program.sh                  the cases of crates/run_cases/data
+#   tools/program.sh FILE.txt.. TITLE..   those of these files, or those whose titles have one of these texts
+#
+# The merge gate runs the same cases inside a process, with outputs in memory; of the program itself it compares what a few
+# stored runs write to standard output. What this adds is standard error and the whole way from the words to the system.
+# Calls, cases with a file at the root of the system, and those of files without permission for root are left out.
+#
+# Where REFUSE_MEMORY names the library that tools/refuse-memory.sh makes, each command runs again with each of its allocations
+# refused in turn: it then has to say that memory ran out, or to come to what the case says.
+#
+# It needs bin/gomod (./build makes it) and python3, and prints each difference and how many cases passed and failed. The
+# status is 1 where one failed.
+set -euo pipefail
+cd "$(dirname "$0")/.."
+[ -x bin/gomod ] || {
+  echo "program: there is no bin/gomod: run ./build" >&2
+  exit 1
+}
+exec python3 - "$PWD/bin/gomod" "$@" << 'PYTHON'
+import os
+import re
+import shutil
+import subprocess
+import sys
+import tempfile
+
+DATA = "crates/run_cases/data"
+ESCAPE = re.compile(rb'\\(n|r|t|0|\\|"|x[0-9a-fA-F]{2})')
+SIMPLE = {b"n": b"\n", b"r": b"\r", b"t": b"\t", b"0": b"\0", b"\\": b"\\", b'"': b'"'}
+NO_LINE_END = b"\\ No newline at end of file"
+REFUSE_MEMORY = os.environ.pop("REFUSE_MEMORY", None)
+NO_MEMORY = b"", b"gomod: no memory\n", 3
+PASSED = b"all allocations passed\n"
+
+
+def unescaped(text):
+    return ESCAPE.sub(lambda m: SIMPLE[m[1]] if m[1] in SIMPLE else bytes([int(m[1][1:], 16)]), text)
+
+
+def words_of(line):
+    words = []
+    for single, double, bare in re.findall(rb"""'([^']*)'|"((?:\\.|[^"\\])*)"|([^ ]+)""", line):
+        words.append(bare or single or unescaped(double))
+    return words
+
+
+def numbered(text, number, most):
+    return text.replace(b"{n}", b"%0*d" % (len(b"%d" % most), number))
+
+
+class Run:
+    def __init__(self, line, text):
+        self.line, self.text, self.words = line, text, words_of(text)
+        self.out, self.report, self.status = b"", b"", 0
+
+    def take(self, line):
+        found = re.match(rb"([>!])(?:\*(\d+) |(\\) | |$)(.*)$", line, re.S)
+        if found:
+            mark, count, escape, text = found.groups()
+            if escape:
+                text = unescaped(text)
+            elif count:
+                text = b"".join(numbered(text, at, int(count)) + b"\n" for at in range(1, int(count) + 1))
+            elif text == NO_LINE_END:
+                self.cut(mark)
+                return
+            else:
+                text += b"\n"
+            if mark == b">":
+                self.out += text
+            else:
+                self.report += text
+        elif line.startswith(b"? "):
+            self.status = int(line[2:])
+
+    def wanted(self):
+        return self.out, self.report, self.status
+
+    def comes_to(self, program, folder, stdin, refused=0):
+        refusing = {**os.environ, "LD_PRELOAD": REFUSE_MEMORY, "REFUSE_AT": str(refused)} if refused else None
+        got = subprocess.run([program, *self.words[1:]], cwd=folder, input=stdin, capture_output=True, env=refusing)
+        return got.stdout, got.stderr, got.returncode
+
+    def refused(self, program, folder, stdin):
+        """What the command comes to at the first refused allocation that it does not stand, if there is one."""
+        for number in range(1, 1_000_000):
+            out, report, status = self.comes_to(program, folder, stdin, number)
+            got = out, report.removesuffix(PASSED), status
+            if got not in (self.wanted(), NO_MEMORY):
+                return number, got
+            if report.endswith(PASSED):
+                return None
+
+    def cut(self, mark):
+        if mark == b">":
+            self.out = self.out[:-1]
+        else:
+            self.report = self.report[:-1]
+
+
+class Piece:
+    def __init__(self, header):
+        words = words_of(header)
+        self.name, self.kind, self.argument, self.lines = words[0], b"".join(words[1:2]), b"".join(words[2:3]), []
+
+    def bytes_of(self, number=0):
+        if self.kind == b"copy":
+            with open(os.path.join(DATA.encode(), self.argument), "rb") as file:
+                return file.read()
+        if self.kind == b"fill":
+            line = self.lines[0]
+            return line + line[-1:] * (int(self.argument) - 1 - len(line)) + b"\n"
+        text = b""
+        for line in self.lines:
+            if line == NO_LINE_END:
+                text = text[:-1]
+            else:
+                text += (unescaped(line) if self.kind == b"escaped" else line) + b"\n"
+        if self.kind == b"repeat":
+            most = int(self.argument)
+            if number:
+                return numbered(text, number, most)
+            return b"".join(numbered(text, at, most) for at in range(1, most + 1))
+        return text
+
+    def lay(self, folder):
+        place = os.path.join(folder, self.name)
+        os.makedirs(os.path.dirname(place), exist_ok=True)
+        if self.kind == b"folder":
+            os.makedirs(place, exist_ok=True)
+        elif self.kind == b"link":
+            os.symlink(self.argument, place)
+        elif self.kind == b"repeat" and b"{n}" in self.name:
+            for at in range(1, int(self.argument) + 1):
+                one = numbered(place, at, int(self.argument))
+                os.makedirs(os.path.dirname(one), exist_ok=True)
+                with open(one, "wb") as file:
+                    file.write(self.bytes_of(at))
+        else:
+            with open(place, "ab") as file:
+                file.write(self.bytes_of())
+            if self.kind == b"mode":
+                os.chmod(place, int(self.argument, 8))
+
+
+class Case:
+    def __init__(self, line, title):
+        self.line, self.title, self.runs, self.pieces = line, title, [], []
+
+    def is_left_out(self):
+        return any(it.name.startswith(b"/") or (it.kind == b"mode" and not os.geteuid()) for it in self.pieces)
+
+    def end(self):
+        """Drops the blank line that stands before the next title."""
+        if self.pieces and self.pieces[-1].lines[-1:] == [b""]:
+            self.pieces[-1].lines.pop()
+
+    def take(self, number, line):
+        if line.startswith(b"-- ") and line.endswith(b" --"):
+            self.pieces.append(Piece(line[3:-3]))
+        elif self.pieces:
+            self.pieces[-1].lines.append(line)
+        elif line.startswith(b"$ "):
+            self.runs.append(Run(number, line[2:]))
+        elif self.runs:
+            self.runs[-1].take(line)
+
+
+def read_cases(path):
+    cases = []
+    with open(path, "rb") as file:
+        lines = file.read().removesuffix(b"\n").split(b"\n")
+    for number, line in enumerate(lines, 1):
+        if line.startswith(b"=== "):
+            cases.append(Case(number, line[4:].decode()))
+        elif cases:
+            cases[-1].take(number, line)
+    for case in cases:
+        case.end()
+    return cases
+
+
+def told(what, out, report, status):
+    print(f"  {what}:")
+    for mark, text in ((">", out), ("!", report)):
+        for line in text[:2000].decode("utf-8", "replace").splitlines():
+            print(f"{mark} {line}")
+    print(f"? {status}")
+
+
+def passes(program, path, case):
+    root = tempfile.mkdtemp(prefix="gomod-case-").encode()
+    folder = os.path.join(root, b"main")
+    os.mkdir(folder)
+    good = True
+    try:
+        stdin = b"".join(it.bytes_of() for it in case.pieces if it.name == b"stdin")
+        for piece in case.pieces:
+            if piece.name != b"stdin":
+                piece.lay(folder)
+        for run in case.runs:
+            if run.words[0] != b"gomod":
+                continue
+            over, got = "", run.comes_to(program, folder, stdin)
+            if got == run.wanted() and REFUSE_MEMORY:
+                number, got = run.refused(program, folder, stdin) or (0, got)
+                over = f", allocation {number} refused"
+            if got != run.wanted():
+                if good:
+                    print(f"{path}:{case.line}: {case.title}")
+                good = False
+                print(f"  line {run.line}{over}: $ {run.text.decode()}")
+                told("got", *got)
+                told("wanted", *run.wanted())
+    finally:
+        shutil.rmtree(root)
+    return good
+
+
+def main(program, *words):
+    files = [it for it in words if it.endswith(".txt")]
+    files = files or sorted(os.path.join(DATA, it) for it in os.listdir(DATA) if it.endswith(".txt"))
+    titles = [it for it in words if not it.endswith(".txt")]
+    counts = {True: 0, False: 0}
+    for path in files:
+        for case in read_cases(path):
+            chosen = not titles or any(it in case.title for it in titles)
+            if chosen and not case.is_left_out() and any(it.words[0] == b"gomod" for it in case.runs):
+                counts[passes(program, path, case)] += 1
+    print(f"{counts[True]} passed, {counts[False]} failed")
+    return 1 if counts[False] else 0
+
+
+sys.exit(main(*sys.argv[1:]))
+PYTHON
