@@ -1,0 +1,71 @@
+//! Tests over readers, writers, stores and documents. The worked examples of the program are cases of the crate `run_cases`.
+//!
+//! Tests run with ample memory: one that is refused some fails, and says that memory ran out.
+
+mod caches;
+mod documents;
+mod known_names;
+mod loading;
+mod opened_files;
+mod projects;
+mod readers;
+mod rounds;
+mod running;
+mod sinks;
+mod stores;
+
+ghost use Rattle.std.specs.Prelude.{◌≡◌, [], IfSome};
+ghost use Rattle.gm_store.specs.Memory.{pairs_of};
+
+use gm_file::MainFile;
+use gm_name::{ModPath, ModVer, ModVersion};
+use gm_store::{FileName, MemoryFiles};
+use gm_syntax::doc::Doc;
+use std::alloc::Global;
+
+/// What a test says that ends for want of memory.
+const OUT_OF_MEMORY: &str = "out of memory";
+
+/// The path and version of a module, or a folder and no version, and what its file says.
+type File = (&'static str, &'static str, &'static str);
+
+/// The name of a module's file, or of a folder's where there is no version. There is none where memory runs out.
+fn file_name(alloc: Global, path: &str, version: &str) -> Option<FileName> {
+    if version.is_empty() {
+        return Some(FileName::Folder(String::from_str(alloc, path).ok()?));
+    }
+    let path = ModPath::parse(alloc, path).ok()?;
+    Some(FileName::Mod(path, ModVersion::parse(alloc, version).ok()?))
+}
+
+/// A module at a version. There is none where memory runs out.
+fn vertex(alloc: Global, path: &str, version: &str) -> Option<ModVer> {
+    let path = ModPath::parse(alloc, path).ok()?;
+    ModVer::pair(path, ModVersion::parse(alloc, version).ok()?)
+}
+
+/// Puts a file into a store. There is no answer where memory runs out.
+fn put(alloc: Global, store: &mut MemoryFiles, file: File) -> Option<()>
+    ensures { pairs_of store.new ≡ pairs_of store.old }
+{
+    let name = file_name(alloc, file.0, file.1)?;
+    let content = Vec::from_slice(alloc, file.2.as_bytes()).ok()?;
+    store.put(name, content).ok()
+}
+
+/// A store of these files, which was asked for nothing. There is none where memory runs out.
+fn store_of(alloc: Global, files: &'static [File]) -> Option<MemoryFiles>
+    ensures { IfSome result (λ store. pairs_of store ≡ []) }
+{
+    let mut store = MemoryFiles::new(alloc);
+    for file in files {
+        put(alloc, &mut store, *file)?;
+    }
+    Some(store)
+}
+
+/// A main module's file. There is none where memory runs out.
+fn main_file<'a>(alloc: Global, text: &'a str) -> Option<MainFile<'a>> {
+    let doc = Doc::parse(alloc, text.as_bytes()).ok()?;
+    MainFile::read(alloc, doc).ok()
+}
