@@ -10,7 +10,7 @@ import tempfile
 import time
 
 # The system counts as a command's peak what the process that started it had in memory, and this one has 14 MB. So the small
-# program `time` starts the command and tells its peak, where there is one; else no peak below 14 MB is seen.
+# program `time` starts the command and reports its peak, where there is one; otherwise no peak below 14 MB is seen.
 TIME = "/usr/bin/time"
 
 source = subprocess.DEVNULL if sys.argv[1] == "-" else open(sys.argv[1], "rb")

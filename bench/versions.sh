@@ -34,7 +34,7 @@ for _ in range(1_000_000):
 text = "\n".join(lines) + "\n"
 with open(f"{work}/list", "w", encoding="ascii") as out:
     out.write(text)
-# The same list on a proxy folder, behind a latest version whose file retracts a million versions and intervals.
+# The same list on a proxy folder, with a latest version whose file retracts a million versions and intervals.
 folder = f"{work}/proxy/example.com/p/@v"
 os.makedirs(folder)
 with open(f"{folder}/list", "w", encoding="ascii") as out:

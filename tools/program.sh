@@ -9,7 +9,7 @@
 # Calls, cases with a file at the root of the system, and those of files without permission for root are left out.
 #
 # Where REFUSE_MEMORY names the library that tools/refuse-memory.sh makes, each command runs again with each of its allocations
-# refused in turn: it then has to say that memory ran out, or to come to what the case says.
+# refused in turn: it then has to say that memory ran out, or to have the result of the case.
 #
 # It needs bin/gomod (./build makes it) and python3, and prints each difference and how many cases passed and failed. The
 # status is 1 where one failed.
@@ -85,7 +85,7 @@ class Run:
         return got.stdout, got.stderr, got.returncode
 
     def refused(self, program, folder, stdin):
-        """What the command comes to at the first refused allocation that it does not stand, if there is one."""
+        """The result of the command at the first refused allocation that changes it, if there is one."""
         for number in range(1, 1_000_000):
             out, report, status = self.comes_to(program, folder, stdin, number)
             got = out, report.removesuffix(PASSED), status
@@ -154,7 +154,7 @@ class Case:
         return any(it.name.startswith(b"/") or (it.kind == b"mode" and not os.geteuid()) for it in self.pieces)
 
     def end(self):
-        """Drops the blank line that stands before the next title."""
+        """Drops the blank line before the next title."""
         if self.pieces and self.pieces[-1].lines[-1:] == [b""]:
             self.pieces[-1].lines.pop()
 

@@ -6,7 +6,7 @@
 #   tools/refuse-memory.sh NAME..     the tests of these crates
 #   tools/refuse-memory.sh --but WORD NAME..   without the tests whose names have that word
 #
-# A command whose memory is refused has to say so, or to come to what its case says. A test has to end well, or to fail and say
+# A command whose memory is refused has to say so, or to have the result of its case. A test has to end well, or to fail and say
 # that memory ran out. What does otherwise, crashes or hangs is printed with the number of the refused allocation. The status is
 # 1 where that happened, and 0 where all stood every refusal. The merge gate runs the same cases and tests with none refused.
 #

@@ -1,4 +1,4 @@
--- The two sides of a replace.
+-- The two sides of a replace, split at the first arrow.
 use Rattle.std.proofs.Common.{◌≡◌, ℕ, ◌+◌, ◌-◌, ◌<◌, Bool, not, List, [], ◌∷◌, ◌++◌, length, map, take, drop, Option, Some, Err, inl, inr, refl, sym, ap, ◌∙◌, arith}
 use Rattle.std.proofs.Math.ListN.{drop_of_length-le}
 use Rattle.std.proofs.lemmas.Bool.{cases_Bool}
@@ -13,7 +13,7 @@ use Rattle.gm_file.specs.Directives.{Left, Module, is_arrow, replacing}
 use Rattle.gm_file.specs.Faults.{left_version_kinds, path_kinds, version_kinds}
 use Rattle.gm_file.specs.Fields.{first}
 use Rattle.gm_file.specs.Reading.{IsRead, replacing_kinds}
-use Rattle.gm_file.specs.Views.{replace_seen}
+use Rattle.gm_file.specs.Views.{replace_view}
 
 prefix_len-map : {X Y : Type 0} (p : Y → Bool) (f : X → Y) (xs : List X) → prefix_len p (map f xs) ≡ prefix_len (λ x. p (f x)) xs
 prefix_len-map p f [] = refl
@@ -22,7 +22,7 @@ prefix_len-map p f (x ∷ xs) = elim (cases_Bool (p (f x))) [
   | inr fails ↦ rw fails refl
 ]
 
--- where the first arrow stands
+-- the position of the first arrow
 pub arrow-place : (tokens : List Placed) (n : ℕ) → n ≡ length (take_while (λ t. not (is_arrow t.word)) tokens) → n ≡ position_or_len is_arrow (words_of tokens)
 arrow-place tokens n e = e ∙ length-prefix_len (λ t. not (is_arrow t.word)) tokens ∙ sym (prefix_len-map (λ w. not (is_arrow w)) (λ t. t.word) tokens)
 
@@ -45,11 +45,11 @@ pub first-append : {X : Type 0} (xs ys : List X) (x : X) → first xs ≡ Some x
 first-append [] ys x e = cc e
 first-append (z ∷ xs) ys x e = e
 
--- the fault of the version on the right, where all before it is right
+-- the fault of the version on the right side, if the parts that are read before it have none
 pub right-version-fault : (left : Left) (path version p q : List ℕ) (v : Option (List ℕ)) (fault : LineFault)
     → Some left.path ≡ Some p → path_kinds p ≡ [] → Some path ≡ Some q → path_kinds q ≡ [] → Some left.version ≡ Some v → left_version_kinds v ≡ []
     → IsRead {X = List ℕ} {Y = List ℕ} (λ x. x) WrongArguments version_kinds (Some version) (Err fault)
-    → IsRead replace_seen WrongArguments replacing_kinds (Some (replacing left (Module path version))) (Err fault)
+    → IsRead replace_view WrongArguments replacing_kinds (Some (replacing left (Module path version))) (Err fault)
 right-version-fault left path version p q v line.NoMemory is-p sound-p is-q sound-q is-v sound-v told = tt
 right-version-fault left path version p q v (line.Kind k) is-p sound-p is-q sound-q is-v sound-v told =
     let e : left.path ≡ p = cc in

@@ -1,4 +1,4 @@
--- Where the texts of go versions are cut.
+-- The positions at which the texts of go versions are split.
 use Rattle.std.proofs.Common.{◌≡◌, ◌≢◌, ℕ, ◌+◌, ◌-◌, ◌==◌, ◌<◌, ◌≤◌, nat_lt, Bool, true, false, List, [], ◌∷◌, length, get_or, drop, take_while, Option, Some, None, inl, inr, refl, ap, subst, ◌∙◌, arith}
 use Rattle.std.specs.Prelude.{if◌then◌else◌, is_some}
 use Rattle.std.proofs.Math.ListN.{drop_of_length-le}
@@ -28,13 +28,13 @@ boundary-at text n utf8 le passes = elim (cases_lt 0 n) [
       subst (IsCharBoundary text) e (IsCharBoundary-start text utf8)
 ]
 
--- a text may be cut behind the digits that it begins with
+-- a text may be split after the digits that it begins with
 pub digits-boundary : (text : List ℕ) → IsUtf8 text → IsCharBoundary text (length (take_while is_ascii_digit text))
 digits-boundary text utf8 =
     rw (length-prefix_len is_ascii_digit text) (boundary-at text (prefix_len is_ascii_digit text) utf8 (prefix_len-le-length is_ascii_digit text)
     (λ k lt. prefix_len_passes is_ascii_digit text k 0 lt))
 
--- a list holds such an element where its first one stands in it
+-- a list has an element that passes a test if the first one's position is inside the list
 any-position : (p : ℕ → Bool) (xs : List ℕ) → list_any p xs ≡ nat_lt (position_or_len p xs) (length xs)
 any-position p [] = refl
 any-position p (x ∷ xs) = elim (cases_Bool (p x)) [
@@ -55,7 +55,7 @@ both-none (Some n) = refl
 drop-past : (text : List ℕ) (n : ℕ) → n ≡ length text → drop (n + 1) text ≡ []
 drop-past text n e = drop_of_length-le text (omega (arith, e))
 
--- a text without a dot has nothing behind it
+-- a text without a dot has nothing after a dot
 pub nothing-after : (text : List ℕ) → position_or_len (λ b. b == 46) text ≡ length text → after_dot text ≡ []
 nothing-after text e = drop-past text (position_or_len (λ b. b == 46) text) e
 
@@ -75,7 +75,7 @@ lax-plain (b ∷ text) none = elim (cases_Bool (b == 118)) [
   | inr fails ↦ rw fails refl
 ]
 
--- the second number of a text that is cut at its first dot
+-- the second number of a text that is split at its first dot
 pub second-cut : (text second third : List ℕ) → position_or_len (λ b. b == 46) text < length text → second ≡ before_dot text → third ≡ after_dot text
     → second_number text ≡ (if is_some (last_number third) then small_number second else None)
 unfolding second_number

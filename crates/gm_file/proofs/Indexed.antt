@@ -1,4 +1,4 @@
--- The rights of what is replaced, with one more line.
+-- The index of right sides after one more line.
 use Rattle.std.proofs.Common.{◌≡◌, ℕ, ◌&&◌, ◌||◌, not, Bool, true, false, cond, List, [], ◌∷◌, ◌++◌, Option, Some, None, Ok, refl, sym, ap, subst, ◌∙◌, inl, inr}
 use Rattle.std.specs.Prelude.{find, if◌then◌else◌}
 use Rattle.std.specs.Option.{option_map, option_or}
@@ -21,7 +21,7 @@ use Rattle.gm_file.specs.Directives.{Pair, pair, Left, Right, Folder, Module, Re
 use Rattle.gm_file.specs.Faults.{is_conflict, is_same_left, is_same_right, is_same_version}
 use Rattle.gm_file.specs.Fields.{right_for}
 use Rattle.gm_file.specs.Indexes.{IndexLines, IsNoted, differs, pair_cmp, right_at}
-use Rattle.gm_file.specs.Views.{replace_seen, replaces_seen, right_seen}
+use Rattle.gm_file.specs.Views.{replace_view, replace_views, right_view}
 
 and_both : (a b : Bool) → (a && b) ≡ true → (a ≡ true) × (b ≡ true)
 and_both true b e = (refl, e)
@@ -59,7 +59,7 @@ same-right (Module p v) (Module q w) e =
     let s = and_both (bytes_eq p q) (bytes_eq v w) e in
     ap (λ (x : List ℕ). Module x v) (same_text p q (sym s.0)) ∙ ap (λ (x : List ℕ). Module q x) (same_text v w (sym s.1))
 
--- what one more line gives a left that has no right yet
+-- the right side that one more line gives to a left side that has none yet
 abbrev given : Left → Replacing → Option Right
 given left x = if is_same_left left x.0 then Some x.1 else None
 
@@ -81,12 +81,12 @@ or-none : {X : Type 0} (o : Option X) → option_or o None ≡ o
 or-none None = refl
 or-none (Some x) = refl
 
--- a left that the line does not have keeps its right
+-- a left side that is not the line's keeps its right side
 pub others-stay : (rs : List Replacing) (x : Replacing) (left : Left) → is_same_left left x.0 ≡ false → right_for (rs ++ x ∷ []) left ≡ right_for rs left
 others-stay rs x left other =
     right-for-snoc rs x left ∙ ap (λ (b : Bool). option_or (right_for rs left) (if b then Some x.1 else None)) other ∙ or-none (right_for rs left)
 
--- a left that had a right keeps it
+-- a left side that had a right side keeps it
 first-stays : (rs : List Replacing) (x : Replacing) (left : Left) (right : Right) → right_for rs left ≡ Some right → right_for (rs ++ x ∷ []) left ≡ Some right
 first-stays rs x left right e = right-for-snoc rs x left ∙ ap (λ (o : Option Right). option_or o (given left x)) e
 
@@ -101,7 +101,7 @@ module _ {K : Type 0} (cmp : K → K → Ordering) (left : K → Left) (ties : (
 
   kept : (other : Right) → right_at cmp old key ≡ Some other → map.IsUnchanged old new → (q : K) → right_at cmp new q ≡ right_for (rs ++ line ∷ []) (left q)
   kept other held same q =
-      let before : right_at cmp new q ≡ right_for rs (left q) = ap (λ (es : List (K × declared.Right)). option_map right_seen (lookup (λ k. is_eq (cmp q k)) es)) same ∙ were q in
+      let before : right_at cmp new q ≡ right_for rs (left q) = ap (λ (es : List (K × declared.Right)). option_map right_view (lookup (λ k. is_eq (cmp q k)) es)) same ∙ were q in
       elim (cases_Bool (is_same_left (left q) (left key))) [
         | inl is ↦
             let e : left q ≡ left key = same-left (left q) (left key) is in
@@ -110,18 +110,18 @@ module _ {K : Type 0} (cmp : K → K → Ordering) (left : K → Left) (ties : (
         | inr other ↦ before ∙ sym (others-stay rs line (left q) other)
       ]
 
-  put : (held : declared.Right) → right_seen held ≡ right → right_at cmp old key ≡ None → map.Updates cmp old new key (Some held) → (q : K) → right_at cmp new q ≡ right_for (rs ++ line ∷ []) (left q)
+  put : (held : declared.Right) → right_view held ≡ right → right_at cmp old key ≡ None → map.Updates cmp old new key (Some held) → (q : K) → right_at cmp new q ≡ right_for (rs ++ line ∷ []) (left q)
   put held seen none updates q =
-      let at_new : right_at cmp new q ≡ option_map right_seen (cond (is_eq (cmp key q)) (Some held) (map.get cmp old q)) = ap (option_map right_seen) (updates.0 q) in
+      let at_new : right_at cmp new q ≡ option_map right_view (cond (is_eq (cmp key q)) (Some held) (map.get cmp old q)) = ap (option_map right_view) (updates.0 q) in
       elim (cases_Bool (is_same_left (left key) (left q))) [
         | inl is ↦
             let e : left key ≡ left q = same-left (left key) (left q) is in
             let f : right_for rs (left key) ≡ None = sym (were key) ∙ none in
-            at_new ∙ ap (λ (b : Bool). option_map right_seen (cond b (Some held) (map.get cmp old q))) (ties key q ∙ is) ∙ ap Some seen
+            at_new ∙ ap (λ (b : Bool). option_map right_view (cond b (Some held) (map.get cmp old q))) (ties key q ∙ is) ∙ ap Some seen
             ∙ sym (new-given rs line f) ∙ ap (right_for (rs ++ line ∷ [])) e
         | inr other ↦
             let apart : is_same_left (left q) (left key) ≡ false = flipped (left key) (left q) other in
-            at_new ∙ ap (λ (b : Bool). option_map right_seen (cond b (Some held) (map.get cmp old q))) (ties key q ∙ other) ∙ were q ∙ sym (others-stay rs line (left q) apart)
+            at_new ∙ ap (λ (b : Bool). option_map right_view (cond b (Some held) (map.get cmp old q))) (ties key q ∙ other) ∙ were q ∙ sym (others-stay rs line (left q) apart)
       ]
     where
       flipped : (a b : Left) → is_same_left a b ≡ false → is_same_left b a ≡ false
@@ -130,12 +130,12 @@ module _ {K : Type 0} (cmp : K → K → Ordering) (left : K → Left) (ties : (
         | inr none ↦ none
       ]
 
-  -- the index with one more line
+  -- the index after one more line
   pub noted : IsNoted cmp old new key right (Ok tt) → (q : K) → right_at cmp new q ≡ right_for (rs ++ line ∷ []) (left q)
   noted (inl n) q = kept n.0 n.1 n.3 q
   noted (inr n) q = put n.0 n.1 n.2 n.3 q
 
-  -- the line has no other right than an earlier one
+  -- the line's right side does not differ from an earlier one
   pub noted-agrees : IsNoted cmp old new key right (Ok tt) → differs right (right_for rs (left key)) ≡ false
   noted-agrees (inl n) = ap (differs right) (sym (were key) ∙ n.1) ∙ ap not n.2
   noted-agrees (inr n) = ap (differs right) (sym (were key) ∙ n.2)
@@ -166,7 +166,8 @@ not-differs right (Some s) e r is =
       | inr other ↦ absurd (cc (e, ap not other))
     ]
 
--- with a line whose right no earlier one contradicts, a line conflicts still where its right is another than the first
+-- after a line that conflicts with no earlier one, a line still conflicts exactly if its right side differs from the
+-- first one of its left side
 pub agree-snoc : (rs : List Replacing) (x : Replacing) → ((y : Replacing) → list_any (is_conflict y) rs ≡ differs y.1 (right_for rs y.0)) → differs x.1 (right_for rs x.0) ≡ false
     → (y : Replacing) → list_any (is_conflict y) (rs ++ x ∷ []) ≡ differs y.1 (right_for (rs ++ x ∷ []) y.0)
 agree-snoc rs x agree none y =
@@ -190,8 +191,8 @@ and-false false = refl
 path-left-ties : (a b : List ℕ) → is_eq (slice_cmp nat_cmp a b) ≡ is_same_left (left_without a) (left_without b)
 path-left-ties a b = is_eq-slice_cmp a b ∙ sym (and-true (bytes_eq a b))
 
-seen-snoc : (old : List Replace) (replace : Replace) → replaces_seen (old ++ replace ∷ []) ≡ replaces_seen old ++ replace_seen replace ∷ []
-seen-snoc old replace = map-append replace_seen old (replace ∷ [])
+seen-snoc : (old : List Replace) (replace : Replace) → replace_views (old ++ replace ∷ []) ≡ replace_views old ++ replace_view replace ∷ []
+seen-snoc old replace = map-append replace_view old (replace ∷ [])
 
 version-lines : (rs : List Replacing) (ov nv : map.BTreeMap Pair declared.Right) (op : map.BTreeMap (List ℕ) declared.Right) (key : Pair) (right : Right)
     → IndexLines rs ov op → IsNoted pair_cmp ov nv key right (Ok tt) → IndexLines (rs ++ (left_with key.0 key.1, right) ∷ []) nv op
@@ -209,24 +210,24 @@ path-lines rs ov op np key right index told = record {
   agree = agree-snoc rs (left_without key, right) index.agree (noted-agrees (slice_cmp nat_cmp) left_without path-left-ties op np rs key right index.paths told);
 }
 
--- one more line that replaces one version
+-- one more line, which replaces one version
 pub version-indexed : (old new : List Replace) (replace : Replace) (version : List ℕ) (ov nv : map.BTreeMap Pair declared.Right) (op : map.BTreeMap (List ℕ) declared.Right) (key : Pair)
-    → new ≡ old ++ replace ∷ [] → replace.version ≡ Some version → key ≡ pair replace.left version → IndexLines (replaces_seen old) ov op
-    → IsNoted pair_cmp ov nv key (right_seen replace.right) (Ok tt) → IndexLines (replaces_seen new) nv op
+    → new ≡ old ++ replace ∷ [] → replace.version ≡ Some version → key ≡ pair replace.left version → IndexLines (replace_views old) ov op
+    → IsNoted pair_cmp ov nv key (right_view replace.right) (Ok tt) → IndexLines (replace_views new) nv op
 version-indexed old new replace version ov nv op key is-new is-version is-key index told =
-    let lines = version-lines (replaces_seen old) ov nv op key (right_seen replace.right) index told in
-    let right = right_seen replace.right in
-    let e : replacing (left_with key.0 key.1) right ≡ replace_seen replace =
+    let lines = version-lines (replace_views old) ov nv op key (right_view replace.right) index told in
+    let right = right_view replace.right in
+    let e : replacing (left_with key.0 key.1) right ≡ replace_view replace =
     ap (λ (k : Pair). replacing (left_with k.0 k.1) right) is-key ∙ ap (λ (v : Option (List ℕ)). replacing (left_by replace.left v) right) (sym is-version) in
-    subst (λ (rs : List Replacing). IndexLines rs nv op) (ap (λ (x : Replacing). replaces_seen old ++ x ∷ []) e ∙ sym (seen-snoc old replace) ∙ ap replaces_seen (sym is-new)) lines
+    subst (λ (rs : List Replacing). IndexLines rs nv op) (ap (λ (x : Replacing). replace_views old ++ x ∷ []) e ∙ sym (seen-snoc old replace) ∙ ap replace_views (sym is-new)) lines
 
--- one more line that replaces a whole path
+-- one more line, which replaces a whole path
 pub path-indexed : (old new : List Replace) (replace : Replace) (ov : map.BTreeMap Pair declared.Right) (op np : map.BTreeMap (List ℕ) declared.Right) (key : List ℕ)
-    → new ≡ old ++ replace ∷ [] → replace.version ≡ None → key ≡ replace.left → IndexLines (replaces_seen old) ov op
-    → IsNoted (slice_cmp nat_cmp) op np key (right_seen replace.right) (Ok tt) → IndexLines (replaces_seen new) ov np
+    → new ≡ old ++ replace ∷ [] → replace.version ≡ None → key ≡ replace.left → IndexLines (replace_views old) ov op
+    → IsNoted (slice_cmp nat_cmp) op np key (right_view replace.right) (Ok tt) → IndexLines (replace_views new) ov np
 path-indexed old new replace ov op np key is-new is-version is-key index told =
-    let lines = path-lines (replaces_seen old) ov op np key (right_seen replace.right) index told in
-    let right = right_seen replace.right in
-    let e : replacing (left_without key) right ≡ replace_seen replace =
+    let lines = path-lines (replace_views old) ov op np key (right_view replace.right) index told in
+    let right = right_view replace.right in
+    let e : replacing (left_without key) right ≡ replace_view replace =
     ap (λ (k : List ℕ). replacing (left_without k) right) is-key ∙ ap (λ (v : Option (List ℕ)). replacing (left_by replace.left v) right) (sym is-version) in
-    subst (λ (rs : List Replacing). IndexLines rs ov np) (ap (λ (x : Replacing). replaces_seen old ++ x ∷ []) e ∙ sym (seen-snoc old replace) ∙ ap replaces_seen (sym is-new)) lines
+    subst (λ (rs : List Replacing). IndexLines rs ov np) (ap (λ (x : Replacing). replace_views old ++ x ∷ []) e ∙ sym (seen-snoc old replace) ∙ ap replace_views (sym is-new)) lines

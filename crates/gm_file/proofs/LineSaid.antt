@@ -1,4 +1,4 @@
--- What a line that says a directive adds.
+-- A line with a directive adds what the directive adds.
 use Rattle.std.proofs.Common.{◌≡◌, Option, Some, Result, Ok, Err}
 use Rattle.gm_file.specs.declared.fault.LineFault.{LineFault}
 use Rattle.gm_file.specs.declared.fault.LineFault.TheVariants as line

@@ -1,11 +1,11 @@
--- The kinds of a line stand in their order, so the first of them is told.
+-- The kinds of a line's faults are in the order of the kinds, so the first one is reported.
 use Rattle.std.proofs.Common.{◌≡◌, ℕ, ◌≤◌, Bool, true, false, not, List, [], ◌∷◌, ◌++◌, Option, Some, None, is_some, sym, ap, inl, arith, lit≤}
 use Rattle.std.specs.List.{list_any}
 use Rattle.gm_file.specs.declared.fault.DirectiveKind.{DirectiveKind}
 use Rattle.gm_file.specs.declared.fault.DirectiveKind.TheVariants.{UnknownVerb, WrongArguments, BadPath, BadVersion, Misfit, Repeated, ConflictingReplace, BadGo}
 use Rattle.gm_name.specs.Names.{does_fit, is_path, is_version}
 use Rattle.gm_file.specs.Directives.{Mode, Verb, ForModule, ForGo, ForRequire, ForExclude, ForReplace, ForRetract, ForNothing, Unknown, verb_in, Left, Right, Folder, Module, Item, Silent, Opening, Saying, Directive, DeclaresModule, DeclaresGo, Requires, Excludes, Replaces, Retracts, Kept, directive_of}
-use Rattle.gm_file.specs.Faults.{conflicts, directive_kinds, does_left_fit, ends_kinds, go_in, is_go, is_module, item_kinds, left_version_kinds, opening_kinds, pair_kinds, path_kinds, rank, right_path_kinds, right_version_kinds, saying_kinds, sides_kinds, unless, unread_kind, version_kinds}
+use Rattle.gm_file.specs.Faults.{conflicts, directive_kinds, does_left_fit, ends_kinds, go_in, is_go, is_module, item_kinds, left_version_kinds, opening_kinds, pair_kinds, path_kinds, rank, right_path_kinds, right_version_kinds, entry_kinds, sides_kinds, unless, malformed_entry_kind, version_kinds}
 use Rattle.gm_file.specs.Fields.{first}
 use Rattle.gm_file.proofs.Told.{IsOneKind, NoneFirst}
 
@@ -35,10 +35,10 @@ first-by j k ks w e =
     let f : j ≡ k = cc in
     (inl (sym f), (omega (arith, ap rank f), later k (rank j) 8 ks (omega (arith, ap rank f)) w.1))
 
--- of kinds in their order the first comes first
-pub first-told : (ks : List DirectiveKind) (k : DirectiveKind) → Within 0 8 ks → first ks ≡ Some k → IsOneKind k ks × NoneFirst k ks
-first-told [] k w e = absurd (cc e)
-first-told (j ∷ ks) k w e = first-by j k ks w e
+-- if kinds are in their order, none precedes the first one
+pub first-reported : (ks : List DirectiveKind) (k : DirectiveKind) → Within 0 8 ks → first ks ≡ Some k → IsOneKind k ks × NoneFirst k ks
+first-reported [] k w e = absurd (cc e)
+first-reported (j ∷ ks) k w e = first-by j k ks w e
 
 path-within : (path : List ℕ) → Within 2 2 (path_kinds path)
 path-within path = one (is_path path) BadPath
@@ -111,7 +111,7 @@ opening-within ForRetract = lit≤ tt
 opening-within ForNothing = lit≤ tt
 opening-within Unknown = alone UnknownVerb (lit≤ tt)
 
-unread-within : (verb : Verb) → rank (unread_kind verb) ≤ 8
+unread-within : (verb : Verb) → rank (malformed_entry_kind verb) ≤ 8
 unread-within ForModule = lit≤ tt
 unread-within ForGo = lit≤ tt
 unread-within ForRequire = lit≤ tt
@@ -121,8 +121,8 @@ unread-within ForRetract = lit≤ tt
 unread-within ForNothing = lit≤ tt
 unread-within Unknown = lit≤ tt
 
-saying-within : (mode : Mode) (earlier : List Directive) (verb : Verb) (o : Option Directive) → Within 0 8 (saying_kinds mode earlier verb o)
-saying-within mode earlier verb None = alone (unread_kind verb) (unread-within verb)
+saying-within : (mode : Mode) (earlier : List Directive) (verb : Verb) (o : Option Directive) → Within 0 8 (entry_kinds mode earlier verb o)
+saying-within mode earlier verb None = alone (malformed_entry_kind verb) (unread-within verb)
 saying-within mode earlier verb (Some d) = directive-within mode earlier d
 
 pub item-within : (mode : Mode) (earlier : List Directive) (item : Item) → Within 0 8 (item_kinds mode earlier item)

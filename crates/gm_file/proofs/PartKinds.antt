@@ -1,4 +1,4 @@
--- What is wrong with paths, versions and pairs, by the facts of gm_name.
+-- The kinds of faults of paths, versions and pairs, from the facts of gm_name.
 use Rattle.std.proofs.Common.{◌≡◌, ◌↔◌, ℕ, Bool, true, false, List, [], ◌∷◌, Some, refl, ap}
 use Rattle.gm_file.specs.declared.fault.DirectiveKind.TheVariants.{BadPath, BadVersion, Misfit}
 use Rattle.gm_file.specs.Faults.{pair_kinds, path_kinds, unless, version_kinds}
@@ -38,7 +38,7 @@ pair-sound path version p v fit = rw (p, v) (fit-sound path version fit)
 pub pair-misfit : (path version : List ℕ) → path_kinds path ≡ [] → version_kinds version ≡ [] → ¬ (Fits path version) → first (pair_kinds (path, version)) ≡ Some Misfit
 pair-misfit path version p v none = rw (p, v, fit-bad path version none) refl
 
--- a path and a version that were read, and fit or not
+-- a valid path and a valid version, which fit or don't
 pub pair-read : (path version p v : List ℕ) (q : Pair) → Some path ≡ Some p → path_kinds p ≡ [] → Some version ≡ Some v → version_kinds v ≡ [] → q ≡ (p, v) → Fits p v
     → (Some (pair path version) ≡ Some q) × (pair_kinds q ≡ [])
 pair-read path version p v q is-p sound-p is-v sound-v is-q fit =
@@ -46,7 +46,7 @@ pair-read path version p v q is-p sound-p is-v sound-v is-q fit =
     let f : version ≡ v = cc in
     (cc (ap (λ (x : List ℕ). Some (pair x version)) e, ap (λ (x : List ℕ). Some (pair p x)) f), rw is-q (pair-sound p v sound-p sound-v fit))
 
--- two texts of which one is no name
+-- two texts of which one is invalid
 pub pair-bad-path : (path version : List ℕ) → ¬ (IsPath path) → first (pair_kinds (path, version)) ≡ Some BadPath
 pair-bad-path path version fails = rw (path-bad path fails) refl
 

@@ -8,11 +8,11 @@ use Rattle.std.specs.List.{cons_option, filter_map}
 use Rattle.std.specs.Str.{bytes_eq}
 use Rattle.gm_syntax.specs.Words.{Word}
 use Rattle.gm_syntax.specs.Document.{Line}
-use Rattle.gm_file.specs.Directives.{Strict, Verb, ForModule, ForGo, ForRequire, ForExclude, ForReplace, ForRetract, ForNothing, Unknown, Pair, Directive, DeclaresModule, DeclaresGo, Requires, Excludes, Replaces, Retracts, Item, Silent, Opening, Saying, block_after, block_behind, directive_in, directive_of, directives, ends_of, item_at, main_verb, one_of, pair_of, replacing_of}
-use Rattle.gm_file.specs.Fields.{lax_retracts_of, sound_ends, sound_interval}
+use Rattle.gm_file.specs.Directives.{Strict, Verb, ForModule, ForGo, ForRequire, ForExclude, ForReplace, ForRetract, ForNothing, Unknown, Pair, Directive, DeclaresModule, DeclaresGo, Requires, Excludes, Replaces, Retracts, Item, Silent, Opening, Saying, block_after_lines, block_after_line, directive_in, directive_of, directives, ends_of, item_at, main_verb, one_of, pair_of, replacing_of}
+use Rattle.gm_file.specs.Fields.{lax_retracts_of, valid_ends, valid_interval}
 use Rattle.gm_file.specs.Retracting.{retraction_at, retraction_in}
 use Rattle.gm_file.specs.declared.replace.Interval.{Interval}
-use Rattle.gm_file.specs.Views.{interval_seen, intervals_seen}
+use Rattle.gm_file.specs.Views.{interval_view, interval_views}
 use Rattle.std.proofs.lemmas.List.{map-append}
 use Rattle.gm_file.proofs.Lines.{block-snoc, said-once}
 
@@ -20,11 +20,11 @@ is_retract : Verb → Bool
 is_retract ForRetract = true
 is_retract _ = false
 
-none-of : {X : Type 0} (f : X → Directive) → ((x : X) → sound_interval (f x) ≡ None) → (o : Option X) → option_and_then sound_interval (option_map f o) ≡ None
+none-of : {X : Type 0} (f : X → Directive) → ((x : X) → valid_interval (f x) ≡ None) → (o : Option X) → option_and_then valid_interval (option_map f o) ≡ None
 none-of f none None = refl
 none-of f none (Some x) = none x
 
-other-verb : (verb : Verb) (words : List Word) → is_retract verb ≡ false → option_and_then sound_interval (directive_of verb words) ≡ None
+other-verb : (verb : Verb) (words : List Word) → is_retract verb ≡ false → option_and_then valid_interval (directive_of verb words) ≡ None
 unfolding directive_of is_retract
 other-verb ForModule words e = none-of DeclaresModule (λ _. refl) (one_of words)
 other-verb ForGo words e = none-of DeclaresGo (λ _. refl) (one_of words)
@@ -50,70 +50,70 @@ not-retract text e =
     rw e (verb-by (bytes_eq text (codes "module")) (bytes_eq text (codes "go")) (bytes_eq text (codes "require")) (bytes_eq text (codes "exclude")) (bytes_eq text (codes "replace"))
     (bytes_eq text (codes "toolchain") || bytes_eq text (codes "godebug") || bytes_eq text (codes "tool") || bytes_eq text (codes "ignore")))
 
--- an entry of another verb retracts nothing
+-- an entry with another verb retracts nothing
 pub other-retracts : (item : Item) (verb : List ℕ) (words : List Word) → item ≡ Saying verb words → bytes_eq verb (codes "retract") ≡ false → None ≡ retraction_at item
 other-retracts item verb words is other = sym (ap retraction_at is ∙ other-verb (main_verb verb) words (not-retract verb other))
 
-and-map : (o : Option Pair) → option_and_then sound_interval (option_map Retracts o) ≡ option_and_then sound_ends o
+and-map : (o : Option Pair) → option_and_then valid_interval (option_map Retracts o) ≡ option_and_then valid_ends o
 and-map None = refl
 and-map (Some ends) = refl
 
--- an entry of `retract` retracts what its words do
+-- an entry with the verb `retract` retracts the interval that its arguments spell
 pub retract-retracts : (item : Item) (verb : List ℕ) (words : List Word) → item ≡ Saying verb words → bytes_eq verb (codes "retract") ≡ true → retraction_in words ≡ retraction_at item
 unfolding directive_of
 retract-retracts item verb words is same =
     let e : verb ≡ codes "retract" = same_text verb (codes "retract") (sym same) in
     sym (ap retraction_at is ∙ ap (λ (v : List ℕ). retraction_at (Saying v words)) e ∙ and-map (ends_of words))
 
--- a line that is no entry retracts nothing
+-- a line that is not an entry retracts nothing
 pub none-retracts : (item : Item) → ((verb : List ℕ) (words : List Word) → ¬ (item ≡ Saying verb words)) → None ≡ retraction_at item
 none-retracts Silent none = refl
 none-retracts (Opening verb) none = refl
 none-retracts (Saying verb words) none = absurd (none verb words refl)
 
-to-list : (o : Option Directive) → filter_map sound_interval (option_to_list o) ≡ option_to_list (option_and_then sound_interval o)
+to-list : (o : Option Directive) → filter_map valid_interval (option_to_list o) ≡ option_to_list (option_and_then valid_interval o)
 to-list None = refl
-to-list (Some d) = by (sound_interval d)
+to-list (Some d) = by (valid_interval d)
   where
     by : (o : Option Pair) → cons_option o [] ≡ option_to_list o
     by None = refl
     by (Some p) = refl
 
--- what lines retract, with one more line
-retracts-snoc : (lines : List (Line Word)) (line : Line Word) → lax_retracts_of (lines ++ line ∷ []) ≡ lax_retracts_of lines ++ option_to_list (retraction_at (item_at (block_after None lines, line)))
+-- the intervals that lines retract, after one more line
+retracts-snoc : (lines : List (Line Word)) (line : Line Word) → lax_retracts_of (lines ++ line ∷ []) ≡ lax_retracts_of lines ++ option_to_list (retraction_at (item_at (block_after_lines None lines, line)))
 retracts-snoc lines line =
-    ap (filter_map sound_interval) (said-once Strict lines line)
-    ∙ filter_map-append sound_interval (directives Strict lines) (option_to_list (directive_in Strict (item_at (block_after None lines, line))))
-    ∙ ap (λ (ps : List Pair). lax_retracts_of lines ++ ps) (to-list (directive_in Strict (item_at (block_after None lines, line))))
+    ap (filter_map valid_interval) (said-once Strict lines line)
+    ∙ filter_map-append valid_interval (directives Strict lines) (option_to_list (directive_in Strict (item_at (block_after_lines None lines, line))))
+    ∙ ap (λ (ps : List Pair). lax_retracts_of lines ++ ps) (to-list (directive_in Strict (item_at (block_after_lines None lines, line))))
 
 pub not-false : (a : Bool) → not a ≡ false → a ≡ true
 not-false true e = refl
 not-false false e = cc e
 
--- what the lines so far retract, with the verb of the block that is open behind them
+-- the intervals that the lines so far retract, with the verb of the block that is open after them
 pub record AreRetracted (lines : List (Line Word)) (block : Option Word) (intervals : List Pair) : Type 0 where
-  pub open_is : block ≡ block_after None lines
+  pub open_is : block ≡ block_after_lines None lines
   pub are : intervals ≡ lax_retracts_of lines
 
 pub retracted-none : AreRetracted [] None []
 retracted-none = record { open_is = refl; are = refl }
 
--- one line more
+-- after one more line
 pub retracted-more : (lines : List (Line Word)) (block : Option Word) (line : Line Word) (intervals more : List Pair) → AreRetracted lines block intervals
-    → more ≡ intervals ++ option_to_list (retraction_at (item_at (block, line))) → AreRetracted (lines ++ line ∷ []) (block_behind block line) more
+    → more ≡ intervals ++ option_to_list (retraction_at (item_at (block, line))) → AreRetracted (lines ++ line ∷ []) (block_after_line block line) more
 retracted-more lines block line intervals more so is = record {
-  open_is = ap (λ (b : Option Word). block_behind b line) so.open_is ∙ sym (block-snoc None lines line);
+  open_is = ap (λ (b : Option Word). block_after_line b line) so.open_is ∙ sym (block-snoc None lines line);
   are = is ∙ ap (λ (ps : List Pair). ps ++ option_to_list (retraction_at (item_at (block, line)))) so.are
       ∙ ap (λ (b : Option Word). lax_retracts_of lines ++ option_to_list (retraction_at (item_at (b, line)))) so.open_is
       ∙ sym (retracts-snoc lines line);
 }
 
-pub pushed-more : (items more : List Interval) (interval : Interval) (o : Option Interval) (r : Option Pair) → more ≡ items ++ interval ∷ [] → o ≡ Some interval → option_map interval_seen o ≡ r
-    → intervals_seen more ≡ intervals_seen items ++ option_to_list r
+pub pushed-more : (items more : List Interval) (interval : Interval) (o : Option Interval) (r : Option Pair) → more ≡ items ++ interval ∷ [] → o ≡ Some interval → option_map interval_view o ≡ r
+    → interval_views more ≡ interval_views items ++ option_to_list r
 pushed-more items more interval o r is some seen =
-    ap intervals_seen is ∙ map-append interval_seen items (interval ∷ [])
-    ∙ ap (λ (q : Option Pair). intervals_seen items ++ option_to_list q) (ap (option_map interval_seen) (sym some) ∙ seen)
+    ap interval_views is ∙ map-append interval_view items (interval ∷ [])
+    ∙ ap (λ (q : Option Pair). interval_views items ++ option_to_list q) (ap (option_map interval_view) (sym some) ∙ seen)
 
-pub kept-more : (items : List Interval) (o : Option Interval) (r : Option Pair) → o ≡ None → option_map interval_seen o ≡ r → intervals_seen items ≡ intervals_seen items ++ option_to_list r
+pub kept-more : (items : List Interval) (o : Option Interval) (r : Option Pair) → o ≡ None → option_map interval_view o ≡ r → interval_views items ≡ interval_views items ++ option_to_list r
 kept-more items o r none seen =
-    sym (append-nil (intervals_seen items)) ∙ ap (λ (q : Option Pair). intervals_seen items ++ option_to_list q) (ap (option_map interval_seen) (sym none) ∙ seen)
+    sym (append-nil (interval_views items)) ∙ ap (λ (q : Option Pair). interval_views items ++ option_to_list q) (ap (option_map interval_view) (sym none) ∙ seen)

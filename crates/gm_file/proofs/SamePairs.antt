@@ -1,4 +1,4 @@
--- Equality of pairs of texts, and lists that hold one.
+-- Equality of pairs of texts, and membership in lists of them.
 use Rattle.std.proofs.Common.{◌≡◌, ◌↔◌, ℕ, ◌&&◌, Bool, true, false, List, get_or, IsTrue, refl, sym, ap, subst, ◌∙◌}
 use Rattle.std.proofs.lemmas.List.Folds.{Any-from_list_any, list_any-from_Any}
 use Rattle.std.specs.Cmp.Lexicographic.{same_text}
@@ -23,7 +23,7 @@ text-self a = nat_list_eq_equiv.refl a
 pair-self : (a : Pair) → pair_eq a a ≡ true
 pair-self a = rw (text-self a.0, text-self a.1) refl
 
--- what `contains` tells
+-- the meaning of the result of `contains`
 pub contains-tells : (q : Pair) (xs : List Pair) (b : Bool) → b ≡ list_any (λ y. pair_eq y q) xs → IsTrue b ↔ Contains xs q
 contains-tells q xs b e = (
   λ t.

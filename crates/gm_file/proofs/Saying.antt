@@ -1,4 +1,4 @@
--- What directives say, with one more.
+-- The fields of directives after one more directive.
 use Rattle.std.proofs.Common.{◌≡◌, ℕ, ◌||◌, not, Bool, true, false, List, [], ◌∷◌, ◌++◌, Option, Some, None, Err, refl, sym, ap, ◌∙◌, append-nil}
 use Rattle.std.specs.Prelude.{is_some, option_and_then}
 use Rattle.std.proofs.lemmas.List.Elements.{filter_map-append}
@@ -12,11 +12,11 @@ use Rattle.gm_file.specs.declared.fields.Fields.{Fields}
 use Rattle.gm_file.specs.Directives.{Mode, Pair, Replacing, Directive, DeclaresModule, DeclaresGo, Requires, Excludes, Replaces, Retracts, Kept}
 use Rattle.gm_file.specs.Faults.{conflicts, directive_kinds, go_in, is_conflict, is_go, is_module, path_kinds, unless}
 use Rattle.gm_file.specs.Fields.{as_exclusion, as_go, as_interval, as_module, as_replacing, as_requirement, first}
-use Rattle.gm_file.specs.Holding.{Holds, IsAdded, Say}
-use Rattle.gm_file.specs.Indexes.{TellsConflict}
-use Rattle.gm_file.specs.Reading.{early_kinds}
+use Rattle.gm_file.specs.Holding.{Holds, IsAdded, HaveFields}
+use Rattle.gm_file.specs.Indexes.{ReportsConflict}
+use Rattle.gm_file.specs.Reading.{own_kinds}
 
--- a directive that gives nothing changes nothing
+-- a directive that gives nothing to a field leaves it unchanged
 skip : {Y : Type 0} (h : Directive → Option Y) (ds : List Directive) (d : Directive) → h d ≡ None → filter_map h (ds ++ d ∷ []) ≡ filter_map h ds
 skip {Y} h ds d e = filter_map-append h ds (d ∷ []) ∙ ap (λ (o : Option Y). filter_map h ds ++ cons_option o []) e ∙ append-nil (filter_map h ds)
 
@@ -73,9 +73,9 @@ is_module-given (Replaces r) = refl
 is_module-given (Retracts ends) = refl
 is_module-given Kept = refl
 
-module _ {mode : Mode} {ds : List Directive} {declared : Option (List ℕ)} {go : Option (ℕ × ℕ)} {requirements excludes : List Pair} {replaces : List Replacing} {retracts : List Pair} (say : Say mode ds declared go requirements excludes replaces retracts) where
-  -- all that a directive without any of these leaves as it is
-  pub say-kept : Say mode (ds ++ Kept ∷ []) declared go requirements excludes replaces retracts
+module _ {mode : Mode} {ds : List Directive} {declared : Option (List ℕ)} {go : Option (ℕ × ℕ)} {requirements excludes : List Pair} {replaces : List Replacing} {retracts : List Pair} (say : HaveFields mode ds declared go requirements excludes replaces retracts) where
+  -- a directive that gives nothing to any field leaves all of them unchanged
+  pub say-kept : HaveFields mode (ds ++ Kept ∷ []) declared go requirements excludes replaces retracts
   say-kept = record {
     declared_is = ap first (skip as_module ds Kept refl) ∙ say.declared_is;
     is_declared = pass is_module ds Kept refl ∙ say.is_declared;
@@ -87,7 +87,7 @@ module _ {mode : Mode} {ds : List Directive} {declared : Option (List ℕ)} {go 
     retracts_are = skip as_interval ds Kept refl ∙ say.retracts_are;
   }
 
-  pub say-requirement : (p : Pair) → Say mode (ds ++ Requires p ∷ []) declared go (requirements ++ p ∷ []) excludes replaces retracts
+  pub say-requirement : (p : Pair) → HaveFields mode (ds ++ Requires p ∷ []) declared go (requirements ++ p ∷ []) excludes replaces retracts
   say-requirement p = let d = Requires p in record {
     declared_is = ap first (skip as_module ds d refl) ∙ say.declared_is;
     is_declared = pass is_module ds d refl ∙ say.is_declared;
@@ -99,7 +99,7 @@ module _ {mode : Mode} {ds : List Directive} {declared : Option (List ℕ)} {go 
     retracts_are = skip as_interval ds d refl ∙ say.retracts_are;
   }
 
-  pub say-exclusion : (p : Pair) → Say mode (ds ++ Excludes p ∷ []) declared go requirements (excludes ++ p ∷ []) replaces retracts
+  pub say-exclusion : (p : Pair) → HaveFields mode (ds ++ Excludes p ∷ []) declared go requirements (excludes ++ p ∷ []) replaces retracts
   say-exclusion p = let d = Excludes p in record {
     declared_is = ap first (skip as_module ds d refl) ∙ say.declared_is;
     is_declared = pass is_module ds d refl ∙ say.is_declared;
@@ -111,7 +111,7 @@ module _ {mode : Mode} {ds : List Directive} {declared : Option (List ℕ)} {go 
     retracts_are = skip as_interval ds d refl ∙ say.retracts_are;
   }
 
-  pub say-replacing : (r : Replacing) → Say mode (ds ++ Replaces r ∷ []) declared go requirements excludes (replaces ++ r ∷ []) retracts
+  pub say-replacing : (r : Replacing) → HaveFields mode (ds ++ Replaces r ∷ []) declared go requirements excludes (replaces ++ r ∷ []) retracts
   say-replacing r = let d = Replaces r in record {
     declared_is = ap first (skip as_module ds d refl) ∙ say.declared_is;
     is_declared = pass is_module ds d refl ∙ say.is_declared;
@@ -123,7 +123,7 @@ module _ {mode : Mode} {ds : List Directive} {declared : Option (List ℕ)} {go 
     retracts_are = skip as_interval ds d refl ∙ say.retracts_are;
   }
 
-  pub say-interval : (ends : Pair) → Say mode (ds ++ Retracts ends ∷ []) declared go requirements excludes replaces (retracts ++ ends ∷ [])
+  pub say-interval : (ends : Pair) → HaveFields mode (ds ++ Retracts ends ∷ []) declared go requirements excludes replaces (retracts ++ ends ∷ [])
   say-interval ends = let d = Retracts ends in record {
     declared_is = ap first (skip as_module ds d refl) ∙ say.declared_is;
     is_declared = pass is_module ds d refl ∙ say.is_declared;
@@ -135,7 +135,7 @@ module _ {mode : Mode} {ds : List Directive} {declared : Option (List ℕ)} {go 
     retracts_are = put as_interval ds d ends refl ∙ ap (λ (ps : List Pair). ps ++ ends ∷ []) say.retracts_are;
   }
 
-  pub say-module : (path : List ℕ) → is_some declared ≡ false → Say mode (ds ++ DeclaresModule path ∷ []) (Some path) go requirements excludes replaces retracts
+  pub say-module : (path : List ℕ) → is_some declared ≡ false → HaveFields mode (ds ++ DeclaresModule path ∷ []) (Some path) go requirements excludes replaces retracts
   say-module path none = let d = DeclaresModule path in record {
     declared_is = ap first (put as_module ds d path refl) ∙ first-new (filter_map as_module ds) path (none-first as_module is_module is_module-given ds (say.is_declared ∙ none));
     is_declared = hit is_module ds d refl;
@@ -147,7 +147,7 @@ module _ {mode : Mode} {ds : List Directive} {declared : Option (List ℕ)} {go 
     retracts_are = skip as_interval ds d refl ∙ say.retracts_are;
   }
 
-  pub say-go : (text : List ℕ) (numbers : ℕ × ℕ) → is_some go ≡ false → go_in mode text ≡ Some numbers → Say mode (ds ++ DeclaresGo text ∷ []) declared (Some numbers) requirements excludes replaces retracts
+  pub say-go : (text : List ℕ) (numbers : ℕ × ℕ) → is_some go ≡ false → go_in mode text ≡ Some numbers → HaveFields mode (ds ++ DeclaresGo text ∷ []) declared (Some numbers) requirements excludes replaces retracts
   say-go text numbers none read = let d = DeclaresGo text in record {
     declared_is = ap first (skip as_module ds d refl) ∙ say.declared_is;
     is_declared = pass is_module ds d refl ∙ say.is_declared;
@@ -160,7 +160,7 @@ module _ {mode : Mode} {ds : List Directive} {declared : Option (List ℕ)} {go 
     retracts_are = skip as_interval ds d refl ∙ say.retracts_are;
   }
 
--- ---- what is wrong behind others
+-- ---- faults after earlier directives
 
 conflicts-lines : (r : Replacing) (ds : List Directive) → list_any (conflicts r) ds ≡ list_any (is_conflict r) (filter_map as_replacing ds)
 conflicts-lines r [] = refl
@@ -198,18 +198,18 @@ pub go-bad : (mode : Mode) (ds : List Directive) (text : List ℕ) → list_any 
 unfolding directive_kinds
 go-bad mode ds text none unread = rw (none, unread) refl
 
-pub replace-right : (mode : Mode) (ds : List Directive) (r : Replacing) → early_kinds (Replaces r) ≡ [] → list_any (is_conflict r) (filter_map as_replacing ds) ≡ false → directive_kinds mode ds (Replaces r) ≡ []
+pub replace-right : (mode : Mode) (ds : List Directive) (r : Replacing) → own_kinds (Replaces r) ≡ [] → list_any (is_conflict r) (filter_map as_replacing ds) ≡ false → directive_kinds mode ds (Replaces r) ≡ []
 unfolding directive_kinds
-replace-right mode ds r early none = none-behind (early_kinds (Replaces r)) (list_any (conflicts r) ds) ConflictingReplace early (conflicts-lines r ds ∙ none)
+replace-right mode ds r early none = none-behind (own_kinds (Replaces r)) (list_any (conflicts r) ds) ConflictingReplace early (conflicts-lines r ds ∙ none)
 
-pub replace-conflicts : (mode : Mode) (ds : List Directive) (r : Replacing) → early_kinds (Replaces r) ≡ [] → list_any (is_conflict r) (filter_map as_replacing ds) ≡ true
+pub replace-conflicts : (mode : Mode) (ds : List Directive) (r : Replacing) → own_kinds (Replaces r) ≡ [] → list_any (is_conflict r) (filter_map as_replacing ds) ≡ true
     → first (directive_kinds mode ds (Replaces r)) ≡ Some ConflictingReplace
 unfolding directive_kinds
-replace-conflicts mode ds r early some = one-behind (early_kinds (Replaces r)) (list_any (conflicts r) ds) ConflictingReplace early (conflicts-lines r ds ∙ some)
+replace-conflicts mode ds r early some = one-behind (own_kinds (Replaces r)) (list_any (conflicts r) ds) ConflictingReplace early (conflicts-lines r ds ∙ some)
 
--- the answer to a replace that an earlier one contradicts
-pub conflict-told : (mode : Mode) (old new : Fields) (r : Replacing) (replaces : List Replacing) (fault : LineFault) → early_kinds (Replaces r) ≡ []
-    → ((ds : List Directive) → Holds mode ds old → filter_map as_replacing ds ≡ replaces) → TellsConflict r replaces (Err fault) → IsAdded mode old new (Replaces r) (Err fault)
-conflict-told mode old new r replaces line.NoMemory early are told = tt
-conflict-told mode old new r replaces (line.Kind kind) early are told = λ ds holds.
+-- the result of adding a replace that conflicts with an earlier one
+pub conflict-reported : (mode : Mode) (old new : Fields) (r : Replacing) (replaces : List Replacing) (fault : LineFault) → own_kinds (Replaces r) ≡ []
+    → ((ds : List Directive) → Holds mode ds old → filter_map as_replacing ds ≡ replaces) → ReportsConflict r replaces (Err fault) → IsAdded mode old new (Replaces r) (Err fault)
+conflict-reported mode old new r replaces line.NoMemory early are told = tt
+conflict-reported mode old new r replaces (line.Kind kind) early are told = λ ds holds.
     replace-conflicts mode ds r early (ap (list_any (is_conflict r)) (are ds holds) ∙ told.1) ∙ ap Some (sym told.0)

@@ -1,4 +1,4 @@
--- The set of excluded versions.
+-- The set of excluded versions after one more line.
 use Rattle.std.proofs.Common.{◌≡◌, ◌&&◌, ◌||◌, Bool, true, false, cond, List, [], ◌∷◌, ◌++◌, refl, sym, ap, ◌∙◌}
 use Rattle.std.proofs.lemmas.List.Folds.{list_any-append}
 use Rattle.std.proofs.lemmas.Map.Text.{is_eq-slice_cmp}
@@ -20,7 +20,7 @@ then-equal Less p = refl
 then-equal Equal p = refl
 then-equal Greater p = refl
 
--- two pairs compare equal where they are equal
+-- two pairs compare equal exactly if they are equal
 pub pair-ties : (a b : Pair) → is_eq (pair_cmp a b) ≡ pair_eq a b
 pair-ties a b =
     then-equal (slice_cmp nat_cmp a.0 b.0) (version_cmp a.1 b.1)
@@ -35,7 +35,7 @@ or-by false true d e = refl
 or-by false false true e = cc e
 or-by false false false e = refl
 
--- a set with one more line
+-- the set after one more line
 pub set-with : (old new : set.BTreeSet Pair) (lines : List Pair) (p : Pair) → ((q : Pair) → set.contains pair_cmp old q ≡ list_any (λ y. pair_eq y q) lines) → set.Updates pair_cmp old new p true
     → (q : Pair) → set.contains pair_cmp new q ≡ list_any (λ y. pair_eq y q) (lines ++ p ∷ [])
 set-with old new lines p same updates q =

@@ -1,4 +1,4 @@
--- What `parse` refuses is no small number.
+-- A text that `parse` refuses is not a small number.
 use Rattle.std.proofs.Common.{◌≡◌, ◌≢◌, ℕ, ◌&&◌, ◌^◌, ◌<◌, nat_lt, Bool, true, false, not, List, length, get_or, Some, None, Err, refl, arith, lit<}
 use Rattle.std.specs.Prelude.{if◌then◌else◌}
 use Rattle.std.proofs.lemmas.Bool.Decides.{nat_tests}
@@ -24,7 +24,7 @@ unread-by text true is decimal none =
     let fits : 1000000000 < 2 ^ 32 = lit< tt in
     absurd (none (parts.1, some, omega (arith, below, fits)))
 
--- what `parse` refuses is no small number
+-- a text that `parse` refuses is not a small number
 pub unread-small : {E : Type 0} (text : List ℕ) (e : E) → is_decimal text ≡ true → ParsesUnsigned 32 10 text (Err e) → small_number text ≡ None
 unfolding small_number
 unread-small {E} text e decimal parsed =

@@ -1,14 +1,14 @@
--- The faults of lines with one more line.
+-- The directives and the faults of lines after one more line.
 use Rattle.std.proofs.Common.{◌≡◌, suc, ◌+◌, List, [], ◌∷◌, ◌++◌, length, map, Option, Some, None, refl, sym, ap, ◌∙◌, append_assoc, append-nil}
 use Rattle.std.specs.List.{cons_option, filter_map, flat_map}
 use Rattle.gm_syntax.specs.Words.{Word}
 use Rattle.gm_syntax.specs.Document.{Line}
-use Rattle.gm_file.specs.Directives.{Mode, Seat, block_after, block_behind, directives, item_at, said, seats, seats_from}
+use Rattle.gm_file.specs.Directives.{Mode, LineInBlock, block_after_lines, block_after_line, directives, item_at, said, with_blocks, with_blocks_from}
 use Rattle.gm_file.specs.Faults.{faults, faults_after, item_kinds, with_before, with_before_from}
 
-pub seats-snoc : {W : Type 0} (block : Option W) (lines more : List (Line W)) → seats_from block (lines ++ more) ≡ seats_from block lines ++ seats_from (block_after block lines) more
-seats-snoc block [] more = refl
-seats-snoc block (line ∷ lines) more = ap (λ ss. (block, line) ∷ ss) (seats-snoc (block_behind block line) lines more)
+pub with_blocks-snoc : {W : Type 0} (block : Option W) (lines more : List (Line W)) → with_blocks_from block (lines ++ more) ≡ with_blocks_from block lines ++ with_blocks_from (block_after_lines block lines) more
+with_blocks-snoc block [] more = refl
+with_blocks-snoc block (line ∷ lines) more = ap (λ ss. (block, line) ∷ ss) (with_blocks-snoc (block_after_line block line) lines more)
 
 before-snoc : {X : Type 0} (before xs : List X) (x : X) → with_before_from before (xs ++ x ∷ []) ≡ with_before_from before xs ++ (before ++ xs, x) ∷ []
 before-snoc before [] x = ap (λ b. (b, x) ∷ []) (sym (append-nil before))
@@ -28,24 +28,24 @@ pub flat_map-append : {X Y : Type 0} (h : X → List Y) (xs ys : List X) → fla
 flat_map-append h [] ys = refl
 flat_map-append h (x ∷ xs) ys = ap (λ r. h x ++ r) (flat_map-append h xs ys) ∙ sym (append_assoc (h x) (flat_map h xs) (flat_map h ys))
 
-pub length-seats : {W : Type 0} (block : Option W) (lines : List (Line W)) → length (seats_from block lines) ≡ length lines
-length-seats block [] = refl
-length-seats block (line ∷ lines) = ap suc (length-seats (block_behind block line) lines)
+pub length-with_blocks : {W : Type 0} (block : Option W) (lines : List (Line W)) → length (with_blocks_from block lines) ≡ length lines
+length-with_blocks block [] = refl
+length-with_blocks block (line ∷ lines) = ap suc (length-with_blocks (block_after_line block line) lines)
 
--- the directives of lines with one more
+-- the directives after one more line
 pub directives-snoc : (mode : Mode) (lines : List (Line Word)) (line : Line Word)
-    → directives mode (lines ++ line ∷ []) ≡ directives mode lines ++ filter_map (said mode) ((block_after None lines, line) ∷ [])
+    → directives mode (lines ++ line ∷ []) ≡ directives mode lines ++ filter_map (said mode) ((block_after_lines None lines, line) ∷ [])
 directives-snoc mode lines line =
-    ap (filter_map (said mode)) (seats-snoc None lines (line ∷ [])) ∙ filter_map-append (said mode) (seats lines) ((block_after None lines, line) ∷ [])
+    ap (filter_map (said mode)) (with_blocks-snoc None lines (line ∷ [])) ∙ filter_map-append (said mode) (with_blocks lines) ((block_after_lines None lines, line) ∷ [])
 
--- the faults of lines with one more: those of the lines, and that line's
+-- the faults after one more line: those of the lines before it, and then its own
 pub faults-snoc : (mode : Mode) (lines : List (Line Word)) (line : Line Word)
-    → faults mode (lines ++ line ∷ []) ≡ faults mode lines ++ map (λ kind. (length lines + 1, kind)) (item_kinds mode (directives mode lines) (item_at (block_after None lines, line)))
+    → faults mode (lines ++ line ∷ []) ≡ faults mode lines ++ map (λ kind. (length lines + 1, kind)) (item_kinds mode (directives mode lines) (item_at (block_after_lines None lines, line)))
 unfolding faults
 faults-snoc mode lines line =
-    let seat : Seat Word = (block_after None lines, line) in
-    ap (λ ss. flat_map (faults_after mode) (with_before ss)) (seats-snoc None lines (line ∷ []))
-    ∙ ap (flat_map (faults_after mode)) (before-snoc [] (seats lines) seat)
-    ∙ flat_map-append (faults_after mode) (with_before (seats lines)) ((seats lines, seat) ∷ [])
-    ∙ ap (λ fs. flat_map (faults_after mode) (with_before (seats lines)) ++ fs) (append-nil (faults_after mode (seats lines, seat)))
-    ∙ ap (λ n. flat_map (faults_after mode) (with_before (seats lines)) ++ map (λ kind. (n + 1, kind)) (item_kinds mode (directives mode lines) (item_at seat))) (length-seats None lines)
+    let seat : LineInBlock Word = (block_after_lines None lines, line) in
+    ap (λ ss. flat_map (faults_after mode) (with_before ss)) (with_blocks-snoc None lines (line ∷ []))
+    ∙ ap (flat_map (faults_after mode)) (before-snoc [] (with_blocks lines) seat)
+    ∙ flat_map-append (faults_after mode) (with_before (with_blocks lines)) ((with_blocks lines, seat) ∷ [])
+    ∙ ap (λ fs. flat_map (faults_after mode) (with_before (with_blocks lines)) ++ fs) (append-nil (faults_after mode (with_blocks lines, seat)))
+    ∙ ap (λ n. flat_map (faults_after mode) (with_before (with_blocks lines)) ++ map (λ kind. (n + 1, kind)) (item_kinds mode (directives mode lines) (item_at seat))) (length-with_blocks None lines)

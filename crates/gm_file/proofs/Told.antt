@@ -1,4 +1,4 @@
--- The fault that is told: the first of the first line that has any.
+-- The fault that is reported: the first one of the first line with a fault.
 use Rattle.std.proofs.Common.{◌≡◌, ℕ, ◌+◌, ◌<◌, ◌≤◌, List, [], ◌∷◌, ◌++◌, length, map, Option, Some, None, sym, ap, ◌∙◌, inl, inr, arith, append_assoc, append-nil, length-append}
 use Rattle.std.specs.Prelude.{◌⊎◌, ⊤}
 use Rattle.std.specs.Option.{option_or}
@@ -6,12 +6,12 @@ use Rattle.std.specs.List.{flat_map}
 use Rattle.gm_syntax.specs.Words.{Word}
 use Rattle.gm_syntax.specs.Document.{Line}
 use Rattle.gm_file.specs.declared.fault.DirectiveKind.{DirectiveKind}
-use Rattle.gm_file.specs.Directives.{Mode, Seat, block_after, directives, item_at, seats, seats_from}
+use Rattle.gm_file.specs.Directives.{Mode, LineInBlock, block_after_lines, directives, item_at, with_blocks, with_blocks_from}
 use Rattle.gm_file.specs.Faults.{Fault, fault_of, faults, faults_after, first_of, item_kinds, missing_module, rank, with_before_from}
 use Rattle.gm_file.proofs.First.{IsBefore, IsOne, NoneBefore, first-is}
-use Rattle.gm_file.proofs.Snoc.{faults-snoc, flat_map-append, length-seats, seats-snoc}
+use Rattle.gm_file.proofs.Snoc.{faults-snoc, flat_map-append, length-with_blocks, with_blocks-snoc}
 
--- k is one of the kinds, and none of them comes first
+-- k is one of the kinds; and none of the kinds precedes k
 abbrev pub IsOneKind : DirectiveKind → List DirectiveKind → Type 0
 IsOneKind k [] = ⊥
 IsOneKind k (j ∷ js) = (k ≡ j) ⊎ IsOneKind k js
@@ -56,8 +56,8 @@ before-append {X} before (x ∷ xs) ys =
     ap (λ (r : List (List X × X)). (before, x) ∷ r) (before-append (before ++ x ∷ []) xs ys
     ∙ ap (λ (b : List X). with_before_from (before ++ x ∷ []) xs ++ with_before_from b ys) (append_assoc before (x ∷ []) xs))
 
--- the faults of later lines have higher numbers
-none-rest : (mode : Mode) (m : ℕ) (k : DirectiveKind) (before rest : List (Seat Word)) → m ≤ length before → NoneBefore (m, k) (flat_map (faults_after mode) (with_before_from before rest))
+-- the faults of later lines have higher line numbers
+none-rest : (mode : Mode) (m : ℕ) (k : DirectiveKind) (before rest : List (LineInBlock Word)) → m ≤ length before → NoneBefore (m, k) (flat_map (faults_after mode) (with_before_from before rest))
 none-rest mode m k before [] le = tt
 none-rest mode m k before (seat ∷ rest) le =
     let next : m ≤ length (before ++ seat ∷ []) = omega (arith, le, length-append before (seat ∷ [])) in
@@ -65,31 +65,31 @@ none-rest mode m k before (seat ∷ rest) le =
     (none-later m (length before + 1) k _ (omega (arith, le)))
     (none-rest mode m k (before ++ seat ∷ []) rest next)
 
--- the kinds of the line that stands after those
+-- the kinds of faults of a line, after the lines before it
 abbrev pub kinds_at : Mode → List (Line Word) → Line Word → List DirectiveKind
-kinds_at mode before line = item_kinds mode (directives mode before) (item_at (block_after None before, line))
+kinds_at mode before line = item_kinds mode (directives mode before) (item_at (block_after_lines None before, line))
 
 split-faults : (mode : Mode) (lines later : List (Line Word))
-    → faults mode (lines ++ later) ≡ faults mode lines ++ flat_map (faults_after mode) (with_before_from (seats lines) (seats_from (block_after None lines) later))
+    → faults mode (lines ++ later) ≡ faults mode lines ++ flat_map (faults_after mode) (with_before_from (with_blocks lines) (with_blocks_from (block_after_lines None lines) later))
 unfolding faults
 split-faults mode lines later =
-    ap (λ ss. flat_map (faults_after mode) (with_before_from [] ss)) (seats-snoc None lines later)
-    ∙ ap (flat_map (faults_after mode)) (before-append [] (seats lines) (seats_from (block_after None lines) later))
-    ∙ flat_map-append (faults_after mode) (with_before_from [] (seats lines)) (with_before_from (seats lines) (seats_from (block_after None lines) later))
+    ap (λ ss. flat_map (faults_after mode) (with_before_from [] ss)) (with_blocks-snoc None lines later)
+    ∙ ap (flat_map (faults_after mode)) (before-append [] (with_blocks lines) (with_blocks_from (block_after_lines None lines) later))
+    ∙ flat_map-append (faults_after mode) (with_before_from [] (with_blocks lines)) (with_before_from (with_blocks lines) (with_blocks_from (block_after_lines None lines) later))
 
--- where the lines before a line have no fault, its first is told
-pub told-at : (mode : Mode) (before : List (Line Word)) (line : Line Word) (later : List (Line Word)) (k : DirectiveKind)
+-- if the lines before a line have no fault, the first fault of this line is reported
+pub reported-at : (mode : Mode) (before : List (Line Word)) (line : Line Word) (later : List (Line Word)) (k : DirectiveKind)
     → faults mode before ≡ [] → IsOneKind k (kinds_at mode before line) → NoneFirst k (kinds_at mode before line)
     → fault_of mode ((before ++ line ∷ []) ++ later) ≡ Some (length before + 1, k)
 unfolding fault_of
-told-at mode before line later k none one first =
+reported-at mode before line later k none one first =
     let n = length before + 1 in
     let here = map (λ kind. (n, kind)) (kinds_at mode before line) in
     let with_line : faults mode (before ++ line ∷ []) ≡ here = faults-snoc mode before line ∙ ap (λ (fs : List Fault). fs ++ here) none in
-    let rest = flat_map (faults_after mode) (with_before_from (seats (before ++ line ∷ [])) (seats_from (block_after None (before ++ line ∷ [])) later)) in
+    let rest = flat_map (faults_after mode) (with_before_from (with_blocks (before ++ line ∷ [])) (with_blocks_from (block_after_lines None (before ++ line ∷ [])) later)) in
     let whole : faults mode ((before ++ line ∷ []) ++ later) ≡ here ++ rest = split-faults mode (before ++ line ∷ []) later ∙ ap (λ (fs : List Fault). fs ++ rest) with_line in
-    let size : length (seats (before ++ line ∷ [])) ≡ n = length-seats None (before ++ line ∷ []) ∙ length-append before (line ∷ []) in
+    let size : length (with_blocks (before ++ line ∷ [])) ≡ n = length-with_blocks None (before ++ line ∷ []) ∙ length-append before (line ∷ []) in
     let is : first_of (here ++ rest) ≡ Some (n, k) = first-is (here ++ rest) (n, k) (one-append (n, k) here rest (one-map n k (kinds_at mode before line) one))
-    (none-append (n, k) here rest (none-map n k (kinds_at mode before line) first) (none-rest mode n k (seats (before ++ line ∷ [])) _ (omega (arith, size)))) in
+    (none-append (n, k) here rest (none-map n k (kinds_at mode before line) first) (none-rest mode n k (with_blocks (before ++ line ∷ [])) _ (omega (arith, size)))) in
     ap (λ (fs : List Fault). option_or (first_of fs) (missing_module mode (directives mode ((before ++ line ∷ []) ++ later)))) whole
     ∙ ap (λ (o : Option Fault). option_or o (missing_module mode (directives mode ((before ++ line ∷ []) ++ later)))) is

@@ -1,4 +1,4 @@
--- A whole file that was read.
+-- From the fields of all lines to the fault and the invariant of a whole file.
 use Rattle.std.proofs.Common.{◌≡◌, ℕ, Bool, true, false, List, Option, Some, None, is_some, sym, ap, ◌∙◌}
 use Rattle.std.specs.Prelude.{if◌then◌else◌, unwrap_or}
 use Rattle.std.specs.Option.{option_or}
@@ -9,14 +9,14 @@ use Rattle.gm_file.specs.declared.fields.Fields.{Fields}
 use Rattle.gm_file.specs.Directives.{Mode, Strict, Lax, Pair, directives}
 use Rattle.gm_file.specs.Faults.{Fault, fault_of, first_of, missing_module}
 use Rattle.gm_file.specs.Fields.{Dependency, dependency_of, go_of, lax_retracts_of, module_of, requirements_of}
-use Rattle.gm_file.specs.Held.{IsHeld}
+use Rattle.gm_file.specs.Held.{AreMainFields}
 use Rattle.gm_file.specs.Holding.{AreRead}
 
 only-missing : (mode : Mode) (lines : List (Line Word)) (f : Fields) → AreRead mode lines f → fault_of mode lines ≡ missing_module mode (directives mode lines)
 unfolding fault_of
 only-missing mode lines f read = ap (λ (fs : List Fault). option_or (first_of fs) (missing_module mode (directives mode lines))) read.sound
 
--- what is missing, by whether a path is declared
+-- the fault of a missing module, by whether a path is declared
 missing-by : (lines : List (Line Word)) (f : Fields) (b : Bool) → AreRead Strict lines f → is_some f.declared ≡ b → fault_of Strict lines ≡ (if b then None else Some (0, NoModule))
 missing-by lines f b read is = only-missing Strict lines f read ∙ ap (λ (x : Bool). if x then None else Some (0, NoModule)) (read.holds.is_declared ∙ is)
 
@@ -27,7 +27,7 @@ pub main-sound : (lines : List (Line Word)) (f : Fields) (path : List ℕ) → A
 main-sound lines f path read is = missing-by lines f true read (ap is_some is)
 
 pub main-held : (lines : List (Line Word)) (f : Fields) (path : List ℕ) (go : ℕ × ℕ) → AreRead Strict lines f → f.declared ≡ Some path → go ≡ unwrap_or f.go (1, 16)
-    → IsHeld lines path go f.requirements.items f.excludes f.replaces f.retracts.items
+    → AreMainFields lines path go f.requirements.items f.excludes f.replaces f.retracts.items
 main-held lines f path go read is go-is = record {
   sound = main-sound lines f path read is;
   module_is = read.holds.declared_is ∙ is;

@@ -1,4 +1,4 @@
--- What a file that is read says.
+-- The fields of a file that has been read.
 use Rattle.std.specs.Prelude.{ℕ, ◌==◌, if◌then◌else◌, List, [], ◌∷◌, find, length, Option, Some, None, unwrap_or, option_and_then}
 use Rattle.std.specs.Option.{option_map, option_or}
 use Rattle.std.specs.List.{filter_map}
@@ -6,6 +6,8 @@ use Rattle.gm_syntax.specs.Words.{Word}
 use Rattle.gm_syntax.specs.Document.{Line}
 use Rattle.gm_file.specs.Directives.{Mode, Strict, Lax, Pair, Left, left_with, left_without, Right, Replacing, Directive, DeclaresModule, DeclaresGo, Requires, Excludes, Replaces, Retracts, directives}
 use Rattle.gm_file.specs.Faults.{ends_kinds, go_in, is_same_left}
+
+-- ---- the parts of a directive, if it is of the right verb
 
 abbrev pub as_module : Directive → Option (List ℕ)
 as_module (DeclaresModule path) = Some path
@@ -32,6 +34,9 @@ abbrev pub as_interval : Directive → Option Pair
 as_interval (Retracts ends) = Some ends
 as_interval _ = None
 
+-- ---- the fields
+
+-- the first element, if any
 abbrev pub first : {X : Type 0} → List X → Option X
 first [] = None
 first (x ∷ xs) = Some x
@@ -40,7 +45,7 @@ first (x ∷ xs) = Some x
 abbrev pub module_of : Mode → List (Line Word) → Option (List ℕ)
 module_of mode lines = first (filter_map as_module (directives mode lines))
 
--- the first two numbers of the go version, which is 1.16 where none is declared
+-- the first two numbers of the go version, which is 1.16 if none is declared
 abbrev pub go_of : Mode → List (Line Word) → ℕ × ℕ
 go_of mode lines = unwrap_or (option_and_then (go_in mode) (first (filter_map as_go (directives mode lines)))) (1, 16)
 
@@ -56,19 +61,20 @@ replaces_of lines = filter_map as_replacing (directives Strict lines)
 abbrev pub retracts_of : List (Line Word) → List Pair
 retracts_of lines = filter_map as_interval (directives Strict lines)
 
--- the ends of an interval, if they are versions
-abbrev pub sound_ends : Pair → Option Pair
-sound_ends ends = if length (ends_kinds ends) == 0 then Some ends else None
+-- the ends of an interval, if both are versions
+abbrev pub valid_ends : Pair → Option Pair
+valid_ends ends = if length (ends_kinds ends) == 0 then Some ends else None
 
-abbrev pub sound_interval : Directive → Option Pair
-sound_interval (Retracts ends) = sound_ends ends
-sound_interval _ = None
+-- the ends of a retracted interval, if both are versions
+abbrev pub valid_interval : Directive → Option Pair
+valid_interval (Retracts ends) = valid_ends ends
+valid_interval _ = None
 
--- the intervals that a dependency's file retracts: what strict reading would refuse is none
+-- the intervals that a dependency's file retracts: an entry that strict reading would refuse retracts nothing
 abbrev pub lax_retracts_of : List (Line Word) → List Pair
-lax_retracts_of lines = filter_map sound_interval (directives Strict lines)
+lax_retracts_of lines = filter_map valid_interval (directives Strict lines)
 
--- what a dependency's file says
+-- the fields of a dependency's file
 pub record Dependency : Type 0 where
   pub declared : Option (List ℕ)
   pub go : ℕ × ℕ
@@ -78,12 +84,13 @@ pub record Dependency : Type 0 where
 abbrev pub dependency_of : List (Line Word) → Dependency
 dependency_of lines = record { declared = module_of Lax lines; go = go_of Lax lines; requirements = requirements_of Lax lines; retracts = lax_retracts_of lines }
 
--- ---- choices
+-- ---- lookups
 
--- the right beside the first of those with that left
+-- the right side of the first replace with this left side
 abbrev pub right_for : List Replacing → Left → Option Right
 right_for replaces left = option_map (λ (r : Replacing). r.1) (find (λ (r : Replacing). is_same_left left r.0) replaces)
 
--- what stands for a path and a version: a replace of that version is taken before one of the whole path
+-- the replacement of a path and a version: a replace of this version has precedence over one of the whole path
 abbrev pub replacement_of : List Replacing → Pair → Option Right
-replacement_of replaces pair = option_or (right_for replaces (left_with pair.0 pair.1)) (right_for replaces (left_without pair.0))
+replacement_of replaces pair =
+    option_or (right_for replaces (left_with pair.0 pair.1)) (right_for replaces (left_without pair.0))

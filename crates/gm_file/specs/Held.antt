@@ -1,4 +1,4 @@
--- What a main file that was read holds, beside its lines.
+-- The invariant of a main file: how its fields relate to the lines of its document.
 use Rattle.std.specs.Prelude.{◌≡◌, ℕ, List, Some, None}
 use Rattle.gm_syntax.specs.Words.{Word}
 use Rattle.gm_syntax.specs.Document.{Line}
@@ -9,16 +9,17 @@ use Rattle.gm_file.specs.Directives.{Strict, Pair}
 use Rattle.gm_file.specs.Faults.{fault_of}
 use Rattle.gm_file.specs.Fields.{module_of, go_of, requirements_of, excludes_of, replaces_of, retracts_of}
 use Rattle.gm_file.specs.Indexes.{AreIndexed, IsSetOfLines}
-use Rattle.gm_file.specs.Views.{replaces_seen, intervals_seen}
+use Rattle.gm_file.specs.Views.{replace_views, interval_views}
 
--- strict reading of the lines has no fault, these are its fields, and the indexes hold what the lines say
-pub record IsHeld (lines : List (Line Word)) (path : List ℕ) (go : ℕ × ℕ) (requirements : List Pair) (excludes : Exclusions) (replaces : Replacements) (retracts : List Interval) : Type 0 where
+-- strict reading of the lines has no fault, these are its fields, and the indexes agree with the lines
+pub record AreMainFields (lines : List (Line Word)) (path : List ℕ) (go : ℕ × ℕ) (requirements : List Pair)
+    (excludes : Exclusions) (replaces : Replacements) (retracts : List Interval) : Type 0 where
   pub sound : fault_of Strict lines ≡ None
   pub module_is : module_of Strict lines ≡ Some path
   pub go_is : go_of Strict lines ≡ go
   pub requirements_are : requirements_of Strict lines ≡ requirements
   pub excludes_are : excludes_of lines ≡ excludes.lines.items
   pub excludes_found : IsSetOfLines excludes
-  pub replaces_are : replaces_of lines ≡ replaces_seen replaces.lines.items
+  pub replaces_are : replaces_of lines ≡ replace_views replaces.lines.items
   pub replaces_found : AreIndexed replaces
-  pub retracts_are : retracts_of lines ≡ intervals_seen retracts
+  pub retracts_are : retracts_of lines ≡ interval_views retracts

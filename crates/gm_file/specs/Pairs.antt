@@ -1,4 +1,4 @@
--- Equality of pairs of texts.
+-- Equality of pairs of texts, byte by byte.
 use Rattle.std.specs.Prelude.{Bool, ◌&&◌}
 use Rattle.std.specs.Str.{bytes_eq}
 use Rattle.gm_file.specs.Directives.{Pair}

@@ -1,4 +1,4 @@
--- What contracts see of the program's types.
+-- The program's types as contracts see them.
 use Rattle.std.specs.Option.{option_map}
 use Rattle.std.specs.Prelude.{◌≡◌, ℕ, List, map, Some, String, string_bytes, ⊤}
 use Rattle.gm_syntax.specs.Words.{Word}
@@ -17,40 +17,40 @@ use Rattle.gm_file.specs.declared.fault.FileFault.TheVariants as fault
 use Rattle.gm_file.specs.Directives.{Mode, Pair, Left, Replacing, Right, Folder, Module}
 use Rattle.gm_file.specs.Faults.{fault_of}
 
--- two values
-abbrev pub texts_seen : {Z : Type 0} → String Z × String Z → Pair
-texts_seen texts = (string_bytes texts.0, string_bytes texts.1)
+-- the bytes of two values
+abbrev pub text_views : {Z : Type 0} → String Z × String Z → Pair
+text_views texts = (string_bytes texts.0, string_bytes texts.1)
 
--- the texts of a replace's sides
-abbrev pub left_text_seen : LeftText → Left
-left_text_seen left = record { path = string_bytes left.path; version = option_map string_bytes left.version }
+-- the texts of the sides of a replace
+abbrev pub left_text_view : LeftText → Left
+left_text_view left = record { path = string_bytes left.path; version = option_map string_bytes left.version }
 
-abbrev pub right_text_seen : RightText → Right
-right_text_seen (text.Folder folder) = Folder (string_bytes folder)
-right_text_seen (text.Module path version) = Module (string_bytes path) (string_bytes version)
+abbrev pub right_text_view : RightText → Right
+right_text_view (text.Folder folder) = Folder (string_bytes folder)
+right_text_view (text.Module path version) = Module (string_bytes path) (string_bytes version)
 
-abbrev pub right_seen : declared.Right → Right
-right_seen (right.Folder text) = Folder (string_bytes text)
-right_seen (right.Module path version) = Module path version
+abbrev pub right_view : declared.Right → Right
+right_view (right.Folder text) = Folder (string_bytes text)
+right_view (right.Module path version) = Module path version
 
-abbrev pub replace_seen : Replace → Replacing
-replace_seen r = (record { path = r.left; version = r.version }, right_seen r.right)
+abbrev pub replace_view : Replace → Replacing
+replace_view r = (record { path = r.left; version = r.version }, right_view r.right)
 
-abbrev pub replaces_seen : List Replace → List Replacing
-replaces_seen rs = map replace_seen rs
+abbrev pub replace_views : List Replace → List Replacing
+replace_views rs = map replace_view rs
 
-abbrev pub interval_seen : Interval → Pair
-interval_seen i = (i.low, i.high)
+abbrev pub interval_view : Interval → Pair
+interval_view i = (i.low, i.high)
 
-abbrev pub intervals_seen : List Interval → List Pair
-intervals_seen is = map interval_seen is
+abbrev pub interval_views : List Interval → List Pair
+interval_views is = map interval_view is
 
--- the fault is the one of the lines; want of memory says nothing
-abbrev pub TellsFault : Mode → List (Line Word) → FileFault → Type 0
-TellsFault mode lines fault.NoMemory = ⊤
-TellsFault mode lines (fault.Directive line kind) = fault_of mode lines ≡ Some (line, kind)
+-- the fault is the one that the definitions give for the lines; NoMemory says nothing about them
+abbrev pub ReportsFault : Mode → List (Line Word) → FileFault → Type 0
+ReportsFault mode lines fault.NoMemory = ⊤
+ReportsFault mode lines (fault.Directive line kind) = fault_of mode lines ≡ Some (line, kind)
 
--- a line's fault, as one of the file
+-- the fault of a line as one of the file
 abbrev pub fault_at : ℕ → LineFault → FileFault
 fault_at number line.NoMemory = fault.NoMemory
 fault_at number (line.Kind kind) = fault.Directive number kind

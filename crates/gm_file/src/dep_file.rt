@@ -1,12 +1,12 @@
-//! A dependency's file.
+//! A dependency's file: lax reading, which keeps only what a build needs from a dependency.
 
 ghost use Rattle.std.specs.Prelude.{◌≡◌, IfOk, IfErr, None};
 ghost use Rattle.std.specs.Option.{option_copied};
-ghost use Rattle.gm_syntax.specs.LineViews.{plains};
+ghost use Rattle.gm_syntax.specs.LineViews.{plain_lines};
 ghost use Rattle.gm_file.specs.Directives.{Lax};
 ghost use Rattle.gm_file.specs.Faults.{fault_of};
 ghost use Rattle.gm_file.specs.Fields.{dependency_of};
-ghost use Rattle.gm_file.specs.Views.{TellsFault, intervals_seen};
+ghost use Rattle.gm_file.specs.Views.{ReportsFault, interval_views};
 
 use crate::fault::FileFault;
 use crate::fields::{Fields, read_lines};
@@ -14,42 +14,50 @@ use crate::replace::Interval;
 use crate::retractions::read_retractions;
 use crate::verb::Mode;
 use gm_name::{KnownNames, ModPath, ModVer};
-use gm_syntax::doc::Doc;
+use gm_syntax::Doc;
 use std::alloc::Global;
 use std::marker::Model;
 
-/// A dependency's file, read laxly: `module`, `go`, `require` and `retract`. It keeps nothing of its document.
+/// A dependency's file, read laxly: its `module`, `go`, `require` and `retract` directives.
+///
+/// It borrows nothing from its document, which may be dropped after reading.
 #[derive(Drop)]
 pub struct DepFile {
+    /// The path of the `module` directive, if there is one.
     declared: Option<ModPath>,
+    /// The first two numbers of the go version, or 1 and 16.
     go: (u32, u32),
+    /// The modules of the `require` lines, in order.
     requirements: Vec<ModVer>,
+    /// The intervals of the well-formed `retract` entries, in order.
     retracts: Vec<Interval>,
 }
 
 impl Model for DepFile {
     ghost use Rattle.gm_file.specs.Fields.{Dependency};
-    ghost use Rattle.gm_file.specs.Views.{intervals_seen};
+    ghost use Rattle.gm_file.specs.Views.{interval_views};
 
     ghost Value = { Dependency };
 
-    ghost view = { λ f. record { declared = f.declared; go = f.go; requirements = f.requirements.items; retracts = intervals_seen f.retracts.items } };
+    ghost view = { λ f. record { declared = f.declared; go = f.go; requirements = f.requirements.items; retracts = interval_views f.retracts.items } };
 }
 
 impl DepFile {
-    /// Reads `module`, `go` and `require` as in a main file, and ignores every other verb with its block (Go Modules
-    /// Reference, go.mod files). The go version may have a `v` in front, and anything but a digit behind its second
-    /// number. `module` may be missing.
+    /// Reads `module`, `go`, `require` and `retract` as in a main file, and ignores every other verb with its block (Go
+    /// Modules Reference, go.mod files). The go version may have a leading `v`, and after its second number any text
+    /// that doesn't begin with a digit. `module` may be missing.
     ///
-    /// A document with a fault is refused with `FileFault::Directive`: the lowest line with one, and of what is wrong
-    /// there the first kind in the order of `DirectiveKind`. A `retract` is never a fault: an entry that strict reading
-    /// would refuse retracts nothing. `NoMemory` may come in place of any answer.
+    /// A document with a fault is refused with `FileFault::Directive`, which has the lowest faulty line, counted from
+    /// 1, and the first kind of that line's faults in the order of `DirectiveKind`. A `retract` is never a fault: an
+    /// entry that strict reading would refuse retracts nothing. `NoMemory` may replace any result, when memory runs
+    /// out.
     ///
-    /// Names are read through those that are known, so that files that name the same modules share their memory. What is read
-    /// doesn't depend on them.
+    /// Names are looked up in `names` and added to it, so that files that name the same modules share memory. The
+    /// result doesn't depend on which names are known.
     pub fn read(alloc: Global, names: &mut KnownNames, doc: &Doc) -> Result<DepFile, FileFault>
-        ensures ok { IfOk result (λ file. (file ≡ dependency_of (plains doc.now)) × (fault_of Lax (plains doc.now) ≡ None)) }
-        ensures fault { IfErr result (TellsFault Lax (plains doc.now)) }
+        ensures ok { IfOk result (λ file. (file ≡ dependency_of (plain_lines doc.now))
+            × (fault_of Lax (plain_lines doc.now) ≡ None)) }
+        ensures fault { IfErr result (ReportsFault Lax (plain_lines doc.now)) }
     {
         let Fields {
             declared,
@@ -73,23 +81,25 @@ impl DepFile {
         self.declared.as_ref()
     }
 
-    /// The first two numbers of the `go` directive's version, 1 and 16 where there is none.
+    /// The first two numbers of the `go` directive's version, or 1 and 16 if the file has no `go` directive (Go
+    /// Modules Reference, go directive).
     pub fn go(&self) -> (u32, u32)
         ensures { result ≡ self.now.go }
     {
         self.go
     }
 
-    /// The modules of the `require` lines, in the order of the lines, repeats kept.
+    /// The modules of the `require` lines, in the order of the lines and with duplicates.
     pub fn requirements(&self) -> &[ModVer]
         ensures { result.now ≡ self.now.requirements }
     {
         self.requirements.as_slice()
     }
 
-    /// The intervals that the `retract` entries hold which strict reading takes, in the order of the lines.
+    /// The intervals of the `retract` entries that strict reading would accept, in the order of the lines and with
+    /// duplicates.
     pub fn retracts(&self) -> &[Interval]
-        ensures { intervals_seen result.now ≡ self.now.retracts }
+        ensures { interval_views result.now ≡ self.now.retracts }
     {
         self.retracts.as_slice()
     }

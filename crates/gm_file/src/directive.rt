@@ -1,14 +1,14 @@
-//! What one line of a file says.
+//! Reading one line, which both ways of reading files and the edits of files share.
 
 ghost use Rattle.std.specs.Prelude.{◌≡◌};
 ghost use Rattle.std.specs.Option.{option_map};
 ghost use Rattle.gm_syntax.specs.LineViews.{line_of, plain};
 ghost use Rattle.gm_syntax.specs.Tokens.{words_of};
 ghost use Rattle.gm_file.specs.Directives.{directive_of, item_at, one_of, Opening, Saying};
-ghost use Rattle.gm_file.specs.Faults.{path_kinds, unread_kind};
-ghost use Rattle.gm_file.specs.Reading.{IsRead, early_kinds};
-ghost use Rattle.gm_file.specs.DirectiveViews.{IsLineRead, directive_seen};
-ghost use Rattle.gm_file.specs.VerbViews.{mode_seen, verb_seen};
+ghost use Rattle.gm_file.specs.Faults.{path_kinds, malformed_entry_kind};
+ghost use Rattle.gm_file.specs.Reading.{IsRead, own_kinds};
+ghost use Rattle.gm_file.specs.DirectiveViews.{IsLineRead, directive_view};
+ghost use Rattle.gm_file.specs.VerbViews.{mode_view, verb_view};
 
 use crate::fault::{DirectiveKind, LineFault};
 use crate::part::{is_empty_block, one_value, read_interval, read_pair, read_path};
@@ -16,24 +16,30 @@ use crate::replace::{Interval, Replace};
 use crate::sides::read_replace;
 use crate::verb::{Mode, Verb, verb_in};
 use gm_name::{KnownNames, ModPath, ModVer};
-use gm_syntax::line::Line;
-use gm_syntax::token::Token;
+use gm_syntax::{Line, Token};
 use std::alloc::Global;
 
-/// What an entry says.
+/// The directive of one entry.
 #[derive(Drop)]
 pub enum Directive {
+    /// `module`: the path of the module.
     Module(ModPath),
-    /// The text of a go version, not yet read: a second one is Repeated, whatever it is.
+    /// `go`: the text of the version. It is parsed only when it is added to the fields of its file, since a second `go`
+    /// is `Repeated` even if its version is invalid.
     Go(String),
+    /// `require`: a module at its minimum version.
     Require(ModVer),
+    /// `exclude`: a module at the excluded version.
     Exclude(ModVer),
+    /// `replace`: both sides.
     Replace(Replace),
+    /// `retract`: the retracted interval.
     Retract(Interval),
-    /// Kept, without effect.
+    /// An entry that is kept in the document but has no effect.
     Kept,
 }
 
+/// The path of a `module` entry with these arguments.
 fn read_module(alloc: Global, names: &mut KnownNames, words: &[Token]) -> Result<ModPath, LineFault>
     ensures { IsRead (λ path. path) DirectiveKind.WrongArguments path_kinds (one_of (words_of words.now)) result }
 {
@@ -41,7 +47,7 @@ fn read_module(alloc: Global, names: &mut KnownNames, words: &[Token]) -> Result
     read_path(alloc, names, path.as_str())
 }
 
-/// What an entry of that verb with these arguments says.
+/// The directive of an entry with this verb and these arguments, or the first fault that it has by itself.
 #[tactic(auto, unfolding(crate::specs::Directives::directive_of))]
 fn read_entry(
     alloc: Global,
@@ -49,7 +55,8 @@ fn read_entry(
     verb: Verb,
     words: &[Token],
 ) -> Result<Directive, LineFault>
-    ensures { IsRead directive_seen (unread_kind (verb_seen verb)) early_kinds (directive_of (verb_seen verb) (words_of words.now)) result }
+    ensures { IsRead directive_view (malformed_entry_kind (verb_view verb)) own_kinds
+        (directive_of (verb_view verb) (words_of words.now)) result }
 {
     match verb {
         Verb::Module => Ok(Directive::Module(read_module(alloc, names, words)?)),
@@ -63,20 +70,23 @@ fn read_entry(
     }
 }
 
-fn read_saying(
+/// The directive of an entry with this verb and these arguments, where the verb is still a word.
+fn read_verb_entry(
     alloc: Global,
     names: &mut KnownNames,
     mode: Mode,
     verb: &Token,
     words: &[Token],
 ) -> Result<Option<Directive>, LineFault>
-    ensures { IsLineRead (mode_seen mode) (Saying verb.now.word.spelling (words_of words.now)) result }
+    ensures { IsLineRead (mode_view mode) (Saying verb.now.word.spelling (words_of words.now)) result }
 {
     Ok(Some(read_entry(alloc, names, verb_in(mode, verb.spelling()), words)?))
 }
 
-fn read_opening(mode: Mode, verb: &Token) -> Result<Option<Directive>, LineFault>
-    ensures { IsLineRead (mode_seen mode) (Opening verb.now.word.spelling) result }
+/// Checks the verb of a block that opens: no block opens for `go`, nor for an unknown verb. The opening itself has no
+/// directive.
+fn read_block_start(mode: Mode, verb: &Token) -> Result<Option<Directive>, LineFault>
+    ensures { IsLineRead (mode_view mode) (Opening verb.now.word.spelling) result }
 {
     match verb_in(mode, verb.spelling()) {
         Verb::Go => Err(LineFault::Kind(DirectiveKind::WrongArguments)),
@@ -85,32 +95,33 @@ fn read_opening(mode: Mode, verb: &Token) -> Result<Option<Directive>, LineFault
     }
 }
 
-/// What a line says, in the block of that verb if one is open; `None` where it says nothing. Names are read through those
-/// that are known.
+/// The directive of a line, as `read_line` gives it. Names are looked up in `names` and added to it, so that equal
+/// names share memory.
 #[tactic(auto, unfolding(crate::specs::Directives::item_at))]
-pub(crate) fn read_line_knowing(
+pub(crate) fn read_line_with_names(
     alloc: Global,
     names: &mut KnownNames,
     mode: Mode,
     block: Option<&Token>,
     line: &Line,
 ) -> Result<Option<Directive>, LineFault>
-    ensures { IsLineRead (mode_seen mode) (item_at (option_map (λ t. t.now.word) block.entry, plain (line_of line.now))) result }
+    ensures { IsLineRead (mode_view mode)
+        (item_at (option_map (λ t. t.now.word) block.entry, plain (line_of line.now))) result }
 {
     match line {
         Line::Blank => Ok(None),
         Line::Comment(_) => Ok(None),
-        Line::Open(verb, _) => read_opening(mode, verb),
+        Line::Open(verb, _) => read_block_start(mode, verb),
         Line::Close(_) => Ok(None),
         Line::Entry(words, _) => match block {
-            Some(verb) => read_saying(alloc, names, mode, verb, words.as_slice()),
+            Some(verb) => read_verb_entry(alloc, names, mode, verb, words.as_slice()),
             None => match words.as_slice() {
                 [] => Ok(None),
                 [verb, arguments @ ..] => {
                     if is_empty_block(arguments) {
-                        read_opening(mode, verb)
+                        read_block_start(mode, verb)
                     } else {
-                        read_saying(alloc, names, mode, verb, arguments)
+                        read_verb_entry(alloc, names, mode, verb, arguments)
                     }
                 }
             },
@@ -118,15 +129,21 @@ pub(crate) fn read_line_knowing(
     }
 }
 
-/// What a line says, in the block of that verb if one is open; `None` where it says nothing.
+/// The directive of a line, or `None` if the line has none: a blank line, a comment, or the start or end of a block.
+///
+/// `block` is the verb of the block that is open before the line, if any. A whole block without entries, `VERB ()`, is
+/// treated as the start of a block. The line is refused with `LineFault::Kind`, with the first kind in the order of
+/// `DirectiveKind`, if it has a fault whatever lines come before it; the version of a `go` is not checked, since
+/// `Repeated` comes before `BadGo`. It is refused with `LineFault::NoMemory` if memory runs out.
 pub fn read_line(
     alloc: Global,
     mode: Mode,
     block: Option<&Token>,
     line: &Line,
 ) -> Result<Option<Directive>, LineFault>
-    ensures { IsLineRead (mode_seen mode) (item_at (option_map (λ t. t.now.word) block.entry, plain (line_of line.now))) result }
+    ensures { IsLineRead (mode_view mode)
+        (item_at (option_map (λ t. t.now.word) block.entry, plain (line_of line.now))) result }
 {
     let mut names = KnownNames::new(alloc, 0);
-    read_line_knowing(alloc, &mut names, mode, block, line)
+    read_line_with_names(alloc, &mut names, mode, block, line)
 }

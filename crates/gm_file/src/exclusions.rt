@@ -1,4 +1,4 @@
-//! Excluded versions, found by their order.
+//! The index of the excluded versions, for lookups in logarithmic time.
 
 ghost use Rattle.std.specs.Prelude.{◌≡◌, ◌++◌, ◌∷◌, ◌↔◌, [], Contains, IfErr, IsTrue, OnOk};
 ghost use Rattle.gm_file.specs.Indexes.{IsSetOfLines};
@@ -8,14 +8,17 @@ use gm_name::ModVer;
 use std::alloc::Global;
 use std::collections::BTreeSet;
 
-/// The versions of the `exclude` lines, in order, and the set of them.
+/// The modules of the `exclude` lines, both as a list and as a set.
 #[derive(Drop)]
 pub(crate) struct Exclusions {
+    /// The modules in the order of the lines, with duplicates.
     lines: Vec<ModVer>,
+    /// The same modules, for lookups.
     set: BTreeSet<ModVer>,
 }
 
 impl Exclusions {
+    /// The index of no lines.
     pub(crate) fn new(alloc: Global) -> Exclusions
         ensures lines { result.lines.items ≡ [] }
         ensures set { IsSetOfLines result }
@@ -26,6 +29,7 @@ impl Exclusions {
         }
     }
 
+    /// Adds the module of the next line. The only refusal is `NoMemory`.
     pub(crate) fn add(&mut self, alloc: Global, pair: ModVer) -> Result<(), LineFault>
         requires { IsSetOfLines self.old }
         ensures lines { OnOk result (self.new.lines.items ≡ self.old.lines.items ++ pair ∷ []) }
@@ -37,12 +41,14 @@ impl Exclusions {
         Ok(())
     }
 
+    /// The modules in the order of the lines, with duplicates.
     pub(crate) fn as_slice(&self) -> &[ModVer]
         ensures { result.now ≡ self.now.lines.items }
     {
         self.lines.as_slice()
     }
 
+    /// Whether a line excludes this version of this path. Takes logarithmic time.
     pub(crate) fn contains(&self, pair: &ModVer) -> bool
         requires { IsSetOfLines self.now }
         ensures { IsTrue result ↔ Contains self.now.lines.items pair.now }

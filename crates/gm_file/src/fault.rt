@@ -1,4 +1,4 @@
-//! What is wrong with the directives of a file.
+//! The faults of directives, lines and files.
 
 ghost use Rattle.std.specs.Prelude.{◌≡◌};
 ghost use Rattle.gm_file.specs.Views.{fault_at};
@@ -8,34 +8,37 @@ ghost use Rattle.gm_file.specs.declared.fault.LineFault.TheVariants as line;
 use std::alloc::{AllocError, AllocFailed};
 use thiserror::Error;
 
-/// What is wrong with a line of directives. Of several kinds on one line, the first in this order is told.
+/// The kind of a directive's fault. If a line has several, the first in this order is reported.
 #[derive(Clone, Copy, Debug, PartialEq, Eq, Error)]
 pub enum DirectiveKind {
-    /// An entry, or the opening of a block, has a verb that no directive has; in quotes no verb is one.
+    /// An entry or the start of a block has an unknown verb. A verb in quotes is unknown. Only strict reading reports
+    /// this.
     #[error("unknown verb")]
     UnknownVerb,
-    /// The number or the kind of the words is wrong, or a block opens for `go`.
+    /// An entry has the wrong number or kind of arguments, or a block opens for `go`. Since such an entry has no
+    /// directive, no other kind is reported with it.
     #[error("wrong arguments")]
     WrongArguments,
-    /// A module path is none.
+    /// A module path is invalid.
     #[error("not a module path")]
     BadPath,
-    /// A version is none, or isn't canonical.
+    /// A version is invalid or not canonical.
     #[error("not a canonical version")]
     BadVersion,
     /// A version doesn't fit its path.
     #[error("the version doesn't fit the path")]
     Misfit,
-    /// A second `module` or `go`.
+    /// A second `module` or `go` directive.
     #[error("a second one")]
     Repeated,
-    /// A main file has no `module`. It belongs to the whole file, and is told only where there is no other fault.
+    /// A main file has no `module`. This is a fault of the whole file, at line 0, and is reported only if there is no
+    /// other.
     #[error("no module")]
     NoModule,
-    /// An earlier `replace` has the same left side and another right one.
+    /// An earlier `replace` has the same left side and a different right side.
     #[error("an earlier replace differs")]
     ConflictingReplace,
-    /// A go version is none.
+    /// A go version is invalid.
     #[error("not a go version")]
     BadGo,
 }
@@ -43,10 +46,10 @@ pub enum DirectiveKind {
 /// Why a document was not read as a file.
 #[derive(Clone, Copy, Debug, PartialEq, Eq, Error)]
 pub enum FileFault {
-    /// A growth was refused.
+    /// Memory ran out.
     #[error("out of memory")]
     NoMemory,
-    /// The lowest line with a fault, counted from 1, and the first kind of what is wrong with it. Line 0 is the whole
+    /// The lowest line with a fault, counted from 1, and the first kind of its faults. Line 0 stands for the whole
     /// file.
     #[error("line {line}: {kind}")]
     Directive { line: usize, kind: DirectiveKind },
@@ -55,11 +58,14 @@ pub enum FileFault {
 /// Why a line was not read.
 #[derive(Clone, Copy, Debug, PartialEq, Eq)]
 pub enum LineFault {
+    /// Memory ran out.
     NoMemory,
+    /// The first kind of the line's faults.
     Kind(DirectiveKind),
 }
 
 impl LineFault {
+    /// The same fault as one of the file, at the line with this number.
     pub(crate) fn at_line(self, line: usize) -> FileFault
         ensures { result ≡ fault_at line self }
     {
@@ -70,6 +76,7 @@ impl LineFault {
     }
 }
 
+/// An allocation that failed is `NoMemory`.
 impl From<AllocError> for LineFault {
     ghost from_gives = { λ _ fault. fault ≡ line.NoMemory };
 
@@ -78,6 +85,7 @@ impl From<AllocError> for LineFault {
     }
 }
 
+/// A growth that failed is `NoMemory`. The value that found no room is dropped.
 impl<T: Drop> From<AllocFailed<T>> for LineFault {
     ghost from_gives = { λ _ fault. fault ≡ line.NoMemory };
 
@@ -86,6 +94,7 @@ impl<T: Drop> From<AllocFailed<T>> for LineFault {
     }
 }
 
+/// An allocation that failed is `NoMemory`.
 impl From<AllocError> for FileFault {
     ghost from_gives = { λ _ fault. fault ≡ file.NoMemory };
 
@@ -94,6 +103,7 @@ impl From<AllocError> for FileFault {
     }
 }
 
+/// A growth that failed is `NoMemory`. The value that found no room is dropped.
 impl<T: Drop> From<AllocFailed<T>> for FileFault {
     ghost from_gives = { λ _ fault. fault ≡ file.NoMemory };
 

@@ -1,17 +1,18 @@
-//! What the lines of a file say, read one after the other.
+//! The loop that both ways of reading share: it collects the fields of a file line by line, and stops at the first
+//! fault.
 
 ghost use Rattle.std.specs.Prelude.{◌≡◌, [], IfErr, IfOk, OnOk};
 ghost use Rattle.std.specs.Option.{option_map};
-ghost use Rattle.gm_syntax.specs.LineViews.{line_of, lines_seen, plain, plains};
-ghost use Rattle.gm_file.specs.Directives.{Mode as ModeOf, DeclaresGo, DeclaresModule, block_behind, item_at};
-ghost use Rattle.gm_file.specs.DirectiveViews.{directive_seen};
+ghost use Rattle.gm_syntax.specs.LineViews.{line_of, line_views, plain, plain_lines};
+ghost use Rattle.gm_file.specs.Directives.{Mode as ModeOf, DeclaresGo, DeclaresModule, block_after_line, item_at};
+ghost use Rattle.gm_file.specs.DirectiveViews.{directive_view};
 ghost use Rattle.gm_file.specs.Faults.{go_in, path_kinds};
 ghost use Rattle.gm_file.specs.Holding.{AreFound, AreRead, Holds, IsAdded, IsLineAdded};
-ghost use Rattle.gm_file.specs.Reading.{early_kinds};
-ghost use Rattle.gm_file.specs.VerbViews.{mode_seen};
-ghost use Rattle.gm_file.specs.Views.{TellsFault};
+ghost use Rattle.gm_file.specs.Reading.{own_kinds};
+ghost use Rattle.gm_file.specs.VerbViews.{mode_view};
+ghost use Rattle.gm_file.specs.Views.{ReportsFault};
 
-use crate::directive::{Directive, read_line_knowing};
+use crate::directive::{Directive, read_line_with_names};
 use crate::exclusions::Exclusions;
 use crate::fault::{DirectiveKind, FileFault, LineFault};
 use crate::go_version::{lax_go, strict_go};
@@ -19,23 +20,29 @@ use crate::replace::Interval;
 use crate::replacements::Replacements;
 use crate::verb::Mode;
 use gm_name::{KnownNames, ModPath, ModVer};
-use gm_syntax::line::Line;
-use gm_syntax::token::Token;
+use gm_syntax::{Line, Token};
 use std::alloc::Global;
 
-/// What the lines so far say.
+/// The fields of the lines that have been read.
 #[derive(Drop)]
 pub(crate) struct Fields {
+    /// The path of the `module` directive, if there was one.
     pub(crate) declared: Option<ModPath>,
+    /// The first two numbers of the go version, if there was one.
     pub(crate) go: Option<(u32, u32)>,
+    /// The modules of the `require` lines, in order.
     pub(crate) requirements: Vec<ModVer>,
+    /// The modules of the `exclude` lines, in order, with their index.
     pub(crate) excludes: Exclusions,
+    /// The `replace` lines, in order, with their index.
     pub(crate) replaces: Replacements,
+    /// The intervals of the `retract` lines, in order.
     pub(crate) retracts: Vec<Interval>,
 }
 
+/// The first two numbers of a go version, or `None` if the mode doesn't accept the text.
 fn go_in(mode: Mode, text: &str) -> Option<(u32, u32)>
-    ensures { result ≡ go_in (mode_seen mode) text.now }
+    ensures { result ≡ go_in (mode_view mode) text.now }
 {
     match mode {
         Mode::Strict => strict_go(text),
@@ -44,6 +51,7 @@ fn go_in(mode: Mode, text: &str) -> Option<(u32, u32)>
 }
 
 impl Fields {
+    /// The fields of no lines.
     pub(crate) fn new(alloc: Global) -> Fields
         ensures holds { (mode : ModeOf) → Holds mode [] result }
         ensures found { AreFound result }
@@ -58,6 +66,7 @@ impl Fields {
         }
     }
 
+    /// Adds the path of a `module` directive. A second one is refused with `Repeated`.
     fn add_module(&mut self, path: ModPath) -> Result<(), LineFault>
         requires early { path_kinds path ≡ [] }
         requires found { AreFound self.old }
@@ -71,10 +80,12 @@ impl Fields {
         Ok(())
     }
 
+    /// Adds the version of a `go` directive. A second one is refused with `Repeated`, whatever its version, and then an
+    /// invalid version with `BadGo`.
     fn add_go(&mut self, mode: Mode, text: &str) -> Result<(), LineFault>
         requires found { AreFound self.old }
         ensures found { OnOk result (AreFound self.new) }
-        ensures added { IsAdded (mode_seen mode) self.old self.new (DeclaresGo text.now) result }
+        ensures added { IsAdded (mode_view mode) self.old self.new (DeclaresGo text.now) result }
     {
         if self.go.is_some() {
             return Err(LineFault::Kind(DirectiveKind::Repeated));
@@ -86,12 +97,13 @@ impl Fields {
         Ok(())
     }
 
-    /// Puts in what a line says, which is right by itself.
+    /// Adds a directive that has no fault by itself. It is refused if it conflicts with an earlier one, a go version
+    /// also if it is invalid, and any directive with `NoMemory` if memory runs out.
     fn add(&mut self, alloc: Global, mode: Mode, directive: Directive) -> Result<(), LineFault>
-        requires early { early_kinds (directive_seen directive) ≡ [] }
+        requires early { own_kinds (directive_view directive) ≡ [] }
         requires found { AreFound self.old }
         ensures found { OnOk result (AreFound self.new) }
-        ensures added { IsAdded (mode_seen mode) self.old self.new (directive_seen directive) result }
+        ensures added { IsAdded (mode_view mode) self.old self.new (directive_view directive) result }
     {
         match directive {
             Directive::Module(path) => self.add_module(path),
@@ -116,7 +128,7 @@ impl Fields {
         }
     }
 
-    /// Reads one more line, in the block of that verb if one is open.
+    /// Reads the next line and adds its directive. `block` is the verb of the open block, if any.
     fn read_line(
         &mut self,
         alloc: Global,
@@ -127,21 +139,23 @@ impl Fields {
     ) -> Result<(), LineFault>
         requires { AreFound self.old }
         ensures found { OnOk result (AreFound self.new) }
-        ensures added { IsLineAdded (mode_seen mode) self.old self.new (item_at (option_map (λ t. t.now.word) block.entry, plain (line_of line.now))) result }
+        ensures added { IsLineAdded (mode_view mode) self.old self.new
+            (item_at (option_map (λ t. t.now.word) block.entry, plain (line_of line.now))) result }
     {
-        match read_line_knowing(alloc, names, mode, block, line)? {
+        match read_line_with_names(alloc, names, mode, block, line)? {
             Some(directive) => self.add(alloc, mode, directive),
             None => Ok(()),
         }
     }
 }
 
-/// The verb of the block that is open behind a line.
-pub(crate) fn block_behind<'w, 'a>(
+/// The verb of the block that is open after a line, given the verb of the one that is open before it.
+pub(crate) fn block_after_line<'w, 'a>(
     block: Option<&'w Token<'a>>,
     line: &'w Line<'a>,
 ) -> Option<&'w Token<'a>>
-    ensures { option_map (λ t. t.now.word) result ≡ block_behind (option_map (λ t. t.now.word) block.entry) (plain (line_of line.now)) }
+    ensures { option_map (λ t. t.now.word) result
+        ≡ block_after_line (option_map (λ t. t.now.word) block.entry) (plain (line_of line.now)) }
 {
     match line {
         Line::Blank => block,
@@ -152,15 +166,16 @@ pub(crate) fn block_behind<'w, 'a>(
     }
 }
 
-/// What the lines say, or the first fault of the lowest line that has one.
+/// The fields of all lines, or the first fault of the lowest line that has one. Lines are counted from 1. A missing
+/// `module` is no fault here: `MainFile::read` checks for it.
 pub(crate) fn read_lines(
     alloc: Global,
     names: &mut KnownNames,
     mode: Mode,
     lines: &[Line],
 ) -> Result<Fields, FileFault>
-    ensures ok { IfOk result (AreRead (mode_seen mode) (plains (lines_seen lines.now))) }
-    ensures fault { IfErr result (TellsFault (mode_seen mode) (plains (lines_seen lines.now))) }
+    ensures ok { IfOk result (AreRead (mode_view mode) (plain_lines (line_views lines.now))) }
+    ensures fault { IfErr result (ReportsFault (mode_view mode) (plain_lines (line_views lines.now))) }
 {
     let mut fields = Fields::new(alloc);
     let mut block = None;
@@ -168,7 +183,7 @@ pub(crate) fn read_lines(
         if let Err(fault) = fields.read_line(alloc, names, mode, block, line) {
             return Err(fault.at_line(n + 1));
         }
-        block = block_behind(block, line);
+        block = block_after_line(block, line);
     }
     Ok(fields)
 }

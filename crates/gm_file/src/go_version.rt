@@ -1,4 +1,5 @@
-//! Go versions.
+//! The first two numbers of go versions, which decide which rules of the module graph apply (Go Modules Reference, go
+//! directive; Go Toolchains, Go versions).
 
 ghost use Rattle.std.specs.Prelude.{◌≡◌, drop, length, take_while};
 ghost use Rattle.std.specs.Char.{is_ascii_digit, is_ascii_lowercase};
@@ -7,24 +8,29 @@ ghost use Rattle.gm_name.specs.Names.{is_decimal};
 ghost use Rattle.gm_name.specs.Number.{starts_as_no_number};
 ghost use Rattle.gm_file.specs.GoVersions.{first_number, is_go_suffix, last_number, lax_go, lax_go_text, second_number, small_number, strict_go};
 
+/// Whether a text is empty, or begins with `+` or a leading zero, both of which `parse` would accept.
 fn starts_as_no_number(text: &[u8]) -> bool
     ensures { result ≡ starts_as_no_number text.now }
 {
     text.is_empty() || text[0] == b'+' || (text[0] == b'0' && text.len() > 1)
 }
 
+/// Whether each byte is an ASCII digit.
 fn has_only_digits(text: &[u8]) -> bool
     ensures { result ≡ list_all is_ascii_digit text.now }
 {
     text.iter().all(|b| b.is_ascii_digit())
 }
 
+/// Whether a text is a decimal number without leading zeros.
 fn is_decimal(text: &[u8]) -> bool
     ensures { result ≡ is_decimal text.now }
 {
     !starts_as_no_number(text) && has_only_digits(text)
 }
 
+/// The number that a text of one to nine digits without leading zeros spells, or `None` for another text. Nine digits
+/// always fit a `u32`.
 #[tactic(auto, unfolding(crate::specs::GoVersions::small_number))]
 fn small_number(text: &str) -> Option<u32>
     ensures { result ≡ small_number text.now }
@@ -38,6 +44,7 @@ fn small_number(text: &str) -> Option<u32>
     }
 }
 
+/// The first number of a go version, which is a small number other than 0, or `None` for another text.
 #[tactic(auto, unfolding(crate::specs::GoVersions::first_number))]
 fn first_number(text: &str) -> Option<u32>
     ensures { result ≡ first_number text.now }
@@ -48,18 +55,22 @@ fn first_number(text: &str) -> Option<u32>
     small_number(text)
 }
 
+/// How many digits a text begins with.
 fn digits_len(text: &[u8]) -> usize
     ensures { result ≡ length (take_while is_ascii_digit text.now) }
 {
     text.iter().take_while(|b| b.is_ascii_digit()).count()
 }
 
+/// How many lower-case letters a text begins with.
 fn letters_len(text: &[u8]) -> usize
     ensures { result ≡ length (take_while is_ascii_lowercase text.now) }
 {
     text.iter().take_while(|b| b.is_ascii_lowercase()).count()
 }
 
+/// Whether a text may follow the last number of a go version: it is empty, or lower-case letters and then digits, at
+/// least one of each, as `rc1`.
 #[tactic(auto, unfolding(crate::specs::GoVersions::is_go_suffix))]
 fn is_go_suffix(text: &[u8]) -> bool
     ensures { result ≡ is_go_suffix text.now }
@@ -74,7 +85,7 @@ fn is_go_suffix(text: &[u8]) -> bool
     has_only_digits(&text[letters..])
 }
 
-// The digits that a text begins with, and what follows them.
+/// The digits that a text begins with, and the rest.
 fn split_digits(text: &str) -> (&str, &str)
     ensures digits { result.0.now ≡ take_while is_ascii_digit text.now }
     ensures rest { result.1.now ≡ drop (length (take_while is_ascii_digit text.now)) text.now }
@@ -82,6 +93,7 @@ fn split_digits(text: &str) -> (&str, &str)
     text.split_at(digits_len(text.as_bytes()))
 }
 
+/// The last number of a go version, which a suffix such as `rc1` may follow, or `None` for another text.
 #[tactic(auto, unfolding(crate::specs::GoVersions::last_number))]
 fn last_number(text: &str) -> Option<u32>
     ensures { result ≡ last_number text.now }
@@ -93,6 +105,8 @@ fn last_number(text: &str) -> Option<u32>
     small_number(digits)
 }
 
+/// The second number of a go version from the text after its first dot: `M` or `M.P`, where a suffix may follow the
+/// last number. `None` for another text.
 #[tactic(auto, unfolding(crate::specs::GoVersions::second_number))]
 fn second_number(text: &str) -> Option<u32>
     ensures { result ≡ second_number text.now }
@@ -106,8 +120,11 @@ fn second_number(text: &str) -> Option<u32>
     }
 }
 
-/// The first two numbers of a go version of a main file (Go Modules Reference, "go directive"), such as `1.21`, `1.21.3` or
-/// `1.21rc1`, or None for another text.
+/// The first two numbers of a go version in a main file (Go Modules Reference, "go directive"), or `None` for a
+/// text that is not a go version.
+///
+/// Go versions are `N.M` and `N.M.P`, as `1.21` and `1.21.3`, and a suffix of lower-case letters and digits may follow
+/// the last number, as in `1.21rc1`. Each number has one to nine digits and no leading zeros, and the first is not 0.
 #[tactic(auto, unfolding(crate::specs::GoVersions::strict_go))]
 pub fn strict_go(text: &str) -> Option<(u32, u32)>
     ensures { result ≡ strict_go text.now }
@@ -116,7 +133,7 @@ pub fn strict_go(text: &str) -> Option<(u32, u32)>
     Some((first_number(first)?, second_number(rest)?))
 }
 
-// The same of a dependency's file, without a `v` in front.
+/// The first two numbers of a go version in a dependency's file, after its optional `v`, or `None` for another text.
 #[tactic(auto, unfolding(crate::specs::GoVersions::lax_go_text))]
 fn lax_go_text(text: &str) -> Option<(u32, u32)>
     ensures { result ≡ lax_go_text text.now }
@@ -126,7 +143,8 @@ fn lax_go_text(text: &str) -> Option<(u32, u32)>
     Some((first_number(first)?, small_number(second)?))
 }
 
-/// The first two numbers of a go version of a dependency's file, or None for another text.
+/// The first two numbers of a go version in a dependency's file, or `None` for another text. A `v` may precede the
+/// version, and any text that doesn't begin with a digit may follow the second number.
 #[tactic(auto, unfolding(crate::specs::GoVersions::lax_go))]
 pub(crate) fn lax_go(text: &str) -> Option<(u32, u32)>
     ensures { result ≡ lax_go text.now }

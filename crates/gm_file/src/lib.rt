@@ -1,21 +1,45 @@
-//! What go.mod files say: strict reading of a main file, and lax reading of a dependency's file.
+//! The meaning of go.mod files: their directives, read from the documents of gm_syntax (Go Modules Reference, go.mod
+//! files).
+//!
+//! The main module's file is read strictly (`MainFile`): each verb must be known and each entry well-formed. A
+//! dependency's file is read laxly (`DepFile`): only its `module`, `go` and `require` can be at fault, so that a
+//! directive that is newer than this crate, or that counts only in the main module, can't break a build. Of all faults
+//! of a file exactly one is reported: the one on the lowest line, and of that line's faults the first in the order of
+//! `DirectiveKind`.
+//!
+//! For example, strict reading of
+//!
+//!     module example.com/app
+//!     go 1.21
+//!     require example.com/lib v1.2.0
+//!     replace example.com/lib => ../lib
+//!
+//! gives a `MainFile` with the module `example.com/app`, the go version (1, 21), one requirement, and the folder
+//! `../lib` as the replacement of `example.com/lib` at v1.2.0. With `v2.0.0` on line 3 it gives the fault `Misfit` at
+//! line 3 instead, since that version doesn't fit the path.
+//!
+//! Words, lines and blocks are the matter of gm_syntax, paths and versions that of gm_name. `read_line`, `strict_go`
+//! and `is_folder` are public so that the crate that edits files reads single lines by the same rules.
 #![tactic(auto)]
 
 mod dep_file;
-pub mod directive;
+mod directive;
 mod exclusions;
-pub mod fault;
+mod fault;
 mod fields;
-pub mod go_version;
+mod go_version;
 mod main_file;
 mod part;
 mod replace;
 mod replacements;
 mod retractions;
 mod sides;
-pub mod verb;
+mod verb;
 
 pub use crate::dep_file::DepFile;
-pub use crate::fault::{DirectiveKind, FileFault};
+pub use crate::directive::{Directive, read_line};
+pub use crate::fault::{DirectiveKind, FileFault, LineFault};
+pub use crate::go_version::strict_go;
 pub use crate::main_file::MainFile;
 pub use crate::replace::{Interval, Replace, Right};
+pub use crate::verb::{Mode, is_folder};

@@ -1,12 +1,12 @@
-//! The main module's file.
+//! The main module's file: strict reading, and lookups of replacements and exclusions.
 
 ghost use Rattle.std.specs.Prelude.{◌≡◌, ◌↔◌, IsTrue, IsFalse, IfOk, IfErr, OnOk, OnErr, IsErrOf, None, Some, Contains};
 ghost use Rattle.std.specs.Option.{option_map};
-ghost use Rattle.gm_syntax.specs.LineViews.{plains};
+ghost use Rattle.gm_syntax.specs.LineViews.{plain_lines};
 ghost use Rattle.gm_file.specs.Directives.{Strict};
 ghost use Rattle.gm_file.specs.Faults.{fault_of};
 ghost use Rattle.gm_file.specs.Fields.{excludes_of, go_of, module_of, replacement_of, replaces_of, requirements_of, retracts_of};
-ghost use Rattle.gm_file.specs.Views.{TellsFault, intervals_seen, replaces_seen, right_seen};
+ghost use Rattle.gm_file.specs.Views.{ReportsFault, interval_views, replace_views, right_view};
 
 use crate::exclusions::Exclusions;
 use crate::fault::{DirectiveKind, FileFault};
@@ -15,20 +15,31 @@ use crate::replace::{Interval, Replace, Right};
 use crate::replacements::Replacements;
 use crate::verb::Mode;
 use gm_name::{KnownNames, ModPath, ModVer};
-use gm_syntax::doc::Doc;
+use gm_syntax::Doc;
 use std::alloc::Global;
 use std::marker::Model;
 
-/// The main module's file, read strictly. It keeps its document, whose words borrow from the bytes.
+/// The main module's file, read strictly.
+///
+/// It keeps its document, so that the file can be edited later. The words of the document borrow from the bytes that
+/// were parsed.
 #[derive(Drop)]
 pub struct MainFile<'a> {
+    /// The allocator that the file was read with.
     alloc: Global,
+    /// The document that was read.
     doc: Doc<'a>,
+    /// The path of the `module` directive.
     declared: ModPath,
+    /// The first two numbers of the go version, or 1 and 16.
     go: (u32, u32),
+    /// The modules of the `require` lines, in order.
     requirements: Vec<ModVer>,
+    /// The modules of the `exclude` lines, in order, with their index.
     excludes: Exclusions,
+    /// The `replace` lines, in order, with their index.
     replaces: Replacements,
+    /// The intervals of the `retract` lines, in order.
     retracts: Vec<Interval>,
 }
 
@@ -36,26 +47,29 @@ impl<'a> Model for MainFile<'a> {
     ghost use Rattle.std.specs.Prelude.{List};
     ghost use Rattle.gm_syntax.specs.Tokens.{Placed};
     ghost use Rattle.gm_syntax.specs.Document.{Line};
-    ghost use Rattle.gm_syntax.specs.LineViews.{plains};
-    ghost use Rattle.gm_file.specs.Held.{IsHeld};
+    ghost use Rattle.gm_syntax.specs.LineViews.{plain_lines};
+    ghost use Rattle.gm_file.specs.Held.{AreMainFields};
 
     ghost Value = { List (Line Placed) };
 
     ghost view = { λ f. f.doc };
 
-    ghost invariant = { λ f. IsHeld (plains f.doc) f.declared f.go f.requirements.items f.excludes f.replaces f.retracts.items };
+    ghost invariant = { λ f. AreMainFields
+        (plain_lines f.doc) f.declared f.go f.requirements.items f.excludes f.replaces
+        f.retracts.items };
 }
 
 impl<'a> MainFile<'a> {
     /// Reads the directives of a main module's file (Go Modules Reference, go.mod files).
     ///
-    /// A document with a fault is refused with `FileFault::Directive`: the lowest line with one, and of what is wrong
-    /// there the first kind in the order of `DirectiveKind`. A file without `module` is refused with `NoModule` at
-    /// line 0, where there is no other fault. Lines are counted in the document, from 1. `NoMemory` may come in place
-    /// of any answer; on a refusal nothing of the document is handed back. It takes n log n steps for n lines.
+    /// A document with a fault is refused with `FileFault::Directive`, which has the lowest faulty line and the first
+    /// kind of that line's faults in the order of `DirectiveKind`. A file without `module` and without any other fault
+    /// is refused with `NoModule` at line 0. Lines are counted in the document, from 1. `NoMemory` may replace any
+    /// result, when memory runs out. The document is consumed, also on a refusal. Reading n lines takes O(n log n)
+    /// steps.
     pub fn read(alloc: Global, doc: Doc<'a>) -> Result<MainFile<'a>, FileFault>
-        ensures ok { IfOk result (λ file. (file ≡ doc.entry) × (fault_of Strict (plains doc.entry) ≡ None)) }
-        ensures fault { IfErr result (TellsFault Strict (plains doc.entry)) }
+        ensures ok { IfOk result (λ file. (file ≡ doc.entry) × (fault_of Strict (plain_lines doc.entry) ≡ None)) }
+        ensures fault { IfErr result (ReportsFault Strict (plain_lines doc.entry)) }
     {
         let mut names = KnownNames::new(alloc, 0);
         let Fields {
@@ -87,67 +101,72 @@ impl<'a> MainFile<'a> {
     /// The document that was read.
     pub fn doc(&self) -> &Doc<'a>
         ensures lines { result.now ≡ self.now }
-        ensures sound { fault_of Strict (plains self.now) ≡ None }
+        ensures sound { fault_of Strict (plain_lines self.now) ≡ None }
     {
         &self.doc
     }
 
     /// The path of the `module` directive.
     pub fn module(&self) -> &ModPath
-        ensures { module_of Strict (plains self.now) ≡ Some result.now }
+        ensures { module_of Strict (plain_lines self.now) ≡ Some result.now }
     {
         &self.declared
     }
 
-    /// The first two numbers of the `go` directive's version, 1 and 16 where there is none (Go Modules Reference, go
-    /// directive).
+    /// The first two numbers of the `go` directive's version, or 1 and 16 if the file has no `go` directive (Go
+    /// Modules Reference, go directive).
     pub fn go(&self) -> (u32, u32)
-        ensures { go_of Strict (plains self.now) ≡ result }
+        ensures { go_of Strict (plain_lines self.now) ≡ result }
     {
         self.go
     }
 
-    /// The modules of the `require` lines, in the order of the lines, repeats kept.
+    /// The modules of the `require` lines, in the order of the lines and with duplicates.
     pub fn requirements(&self) -> &[ModVer]
-        ensures { requirements_of Strict (plains self.now) ≡ result.now }
+        ensures { requirements_of Strict (plain_lines self.now) ≡ result.now }
     {
         self.requirements.as_slice()
     }
 
-    /// The modules of the `exclude` lines, in the order of the lines, repeats kept.
+    /// The modules of the `exclude` lines, in the order of the lines and with duplicates.
     pub fn excludes(&self) -> &[ModVer]
-        ensures { excludes_of (plains self.now) ≡ result.now }
+        ensures { excludes_of (plain_lines self.now) ≡ result.now }
     {
         self.excludes.as_slice()
     }
 
-    /// The `replace` lines, in order, repeats kept.
+    /// The `replace` lines, in order and with duplicates.
     pub fn replaces(&self) -> &[Replace]
-        ensures { replaces_of (plains self.now) ≡ replaces_seen result.now }
+        ensures { replaces_of (plain_lines self.now) ≡ replace_views result.now }
     {
         self.replaces.as_slice()
     }
 
-    /// The intervals of the `retract` lines, in the order of the lines, repeats kept; a single version is both ends.
+    /// The intervals of the `retract` lines, in the order of the lines and with duplicates. A single version is an
+    /// interval with that version as both ends.
     pub fn retracts(&self) -> &[Interval]
-        ensures { retracts_of (plains self.now) ≡ intervals_seen result.now }
+        ensures { retracts_of (plain_lines self.now) ≡ interval_views result.now }
     {
         self.retracts.as_slice()
     }
 
-    /// What stands in the place of that version, if it is replaced: the right of the `replace` that names the version,
-    /// or else of the one that names the whole path (Go Modules Reference, replace directive). It takes no memory, and
-    /// logarithmic time in the number of lines.
+    /// The replacement of a module at a version, or `None` if no `replace` applies to it.
+    ///
+    /// This is the right side of the `replace` that names the version, otherwise of the one that names only the path
+    /// (Go Modules Reference, replace directive). The lookup allocates nothing and takes logarithmic time in the
+    /// number of lines.
     pub fn replacement(&self, pair: &ModVer) -> Option<&Right>
-        ensures { option_map (λ right. right_seen right.now) result ≡ replacement_of (replaces_of (plains self.now)) pair.now }
+        ensures { option_map (λ right. right_view right.now) result
+            ≡ replacement_of (replaces_of (plain_lines self.now)) pair.now }
     {
         self.replaces.replacement(pair)
     }
 
-    /// Whether an `exclude` line names that version of that path. It takes no memory, and logarithmic time in the
-    /// number of lines.
+    /// Whether an `exclude` line names that path and version (Go Modules Reference, exclude directive).
+    ///
+    /// The lookup allocates nothing and takes logarithmic time in the number of lines.
     pub fn excluded(&self, pair: &ModVer) -> bool
-        ensures { IsTrue result ↔ Contains (excludes_of (plains self.now)) pair.now }
+        ensures { IsTrue result ↔ Contains (excludes_of (plain_lines self.now)) pair.now }
     {
         self.excludes.contains(pair)
     }

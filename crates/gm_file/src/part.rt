@@ -1,4 +1,5 @@
-//! The parts of an entry: values, paths and versions.
+//! The parts of an entry: values, paths, versions and intervals. Each reader turns words or their values into a checked
+//! type, and every refusal into the kind of fault of the line.
 
 ghost use Rattle.std.specs.Prelude.{◌≡◌, IfErr, IfOk, Some};
 ghost use Rattle.std.specs.Cow.{cow_str_bytes};
@@ -10,42 +11,43 @@ ghost use Rattle.gm_file.specs.Values.{argument, both};
 ghost use Rattle.gm_file.specs.Directives.{ends_of, is_empty_block, one_of, pair, pair_of};
 ghost use Rattle.gm_file.specs.Faults.{ends_kinds, pair_kinds, path_kinds, version_kinds};
 ghost use Rattle.gm_file.specs.Reading.{IsRead, no_kinds};
-ghost use Rattle.gm_file.specs.Views.{interval_seen, texts_seen};
+ghost use Rattle.gm_file.specs.Views.{interval_view, text_views};
 
 use crate::fault::{DirectiveKind, LineFault};
 use crate::replace::Interval;
 use gm_name::{KnownNames, ModPath, ModVer, ModVersion, PairFault, PathFault, VersionFault};
-use gm_syntax::token::Token;
-use gm_syntax::word::Kind;
+use gm_syntax::{Kind, Token};
 use std::alloc::Global;
 use std::borrow::CowStr;
 
-fn lent_value<'w>(alloc: Global, word: &'w Token) -> Result<CowStr<'w>, LineFault>
+/// The value of a word. It borrows from the word, except that a quoted text with escapes is copied.
+fn borrowed_value<'w>(alloc: Global, word: &'w Token) -> Result<CowStr<'w>, LineFault>
     ensures value { IfOk result (λ text. cow_str_bytes text ≡ value_of word.now.word) }
     ensures memory { IfErr result (λ fault. fault ≡ LineFault.NoMemory) }
 {
     Ok(word.value(alloc)?)
 }
 
-/// The value of an argument, which is no punctuation. A value without escapes is not copied.
-fn lent_argument<'w>(alloc: Global, word: &'w Token) -> Result<CowStr<'w>, LineFault>
+/// The value of an argument, borrowed where it has no escapes. Punctuation is not an argument and is refused with
+/// `WrongArguments`.
+fn borrowed_argument<'w>(alloc: Global, word: &'w Token) -> Result<CowStr<'w>, LineFault>
     ensures { IsRead cow_str_bytes DirectiveKind.WrongArguments no_kinds (argument word.now.word) result }
 {
     match word.kind() {
-        Kind::Bare => lent_value(alloc, word),
-        Kind::Text => lent_value(alloc, word),
+        Kind::Bare => borrowed_value(alloc, word),
+        Kind::Text => borrowed_value(alloc, word),
         Kind::Mark => Err(LineFault::Kind(DirectiveKind::WrongArguments)),
     }
 }
 
-/// A copy of the value of an argument, which is no punctuation.
+/// A copy of the value of an argument. Punctuation is refused with `WrongArguments`.
 pub(crate) fn argument(alloc: Global, word: &Token) -> Result<String, LineFault>
     ensures { IsRead string_bytes DirectiveKind.WrongArguments no_kinds (argument word.now.word) result }
 {
-    Ok(lent_argument(alloc, word)?.into_owned(alloc)?)
+    Ok(borrowed_argument(alloc, word)?.into_owned(alloc)?)
 }
 
-/// The value of the one argument.
+/// A copy of the value of the only argument. Any other number of words is refused with `WrongArguments`.
 pub(crate) fn one_value(alloc: Global, words: &[Token]) -> Result<String, LineFault>
     ensures { IsRead string_bytes DirectiveKind.WrongArguments no_kinds (one_of (words_of words.now)) result }
 {
@@ -55,19 +57,21 @@ pub(crate) fn one_value(alloc: Global, words: &[Token]) -> Result<String, LineFa
     }
 }
 
-/// The values of two words.
+/// Copies of the values of two arguments.
 pub(crate) fn both_values(
     alloc: Global,
     first: &Token,
     second: &Token,
 ) -> Result<(String, String), LineFault>
-    ensures { IsRead texts_seen DirectiveKind.WrongArguments no_kinds (both pair (argument first.now.word) (argument second.now.word)) result }
+    ensures { IsRead text_views DirectiveKind.WrongArguments no_kinds
+        (both pair (argument first.now.word) (argument second.now.word)) result }
 {
     let first = argument(alloc, first)?;
     let second = argument(alloc, second)?;
     Ok((first, second))
 }
 
+/// The module path that a text spells. Any other text is refused with `BadPath`.
 pub(crate) fn read_path(
     alloc: Global,
     names: &mut KnownNames,
@@ -84,6 +88,7 @@ pub(crate) fn read_path(
     }
 }
 
+/// The canonical version that a text spells. Any other text is refused with `BadVersion`.
 pub(crate) fn read_version(
     alloc: Global,
     names: &mut KnownNames,
@@ -101,7 +106,8 @@ pub(crate) fn read_version(
     }
 }
 
-/// A path and a version that fits it, of their texts.
+/// The path and the version that two texts spell. The texts are refused with `BadPath`, then with `BadVersion`,
+/// then with `Misfit` if the version doesn't fit the path.
 fn pair_of_texts(
     alloc: Global,
     names: &mut KnownNames,
@@ -121,7 +127,8 @@ fn pair_of_texts(
     }
 }
 
-/// The path and the version of a `require` or an `exclude`.
+/// The path and the version of a `require` or an `exclude`. Anything but two arguments is refused with
+/// `WrongArguments`.
 pub(crate) fn read_pair(
     alloc: Global,
     names: &mut KnownNames,
@@ -131,28 +138,29 @@ pub(crate) fn read_pair(
 {
     match words {
         [path, version] => {
-            let path = lent_argument(alloc, path)?;
-            let version = lent_argument(alloc, version)?;
+            let path = borrowed_argument(alloc, path)?;
+            let version = borrowed_argument(alloc, version)?;
             pair_of_texts(alloc, names, path.as_str(), version.as_str())
         }
         _ => Err(LineFault::Kind(DirectiveKind::WrongArguments)),
     }
 }
 
-/// Two ends of an interval, of their texts.
+/// The interval between the versions that two texts spell.
 fn interval_of_texts(
     alloc: Global,
     names: &mut KnownNames,
     low: &str,
     high: &str,
 ) -> Result<Interval, LineFault>
-    ensures { IsRead interval_seen DirectiveKind.WrongArguments ends_kinds (Some (low.now, high.now)) result }
+    ensures { IsRead interval_view DirectiveKind.WrongArguments ends_kinds (Some (low.now, high.now)) result }
 {
     let low = read_version(alloc, names, low)?;
     let high = read_version(alloc, names, high)?;
     Ok(Interval { low, high })
 }
 
+/// Whether a word is the punctuation mark of this byte.
 fn is_mark(byte: u8, token: &Token) -> bool
     ensures { result ≡ is_mark byte token.now.word }
 {
@@ -166,7 +174,8 @@ fn is_mark(byte: u8, token: &Token) -> bool
     }
 }
 
-/// Whether there are just an opening and a closing parenthesis.
+/// Whether the words after a verb are just `(` and `)`. The parser reads such a line as an entry, but it is a block
+/// with no entries.
 pub(crate) fn is_empty_block(words: &[Token]) -> bool
     ensures { result ≡ is_empty_block (words_of words.now) }
 {
@@ -176,13 +185,14 @@ pub(crate) fn is_empty_block(words: &[Token]) -> bool
     }
 }
 
-/// The versions of a `retract`.
+/// The interval of a `retract`: from a single version to itself, or between the two versions in brackets, as in
+/// `[v1.0.0, v1.2.0]` (Go Modules Reference, retract directive). Other words are refused with `WrongArguments`.
 pub(crate) fn read_interval(
     alloc: Global,
     names: &mut KnownNames,
     words: &[Token],
 ) -> Result<Interval, LineFault>
-    ensures { IsRead interval_seen DirectiveKind.WrongArguments ends_kinds (ends_of (words_of words.now)) result }
+    ensures { IsRead interval_view DirectiveKind.WrongArguments ends_kinds (ends_of (words_of words.now)) result }
 {
     match words {
         [version] => {

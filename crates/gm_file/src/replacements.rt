@@ -1,11 +1,12 @@
-//! Replacements, found by what they replace.
+//! The index of the replacements, for lookups in logarithmic time. Two maps, by version and by whole path, let the
+//! lookups work without building keys, so that they allocate nothing.
 
 ghost use Rattle.std.specs.Prelude.{◌≡◌, ◌++◌, ◌∷◌, [], OnOk, true};
 ghost use Rattle.std.specs.Option.{option_map};
 ghost use Rattle.gm_file.specs.Faults.{does_left_fit};
 ghost use Rattle.gm_file.specs.Fields.{replacement_of};
-ghost use Rattle.gm_file.specs.Indexes.{AreIndexed, IsNoted, TellsConflict};
-ghost use Rattle.gm_file.specs.Views.{replace_seen, replaces_seen, right_seen};
+ghost use Rattle.gm_file.specs.Indexes.{AreIndexed, IsNoted, ReportsConflict};
+ghost use Rattle.gm_file.specs.Views.{replace_view, replace_views, right_view};
 
 use crate::fault::{DirectiveKind, LineFault};
 use crate::replace::{Replace, Right};
@@ -13,22 +14,26 @@ use gm_name::{ModPath, ModVer, ModVersion};
 use std::alloc::Global;
 use std::collections::BTreeMap;
 
-/// The `replace` lines, in order, and the right of each version and of each whole path that they replace.
+/// The `replace` lines, in order, and maps from what they replace to their right sides.
 #[derive(Drop)]
 pub(crate) struct Replacements {
+    /// The lines, in order and with duplicates.
     lines: Vec<Replace>,
-    of_versions: BTreeMap<ModVer, Right>,
-    of_paths: BTreeMap<ModPath, Right>,
+    /// The right side of each replaced version.
+    by_version: BTreeMap<ModVer, Right>,
+    /// The right side of each path that is replaced as a whole.
+    by_path: BTreeMap<ModPath, Right>,
 }
 
-/// Notes the right of a key, which may have no other.
+/// Inserts a copy of a right side at a key, unless the key has an equal one. A key with a different one is refused with
+/// `ConflictingReplace`.
 fn note<K: Ord + Drop>(
     alloc: Global,
     index: &mut BTreeMap<K, Right>,
     key: K,
     right: &Right,
 ) -> Result<(), LineFault>
-    ensures { IsNoted K.cmp index.old index.new key (right_seen right.now) result }
+    ensures { IsNoted K.cmp index.old index.new key (right_view right.now) result }
 {
     if let Some(earlier) = index.get(&key) {
         if right.is_same(earlier) {
@@ -41,36 +46,39 @@ fn note<K: Ord + Drop>(
 }
 
 impl Replacements {
+    /// The index of no lines.
     pub(crate) fn new(alloc: Global) -> Replacements
         ensures lines { result.lines.items ≡ [] }
         ensures indexed { AreIndexed result }
     {
         Replacements {
             lines: Vec::new(alloc),
-            of_versions: BTreeMap::new(alloc),
-            of_paths: BTreeMap::new(alloc),
+            by_version: BTreeMap::new(alloc),
+            by_path: BTreeMap::new(alloc),
         }
     }
 
-    /// Puts a line in, unless an earlier one replaces the same by another right.
+    /// Adds the next line. It is refused with `ConflictingReplace` if an earlier line has the same left side and a
+    /// different right side, and with `NoMemory` if memory runs out.
     pub(crate) fn add(&mut self, alloc: Global, replace: Replace) -> Result<(), LineFault>
         requires indexed { AreIndexed self.old }
         requires fits { does_left_fit replace.left replace.version ≡ true }
-        ensures lines { OnOk result (replaces_seen self.new.lines.items ≡ replaces_seen self.old.lines.items ++ replace_seen replace ∷ []) }
+        ensures lines { OnOk result (replace_views self.new.lines.items
+            ≡ replace_views self.old.lines.items ++ replace_view replace ∷ []) }
         ensures indexed { OnOk result (AreIndexed self.new) }
-        ensures conflict { TellsConflict (replace_seen replace) (replaces_seen self.old.lines.items) result }
+        ensures conflict { ReportsConflict (replace_view replace) (replace_views self.old.lines.items) result }
     {
         match &replace.version {
             Some(version) => {
                 let pair = ModVer::pair(replace.left.copy(alloc)?, version.copy(alloc)?);
                 match pair {
-                    Some(key) => note(alloc, &mut self.of_versions, key, &replace.right)?,
+                    Some(key) => note(alloc, &mut self.by_version, key, &replace.right)?,
                     None => return Err(LineFault::Kind(DirectiveKind::Misfit)),
                 }
             }
             None => note(
                 alloc,
-                &mut self.of_paths,
+                &mut self.by_path,
                 replace.left.copy(alloc)?,
                 &replace.right,
             )?,
@@ -79,20 +87,22 @@ impl Replacements {
         Ok(())
     }
 
+    /// The lines, in order and with duplicates.
     pub(crate) fn as_slice(&self) -> &[Replace]
         ensures { result.now ≡ self.now.lines.items }
     {
         self.lines.as_slice()
     }
 
-    /// The right of that version, or else that of its whole path.
+    /// The right side for this version, otherwise the one for its whole path. Takes logarithmic time.
     pub(crate) fn replacement(&self, pair: &ModVer) -> Option<&Right>
         requires { AreIndexed self.now }
-        ensures { option_map (λ right. right_seen right.now) result ≡ replacement_of (replaces_seen self.now.lines.items) pair.now }
+        ensures { option_map (λ right. right_view right.now) result
+            ≡ replacement_of (replace_views self.now.lines.items) pair.now }
     {
-        match self.of_versions.get(pair) {
+        match self.by_version.get(pair) {
             Some(right) => Some(right),
-            None => self.of_paths.get(pair.path()),
+            None => self.by_path.get(pair.path()),
         }
     }
 }

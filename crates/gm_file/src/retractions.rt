@@ -1,30 +1,32 @@
-//! Retractions in a dependency's file.
+//! The retractions of a dependency's file. They are read in a pass of their own, since their faults don't count,
+//! while the loop in `fields` stops at every fault.
 
 ghost use Rattle.std.specs.Prelude.{◌≡◌, IfOk};
 ghost use Rattle.std.specs.Option.{option_map};
-ghost use Rattle.gm_syntax.specs.LineViews.{line_of, lines_seen, plain, plains};
+ghost use Rattle.gm_syntax.specs.LineViews.{line_of, line_views, plain, plain_lines};
 ghost use Rattle.gm_syntax.specs.Tokens.{words_of};
 ghost use Rattle.gm_file.specs.Directives.{item_at};
 ghost use Rattle.gm_file.specs.Fields.{lax_retracts_of};
-ghost use Rattle.gm_file.specs.Retracting.{TellsEntry, retraction_at, retraction_in};
-ghost use Rattle.gm_file.specs.Views.{interval_seen, intervals_seen};
+ghost use Rattle.gm_file.specs.Retracting.{IsEntryRead, retraction_at, retraction_in};
+ghost use Rattle.gm_file.specs.Views.{interval_view, interval_views};
 
 use crate::fault::LineFault;
-use crate::fields::block_behind;
+use crate::fields::block_after_line;
 use crate::part::{is_empty_block, read_interval};
 use crate::replace::Interval;
 use gm_name::KnownNames;
-use gm_syntax::line::Line;
-use gm_syntax::token::Token;
+use gm_syntax::{Line, Token};
 use std::alloc::{AllocError, Global};
 
-/// The verb and the arguments of an entry; `None` for any other line.
+/// The verb and the arguments of an entry, or `None` for a line that is not an entry. `block` is the verb of the open
+/// block, if any.
 #[tactic(auto, unfolding(crate::specs::Directives::item_at))]
 fn entry_of<'w, 'a>(
     block: Option<&'w Token<'a>>,
     line: &'w Line<'a>,
 ) -> Option<(&'w Token<'a>, &'w [Token<'a>])>
-    ensures { TellsEntry (item_at (option_map (λ t. t.now.word) block.entry, plain (line_of line.now))) (option_map (λ e. (e.0.now.word, words_of e.1.now)) result) }
+    ensures { IsEntryRead (item_at (option_map (λ t. t.now.word) block.entry, plain (line_of line.now)))
+        (option_map (λ e. (e.0.now.word, words_of e.1.now)) result) }
 {
     match line {
         Line::Blank => None,
@@ -46,13 +48,13 @@ fn entry_of<'w, 'a>(
     }
 }
 
-/// The interval that the words of an entry retract; `None` where strict reading would refuse them.
+/// The interval that the arguments of a `retract` spell, or `None` if strict reading would refuse them.
 fn interval_in(
     alloc: Global,
     names: &mut KnownNames,
     words: &[Token],
 ) -> Result<Option<Interval>, AllocError>
-    ensures { IfOk result (λ interval. option_map interval_seen interval ≡ retraction_in (words_of words.now)) }
+    ensures { IfOk result (λ interval. option_map interval_view interval ≡ retraction_in (words_of words.now)) }
 {
     match read_interval(alloc, names, words) {
         Ok(interval) => Ok(Some(interval)),
@@ -63,14 +65,15 @@ fn interval_in(
     }
 }
 
-/// The interval that a line retracts.
+/// The interval that a line retracts, if it retracts one. `block` is the verb of the open block, if any.
 fn retraction_at(
     alloc: Global,
     names: &mut KnownNames,
     block: Option<&Token>,
     line: &Line,
 ) -> Result<Option<Interval>, AllocError>
-    ensures { IfOk result (λ interval. option_map interval_seen interval ≡ retraction_at (item_at (option_map (λ t. t.now.word) block.entry, plain (line_of line.now)))) }
+    ensures { IfOk result (λ interval. option_map interval_view interval
+        ≡ retraction_at (item_at (option_map (λ t. t.now.word) block.entry, plain (line_of line.now)))) }
 {
     let Some((verb, words)) = entry_of(block, line) else {
         return Ok(None);
@@ -81,13 +84,15 @@ fn retraction_at(
     interval_in(alloc, names, words)
 }
 
-/// The intervals that the lines retract, in order. An entry that strict reading would refuse retracts none.
+/// The intervals that the lines retract, in order and with duplicates. An entry that strict reading would refuse is
+/// skipped.
 pub(crate) fn read_retractions(
     alloc: Global,
     names: &mut KnownNames,
     lines: &[Line],
 ) -> Result<Vec<Interval>, AllocError>
-    ensures { IfOk result (λ intervals. intervals_seen intervals.items ≡ lax_retracts_of (plains (lines_seen lines.now))) }
+    ensures { IfOk result (λ intervals. interval_views intervals.items
+        ≡ lax_retracts_of (plain_lines (line_views lines.now))) }
 {
     let mut intervals = Vec::new(alloc);
     let mut block = None;
@@ -95,7 +100,7 @@ pub(crate) fn read_retractions(
         if let Some(interval) = retraction_at(alloc, names, block, line)? {
             intervals.push(interval)?;
         }
-        block = block_behind(block, line);
+        block = block_after_line(block, line);
     }
     Ok(intervals)
 }

@@ -1,4 +1,5 @@
-//! The two sides of a replace.
+//! Reading the two sides of a `replace` (Go Modules Reference, replace directive). Both sides are split into texts
+//! first, since wrong arguments on either side come before the faults of paths and versions.
 
 ghost use Rattle.std.specs.Prelude.{◌≡◌, ◌+◌, [], length, not, take_while, IfNone, IfSome, Some};
 ghost use Rattle.std.specs.Option.{option_map};
@@ -8,37 +9,42 @@ ghost use Rattle.gm_syntax.specs.Tokens.{words_of};
 ghost use Rattle.gm_file.specs.Directives.{is_arrow, left_of, replacing, replacing_of, right_of, Folder, Module};
 ghost use Rattle.gm_file.specs.Faults.{does_left_fit, left_version_kinds, sides_kinds};
 ghost use Rattle.gm_file.specs.Reading.{IsRead, no_kinds, replacing_kinds};
-ghost use Rattle.gm_file.specs.Views.{left_text_seen, replace_seen, right_text_seen};
+ghost use Rattle.gm_file.specs.Views.{left_text_view, replace_view, right_text_view};
 
 use crate::fault::{DirectiveKind, LineFault};
 use crate::part::{argument, both_values, read_path, read_version};
 use crate::replace::{Replace, Right};
 use crate::verb::{is_arrow, is_folder};
 use gm_name::{KnownNames, ModPath, ModVersion, fits};
-use gm_syntax::token::Token;
+use gm_syntax::Token;
 use std::alloc::Global;
 
-/// The texts of what is replaced.
+/// The texts of the left side: the module that is replaced.
 #[derive(Drop)]
 pub(crate) struct LeftText {
+    /// The path.
     path: String,
+    /// The version, if only that version is replaced.
     version: Option<String>,
 }
 
-/// The texts of what stands in its place.
+/// The texts of the right side: the replacement.
 #[derive(Drop)]
 pub(crate) enum RightText {
+    /// A folder.
     Folder(String),
+    /// A path and a version.
     Module(String, String),
 }
 
+/// The number of words before the first arrow, or of all words if there is no arrow.
 fn words_before_arrow(words: &[Token]) -> usize
     ensures { result ≡ length (take_while (λ t. not (is_arrow t.word)) words.now) }
 {
     words.iter().take_while(|word| !is_arrow(*word)).count()
 }
 
-/// The words before the first arrow and after it.
+/// The words before the first arrow and those after it. `None` if there is no arrow.
 fn split_at_arrow<'w, 'a>(words: &'w [Token<'a>]) -> Option<(&'w [Token<'a>], &'w [Token<'a>])>
     ensures before { IfSome result (λ sides. words_of sides.0.now ≡ before_first is_arrow (words_of words.now)) }
     ensures after { IfSome result (λ sides. words_of sides.1.now ≡ after_first is_arrow (words_of words.now)) }
@@ -50,8 +56,9 @@ fn split_at_arrow<'w, 'a>(words: &'w [Token<'a>]) -> Option<(&'w [Token<'a>], &'
     }
 }
 
+/// The texts of the left side: a path, or a path and a version. Other words are refused with `WrongArguments`.
 fn left_text(alloc: Global, words: &[Token]) -> Result<LeftText, LineFault>
-    ensures { IsRead left_text_seen DirectiveKind.WrongArguments no_kinds (left_of (words_of words.now)) result }
+    ensures { IsRead left_text_view DirectiveKind.WrongArguments no_kinds (left_of (words_of words.now)) result }
 {
     match words {
         [path] => {
@@ -72,9 +79,11 @@ fn left_text(alloc: Global, words: &[Token]) -> Result<LeftText, LineFault>
     }
 }
 
+/// The texts of the right side: a folder alone, or a module path with a version. Other words are refused with
+/// `WrongArguments`, and so are a folder with a version and a module path without one.
 #[tactic(auto, unfolding(crate::specs::Values::is_folder))]
 fn right_text(alloc: Global, words: &[Token]) -> Result<RightText, LineFault>
-    ensures { IsRead right_text_seen DirectiveKind.WrongArguments no_kinds (right_of (words_of words.now)) result }
+    ensures { IsRead right_text_view DirectiveKind.WrongArguments no_kinds (right_of (words_of words.now)) result }
 {
     match words {
         [folder] => {
@@ -96,12 +105,14 @@ fn right_text(alloc: Global, words: &[Token]) -> Result<RightText, LineFault>
     }
 }
 
+/// The version of the left side, if it has one.
 fn read_left_version(
     alloc: Global,
     names: &mut KnownNames,
     version: &Option<String>,
 ) -> Result<Option<ModVersion>, LineFault>
-    ensures { IsRead (λ version. version) DirectiveKind.WrongArguments left_version_kinds (Some (option_map string_bytes version.now)) result }
+    ensures { IsRead (λ version. version) DirectiveKind.WrongArguments left_version_kinds
+        (Some (option_map string_bytes version.now)) result }
 {
     match version {
         Some(text) => Ok(Some(read_version(alloc, names, text.as_str())?)),
@@ -109,7 +120,7 @@ fn read_left_version(
     }
 }
 
-// Whether a version, if there is one, fits the path.
+/// Whether the version of the left side fits its path. A side without a version always fits.
 fn does_left_fit(path: &ModPath, version: &Option<ModVersion>) -> bool
     ensures { result ≡ does_left_fit path.now version.now }
 {
@@ -119,13 +130,15 @@ fn does_left_fit(path: &ModPath, version: &Option<ModVersion>) -> bool
     }
 }
 
+/// The replacement of these texts by a folder.
 fn replace_by_folder(
     alloc: Global,
     names: &mut KnownNames,
     left: &LeftText,
     folder: String,
 ) -> Result<Replace, LineFault>
-    ensures { IsRead replace_seen DirectiveKind.WrongArguments replacing_kinds (Some (replacing (left_text_seen left.now) (Folder (string_bytes folder)))) result }
+    ensures { IsRead replace_view DirectiveKind.WrongArguments replacing_kinds
+        (Some (replacing (left_text_view left.now) (Folder (string_bytes folder)))) result }
 {
     let path = read_path(alloc, names, left.path.as_str())?;
     let version = read_left_version(alloc, names, &left.version)?;
@@ -139,6 +152,8 @@ fn replace_by_folder(
     })
 }
 
+/// The replacement of these texts by a version of a module. Both paths are read before both versions, since `BadPath`
+/// comes before `BadVersion`. The version on the right need not fit its path.
 fn replace_by_module(
     alloc: Global,
     names: &mut KnownNames,
@@ -146,7 +161,8 @@ fn replace_by_module(
     path: &str,
     version: &str,
 ) -> Result<Replace, LineFault>
-    ensures { IsRead replace_seen DirectiveKind.WrongArguments replacing_kinds (Some (replacing (left_text_seen left.now) (Module path.now version.now))) result }
+    ensures { IsRead replace_view DirectiveKind.WrongArguments replacing_kinds
+        (Some (replacing (left_text_view left.now) (Module path.now version.now))) result }
 {
     let left_path = read_path(alloc, names, left.path.as_str())?;
     let path = read_path(alloc, names, path)?;
@@ -162,13 +178,15 @@ fn replace_by_module(
     })
 }
 
+/// The replacement that the texts of both sides spell.
 fn replace_of_texts(
     alloc: Global,
     names: &mut KnownNames,
     left: &LeftText,
     right: RightText,
 ) -> Result<Replace, LineFault>
-    ensures { IsRead replace_seen DirectiveKind.WrongArguments replacing_kinds (Some (replacing (left_text_seen left.now) (right_text_seen right))) result }
+    ensures { IsRead replace_view DirectiveKind.WrongArguments replacing_kinds
+        (Some (replacing (left_text_view left.now) (right_text_view right))) result }
 {
     match right {
         RightText::Folder(folder) => replace_by_folder(alloc, names, left, folder),
@@ -178,13 +196,15 @@ fn replace_of_texts(
     }
 }
 
-/// The replacement that the words of a `replace` say.
+/// The replacement that the arguments of a `replace` spell: a path, an optional version that fits it, `=>`, and a
+/// folder or a path and a version. Other words are refused with `WrongArguments`.
 pub(crate) fn read_replace(
     alloc: Global,
     names: &mut KnownNames,
     words: &[Token],
 ) -> Result<Replace, LineFault>
-    ensures { IsRead replace_seen DirectiveKind.WrongArguments replacing_kinds (replacing_of (words_of words.now)) result }
+    ensures { IsRead replace_view DirectiveKind.WrongArguments replacing_kinds
+        (replacing_of (words_of words.now)) result }
 {
     let Some((before, after)) = split_at_arrow(words) else {
         return Err(LineFault::Kind(DirectiveKind::WrongArguments));

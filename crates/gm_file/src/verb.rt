@@ -1,37 +1,48 @@
-//! Verbs and folders.
+//! The verbs of directives, which depend on how a file is read, and the tests for the arrow and the folder of a
+//! `replace`.
 
 ghost use Rattle.std.specs.Prelude.{◌≡◌};
 ghost use Rattle.gm_file.specs.Directives.{dependency_verb, is_arrow, main_verb, verb_in};
 ghost use Rattle.gm_file.specs.Values.{is_folder};
-ghost use Rattle.gm_file.specs.VerbViews.{mode_seen, verb_seen};
+ghost use Rattle.gm_file.specs.VerbViews.{mode_view, verb_view};
 
-use gm_syntax::token::Token;
-use gm_syntax::word::Kind;
+use gm_syntax::{Kind, Token};
 
-/// How a file is read: strictly, as the main file, or laxly, as a dependency's file.
+/// How a file is read (Go Modules Reference, go.mod files): strictly, as the main file, or laxly, as a dependency's
+/// file.
 #[derive(Clone, Copy, Debug, PartialEq, Eq)]
 pub enum Mode {
-    /// Every verb is to be known, and every entry right.
+    /// Every verb must be known, and every entry well-formed.
     Strict,
-    /// `module`, `go` and `require` are to be right; a wrong `retract` retracts nothing, and any other verb is passed over.
+    /// `module`, `go` and `require` must be well-formed. A malformed `retract` retracts nothing, and any other verb is
+    /// skipped.
     Lax,
 }
 
-/// What an entry is about.
+/// The verb of an entry, as far as reading distinguishes them.
 #[derive(Clone, Copy, Debug, PartialEq, Eq)]
 pub(crate) enum Verb {
+    /// `module`.
     Module,
+    /// `go`.
     Go,
+    /// `require`.
     Require,
+    /// `exclude`.
     Exclude,
+    /// `replace`.
     Replace,
+    /// `retract`.
     Retract,
+    /// A verb whose entries may have any arguments and have no effect.
     Nothing,
+    /// A verb that no directive has.
     Unknown,
 }
 
+/// The verb of a main file that is spelled like this.
 fn main_verb(text: &str) -> Verb
-    ensures { verb_seen result ≡ main_verb text.now }
+    ensures { verb_view result ≡ main_verb text.now }
 {
     match text {
         "module" => Verb::Module,
@@ -48,8 +59,10 @@ fn main_verb(text: &str) -> Verb
     }
 }
 
+/// The verb of a dependency's file that is spelled like this. `retract` is skipped here, since its faults don't count:
+/// `retractions` reads it separately.
 fn dependency_verb(text: &str) -> Verb
-    ensures { verb_seen result ≡ dependency_verb text.now }
+    ensures { verb_view result ≡ dependency_verb text.now }
 {
     match text {
         "module" => Verb::Module,
@@ -59,9 +72,9 @@ fn dependency_verb(text: &str) -> Verb
     }
 }
 
-/// The verb of that spelling.
+/// The verb that is spelled like this, in a file that is read in this mode.
 pub(crate) fn verb_in(mode: Mode, text: &str) -> Verb
-    ensures { verb_seen result ≡ verb_in (mode_seen mode) text.now }
+    ensures { verb_view result ≡ verb_in (mode_view mode) text.now }
 {
     match mode {
         Mode::Strict => main_verb(text),
@@ -69,8 +82,8 @@ pub(crate) fn verb_in(mode: Mode, text: &str) -> Verb
     }
 }
 
-/// Whether the right of a `replace` is a folder (Go Modules Reference, "replace directive"): `.`, `..`, or a text that begins
-/// with `./`, `../` or `/`.
+/// Whether the right side of a `replace` is a folder rather than a module path (Go Modules Reference, "replace
+/// directive"): `.`, `..`, or a text that begins with `./`, `../` or `/`.
 #[tactic(auto, unfolding(crate::specs::Values::is_folder))]
 pub fn is_folder(text: &str) -> bool
     ensures { result ≡ is_folder text.now }
@@ -82,6 +95,7 @@ pub fn is_folder(text: &str) -> bool
         || text.starts_with("/")
 }
 
+/// Whether a word is the arrow `=>` between the sides of a `replace`. In quotes it is an ordinary text.
 pub(crate) fn is_arrow(token: &Token) -> bool
     ensures { result ≡ is_arrow token.now.word }
 {

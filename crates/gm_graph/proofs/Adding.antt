@@ -1,15 +1,15 @@
--- One more turn, of a vertex that is there or of a new one.
+-- One more turn, of a known vertex or a new one.
 use Rattle.std.proofs.Common.{◌≡◌, ◌≤◌, ◌<◌, true, false, List, [], ◌∷◌, ◌++◌, length, Contains, ap, sym, subst, inl, inr, arith, length-append}
 use Rattle.std.specs.List.{list_any, IsDistinct}
 use Rattle.std.proofs.lemmas.Map.Keys.{IsDistinct-push}
 use Rattle.std.proofs.lemmas.Map.Views.{Contains-from_any}
 use Rattle.std.proofs.lemmas.List.Elements.{Contains-append_left, Contains-push, Contains-push_cases}
-use Rattle.gm_cache.specs.Main.{Vertex}
+use Rattle.gm_graph_cache.specs.Main.{Vertex}
 use Rattle.gm_graph.specs.Graph.{same_vertex}
-use Rattle.gm_cache.specs.declared.depth.Turn.{Turn}
-use Rattle.gm_cache.specs.declared.depth.Depth.{Depth}
+use Rattle.gm_graph_cache.specs.declared.depth.Turn.{Turn}
+use Rattle.gm_graph_cache.specs.declared.depth.Depth.{Depth}
 use Rattle.gm_graph.specs.Turns.{same_turn, AreTurnsOf, AddsAll, OverflowsWith}
-use Rattle.gm_cache.specs.Turns.{turn}
+use Rattle.gm_graph_cache.specs.Turns.{turn}
 use Rattle.gm_graph.proofs.Sameness.{exact_vertex, vertices_equivalence, turns_equivalence}
 
 pub no_turns : AreTurnsOf [] []
@@ -23,7 +23,7 @@ no_turns = record {
 }
 
 module _ (vertices : List Vertex) (turns : List Turn) (x : Vertex) (d : Depth) (old : AreTurnsOf vertices turns) (fresh : list_any (same_turn (turn x d)) turns ≡ false) where
-  -- a turn of a vertex that is there
+  -- a turn of a known vertex
   pub more_turn : list_any (same_vertex x) vertices ≡ true → AreTurnsOf vertices (turns ++ turn x d ∷ [])
   more_turn known = record {
     few = old.few;
@@ -55,7 +55,7 @@ module _ (vertices : List Vertex) (turns : List Turn) (x : Vertex) (d : Depth) (
 pub same_lists : (vs ws : List Vertex) (ts us : List Turn) → vs ≡ ws → ts ≡ us → AreTurnsOf ws us → AreTurnsOf vs ts
 same_lists vs ws ts us e f h = subst (λ (v : List Vertex). AreTurnsOf v ts) (sym e) (subst (λ (t : List Turn). AreTurnsOf ws t) (sym f) h)
 
--- a full list and a vertex that it lacks
+-- a full list, and a vertex that it doesn't have
 pub overflow_one : (vertices : List Vertex) (turns : List Turn) (x : Vertex) → AreTurnsOf vertices turns → 65536 ≤ length vertices → list_any (same_vertex x) vertices ≡ false → OverflowsWith vertices (x ∷ [])
 overflow_one vertices turns x are full unknown = (
   vertices ++ x ∷ [],

@@ -1,13 +1,13 @@
--- Adding turns one after another.
+-- Adding several turns.
 use Rattle.std.proofs.Common.{◌≡◌, ◌+◌, ◌≤◌, ◌<◌, ℕ, List, [], ◌∷◌, ◌++◌, length, take, get_or, Contains, ap, ◌∙◌, sym, refl, subst, inl, inr, arith, length-append, append_assoc, append-nil, zero, suc}
 use Rattle.std.proofs.Common.{drop}
 use Rattle.std.proofs.lemmas.List.{take-append-drop, take_more}
 use Rattle.std.proofs.lemmas.List.Elements.{Contains-append_left, Contains-append_right, Contains-push, Contains-push_cases, Contains-append_cases}
-use Rattle.gm_cache.specs.Main.{Vertex}
-use Rattle.gm_cache.specs.declared.depth.Turn.{Turn}
-use Rattle.gm_cache.specs.declared.depth.Depth.{Depth}
+use Rattle.gm_graph_cache.specs.Main.{Vertex}
+use Rattle.gm_graph_cache.specs.declared.depth.Turn.{Turn}
+use Rattle.gm_graph_cache.specs.declared.depth.Depth.{Depth}
 use Rattle.gm_graph.specs.Turns.{AddsTurn, AddsAll}
-use Rattle.gm_cache.specs.Turns.{turn}
+use Rattle.gm_graph_cache.specs.Turns.{turn}
 
 pub adds_none : (old : List Turn) (d : Depth) → AddsAll old old [] d
 adds_none old d = record {
@@ -19,7 +19,7 @@ adds_none old d = record {
 pub no_shorter : (old new more : List Turn) → new ≡ old ++ more → length old ≤ length new
 no_shorter old new more e = omega (arith, ap length e, length-append old more)
 
--- first these, and then those
+-- first these, then those
 pub adds_both : (old mid new : List Turn) (xs ys : List Vertex) (d : Depth) → AddsAll old mid xs d → AddsAll mid new ys d → AddsAll old new (xs ++ ys) d
 adds_both old mid new xs ys d first then' = record {
   extends = (first.extends.0 ++ then'.extends.0, then'.extends.1 ∙ ap (λ (t : List Turn). t ++ then'.extends.0) first.extends.1 ∙ append_assoc old first.extends.0 then'.extends.0);
@@ -55,7 +55,7 @@ adds_turn old new y d (inl more) = record {
   ];
 }
 
--- one more of a list
+-- one more turn of a list
 pub adds_more : (old mid new : List Turn) (xs : List Vertex) (i : ℕ) (y : Vertex) (d : Depth) → i < length xs → y ≡ get_or xs i y → AddsAll old mid (take i xs) d → AddsTurn mid new (turn y d) → AddsAll old new (take (i + 1) xs) d
 adds_more old mid new xs i y d below is before one =
     let more : take (i + 1) xs ≡ take i xs ++ y ∷ [] = take_more xs i y below ∙ ap (λ (m : Vertex). take i xs ++ m ∷ []) (sym is) in

@@ -1,24 +1,24 @@
--- Which names are due, while a queue of turns is followed.
+-- Which names are due while a worklist is visited.
 use Rattle.std.proofs.Common.{◌≡◌, ◌+◌, ◌<◌, ℕ, true, List, [], ◌∷◌, ◌++◌, length, take, get_or, Option, None, Result, Ok, Err, Contains, ap, ◌∙◌, sym, refl, subst, inl, inr, arith}
 use Rattle.std.specs.Result.{IsErr}
 use Rattle.std.proofs.lemmas.List.{take_more, take-append-le}
 use Rattle.gm_store.specs.Asked.{Name, Reply, answer_in}
-use Rattle.gm_sums.specs.declared.sums.SumTable.{SumTable}
-use Rattle.gm_cache.specs.Asking.{AsksFor, MayGrow}
-use Rattle.gm_cache.specs.declared.cache.Cache.{Cache}
-use Rattle.gm_cache.specs.declared.depth.Depth.{Depth}
-use Rattle.gm_cache.specs.declared.depth.Turn.{Turn}
-use Rattle.gm_cache.specs.declared.load_fault.LoadFault.{LoadFault}
-use Rattle.gm_cache.specs.Cached.{Knows, held_of, main_in, sums_in}
-use Rattle.gm_cache.specs.Turns.{turn}
-use Rattle.gm_cache.specs.Main.{Main, Vertex}
-use Rattle.gm_cache.specs.Reading.{Tells, file_of, is_askable, readings_by}
-use Rattle.gm_cache.specs.Refusals.{refused_by, refused_in}
-use Rattle.gm_cache.proofs.Keeping.{readings_stay}
-use Rattle.gm_graph.specs.declared.opening.Opening.{Opening}
-use Rattle.gm_graph.specs.Following.{OverflowsAt}
+use Rattle.gm_store_sums.specs.declared.sum_table.SumTable.{SumTable}
+use Rattle.gm_graph_cache.specs.Asking.{AsksFor, MayGrow}
+use Rattle.gm_graph_cache.specs.declared.cache.Cache.{Cache}
+use Rattle.gm_graph_cache.specs.declared.depth.Depth.{Depth}
+use Rattle.gm_graph_cache.specs.declared.depth.Turn.{Turn}
+use Rattle.gm_graph_cache.specs.declared.load_fault.LoadFault.{LoadFault}
+use Rattle.gm_graph_cache.specs.Cached.{Knows, held_of, main_in, sums_in}
+use Rattle.gm_graph_cache.specs.Turns.{turn}
+use Rattle.gm_graph_cache.specs.Main.{Main, Vertex}
+use Rattle.gm_graph_cache.specs.Reading.{Tells, file_of, is_askable, readings_by}
+use Rattle.gm_graph_cache.specs.Refusals.{refused_by, refused_in}
+use Rattle.gm_graph_cache.proofs.Keeping.{readings_stay}
+use Rattle.gm_graph.specs.declared.worklist.Worklist.{Worklist}
+use Rattle.gm_graph.specs.Visiting.{OverflowsAt}
 use Rattle.gm_graph.specs.Loading.{AreTooMany, AsksInTurn, IsDue, Told, nothing, more}
-use Rattle.gm_graph.specs.Turns.{AllTrue, AreTurnsOf, FollowOverflows}
+use Rattle.gm_graph.specs.Turns.{AllValidTurns, AreTurnsOf, VisitOverflows}
 use Rattle.gm_graph.proofs.Queueing.{many_followed}
 use Rattle.gm_graph.proofs.Rounds.{opened_from}
 
@@ -28,9 +28,9 @@ asks_nothing main sums pairs e = subst (λ (ps : List (Name × Reply)). AsksInTu
 pub knows_nothing : (cache : Cache) (pairs : List (Name × Reply)) → pairs ≡ [] → Knows cache [] → Knows cache pairs
 knows_nothing cache pairs e knows = subst (λ (ps : List (Name × Reply)). Knows cache ps) (sym e) knows
 
--- The vertex of a turn in the queue is opened, so its file may be asked for.
+-- The vertex of a turn in the worklist is opened, so its file may be asked for.
 module _ (main : Main) (sums : Option SumTable) (cache : Cache) (main_is : main_in cache ≡ main) (sums_are : sums_in cache ≡ sums) (old : List (Name × Reply)) (knows : Knows cache old)
-    (turns : List Turn) (at : ℕ) (x : Vertex) (depth : Depth) (sound : AllTrue main (readings_by main (held_of cache)) turns) (below : at < length turns) (here : get_or turns at (turn x depth) ≡ turn x depth) where
+    (turns : List Turn) (at : ℕ) (x : Vertex) (depth : Depth) (sound : AllValidTurns main (readings_by main (held_of cache)) turns) (below : at < length turns) (here : get_or turns at (turn x depth) ≡ turn x depth) where
   due : (name : Name) → file_of main x ≡ name → is_askable name ≡ true → answer_in old name ≡ None → IsDue main sums old name
   due name is askable fresh = (
     (held_of cache, subst (λ (s : Option SumTable). Tells s old (held_of cache)) sums_are knows.tells, (x, opened_from main (readings_by main (held_of cache)) x depth (sound (turn x depth) (at, below, here)), is, askable)),
@@ -48,34 +48,34 @@ module _ (main : Main) (sums : Option SumTable) (cache : Cache) (main_is : main_
   due_here new name same is askable none =
       subst (λ (ps : List (Name × Reply)). IsDue main sums ps name) (sym same) (due name (sym (is ∙ ap (λ (m : Main). file_of m x) main_is)) askable none)
 
-  pub many_here : (new : List (Name × Reply)) (opening : Opening) → AreTurnsOf opening.vertices.items turns → OverflowsAt cache new opening x depth → Told main sums new (AreTooMany main)
-  many_here new opening are over =
+  pub many_here : (new : List (Name × Reply)) (worklist : Worklist) → AreTurnsOf worklist.vertices.items turns → OverflowsAt cache new worklist x depth → Told main sums new (AreTooMany main)
+  many_here new worklist are over =
       let held = over.0 in (
         held,
         subst (λ (s : Option SumTable). Tells s new held) sums_are over.1,
-        many_followed main (readings_by main (held_of cache)) (readings_by main held) opening.vertices.items turns at x depth are sound (readings_stay main (held_of cache) held over.2) below here
-            (subst (λ (m : Main). FollowOverflows m (readings_by m held) opening.vertices.items x depth) main_is over.3),
+        many_followed main (readings_by main (held_of cache)) (readings_by main held) worklist.vertices.items turns at x depth are sound (readings_stay main (held_of cache) held over.2) below here
+            (subst (λ (m : Main). VisitOverflows m (readings_by m held) worklist.vertices.items x depth) main_is over.3),
       )
 
--- ---- what the pairs of a store hold
+-- ---- the pairs of a store, and which of them may be answered
 
 none_there : (p : Name × Reply) → Contains [] p → ⊥
 none_there p h = absurd (omega (arith, h.1))
 
--- all pairs may be answered where there were none
+-- If there were no pairs before, all pairs may be answered.
 pub may_all : (may : Name → Reply → Type 0) (old new : List (Name × Reply)) → old ≡ [] → MayGrow may old new → (n : Name) (r : Reply) → Contains new (n, r) → may n r
 may_all may old new e grow n r h = elim (grow n r h) [
   | inl there ↦ absurd (none_there (n, r) (subst (λ (ps : List (Name × Reply)). Contains ps (n, r)) e there))
   | inr is ↦ is
 ]
 
--- ---- what a refusal that is handed on says was refused
+-- ---- the refused names of a refusal that is passed on
 
 pub refused_same : {T : Type 0} (r : Result T LoadFault) (f : LoadFault) → ((h : LoadFault) → r ≡ Err h → h ≡ f) → IsErr r → refused_in r ≡ refused_by f
 refused_same (Ok x) f h e = cc
 refused_same (Err k) f h e = ap refused_by (h k refl)
 
--- ---- what was lent is the front of the queue
+-- ---- the cache's turns are a prefix of the worklist
 
 pub lent_more : (lent after : List Turn) (old new rest : List Turn) (at : ℕ) (one : Turn) → lent ≡ take at old → after ≡ lent ++ one ∷ [] → new ≡ old ++ rest → at < length old → get_or old at one ≡ one → after ≡ take (at + 1) new
 lent_more lent after old new rest at one is longer e below here =

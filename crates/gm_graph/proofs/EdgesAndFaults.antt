@@ -1,4 +1,4 @@
--- Gathering edges and faults.
+-- Adding edges and faults to the graph builder.
 use Rattle.std.proofs.Common.{◌≡◌, cond, zero, suc, Bool, List, [], ◌∷◌, ◌++◌, Option, Some, None, Contains, ap, ◌∙◌, sym, refl, subst, inl, inr, arith, append_assoc, append-nil}
 use Rattle.std.specs.Prelude.{if◌then◌else◌}
 use Rattle.std.specs.BTreeMap as map
@@ -9,24 +9,24 @@ use Rattle.std.specs.List.Sorted.{IsPermutation}
 use Rattle.std.proofs.lemmas.List.Elements.{Contains-append_cases, Contains-append_left, Contains-append_right}
 use Rattle.std.proofs.lemmas.List.Sorted.{Contains-permutation, IsPermutation-sym}
 use Rattle.gm_file.proofs.Sets.{pair-ties}
-use Rattle.gm_cache.specs.declared.class.Class.{Class}
-use Rattle.gm_cache.specs.declared.finding.Finding.{Finding}
-use Rattle.gm_cache.specs.declared.finding.Finding.TheVariants.{Fault}
-use Rattle.gm_cache.specs.Main.{Main, Vertex, kept}
-use Rattle.gm_cache.specs.Reading.{Readings}
-use Rattle.gm_select.specs.declared.step.Edge.{Edge}
-use Rattle.gm_select.specs.declared.step.Step.{Step}
-use Rattle.gm_select.specs.declared.step.Step.TheVariants.{Main as FromMain, Of}
-use Rattle.gm_select.specs.Graph.{edge, vertex_cmp}
-use Rattle.gm_select.specs.Order.{HaveSame}
-use Rattle.gm_graph.specs.declared.gathering.Gathered.{Gathered}
-use Rattle.gm_graph.specs.declared.leaving.Leaving.{Leaving}
-use Rattle.gm_graph.specs.Gathering.{AddsEdges, AreGathered, edges_in, faults_in, found_fault, noted}
+use Rattle.gm_graph_cache.specs.declared.class.Class.{Class}
+use Rattle.gm_graph_cache.specs.declared.finding.Finding.{Finding}
+use Rattle.gm_graph_cache.specs.declared.finding.Finding.TheVariants.{Fault}
+use Rattle.gm_graph_cache.specs.Main.{Main, Vertex, kept}
+use Rattle.gm_graph_cache.specs.Reading.{Readings}
+use Rattle.gm_graph_select.specs.declared.step.Edge.{Edge}
+use Rattle.gm_graph_select.specs.declared.step.Step.{Step}
+use Rattle.gm_graph_select.specs.declared.step.Step.TheVariants.{Main as FromMain, Of}
+use Rattle.gm_graph_select.specs.Graph.{edge, vertex_cmp}
+use Rattle.gm_graph_select.specs.Order.{HaveSame}
+use Rattle.gm_graph.specs.declared.graph_builder.GraphBuilder.{GraphBuilder}
+use Rattle.gm_graph.specs.declared.adjacency.Adjacency.{Adjacency}
+use Rattle.gm_graph.specs.Building.{AddsEdges, AreGathered, edges_in, faults_in, found_fault, noted}
 use Rattle.gm_graph.specs.Graph.{IsEdge, same_vertex}
-use Rattle.gm_graph.specs.Leaving.{edges_from, edges_of}
+use Rattle.gm_graph.specs.Adjacency.{edges_from, edges_of}
 use Rattle.gm_graph.proofs.Mapped.{from_mapped, in_mapped}
 
--- a fault that is put into the map
+-- A fault was put into the map.
 pub fault_put : (old new : map.BTreeMap Vertex Class) (x v : Vertex) (class : Class) (found : Finding) → found ≡ Fault class → v ≡ x
     → ((q : Vertex) → map.get vertex_cmp new q ≡ cond (is_eq (vertex_cmp v q)) (Some class) (map.get vertex_cmp old q))
     → (q : Vertex) → map.get vertex_cmp new q ≡ noted (found_fault found) x (λ y. map.get vertex_cmp old y) q
@@ -42,19 +42,19 @@ no_fault_put old new x found e same q =
     ap (λ (m : map.BTreeMap Vertex Class). map.get vertex_cmp m q) same
     ∙ ap (λ (o : Option Class). noted o x (λ y. map.get vertex_cmp old y) q) (sym e)
 
--- ---- the edges of groups, each of which leaves one step
+-- ---- the edges of adjacency lists
 
-from_each : (one : Leaving) (y : Vertex) → Contains one.to.items y → Contains (edges_from one) (edge one.from y)
+from_each : (one : Adjacency) (y : Vertex) → Contains one.to.items y → Contains (edges_from one) (edge one.from y)
 from_each one y h = in_mapped (λ (z : Vertex). edge one.from z) one.to.items y h
 
-pub from_only : (one : Leaving) (e : Edge) → Contains (edges_from one) e → (y : Vertex) × Contains one.to.items y × (e ≡ edge one.from y)
+pub from_only : (one : Adjacency) (e : Edge) → Contains (edges_from one) e → (y : Vertex) × Contains one.to.items y × (e ≡ edge one.from y)
 from_only one e h = let found = from_mapped (λ (z : Vertex). edge one.from z) one.to.items e h in (found.0, found.1, sym found.2)
 
-pub edges_push : (all : List Leaving) (one : Leaving) → edges_of (all ++ one ∷ []) ≡ edges_of all ++ edges_from one
+pub edges_push : (all : List Adjacency) (one : Adjacency) → edges_of (all ++ one ∷ []) ≡ edges_of all ++ edges_from one
 edges_push [] one = append-nil (edges_from one)
 edges_push (first ∷ all) one = ap (λ (es : List Edge). edges_from first ++ es) (edges_push all one) ∙ sym (append_assoc (edges_from first) (edges_of all) (edges_from one))
 
--- a vertex without requirements has no edges
+-- A vertex without requirements has no edges.
 pub edges_none : (old : List Edge) (x : Vertex) (ys : List Vertex) → ys ≡ [] → AddsEdges old old x ys
 edges_none old x ys none = record {
   extends = ([], sym (append-nil old));
@@ -63,7 +63,7 @@ edges_none old x ys none = record {
 }
 
 -- the edges of one more vertex
-pub edges_more : (old new : List Leaving) (one : Leaving) (x : Vertex) (ys : List Vertex) → new ≡ old ++ one ∷ [] → one.from ≡ Of x → HaveSame ys one.to.items → AddsEdges (edges_of old) (edges_of new) x ys
+pub edges_more : (old new : List Adjacency) (one : Adjacency) (x : Vertex) (ys : List Vertex) → new ≡ old ++ one ∷ [] → one.from ≡ Of x → HaveSame ys one.to.items → AddsEdges (edges_of old) (edges_of new) x ys
 edges_more old new one x ys more from same =
     let whole : edges_of new ≡ edges_of old ++ edges_from one = ap edges_of more ∙ edges_push old one in
     record {
@@ -76,7 +76,7 @@ edges_more old new one x ys more from same =
       ];
     }
 
-pub main_gathered : (g : Gathered) (one : Leaving) (ys : List Vertex) → g.leaving.items ≡ one ∷ [] → one.from ≡ FromMain → HaveSame ys one.to.items → g.faults.entries ≡ [] → (main : Main) (readings : Readings) → ys ≡ kept main main.requirements → AreGathered main readings (edges_in g) (faults_in g)
+pub main_gathered : (g : GraphBuilder) (one : Adjacency) (ys : List Vertex) → g.leaving.items ≡ one ∷ [] → one.from ≡ FromMain → HaveSame ys one.to.items → g.faults.entries ≡ [] → (main : Main) (readings : Readings) → ys ≡ kept main main.requirements → AreGathered main readings (edges_in g) (faults_in g)
 main_gathered g one ys are from same none main readings is =
     let whole : edges_in g ≡ edges_from one = ap edges_of are ∙ append-nil (edges_from one) in
     record {
@@ -89,22 +89,22 @@ main_gathered g one ys are from same none main readings is =
       known = λ x class h. cc (sym h ∙ ap (λ (es : List (Vertex × Class)). lookup (is_at (vertex_cmp x)) es) none);
     }
 
--- an edge of groups is one of a group
-edges_each : (all : List Leaving) (one : Leaving) (e : Edge) → Contains all one → Contains (edges_from one) e → Contains (edges_of all) e
+-- An edge of some adjacency lists is an edge of one of them.
+edges_each : (all : List Adjacency) (one : Adjacency) (e : Edge) → Contains all one → Contains (edges_from one) e → Contains (edges_of all) e
 edges_each [] one e there h = absurd (omega (arith, there.1))
-edges_each (first ∷ all) one e (zero, below, is) h = Contains-append_left (edges_from first) (edges_of all) e (subst (λ (o : Leaving). Contains (edges_from o) e) (sym is) h)
+edges_each (first ∷ all) one e (zero, below, is) h = Contains-append_left (edges_from first) (edges_of all) e (subst (λ (o : Adjacency). Contains (edges_from o) e) (sym is) h)
 edges_each (first ∷ all) one e (suc k, below, is) h = Contains-append_right (edges_from first) (edges_of all) e (edges_each all one e (k, omega arith, is) h)
 
-pub edges_only : (all : List Leaving) (e : Edge) → Contains (edges_of all) e → (one : Leaving) × Contains all one × Contains (edges_from one) e
+pub edges_only : (all : List Adjacency) (e : Edge) → Contains (edges_of all) e → (one : Adjacency) × Contains all one × Contains (edges_from one) e
 edges_only [] e h = absurd (omega (arith, h.1))
 edges_only (first ∷ all) e h = elim (Contains-append_cases (edges_from first) (edges_of all) e h) [
   | inl here ↦ (first, (0, omega arith, refl), here)
   | inr later ↦ (let (one, (k, below, is), at) = edges_only all e later in (one, (suc k, omega arith, is), at))
 ]
 
--- groups in another order have the same edges
-pub edges_permuted : (old new : List Leaving) → IsPermutation old new → HaveSame (edges_of old) (edges_of new)
+-- Adjacency lists in another order have the same edges.
+pub edges_permuted : (old new : List Adjacency) → IsPermutation old new → HaveSame (edges_of old) (edges_of new)
 edges_permuted old new same e = (along old new same, along new old (IsPermutation-sym old new same))
   where
-    along : (a b : List Leaving) → IsPermutation a b → Contains (edges_of a) e → Contains (edges_of b) e
+    along : (a b : List Adjacency) → IsPermutation a b → Contains (edges_of a) e → Contains (edges_of b) e
     along a b is h = let (one, there, at) = edges_only a e h in edges_each b one e (Contains-permutation a b one is there) at

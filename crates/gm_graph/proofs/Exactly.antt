@@ -1,4 +1,4 @@
--- The names that were asked are exactly those that are needed, few vertices are opened, and each opened vertex is answered.
+-- Exactly the needed names were asked for, at most 65,536 vertices are opened, and each opened vertex was answered.
 use Rattle.std.proofs.Common.{◌≡◌, ◌≤◌, ◌↔◌, ◌||◌, Bool, true, false, cond, List, [], ◌∷◌, ◌++◌, length, Option, Some, None, IsSome, Contains, ap, ap₂, sym, refl, subst, inl, inr, arith, suc, Result}
 use Rattle.std.specs.Bool.{Decides}
 use Rattle.std.specs.List.{IsDistinct, list_any}
@@ -12,19 +12,19 @@ use Rattle.std.proofs.lemmas.Map.Made.{length-le_from_is_member, is_member-Decid
 use Rattle.std.proofs.lemmas.List.Elements.{Contains-push_cases}
 use Rattle.gm_file.specs.Fields.{Dependency}
 use Rattle.gm_store.specs.Asked.{Name, Reply, answer_in, names_in, same_name, mod_file, folder_file, list_file}
-use Rattle.gm_sums.specs.declared.sums.SumTable.{SumTable}
-use Rattle.gm_cache.specs.declared.class.Class.{Class}
-use Rattle.gm_cache.specs.declared.depth.Turn.{Turn}
-use Rattle.gm_cache.specs.declared.depth.Depth.{Depth}
-use Rattle.gm_cache.specs.declared.depth.Depth.TheVariants.{Top, Deep}
-use Rattle.gm_cache.specs.Main.{Main, Vertex, is_pruned_by}
-use Rattle.gm_cache.specs.Reading.{Held, IsTold, Keeps, Readings, Tells, file_of, is_askable, reading_if, readings_by}
-use Rattle.gm_cache.specs.Turns.{turn}
-use Rattle.gm_cache.proofs.Keeping.{readings_stay, told_stays}
+use Rattle.gm_store_sums.specs.declared.sum_table.SumTable.{SumTable}
+use Rattle.gm_graph_cache.specs.declared.class.Class.{Class}
+use Rattle.gm_graph_cache.specs.declared.depth.Turn.{Turn}
+use Rattle.gm_graph_cache.specs.declared.depth.Depth.{Depth}
+use Rattle.gm_graph_cache.specs.declared.depth.Depth.TheVariants.{Top, Deep}
+use Rattle.gm_graph_cache.specs.Main.{Main, Vertex, is_pruned_by}
+use Rattle.gm_graph_cache.specs.Reading.{Held, IsTold, Keeps, Readings, Tells, file_of, is_askable, reading_if, readings_by}
+use Rattle.gm_graph_cache.specs.Turns.{turn}
+use Rattle.gm_graph_cache.proofs.Keeping.{readings_stay, earlier_readings_stay}
 use Rattle.gm_graph.specs.Graph.{IsOpened, from_main, same_vertex}
 use Rattle.gm_graph.specs.Loading.{AreAsked, AreFew, AreTurns, AsksInTurn, IsAnswered, IsNeeded, nothing, more}
 use Rattle.gm_graph.specs.Turns.{AreTurnsOf}
-use Rattle.gm_graph.proofs.Harvest.{opened_kept}
+use Rattle.gm_graph.proofs.BuiltEdges.{opened_kept}
 use Rattle.gm_graph.proofs.Rounds.{opened_from}
 use Rattle.gm_graph.proofs.Sameness.{exact_vertex, same_bytes, first_true, second_true, vertices_equivalence, equivalence_from_exact}
 
@@ -51,7 +51,7 @@ names_push : (pairs : List (Name × Reply)) (n : Name) (r : Reply) → names_in 
 names_push [] n r = refl
 names_push (pair ∷ pairs) n r = ap (λ (ns : List Name). pair.0 ∷ ns) (names_push pairs n r)
 
--- a name without an answer is not among the names
+-- A name without an answer is not among the names.
 none_named : (pairs : List (Name × Reply)) (n : Name) → answer_in pairs n ≡ None → list_any (same_name n) (names_in pairs) ≡ false
 none_named [] n h = refl
 none_named (pair ∷ pairs) n h =
@@ -64,7 +64,7 @@ named_if : (b : Bool) (pair : Name × Reply) (ns : List Name) (n : Name) (o : Op
 named_if true pair ns n o e s there = (0, omega arith, sym (exact_name n pair.0 e))
 named_if false pair ns n o e s there = let (k, below, at) = there s in (suc k, omega (arith, below), at)
 
--- a name with an answer is among them
+-- A name with an answer is among the names.
 some_named : (pairs : List (Name × Reply)) (n : Name) → IsSome (answer_in pairs n) → Contains (names_in pairs) n
 some_named [] n h = absurd (false≢true h)
 some_named (pair ∷ pairs) n h = named_if (same_name n pair.0) pair (names_in pairs) n (answer_in pairs n) refl h (λ s. some_named pairs n s)
@@ -83,7 +83,7 @@ asked_only : (main : Main) (sums : Option SumTable) {pairs : List (Name × Reply
 asked_only main sums nothing held tells n h = absurd (omega (arith, h.1))
 asked_only main sums (more {pairs} {name} reply asks due) held tells n h =
     let before = due.0.0 in
-    let keeps : Keeps (readings_by main before) (readings_by main held) = readings_stay main before held (told_stays sums pairs ((name, reply) ∷ []) before held due.0.1 tells) in
+    let keeps : Keeps (readings_by main before) (readings_by main held) = readings_stay main before held (earlier_readings_stay sums pairs ((name, reply) ∷ []) before held due.0.1 tells) in
     needed_kept main (readings_by main before) (readings_by main held) keeps n (elim (Contains-push_cases (names_in pairs) name n (subst (λ (ns : List Name). Contains ns n) (names_push pairs name reply) h)) [
       | inl there ↦ asked_only main sums asks before due.0.1 n there
       | inr same ↦ subst (λ (m : Name). IsNeeded main (readings_by main before) m) same due.0.2
@@ -99,7 +99,7 @@ told_answered sums name None None told h = absurd (false≢true h)
 told_answered sums name None (Some r) told h = absurd told
 told_answered sums name (Some reply) o told h = refl
 
--- a vertex of which something is known was answered
+-- A vertex about which something is known was answered.
 pub answered : (main : Main) (sums : Option SumTable) (pairs : List (Name × Reply)) (held : Held) → Tells sums pairs held → (x : Vertex) → IsSome (readings_by main held x) → IsAnswered main pairs x
 answered main sums pairs held tells x known askable =
     told_answered sums (file_of main x) (answer_in pairs (file_of main x)) (held (file_of main x)) (tells (file_of main x)) (known_held (is_askable (file_of main x)) main x (held (file_of main x)) askable known)

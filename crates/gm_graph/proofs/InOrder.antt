@@ -1,4 +1,4 @@
--- Groups of edges in ascending order, one behind another, are edges in ascending order.
+-- The edges of ascending adjacency lists, one after another, are in ascending order.
 use Rattle.std.proofs.Common.{◌≡◌, ◌+◌, ◌<◌, ℕ, List, [], ◌∷◌, ◌++◌, length, take, get_or, Contains, ap, ap₂, ◌∙◌, sym, subst, inl, inr, arith}
 use Rattle.std.specs.Prelude.{All, AllPairs}
 use Rattle.std.specs.declared.cmp.Ordering.{Ordering}
@@ -7,14 +7,14 @@ use Rattle.std.specs.Ordering.{ordering_then}
 use Rattle.std.proofs.lemmas.List.{get_or-map, length-map, take_more}
 use Rattle.std.proofs.lemmas.List.Elements.{Contains-append_cases, Contains-get_or, Contains-push_cases}
 use Rattle.std.proofs.lemmas.List.Kept.{AllPairs-cons}
-use Rattle.gm_cache.specs.Main.{Vertex}
-use Rattle.gm_select.specs.declared.step.Edge.{Edge}
-use Rattle.gm_select.specs.Graph.{edge, edge_cmp, step_cmp, vertex_cmp}
-use Rattle.gm_select.specs.Order.{IsAscending}
-use Rattle.gm_select.proofs.Ascending.{member_head, member_tail, pairs_head, pairs_tail}
-use Rattle.gm_select.proofs.Ranges.{step_itself}
-use Rattle.gm_graph.specs.declared.leaving.Leaving.{Leaving}
-use Rattle.gm_graph.specs.Leaving.{edges_from, edges_of}
+use Rattle.gm_graph_cache.specs.Main.{Vertex}
+use Rattle.gm_graph_select.specs.declared.step.Edge.{Edge}
+use Rattle.gm_graph_select.specs.Graph.{edge, edge_cmp, step_cmp, vertex_cmp}
+use Rattle.gm_graph_select.specs.Order.{IsAscending}
+use Rattle.gm_graph_select.proofs.Ascending.{member_head, member_tail, pairs_head, pairs_tail}
+use Rattle.gm_graph_select.proofs.Ranges.{step_itself}
+use Rattle.gm_graph.specs.declared.adjacency.Adjacency.{Adjacency}
+use Rattle.gm_graph.specs.Adjacency.{edges_from, edges_of}
 use Rattle.gm_graph.proofs.EdgesAndFaults.{edges_only, from_only}
 
 -- pairs within two lists and between them
@@ -29,8 +29,8 @@ pairs_append {T} R (x ∷ xs) ys a b between =
       | inr h ↦ between x (get_or (xs ++ ys) k d) (member_head x xs) h
     ]
 
--- the edges of a group whose ends ascend
-from_ascends : (one : Leaving) → IsAscending vertex_cmp one.to.items → IsAscending edge_cmp (edges_from one)
+-- the edges of an adjacency list whose vertices ascend
+from_ascends : (one : Adjacency) → IsAscending vertex_cmp one.to.items → IsAscending edge_cmp (edges_from one)
 from_ascends one up i j d lt below =
     let inside : j < length one.to.items = rw length-map at below in
     let left = get_or-map (λ (y : Vertex). edge one.from y) one.to.items i d.to d (omega arith) in
@@ -39,10 +39,10 @@ from_ascends one up i j d lt below =
     ∙ ap (λ (o : Ordering). ordering_then o (vertex_cmp (get_or one.to.items i d.to) (get_or one.to.items j d.to))) (step_itself one.from)
     ∙ up i j d.to lt inside
 
-abbrev LeavesLower : Leaving → Leaving → Type 0
+abbrev LeavesLower : Adjacency → Adjacency → Type 0
 LeavesLower a b = step_cmp a.from b.from ≡ Less
 
-pub edges_ascend : (all : List Leaving) → AllPairs (λ (a b : Leaving). step_cmp a.from b.from ≡ Less) all → ((one : Leaving) → Contains all one → IsAscending vertex_cmp one.to.items) → IsAscending edge_cmp (edges_of all)
+pub edges_ascend : (all : List Adjacency) → AllPairs (λ (a b : Adjacency). step_cmp a.from b.from ≡ Less) all → ((one : Adjacency) → Contains all one → IsAscending vertex_cmp one.to.items) → IsAscending edge_cmp (edges_of all)
 edges_ascend [] steps each = λ i j d lt below. absurd (omega (arith, below))
 edges_ascend (one ∷ all) steps each =
     pairs_append (λ (a b : Edge). edge_cmp a b ≡ Less) (edges_from one) (edges_of all)
@@ -57,9 +57,9 @@ edges_ascend (one ∷ all) steps each =
         let (z, found, same) = from_only other b at in
         ap₂ edge_cmp is same ∙ ap (λ (o : Ordering). ordering_then o (vertex_cmp y z)) (pairs_head LeavesLower one other all steps later)
 
--- one more of the groups
-pub each_more : (P : Leaving → Type 0) (all : List Leaving) (i : ℕ) (x : Leaving) → i < length all → x ≡ get_or all i x → ((one : Leaving) → Contains (take i all) one → P one) → P x → (one : Leaving) → Contains (take (i + 1) all) one → P one
-each_more P all i x below is before now one h = elim (Contains-push_cases (take i all) x one (subst (λ (ones : List Leaving). Contains ones one) (take_more all i x below ∙ ap (λ (o : Leaving). take i all ++ o ∷ []) (sym is)) h)) [
+-- one more adjacency list
+pub each_more : (P : Adjacency → Type 0) (all : List Adjacency) (i : ℕ) (x : Adjacency) → i < length all → x ≡ get_or all i x → ((one : Adjacency) → Contains (take i all) one → P one) → P x → (one : Adjacency) → Contains (take (i + 1) all) one → P one
+each_more P all i x below is before now one h = elim (Contains-push_cases (take i all) x one (subst (λ (ones : List Adjacency). Contains ones one) (take_more all i x below ∙ ap (λ (o : Adjacency). take i all ++ o ∷ []) (sym is)) h)) [
   | inl old ↦ before one old
   | inr same ↦ subst P same now
 ]

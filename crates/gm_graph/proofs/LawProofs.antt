@@ -3,17 +3,17 @@ use Rattle.std.proofs.Common.{◌≡◌, ◌↔◌, false, sym, subst, inl, inr}
 use mathlib.Core.Path.{fun_ext}
 use Rattle.std.specs.Cmp.{IsTotalOrder, on_total}
 use Rattle.gm_store.specs.Asked.{Name}
-use Rattle.gm_cache.specs.Main.{Main, Vertex, is_pruned_by}
-use Rattle.gm_cache.specs.Reading.{Held, Readings, readings_by}
-use Rattle.gm_cache.proofs.Keeping.{one_told}
-use Rattle.gm_select.specs.declared.step.Step.{Step}
-use Rattle.gm_select.specs.declared.step.Step.TheVariants.{Main as FromMain, Of}
-use Rattle.gm_select.specs.BuildList.{IsBuildList}
-use Rattle.gm_select.specs.Graph.{among, vertex_cmp}
-use Rattle.gm_select.specs.StepOrder.{edge_total, vertex_total}
-use Rattle.gm_select.proofs.Ascending as ascending
-use Rattle.gm_select.proofs.Lawful as lawful
-use Rattle.gm_select.proofs.Same.{same_back, same_build_list}
+use Rattle.gm_graph_cache.specs.Main.{Main, Vertex, is_pruned_by}
+use Rattle.gm_graph_cache.specs.Reading.{Held, Readings, readings_by}
+use Rattle.gm_graph_cache.proofs.Keeping.{one_told}
+use Rattle.gm_graph_select.specs.declared.step.Step.{Step}
+use Rattle.gm_graph_select.specs.declared.step.Step.TheVariants.{Main as FromMain, Of}
+use Rattle.gm_graph_select.specs.BuildList.{IsBuildList}
+use Rattle.gm_graph_select.specs.Graph.{among, vertex_cmp}
+use Rattle.gm_graph_select.specs.StepOrder.{edge_total, vertex_total}
+use Rattle.gm_graph_select.proofs.Ascending as ascending
+use Rattle.gm_graph_select.proofs.Lawful as lawful
+use Rattle.gm_graph_select.proofs.Same.{same_back, same_build_list}
 use Rattle.gm_graph.specs.declared.fault.Fault.{Fault}
 use Rattle.gm_graph.specs.Graph.{IsDeep, from_main, from_top, from_deep, IsOpened, IsEdge, IsVertex}
 use Rattle.gm_graph.specs.Outcome.{IsLoaded}
@@ -70,7 +70,7 @@ one_answer main pairs a b readings is other = (
   lawful.same_build_lists main.path main.replaces (IsEdge main readings) a.rows b.rows is.rows other.rows,
 )
 
--- what answers tell is one function of names
+-- The readings of the answers are one function of names.
 one_held : (a b : Held) → ((name : Name) → a name ≡ b name) → a ≡ b
 one_held a b e = fun_ext e
 

@@ -1,31 +1,31 @@
--- What edges end at: the opened vertices, and what the turns that lead no further require.
+-- The vertices that edges lead to: the opened ones, and the requirements of the turns that lead no further.
 use Rattle.std.proofs.Common.{◌≡◌, ◌↔◌, ◌⊎◌, ◌+◌, ◌≤◌, ◌<◌, ℕ, Bool, true, false, List, [], ◌++◌, length, get_or, Option, IsSome, Result, Contains, ap, ◌∙◌, sym, subst, inl, inr, arith}
 use Rattle.std.proofs.lemmas.Bool.{cases_Bool, cases_eq}
 use Rattle.std.proofs.lemmas.List.{get_or_default}
 use Rattle.std.proofs.lemmas.List.Elements.{Contains-append_cases, Contains-append_left, Contains-append_right}
 use Rattle.gm_file.specs.Fields.{Dependency}
-use Rattle.gm_cache.specs.declared.class.Class.{Class}
-use Rattle.gm_cache.specs.declared.depth.Depth.{Depth}
-use Rattle.gm_cache.specs.declared.depth.Turn.{Turn}
-use Rattle.gm_cache.specs.Main.{Main, Vertex}
-use Rattle.gm_cache.specs.Reading.{Keeps, Readings, requirements_in, requirements_of, said_in}
-use Rattle.gm_cache.specs.Turns.{turn}
-use Rattle.gm_select.specs.declared.step.Edge.{Edge}
-use Rattle.gm_select.specs.declared.step.Step.TheVariants.{Main as FromMain, Of}
-use Rattle.gm_select.specs.Graph.{AreEnds, among, edge}
+use Rattle.gm_graph_cache.specs.declared.class.Class.{Class}
+use Rattle.gm_graph_cache.specs.declared.depth.Depth.{Depth}
+use Rattle.gm_graph_cache.specs.declared.depth.Turn.{Turn}
+use Rattle.gm_graph_cache.specs.Main.{Main, Vertex}
+use Rattle.gm_graph_cache.specs.Reading.{Keeps, Readings, requirements_in, requirements_of, said_in}
+use Rattle.gm_graph_cache.specs.Turns.{turn}
+use Rattle.gm_graph_select.specs.declared.step.Edge.{Edge}
+use Rattle.gm_graph_select.specs.declared.step.Step.TheVariants.{Main as FromMain, Of}
+use Rattle.gm_graph_select.specs.Graph.{AreEnds, among, edge}
 use Rattle.gm_graph.specs.Graph.{IsDeep, IsEdge, IsOpened, TakesTurn, IsVertex, from_deep, from_main, from_top}
 use Rattle.gm_graph.specs.Turns.{AreTurnsOf, Extends, leads_on, leads_on_in, leaves_with}
 use Rattle.gm_graph.proofs.Deepening.{known-same}
 use Rattle.gm_graph.proofs.Exactly.{opened_exactly}
-use Rattle.gm_graph.proofs.Harvest.{edge_kept}
+use Rattle.gm_graph.proofs.BuiltEdges.{edge_kept}
 use Rattle.gm_graph.proofs.Queueing.{get_or-along}
-use Rattle.gm_graph.proofs.Rounds.{AreFollowed, are_turns, has_turn_of, opened_from}
+use Rattle.gm_graph.proofs.Rounds.{AreVisited, are_turns, has_turn_of, opened_from}
 
--- the requirements of a turn that leads no further are among the leaves
+-- The requirements of a turn that leads no further are among the leaves.
 abbrev pub IsLeft : Main → Readings → List Vertex → Turn → Type 0
 IsLeft main readings leaves one = leads_on readings one.vertex one.depth ≡ false → (y : Vertex) → Contains (requirements_of main readings one.vertex) y → Contains leaves y
 
--- the leaves are those of the turns below this place, and edges end at them
+-- The leaves are those of the turns before this position, and edges lead to them.
 pub record AreLeaves (main : Main) (readings : Readings) (turns : List Turn) (leaves : List Vertex) (at : ℕ) : Type 0 where
   pub only : (y : Vertex) → Contains leaves y → IsVertex main readings y
   pub each : (k : ℕ) (d : Turn) → k < at → IsLeft main readings leaves (get_or turns k d)
@@ -87,11 +87,11 @@ opened_vertex : (main : Main) (readings : Readings) (x : Vertex) → IsOpened ma
 opened_vertex main readings x (inl top) = (FromMain, top)
 opened_vertex main readings x (inr deep) = deep_vertex main readings deep
 
-module _ (main : Main) (readings : Readings) (vertices : List Vertex) (turns : List Turn) (leaves : List Vertex) (at : ℕ) (are : AreTurnsOf vertices turns) (past : length turns ≤ at) (followed : AreFollowed main readings turns) (left : AreLeaves main readings turns leaves at) where
+module _ (main : Main) (readings : Readings) (vertices : List Vertex) (turns : List Turn) (leaves : List Vertex) (at : ℕ) (are : AreTurnsOf vertices turns) (past : length turns ≤ at) (followed : AreVisited main readings turns) (left : AreLeaves main readings turns leaves at) where
   opened_there : (x : Vertex) → IsOpened main readings x → Contains vertices x
   opened_there x h = (opened_exactly main readings vertices turns are (are_turns main readings vertices turns are followed) x).1 h
 
-  -- what a turn requires is opened, or a leaf
+  -- What a turn requires is opened or a leaf.
   end_of_turn : (one : Turn) → Contains turns one → (y : Vertex) → Contains (requirements_of main readings one.vertex) y → Contains (vertices ++ leaves) y
   end_of_turn one (k, below, here) y h = elim (cases_Bool (leads_on readings one.vertex one.depth)) [
     | inl leads ↦ Contains-append_left vertices leaves y (are.has_vertex _ ((followed.done one (k, below, here)).followed leads y h))
@@ -102,7 +102,7 @@ module _ (main : Main) (readings : Readings) (vertices : List Vertex) (turns : L
   is_end y (FromMain, t) = Contains-append_left vertices leaves y (opened_there y (inl t))
   is_end y (Of x, (opened, h)) = let one = has_turn_of main readings turns followed x opened in end_of_turn (turn x one.0) one.1 y h
 
-  -- the opened vertices and the leaves are what edges end at
+  -- The opened vertices and the leaves are exactly the vertices that edges lead to.
   pub ends_exactly : (y : Vertex) → Contains (vertices ++ leaves) y ↔ IsVertex main readings y
   ends_exactly y = (
     (λ h. elim (Contains-append_cases vertices leaves y h) [
@@ -112,7 +112,7 @@ module _ (main : Main) (readings : Readings) (vertices : List Vertex) (turns : L
     (λ v. is_end y v),
   )
 
--- the same of edges that were gathered
+-- the same for the edges of the graph builder
 pub ends_among : (main : Main) (readings : Readings) (ends : List Vertex) (edges : List Edge) → ((e : Edge) → Contains edges e ↔ IsEdge main readings e.from e.to) → ((y : Vertex) → Contains ends y ↔ IsVertex main readings y) → AreEnds ends (among edges)
 ends_among main readings ends edges exact are y = (
   (λ h. let v = (are y).0 h in (v.0, (exact (edge v.0 y)).1 v.1)),

@@ -9,7 +9,7 @@ pub mod InOrder
 pub mod Turning
 pub mod Caching
 pub mod Queueing
-pub mod Harvest
+pub mod BuiltEdges
 pub mod Dues
 pub mod Stepping
 pub mod Listing

@@ -1,14 +1,14 @@
--- The first entry of a listed path, and that edges lead to it.
+-- A listed path has a first entry, and edges lead to it.
 use Rattle.std.proofs.Common.{◌≡◌, ◌≢◌, ℕ, zero, suc, true, false, List, [], ◌∷◌, Contains, ap, ◌∙◌, sym, refl, subst, inl, inr, arith}
 use Rattle.std.specs.Str.{bytes_eq}
 use Rattle.std.proofs.lemmas.Bool.{false≢true, cases_Bool}
 use Rattle.std.proofs.lemmas.Cmp.{nat_list_eq_equiv}
 use Rattle.std.proofs.lemmas.List.Elements.{Contains-append_right}
-use Rattle.gm_select.specs.declared.step.Edge.{Edge}
-use Rattle.gm_select.specs.declared.step.Step.{Step}
-use Rattle.gm_select.specs.BuildList.{Entry, IsAt, IsEntryOf, IsListed, path_of}
-use Rattle.gm_select.specs.Chains.{IsReached}
-use Rattle.gm_select.specs.Graph.{among}
+use Rattle.gm_graph_select.specs.declared.step.Edge.{Edge}
+use Rattle.gm_graph_select.specs.declared.step.Step.{Step}
+use Rattle.gm_graph_select.specs.BuildList.{Entry, IsAt, IsEntryOf, IsListed, path_of}
+use Rattle.gm_graph_select.specs.Chains.{IsReached}
+use Rattle.gm_graph_select.specs.Graph.{among}
 use Rattle.gm_graph.specs.Outcome.{AreReached}
 use Rattle.gm_graph.proofs.Sameness.{same_bytes}
 
@@ -41,7 +41,7 @@ found_later main e es path other (entry, rest, at) = (
 found_now : (main : List ℕ) (e : Entry) (es : List Entry) (path : List ℕ) → path_of main e.0 ≡ path → Found main (e ∷ es) path
 found_now main e es path is = (e, es, record { before = []; parts = refl; path_is = is; others = λ x h. absurd (omega (arith, h.1)) })
 
--- a listed path has a first entry
+-- A listed path has a first entry.
 pub first_at : (main : List ℕ) (entries : List Entry) (path : List ℕ) → IsListed main entries path → Found main entries path
 first_at main [] path (entry, there, same) = absurd (omega (arith, there.1))
 first_at main (e ∷ es) path listed = elim (cases_Bool (bytes_eq (path_of main e.0) path)) [
@@ -49,7 +49,7 @@ first_at main (e ∷ es) path listed = elim (cases_Bool (bytes_eq (path_of main 
   | inr is_not ↦ (let other = differs (path_of main e.0) path is_not in found_later main e es path other (first_at main es path (behind main e es path other listed)))
 ]
 
--- edges lead to it
+-- Edges lead to that entry.
 pub reached_entry : (main : List ℕ) (edges : List Edge) (entries : List Entry) (path : List ℕ) → AreReached edges entries → ¬ ((s : Step) × IsEntryOf main entries path s × IsReached (among edges) s) → ¬ (IsListed main entries path)
 reached_entry main edges entries path are none listed =
     let found = first_at main entries path listed in

@@ -1,24 +1,24 @@
--- What is put together is what loading answers.
+-- The assembled graph is the specified result of loading.
 use Rattle.std.proofs.Common.{◌≡◌, ◌↔◌, ◌++◌, List, [], None, map, Option, Contains, ap, ◌∙◌, sym, subst}
 use Rattle.std.specs.BTreeMap as tree
 use Rattle.gm_store.specs.Asked.{Name, Reply}
-use Rattle.gm_sums.specs.declared.sums.SumTable.{SumTable}
-use Rattle.gm_cache.specs.declared.cache.Cache.{Cache}
-use Rattle.gm_cache.specs.declared.depth.Turn.{Turn}
-use Rattle.gm_cache.specs.Cached.{held_of, main_in, sums_in, turns_in}
-use Rattle.gm_cache.specs.Main.{Main, Vertex, kept}
-use Rattle.gm_cache.specs.Reading.{Readings, readings_by}
-use Rattle.gm_select.specs.declared.step.Edge.{Edge}
-use Rattle.gm_select.specs.BuildList.{IsBuildList}
-use Rattle.gm_select.specs.Chains.{IsRooted}
-use Rattle.gm_select.specs.Graph.{AreEnds, among, edge_cmp, vertex_cmp}
-use Rattle.gm_select.specs.Order.{HaveSame, IsAscending}
-use Rattle.gm_select.proofs.Same.{same_build_list}
+use Rattle.gm_store_sums.specs.declared.sum_table.SumTable.{SumTable}
+use Rattle.gm_graph_cache.specs.declared.cache.Cache.{Cache}
+use Rattle.gm_graph_cache.specs.declared.depth.Turn.{Turn}
+use Rattle.gm_graph_cache.specs.Cached.{held_of, main_in, sums_in, turns_in}
+use Rattle.gm_graph_cache.specs.Main.{Main, Vertex, kept}
+use Rattle.gm_graph_cache.specs.Reading.{Readings, readings_by}
+use Rattle.gm_graph_select.specs.declared.step.Edge.{Edge}
+use Rattle.gm_graph_select.specs.BuildList.{IsBuildList}
+use Rattle.gm_graph_select.specs.Chains.{IsRooted}
+use Rattle.gm_graph_select.specs.Graph.{AreEnds, among, edge_cmp, vertex_cmp}
+use Rattle.gm_graph_select.specs.Order.{HaveSame, IsAscending}
+use Rattle.gm_graph_select.proofs.Same.{same_build_list}
 use Rattle.gm_graph.specs.declared.fault.Fault.{Fault}
-use Rattle.gm_graph.specs.declared.gathering.Gathered.{Gathered}
-use Rattle.gm_graph.specs.declared.opening.Opening.{Opening}
-use Rattle.gm_graph.specs.Following.{IsOpenedIn}
-use Rattle.gm_graph.specs.Gathering.{edges_in, fault}
+use Rattle.gm_graph.specs.declared.graph_builder.GraphBuilder.{GraphBuilder}
+use Rattle.gm_graph.specs.declared.worklist.Worklist.{Worklist}
+use Rattle.gm_graph.specs.Visiting.{IsOpenedIn}
+use Rattle.gm_graph.specs.Building.{edges_in, fault}
 use Rattle.gm_graph.specs.Graph.{IsEdge}
 use Rattle.gm_graph.specs.Loading.{AreTooMany, AreTurns, AsksInTurn, Told}
 use Rattle.gm_graph.specs.Turns.{OverflowsWith}
@@ -29,33 +29,33 @@ use Rattle.gm_graph.proofs.Leaves.{ends_among}
 use Rattle.gm_graph.proofs.Mapped.{fault_listed, faults_ascend}
 use Rattle.gm_graph.proofs.Rooted.{list_rooted, same_edges}
 
-module _ (old new : Cache) (pairs : List (Name × Reply)) (opening : Opening) (gathered : Gathered) (opened : IsOpenedIn old new pairs opening gathered) where
+module _ (old new : Cache) (pairs : List (Name × Reply)) (worklist : Worklist) (builder : GraphBuilder) (opened : IsOpenedIn old new pairs worklist builder) where
   abbrev main : Main
   main = main_in old
 
   abbrev readings : Readings
   readings = readings_by (main_in old) (held_of new)
 
-  pub gathered_rooted : IsRooted (among (edges_in gathered))
-  gathered_rooted = list_rooted main readings (edges_in gathered) opened.edges
+  pub gathered_rooted : IsRooted (among (edges_in builder))
+  gathered_rooted = list_rooted main readings (edges_in builder) opened.edges
 
-  pub gathered_ends : AreEnds (opening.vertices.items ++ opening.leaves.items) (among (edges_in gathered))
-  gathered_ends = ends_among main readings (opening.vertices.items ++ opening.leaves.items) (edges_in gathered) opened.edges opened.ends
+  pub gathered_ends : AreEnds (worklist.vertices.items ++ worklist.leaves.items) (among (edges_in builder))
+  gathered_ends = ends_among main readings (worklist.vertices.items ++ worklist.leaves.items) (edges_in builder) opened.edges opened.ends
 
-  faults_are : (faults : List Fault) → faults ≡ map (λ e. fault e.0 e.1) gathered.faults.entries → tree.IsOrdered vertex_cmp gathered.faults → AreFaults main readings faults
+  faults_are : (faults : List Fault) → faults ≡ map (λ e. fault e.0 e.1) builder.faults.entries → tree.IsOrdered vertex_cmp builder.faults → AreFaults main readings faults
   faults_are faults e ordered = subst (λ (fs : List Fault). AreFaults main readings fs) (sym e) (record {
-    ascending = faults_ascend gathered.faults ordered;
+    ascending = faults_ascend builder.faults ordered;
     each = λ one. (
-      (λ h. (opened.faults one.vertex one.class).0 ((fault_listed gathered.faults ordered one).0 h)),
-      (λ h. (fault_listed gathered.faults ordered one).1 ((opened.faults one.vertex one.class).1 h)),
+      (λ h. (opened.faults one.vertex one.class).0 ((fault_listed builder.faults ordered one).0 h)),
+      (λ h. (fault_listed builder.faults ordered one).1 ((opened.faults one.vertex one.class).1 h)),
     );
   })
 
-  edges_are : (edges : List Edge) → HaveSame (edges_in gathered) edges → (e : Edge) → Contains edges e ↔ IsEdge main readings e.from e.to
+  edges_are : (edges : List Edge) → HaveSame (edges_in builder) edges → (e : Edge) → Contains edges e ↔ IsEdge main readings e.from e.to
   edges_are edges same e = ((λ h. (opened.edges e).0 ((same e).1 h)), (λ h. (same e).0 ((opened.edges e).1 h)))
 
-  pub loads : (loaded : Outcome) → AsksInTurn main (sums_in old) pairs → loaded.main ≡ main.path → loaded.faults ≡ map (λ e. fault e.0 e.1) gathered.faults.entries → tree.IsOrdered vertex_cmp gathered.faults
-      → IsAscending edge_cmp loaded.edges → HaveSame (edges_in gathered) loaded.edges → IsBuildList main.path main.replaces (among loaded.edges) loaded.rows → loaded.turns ≡ turns_in new
+  pub loads : (loaded : Outcome) → AsksInTurn main (sums_in old) pairs → loaded.main ≡ main.path → loaded.faults ≡ map (λ e. fault e.0 e.1) builder.faults.entries → tree.IsOrdered vertex_cmp builder.faults
+      → IsAscending edge_cmp loaded.edges → HaveSame (edges_in builder) loaded.edges → IsBuildList main.path main.replaces (among loaded.edges) loaded.rows → loaded.turns ≡ turns_in new
       → Told main (sums_in old) pairs (IsLoaded main pairs loaded)
   loads loaded asks path_is faults ordered ascending same rows turns = (
     held_of new,
@@ -68,21 +68,21 @@ module _ (old new : Cache) (pairs : List (Name × Reply)) (opening : Opening) (g
       turns = subst (λ (ts : List Turn). AreTurns main readings ts) (sym (turns ∙ opened.lent)) opened.turns;
       answered = λ x h. answered main (sums_in old) pairs (held_of new) opened.tells x (opened.known x h);
       asked = asked_exactly main (sums_in old) pairs (held_of new) opened.tells asks opened.known;
-      few = few_opened main readings opening.vertices.items opening.turns.items opened.opening.turns opened.turns;
+      few = few_opened main readings worklist.vertices.items worklist.turns.items opened.worklist.turns opened.turns;
     },
   )
 
--- the same of the main file and the go.sum that the cache was made of
-pub loads_of : (old new : Cache) (pairs : List (Name × Reply)) (opening : Opening) (gathered : Gathered) → IsOpenedIn old new pairs opening gathered → (main : Main) (sums : Option SumTable) → main_in old ≡ main → sums_in old ≡ sums
-    → (loaded : Outcome) → AsksInTurn (main_in old) (sums_in old) pairs → loaded.main ≡ main.path → loaded.faults ≡ map (λ e. fault e.0 e.1) gathered.faults.entries → tree.IsOrdered vertex_cmp gathered.faults
-    → IsAscending edge_cmp loaded.edges → HaveSame (edges_in gathered) loaded.edges → IsBuildList main.path main.replaces (among loaded.edges) loaded.rows → loaded.turns ≡ turns_in new
+-- the same for the main file and the go.sum that the cache was created with
+pub loads_of : (old new : Cache) (pairs : List (Name × Reply)) (worklist : Worklist) (builder : GraphBuilder) → IsOpenedIn old new pairs worklist builder → (main : Main) (sums : Option SumTable) → main_in old ≡ main → sums_in old ≡ sums
+    → (loaded : Outcome) → AsksInTurn (main_in old) (sums_in old) pairs → loaded.main ≡ main.path → loaded.faults ≡ map (λ e. fault e.0 e.1) builder.faults.entries → tree.IsOrdered vertex_cmp builder.faults
+    → IsAscending edge_cmp loaded.edges → HaveSame (edges_in builder) loaded.edges → IsBuildList main.path main.replaces (among loaded.edges) loaded.rows → loaded.turns ≡ turns_in new
     → Told main sums pairs (IsLoaded main pairs loaded)
-loads_of old new pairs opening gathered opened main sums main_is sums_are loaded asks path_is faults ordered ascending same rows turns =
+loads_of old new pairs worklist builder opened main sums main_is sums_are loaded asks path_is faults ordered ascending same rows turns =
     subst (λ (m : Main). Told m sums pairs (IsLoaded m pairs loaded)) main_is (subst (λ (s : Option SumTable). Told (main_in old) s pairs (IsLoaded (main_in old) pairs loaded)) sums_are
-    (loads old new pairs opening gathered opened loaded asks (path_is ∙ ap (λ (m : Main). m.path) (sym main_is)) faults ordered ascending same
+    (loads old new pairs worklist builder opened loaded asks (path_is ∙ ap (λ (m : Main). m.path) (sym main_is)) faults ordered ascending same
     (subst (λ (m : Main). IsBuildList m.path m.replaces (among loaded.edges) loaded.rows) (sym main_is) rows) turns))
 
--- nothing was asked, and the main file requires too much
+-- Nothing was asked for, and the main file requires too many vertices.
 pub too_many_first : (main : Main) (sums : Option SumTable) (pairs : List (Name × Reply)) (xs : List Vertex) → pairs ≡ [] → xs ≡ kept main main.requirements → OverflowsWith [] xs → Told main sums pairs (AreTooMany main)
 too_many_first main sums pairs xs none is over =
     subst (λ (ps : List (Name × Reply)). Told main sums ps (AreTooMany main)) (sym none)

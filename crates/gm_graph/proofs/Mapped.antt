@@ -1,4 +1,4 @@
--- Lists that were mapped, and the list of a map's entries.
+-- Mapped lists, and the list of a map's entries.
 use Rattle.std.proofs.Common.{◌≡◌, ◌↔◌, ◌<◌, ℕ, zero, suc, List, [], ◌∷◌, length, get_or, map, Some, Contains, ap, ap₂, ◌∙◌, sym, refl, arith}
 use Rattle.std.specs.Prelude.{AllPairs}
 use Rattle.std.specs.BTreeMap as tree
@@ -6,12 +6,12 @@ use Rattle.std.specs.declared.cmp.Ordering.TheVariants.{Less}
 use Rattle.std.proofs.lemmas.List.{length-map, get_or-map}
 use Rattle.std.proofs.lemmas.Map.Keys.{Less-from_sorted}
 use Rattle.std.proofs.lemmas.Map.Views.{btree_map_get_iff}
-use Rattle.gm_cache.specs.declared.class.Class.{Class}
-use Rattle.gm_cache.specs.Main.{Vertex}
-use Rattle.gm_select.specs.Graph.{vertex_cmp}
-use Rattle.gm_select.specs.StepOrder.{vertex_total, vertex-anti}
+use Rattle.gm_graph_cache.specs.declared.class.Class.{Class}
+use Rattle.gm_graph_cache.specs.Main.{Vertex}
+use Rattle.gm_graph_select.specs.Graph.{vertex_cmp}
+use Rattle.gm_graph_select.specs.StepOrder.{vertex_total, vertex-anti}
 use Rattle.gm_graph.specs.declared.fault.Fault.{Fault}
-use Rattle.gm_graph.specs.Gathering.{fault}
+use Rattle.gm_graph.specs.Building.{fault}
 
 pub in_mapped : {X Y : Type 0} (f : X → Y) (xs : List X) (x : X) → Contains xs x → Contains (map f xs) (f x)
 in_mapped f xs x (k, below, is) = (k, rw length-map below, get_or-map f xs k x (f x) below ∙ ap f is)
@@ -28,7 +28,7 @@ abbrev entry_of_fault : Fault → Vertex × Class
 entry_of_fault one = (one.vertex, one.class)
 
 module _ (faults : tree.BTreeMap Vertex Class) (ordered : tree.IsOrdered vertex_cmp faults) where
-  -- a fault is in the list of a map's faults where the map has it
+  -- A fault is in the list of a map's faults exactly if the map has it.
   pub fault_listed : (one : Fault) → Contains (map (λ e. fault e.0 e.1) faults.entries) one ↔ (tree.get vertex_cmp faults one.vertex ≡ Some one.class)
   fault_listed one = (
     (λ h. let found = from_mapped entry_fault faults.entries one h in

@@ -1,15 +1,15 @@
 -- Edges lead from the main module to each step that has an edge, and so to each entry of the build list.
 use Rattle.std.proofs.Common.{◌↔◌, ℕ, zero, suc, List, ◌∷◌, map, Contains, subst, inl, inr, arith}
 use Rattle.gm_file.specs.Directives.{Replacing}
-use Rattle.gm_cache.specs.Main.{Main, Vertex}
-use Rattle.gm_cache.specs.Reading.{Readings}
-use Rattle.gm_select.specs.declared.step.Edge.{Edge}
-use Rattle.gm_select.specs.declared.step.Step.TheVariants.{Main as FromMain, Of}
-use Rattle.gm_select.specs.BuildList.{Entry, IsBuildList, IsSelected, entry_of, main_entry}
-use Rattle.gm_select.specs.Chains.{IsReached, IsRooted, along, at_main}
-use Rattle.gm_select.specs.Graph.{AreEnds, among, edge, edge_cmp}
-use Rattle.gm_select.specs.Order.{HaveSame, IsAscending}
-use Rattle.gm_select.proofs.Same.{AreSame, same_back, same_rooted}
+use Rattle.gm_graph_cache.specs.Main.{Main, Vertex}
+use Rattle.gm_graph_cache.specs.Reading.{Readings}
+use Rattle.gm_graph_select.specs.declared.step.Edge.{Edge}
+use Rattle.gm_graph_select.specs.declared.step.Step.TheVariants.{Main as FromMain, Of}
+use Rattle.gm_graph_select.specs.BuildList.{Entry, IsBuildList, IsSelected, entry_of, main_entry}
+use Rattle.gm_graph_select.specs.Chains.{IsReached, IsRooted, along, at_main}
+use Rattle.gm_graph_select.specs.Graph.{AreEnds, among, edge, edge_cmp}
+use Rattle.gm_graph_select.specs.Order.{HaveSame, IsAscending}
+use Rattle.gm_graph_select.proofs.Same.{AreSame, same_back, same_rooted}
 use Rattle.gm_graph.specs.Graph.{IsDeep, IsEdge, IsOpened, IsTop, from_deep, from_main, from_top}
 use Rattle.gm_graph.specs.Outcome.{AreReached}
 use Rattle.gm_graph.proofs.Mapped.{from_mapped}
@@ -38,7 +38,7 @@ pub list_rooted : (main : Main) (readings : Readings) (edges : List Edge) → ((
 list_rooted main readings edges exact =
     same_rooted (IsEdge main readings) (among edges) (same_back (among edges) (IsEdge main readings) (same_edges main readings edges exact)) (edges_rooted main readings)
 
--- the entries of a build list are reached
+-- The entries of a build list are reached.
 module _ (main : List ℕ) (replaces : List Replacing) (edges : List Edge) (entries : List Entry) (rooted : IsRooted (among edges)) (list : IsBuildList main replaces (among edges) entries) where
   selected_reached : (x : Vertex) → IsSelected main (among edges) x → IsReached (among edges) (Of x)
   selected_reached x is = let (s, e) = is.is_end in let (n, l) = rooted s x e in (suc n, along l e)
@@ -61,7 +61,7 @@ same_along old mid new a b e = ((λ h. (b e).0 ((a e).0 h)), (λ h. (a e).1 ((b 
 pub sorted_rooted : (old new : List Edge) → HaveSame old new → IsRooted (among old) → IsRooted (among new)
 sorted_rooted old new same rooted = same_rooted (among old) (among new) (λ s y. same (edge s y)) rooted
 
--- the same edges have the same ends
+-- Equal sets of edges lead to the same vertices.
 pub ends_along : (ends : List Vertex) (old new : List Edge) → HaveSame old new → AreEnds ends (among old) → AreEnds ends (among new)
 ends_along ends old new same are y = (
   (λ h. let end = (are y).0 h in (end.0, (same (edge end.0 y)).0 end.1)),

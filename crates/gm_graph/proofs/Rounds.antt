@@ -1,28 +1,28 @@
--- Turns of which each is done.
+-- Turns that are all done.
 use Rattle.std.proofs.Common.{◌≡◌, ◌+◌, ◌≤◌, Bool, true, false, List, [], ◌++◌, length, Contains, map, ap, ◌∙◌, sym, refl, subst, inl, inr, arith, length-append, ◌↔◌}
 use Rattle.std.proofs.lemmas.List.{length-map, get_or-map}
 use Rattle.std.proofs.lemmas.Bool.{cases_Bool, false≢true}
 use Rattle.std.specs.Bool.{Decides}
 use Rattle.std.proofs.lemmas.Map.Made.{length-le_from_is_member, is_member-Decides}
 use Rattle.std.proofs.lemmas.List.Elements.{Contains-append_left, Contains-append_right}
-use Rattle.gm_cache.specs.Main.{Main, Vertex, is_pruned_by, kept}
-use Rattle.gm_cache.specs.Reading.{Readings}
-use Rattle.gm_cache.specs.declared.depth.Turn.{Turn}
-use Rattle.gm_cache.specs.declared.depth.Depth.{Depth}
-use Rattle.gm_cache.specs.declared.depth.Depth.TheVariants.{Top, Deep}
+use Rattle.gm_graph_cache.specs.Main.{Main, Vertex, is_pruned_by, kept}
+use Rattle.gm_graph_cache.specs.Reading.{Readings}
+use Rattle.gm_graph_cache.specs.declared.depth.Turn.{Turn}
+use Rattle.gm_graph_cache.specs.declared.depth.Depth.{Depth}
+use Rattle.gm_graph_cache.specs.declared.depth.Depth.TheVariants.{Top, Deep}
 use Rattle.gm_graph.specs.Graph.{IsTop, from_main, IsOpened, TakesTurn}
 use Rattle.std.proofs.Common.{IsSome}
 use Rattle.gm_graph.specs.Loading.{AreTurns}
-use Rattle.gm_graph.specs.Turns.{same_turn, IsDone, Extends, AreTurnsOf, AddsAll, IsTrueTurn, AllTrue, AreFirstTurns, depth_by}
-use Rattle.gm_cache.specs.Turns.{turn}
+use Rattle.gm_graph.specs.Turns.{same_turn, IsDone, Extends, AreTurnsOf, AddsAll, IsValidTurn, AllValidTurns, AreFirstTurns, depth_by}
+use Rattle.gm_graph_cache.specs.Turns.{turn}
 use Rattle.gm_graph.proofs.Sameness.{turns_equivalence, exact_turn}
 use Rattle.gm_graph.proofs.Deepening.{IsDeep-among}
 
--- the first turns and more, each one that its vertex takes, and each done
-pub record AreFollowed (main : Main) (answers : Readings) (turns : List Turn) : Type 0 where
+-- The first turns and more, each one that its vertex takes, and each of them done.
+pub record AreVisited (main : Main) (answers : Readings) (turns : List Turn) : Type 0 where
   pub tops : is_pruned_by main.go ≡ true → (x : Vertex) → IsTop main x → Contains turns (turn x Top)
   pub deeps : is_pruned_by main.go ≡ false → (x : Vertex) → IsTop main x → Contains turns (turn x Deep)
-  pub sound : AllTrue main answers turns
+  pub sound : AllValidTurns main answers turns
   pub done : (one : Turn) → Contains turns one → IsDone main answers turns one
 
 same_turn-Decides : (a b : Turn) → Decides (same_turn a b) (a ≡ b)
@@ -59,15 +59,15 @@ pub opened_from : (main : Main) (answers : Readings) (x : Vertex) (d : Depth) �
 opened_from main answers x Top h = inl h.1
 opened_from main answers x Deep h = inr h
 
--- every opened vertex has a turn
-pub has_turn_of : (main : Main) (answers : Readings) (turns : List Turn) → AreFollowed main answers turns → (x : Vertex) → IsOpened main answers x → (d : Depth) × Contains turns (turn x d)
+-- Every opened vertex has a turn.
+pub has_turn_of : (main : Main) (answers : Readings) (turns : List Turn) → AreVisited main answers turns → (x : Vertex) → IsOpened main answers x → (d : Depth) × Contains turns (turn x d)
 has_turn_of main answers turns followed x (inl top) = elim (cases_Bool (is_pruned_by main.go)) [
   | inl pruned ↦ (Top, followed.tops pruned x top)
   | inr unpruned ↦ (Deep, followed.deeps unpruned x top)
 ]
 has_turn_of main answers turns followed x (inr deep) = (Deep, IsDeep-among main answers turns followed.tops followed.deeps followed.done deep)
 
-module _ (main : Main) (answers : Readings) (vertices : List Vertex) (turns : List Turn) (are : AreTurnsOf vertices turns) (followed : AreFollowed main answers turns) where
+module _ (main : Main) (answers : Readings) (vertices : List Vertex) (turns : List Turn) (are : AreTurnsOf vertices turns) (followed : AreVisited main answers turns) where
   pub turns_exactly : (x : Vertex) (d : Depth) → Contains turns (turn x d) ↔ TakesTurn main answers x d
   turns_exactly x Top = ((λ h. followed.sound (turn x Top) h), (λ h. followed.tops h.0 x h.1))
   turns_exactly x Deep = ((λ h. followed.sound (turn x Deep) h), (λ h. IsDeep-among main answers turns followed.tops followed.deeps followed.done h))
@@ -82,25 +82,25 @@ not_in_none : (one : Turn) → Contains [] one → ⊥
 not_in_none one h = absurd (omega (arith, h.1))
 
 module _ (main : Main) (old new : List Turn) (none : old ≡ []) where
-  -- where the main file is pruned
+  -- if the main file is pruned
   first_tops : is_pruned_by main.go ≡ true → AddsAll old new (kept main main.requirements) Top → AreFirstTurns main new
   first_tops pruned adds = record {
     tops = λ _ x t. adds.each x t;
     deeps = λ p. absurd (false≢true (sym p ∙ pruned));
     sound = λ answers one h. elim (adds.only one h) [
       | inl there ↦ absurd (not_in_none one (subst (λ (t : List Turn). Contains t one) none there))
-      | inr found ↦ subst (λ (t : Turn). IsTrueTurn main answers t) (sym found.2) (pruned, found.1)
+      | inr found ↦ subst (λ (t : Turn). IsValidTurn main answers t) (sym found.2) (pruned, found.1)
     ];
   }
 
-  -- where it isn't
+  -- if it is unpruned
   first_deeps : is_pruned_by main.go ≡ false → AddsAll old new (kept main main.requirements) Deep → AreFirstTurns main new
   first_deeps unpruned adds = record {
     tops = λ p. absurd (false≢true (sym unpruned ∙ p));
     deeps = λ _ x t. adds.each x t;
     sound = λ answers one h. elim (adds.only one h) [
       | inl there ↦ absurd (not_in_none one (subst (λ (t : List Turn). Contains t one) none there))
-      | inr found ↦ subst (λ (t : Turn). IsTrueTurn main answers t) (sym found.2) (from_main unpruned found.1)
+      | inr found ↦ subst (λ (t : Turn). IsValidTurn main answers t) (sym found.2) (from_main unpruned found.1)
     ];
   }
 

@@ -1,17 +1,17 @@
--- Modules and turns that pass the test of sameness are equal.
+-- Vertices and turns that compare as the same are equal.
 use Rattle.std.proofs.Common.{◌≡◌, ℕ, Bool, true, false, ◌&&◌, List, ap, ◌∙◌, refl, subst, arith}
 use Rattle.std.specs.Str.{bytes_eq}
 use Rattle.std.specs.Cmp.{IsEquivalence, both_ways}
 use Rattle.std.proofs.lemmas.Slice.Eq.{bytes_eq-Decides}
 use Rattle.std.proofs.lemmas.Cmp.{nat_list_eq_equiv}
 use Rattle.std.specs.Cmp.Derive.{both_true}
-use Rattle.gm_cache.specs.Main.{Vertex}
+use Rattle.gm_graph_cache.specs.Main.{Vertex}
 use Rattle.gm_graph.specs.Graph.{same_vertex}
-use Rattle.gm_cache.specs.declared.depth.Turn.{Turn}
-use Rattle.gm_cache.specs.declared.depth.Depth.{Depth}
-use Rattle.gm_cache.specs.declared.depth.Depth.TheVariants.{Top, Deep}
+use Rattle.gm_graph_cache.specs.declared.depth.Turn.{Turn}
+use Rattle.gm_graph_cache.specs.declared.depth.Depth.{Depth}
+use Rattle.gm_graph_cache.specs.declared.depth.Depth.TheVariants.{Top, Deep}
 use Rattle.gm_graph.specs.Turns.{same_turn, same_depth}
-use Rattle.gm_cache.specs.Turns.{turn}
+use Rattle.gm_graph_cache.specs.Turns.{turn}
 
 pub same_bytes : (xs ys : List ℕ) → bytes_eq xs ys ≡ true → xs ≡ ys
 same_bytes xs ys h = grind (arith, bytes_eq-Decides)

@@ -1,34 +1,34 @@
--- What following one turn gathers.
+-- What one visit adds to the graph builder.
 use Rattle.std.proofs.Common.{◌≡◌, false, List, [], Option, IsSome, Contains, ap, ◌∙◌, sym, refl, subst, inl, append-nil}
 use Rattle.std.proofs.lemmas.Bool.{false≢true}
-use Rattle.gm_cache.specs.declared.class.Class.{Class}
-use Rattle.gm_cache.specs.declared.depth.Depth.{Depth}
-use Rattle.gm_cache.specs.declared.finding.Finding.{Finding}
-use Rattle.gm_cache.specs.declared.finding.Finding.TheVariants.{Fault, Sound}
-use Rattle.gm_cache.specs.declared.depth.Turn.{Turn}
-use Rattle.gm_cache.specs.Cached.{IsFinding}
-use Rattle.gm_cache.specs.Turns.{turn}
-use Rattle.gm_cache.specs.Main.{Main, Vertex}
-use Rattle.gm_cache.specs.Reading.{Held, fault_in, fault_of, readings_by, requirements_of}
-use Rattle.gm_select.specs.declared.step.Edge.{Edge}
-use Rattle.gm_graph.specs.declared.gathering.Gathered.{Gathered}
-use Rattle.gm_graph.specs.Gathering.{AddsEdges, Gathers, edges_in, faults_in, found_fault, gathers, noted}
+use Rattle.gm_graph_cache.specs.declared.class.Class.{Class}
+use Rattle.gm_graph_cache.specs.declared.depth.Depth.{Depth}
+use Rattle.gm_graph_cache.specs.declared.finding.Finding.{Finding}
+use Rattle.gm_graph_cache.specs.declared.finding.Finding.TheVariants.{Fault, Sound}
+use Rattle.gm_graph_cache.specs.declared.depth.Turn.{Turn}
+use Rattle.gm_graph_cache.specs.Cached.{IsFinding}
+use Rattle.gm_graph_cache.specs.Turns.{turn}
+use Rattle.gm_graph_cache.specs.Main.{Main, Vertex}
+use Rattle.gm_graph_cache.specs.Reading.{Held, fault_in, fault_of, readings_by, requirements_of}
+use Rattle.gm_graph_select.specs.declared.step.Edge.{Edge}
+use Rattle.gm_graph.specs.declared.graph_builder.GraphBuilder.{GraphBuilder}
+use Rattle.gm_graph.specs.Building.{AddsEdges, Gathers, edges_in, faults_in, found_fault, gathers, noted}
 
 finding_fault : (main : Main) (held : Held) (x : Vertex) (f : Finding) → IsFinding main held x f → found_fault f ≡ fault_of (readings_by main held) x
 finding_fault main held x (Fault class) e = sym (ap fault_in e)
 finding_fault main held x (Sound name) e = sym (ap fault_in e.2)
 
--- what is found of a vertex is known
+-- What is found of a vertex is known.
 pub finding_known : (main : Main) (held : Held) (x : Vertex) (f : Finding) → IsFinding main held x f → IsSome (readings_by main held x)
 finding_known main held x (Fault class) e = subst (λ o. IsSome o) (sym e) refl
 finding_known main held x (Sound name) e = subst (λ o. IsSome o) (sym e.2) refl
 
-module _ (main : Main) (held : Held) (turns : List Turn) (x : Vertex) (d : Depth) (f : Finding) (found : IsFinding main held x f) (old mid new : Gathered)
+module _ (main : Main) (held : Held) (turns : List Turn) (x : Vertex) (d : Depth) (f : Finding) (found : IsFinding main held x f) (old mid new : GraphBuilder)
     (noting : (q : Vertex) → faults_in mid q ≡ noted (found_fault f) x (faults_in old) q) (same : edges_in mid ≡ edges_in old) where
   noting_fault : (q : Vertex) → faults_in mid q ≡ noted (fault_of (readings_by main held) x) x (faults_in old) q
   noting_fault q = noting q ∙ ap (λ (o : Option Class). noted o x (faults_in old) q) (finding_fault main held x f found)
 
-  -- with edges
+  -- a visit that adds edges
   pub gathers_edges : AddsEdges (edges_in mid) (edges_in new) x (requirements_of main (readings_by main held) x) → ((q : Vertex) → faults_in new q ≡ faults_in mid q) → Gathers main (readings_by main held) turns (edges_in old) (edges_in new) (faults_in old) (faults_in new) (turn x d)
   gathers_edges adds kept =
       let adds' = subst (λ (es : List Edge). AddsEdges es (edges_in new) x (requirements_of main (readings_by main held) x)) same adds in
@@ -39,11 +39,11 @@ module _ (main : Main) (held : Held) (turns : List Turn) (x : Vertex) (d : Depth
         faults = λ q. kept q ∙ noting_fault q;
       }
 
-  -- without
+  -- a visit that adds none
   pub gathers_no_edges : gathers turns (turn x d) ≡ false → new ≡ mid → Gathers main (readings_by main held) turns (edges_in old) (edges_in new) (faults_in old) (faults_in new) (turn x d)
   gathers_no_edges no_edges e = record {
     extends = ([], ap edges_in e ∙ same ∙ sym (append-nil (edges_in old)));
     each = λ is y h. absurd (false≢true (sym no_edges ∙ is));
     only = λ one h. inl (subst (λ (es : List Edge). Contains es one) (ap edges_in e ∙ same) h);
-    faults = λ q. ap (λ (g : Gathered). faults_in g q) e ∙ noting_fault q;
+    faults = λ q. ap (λ (g : GraphBuilder). faults_in g q) e ∙ noting_fault q;
   }

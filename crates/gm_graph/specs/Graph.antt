@@ -1,44 +1,46 @@
--- Which modules are opened, and the edges of the graph: Go Modules Reference, "Module graph pruning" and "Minimal version
--- selection".
+-- Which modules are opened, and the edges of the graph (Go Modules Reference, "Module graph pruning" and "Minimal
+-- version selection").
 use Rattle.std.specs.Prelude.{◌≡◌, ◌⊎◌, Bool, true, false, Contains}
 use Rattle.gm_file.specs.Pairs.{pair_eq}
-use Rattle.gm_cache.specs.declared.depth.Depth.{Depth}
-use Rattle.gm_cache.specs.declared.depth.Depth.TheVariants.{Top, Deep}
-use Rattle.gm_cache.specs.Main.{Main, Vertex, is_pruned_by, kept}
-use Rattle.gm_cache.specs.Reading.{Readings, is_unpruned, requirements_of}
-use Rattle.gm_select.specs.declared.step.Step.{Step}
-use Rattle.gm_select.specs.declared.step.Step.TheVariants.{Main as FromMain, Of}
+use Rattle.gm_graph_cache.specs.declared.depth.Depth.{Depth}
+use Rattle.gm_graph_cache.specs.declared.depth.Depth.TheVariants.{Top, Deep}
+use Rattle.gm_graph_cache.specs.Main.{Main, Vertex, is_pruned_by, kept}
+use Rattle.gm_graph_cache.specs.Reading.{Readings, is_unpruned, requirements_of}
+use Rattle.gm_graph_select.specs.declared.step.Step.{Step}
+use Rattle.gm_graph_select.specs.declared.step.Step.TheVariants.{Main as FromMain, Of}
 
 abbrev pub same_vertex : Vertex → Vertex → Bool
 same_vertex = pair_eq
 
--- what the main file requires is opened at the top
+-- The requirements of the main file are opened at the top.
 abbrev pub IsTop : Main → Vertex → Type 0
 IsTop main x = Contains (kept main main.requirements) x
 
--- The vertices that are opened deeply: the least relation by three rules.
+-- The vertices that are opened at full depth: the least relation with these three rules.
 pub data IsDeep (main : Main) (readings : Readings) : Vertex → Type 0 where
-  -- every top vertex, where the main file is not pruned
+  -- every top vertex, if the main file is unpruned
   from_main : {x : Vertex} → is_pruned_by main.go ≡ false → IsTop main x → IsDeep main readings x
-  -- every requirement of a top vertex whose file is not pruned
-  from_top : {x y : Vertex} → IsTop main x → is_unpruned readings x ≡ true → Contains (requirements_of main readings x) y → IsDeep main readings y
+  -- every requirement of a top vertex whose file is unpruned
+  from_top : {x y : Vertex} → IsTop main x → is_unpruned readings x ≡ true
+      → Contains (requirements_of main readings x) y → IsDeep main readings y
   -- every requirement of a deep vertex
-  from_deep : {x y : Vertex} → IsDeep main readings x → Contains (requirements_of main readings x) y → IsDeep main readings y
+  from_deep : {x y : Vertex} → IsDeep main readings x → Contains (requirements_of main readings x) y
+      → IsDeep main readings y
 
 abbrev pub IsOpened : Main → Readings → Vertex → Type 0
 IsOpened main readings x = IsTop main x ⊎ IsDeep main readings x
 
--- The requirements of the vertex are read for this depth: a deeply opened vertex is read for that, and one at the top for the top
--- where the main file is pruned, since else it is opened deeply too.
+-- The requirements of the vertex are read at this depth. Every deep vertex is read at full depth. A top vertex is
+-- read at the top only if the main file is pruned, since it is a deep one otherwise.
 abbrev pub TakesTurn : Main → Readings → Vertex → Depth → Type 0
 TakesTurn main readings x Top = (is_pruned_by main.go ≡ true) × IsTop main x
 TakesTurn main readings x Deep = IsDeep main readings x
 
--- an edge goes from the main module, or from an opened vertex, to each of its requirements
+-- An edge leads from the main module, or from an opened vertex, to each of its requirements.
 abbrev pub IsEdge : Main → Readings → Step → Vertex → Type 0
 IsEdge main readings FromMain y = IsTop main y
 IsEdge main readings (Of x) y = IsOpened main readings x × Contains (requirements_of main readings x) y
 
--- a vertex is the end of an edge
+-- An edge leads to the vertex.
 abbrev pub IsVertex : Main → Readings → Vertex → Type 0
 IsVertex main readings y = (from : Step) × IsEdge main readings from y

@@ -2,8 +2,8 @@ pub mod Graph
 pub mod Turns
 pub mod Marks
 pub mod Loading
-pub mod Leaving
-pub mod Gathering
-pub mod Following
+pub mod Adjacency
+pub mod Building
+pub mod Visiting
 pub mod Outcome
 pub mod Laws

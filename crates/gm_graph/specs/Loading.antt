@@ -1,53 +1,58 @@
--- What is asked and read, and when too much is opened.
+-- What is asked for and read, and when too many vertices are opened.
 use Rattle.std.specs.Prelude.{◌≡◌, ◌↔◌, ◌≤◌, ◌<◌, true, List, [], ◌∷◌, ◌++◌, length, Option, None, IsSome, Contains}
 use Rattle.std.specs.List.{IsDistinct}
 use Rattle.gm_store.specs.Asked.{Name, Reply, answer_in, same_name}
-use Rattle.gm_sums.specs.declared.sums.SumTable.{SumTable}
-use Rattle.gm_cache.specs.declared.depth.Depth.{Depth}
-use Rattle.gm_cache.specs.declared.depth.Turn.{Turn}
-use Rattle.gm_cache.specs.Main.{Main, Vertex}
-use Rattle.gm_cache.specs.Reading.{Held, Readings, file_of, is_askable, readings_by}
+use Rattle.gm_store_sums.specs.declared.sum_table.SumTable.{SumTable}
+use Rattle.gm_graph_cache.specs.declared.depth.Depth.{Depth}
+use Rattle.gm_graph_cache.specs.declared.depth.Turn.{Turn}
+use Rattle.gm_graph_cache.specs.Main.{Main, Vertex}
+use Rattle.gm_graph_cache.specs.Reading.{Held, Readings, file_of, is_askable, readings_by}
 use Rattle.gm_graph.specs.Graph.{same_vertex}
-use Rattle.gm_cache.specs.Reading.{Tells}
+use Rattle.gm_graph_cache.specs.Reading.{Tells}
 use Rattle.gm_graph.specs.Graph.{IsOpened, TakesTurn}
 use Rattle.gm_graph.specs.Turns.{same_turn}
-use Rattle.gm_cache.specs.Turns.{turn}
+use Rattle.gm_graph_cache.specs.Turns.{turn}
 
--- This holds of what the answered files say of each vertex.
+-- This holds for the readings of the answered files.
 abbrev pub Told : Main → Option SumTable → List (Name × Reply) → (Readings → Type 0) → Type 0
 Told main sums pairs P = (held : Held) × Tells sums pairs held × P (readings_by main held)
 
--- the file of a vertex was answered, unless it is not asked for
+-- The file of a vertex was answered, unless it is not asked for.
 abbrev pub IsAnswered : Main → List (Name × Reply) → Vertex → Type 0
 IsAnswered main pairs x = is_askable (file_of main x) ≡ true → IsSome (answer_in pairs (file_of main x))
 
--- the name is that of the file of an opened vertex, and may be asked for
+-- The name is that of the file of an opened vertex, and may be asked for.
 abbrev pub IsNeeded : Main → Readings → Name → Type 0
-IsNeeded main readings name = (x : Vertex) × IsOpened main readings x × (file_of main x ≡ name) × (is_askable name ≡ true)
+IsNeeded main readings name = (x : Vertex) × IsOpened main readings x × (file_of main x ≡ name)
+    × (is_askable name ≡ true)
 
--- under these answers a name is needed that is not among them
+-- By these answers the name is needed, and it is not among them.
 abbrev pub IsDue : Main → Option SumTable → List (Name × Reply) → Name → Type 0
-IsDue main sums pairs name = Told main sums pairs (λ readings. IsNeeded main readings name) × (answer_in pairs name ≡ None)
+IsDue main sums pairs name = Told main sums pairs (λ readings. IsNeeded main readings name)
+    × (answer_in pairs name ≡ None)
 
--- each name in turn was due under the answers before it
+-- Each name was due by the answers before it.
 pub data AsksInTurn (main : Main) (sums : Option SumTable) : List (Name × Reply) → Type 0 where
   nothing : AsksInTurn main sums []
-  more : {pairs : List (Name × Reply)} {name : Name} (reply : Reply) → AsksInTurn main sums pairs → IsDue main sums pairs name → AsksInTurn main sums (pairs ++ (name, reply) ∷ [])
+  more : {pairs : List (Name × Reply)} {name : Name} (reply : Reply) → AsksInTurn main sums pairs
+      → IsDue main sums pairs name → AsksInTurn main sums (pairs ++ (name, reply) ∷ [])
 
--- The names are those of the files of the opened vertices that may be asked for, each once.
+-- The names are those of the files of the opened vertices that may be asked for, without duplicates.
 pub record AreAsked (main : Main) (readings : Readings) (names : List Name) : Type 0 where
   pub once : IsDistinct same_name names
   pub each : (name : Name) → Contains names name ↔ IsNeeded main readings name
 
--- One turn for each vertex that is opened deeply, and, where the main file is pruned, one for each at the top.
+-- One turn for each vertex that is opened at full depth, and, if the main file is pruned, one for each at the top.
 pub record AreTurns (main : Main) (readings : Readings) (turns : List Turn) : Type 0 where
   pub once : IsDistinct same_turn turns
   pub each : (x : Vertex) (d : Depth) → Contains turns (turn x d) ↔ TakesTurn main readings x d
 
--- more than 65,536 vertices are opened
+-- More than 65,536 vertices are opened.
 abbrev pub AreTooMany : Main → Readings → Type 0
-AreTooMany main readings = (all : List Vertex) × (65536 < length all) × IsDistinct same_vertex all × ((x : Vertex) → Contains all x → IsOpened main readings x)
+AreTooMany main readings = (all : List Vertex) × (65536 < length all) × IsDistinct same_vertex all
+    × ((x : Vertex) → Contains all x → IsOpened main readings x)
 
--- at most 65,536 vertices are opened
+-- At most 65,536 vertices are opened.
 abbrev pub AreFew : Main → Readings → Type 0
-AreFew main readings = (all : List Vertex) → IsDistinct same_vertex all → ((x : Vertex) → Contains all x → IsOpened main readings x) → length all ≤ 65536
+AreFew main readings = (all : List Vertex) → IsDistinct same_vertex all
+    → ((x : Vertex) → Contains all x → IsOpened main readings x) → length all ≤ 65536

@@ -1,15 +1,15 @@
--- What loading found, as lists.
+-- The result of loading, as lists.
 use Rattle.std.specs.Prelude.{◌≡◌, ◌↔◌, ℕ, List, Some, Contains, AllPairs}
 use Rattle.std.specs.declared.cmp.Ordering.TheVariants.{Less}
 use Rattle.gm_store.specs.Asked.{Name, Reply, names_in}
-use Rattle.gm_cache.specs.declared.depth.Turn.{Turn}
-use Rattle.gm_cache.specs.Main.{Main, Vertex}
-use Rattle.gm_cache.specs.Reading.{Readings, fault_of}
-use Rattle.gm_select.specs.declared.step.Edge.{Edge}
-use Rattle.gm_select.specs.BuildList.{Entry, IsBuildList}
-use Rattle.gm_select.specs.Chains.{IsReached}
-use Rattle.gm_select.specs.Graph.{among, edge_cmp, vertex_cmp}
-use Rattle.gm_select.specs.Order.{IsAscending}
+use Rattle.gm_graph_cache.specs.declared.depth.Turn.{Turn}
+use Rattle.gm_graph_cache.specs.Main.{Main, Vertex}
+use Rattle.gm_graph_cache.specs.Reading.{Readings, fault_of}
+use Rattle.gm_graph_select.specs.declared.step.Edge.{Edge}
+use Rattle.gm_graph_select.specs.BuildList.{Entry, IsBuildList}
+use Rattle.gm_graph_select.specs.Chains.{IsReached}
+use Rattle.gm_graph_select.specs.Graph.{among, edge_cmp, vertex_cmp}
+use Rattle.gm_graph_select.specs.Order.{IsAscending}
 use Rattle.gm_graph.specs.declared.fault.Fault.{Fault}
 use Rattle.gm_graph.specs.Graph.{IsEdge, IsOpened}
 use Rattle.gm_graph.specs.Loading.{AreAsked, AreFew, AreTurns, IsAnswered}
@@ -22,18 +22,19 @@ pub record Outcome : Type 0 where
   pub rows : List Entry
   pub turns : List Turn
 
--- each opened vertex with a fault once, with that fault, in strictly ascending order
+-- Each opened vertex with a fault, with that fault, in strictly ascending order.
 pub record AreFaults (main : Main) (readings : Readings) (faults : List Fault) : Type 0 where
   pub ascending : AllPairs (λ (a b : Fault). vertex_cmp a.vertex b.vertex ≡ Less) faults
-  pub each : (one : Fault) → Contains faults one ↔ (IsOpened main readings one.vertex × (fault_of readings one.vertex ≡ Some one.class))
+  pub each : (one : Fault) → Contains faults one
+      ↔ (IsOpened main readings one.vertex × (fault_of readings one.vertex ≡ Some one.class))
 
--- each edge once, in strictly ascending order
+-- Each edge, in strictly ascending order.
 pub record AreEdges (main : Main) (readings : Readings) (edges : List Edge) : Type 0 where
   pub ascending : IsAscending edge_cmp edges
   pub each : (one : Edge) → Contains edges one ↔ IsEdge main readings one.from one.to
 
--- What loading answers: everything is what the definitions make of what the files say, each opened vertex's file is known, no
--- other file was asked for, and at most 65,536 vertices are opened.
+-- The result of loading. Each part is what the definitions state for the contents of the files, the file of each
+-- opened vertex is known, no other file was asked for, and at most 65,536 vertices are opened.
 pub record IsLoaded (main : Main) (pairs : List (Name × Reply)) (loaded : Outcome) (readings : Readings) : Type 0 where
   pub main_is : loaded.main ≡ main.path
   pub faults : AreFaults main readings loaded.faults
@@ -44,7 +45,7 @@ pub record IsLoaded (main : Main) (pairs : List (Name × Reply)) (loaded : Outco
   pub asked : AreAsked main readings (names_in pairs)
   pub few : AreFew main readings
 
--- the edges ascend, and edges lead from the main module to each entry
+-- The edges are in strictly ascending order, and edges lead from the main module to each entry.
 pub record AreReached (edges : List Edge) (rows : List Entry) : Type 0 where
   pub ascending : IsAscending edge_cmp edges
   pub reached : (entry : Entry) → Contains rows entry → ¬ (¬ (IsReached (among edges) entry.0))

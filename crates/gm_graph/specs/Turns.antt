@@ -1,21 +1,21 @@
--- The turns of a queue, which are followed one after another.
+-- The turns of a worklist, which are visited one after another.
 use Rattle.std.specs.Prelude.{◌≡◌, ◌<◌, Bool, true, false, List, [], ◌++◌, length, Contains, ◌⊎◌, Option, IsSome, ◌∷◌, ◌≤◌, ◌&&◌}
 use Rattle.std.specs.List.{IsDistinct}
 use Rattle.gm_file.specs.Fields.{Dependency}
-use Rattle.gm_cache.specs.declared.depth.Turn.{Turn}
-use Rattle.gm_cache.specs.declared.depth.Depth.{Depth}
-use Rattle.gm_cache.specs.declared.depth.Depth.TheVariants.{Top, Deep}
-use Rattle.gm_cache.specs.Main.{Main, Vertex, is_pruned_by}
-use Rattle.gm_cache.specs.Reading.{Readings, is_unpruned_in, requirements_of, said_in}
+use Rattle.gm_graph_cache.specs.declared.depth.Turn.{Turn}
+use Rattle.gm_graph_cache.specs.declared.depth.Depth.{Depth}
+use Rattle.gm_graph_cache.specs.declared.depth.Depth.TheVariants.{Top, Deep}
+use Rattle.gm_graph_cache.specs.Main.{Main, Vertex, is_pruned_by}
+use Rattle.gm_graph_cache.specs.Reading.{Readings, is_unpruned_in, requirements_of, said_in}
 use Rattle.gm_graph.specs.Graph.{same_vertex}
-use Rattle.gm_cache.specs.Turns.{turn}
+use Rattle.gm_graph_cache.specs.Turns.{turn}
 use Rattle.gm_graph.specs.Graph.{IsTop, TakesTurn}
 
--- a turn is one that its vertex takes
-abbrev pub IsTrueTurn : Main → Readings → Turn → Type 0
-IsTrueTurn main readings turn = TakesTurn main readings turn.vertex turn.depth
+-- A turn is one that its vertex takes.
+abbrev pub IsValidTurn : Main → Readings → Turn → Type 0
+IsValidTurn main readings turn = TakesTurn main readings turn.vertex turn.depth
 
--- what a turn requires is opened deeply
+-- Whether the requirements of a turn are opened.
 abbrev pub leads_on_in : Option Dependency → Depth → Bool
 leads_on_in summary Top = is_unpruned_in summary
 leads_on_in summary Deep = true
@@ -23,17 +23,18 @@ leads_on_in summary Deep = true
 abbrev pub leads_on : Readings → Vertex → Depth → Bool
 leads_on readings x = leads_on_in (said_in (readings x))
 
--- the leaves, with the requirements of a turn that leads no further
+-- the leaves, together with the requirements of a turn that leads no further
 abbrev pub leaves_with : Bool → List Vertex → List Vertex → List Vertex
 leaves_with true leaves xs = leaves
 leaves_with false leaves xs = leaves ++ xs
 
--- what the turn's vertex says is known, and what the turn leads to is among the turns
+-- What the turn's vertex says is known, and what the turn leads to is among the turns.
 pub record IsDone (main : Main) (readings : Readings) (turns : List Turn) (one : Turn) : Type 0 where
   pub answered : IsSome (readings one.vertex)
-  pub followed : leads_on readings one.vertex one.depth ≡ true → (y : Vertex) → Contains (requirements_of main readings one.vertex) y → Contains turns (turn y Deep)
+  pub followed : leads_on readings one.vertex one.depth ≡ true → (y : Vertex)
+      → Contains (requirements_of main readings one.vertex) y → Contains turns (turn y Deep)
 
--- new begins with old
+-- The new list begins with the old one.
 abbrev pub Extends : {X : Type 0} → List X → List X → Type 0
 Extends {X} old new = (more : List X) × (new ≡ old ++ more)
 
@@ -47,7 +48,7 @@ same_depth Deep Deep = true
 abbrev pub same_turn : Turn → Turn → Bool
 same_turn a b = same_vertex a.vertex b.vertex && same_depth a.depth b.depth
 
--- The turns and the vertices belong together: each vertex once, each turn once, and at most 65,536 vertices.
+-- The turns and the vertices are consistent: neither has duplicates, and there are at most 65,536 vertices.
 pub record AreTurnsOf (vertices : List Vertex) (turns : List Turn) : Type 0 where
   pub few : length vertices ≤ 65536
   pub vertices_once : IsDistinct same_vertex vertices
@@ -55,41 +56,45 @@ pub record AreTurnsOf (vertices : List Vertex) (turns : List Turn) : Type 0 wher
   pub has_turn : (x : Vertex) → Contains vertices x → (d : Depth) × Contains turns (turn x d)
   pub has_vertex : (one : Turn) → Contains turns one → Contains vertices one.vertex
 
--- new is old, or old with this turn at its end where it was not there
+-- The new list is the old one, with this turn appended unless it was there.
 abbrev pub AddsTurn : List Turn → List Turn → Turn → Type 0
 AddsTurn old new one = (new ≡ old ++ one ∷ []) ⊎ ((new ≡ old) × Contains old one)
 
--- turns of these vertices to this depth were added, and no others
+-- Turns of these vertices at this depth were added, and no others.
 pub record AddsAll (old new : List Turn) (xs : List Vertex) (d : Depth) : Type 0 where
   pub extends : Extends old new
   pub each : (y : Vertex) → Contains xs y → Contains new (turn y d)
   pub only : (one : Turn) → Contains new one → Contains old one ⊎ ((y : Vertex) × Contains xs y × (one ≡ turn y d))
 
--- what a turn leads to was added, and nothing else
-pub record Follows (main : Main) (readings : Readings) (old new : List Turn) (one : Turn) : Type 0 where
+-- What a turn leads to was added, and nothing else.
+pub record Visits (main : Main) (readings : Readings) (old new : List Turn) (one : Turn) : Type 0 where
   pub extends : Extends old new
   pub done : IsDone main readings new one
-  pub only : (next : Turn) → Contains new next → Contains old next ⊎ ((leads_on readings one.vertex one.depth ≡ true) × ((y : Vertex) × Contains (requirements_of main readings one.vertex) y × (next ≡ turn y Deep)))
+  pub only : (next : Turn) → Contains new next
+      → Contains old next ⊎ ((leads_on readings one.vertex one.depth ≡ true)
+      × ((y : Vertex) × Contains (requirements_of main readings one.vertex) y × (next ≡ turn y Deep)))
 
--- each turn is one that its vertex takes
-abbrev pub AllTrue : Main → Readings → List Turn → Type 0
-AllTrue main readings turns = (one : Turn) → Contains turns one → IsTrueTurn main readings one
+-- Each turn is one that its vertex takes.
+abbrev pub AllValidTurns : Main → Readings → List Turn → Type 0
+AllValidTurns main readings turns = (one : Turn) → Contains turns one → IsValidTurn main readings one
 
--- the turns that the main file gives, and no others
+-- The turns are exactly those of the main file's requirements.
 pub record AreFirstTurns (main : Main) (turns : List Turn) : Type 0 where
   pub tops : is_pruned_by main.go ≡ true → (x : Vertex) → IsTop main x → Contains turns (turn x Top)
   pub deeps : is_pruned_by main.go ≡ false → (x : Vertex) → IsTop main x → Contains turns (turn x Deep)
-  pub sound : (readings : Readings) → AllTrue main readings turns
+  pub sound : (readings : Readings) → AllValidTurns main readings turns
 
 -- the depth of the first turns
 abbrev pub depth_by : Bool → Depth
 depth_by true = Top
 depth_by false = Deep
 
--- more than 65,536 vertices, each once, which were there or are among these
+-- More than 65,536 distinct vertices were there or are among these.
 abbrev pub OverflowsWith : List Vertex → List Vertex → Type 0
-OverflowsWith vertices xs = (all : List Vertex) × (65536 < length all) × IsDistinct same_vertex all × ((x : Vertex) → Contains all x → Contains vertices x ⊎ Contains xs x)
+OverflowsWith vertices xs = (all : List Vertex) × (65536 < length all) × IsDistinct same_vertex all
+    × ((x : Vertex) → Contains all x → Contains vertices x ⊎ Contains xs x)
 
--- the vertices that were there overflow with what the turn leads to
-abbrev pub FollowOverflows : Main → Readings → List Vertex → Vertex → Depth → Type 0
-FollowOverflows main readings vertices x d = (leads_on readings x d ≡ true) × OverflowsWith vertices (requirements_of main readings x)
+-- The vertices that were there, together with what the turn leads to, are too many.
+abbrev pub VisitOverflows : Main → Readings → List Vertex → Vertex → Depth → Type 0
+VisitOverflows main readings vertices x d = (leads_on readings x d ≡ true)
+    × OverflowsWith vertices (requirements_of main readings x)

@@ -1,25 +1,30 @@
-//! Laws over the definitions, on which the crates above may rest. The functions do nothing: each contract is a law.
+//! Laws over the definitions, for use in the proofs of the crates above. The functions do nothing: each contract is
+//! a law.
+//!
+//! They show that the definitions mean what the Go Modules Reference says, independently of any code.
 
 ghost use Rattle.gm_graph.specs.Laws.{OneAnswer, OneLoading, RowsAreRequired, RowsSatisfy, UnprunedIsPlain};
 
-/// Each row's version is required by the main module or by an opened vertex (Go Modules Reference, "Minimal version selection").
+/// Each row's version is required by the main module or by an opened vertex (Go Modules Reference, "Minimal version
+/// selection").
 pub fn rows_are_required()
     ensures { RowsAreRequired }
 {}
 
-/// Each requirement of the main module or of an opened vertex, but for those on the main module's path, has a row, whose version is
-/// not below the one required (Go Modules Reference, "Minimal version selection").
+/// Each requirement of the main module or of an opened vertex has a row, whose version is not below the required
+/// one. Requirements on the main module's path are excepted (Go Modules Reference, "Minimal version selection").
 pub fn rows_satisfy()
     ensures { RowsSatisfy }
 {}
 
-/// Where the main file is not pruned, what is opened is what requirements reach: plain minimal version selection.
+/// If the main file is unpruned, exactly the vertices that requirements reach are opened: plain minimal version
+/// selection.
 pub fn unpruned_is_plain()
     ensures { UnprunedIsPlain }
 {}
 
-/// What the files say makes one list of faults, one list of edges and one build list; so the main file, the go.sum and the store's
-/// answers do.
+/// The contents of the files determine the list of faults, the list of edges and the build list. So do the main
+/// file, the go.sum and the store's answers.
 pub fn one_answer()
     ensures answer { OneAnswer }
     ensures loading { OneLoading }

@@ -1,15 +1,29 @@
-//! The module graph that a main module's file leads to.
+//! Loading the module graph of a main module from a store of go.mod files (Go Modules Reference, "Minimal version
+//! selection" and "Module graph pruning", <https://go.dev/ref/mod#graph-pruning>).
+//!
+//! Loading starts from the main module's requirements and follows requirements from file to file. How far it goes
+//! depends on pruning. If the main file is below go 1.17, all requirements are followed. Otherwise the requirements
+//! of a directly required module are followed only if that module's file is below go 1.17, and from there on all
+//! requirements are followed. The requirements of every module that is read become edges of the graph, and the
+//! build list follows from the edges.
+//!
+//! For example, let a main file with go 1.21 require `a v1.0.0`, whose file has go 1.20 and requires `b v1.0.0`.
+//! The file of `a` is read, so there is an edge to `b`, and `b` is in the build list. The file of `b` is not read.
+//! If the file of `a` had go 1.16, the file of `b` would be read too, and so would those of all its dependencies.
+//!
+//! Modules whose files are read are called opened here. Exactly the files of opened modules are asked for, each
+//! once.
 #![tactic(auto)]
 
+mod adjacency;
 mod fault;
-mod following;
-mod gathering;
+mod graph_builder;
 pub mod laws;
-mod leaving;
 mod loaded;
 mod loading;
-mod opening;
 mod starting;
+mod visiting;
+mod worklist;
 
 pub use crate::fault::Fault;
 pub use crate::loaded::Loaded;

@@ -1,4 +1,4 @@
--- The base of a pseudo-version: one alone, a version, and lower than what stands on it.
+-- The base of a pseudo-version: it is unique, a version, and of lower precedence.
 use Rattle.std.proofs.Common.{◌≡◌, ◌↔◌, ◌==◌, ℕ, ◌-◌, ◌<◌, true, List, [], ◌∷◌, ◌++◌, length, codes, refl, sym, ap, subst, ◌∙◌, inl, inr, arith, append_assoc, length-append}
 use Rattle.std.proofs.lemmas.Bool.{cases_Bool}
 use Rattle.std.proofs.lemmas.List.{append_cancel_right}
@@ -49,7 +49,7 @@ pre-from : (pre : List ℕ) → list_all is_pre_identifier (parts pre) ≡ true 
 pre-from [] h = refl
 pre-from (b ∷ rest) h = h
 
--- what stands before `.0.` in a pre-release is one too
+-- the text before `.0.` in a pre-release is a pre-release too
 pub pre-before : (pre before time revision : List ℕ) → is_pre_release pre ≡ true → IsStamp pre (before ++ codes ".0.") time revision → is_pre_release before ≡ true
 pre-before pre before time revision valid stamp =
     let cut = front-identifiers pre before time revision stamp in
@@ -66,7 +66,7 @@ pre-before pre before time revision valid stamp =
 
 -- ---- the base
 
--- a pseudo-version stands on one version alone
+-- a pseudo-version has only one base
 pub base-unique : (version a b : List ℕ) → IsBase version a → IsBase version b → a ≡ b
 base-unique version a b x y = elim x.2 [
   | inl v ↦ elim y.2 [
@@ -139,7 +139,7 @@ base-version version base is_version is =
 parts-spelled : (text : List ℕ) (parts : Parts) → IsValid parts → text ≡ version_text parts → parts_in text ≡ parts
 parts-spelled text parts valid spelled = parts-read text parts (rw spelled (version_parts-complete parts valid))
 
--- and has lower precedence
+-- a base has lower precedence
 pub base-lower : (version base : List ℕ) → IsVersion version → IsBase version base → HasLowerPrecedence (parts_in base) (parts_in version)
 base-lower version base is_version is =
     let b = base-parts version base is_version is in

@@ -1,4 +1,4 @@
--- Which bytes stand in a path and in a version.
+-- Which bytes a path and a version can have.
 use Rattle.std.proofs.Common.{◌≡◌, ◌==◌, ℕ, ◌^◌, ◌<◌, Bool, true, List, [], ◌∷◌, ◌++◌, not, refl, inl, inr, arith}
 use Rattle.std.proofs.lemmas.Bool.{and_from}
 use Rattle.std.proofs.lemmas.Bool.Decides.{nat_tests}
@@ -20,7 +20,7 @@ use Rattle.gm_name.proofs.Paths.{element-bytes}
 
 -- ---- lists
 
--- what passes one test passes a weaker one
+-- a list that passes a test passes every weaker one
 weaker : {X : Type 0} (p q : X → Bool) → ((x : X) → p x ≡ true → q x ≡ true) → (xs : List X) → list_all p xs ≡ true → list_all q xs ≡ true
 weaker p q gives [] all = refl
 weaker p q gives (x ∷ xs) all = and_from _ _ (gives x (first_so _ _ all)) (weaker p q gives xs (second_so _ _ all))
@@ -39,7 +39,7 @@ all-join p c (x ∷ y ∷ rest) mark each =
 path-byte : (b : ℕ) → is_path_byte b ≡ true → is_byte_of_path b ≡ true
 path-byte b h = rw h refl
 
--- a path holds letters, digits, `-`, `.`, `_`, `~` and `/` alone
+-- a path has only letters, digits, `-`, `.`, `_`, `~` and `/`
 pub path-bytes : (text : List ℕ) → IsPath text → list_all is_byte_of_path text ≡ true
 path-bytes text path =
     let each = weaker is_element (λ e. list_all is_byte_of_path e) (λ e h. weaker is_path_byte is_byte_of_path path-byte e (element-bytes e h)) path.elements path.each in
@@ -65,7 +65,7 @@ pre-bytes (b ∷ rest) h =
     let each = weaker is_pre_identifier (λ p. list_all is_byte_of_version p) identifier-bytes (parts (b ∷ rest)) h in
     rw (join_with_byte-slice_split 46 (b ∷ rest)) at (all-join is_byte_of_version 46 (parts (b ∷ rest)) refl each)
 
--- a version holds letters, digits, `+`, `-` and `.` alone
+-- a version has only letters, digits, `+`, `-` and `.`
 pub version-bytes : (text : List ℕ) → IsVersion text → list_all is_byte_of_version text ≡ true
 version-bytes text version =
     let p = version.0 in
@@ -83,10 +83,10 @@ path-byte_no_bang b h = grind (arith, nat_tests)
 version-byte_no_bang : (b : ℕ) → is_byte_of_version b ≡ true → not (b == 33) ≡ true
 version-byte_no_bang b h = grind (arith, nat_tests)
 
--- no `!` stands in a path
+-- a path has no `!`
 pub path_has_no_bang : (text : List ℕ) → IsPath text → has_no_bang text ≡ true
 path_has_no_bang text path = weaker is_byte_of_path (λ b. not (b == 33)) path-byte_no_bang text (path-bytes text path)
 
--- no `!` stands in a version
+-- a version has no `!`
 pub version_has_no_bang : (text : List ℕ) → IsVersion text → has_no_bang text ≡ true
 version_has_no_bang text version = weaker is_byte_of_version (λ b. not (b == 33)) version-byte_no_bang text (version-bytes text version)

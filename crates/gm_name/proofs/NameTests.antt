@@ -1,4 +1,4 @@
--- The tests `is_path`, `is_version` and `does_fit` answer exactly where the facts `IsPath`, `IsVersion` and `Fits` hold.
+-- The tests `is_path`, `is_version` and `does_fit` agree with the facts `IsPath`, `IsVersion` and `Fits`.
 use Rattle.std.proofs.Common.{◌≡◌, ◌≢◌, ◌↔◌, ℕ, ◌-◌, ◌==◌, ◌&&◌, ◌||◌, ◌^◌, ◌<◌, ◌≤◌, nat_lt, nat_eq, Bool, true, false, not, List, [], ◌∷◌, ◌++◌, length, get_or, take, drop, codes, Option, Some, None, Result, Ok, Err, is_some, IfSome, IfNone, refl, sym, ap, subst, ◌∙◌, inl, inr, arith, rules, IsTrue}
 use Rattle.std.proofs.lemmas.Bool.{eq-eqb, eqb-true}
 use Rattle.std.proofs.lemmas.Bool.Decides.{Decides-eqb, nat_tests}
@@ -19,9 +19,9 @@ use Rattle.semver.specs.Parse.{Parts, version_parts}
 use Rattle.semver.specs.declared.error.Error.{Error}
 use Rattle.gm_name.specs.Element.{elements, is_element}
 use Rattle.gm_name.specs.Fit.{Fits, FitsMajor, build_of, major_of}
-use Rattle.gm_name.specs.Names.{at_least, dot_number, does_fit, ends_as_slash_version, fits_major, has_no_build, has_plain_build, is_decimal, is_path, is_version, major_in, number_after, number_in}
+use Rattle.gm_name.specs.Names.{at_least, dot_number, does_fit, ends_in_slash_version, fits_major, has_no_build, has_plain_build, is_decimal, is_path, is_version, major_in, number_after, number_in}
 use Rattle.gm_name.specs.Number.{IsNumber, starts_as_no_number}
-use Rattle.gm_name.specs.Path.{EndsAsSlashVersion, EndsInDotNumber, EndsInNumber, HasMajor, IsPath, IsUnderGopkg, is_digit_or_dot}
+use Rattle.gm_name.specs.Path.{EndsInSlashVersion, EndsInDotNumber, EndsInNumber, HasMajor, IsPath, IsUnderGopkg, is_digit_or_dot}
 use Rattle.gm_name.specs.Tail.{head, tail}
 use Rattle.gm_name.specs.Version.{HasPlainBuild, IsVersion}
 use Rattle.gm_name.specs.declared.major.Major.{Major}
@@ -31,7 +31,7 @@ use Rattle.gm_name.proofs.Marks.{decimal-digits, number_marked, number_unmarked}
 use Rattle.gm_name.proofs.Numbers.{starts-decimal}
 use Rattle.gm_name.proofs.Paths.{path-elements, path-from}
 
--- the answer passes, or nothing does
+-- the computed value satisfies the property, or no value does
 abbrev pub Tells : {X : Type 0} → Option X → (X → Type 0) → Type 0
 Tells (Some x) P = P x
 Tells {X} None P = (x : X) → ¬ (P x)
@@ -82,7 +82,7 @@ tells-none : {X : Type 0} (o : Option X) (P : X → Type 0) → Tells o P → If
 tells-none (Some x) P t = tt
 tells-none None P t = t
 
--- a number below 2 ^ 64 after the mark
+-- the number below 2 ^ 64 after the mark
 abbrev pub EndsSo : List ℕ → List ℕ → ℕ → Type 0
 EndsSo text mark n = (n < 2 ^ 64) × EndsInNumber text mark n
 
@@ -144,7 +144,7 @@ dot-major : (text : List ℕ) (r : Option ℕ) → IsUnderGopkg text → Tells r
 dot-major text (Some n) under ends = (under, ends.0, ends.1)
 dot-major text None under none = major_under text under (λ n small ends. none n (small, ends))
 
-slash-some : (text : List ℕ) (n : ℕ) (b : Bool) → b ≡ nat_lt n 2 → ¬ (IsUnderGopkg text) → EndsAsSlashVersion text → EndsSo text (codes "/v") n
+slash-some : (text : List ℕ) (n : ℕ) (b : Bool) → b ≡ nat_lt n 2 → ¬ (IsUnderGopkg text) → EndsInSlashVersion text → EndsSo text (codes "/v") n
     → Tells (option_map Slash (if b then None else Some n)) (HasMajor text)
 slash-some text n true is outside version ends = major_elsewhere text outside version (λ m low small e.
     let same = number-unique text (codes "/v") m n (omega arith) refl small ends.0 e ends.1 in
@@ -154,12 +154,12 @@ slash-some text n false is outside version ends =
     let low : 2 ≤ n = grind (arith, nat_tests) in
     (outside, low, ends.0, ends.1)
 
-slash-major : (text : List ℕ) (r : Option ℕ) → ¬ (IsUnderGopkg text) → EndsAsSlashVersion text → Tells r (EndsSo text (codes "/v")) → Tells (option_map Slash (option_and_then (at_least 2) r)) (HasMajor text)
+slash-major : (text : List ℕ) (r : Option ℕ) → ¬ (IsUnderGopkg text) → EndsInSlashVersion text → Tells r (EndsSo text (codes "/v")) → Tells (option_map Slash (option_and_then (at_least 2) r)) (HasMajor text)
 slash-major text (Some n) outside version ends = slash-some text n (nat_lt n 2) refl outside version ends
 slash-major text None outside version none = major_elsewhere text outside version (λ n low small e. none n (small, e))
 
 slash-tail : (text : List ℕ) (a b : Bool) → a ≡ nat_lt 0 (length (tail is_digit_or_dot text)) → b ≡ ends_with nat_eq (head is_digit_or_dot text) (codes "/v")
-    → (a && b) ≡ true ↔ EndsAsSlashVersion text
+    → (a && b) ≡ true ↔ EndsInSlashVersion text
 slash-tail text true b is ends =
     let some : 0 < length (tail is_digit_or_dot text) = grind (arith, nat_tests) in
     let t = slash_version text (head is_digit_or_dot text) (tail is_digit_or_dot text) b refl refl ends some in
@@ -168,22 +168,22 @@ slash-tail text false b is ends =
     let none : length (tail is_digit_or_dot text) ≡ 0 = grind (arith, nat_tests) in
     (λ e. cc e, λ v. absurd (slash_empty text (tail is_digit_or_dot text) refl none v))
 
-elsewhere-by : (text : List ℕ) (b : Bool) → b ≡ ends_as_slash_version text → ¬ (IsUnderGopkg text)
+elsewhere-by : (text : List ℕ) (b : Bool) → b ≡ ends_in_slash_version text → ¬ (IsUnderGopkg text)
     → Tells (if b then option_map Slash (option_and_then (at_least 2) (number_after (codes "/v") text)) else Some NoSuffix) (HasMajor text)
 elsewhere-by text true is outside =
     slash-major text (number_after (codes "/v") text) outside ((slash-tail text _ _ refl refl).0 (sym is)) (after-cases text (codes "/v") (omega arith) refl)
 elsewhere-by text false is outside = (outside, λ v. cc (is, (slash-tail text _ _ refl refl).1 v))
 
 major-by : (text : List ℕ) (b : Bool) → b ≡ starts_with nat_eq text (codes "gopkg.in/")
-    → Tells (if b then option_map Dot (dot_number text) else (if ends_as_slash_version text then option_map Slash (option_and_then (at_least 2) (number_after (codes "/v") text)) else Some NoSuffix)) (HasMajor text)
+    → Tells (if b then option_map Dot (dot_number text) else (if ends_in_slash_version text then option_map Slash (option_and_then (at_least 2) (number_after (codes "/v") text)) else Some NoSuffix)) (HasMajor text)
 major-by text true is =
     let under : IsUnderGopkg text = (drop 9 text, (starts_is Decides-eqb text (codes "gopkg.in/") true is).0 refl) in
     dot-major text (dot_number text) under (dot-cases text)
 major-by text false is =
     let outside : ¬ (IsUnderGopkg text) = λ under. cc ((starts_is Decides-eqb text (codes "gopkg.in/") false is).1 under.0 under.1) in
-    elsewhere-by text (ends_as_slash_version text) refl outside
+    elsewhere-by text (ends_in_slash_version text) refl outside
 
--- the major version that a path names is found
+-- the computed major version is the one that the path names
 pub major-cases : (text : List ℕ) → Tells (major_in text) (HasMajor text)
 major-cases text = major-by text (starts_with nat_eq text (codes "gopkg.in/")) refl
 
@@ -197,7 +197,7 @@ some-major : (text : List ℕ) (r : Option Major) (major : Major) → Tells r (H
 some-major text (Some other) major named has = refl
 some-major text None major none has = absurd (none major has)
 
--- the test of a path
+-- `is_path` decides `IsPath`
 pub path-tested : (text : List ℕ) → is_path text ≡ true ↔ IsPath text
 unfolding is_path
 path-tested text = (
@@ -232,7 +232,7 @@ begins-v : (text : List ℕ) → (get_or text 0 0 == 118) ≡ true → text ≡ 
 begins-v [] e = absurd cc
 begins-v (b ∷ rest) e = ap (λ (x : ℕ). x ∷ rest) (eqb-true b 118 e)
 
--- the test of a version
+-- `is_version` decides `IsVersion`
 pub version-tested : (text : List ℕ) → is_version text ≡ true ↔ IsVersion text
 unfolding is_version
 version-tested text = (
@@ -309,7 +309,7 @@ fit-by path version (Some major) named = (
 )
 fit-by path version None none = (λ e. absurd cc, λ fit. absurd (none fit.0 fit.1))
 
--- the test of a fit
+-- `does_fit` decides `Fits`
 pub fit-tested : (path version : List ℕ) → does_fit path version ≡ true ↔ Fits path version
 unfolding does_fit
 fit-tested path version = fit-by path version (major_in path) (major-cases path)
@@ -319,7 +319,7 @@ same-bool true b f g = sym (f refl)
 same-bool false true f g = g refl
 same-bool false false f g = refl
 
--- what `fits` answers is the test
+-- `fits` returns what the test computes
 pub test-is : (path version : List ℕ) (answer : Bool) → IsTrue answer ↔ Fits path version → answer ≡ does_fit path version
 test-is path version answer tells =
     same-bool answer (does_fit path version) (λ e. (fit-tested path version).1 (tells.0 e)) (λ e. tells.1 ((fit-tested path version).0 e))

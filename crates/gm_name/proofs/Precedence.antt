@@ -1,4 +1,4 @@
--- What `precedence` computes is section 11 of SemVer.
+-- `precedence` computes the order of section 11 of SemVer.
 use Rattle.std.proofs.Common.{◌≡◌, ◌↔◌, ◌⊎◌, ◌==◌, ℕ, ◌<◌, Bool, true, false, List, [], ◌∷◌, ◌++◌, length, refl, sym, ap, ◌∙◌, inl, inr, arith, append-nil}
 use Rattle.std.proofs.lemmas.Bool.{cases_Bool, eqb-true}
 use Rattle.std.proofs.lemmas.Bool.Decides.{nat_tests}
@@ -37,7 +37,7 @@ lower-step C R x y xs ys Less is lower same rest e = ([], inl (x, y, xs, ys, ref
 lower-step C R x y xs ys Equal is lower same rest e = lower-cons R x y xs ys (same is) (rest e)
 lower-step C R x y xs ys Greater is lower same rest e = cc e
 
--- where a comparison of items that pass answers `Less`, the item is lower; so of lists
+-- if `Less` means lower for items that pass, so it does for lists
 list-less : {X : Type 0} (C : X → X → Ordering) (R : X → X → Type 0) (pass : X → Bool)
     → ((x y : X) → pass x ≡ true → pass y ≡ true → C x y ≡ Less → R x y) → IsAntisymmetric C
     → (xs ys : List X) → list_all pass xs ≡ true → list_all pass ys ≡ true → slice_cmp C xs ys ≡ Less → IsLowerList R xs ys
@@ -57,7 +57,7 @@ cmp-front C self (x ∷ front) s t = rw (self x) (cmp-front C self front s t)
 pass-at : {X : Type 0} (pass : X → Bool) (front : List X) (x : X) (s : List X) → list_all pass (front ++ x ∷ s) ≡ true → pass x ≡ true
 pass-at pass front x s all = first_so _ _ (second_so _ _ (sym (list_all-append pass front (x ∷ s)) ∙ all))
 
--- and the other way
+-- conversely, if lower items compare as `Less`, so do lower lists
 less-list : {X : Type 0} (C : X → X → Ordering) (R : X → X → Type 0) (pass : X → Bool)
     → ((x y : X) → pass x ≡ true → pass y ≡ true → R x y → C x y ≡ Less) → ((x : X) → C x x ≡ Equal)
     → (xs ys : List X) → list_all pass xs ≡ true → list_all pass ys ≡ true → IsLowerList R xs ys → slice_cmp C xs ys ≡ Less
@@ -133,7 +133,7 @@ identifier-lower a b ha hb = elim (cases_Bool (is_numeric a)) [
 
 -- ---- pre-releases
 
--- the identifiers of a pre-release that isn't empty
+-- the identifiers of a non-empty pre-release
 identifiers-pass : (p : List ℕ) → 0 < length p → is_pre_release p ≡ true → list_all is_pre_identifier (parts p) ≡ true
 identifiers-pass [] some h = absurd (omega arith)
 identifiers-pass (b ∷ rest) some h = h
@@ -220,7 +220,7 @@ precedence-lower p q vp vq =
       ],
     )
 
--- what a chain of two comparisons that ties says
+-- what a tie of a chain of two comparisons says
 tie-first : (r s : Ordering) → ordering_then r s ≡ Equal → (r ≡ Equal) × (s ≡ Equal)
 tie-first Less s e = cc e
 tie-first Equal s e = (refl, e)
@@ -236,7 +236,7 @@ precedence-same p q = (
   λ same. rw (same.0, same.1, same.2, same.3) (rw (tied_itself nat_cmp_total q.0, tied_itself nat_cmp_total q.1, tied_itself nat_cmp_total q.2) (tied_itself pre_total q.3)),
 )
 
--- the other way round
+-- a comparison is `Greater` exactly if its reverse is `Less`
 turned-less : (r : Ordering) → (r ≡ Greater) ↔ (ordering_reverse r ≡ Less)
 turned-less Less = (λ e. cc e, λ e. cc e)
 turned-less Equal = (λ e. cc e, λ e. cc e)

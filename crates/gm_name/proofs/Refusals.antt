@@ -1,4 +1,4 @@
--- SemVer's reader refuses a text for what stands in it: its refusal is never that of memory.
+-- When SemVer's parser refuses a text that is not a version, the error is never the one for memory.
 use Rattle.std.proofs.Common.{◌≡◌, ◌==◌, ℕ, ◌^◌, Bool, true, false, List, [], ◌∷◌, cond, Result, Ok, Err, refl, sym}
 use Rattle.std.specs.Prelude.{⊤, ◌*◌, ◌+◌, ◌-◌, length, nat_le, nat_lt}
 use Rattle.std.specs.Char.{is_ascii_digit}
@@ -9,17 +9,17 @@ use Rattle.semver.specs.declared.error.Position.{Position}
 use Rattle.gm_name.specs.Version.{IsSemVer}
 use Rattle.gm_name.proofs.Versions.{version-read}
 
--- an answer that doesn't say that memory is short
+-- a result that is not the error for memory
 abbrev pub IsOfText : {A : Type 0} → Result A Error → Type 0
 IsOfText (Ok x) = ⊤
 IsOfText (Err e) = is_memory e.kind ≡ false
 
--- one of two answers
+-- one of two results
 either : {A : Type 0} (b : Bool) (r s : Result A Error) → IsOfText r → IsOfText s → IsOfText (cond b r s)
 either true r s p q = p
 either false r s p q = q
 
--- one reader after another
+-- one parser after another
 after : {A B : Type 0} (r : Result A Error) (f : A → Result B Error) → IsOfText r → ((x : A) → IsOfText (f x)) → IsOfText (r >>= f)
 after (Ok x) f p q = q x
 after (Err e) f p q = p
@@ -96,6 +96,6 @@ refused-by text rest (Err f) e v read of_text refused memory =
     let same : f ≡ e = cc (sym refused) in
     cc (of_text, same, memory)
 
--- where the reader answers that memory is short, the text is a version
+-- if the parser reports that memory ran out, the text is a version
 pub memory-version : (text rest : List ℕ) (e : Error) → text ≡ 118 ∷ rest → IsRefused {T = Version} (version_parts rest) (Err e) → e ≡ memory_error → IsSemVer text
 memory-version text rest e v refused memory = refused-by text rest (version_parts rest) e v refl (version_parts-text rest) refused memory

@@ -1,4 +1,4 @@
--- Laws of the definitions, each the contract of a function in `laws`.
+-- Laws about the definitions, each of them the contract of a function in `laws`.
 use Rattle.semver.specs.Grammar.{IsValid, is_pre_identifier}
 use Rattle.semver.specs.Order.{is_numeric, pre_part_cmp}
 use Rattle.std.specs.Ordering.{nat_cmp}
@@ -16,53 +16,58 @@ use Rattle.gm_name.specs.Pseudo.{IsBase, IsPseudo}
 use Rattle.semver.specs.Parse.{Parts}
 use Rattle.gm_name.specs.declared.major.Major.{Major}
 
--- a text with no '!' is what its escaped text unescapes to, and nothing else is
-abbrev pub EscapeReturns : Type 0
-EscapeReturns = (text : List ℕ) → has_no_bang text ≡ true → IsUnescaped text (escaped text) × ((other : List ℕ) → IsUnescaped other (escaped text) → other ≡ text)
+-- a text without '!' is what its escaped form unescapes to, and no other text is
+abbrev pub UnescapeInvertsEscape : Type 0
+UnescapeInvertsEscape = (text : List ℕ) → has_no_bang text ≡ true
+    → IsUnescaped text (escaped text) × ((other : List ℕ) → IsUnescaped other (escaped text) → other ≡ text)
 
--- the escaped texts are those made of such pieces
-abbrev pub EscapedIsPieces : Type 0
-EscapedIsPieces = (name : List ℕ) → is_escaped name ≡ true ↔ ((text : List ℕ) × IsUnescaped text name)
+-- the escaped texts are exactly the texts made of pieces (`is_escaped`)
+abbrev pub EscapedTextsAreTested : Type 0
+EscapedTextsAreTested = (name : List ℕ) → is_escaped name ≡ true ↔ ((text : List ℕ) × IsUnescaped text name)
 
--- no capital letter stands in an escaped text
-abbrev pub EscapedIsSmall : Type 0
-EscapedIsSmall = (text : List ℕ) → list_all (λ b. not (is_ascii_uppercase b)) (escaped text) ≡ true
+-- an escaped text has no upper-case letter
+abbrev pub EscapedIsLowerCase : Type 0
+EscapedIsLowerCase = (text : List ℕ) → list_all (λ b. not (is_ascii_uppercase b)) (escaped text) ≡ true
 
--- a path names one major version alone
+-- a path names only one major version
 abbrev pub OneMajor : Type 0
 OneMajor = (path : List ℕ) (a b : Major) → HasMajor path a → HasMajor path b → a ≡ b
 
 -- two versions that fit one path and have equal precedence are the same
 abbrev pub OneVersionForPrecedence : Type 0
-OneVersionForPrecedence = (path v w : List ℕ) → IsVersion v → IsVersion w → Fits path v → Fits path w → precedence (parts_in v) (parts_in w) ≡ Equal → v ≡ w
+OneVersionForPrecedence = (path v w : List ℕ) → IsVersion v → IsVersion w → Fits path v → Fits path w
+    → precedence (parts_in v) (parts_in w) ≡ Equal → v ≡ w
 
--- section 11.4.1 of SemVer: numeric identifiers of pre-releases are ordered as their numbers
+-- section 11.4.1 of SemVer: numeric identifiers of pre-releases are ordered as numbers
 abbrev pub NumericIdentifiersByNumber : Type 0
-NumericIdentifiersByNumber = (a b : List ℕ) → is_pre_identifier a ≡ true → is_pre_identifier b ≡ true → is_numeric a ≡ true → is_numeric b ≡ true
+NumericIdentifiersByNumber = (a b : List ℕ) → is_pre_identifier a ≡ true → is_pre_identifier b ≡ true
+    → is_numeric a ≡ true → is_numeric b ≡ true
     → pre_part_cmp a b ≡ nat_cmp (number_of a) (number_of b)
 
 -- a version is the text of its parts, which are valid and have a plain build, and of no other valid parts
 abbrev pub VersionIsSpelled : Type 0
-VersionIsSpelled = (text : List ℕ) → IsVersion text → IsValid (parts_in text) × HasPlainBuild (parts_in text) × (text ≡ version_text (parts_in text))
+VersionIsSpelled = (text : List ℕ) → IsVersion text
+    → IsValid (parts_in text) × HasPlainBuild (parts_in text) × (text ≡ version_text (parts_in text))
     × ((parts : Parts) → IsValid parts → text ≡ version_text parts → parts ≡ parts_in text)
 
--- a version is a pseudo-version of one form, with one time and one revision
+-- a version is a pseudo-version of at most one form, with one time and one revision
 abbrev pub OnePseudo : Type 0
-OnePseudo = (version : List ℕ) (a b : ℕ) (s t q r : List ℕ) → IsPseudo version a s q → IsPseudo version b t r → (a ≡ b) × (s ≡ t) × (q ≡ r)
+OnePseudo = (version : List ℕ) (a b : ℕ) (s t q r : List ℕ) → IsPseudo version a s q → IsPseudo version b t r
+    → (a ≡ b) × (s ≡ t) × (q ≡ r)
 
--- a text passes the test of a path where it is a module path
+-- a text passes the test of a path exactly when it is a module path
 abbrev pub PathsAreTested : Type 0
 PathsAreTested = (text : List ℕ) → is_path text ≡ true ↔ IsPath text
 
--- a text passes the test of a version where it is a version
+-- a text passes the test of a version exactly when it is a version
 abbrev pub VersionsAreTested : Type 0
 VersionsAreTested = (text : List ℕ) → is_version text ≡ true ↔ IsVersion text
 
--- a version passes the test of a path where it fits it
+-- a version passes the test for a path exactly when it fits the path
 abbrev pub FitsAreTested : Type 0
 FitsAreTested = (path version : List ℕ) → does_fit path version ≡ true ↔ Fits path version
 
--- section 11 of SemVer: what `precedence` answers for two versions is the standard's rule
+-- section 11 of SemVer: `precedence` computes the standard's rule
 abbrev pub LowerPrecedence : Type 0
 LowerPrecedence = (p q : Parts) → IsValid p → IsValid q → (precedence p q ≡ Less) ↔ HasLowerPrecedence p q
 
@@ -72,7 +77,7 @@ SamePrecedence = (p q : Parts) → IsValid p → IsValid q → (precedence p q �
 abbrev pub HigherPrecedence : Type 0
 HigherPrecedence = (p q : Parts) → IsValid p → IsValid q → (precedence p q ≡ Greater) ↔ HasLowerPrecedence q p
 
--- a version has one base at most
+-- a version has at most one base
 abbrev pub OneBase : Type 0
 OneBase = (version a b : List ℕ) → IsBase version a → IsBase version b → a ≡ b
 
@@ -80,22 +85,24 @@ OneBase = (version a b : List ℕ) → IsBase version a → IsBase version b →
 abbrev pub BaseIsVersion : Type 0
 BaseIsVersion = (version base : List ℕ) → IsVersion version → IsBase version base → IsVersion base
 
--- and has lower precedence than the version that stands on it
+-- a base has lower precedence than the pseudo-version
 abbrev pub BaseIsLower : Type 0
-BaseIsLower = (version base : List ℕ) → IsVersion version → IsBase version base → HasLowerPrecedence (parts_in base) (parts_in version)
+BaseIsLower = (version base : List ℕ) → IsVersion version → IsBase version base
+    → HasLowerPrecedence (parts_in base) (parts_in version)
 
--- the versions with a base are the pseudo-versions of the second and third form
+-- the versions with a base are the pseudo-versions of the second and third forms
 abbrev pub BaseForms : Type 0
-BaseForms = (version : List ℕ) → ((base : List ℕ) × IsBase version base) ↔ ((form : ℕ) × (time revision : List ℕ) × (1 < form) × IsPseudo version form time revision)
+BaseForms = (version : List ℕ) → ((base : List ℕ) × IsBase version base)
+    ↔ ((form : ℕ) × (time revision : List ℕ) × (1 < form) × IsPseudo version form time revision)
 
--- which bytes stand in a path, and which in a version
+-- which bytes a path can have, and which a version
 abbrev pub BytesOfPath : Type 0
 BytesOfPath = (text : List ℕ) → IsPath text → list_all is_byte_of_path text ≡ true
 
 abbrev pub BytesOfVersion : Type 0
 BytesOfVersion = (text : List ℕ) → IsVersion text → list_all is_byte_of_version text ≡ true
 
--- no `!` is among them
+-- `!` is not among them
 abbrev pub PathHasNoBang : Type 0
 PathHasNoBang = (text : List ℕ) → IsPath text → has_no_bang text ≡ true
 
@@ -103,8 +110,8 @@ abbrev pub VersionHasNoBang : Type 0
 VersionHasNoBang = (text : List ℕ) → IsVersion text → has_no_bang text ≡ true
 
 -- so different paths, and different versions, have different escaped texts
-abbrev pub PathsEscapeApart : Type 0
-PathsEscapeApart = (p q : List ℕ) → IsPath p → IsPath q → escaped p ≡ escaped q → p ≡ q
+abbrev pub PathEscapingIsInjective : Type 0
+PathEscapingIsInjective = (p q : List ℕ) → IsPath p → IsPath q → escaped p ≡ escaped q → p ≡ q
 
-abbrev pub VersionsEscapeApart : Type 0
-VersionsEscapeApart = (v w : List ℕ) → IsVersion v → IsVersion w → escaped v ≡ escaped w → v ≡ w
+abbrev pub VersionEscapingIsInjective : Type 0
+VersionEscapingIsInjective = (v w : List ℕ) → IsVersion v → IsVersion w → escaped v ≡ escaped w → v ≡ w

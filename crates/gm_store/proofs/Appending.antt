@@ -1,11 +1,11 @@
--- Bytes that are appended one piece after another.
+-- Bytes that are appended piece by piece.
 use Rattle.std.proofs.Common.{◌≡◌, min, ◌+◌, ◌-◌, ◌≤◌, ℕ, List, [], ◌++◌, length, take, drop, Option, Some, None, Ok, ap, ◌∙◌, sym, arith, append_assoc, append-nil, take-add}
 use Rattle.std.proofs.lemmas.Grind.{common_steps}
 use Rattle.std.specs.Io.KnownBytes.{Appends, Keeps}
 use Rattle.gm_store.specs.Taken.{TakesWhatFits}
 use Rattle.gm_store.specs.declared.sinks.WriteFault.{WriteFault}
 
--- what is left of the room of a sink after it took so many bytes, where the room is known
+-- the room of a sink after it took `count` bytes, if the room is known
 abbrev pub RoomLeft : Option ℕ → Option ℕ → ℕ → Type 0
 RoomLeft None new count = new ≡ None
 RoomLeft (Some room) new count = (count ≤ room) × (new ≡ Some (room - count))
@@ -29,11 +29,11 @@ appends_kept (Some a) (Some b) (Some c) xs g h = h ∙ g
 whole_rest : (piece : List ℕ) (at : ℕ) → take (length piece - at) (drop at piece) ≡ drop at piece
 whole_rest piece at = grind (arith, common_steps)
 
--- the front of a piece with more of what comes after it, as `&piece[at..]` has it
+-- a longer prefix of a piece is a shorter one and a prefix of the rest, as the slice `&piece[at..]` has it
 pub front_more : (piece : List ℕ) (at n : ℕ) → take (at + n) piece ≡ take at piece ++ take n (take (length piece - at) (drop at piece))
 front_more piece at n = take-add at n piece ∙ ap (λ (t : List ℕ). take at piece ++ take n t) (sym (whole_rest piece at))
 
--- what is left after one more write that took this many bytes
+-- the room after one more write, which took `count` bytes
 pub room_more : (old mid new : Option ℕ) (at count : ℕ) (rest : List ℕ) → RoomLeft old mid at → TakesWhatFits {E = WriteFault} mid new rest (Ok count) → RoomLeft old new (at + count)
 room_more None None new at count rest e h = h
 room_more None (Some mid) new at count rest e h = cc e

@@ -1,10 +1,10 @@
--- What a reader has given is the front of what it had.
+-- The bytes that a reader has yielded are a prefix of those that it had.
 use Rattle.std.proofs.Common.{◌≡◌, ℕ, ◌≤◌, List, [], ◌∷◌, ◌<◌, ◌++◌, append-nil, refl, subst, length, take, Option, Some, None, IfSome, ◌∙◌, sym, arith}
 use Rattle.std.proofs.lemmas.Grind.{common_steps}
 use Rattle.std.specs.Io.KnownBytes.{Consumes, IsAtEnd}
 use Rattle.gm_store.specs.Pieces.{AddsPiece}
 
--- a full front of what the reader had
+-- the first n bytes that the reader had, if n bytes were read
 pub full_front : (n : ℕ) (old new : Option (List ℕ)) (bs : List ℕ) → Consumes old new bs → length bs ≤ n → n ≤ length bs → IfSome old (λ all. bs ≡ take n all)
 full_front n None new bs h short long = tt
 full_front n (Some all) None bs h short long = absurd h
@@ -24,7 +24,7 @@ no_piece : (piece : List ℕ) → length piece ≡ 0 → piece ≡ []
 no_piece [] e = refl
 no_piece (x ∷ xs) e = absurd (omega arith)
 
--- all that the reader had, where a last read gave nothing
+-- all bytes that the reader had, if the last read yielded none
 pub ended_by : (n room count : ℕ) (old mid new : Option (List ℕ)) (before after : List ℕ) → Consumes old mid before → length before ≤ n → AddsPiece mid new before after room count → count ≡ 0 → 0 < room → IfSome old (λ all. after ≡ take n all)
 ended_by n room count old mid new before after h short p zero some =
     let none : p.piece ≡ [] = no_piece p.piece (p.counted ∙ zero) in

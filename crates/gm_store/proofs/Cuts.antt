@@ -1,4 +1,4 @@
--- A proxy list, one character after another.
+-- Parsing a proxy list character by character.
 use Rattle.std.proofs.Common.{◌≡◌, ◌<◌, ◌≤◌, ◌+◌, ◌/◌, ◌%◌, ℕ, true, false, not, List, [], ◌∷◌, ◌++◌, length, map, ap, ◌∙◌, sym, refl, inl, inr, arith, append_assoc, append-nil, length-append, map-id, Global, String}
 use Rattle.std.proofs.lemmas.Bool.{cases_lt, le-ltb, lt-ltb}
 use Rattle.std.proofs.lemmas.Bool.Decides.{nat_tests}
@@ -11,9 +11,9 @@ use Rattle.std.specs.List.{filter, list_all, slice_split}
 use Rattle.std.specs.Prelude.{encode_utf8_all}
 use Rattle.std.specs.Str.{IsUtf8, chars}
 use Rattle.std.specs.String.{string_bytes}
-use Rattle.gm_store.specs.Cutting.{IsCut}
+use Rattle.gm_store.specs.Cutting.{IsParsedPrefix}
 use Rattle.gm_store.specs.Proxies.{is_mark, mark_of}
-use Rattle.gm_store.specs.declared.proxies.Mark.{Mark}
+use Rattle.gm_store.specs.declared.proxy_list.Mark.{Mark}
 use Rattle.gm_store.proofs.Splits.{glue, glue-last, not_false, split-append, split_plain}
 
 high : (b : ℕ) → 128 ≤ b → not (is_mark b) ≡ true
@@ -42,9 +42,9 @@ filter-joined xs ys = filter-append is_mark xs ys
 small_mark : (c : ℕ) → is_mark c ≡ true → c < 128
 small_mark c e = grind (arith, nat_tests)
 
--- one more character that is no mark
+-- one more character, not a mark: it is appended to the folder in progress
 pub push_plain : (text : List ℕ) (folders : List (String Global)) (marks : List Mark) (folder next : String Global) (c : ℕ)
-    → is_mark c ≡ false → string_bytes next ≡ string_bytes folder ++ encode_utf8 c → IsCut text folders marks folder → IsCut (text ++ encode_utf8 c) folders marks next
+    → is_mark c ≡ false → string_bytes next ≡ string_bytes folder ++ encode_utf8 c → IsParsedPrefix text folders marks folder → IsParsedPrefix (text ++ encode_utf8 c) folders marks next
 push_plain text folders marks folder next c plain grown cut =
     let none = no_mark c plain in
     record {
@@ -63,9 +63,9 @@ split_mark c e = rw e refl
 filter_mark : (c : ℕ) → is_mark c ≡ true → filter is_mark (c ∷ []) ≡ c ∷ []
 filter_mark c e = rw e refl
 
--- one more character that is a mark
+-- one more character, a mark: it ends the folder in progress
 pub push_mark : (text : List ℕ) (folders ended : List (String Global)) (marks more : List Mark) (folder next : String Global) (c : ℕ)
-    → is_mark c ≡ true → ended ≡ folders ++ folder ∷ [] → more ≡ marks ++ mark_of c ∷ [] → string_bytes next ≡ [] → IsCut text folders marks folder → IsCut (text ++ encode_utf8 c) ended more next
+    → is_mark c ≡ true → ended ≡ folders ++ folder ∷ [] → more ≡ marks ++ mark_of c ∷ [] → string_bytes next ≡ [] → IsParsedPrefix text folders marks folder → IsParsedPrefix (text ++ encode_utf8 c) ended more next
 push_mark text folders ended marks more folder next c mark end grown empty cut =
     let one : encode_utf8 c ≡ c ∷ [] = encode_ascii c (small_mark c mark) in
     record {
@@ -83,10 +83,10 @@ push_mark text folders ended marks more folder next c mark end grown empty cut =
       between = ap length end ∙ length-append folders (folder ∷ []) ∙ ap (λ n. n + 1) cut.between ∙ sym (length-append marks (mark_of c ∷ [])) ∙ sym (ap length grown);
     }
 
--- a text that is read in order, one character more
+-- the encoding of characters, with one more character
 pub cut_more : (cs : List ℕ) (c : ℕ) → encode_utf8_all (cs ++ c ∷ []) ≡ encode_utf8_all cs ++ encode_utf8 c
 cut_more cs c = encodes-append cs (c ∷ []) ∙ ap (λ (t : List ℕ). encode_utf8_all cs ++ t) (append-nil (encode_utf8 c))
 
--- the whole text, once each character has come
+-- after all characters, their encoding is the whole text
 pub cut_whole : (text cs : List ℕ) → map (λ x. x) cs ≡ chars text → IsUtf8 text → encode_utf8_all cs ≡ text
 cut_whole text cs all utf8 = ap encode_utf8_all (sym (map-id cs) ∙ all) ∙ encodes-chars text utf8

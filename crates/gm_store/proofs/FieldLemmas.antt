@@ -1,4 +1,4 @@
--- The fields of a line, one word after another.
+-- The fields of a line: its first word, and then the fields of the rest.
 use Rattle.std.proofs.Common.{◌≡◌, ◌+◌, ◌-◌, ◌==◌, ℕ, Bool, true, false, suc, List, [], ◌∷◌, length, take, drop, ap, ◌∙◌, sym, refl, arith}
 use Rattle.std.proofs.lemmas.Grind.{common_steps}
 use Rattle.std.proofs.lemmas.Bool.Decides.{Decides-eqb, nat_tests}
@@ -6,7 +6,7 @@ use Rattle.std.proofs.lemmas.List.Splits.{slice_split-cons_no, slice_split-cons_
 use Rattle.std.specs.Prelude.{nat_lt}
 use Rattle.std.specs.List.{filter, onto_first, position_or_len, slice_split}
 use Rattle.gm_store.specs.Lines.{after_blanks, fields, first_word, is_blank}
-use Rattle.gm_store.specs.Words.{put_word}
+use Rattle.gm_store.specs.Words.{prepend_word}
 
 fields-blank : (b : ℕ) (xs : List ℕ) → is_blank b ≡ true → fields (b ∷ xs) ≡ fields xs
 fields-blank b xs e = ap (filter (λ word. nat_lt 0 (length word))) (slice_split-cons_yes is_blank b xs e)
@@ -51,7 +51,8 @@ long_word x word others = let some : nat_lt 0 (length (x ∷ word)) ≡ true = g
 suc_none : (n : ℕ) → (suc n == 0) ≡ true → ⊥
 suc_none n e = let never : suc n ≡ 0 = (Decides-eqb (suc n) 0).0 e in omega arith
 
--- the first part of a split at blanks, and what the others hold
+-- the first part of a split at blanks is the bytes before the first blank, and the other parts have the fields of
+-- the rest
 record CutsWord (xs : List ℕ) : Type 0 where
   others : List (List ℕ)
   cut : slice_split is_blank xs ≡ take (position_or_len is_blank xs) xs ∷ others
@@ -73,7 +74,7 @@ cuts_word : (xs : List ℕ) → CutsWord xs
 cuts_word [] = record { others = []; cut = refl; rest = refl }
 cuts_word (x ∷ xs) = word_step x xs (is_blank x) refl (cuts_word xs)
 
-fields_from : (xs : List ℕ) → ((c : ℕ) (ys : List ℕ) → xs ≡ c ∷ ys → is_blank c ≡ false) → fields xs ≡ put_word (take (position_or_len is_blank xs) xs) (fields (drop (position_or_len is_blank xs) xs))
+fields_from : (xs : List ℕ) → ((c : ℕ) (ys : List ℕ) → xs ≡ c ∷ ys → is_blank c ≡ false) → fields xs ≡ prepend_word (take (position_or_len is_blank xs) xs) (fields (drop (position_or_len is_blank xs) xs))
 fields_from [] word = refl
 fields_from (x ∷ xs) word =
     let e = word x xs refl in
@@ -81,24 +82,24 @@ fields_from (x ∷ xs) word =
     ap (filter (λ word. nat_lt 0 (length word))) (w.cut ∙ ap (λ word. word ∷ w.others) (take_before x xs e))
     ∙ long_word x (take (position_or_len is_blank xs) xs) w.others
     ∙ ap (λ rest. (x ∷ take (position_or_len is_blank xs) xs) ∷ rest) w.rest
-    ∙ ap (λ word. put_word word (fields (drop (position_or_len is_blank (x ∷ xs)) (x ∷ xs)))) (sym (take_before x xs e))
+    ∙ ap (λ word. prepend_word word (fields (drop (position_or_len is_blank (x ∷ xs)) (x ∷ xs)))) (sym (take_before x xs e))
 
--- the fields of a line are its first word, if there is one, and the fields after it
-pub fields_step : (line : List ℕ) → fields line ≡ put_word (first_word line) (fields (drop (position_or_len is_blank (after_blanks line)) (after_blanks line)))
+-- the fields of a line are its first word, if there is one, and the fields of the rest
+pub fields_step : (line : List ℕ) → fields line ≡ prepend_word (first_word line) (fields (drop (position_or_len is_blank (after_blanks line)) (after_blanks line)))
 fields_step line = fields-after line ∙ fields_from (after_blanks line) (begins line)
 
 pub drop_whole : (n : ℕ) (xs : List ℕ) → take (length xs - n) (drop n xs) ≡ drop n xs
 drop_whole n xs = grind (arith, common_steps)
 
-pub put_none : (word : List ℕ) (all words : List (List ℕ)) → all ≡ put_word word words → (length word == 0) ≡ true → all ≡ []
+pub put_none : (word : List ℕ) (all words : List (List ℕ)) → all ≡ prepend_word word words → (length word == 0) ≡ true → all ≡ []
 put_none [] all words e none = e
 put_none (b ∷ word) all words e none = absurd (suc_none (length word) none)
 
-pub put_some : (word : List ℕ) (all words : List (List ℕ)) → all ≡ put_word word words → (length word == 0) ≡ false → all ≡ word ∷ words
+pub put_some : (word : List ℕ) (all words : List (List ℕ)) → all ≡ prepend_word word words → (length word == 0) ≡ false → all ≡ word ∷ words
 put_some [] all words e some = cc some
 put_some (b ∷ word) all words e some = e
 
--- what a test of emptiness says of a word
+-- a test of emptiness, moved along equalities
 pub is_none : (word w : List ℕ) (b : Bool) → w ≡ word → b ≡ (length w == 0) → b ≡ true → (length word == 0) ≡ true
 is_none word w b same test empty = ap (λ w. length w == 0) (sym same) ∙ sym test ∙ empty
 

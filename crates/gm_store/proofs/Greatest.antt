@@ -1,4 +1,4 @@
--- The greatest version, as a list of versions grows.
+-- The greatest of a growing list of versions.
 use Rattle.std.proofs.Common.{MatchOption, Bor, option_map, ◌≡◌, ◌⊎◌, ℕ, ◌<◌, ◌≤◌, Bool, true, false, List, [], ◌∷◌, ◌++◌, Option, Some, None, take, length, slice_index_or, inl, inr, sym, subst, ap, ◌∙◌, arith, refl, ◌+◌, ◌&&◌, add-one}
 use Rattle.std.proofs.Math.Seq.{take-length, take-suc}
 use Rattle.std.specs.Ordering.{is_gt, ordering_reverse}
@@ -8,9 +8,9 @@ use Rattle.std.proofs.lemmas.Cmp.{upto, tied_itself}
 use Rattle.std.proofs.lemmas.List.Elements.{Contains-append_left, Contains-push, Contains-push_cases}
 use Rattle.gm_name.specs.Version.{version_cmp}
 use Rattle.gm_name.specs.VersionOrder.{version_total}
-use Rattle.gm_store.specs.Latest.{IsGreatestOrNone, IsLatest, NoneCounts, counts, is_greater}
+use Rattle.gm_store.specs.Latest.{IsGreatestOrNone, IsLatest, NoneConsidered, counts, is_greater}
 
--- one more version, which does not count or is not greater
+-- one more version, which isn't considered or isn't greater
 pub greatest_same : (only : Bool) (xs : List (List ℕ)) (x : List ℕ) (best : Option (List ℕ)) → IsGreatestOrNone only xs best
     → (counts only x ≡ false) ⊎ (is_greater x best ≡ false) → IsGreatestOrNone only (xs ++ x ∷ []) best
 greatest_same only xs x None known (inl not) = λ other inside. elim (Contains-push_cases xs x other inside) [
@@ -43,7 +43,7 @@ turned r Greater e g = ap is_gt e
 below : (x best : List ℕ) → is_gt (version_cmp x best) ≡ true → is_gt (version_cmp best x) ≡ false
 below x best more = turned (version_cmp best x) (version_cmp x best) (version_total.antisymm best x) more
 
--- one more version, which counts and is greater
+-- one more version, which is considered and greater
 pub greatest_more : (only : Bool) (xs : List (List ℕ)) (x : List ℕ) (best : Option (List ℕ)) → IsGreatestOrNone only xs best
     → counts only x ≡ true → is_greater x best ≡ true → IsGreatestOrNone only (xs ++ x ∷ []) (Some x)
 greatest_more only xs x None known counted more = record {
@@ -63,7 +63,7 @@ greatest_more only xs x (Some best) known counted more = record {
   ];
 }
 
--- the next version, with what was found of it
+-- the list of versions so far, with the next version
 taken_more : (xs : List (List ℕ)) (i : ℕ) (x : List ℕ) → i < length xs → x ≡ slice_index_or xs i x → take i xs ++ x ∷ [] ≡ take (i + 1) xs
 taken_more xs i x within item = sym (ap (λ n. take n xs) (add-one i) ∙ take-suc xs i x within ∙ ap (λ (y : List ℕ). take i xs ++ y ∷ []) (sym item))
 
@@ -91,17 +91,17 @@ step_more only xs i x best better within item is taken known =
     subst (λ ys. IsGreatestOrNone only ys (Some x)) (taken_more xs i x within item)
     (greatest_more only (take i xs) x best known counted.0 counted.1)
 
--- where neither a release nor any version is greatest there is no version
-pub none_listed : (xs : List (List ℕ)) → NoneCounts false xs → xs ≡ []
+-- if all versions are considered and none is found, there are no versions
+pub none_listed : (xs : List (List ℕ)) → NoneConsidered false xs → xs ≡ []
 none_listed [] none = refl
 none_listed (x ∷ xs) none = let e : true ≡ false = none x (0, omega arith, refl) in cc
 
--- the versions up to the last are all
+-- the versions up to the last are all versions
 pub whole : (xs : List (List ℕ)) (i : ℕ) → i ≤ length xs → length xs ≤ i → take i xs ≡ xs
 whole xs i below above = let same : i ≡ length xs = omega arith in ap (λ n. take n xs) same ∙ take-length xs
 
--- without a release the greatest of all is the latest
-pub latest_of_all : (xs : List (List ℕ)) (result : Option (Bor (List ℕ))) → NoneCounts true xs
+-- if there is no release, the greatest of all versions is the latest
+pub latest_of_all : (xs : List (List ℕ)) (result : Option (Bor (List ℕ))) → NoneConsidered true xs
     → IsGreatestOrNone false xs (option_map (λ best. best.now) result) → MatchOption result (xs ≡ []) (λ version. IsLatest xs version.now)
 latest_of_all xs None none known = none_listed xs known
 latest_of_all xs (Some version) none known = inr (none, known)

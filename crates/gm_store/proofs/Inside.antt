@@ -1,4 +1,5 @@
--- The texts of module files: they lead to places below, differ where the names do, and are small.
+-- The paths of module files: they stay below the folder, differ for different names, and have no upper-case
+-- letter.
 use Rattle.std.specs.Prelude.{nat_lt}
 use Rattle.std.proofs.Common.{◌≡◌, ◌<◌, ◌+◌, ◌==◌, ◌&&◌, ◌||◌, ℕ, Bool, true, false, not, List, [], ◌∷◌, ◌++◌, length, ap, ◌∙◌, sym, refl, arith, codes, append_assoc, append-nil, length-append}
 use Rattle.std.proofs.lemmas.Bool.Decides.{nat_tests}
@@ -16,7 +17,7 @@ use Rattle.gm_name.proofs.Bytes.{path-bytes, path_has_no_bang, version-bytes, ve
 use Rattle.gm_name.proofs.Escapes.{escaped-injective, escaped-small}
 use Rattle.gm_name.proofs.Paths.{element-bytes}
 use Rattle.gm_store.specs.Asked.{Name, mod_file, folder_file, list_file}
-use Rattle.gm_store.specs.Relative.{IsModuleFile, LeadsBelow, is_plain_piece, is_slash, relative_text}
+use Rattle.gm_store.specs.Relative.{IsModuleFile, LeadsBelow, is_plain_element, is_slash, relative_text}
 use Rattle.gm_store.proofs.Splits.{glue, glue_first, not_false, split-append, split_off, split_plain}
 
 both : (a b : Bool) → a ≡ true → b ≡ true → (a && b) ≡ true
@@ -24,7 +25,7 @@ both a b e f = cc
 
 -- ---- bytes of escaped texts
 
--- what holds of the bytes that stand for each byte holds of the escaped text
+-- if a property holds for the escape of each byte, it holds for the bytes of the escaped text
 escaped-all : (p q : ℕ → Bool) → ((b : ℕ) → p b ≡ true → list_all q (escaped_byte b) ≡ true) → (text : List ℕ) → list_all p text ≡ true → list_all q (escaped text) ≡ true
 escaped-all p q each [] e = refl
 escaped-all p q each (b ∷ text) e =
@@ -58,7 +59,7 @@ no_at_small b e = grind (arith, nat_tests)
 no_at_of_path : (b : ℕ) → is_byte_of_path b ≡ true → list_all (λ b. not (b == 64)) (escaped_byte b) ≡ true
 no_at_of_path b e = byte_all (λ b. not (b == 64)) b (is_ascii_uppercase b) refl refl (no_at_small b) (λ _. no_at_byte b e)
 
--- ---- pieces
+-- ---- path elements
 
 no_either : (a b : Bool) → not (a || b) ≡ true → not a ≡ true
 no_either true b e = cc e
@@ -71,7 +72,7 @@ first_no_dot e h =
     let some : nat_lt 0 (length e) ≡ true = first_so _ _ (first_so _ _ dotted) in
     (grind (arith, nat_tests), no_either _ _ (second_so _ _ dotted))
 
-plain_by_first : (piece : List ℕ) → 0 < length piece → not (slice_index piece 0 == 46) ≡ true → is_plain_piece piece ≡ true
+plain_by_first : (piece : List ℕ) → 0 < length piece → not (slice_index piece 0 == 46) ≡ true → is_plain_element piece ≡ true
 plain_by_first [] some first = absurd (omega arith)
 plain_by_first (b ∷ rest) some first = rw (not_false (b == 46) first) (both _ _ (both _ _ (grind (arith, nat_tests)) refl) refl)
 
@@ -84,7 +85,7 @@ two_apart true true = refl
 two_apart true false = refl
 two_apart false b = refl
 
-long_plain : (piece : List ℕ) → 2 < length piece → is_plain_piece piece ≡ true
+long_plain : (piece : List ℕ) → 2 < length piece → is_plain_element piece ≡ true
 long_plain [] e = absurd (omega arith)
 long_plain (a ∷ []) e = absurd (omega arith)
 long_plain (a ∷ b ∷ []) e = absurd (omega arith)
@@ -98,7 +99,7 @@ escaped_first : (e : List ℕ) → 0 < length e → not (slice_index e 0 == 46) 
 escaped_first [] some first = absurd (omega arith)
 escaped_first (b ∷ rest) some first = byte_first b rest (is_ascii_uppercase b) refl first
 
-plain_element : (e : List ℕ) → is_element e ≡ true → is_plain_piece (escaped e) ≡ true
+plain_element : (e : List ℕ) → is_element e ≡ true → is_plain_element (escaped e) ≡ true
 plain_element e h =
     let first = first_no_dot e h in
     let escapes = escaped_first e first.0 first.1 in
@@ -125,12 +126,12 @@ all_glued : (q : List ℕ → Bool) (f : List ℕ) (fs gs : List (List ℕ)) →
 all_glued q f [] gs left right = rw (append-nil f) (both _ _ (first_so (q f) true left) right)
 all_glued q f (f2 ∷ fs) gs left right = both _ _ (first_so (q f) (list_all q (f2 ∷ fs)) left) (all_glued q f2 fs gs (second_so (q f) (list_all q (f2 ∷ fs)) left) right)
 
-leads_on : (text rest : List ℕ) (parts : List (List ℕ)) → slice_split is_slash rest ≡ [] ∷ parts → LeadsBelow text → list_all is_plain_piece parts ≡ true → LeadsBelow (text ++ rest)
+leads_on : (text rest : List ℕ) (parts : List (List ℕ)) → slice_split is_slash rest ≡ [] ∷ parts → LeadsBelow text → list_all is_plain_element parts ≡ true → LeadsBelow (text ++ rest)
 leads_on text rest parts cut left right =
     let off = split_off is_slash text in
-    let whole : list_all is_plain_piece (off.first ∷ off.others) ≡ true = ap (list_all is_plain_piece) (sym off.is) ∙ left in
-    ap (list_all is_plain_piece) (split-append is_slash text rest ∙ ap (λ fs. glue fs (slice_split is_slash rest)) off.is ∙ ap (glue_first off.first off.others) cut)
-    ∙ all_glued is_plain_piece off.first off.others parts whole right
+    let whole : list_all is_plain_element (off.first ∷ off.others) ≡ true = ap (list_all is_plain_element) (sym off.is) ∙ left in
+    ap (list_all is_plain_element) (split-append is_slash text rest ∙ ap (λ fs. glue fs (slice_split is_slash rest)) off.is ∙ ap (glue_first off.first off.others) cut)
+    ∙ all_glued is_plain_element off.first off.others parts whole right
 
 pub list_below : (path : List ℕ) → IsPath path → LeadsBelow (escaped path ++ codes "/@v/list")
 list_below path is = leads_on (escaped path) (codes "/@v/list") (codes "@v" ∷ codes "list" ∷ []) refl (plain_path path is) refl
@@ -140,7 +141,7 @@ no_slash_version version is =
     list_all-append (λ b. not (is_slash b)) (escaped version) (codes ".mod")
     ∙ both _ _ (escaped-all is_byte_of_version (λ b. not (is_slash b)) no_slash_of_version version (version-bytes version is)) refl
 
--- the text of a .mod file, grouped to the right
+-- the path of a .mod file, associated to the right
 regroup : (path version : List ℕ) → relative_text (mod_file path version) ≡ escaped path ++ (codes "/@v/" ++ (escaped version ++ codes ".mod"))
 regroup path version = append_assoc (escaped path ++ codes "/@v/") (escaped version) (codes ".mod") ∙ append_assoc (escaped path) (codes "/@v/") (escaped version ++ codes ".mod")
 
@@ -151,9 +152,9 @@ mod_below path version is_path is_version =
     rw (regroup path version) (leads_on (escaped path) (codes "/@v/" ++ last) (codes "@v" ∷ last ∷ []) (ap (λ parts. [] ∷ codes "@v" ∷ parts) cut) (plain_path path is_path)
     (both _ _ (long_plain last (simp length-append (omega arith))) refl))
 
--- ---- different names have different texts
+-- ---- different names have different paths
 
--- a text before a byte that does not stand in it, and what follows
+-- a byte that a text doesn't contain determines where the text ends
 never : (y : ℕ) → 64 ≡ y → not (y == 64) ≡ true → ⊥
 never y same apart = let hit : not (64 == 64) ≡ true = ap (λ y. not (y == 64)) same ∙ apart in cc hit
 
@@ -169,7 +170,7 @@ cut_once (x ∷ xs) (y ∷ ys) a b p q e =
 no_at_path : (path : List ℕ) → IsPath path → list_all (λ b. not (b == 64)) (escaped path ++ codes "/") ≡ true
 no_at_path path is = list_all-append (λ b. not (b == 64)) (escaped path) (codes "/") ∙ both _ _ (escaped-all is_byte_of_path (λ b. not (b == 64)) no_at_of_path path (path-bytes path is)) refl
 
--- the path and what follows it are told by the text
+-- the whole text determines the module path and the part after it
 same_path : (p q a b : List ℕ) → IsPath p → IsPath q → escaped p ++ (codes "/@v/" ++ a) ≡ escaped q ++ (codes "/@v/" ++ b) → (p ≡ q) × (a ≡ b)
 same_path p q a b is_p is_q e =
     let at : (escaped p ++ codes "/") ++ (64 ∷ (codes "v/" ++ a)) ≡ (escaped q ++ codes "/") ++ (64 ∷ (codes "v/" ++ b)) = append_assoc (escaped p) (codes "/") (64 ∷ (codes "v/" ++ a)) ∙ e ∙ sym (append_assoc (escaped q) (codes "/") (64 ∷ (codes "v/" ++ b))) in
@@ -182,7 +183,7 @@ same_version v w is_v is_w e = escaped-injective v w (version_has_no_bang v is_v
 letters : ◌≡◌ {A = ℕ} 118 108 → ⊥
 letters e = omega arith
 
--- a version begins with a `v`, and `list` does not
+-- a version begins with a `v`, and `list` doesn't
 no_version : (v : List ℕ) → IsVersion v → escaped v ++ codes ".mod" ≡ codes "list" → ⊥
 no_version v is e = let first : 118 ≡ 108 = ap (λ t. slice_index t 0) (ap (λ t. escaped t ++ codes ".mod") (sym is.3) ∙ e) in letters first
 

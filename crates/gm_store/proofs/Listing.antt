@@ -1,4 +1,4 @@
--- The versions that are found among words.
+-- Collecting the versions that may be listed from a list of words.
 use Rattle.std.proofs.Common.{◌≡◌, zero, suc, ◌⊎◌, ℕ, List, [], ◌∷◌, ◌++◌, map, nat_eq, sym, subst, refl, ◌∙◌, ap, inl, inr, true, arith, Bor, Option, Some, None}
 use Rattle.std.specs.Prelude.{◌↔◌, Contains}
 use Rattle.std.specs.Cmp.Lexicographic.{nat_list_eq_equiv, pointwise}
@@ -17,7 +17,7 @@ use Rattle.gm_name.specs.VersionOrder.{version_ties, version_total, version-anti
 use Rattle.gm_store.specs.Lines.{first_word, lines}
 use Rattle.gm_store.specs.Listed.{AreListed, IsListable}
 
--- the words that may be listed, and nothing else
+-- `versions` has the words that may be listed, and no others
 abbrev pub HoldsListable : List ℕ → List (List ℕ) → List (List ℕ) → Type 0
 HoldsListable path words versions = (version : List ℕ) → Contains versions version ↔ (Contains words version × IsListable path version)
 
@@ -32,7 +32,7 @@ cases : {A B C : Type 0} → A ⊎ B → (A → C) → (B → C) → C
 cases (inl a) f g = f a
 cases (inr b) f g = g b
 
--- one more word, which may be listed
+-- one more word, and it may be listed
 pub holds_more : (path : List ℕ) (words versions : List (List ℕ)) (word : List ℕ) → HoldsListable path words versions → IsListable path word → HoldsListable path (words ++ word ∷ []) (versions ++ word ∷ [])
 holds_more path words versions word holds listable = λ v. (
   λ h. cases (Contains-append_cases versions (word ∷ []) v h)
@@ -43,7 +43,7 @@ holds_more path words versions word holds listable = λ v. (
       (λ new. Contains-append_right versions (word ∷ []) v new),
 )
 
--- one more word, which may not be listed
+-- one more word, and it may not be listed
 pub holds_same : (path : List ℕ) (words versions : List (List ℕ)) (word : List ℕ) → HoldsListable path words versions → ¬ (IsListable path word) → HoldsListable path (words ++ word ∷ []) versions
 holds_same path words versions word holds refused = λ v. (
   λ h. let both = (holds v).0 h in (Contains-append_left words (word ∷ []) v both.0, both.1),
@@ -60,7 +60,7 @@ equal_from Greater e = cc e
 texts_same : (x y : List ℕ) → pointwise nat_eq x y ≡ true → x ≡ y
 texts_same x y e = version-anti x y (equal_from (version_cmp x y) (sym (version_ties x y) ∙ e))
 
--- the list that is sorted and freed of repeats is that of the listed versions
+-- after sorting and removing duplicates, the list is that of the listed versions
 pub listed_from : (path text : List ℕ) (found sorted : List (List ℕ)) → HoldsListable path (map first_word (lines text)) found → IsPermutation found sorted → IsSorted version_cmp sorted → AreListed path text (dedup (pointwise nat_eq) sorted)
 listed_from path text found sorted holds moved ordered = record {
   ascending = IsStrictlySortedBy-dedup version_total version_ties sorted ordered;
@@ -73,7 +73,7 @@ listed_from path text found sorted holds moved ordered = record {
 words_more : (lines : List (Bor (List ℕ))) (line : Bor (List ℕ)) → map first_word (map (λ line. line.now) (lines ++ line ∷ [])) ≡ map first_word (map (λ line. line.now) lines) ++ first_word line.now ∷ []
 words_more lines line = ap (map first_word) (map-append (λ (line : Bor (List ℕ)). line.now) lines (line ∷ [])) ∙ map-append first_word (map (λ line. line.now) lines) (line.now ∷ [])
 
--- the same of one more line, whose first word may be listed
+-- the same for one more line, whose first word may be listed
 pub line_more : (path : List ℕ) (lines : List (Bor (List ℕ))) (line : Bor (List ℕ)) (versions new : List (List ℕ)) (word version : List ℕ) → HoldsListable path (map first_word (map (λ line. line.now) lines)) versions → word ≡ first_word line.now → (version ≡ word) × IsListable path word → new ≡ versions ++ version ∷ [] → HoldsListable path (map first_word (map (λ line. line.now) (lines ++ line ∷ []))) new
 line_more path lines line versions new word version holds is listable grown =
     let same : version ≡ first_word line.now = listable.0 ∙ is in
@@ -81,7 +81,7 @@ line_more path lines line versions new word version holds is listable grown =
     subst (λ words. HoldsListable path words new) (sym (words_more lines line))
     (subst (λ versions. HoldsListable path (map first_word (map (λ line. line.now) lines) ++ first_word line.now ∷ []) versions) (ap (λ v. versions ++ v ∷ []) (sym same) ∙ sym grown) more)
 
--- the same of one more line, whose first word may not be listed
+-- the same for one more line, whose first word may not be listed
 pub line_same : (path : List ℕ) (lines : List (Bor (List ℕ))) (line : Bor (List ℕ)) (versions : List (List ℕ)) (word : List ℕ) → HoldsListable path (map first_word (map (λ line. line.now) lines)) versions → word ≡ first_word line.now → ¬ (IsListable path word) → HoldsListable path (map first_word (map (λ line. line.now) (lines ++ line ∷ []))) versions
 line_same path lines line versions word holds is refused =
     subst (λ words. HoldsListable path words versions) (sym (words_more lines line))

@@ -1,4 +1,4 @@
--- The last slash of a name.
+-- The last slash of a file's name.
 use Rattle.std.proofs.Common.{◌≡◌, ◌≢◌, ◌<◌, ◌+◌, ◌-◌, ℕ, List, [], ◌∷◌, ◌++◌, length, take, drop, ap, ◌∙◌, sym, refl, subst, arith, codes, slice_index_or}
 use Rattle.std.proofs.lemmas.List.{append_assoc, drop_more, get_or-drop, get_or_default, length-drop, take-append-drop}
 use native.Mathlib.Numerals.{unary_clauses}
@@ -8,7 +8,7 @@ use Rattle.std.specs.Prelude.{Contains}
 pub no_slash : (text : List ℕ) → ((i : ℕ) → i < length text → slice_index_or text i 0 ≢ 47) → ¬ (Contains text 47)
 no_slash text none (k, within, is) = none k within (get_or_default text k 0 47 within ∙ is)
 
--- the text before a slash, the slash, and what follows it
+-- a text is the part before a slash, the slash, and the part after it
 pub cut_at : (text : List ℕ) (k : ℕ) → k < length text → slice_index_or text k 0 ≡ 47 → text ≡ take k text ++ codes "/" ++ drop (k + 1) text
 cut_at text k within is =
     sym (take-append-drop k text)

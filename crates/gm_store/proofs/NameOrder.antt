@@ -1,4 +1,4 @@
--- The order of file names answers `Equal` exactly where the names are the same, so a map from names holds one file for each.
+-- The order of file names is `Equal` if and only if the names are the same, so a map has one file for each name.
 use Rattle.std.proofs.Common.{◌≡◌, ℕ, Bool, true, false, cond, ◌&&◌, List, [], ◌∷◌, Option, Some, ap, ◌∙◌, sym, refl, subst, arith}
 use Rattle.std.specs.Ordering.{is_eq, match_ordering, nat_cmp, ordering_then}
 use Rattle.std.specs.declared.cmp.Ordering.{Ordering}
@@ -17,7 +17,7 @@ use Rattle.gm_store.specs.contracts.files.FileNameOrd.TheImpl.{cmp-value}
 use Rattle.std.proofs.Common.{◌≤◌, ◌<◌, length}
 use Rattle.gm_store.specs.Asked.{Name, mod_file, folder_file, list_file, name_of, same_name, reply_for, bytes, too_long}
 use Rattle.gm_store.specs.Memory.{held_at}
-use Rattle.gm_store.specs.declared.memory.MemoryFiles.{MemoryFiles}
+use Rattle.gm_store.specs.declared.memory_files.MemoryFiles.{MemoryFiles}
 use Rattle.std.specs.Option.{option_map}
 use Rattle.std.specs.BTreeMap.{get_by, insert_entry}
 use Rattle.std.specs.Cmp.{first_so, second_so}
@@ -28,7 +28,7 @@ is_eq-then Less b = refl
 is_eq-then Equal b = refl
 is_eq-then Greater b = refl
 
--- versions that tie are the same text
+-- versions that compare equal are the same text
 version_eq : (v w : List ℕ) → is_eq (version_cmp v w) ≡ bytes_eq v w
 version_eq v w = sym (version_ties v w)
 
@@ -56,7 +56,7 @@ reply_for_short limit xs h = grind arith
 pub reply_for_long : (limit : ℕ) (xs : List ℕ) → limit < length xs → reply_for limit (Some xs) ≡ too_long
 reply_for_long limit xs h = grind arith
 
--- ---- names that are the same, and what a map holds after an insertion
+-- ---- equal names, and the contents of a map after an insertion
 
 and_true : (a b : Bool) → (a && b) ≡ true → (a ≡ true) × (b ≡ true)
 and_true a b e = (first_so a b e, second_so a b e)
@@ -109,13 +109,13 @@ insert_step p k v e es inserted Less same apart rest = refl
 insert_step p k v e es inserted Equal same apart rest = equal_step (p e.0) (p k) (Some e.1) (Some v) (lookup p es) (same refl)
 insert_step p k v e es inserted Greater same apart rest = ap (cond (p e.0) (Some e.1)) rest ∙ greater_step (p e.0) (p k) (Some e.1) (Some v) (lookup p es) (λ b a. let never : false ≡ true = apart b a in cc never)
 
--- a look-up after an insertion, where the test passes equal keys alike, and no two that differ
+-- a lookup after an insertion, if the test agrees on equal keys and passes no two different keys
 pub lookup_inserted : {K X : Type 0} (cmp : K → K → Ordering) (p : K → Bool) (k : K) (v : X) → ((e : K) → is_eq (cmp k e) ≡ true → p e ≡ p k) → ((e : K) → p k ≡ true → p e ≡ true → is_eq (cmp k e) ≡ true)
     → (es : List (K × X)) → lookup p (insert_entry cmp es k v) ≡ cond (p k) (Some v) (lookup p es)
 lookup_inserted cmp p k v same apart [] = refl
 lookup_inserted cmp p k v same apart (e ∷ es) = insert_step p k v e es (insert_entry cmp es k v) (cmp k e.0) (same e.0) (apart e.0) (lookup_inserted cmp p k v same apart es)
 
--- what lies under a name after a file was put into a map
+-- the file under a name after an insertion
 pub held_inserted : {X : Type 0} (es : List (FileName × X)) (k : FileName) (v : X) (other : Name)
     → lookup (λ file. same_name other (name_of file)) (insert_entry cmp-value.it es k v) ≡ cond (same_name other (name_of k)) (Some v) (lookup (λ file. same_name other (name_of file)) es)
 held_inserted es k v other = lookup_inserted cmp-value.it (λ file. same_name other (name_of file)) k v
@@ -123,6 +123,6 @@ held_inserted es k v other = lookup_inserted cmp-value.it (λ file. same_name ot
     (λ e one two. same_name_from_cmp k e ∙ same_from_equal (name_of k) (name_of e) (sym (names_equal other (name_of k) one) ∙ names_equal other (name_of e) two))
     es
 
--- what a look-up in a map by the order of names finds
+-- a lookup by the order of names is a lookup by equality of names
 pub found_by : {X : Type 0} (name : FileName) (es : List (FileName × X)) → lookup (λ file. is_eq (cmp-value.it name file)) es ≡ lookup (λ file. same_name (name_of name) (name_of file)) es
 found_by name es = lookup-agree _ _ (same_name_from_cmp name) es

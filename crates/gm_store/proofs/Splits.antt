@@ -1,9 +1,9 @@
--- What a split of joined lists gives.
+-- The split of two joined lists.
 use Rattle.std.proofs.Common.{◌≡◌, Bool, true, false, not, cond, List, [], ◌∷◌, ◌++◌, ap, ◌∙◌, sym, refl}
 use Rattle.std.specs.List.{list_all, onto_first, slice_split}
 use Rattle.std.specs.Cmp.{first_so, second_so}
 
--- the parts of a first list and of a second, where the last of these goes on in the first of those
+-- joins the parts of two lists: the last part of the first list and the first part of the second become one part
 abbrev pub glue_first : {X : Type 0} → List X → List (List X) → List (List X) → List (List X)
 glue_first f [] [] = f ∷ []
 glue_first f [] (g ∷ gs) = (f ++ g) ∷ gs
@@ -13,7 +13,7 @@ abbrev pub glue : {X : Type 0} → List (List X) → List (List X) → List (Lis
 glue [] gs = gs
 glue (f ∷ fs) gs = glue_first f fs gs
 
--- a split gives one part at least
+-- a split has at least one part
 pub record SplitsOff {X : Type 0} (parts : List (List X)) : Type 0 where
   pub first : List X
   pub others : List (List X)
@@ -40,7 +40,7 @@ glue_step : {X : Type 0} (b : Bool) (x : X) (f : List X) (fs gs : List (List X))
 glue_step true x f fs gs = refl
 glue_step false x f fs gs = glue_onto x f fs gs
 
--- the parts of two lists that are joined
+-- the split of two joined lists is the join of their splits
 pub split-append : {X : Type 0} (p : X → Bool) (xs ys : List X) → slice_split p (xs ++ ys) ≡ glue (slice_split p xs) (slice_split p ys)
 split-append p [] ys = let off = split_off p ys in rw off.is refl
 split-append p (x ∷ xs) ys =
@@ -59,7 +59,7 @@ pub not_false : (b : Bool) → not b ≡ true → b ≡ false
 not_false true e = cc e
 not_false false e = refl
 
--- a list in which nothing passes is one part
+-- a list without separators is one part
 pub split_plain : {X : Type 0} (p : X → Bool) (xs : List X) → list_all (λ x. not (p x)) xs ≡ true → slice_split p xs ≡ xs ∷ []
 split_plain p [] e = refl
 split_plain p (x ∷ xs) e =

@@ -1,16 +1,16 @@
--- A look-up in several folders stops at one of them.
+-- A lookup in several folders stops at exactly one of them, so it has one outcome.
 use Rattle.std.proofs.Common.{◌≡◌, ◌≢◌, ℕ, zero, suc, List, [], ◌∷◌, ◌++◌, length, Option, Some, None, ap, ◌∙◌, sym, refl, arith}
 use Rattle.std.specs.List.{count_by}
 use Rattle.std.specs.Prelude.{slice_get}
-use Rattle.gm_store.specs.declared.proxies.Mark.{Mark}
-use Rattle.gm_store.specs.declared.stepping.Next.{Next}
-use Rattle.gm_store.specs.declared.stepping.Next.TheVariants.{Take, Go, Fail}
+use Rattle.gm_store.specs.declared.proxy_list.Mark.{Mark}
+use Rattle.gm_store.specs.declared.fallback_step.Next.{Next}
+use Rattle.gm_store.specs.declared.fallback_step.Next.TheVariants.{Take, Go, Fail}
 use Rattle.gm_store.specs.Asked.{Reply}
-use Rattle.gm_store.specs.Racks.{looks_at}
+use Rattle.gm_store.specs.FolderLookups.{lookup_results}
 use Rattle.gm_store.specs.Steps.{Seen, StopsAt, absent, failed, found, has_failed, outcome_of, step_of, too_long}
-use Rattle.gm_store.specs.Stops.{SomeFolderStops, StopsAreOne, StopsByWhatIsHeld}
+use Rattle.gm_store.specs.Stops.{OutcomeExists, OutcomeIsUnique, OutcomeFollowsContents}
 
--- ---- there is one stop
+-- ---- it stops at one folder at most
 
 same_stop : (p q : List Seen) (x y : Seen) (r s : List Seen) (mark : ℕ → Option Mark) → p ++ x ∷ r ≡ q ++ y ∷ s
     → ((k : ℕ) (look : Seen) → slice_get p k ≡ Some look → step_of look (mark k) ≡ Go) → ((k : ℕ) (look : Seen) → slice_get q k ≡ Some look → step_of look (mark k) ≡ Go)
@@ -28,14 +28,14 @@ same_stop (a ∷ p) (b ∷ q) x y r s mark e goes goes' stops stops' =
     let rest = same_stop p q x y r s (λ k. mark (suc k)) others (λ k. goes (suc k)) (λ k. goes' (suc k)) stops stops' in
     (ap (λ c. c ∷ p) first ∙ ap (λ c. b ∷ c) rest.0, rest.1)
 
-pub one_stop : StopsAreOne
+pub one_stop : OutcomeIsUnique
 one_stop looks marks one other failures others a b =
     let same = same_stop a.passed b.passed a.last b.last a.rest b.rest (slice_get marks) (sym a.in_order ∙ b.in_order) a.goes b.goes a.stops b.stops in (
       a.answers ∙ ap (λ p. outcome_of a.last (step_of a.last (slice_get marks (length p)))) same.0 ∙ ap (λ x. outcome_of x (step_of x (slice_get marks (length b.passed)))) same.1 ∙ sym b.answers,
       a.counted ∙ ap (λ p. count_by has_failed (p ++ a.last ∷ [])) same.0 ∙ ap (λ x. count_by has_failed (b.passed ++ x ∷ [])) same.1 ∙ sym b.counted,
     )
 
--- ---- it is that of what is held
+-- ---- over folders in memory the outcome is that of the results in all folders
 
 begins : (p : List Seen) (x : Seen) (r looks : List Seen) → ((k : ℕ) (look : Seen) → slice_get (p ++ x ∷ r) k ≡ Some look → slice_get looks k ≡ Some look) → (rest : List Seen) × (looks ≡ p ++ x ∷ rest)
 begins [] x r [] h = absurd (cc (h 0 x refl))
@@ -46,9 +46,9 @@ begins (a ∷ p) x r (y ∷ looks) h =
     let later = begins p x r looks (λ k look e. h (suc k) look e) in
     (later.0, ap (λ c. c ∷ looks) same ∙ ap (λ c. a ∷ c) later.1)
 
-pub held_stop : StopsByWhatIsHeld
-held_stop shelves name marks outcome failures (looks, seen, stop) =
-    let whole = begins stop.passed stop.last stop.rest (looks_at shelves name) (λ k look e. seen k look (ap (λ looks. slice_get looks k) stop.in_order ∙ e)) in
+pub held_stop : OutcomeFollowsContents
+held_stop folders name marks outcome failures (looks, seen, stop) =
+    let whole = begins stop.passed stop.last stop.rest (lookup_results folders name) (λ k look e. seen k look (ap (λ looks. slice_get looks k) stop.in_order ∙ e)) in
     record {
       passed = stop.passed;
       last = stop.last;
@@ -60,7 +60,7 @@ held_stop shelves name marks outcome failures (looks, seen, stop) =
       counted = stop.counted;
     }
 
--- ---- there always is one
+-- ---- it stops if a folder follows each mark
 
 stop_here : (look : Seen) (looks : List Seen) (marks : List Mark) → (step_of look (slice_get marks 0) ≢ Go) → (outcome : Option Reply) × (failures : ℕ) × StopsAt (look ∷ looks) marks outcome failures
 stop_here look looks marks stops = (
@@ -108,7 +108,7 @@ stop_later look looks mark marks Go is (outcome, failures, stop) = (
   },
 )
 
-pub some_stop : SomeFolderStops
+pub some_stop : OutcomeExists
 some_stop [] marks within = absurd (omega arith)
 some_stop (look ∷ looks) [] within = stop_here look looks [] (unmarked look)
 some_stop (look ∷ looks) (mark ∷ marks) within = stop_later look looks mark marks (step_of look (Some mark)) refl (some_stop looks marks (omega arith))

@@ -1,22 +1,23 @@
--- A walk through folders, as far as it has come.
+-- The state of a walk through folders.
 use Rattle.std.proofs.Common.{◌≡◌, ◌+◌, ◌-◌, ◌≤◌, ◌<◌, ◌^◌, ◌⊎◌, inl, inr, min, ℕ, false, cond, zero, suc, List, [], ◌∷◌, ◌++◌, length, Option, Some, None, ap, ◌∙◌, sym, refl, subst, arith, IsSome, length-append, add_assoc}
 use Rattle.std.specs.Prelude.{slice_get}
 use Rattle.std.specs.List.{count_by}
 use Rattle.std.proofs.lemmas.Bool.{cases_lt}
 use Rattle.std.proofs.lemmas.List.Sums.{sum_by-append}
-use Rattle.gm_store.specs.declared.proxies.Mark.{Mark}
-use Rattle.gm_store.specs.declared.proxies.Mark.TheVariants.{Comma, Bar}
-use Rattle.gm_store.specs.declared.stepping.Next.{Next}
-use Rattle.gm_store.specs.declared.stepping.Next.TheVariants.{Take, Go, Fail}
+use Rattle.gm_store.specs.declared.proxy_list.Mark.{Mark}
+use Rattle.gm_store.specs.declared.proxy_list.Mark.TheVariants.{Comma, Bar}
+use Rattle.gm_store.specs.declared.fallback_step.Next.{Next}
+use Rattle.gm_store.specs.declared.fallback_step.Next.TheVariants.{Take, Go, Fail}
 use Rattle.gm_store.specs.Asked.{Reply}
 use Rattle.gm_store.specs.Steps.{HasCounted, MayStop, Seen, absent, counted_up, failed, found, has_failed, outcome_of, step_of, too_long}
 
--- so many folders were passed, with what was seen in each; their failures are counted
-pub record HasPassed (may_see : ℕ → Seen → Type 0) (marks : List Mark) (at old new : ℕ) : Type 0 where
+-- the request fell back from the first `at` folders; `passed` has the results there, and their failures are
+-- counted
+pub record HasPassed (may_find : ℕ → Seen → Type 0) (marks : List Mark) (at old new : ℕ) : Type 0 where
   pub passed : List Seen
   pub many : length passed ≡ at
   pub within : at ≤ length marks
-  pub seen : (k : ℕ) (look : Seen) → slice_get passed k ≡ Some look → may_see k look
+  pub seen : (k : ℕ) (look : Seen) → slice_get passed k ≡ Some look → may_find k look
   pub goes : (k : ℕ) (look : Seen) → slice_get passed k ≡ Some look → step_of look (slice_get marks k) ≡ Go
   pub counted : new ≡ counted_up old (count_by has_failed passed)
 
@@ -26,14 +27,14 @@ saturates x b m = omega arith
 counted-more : (old a b : ℕ) → counted_up (counted_up old a) b ≡ counted_up old (a + b)
 counted-more old a b = saturates (old + a) b (2 ^ 64 - 1) ∙ ap (λ n. min n (2 ^ 64 - 1)) (add_assoc old a b)
 
--- the elements of a list with one more
+-- a property of the elements of a list with one more element
 get_more : (xs : List Seen) (y : Seen) (P : ℕ → Seen → Type 0) → ((k : ℕ) (x : Seen) → slice_get xs k ≡ Some x → P k x) → P (length xs) y → (k : ℕ) (x : Seen) → slice_get (xs ++ y ∷ []) k ≡ Some x → P k x
 get_more [] y P old here zero x e = let same : y ≡ x = cc e in subst (P 0) same here
 get_more [] y P old here (suc k) x e = cc e
 get_more (z ∷ xs) y P old here zero x e = old zero x e
 get_more (z ∷ xs) y P old here (suc k) x e = get_more xs y (λ k x. P (suc k) x) (λ k x. old (suc k) x) here k x e
 
--- `step` goes on only where a folder follows
+-- `step` falls back only if a mark follows
 pub go_marked : (look : Seen) (mark : Option Mark) → step_of look mark ≡ Go → IsSome mark
 go_marked look (Some mark) e = refl
 go_marked (found content) None e = cc e
@@ -49,28 +50,28 @@ get_within (m ∷ ms) (suc k) e = let rest = get_within ms k e in omega arith
 count-append : (xs ys : List Seen) → count_by has_failed (xs ++ ys) ≡ count_by has_failed xs + count_by has_failed ys
 count-append xs ys = sum_by-append (λ look. cond (has_failed look) 1 0) xs ys
 
--- one more folder is passed
-pub one_more : (may_see : ℕ → Seen → Type 0) (marks : List Mark) (at old new newer : ℕ) (look : Seen) → HasPassed may_see marks at old new
-    → may_see at look → Go ≡ step_of look (slice_get marks at) → newer ≡ counted_up new (count_by has_failed (look ∷ [])) → HasPassed may_see marks (at + 1) old newer
-one_more may_see marks at old new newer look so_far seen goes grown = record {
+-- the request falls back from one more folder
+pub one_more : (may_find : ℕ → Seen → Type 0) (marks : List Mark) (at old new newer : ℕ) (look : Seen) → HasPassed may_find marks at old new
+    → may_find at look → Go ≡ step_of look (slice_get marks at) → newer ≡ counted_up new (count_by has_failed (look ∷ [])) → HasPassed may_find marks (at + 1) old newer
+one_more may_find marks at old new newer look so_far seen goes grown = record {
   passed = so_far.passed ++ look ∷ [];
   many = length-append so_far.passed (look ∷ []) ∙ ap (λ n. n + 1) so_far.many;
   within = let marked = get_within marks at (go_marked look (slice_get marks at) (sym goes)) in omega arith;
-  seen = get_more so_far.passed look may_see so_far.seen (subst (λ k. may_see k look) (sym so_far.many) seen);
+  seen = get_more so_far.passed look may_find so_far.seen (subst (λ k. may_find k look) (sym so_far.many) seen);
   goes = get_more so_far.passed look (λ k look. step_of look (slice_get marks k) ≡ Go) so_far.goes (ap (λ k. step_of look (slice_get marks k)) so_far.many ∙ sym goes);
   counted = grown ∙ ap (λ n. counted_up n (count_by has_failed (look ∷ []))) so_far.counted ∙ counted-more old _ _ ∙ ap (counted_up old) (sym (count-append so_far.passed (look ∷ [])));
 }
 
--- the walk ends
-pub walk_ends : (may_see : ℕ → Seen → Type 0) (marks : List Mark) (at old new newer : ℕ) (look : Seen) (next : Next) (outcome : Option Reply) → HasPassed may_see marks at old new
-    → may_see at look → next ≡ step_of look (slice_get marks at) → (next ≡ Go → ⊥) → outcome ≡ outcome_of look next → newer ≡ counted_up new (count_by has_failed (look ∷ []))
-    → (failures : ℕ) × MayStop may_see marks outcome failures × (newer ≡ counted_up old failures)
-walk_ends may_see marks at old new newer look next outcome so_far seen stops ends answers grown =
+-- the walk stops
+pub walk_ends : (may_find : ℕ → Seen → Type 0) (marks : List Mark) (at old new newer : ℕ) (look : Seen) (next : Next) (outcome : Option Reply) → HasPassed may_find marks at old new
+    → may_find at look → next ≡ step_of look (slice_get marks at) → (next ≡ Go → ⊥) → outcome ≡ outcome_of look next → newer ≡ counted_up new (count_by has_failed (look ∷ []))
+    → (failures : ℕ) × MayStop may_find marks outcome failures × (newer ≡ counted_up old failures)
+walk_ends may_find marks at old new newer look next outcome so_far seen stops ends answers grown =
     let here : step_of look (slice_get marks (length so_far.passed)) ≡ next = ap (λ k. step_of look (slice_get marks k)) so_far.many ∙ sym stops in (
       count_by has_failed (so_far.passed ++ look ∷ []),
       (
         so_far.passed ++ look ∷ [],
-        get_more so_far.passed look may_see so_far.seen (subst (λ k. may_see k look) (sym so_far.many) seen),
+        get_more so_far.passed look may_find so_far.seen (subst (λ k. may_find k look) (sym so_far.many) seen),
         record {
           passed = so_far.passed;
           last = look;
@@ -85,7 +86,7 @@ walk_ends may_see marks at old new newer look next outcome so_far seen stops end
       grown ∙ ap (λ n. counted_up n (count_by has_failed (look ∷ []))) so_far.counted ∙ counted-more old _ _ ∙ ap (counted_up old) (sym (count-append so_far.passed (look ∷ []))),
     )
 
--- what is taken has not failed
+-- if `step` takes a result, the device didn't fail
 pub take_sound : (look : Seen) (mark : Option Mark) → Take ≡ step_of look mark → has_failed look ≡ false
 take_sound (found content) mark e = refl
 take_sound too_long mark e = refl
@@ -97,8 +98,8 @@ take_sound failed (Some Bar) e = cc e
 pub fail_outcome : (look : Seen) → None ≡ outcome_of look Fail
 fail_outcome look = refl
 
-pub none_passed : (may_see : ℕ → Seen → Type 0) (marks : List Mark) (old : ℕ) → old < 2 ^ 64 → HasPassed may_see marks 0 old old
-none_passed may_see marks old small = record {
+pub none_passed : (may_find : ℕ → Seen → Type 0) (marks : List Mark) (old : ℕ) → old < 2 ^ 64 → HasPassed may_find marks 0 old old
+none_passed may_find marks old small = record {
   passed = [];
   many = refl;
   within = omega arith;
@@ -110,8 +111,8 @@ none_passed may_see marks old small = record {
 above : (m old new n : ℕ) → new ≡ min (min (old + n) m + 1) m → old ≤ m → (old < new) ⊎ (old ≡ m)
 above m old new n e h = elim (cases_lt old m) [ inl less ↦ inl (omega arith) | inr more ↦ inr (omega arith) ]
 
--- a device's failure at which the walk ends is counted
-pub fail_counts : (look : Seen) (mark : Option Mark) (old new newer at : ℕ) {may_see : ℕ → Seen → Type 0} {marks : List Mark} → HasPassed may_see marks at old new
+-- a failure of the device at which the walk stops is counted
+pub fail_counts : (look : Seen) (mark : Option Mark) (old new newer at : ℕ) {may_find : ℕ → Seen → Type 0} {marks : List Mark} → HasPassed may_find marks at old new
     → Fail ≡ step_of look mark → newer ≡ counted_up new (count_by has_failed (look ∷ [])) → old < 2 ^ 64 → (old < newer) ⊎ (old ≡ 2 ^ 64 - 1)
 fail_counts failed mark old new newer at so_far fails grown small = above (2 ^ 64 - 1) old newer (count_by has_failed so_far.passed) (grown ∙ ap (λ n. min (n + 1) (2 ^ 64 - 1)) so_far.counted) (omega arith)
 fail_counts (found content) mark old new newer at so_far fails grown small = cc fails
@@ -119,22 +120,22 @@ fail_counts too_long mark old new newer at so_far fails grown small = cc fails
 fail_counts absent None old new newer at so_far fails grown small = cc fails
 fail_counts absent (Some mark) old new newer at so_far fails grown small = cc fails
 
-pub passed_counts : {may_see : ℕ → Seen → Type 0} {marks : List Mark} {at old new : ℕ} → HasPassed may_see marks at old new → HasCounted may_see old new
+pub passed_counts : {may_find : ℕ → Seen → Type 0} {marks : List Mark} {at old new : ℕ} → HasPassed may_find marks at old new → HasCounted may_find old new
 passed_counts so_far = (so_far.passed, so_far.seen, so_far.counted)
 
--- the elements of the front of a list
+-- the elements of a prefix of a list
 get_front : (p : List Seen) (x : Seen) (r : List Seen) (k : ℕ) (look : Seen) → slice_get (p ++ x ∷ []) k ≡ Some look → slice_get (p ++ x ∷ r) k ≡ Some look
 get_front [] x r zero look e = e
 get_front [] x r (suc k) look e = cc e
 get_front (a ∷ p) x r zero look e = e
 get_front (a ∷ p) x r (suc k) look e = get_front p x r k look e
 
-pub stop_counts : (may_see : ℕ → Seen → Type 0) (marks : List Mark) (outcome : Option Reply) (failures old new : ℕ) → MayStop may_see marks outcome failures → new ≡ counted_up old failures → HasCounted may_see old new
-stop_counts may_see marks outcome failures old new (looks, seen, stop) grown = (
+pub stop_counts : (may_find : ℕ → Seen → Type 0) (marks : List Mark) (outcome : Option Reply) (failures old new : ℕ) → MayStop may_find marks outcome failures → new ≡ counted_up old failures → HasCounted may_find old new
+stop_counts may_find marks outcome failures old new (looks, seen, stop) grown = (
   stop.passed ++ stop.last ∷ [],
   λ k look e. seen k look (ap (λ looks. slice_get looks k) stop.in_order ∙ get_front stop.passed stop.last stop.rest k look e),
   grown ∙ ap (counted_up old) stop.counted,
 )
 
-pub none_counted : (may_see : ℕ → Seen → Type 0) (old : ℕ) → old < 2 ^ 64 → HasCounted may_see old old
-none_counted may_see old small = ([], λ k look e. cc e, omega arith)
+pub none_counted : (may_find : ℕ → Seen → Type 0) (old : ℕ) → old < 2 ^ 64 → HasCounted may_find old old
+none_counted may_find old small = ([], λ k look e. cc e, omega arith)

@@ -1,4 +1,5 @@
--- What a store was asked and what it answered, as texts and bytes.
+-- Requests to a store and its answers, as lists of bytes. `FileName` and `Answer` of src are read through these
+-- views.
 use Rattle.std.specs.Prelude.{ℕ, Bool, false, ◌&&◌, if◌then◌else◌, nat_le, List, [], ◌∷◌, length, map, Option, Some, None}
 use Rattle.std.specs.Str.{bytes_eq}
 use Rattle.std.specs.String.{string_bytes}
@@ -7,47 +8,51 @@ use Rattle.gm_store.specs.declared.files.FileName.TheVariants.{Mod, Folder, List
 use Rattle.gm_store.specs.declared.files.Answer.{Answer}
 use Rattle.gm_store.specs.declared.files.Answer.TheVariants.{Bytes, Absent, TooLong}
 
--- the name of a file: that of a module at a version, that of a folder, or that of a list of versions
+-- the name of a file: the .mod file of a path and version, the go.mod of a folder, or the list file of a path
 pub data Name : Type 0 where
   mod_file : List ℕ → List ℕ → Name
   folder_file : List ℕ → Name
   list_file : List ℕ → Name
 
--- an answer: the file's bytes, no file, or a file that is too long
+-- an answer: the file's bytes, no such file, or a file that is too long
 pub data Reply : Type 0 where
   bytes : List ℕ → Reply
   absent : Reply
   too_long : Reply
 
+-- the view of a name
 abbrev pub name_of : FileName → Name
 name_of (Mod path version) = mod_file path version
 name_of (Folder text) = folder_file (string_bytes text)
 name_of (Listing path) = list_file path
 
+-- the view of an answer
 abbrev pub reply_of : Answer → Reply
 reply_of (Bytes content) = bytes content.items
 reply_of Absent = absent
 reply_of TooLong = too_long
 
--- whether two names are the same
+-- whether two names are the same: the same kind of file, with equal texts
 abbrev pub same_name : Name → Name → Bool
 same_name (mod_file p v) (mod_file q w) = bytes_eq p q && bytes_eq v w
 same_name (folder_file t) (folder_file u) = bytes_eq t u
 same_name (list_file p) (list_file q) = bytes_eq p q
 same_name _ _ = false
 
--- the answer to a name, if it was asked
+-- the answer to a name, if it was requested
 abbrev pub answer_in : List (Name × Reply) → Name → Option Reply
 answer_in [] name = None
 answer_in (pair ∷ pairs) name = if same_name name pair.0 then Some pair.1 else answer_in pairs name
 
+-- the requested names, in order
 abbrev pub names_in : List (Name × Reply) → List Name
 names_in = map (λ pair. pair.0)
 
+-- the answers, in order
 abbrev pub replies_in : List (Name × Reply) → List Reply
 replies_in = map (λ pair. pair.1)
 
--- the answer of a store that holds these bytes under a name, or none
+-- the answer of a store that holds these bytes under a name, or holds no such file
 abbrev pub reply_for : ℕ → Option (List ℕ) → Reply
 reply_for limit None = absent
 reply_for limit (Some content) = if nat_le (length content) limit then bytes content else too_long

@@ -1,12 +1,13 @@
--- A proxy list as far as its text has been read.
+-- The state of parsing a proxy list, after part of its text.
 use Rattle.std.specs.Prelude.{◌≡◌, ℕ, List, [], ◌∷◌, ◌++◌, length, map, String}
 use Rattle.std.specs.String.{string_bytes}
 use Rattle.std.specs.declared.alloc.Global.{Global}
-use Rattle.gm_store.specs.declared.proxies.Mark.{Mark}
+use Rattle.gm_store.specs.declared.proxy_list.Mark.{Mark}
 use Rattle.gm_store.specs.Proxies.{folders_of, marks_of}
 
--- the folders that ended, the marks at which they did, and the folder that comes last in the text
-pub record IsCut (text : List ℕ) (folders : List (String Global)) (marks : List Mark) (last : String Global) : Type 0 where
+-- the complete folders, the marks that end them, and the last folder, which may still grow
+pub record IsParsedPrefix (text : List ℕ) (folders : List (String Global)) (marks : List Mark) (last : String Global)
+    : Type 0 where
   pub folders_so_far : folders_of text ≡ map string_bytes folders ++ string_bytes last ∷ []
   pub marks_so_far : marks_of text ≡ marks
   pub between : length folders ≡ length marks

@@ -1,21 +1,22 @@
 -- A store in memory whose device fails once.
 use Rattle.std.specs.Prelude.{ℕ, ◌-◌, List, map, Option, Some, None}
-use Rattle.gm_store.specs.declared.failing.FailingFiles.{FailingFiles}
-use Rattle.gm_store.specs.declared.memory.MemoryFiles.{MemoryFiles}
+use Rattle.gm_store.specs.declared.failing_files.FailingFiles.{FailingFiles}
+use Rattle.gm_store.specs.declared.memory_files.MemoryFiles.{MemoryFiles}
 use Rattle.gm_store.specs.Asked.{Name, name_of}
 
--- the store whose answers these are
+-- the store that answers the requests that pass
 abbrev pub inside_of : FailingFiles → MemoryFiles
 inside_of store = store.inside
 
--- how many asks still go through before the device fails, or none once it has
+-- how many more requests pass before the device fails, or none once it has failed
 abbrev pub asks_left : FailingFiles → Option ℕ
 asks_left store = store.left
 
+-- the names whose requests were refused because the device failed, in order
 abbrev pub refused_by : FailingFiles → List Name
 refused_by store = map name_of store.refused.items
 
--- one ask fewer, where the device has not failed yet
+-- one request fewer, if the device has not failed yet
 abbrev pub one_fewer : Option ℕ → Option ℕ
 one_fewer None = None
 one_fewer (Some n) = Some (n - 1)

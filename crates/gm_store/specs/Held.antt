@@ -1,12 +1,12 @@
--- What a sink in memory holds.
+-- Views of a sink in memory.
 use Rattle.std.specs.Prelude.{ℕ, ◌-◌, List, length}
 use Rattle.gm_store.specs.declared.memory_sink.MemorySink.{MemorySink}
 
--- the bytes that it took
+-- the bytes taken so far
 abbrev pub held_in : MemorySink → List ℕ
 held_in sink = sink.bytes.items
 
--- how many more it takes
+-- how many more bytes it takes
 abbrev pub room_in : MemorySink → ℕ
 room_in sink = sink.room - length sink.bytes.items
 

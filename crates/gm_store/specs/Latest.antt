@@ -1,5 +1,5 @@
--- The latest of a module's versions. SemVer 2.0.0, section 9: "A pre-release version indicates that the version is unstable",
--- so the greatest version that is none counts, and the greatest of all only where each is one.
+-- The latest of a module's versions. SemVer 2.0.0, section 9: "A pre-release version indicates that the version is
+-- unstable", so it is the greatest release, and the greatest of all versions only if each is a pre-release.
 use Rattle.std.specs.Prelude.{◌≡◌, ◌⊎◌, ℕ, ◌==◌, ◌||◌, not, Bool, true, false, List, length, Contains, Option, Some, None}
 use Rattle.std.specs.Ordering.{is_gt}
 use Rattle.gm_name.specs.Version.{parts_in, version_cmp}
@@ -8,30 +8,33 @@ use Rattle.gm_name.specs.Version.{parts_in, version_cmp}
 abbrev pub is_release : List ℕ → Bool
 is_release version = length (parts_in version).3 == 0
 
--- a version that counts: each, or a release alone
+-- whether a version is considered: any version, or only a release
 abbrev pub counts : Bool → List ℕ → Bool
 counts releases_only version = not releases_only || is_release version
 
--- of the versions that count, none is greater
+-- the version is considered, and no considered version is greater
 pub record IsGreatest (releases_only : Bool) (versions : List (List ℕ)) (version : List ℕ) : Type 0 where
   pub listed : Contains versions version
   pub counted : counts releases_only version ≡ true
-  pub greatest : (other : List ℕ) → Contains versions other → counts releases_only other ≡ true → is_gt (version_cmp other version) ≡ false
+  pub greatest : (other : List ℕ) → Contains versions other → counts releases_only other ≡ true
+      → is_gt (version_cmp other version) ≡ false
 
--- no version counts
-abbrev pub NoneCounts : Bool → List (List ℕ) → Type 0
-NoneCounts releases_only versions = (other : List ℕ) → Contains versions other → counts releases_only other ≡ false
+-- no version is considered
+abbrev pub NoneConsidered : Bool → List (List ℕ) → Type 0
+NoneConsidered releases_only versions = (other : List ℕ) → Contains versions other
+    → counts releases_only other ≡ false
 
--- the greatest release, or the greatest version where there is no release
+-- the greatest release, or the greatest version if there is no release
 abbrev pub IsLatest : List (List ℕ) → List ℕ → Type 0
-IsLatest versions version = IsGreatest true versions version ⊎ (NoneCounts true versions × IsGreatest false versions version)
+IsLatest versions version = IsGreatest true versions version
+    ⊎ (NoneConsidered true versions × IsGreatest false versions version)
 
--- the greatest of the versions that count, or none where none does
+-- the greatest of the considered versions, or none if there are none
 abbrev pub IsGreatestOrNone : Bool → List (List ℕ) → Option (List ℕ) → Type 0
-IsGreatestOrNone releases_only versions None = NoneCounts releases_only versions
+IsGreatestOrNone releases_only versions None = NoneConsidered releases_only versions
 IsGreatestOrNone releases_only versions (Some version) = IsGreatest releases_only versions version
 
--- whether a version is greater than the greatest so far, if there is one
+-- whether a version is greater than the greatest so far; it is if there is none so far
 abbrev pub is_greater : List ℕ → Option (List ℕ) → Bool
 is_greater version None = true
 is_greater version (Some best) = is_gt (version_cmp version best)

@@ -9,11 +9,11 @@ pub mod Listed
 pub mod Memory
 pub mod Pieces
 pub mod Placed
-pub mod Places
+pub mod FoldersOnDisk
 pub mod Proxies
-pub mod Racks
+pub mod FolderLookups
 pub mod Relative
-pub mod Shelves
+pub mod FoldersInMemory
 pub mod Steps
 pub mod Stops
 pub mod Taken

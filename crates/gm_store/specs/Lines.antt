@@ -1,4 +1,4 @@
--- Lines of bytes, and the words on them.
+-- Lines of bytes, and the words in a line.
 use Rattle.std.specs.Prelude.{ℕ, ◌==◌, ◌||◌, nat_lt, Bool, List, drop, length}
 use Rattle.std.specs.List.{before_first, filter, prefix_len, slice_split}
 
@@ -10,18 +10,18 @@ is_blank b = b == 32 || b == 9 || b == 13
 abbrev pub is_line_end : ℕ → Bool
 is_line_end b = b == 10
 
--- the pieces between LFs. An empty last piece, which is no line, has no word either.
+-- the pieces between LFs. A text that ends in LF has an empty last piece, which is no line but has no word either.
 abbrev pub lines : List ℕ → List (List ℕ)
 lines text = slice_split is_line_end text
 
--- a line from its first byte that is no blank on
+-- a line without the blanks at its start
 abbrev pub after_blanks : List ℕ → List ℕ
 after_blanks line = drop (prefix_len is_blank line) line
 
--- the first word of a line: the bytes other than blanks from the first such byte on, and none where the line has no word
+-- the first word of a line: its first run of bytes that aren't blanks, or the empty list if there is none
 abbrev pub first_word : List ℕ → List ℕ
 first_word line = before_first is_blank (after_blanks line)
 
--- the fields of a line: the words between its blanks
+-- the fields of a line: all its words, in order
 abbrev pub fields : List ℕ → List (List ℕ)
 fields line = filter (λ word. nat_lt 0 (length word)) (slice_split is_blank line)

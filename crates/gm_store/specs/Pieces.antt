@@ -1,8 +1,9 @@
--- What one read of a reader adds.
+-- The effect of one read of a reader.
 use Rattle.std.specs.Prelude.{◌≡◌, ◌<◌, ◌≤◌, ℕ, List, ◌++◌, length, Option}
 use Rattle.std.specs.Io.KnownBytes.{Consumes, IsAtEnd}
 
--- so many bytes of the reader, at most those that there was room for, were added. A reader that gives none is at its end.
+-- `count` bytes of the reader, at most `room`, were appended. If there was room and no byte came, the reader is at
+-- its end.
 pub record AddsPiece (old new : Option (List ℕ)) (before after : List ℕ) (room count : ℕ) : Type 0 where
   pub piece : List ℕ
   pub counted : length piece ≡ count

@@ -1,34 +1,35 @@
--- Proxy folders, and which of them answers.
+-- Proxy lists: their text, and their folders and marks.
 use Rattle.std.specs.Prelude.{ℕ, ◌==◌, ◌&&◌, ◌||◌, not, nat_lt, Bool, List, length, map, codes, if◌then◌else◌}
 use Rattle.std.specs.List.{filter, slice_split}
 use Rattle.std.specs.Str.{bytes_eq}
 use Rattle.std.specs.String.{string_bytes}
-use Rattle.gm_store.specs.declared.proxies.Mark.{Mark}
-use Rattle.gm_store.specs.declared.proxies.Mark.TheVariants.{Comma, Bar}
-use Rattle.gm_store.specs.declared.proxies.ProxyList.{ProxyList}
+use Rattle.gm_store.specs.declared.proxy_list.Mark.{Mark}
+use Rattle.gm_store.specs.declared.proxy_list.Mark.TheVariants.{Comma, Bar}
+use Rattle.gm_store.specs.declared.proxy_list.ProxyList.{ProxyList}
 
 -- ---- the text of a proxy list
 
--- a ',' or a '|'
+-- a ',' or a '|', which separate folders
 abbrev pub is_mark : ℕ → Bool
 is_mark b = b == 44 || b == 124
 
+-- the mark that a separator byte stands for
 abbrev pub mark_of : ℕ → Mark
 mark_of b = if b == 44 then Comma else Bar
 
--- a folder's text: not empty, and none of the words that the go command keeps for other places
+-- a folder's text: not empty, and none of the words that the go command reserves for other sources
 abbrev pub is_folder : List ℕ → Bool
 is_folder text = nat_lt 0 (length text) && not (bytes_eq text (codes "direct")) && not (bytes_eq text (codes "off"))
 
--- the folders that a text names: what stands between its marks
+-- the folders that a text names: the parts between its marks
 abbrev pub folders_of : List ℕ → List (List ℕ)
 folders_of value = slice_split is_mark value
 
--- the marks between them
+-- the marks of a text, in order
 abbrev pub marks_of : List ℕ → List Mark
 marks_of value = map mark_of (filter is_mark value)
 
--- the folders and the marks of a list
+-- the folders of a parsed list, and its marks
 abbrev pub folders_in : ProxyList → List (List ℕ)
 folders_in list = map string_bytes list.folders.items
 

@@ -1,20 +1,25 @@
--- Where a look-up in several folders stops, over the whole list of what the folders hold.
+-- Laws about the GOPROXY fallback: a request has exactly one outcome.
 use Rattle.std.specs.Prelude.{◌≡◌, ◌<◌, ℕ, List, length, Option, Some, slice_get}
-use Rattle.gm_store.specs.declared.proxies.Mark.{Mark}
-use Rattle.gm_store.specs.declared.racks.Shelves.{Shelves}
+use Rattle.gm_store.specs.declared.proxy_list.Mark.{Mark}
+use Rattle.gm_store.specs.declared.folders_in_memory.FoldersInMemory.{FoldersInMemory}
 use Rattle.gm_store.specs.Asked.{Name, Reply}
-use Rattle.gm_store.specs.Racks.{looks_at}
+use Rattle.gm_store.specs.FolderLookups.{lookup_results}
 use Rattle.gm_store.specs.Steps.{MayStop, Seen, StopsAt}
 
--- there is one outcome and one count of failures
-abbrev pub StopsAreOne : Type 0
-StopsAreOne = (looks : List Seen) (marks : List Mark) (one other : Option Reply) (failures others : ℕ) → StopsAt looks marks one failures → StopsAt looks marks other others → (one ≡ other) × (failures ≡ others)
+-- for given results and marks there is at most one outcome and one count of failures
+abbrev pub OutcomeIsUnique : Type 0
+OutcomeIsUnique = (looks : List Seen) (marks : List Mark) (one other : Option Reply) (failures others : ℕ)
+    → StopsAt looks marks one failures → StopsAt looks marks other others
+    → (one ≡ other) × (failures ≡ others)
 
--- and there always is one, where a folder stands after each mark
-abbrev pub SomeFolderStops : Type 0
-SomeFolderStops = (looks : List Seen) (marks : List Mark) → length marks < length looks → (outcome : Option Reply) × (failures : ℕ) × StopsAt looks marks outcome failures
+-- there is an outcome if a folder follows each mark
+abbrev pub OutcomeExists : Type 0
+OutcomeExists = (looks : List Seen) (marks : List Mark) → length marks < length looks
+    → (outcome : Option Reply) × (failures : ℕ) × StopsAt looks marks outcome failures
 
--- over folders in memory it is that of what they hold
-abbrev pub StopsByWhatIsHeld : Type 0
-StopsByWhatIsHeld = (shelves : Shelves) (name : Name) (marks : List Mark) (outcome : Option Reply) (failures : ℕ)
-    → MayStop (λ k seen. slice_get (looks_at shelves name) k ≡ Some seen) marks outcome failures → StopsAt (looks_at shelves name) marks outcome failures
+-- over folders in memory each possible outcome is that of the results in all folders
+abbrev pub OutcomeFollowsContents : Type 0
+OutcomeFollowsContents = (folders : FoldersInMemory) (name : Name) (marks : List Mark)
+    (outcome : Option Reply) (failures : ℕ)
+    → MayStop (λ k seen. slice_get (lookup_results folders name) k ≡ Some seen) marks outcome failures
+    → StopsAt (lookup_results folders name) marks outcome failures

@@ -1,25 +1,27 @@
--- Over which folders a store stands, what it was asked and what it refused.
+-- Views of a fallback store: its folders and marks, its requests with their answers, and its refusals.
 use Rattle.std.specs.Prelude.{ℕ, List, map}
-use Rattle.gm_store.specs.declared.folder_store.FolderStore.{FolderStore}
-use Rattle.gm_store.specs.declared.proxies.Mark.{Mark}
-use Rattle.gm_store.specs.declared.walking.Folders.{Ghosts}
+use Rattle.gm_store.specs.declared.fallback_store.FallbackStore.{FallbackStore}
+use Rattle.gm_store.specs.declared.proxy_list.Mark.{Mark}
+use Rattle.gm_store.specs.declared.fallback_walk.Folders.{Ghosts}
 use Rattle.gm_store.specs.Asked.{Name, Reply, name_of}
 use Rattle.gm_store.specs.Memory.{pairs}
 
--- the folders, and the marks between them
-abbrev pub folders_under : {F : Type 0} {g : Ghosts F} → FolderStore F g → F
+-- the folders that requests are looked up in
+abbrev pub folders_under : {F : Type 0} {g : Ghosts F} → FallbackStore F g → F
 folders_under store = store.folders
 
-abbrev pub marks_between : {F : Type 0} {g : Ghosts F} → FolderStore F g → List Mark
+-- the marks between the proxy folders
+abbrev pub marks_between : {F : Type 0} {g : Ghosts F} → FallbackStore F g → List Mark
 marks_between store = store.marks.items
 
--- the names asked so far with their answers, and the names refused because the device failed, each in order
-abbrev pub asked_by : {F : Type 0} {g : Ghosts F} → FolderStore F g → List (Name × Reply)
+-- the requested names with their answers, in order
+abbrev pub asked_by : {F : Type 0} {g : Ghosts F} → FallbackStore F g → List (Name × Reply)
 asked_by store = pairs store.asked.items
 
-abbrev pub refused_by : {F : Type 0} {g : Ghosts F} → FolderStore F g → List Name
+-- the names whose requests were refused because the device failed, in order
+abbrev pub refused_by : {F : Type 0} {g : Ghosts F} → FallbackStore F g → List Name
 refused_by store = map name_of store.refused.items
 
 -- how often the device has failed
-abbrev pub faults_of : {F : Type 0} {g : Ghosts F} → FolderStore F g → ℕ
+abbrev pub faults_of : {F : Type 0} {g : Ghosts F} → FallbackStore F g → ℕ
 faults_of store = store.faults

@@ -1,7 +1,7 @@
--- Words in a row.
+-- Lists of words.
 use Rattle.std.specs.Prelude.{ℕ, List, [], ◌∷◌}
 
--- a word before further ones; the empty word stands for none
-abbrev pub put_word : List ℕ → List (List ℕ) → List (List ℕ)
-put_word [] words = []
-put_word (b ∷ word) words = (b ∷ word) ∷ words
+-- a word in front of other words; an empty word isn't put there
+abbrev pub prepend_word : List ℕ → List (List ℕ) → List (List ℕ)
+prepend_word [] words = []
+prepend_word (b ∷ word) words = (b ∷ word) ∷ words

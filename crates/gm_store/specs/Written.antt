@@ -1,7 +1,8 @@
--- What a sink over a writer stands on.
+-- Views of a sink over a writer.
 use Rattle.std.specs.Prelude.{ℕ}
 use Rattle.gm_store.specs.declared.std_sink.StdSink.{StdSink}
 
+-- the writer
 abbrev pub writer_of : {W : Type 0} → StdSink W → W
 writer_of sink = sink.writer
 

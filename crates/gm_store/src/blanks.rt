@@ -1,26 +1,29 @@
-//! Blanks and the words between them, in bytes that need not be text.
+//! Splitting a line of bytes at blanks: its first word, and the rest.
+//!
+//! List files of a proxy and the checksum file have lines of words. Their bytes need not be UTF-8, so words are
+//! cut from bytes here, and each caller checks the words that it uses.
 
 ghost use Rattle.std.specs.Prelude.{◌≡◌, ◌≤◌, length};
 ghost use Rattle.std.specs.List.{position_or_len, prefix_len};
 ghost use Rattle.gm_store.specs.Lines.{after_blanks, fields, first_word, is_blank};
-ghost use Rattle.gm_store.specs.Words.{put_word};
+ghost use Rattle.gm_store.specs.Words.{prepend_word};
 
-// Whether a byte is a space, a tab or a CR.
+/// Whether a byte is a blank: a space, a tab or a CR.
 pub(crate) fn is_blank(byte: u8) -> bool
     ensures { result ≡ is_blank byte }
 {
     byte == b' ' || byte == b'\t' || byte == b'\r'
 }
 
-// How many blanks stand in front.
-fn blanks_in_front(line: &[u8]) -> usize
+/// The number of blanks at the start of a line.
+fn leading_blanks(line: &[u8]) -> usize
     ensures count { result ≡ prefix_len is_blank line.now }
     ensures within { result ≤ length line.now }
 {
     line.iter().take_while(|byte| is_blank(**byte)).count()
 }
 
-// How many bytes stand before the first blank.
+/// The number of bytes before the first blank, or the line's length if it has none.
 fn bytes_before_blank(line: &[u8]) -> usize
     ensures count { result ≡ position_or_len is_blank line.now }
     ensures within { result ≤ length line.now }
@@ -28,14 +31,17 @@ fn bytes_before_blank(line: &[u8]) -> usize
     line.iter().take_while(|byte| !is_blank(**byte)).count()
 }
 
-// The line from its first byte that is no blank on.
+/// The line without the blanks at its start.
 fn after_blanks(line: &[u8]) -> &[u8]
     ensures { result.now ≡ after_blanks line.now }
 {
-    &line[blanks_in_front(line)..]
+    &line[leading_blanks(line)..]
 }
 
-/// The first word of a line, and none of its bytes where it has no word. A word ends at a space, a tab or a CR.
+/// The first word of a line, or the empty slice if the line has no word.
+///
+/// Words are separated by spaces, tabs and CRs. The result borrows from the line; time is linear in the bytes up
+/// to the word's end.
 pub fn first_word(line: &[u8]) -> &[u8]
     ensures { result.now ≡ first_word line.now }
 {
@@ -43,9 +49,11 @@ pub fn first_word(line: &[u8]) -> &[u8]
     &rest[..bytes_before_blank(rest)]
 }
 
-/// What stands after the first word of a line: its words are the line's further ones.
+/// The part of a line after its first word. Its words are the line's other words, in order.
+///
+/// It is empty if the line has no word, or ends with its first word. The result borrows from the line.
 pub fn rest_after_word(line: &[u8]) -> &[u8]
-    ensures { fields line.now ≡ put_word (first_word line.now) (fields result.now) }
+    ensures { fields line.now ≡ prepend_word (first_word line.now) (fields result.now) }
 {
     let rest = after_blanks(line);
     &rest[bytes_before_blank(rest)..]

@@ -1,4 +1,7 @@
-//! The names of files, answers, and the trait of stores.
+//! Names of files, answers, and `Files`, the trait of stores.
+//!
+//! Other crates get the files of dependencies only through this trait. A store keeps each answer, so a run is a
+//! function of the answers, and one store can stand in for another.
 
 ghost use Rattle.std.specs.Prelude.{◌≡◌, ◌+◌, ◌-◌, ◌^◌, ◌<◌, ◌⊎◌, ℕ, List, [], ◌∷◌, ◌++◌, length, slice_get, Some, None, OnOk, OnErr, IfOk};
 ghost use Rattle.gm_store.specs.Asked.{name_of};
@@ -8,21 +11,22 @@ use gm_name::{ModPath, ModVersion, NoMemory};
 use std::alloc::{AllocError, AllocFailed, Global};
 use thiserror::Error;
 
-/// The name of a file that a store is asked for.
+/// The name of a file that is requested from a store. The maps of memory stores use the derived
+/// order.
 #[derive(Debug, Drop, PartialEq, Eq, PartialOrd, Ord)]
 pub enum FileName {
-    /// The .mod file of a module at a version.
+    /// The `.mod` file of a module at a version.
     Mod(ModPath, ModVersion),
-    /// The go.mod of a folder, whose text is that of a `replace` directive.
+    /// The `go.mod` of a local folder, whose text is that of a `replace` directive.
     Folder(String),
-    /// The list of a module's versions.
+    /// The list file of a module, which names its versions.
     List(ModPath),
 }
 
 impl FileName {
     ghost use Rattle.gm_store.specs.Asked.{same_name};
 
-    /// Whether two names are the same.
+    /// Whether two names are the same: the same kind of file, with equal texts.
     pub fn is_same(&self, other: &FileName) -> bool
         ensures { result ≡ same_name (name_of self.now) (name_of other.now) }
     {
@@ -35,10 +39,10 @@ impl FileName {
     }
 }
 
-/// What a store answers.
+/// A store's answer to a request.
 #[derive(Debug, Drop)]
 pub enum Answer {
-    /// The file's bytes, at most `LIMIT`.
+    /// The file's bytes, at most `LIMIT` (16 MiB).
     Bytes(Vec<u8>),
     /// There is no such file.
     Absent,
@@ -46,14 +50,16 @@ pub enum Answer {
     TooLong,
 }
 
-// A name and the answer that it got.
+/// A requested name with its answer.
 #[derive(Drop)]
 pub struct Asked {
+    /// The name that was requested.
     pub name: FileName,
+    /// The answer to it.
     pub answer: Answer,
 }
 
-/// An equal name.
+/// A copy of a name. The only refusal is `NoMemory`.
 pub fn copy_name(alloc: Global, name: &FileName) -> Result<FileName, NoMemory>
     ensures { IfOk result (λ copy. name_of copy ≡ name_of name.now) }
 {
@@ -67,10 +73,10 @@ pub fn copy_name(alloc: Global, name: &FileName) -> Result<FileName, NoMemory>
 /// Why a store gave no answer.
 #[derive(Clone, Copy, Debug, PartialEq, Eq, Error)]
 pub enum AskFault {
-    /// A growth was refused.
+    /// Memory ran out.
     #[error("out of memory")]
     NoMemory,
-    /// The store's device failed in that call.
+    /// The store's device failed during this request.
     #[error("the device failed")]
     Device,
 }
@@ -91,51 +97,63 @@ impl<T: Drop> From<AllocFailed<T>> for AskFault {
     }
 }
 
-/// A store that is asked for each file at most once, and keeps the answers in the order of the asks.
+/// A store of files. It keeps its answers, in the order of the requests, and a file that was answered isn't
+/// requested again.
+///
+/// So the files of a run don't change while it lasts, and contracts can refer to all that was read.
 pub trait Files {
     ghost use Rattle.gm_store.specs.Asked.{Name, Reply, name_of, reply_of, names_in, replies_in, answer_in};
 
-    /// The names asked so far with their answers, in order.
+    /// The names requested so far with their answers, in order.
     ghost asked: { Self → List (Name × Reply) };
 
-    /// The names that were refused because the device failed, in order.
+    /// The names whose requests were refused because the device failed, in order.
     ghost refused: { Self → List Name };
 
-    /// How often the device has failed. It stays at its greatest value.
+    /// How often the device has failed. The count saturates at the greatest `u64`.
     ghost fault_count: { Self → ℕ };
 
-    /// What this store may answer for a name. Of a real device nothing is said.
+    /// The answers that this store may give to a name. For a real device any answer is possible.
     ghost may_answer: { Self → Name → Reply → Type 0 };
 
-    /// Asks for a file that was not asked before. The answer is kept; a refusal keeps the answers as they were.
+    /// Requests a file that was not requested before. If the store answers, the answer is kept, after the earlier
+    /// ones.
+    ///
+    /// `NoMemory` is returned if memory runs out, `Device` if the device fails. A refusal leaves the answers
+    /// unchanged, so the file may be requested again.
     fn ask(&mut self, name: &FileName) -> Result<(), AskFault>
         requires { answer_in (asked self.old) (name_of name.now) ≡ None }
-        ensures ok { OnOk result ((reply : Reply) × may_answer self.old (name_of name.now) reply × (asked self.new ≡ asked self.old ++ (name_of name.now, reply) ∷ [])) }
+        ensures ok { OnOk result ((reply : Reply) × may_answer self.old (name_of name.now) reply
+            × (asked self.new ≡ asked self.old ++ (name_of name.now, reply) ∷ [])) }
         ensures err { OnErr result (asked self.new ≡ asked self.old) }
 
-        // The device's failure keeps the name, and comes only where a failure was counted.
-        ensures refused { result ≡ Err AskFault.Device → refused self.new ≡ refused self.old ++ name_of name.now ∷ [] }
+        // A device failure records the name. It is returned only if a failure was counted, or if the count is
+        // already at its maximum.
+        ensures refused { result ≡ Err AskFault.Device
+            → refused self.new ≡ refused self.old ++ name_of name.now ∷ [] }
         ensures not_refused { (result ≡ Err AskFault.Device → ⊥) → refused self.new ≡ refused self.old }
-        ensures cause { result ≡ Err AskFault.Device → (fault_count self.old < fault_count self.new) ⊎ (fault_count self.old ≡ 2 ^ 64 - 1) }
+        ensures cause { result ≡ Err AskFault.Device
+            → (fault_count self.old < fault_count self.new) ⊎ (fault_count self.old ≡ 2 ^ 64 - 1) }
 
-        // An ask does not add to what the store may answer.
-        ensures same_store { (name : Name) (reply : Reply) → may_answer self.new name reply → may_answer self.old name reply };
+        // A request doesn't add possible answers.
+        ensures same_store { (name : Name) (reply : Reply)
+            → may_answer self.new name reply → may_answer self.old name reply };
 
-    /// How many names were asked.
+    /// The number of requests that were answered.
     fn count(&self) -> usize
         ensures { result ≡ length (asked self.now) };
 
-    /// The name that was asked at this place, counted from 0.
+    /// The name in answered request number `i`, counted from 0.
     fn name(&self, i: usize) -> &FileName
         requires { i < length (asked self.now) }
         ensures { slice_get (names_in (asked self.now)) i ≡ Some (name_of result.now) };
 
-    /// The answer to the ask at this place, counted from 0.
+    /// The answer to request number `i`, counted from 0.
     fn answer(&self, i: usize) -> &Answer
         requires { i < length (asked self.now) }
         ensures { slice_get (replies_in (asked self.now)) i ≡ Some (reply_of result.now) };
 
-    /// How often the device has failed, up to the greatest `u64`.
+    /// How often the device has failed. The count saturates at the greatest `u64`.
     fn faults(&self) -> u64
         ensures { result ≡ fault_count self.now };
 }

@@ -1,18 +1,20 @@
-//! The latest of a module's versions.
+//! The latest of a module's versions. Its `go.mod` file states which of them are retracted.
+//!
+//! Pre-releases are unstable (SemVer 2.0.0, section 9), so they are considered only if there is no release.
 
 ghost use Rattle.std.specs.Prelude.{◌≡◌, ◌&&◌, [], MatchOption, option_map};
 ghost use Rattle.gm_store.specs.Latest.{IsGreatestOrNone, IsLatest, counts, is_greater};
 
 use gm_name::ModVersion;
 
-// Whether a version counts: each does, or a release alone.
+/// Whether a version is considered: any version, or a release if `releases_only` is set.
 fn counts(releases_only: bool, version: &ModVersion) -> bool
     ensures { result ≡ counts releases_only version.now }
 {
     !releases_only || version.is_release()
 }
 
-// Whether a version is greater than the greatest so far, if there is one.
+/// Whether a version is greater than the greatest one so far. It is if there is none so far.
 fn is_greater(version: &ModVersion, best: Option<&ModVersion>) -> bool
     ensures { result ≡ is_greater version.now (option_map (λ best. best.now) best.entry) }
 {
@@ -22,14 +24,15 @@ fn is_greater(version: &ModVersion, best: Option<&ModVersion>) -> bool
     }
 }
 
-// Whether a version counts and is greater than the greatest so far.
+/// Whether a version is considered, and is greater than the greatest one so far.
 fn is_better(releases_only: bool, version: &ModVersion, best: Option<&ModVersion>) -> bool
-    ensures { result ≡ (counts releases_only version.now && is_greater version.now (option_map (λ best. best.now) best.entry)) }
+    ensures { result ≡ (counts releases_only version.now
+        && is_greater version.now (option_map (λ best. best.now) best.entry)) }
 {
     counts(releases_only, version) && is_greater(version, best)
 }
 
-// The greatest of the versions that count.
+/// The greatest of the versions that are considered, or `None` if there is none of them.
 fn greatest(versions: &[ModVersion], releases_only: bool) -> Option<&ModVersion>
     ensures { IsGreatestOrNone releases_only versions.now (option_map (λ best. best.now) result) }
 {
@@ -42,9 +45,13 @@ fn greatest(versions: &[ModVersion], releases_only: bool) -> Option<&ModVersion>
     best
 }
 
-/// The latest of some versions: the greatest that has no pre-release, or where each has one the greatest of all. A build
-/// counts as SemVer's order and the text's bytes have it. There is none exactly where there are no versions, and no memory is
-/// taken.
+/// The latest of some versions: the greatest release, or the greatest version if all are pre-releases.
+///
+/// Versions are compared by SemVer's order. Build metadata, which SemVer leaves unordered, is compared by its
+/// bytes. The result is `None` if and only if `versions` is empty. It borrows from the slice; time is linear, and
+/// no memory is allocated.
+///
+/// For example, the latest of `v1.0.0`, `v1.2.0` and `v2.0.0-rc.1` is `v1.2.0`.
 pub fn latest(versions: &[ModVersion]) -> Option<&ModVersion>
     ensures { MatchOption result (versions.now ≡ []) (λ version. IsLatest versions.now version.now) }
 {

@@ -1,23 +1,27 @@
-//! Laws of the texts of names and of look-ups in several folders. The functions do nothing: each contract is a law.
+//! Laws about file paths and about lookups in several folders. The functions do nothing; each contract is a law.
+//!
+//! They show that the definitions in the contracts mean what a reader expects: different files have different
+//! paths, and a lookup has exactly one outcome.
 
-ghost use Rattle.gm_store.specs.Relative.{TextsAreSmall, TextsDiffer};
-ghost use Rattle.gm_store.specs.Stops.{SomeFolderStops, StopsAreOne, StopsByWhatIsHeld};
+ghost use Rattle.gm_store.specs.Relative.{PathsAreLowercase, PathsDiffer};
+ghost use Rattle.gm_store.specs.Stops.{OutcomeExists, OutcomeIsUnique, OutcomeFollowsContents};
 
-/// Different module files have different texts, and no upper-case letter stands in them, so they differ also where a file
-/// system does not tell the case of letters apart.
-pub fn texts_of_names()
-    ensures differ { TextsDiffer }
-    ensures small { TextsAreSmall }
+/// Different module files have different paths. The paths have no upper-case letter, so they differ on file
+/// systems that ignore case as well.
+pub fn paths_of_files()
+    ensures differ { PathsDiffer }
+    ensures small { PathsAreLowercase }
 {}
 
-/// A look-up in several folders stops by `step` at one folder, so it has one answer or failure of the device, and one count
-/// of failures. It always stops, since a folder stands after each mark.
-pub fn look_ups_have_one_outcome()
-    ensures one { StopsAreOne }
-    ensures some { SomeFolderStops }
+/// A lookup in several folders stops at exactly one folder, as `step` decides. So it has one outcome, an answer or
+/// a failure of the device, and one count of failures. It always stops, because a folder follows each mark.
+pub fn lookups_have_one_outcome()
+    ensures one { OutcomeIsUnique }
+    ensures some { OutcomeExists }
 {}
 
-/// Over folders in memory, the outcome of a look-up is that of the whole list of what lies under the name in each folder.
-pub fn memory_folders_answer_what_they_hold()
-    ensures { StopsByWhatIsHeld }
+/// Over folders in memory, the outcome of a lookup follows from the contents of all folders under that name,
+/// including the folders that are not reached.
+pub fn memory_folders_answer_by_contents()
+    ensures { OutcomeFollowsContents }
 {}

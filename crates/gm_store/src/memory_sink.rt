@@ -1,4 +1,6 @@
-//! A sink that holds in memory what it takes.
+//! A sink in memory of limited size.
+//!
+//! Tests use it to see what was written, and to make writes fail after a chosen number of bytes.
 
 ghost use Rattle.std.specs.Prelude.{◌≡◌, ◌≤◌, [], IfOk, vec_len};
 ghost use Rattle.std.specs.Vec.{vec_capacity};
@@ -7,11 +9,15 @@ use crate::sinks::{Sink, WriteFault};
 use gm_name::NoMemory;
 use std::alloc::Global;
 
-/// A sink in memory. Its room is reserved when it is made, so a write takes no memory.
+/// A sink in memory. Its memory is reserved at the start, so a write never runs out of memory. It fails only when
+/// it is full.
 #[derive(Debug, Drop)]
 pub struct MemorySink {
+    /// The bytes taken so far.
     bytes: Vec<u8>,
+    /// How many bytes it takes in all.
     room: usize,
+    /// How often a write has failed. The count saturates.
     faults: u64,
     ghost fits: { vec_len bytes ≤ room },
     ghost reserved: { room ≤ vec_capacity bytes },
@@ -20,7 +26,7 @@ pub struct MemorySink {
 impl MemorySink {
     ghost use Rattle.gm_store.specs.Held.{faults_in, held_in, room_in};
 
-    /// A sink with room for so many bytes, or want of memory.
+    /// An empty sink that takes `room` bytes in all. The only refusal is `NoMemory`.
     pub fn new(alloc: Global, room: usize) -> Result<MemorySink, NoMemory>
         ensures empty { IfOk result (λ sink. held_in sink ≡ []) }
         ensures room { IfOk result (λ sink. room_in sink ≡ room) }
@@ -33,7 +39,7 @@ impl MemorySink {
         })
     }
 
-    /// The bytes taken so far.
+    /// The bytes taken so far, in order.
     pub fn bytes(&self) -> &[u8]
         ensures { result.now ≡ held_in self.now }
     {

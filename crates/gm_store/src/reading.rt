@@ -1,4 +1,7 @@
-//! Reading a limited number of bytes.
+//! Reading a file or stream up to a limit, so that no input can exhaust memory.
+//!
+//! Bytes are read in pieces that grow. Most files are small and fit the first piece; large files take few system
+//! calls.
 
 ghost use Rattle.gm_store.specs.Pieces.{AddsPiece};
 ghost use Rattle.gm_store.specs.declared.reading.ReadFault.TheVariants as read_fault;
@@ -8,25 +11,26 @@ use std::alloc::{AllocError, Global};
 use std::io::Read;
 use thiserror::Error;
 
-/// The most bytes that a file may have: 16 MiB.
+/// The greatest length of a file, in bytes: 16 MiB. The go command has the same limit for `go.mod` files.
 pub const LIMIT: usize = 16_777_216;
 
-// How many bytes are asked for first: more than most files have, and few enough to be made ready for each small file.
+/// The length of the first piece, in bytes. Most files are shorter, and zeroing so few bytes for each file is
+/// cheap.
 const FIRST: usize = 512;
 
-// How many bytes are asked for at once at most.
+/// The greatest length of a piece, in bytes.
 const MOST: usize = 65_536;
 
-// By what each piece that was filled is followed by a larger one.
+/// The factor by which the next piece is longer than one that was filled.
 const GROWTH: usize = 16;
 
-/// Why a reader's bytes were not read.
+/// Why reading failed.
 #[derive(Clone, Copy, Debug, PartialEq, Eq, Error)]
 pub enum ReadFault {
-    /// A growth was refused.
+    /// Memory ran out.
     #[error("out of memory")]
     NoMemory,
-    /// The reader failed.
+    /// A read failed.
     #[error("cannot read")]
     Device,
 }
@@ -39,20 +43,24 @@ impl From<AllocError> for ReadFault {
     }
 }
 
-// So many bytes, to read a piece into.
+/// A buffer of `length` bytes to read a piece into.
 fn piece_of(alloc: Global, length: usize) -> Result<Vec<u8>, ReadFault>
     ensures { IfOk result (λ piece. vec_len piece ≡ length) }
 {
     Ok(vec![in alloc; 0u8; length]?)
 }
 
-// Reads once, as much as there is room for, and adds what came.
+/// Reads once into `room`, and appends the bytes read to `bytes`. Returns their number, which is 0 at the reader's
+/// end (or if `room` is empty).
+///
+/// `Device` is returned if the read fails, `NoMemory` if memory runs out.
 fn read_piece<R: Read>(
     reader: &mut R,
     room: &mut [u8],
     bytes: &mut Vec<u8>,
 ) -> Result<usize, ReadFault>
-    ensures { IfOk result (λ count. AddsPiece (R.remaining reader.old) (R.remaining reader.new) bytes.old.items bytes.new.items (length room.old) count) }
+    ensures { IfOk result (λ count. AddsPiece (R.remaining reader.old) (R.remaining reader.new)
+        bytes.old.items bytes.new.items (length room.old) count) }
 {
     let Ok(count) = reader.read(room) else {
         return Err(ReadFault::Device);
@@ -61,10 +69,11 @@ fn read_piece<R: Read>(
     Ok(count)
 }
 
-/// All bytes of a reader, or the first `LIMIT + 1` if there are more, so that the caller sees that there are.
+/// Reads all bytes of a reader, or the first `LIMIT + 1` if there are more. A result longer than `LIMIT` tells the
+/// caller that the input is too long.
 ///
-/// `Device` comes where a read fails, an interrupted one too; what the reader gave before is lost. `NoMemory` comes where
-/// memory runs out. Each turn takes a byte or is the last.
+/// `Device` is returned if a read fails or is interrupted; the bytes read before are lost. `NoMemory` is returned
+/// if memory runs out. Each read but the last yields at least one byte, so the loop ends.
 pub fn read_limited<R: Read>(alloc: Global, reader: &mut R) -> Result<Vec<u8>, ReadFault>
     ensures bytes { IfOk result (λ bytes. IfSome (R.remaining reader.old) (λ all. bytes.items ≡ take (LIMIT + 1) all)) }
     ensures short { IfOk result (λ bytes. length bytes.items ≤ LIMIT + 1) }

@@ -1,4 +1,4 @@
--- Lines put into a document and taken out of it leave a document.
+-- Inserting lines into a document, or removing some, leaves a document.
 use Rattle.std.proofs.Common.{◌≡◌, ℕ, ◌-◌, ◌<◌, ◌≤◌, Bool, true, false, List, [], ◌∷◌, ◌++◌, length, take, drop, take-add, Option, Some, None, Ok, refl, sym, ap, subst, ◌∙◌, arith, inl, inr}
 use Rattle.std.specs.Prelude.{◌≢◌, ⊤, insert, slice_range}
 use Rattle.std.specs.List.{list_all}
@@ -8,37 +8,37 @@ use Rattle.gm_syntax.specs.declared.fault.SyntaxKind.TheVariants.{StrayClose, Ne
 use Rattle.gm_syntax.specs.declared.place.Place.{Place}
 use Rattle.gm_syntax.specs.Words.{Word}
 use Rattle.gm_syntax.specs.Spelling.{IsSuffix}
-use Rattle.gm_syntax.specs.Document.{Line, Blank, Comment, Open, Close, Entry, is_alone, ends_open, opens_block, begins_close, class_of, is_bare, is_mark, inside_after, inside_past, is_level, CanStand, IsEntry, AreLines, IsDocument, start, after, without}
+use Rattle.gm_syntax.specs.Document.{Line, Blank, Comment, Open, Close, Entry, is_alone, ends_open, opens_block, begins_close, class_of, is_bare, is_mark, inside_after, inside_after_all, is_level, IsValidLine, IsEntry, AreLines, IsDocument, start, after, without}
 use Rattle.gm_syntax.proofs.Classing.{class_blank, class_comment, class_inside_entry, class_entry}
 use Rattle.gm_syntax.proofs.Stable.{line_ok, same_ok, not_ok, and_both, after_inside, words_are_spelled, good_parts, from_words}
 
--- each line can stand at its place
-abbrev pub StandFrom : Bool → List (Line Word) → Type 0
-StandFrom inside [] = ⊤
-StandFrom inside (line ∷ lines) = CanStand inside line × StandFrom (inside_after inside line) lines
+-- each line is valid at its place
+abbrev pub AreValidFrom : Bool → List (Line Word) → Type 0
+AreValidFrom inside [] = ⊤
+AreValidFrom inside (line ∷ lines) = IsValidLine inside line × AreValidFrom (inside_after inside line) lines
 
-pub lines_stand : (at : Place) (lines : List (Line Word)) → AreLines at lines → StandFrom at.inside lines × (inside_past at.inside lines ≡ false)
+pub lines_stand : (at : Place) (lines : List (Line Word)) → AreLines at lines → AreValidFrom at.inside lines × (inside_after_all at.inside lines ≡ false)
 lines_stand at [] h = (tt, h)
 lines_stand at (l ∷ ls) h =
     let r = lines_stand (after at l) ls h.1 in
-    ((h.0, subst (λ (b : Bool). StandFrom b ls) (after_inside at l) r.0), subst (λ (b : Bool). inside_past b ls ≡ false) (after_inside at l) r.1)
+    ((h.0, subst (λ (b : Bool). AreValidFrom b ls) (after_inside at l) r.0), subst (λ (b : Bool). inside_after_all b ls ≡ false) (after_inside at l) r.1)
 
-pub standing_lines : (at : Place) (lines : List (Line Word)) → StandFrom at.inside lines → inside_past at.inside lines ≡ false → AreLines at lines
+pub standing_lines : (at : Place) (lines : List (Line Word)) → AreValidFrom at.inside lines → inside_after_all at.inside lines ≡ false → AreLines at lines
 standing_lines at [] s e = e
 standing_lines at (l ∷ ls) s e =
-    (s.0, standing_lines (after at l) ls (subst (λ (b : Bool). StandFrom b ls) (sym (after_inside at l)) s.1) (subst (λ (b : Bool). inside_past b ls ≡ false) (sym (after_inside at l)) e))
+    (s.0, standing_lines (after at l) ls (subst (λ (b : Bool). AreValidFrom b ls) (sym (after_inside at l)) s.1) (subst (λ (b : Bool). inside_after_all b ls ≡ false) (sym (after_inside at l)) e))
 
-stand_parts : (b : Bool) (xs ys : List (Line Word)) → StandFrom b (xs ++ ys) → StandFrom b xs × StandFrom (inside_past b xs) ys
+stand_parts : (b : Bool) (xs ys : List (Line Word)) → AreValidFrom b (xs ++ ys) → AreValidFrom b xs × AreValidFrom (inside_after_all b xs) ys
 stand_parts b [] ys s = (tt, s)
 stand_parts b (x ∷ xs) ys s = let r = stand_parts (inside_after b x) xs ys s.1 in ((s.0, r.0), r.1)
 
-stand_together : (b : Bool) (xs ys : List (Line Word)) → StandFrom b xs → StandFrom (inside_past b xs) ys → StandFrom b (xs ++ ys)
+stand_together : (b : Bool) (xs ys : List (Line Word)) → AreValidFrom b xs → AreValidFrom (inside_after_all b xs) ys → AreValidFrom b (xs ++ ys)
 stand_together b [] ys s t = t
 stand_together b (x ∷ xs) ys s t = (s.0, stand_together (inside_after b x) xs ys s.1 t)
 
-pub inside_past-append : (b : Bool) (xs ys : List (Line Word)) → inside_past b (xs ++ ys) ≡ inside_past (inside_past b xs) ys
-inside_past-append b [] ys = refl
-inside_past-append b (x ∷ xs) ys = inside_past-append (inside_after b x) xs ys
+pub inside_after_all-append : (b : Bool) (xs ys : List (Line Word)) → inside_after_all b (xs ++ ys) ≡ inside_after_all (inside_after_all b xs) ys
+inside_after_all-append b [] ys = refl
+inside_after_all-append b (x ∷ xs) ys = inside_after_all-append (inside_after b x) xs ys
 
 pub inside_after-level : (b : Bool) (line : Line Word) → is_level line ≡ true → inside_after b line ≡ b
 inside_after-level b Blank e = refl
@@ -47,26 +47,26 @@ inside_after-level b (Open verb suffix) e = absurd cc
 inside_after-level b (Close suffix) e = absurd cc
 inside_after-level b (Entry words suffix) e = refl
 
-pub inside_past-level : (b : Bool) (lines : List (Line Word)) → list_all is_level lines ≡ true → inside_past b lines ≡ b
-inside_past-level b [] e = refl
-inside_past-level b (l ∷ ls) e =
+pub inside_after_all-level : (b : Bool) (lines : List (Line Word)) → list_all is_level lines ≡ true → inside_after_all b lines ≡ b
+inside_after_all-level b [] e = refl
+inside_after_all-level b (l ∷ ls) e =
     let p = and_both (is_level l) (list_all is_level ls) e in
-    ap (λ (x : Bool). inside_past x ls) (inside_after-level b l p.0) ∙ inside_past-level b ls p.1
+    ap (λ (x : Bool). inside_after_all x ls) (inside_after-level b l p.0) ∙ inside_after_all-level b ls p.1
 
--- ---- out of a document
+-- ---- removing lines
 
--- lines between which and the end of which as much is open as before them
-pub lines_go_out : (front middle back : List (Line Word)) → IsDocument (front ++ (middle ++ back)) → inside_past (inside_past false front) middle ≡ inside_past false front → IsDocument (front ++ back)
+-- lines after which a block is open exactly if one is open before them
+pub lines_go_out : (front middle back : List (Line Word)) → IsDocument (front ++ (middle ++ back)) → inside_after_all (inside_after_all false front) middle ≡ inside_after_all false front → IsDocument (front ++ back)
 lines_go_out front middle back d e =
     let all = lines_stand start (front ++ (middle ++ back)) d in
     let parts = stand_parts false front (middle ++ back) all.0 in
-    let more = stand_parts (inside_past false front) middle back parts.1 in
-    let ended : inside_past (inside_past false front) back ≡ false =
-    ap (λ (b : Bool). inside_past b back) (sym e) ∙ sym (inside_past-append (inside_past false front) middle back) ∙ sym (inside_past-append false front (middle ++ back)) ∙ all.1 in
-    standing_lines start (front ++ back) (stand_together false front back parts.0 (subst (λ (b : Bool). StandFrom b back) e more.1)) (inside_past-append false front back ∙ ended)
+    let more = stand_parts (inside_after_all false front) middle back parts.1 in
+    let ended : inside_after_all (inside_after_all false front) back ≡ false =
+    ap (λ (b : Bool). inside_after_all b back) (sym e) ∙ sym (inside_after_all-append (inside_after_all false front) middle back) ∙ sym (inside_after_all-append false front (middle ++ back)) ∙ all.1 in
+    standing_lines start (front ++ back) (stand_together false front back parts.0 (subst (λ (b : Bool). AreValidFrom b back) e more.1)) (inside_after_all-append false front back ∙ ended)
 
 pub level_lines_go_out : (front middle back : List (Line Word)) → IsDocument (front ++ (middle ++ back)) → list_all is_level middle ≡ true → IsDocument (front ++ back)
-level_lines_go_out front middle back d e = lines_go_out front middle back d (inside_past-level (inside_past false front) middle e)
+level_lines_go_out front middle back d e = lines_go_out front middle back d (inside_after_all-level (inside_after_all false front) middle e)
 
 no_open : (words : List Word) (comment : Option (List ℕ)) (verb : Word) (suffix : Option (List ℕ)) → class_of true words comment ≡ Ok (Open verb suffix) → ⊥
 unfolding class_of
@@ -84,7 +84,7 @@ no_open (w ∷ ws) comment verb suffix e =
       ]
     ]
 
-open_outside : (b : Bool) (verb : Word) (suffix : Option (List ℕ)) → CanStand b (Open verb suffix) → b ≡ false
+open_outside : (b : Bool) (verb : Word) (suffix : Option (List ℕ)) → IsValidLine b (Open verb suffix) → b ≡ false
 open_outside false verb suffix s = refl
 open_outside true verb suffix (text, plain, at) = absurd (no_open at.words at.comment verb suffix at.classed)
 
@@ -95,20 +95,20 @@ slice_parts lines from to le =
     let tail : drop from lines ≡ middle ++ drop to lines = sym (take-append-drop (to - from) (drop from lines)) ∙ ap (λ (l : List (Line Word)). middle ++ l) past in
     sym (take-append-drop from lines) ∙ ap (λ (l : List (Line Word)). take from lines ++ l) tail
 
--- the same by places
-pub lines_go_out_at : (lines : List (Line Word)) (from to : ℕ) → from ≤ to → IsDocument lines → inside_past false (take to lines) ≡ inside_past false (take from lines) → IsDocument (without lines from to)
+-- the same, by index
+pub lines_go_out_at : (lines : List (Line Word)) (from to : ℕ) → from ≤ to → IsDocument lines → inside_after_all false (take to lines) ≡ inside_after_all false (take from lines) → IsDocument (without lines from to)
 lines_go_out_at lines from to le d e =
     let middle : List (Line Word) = slice_range lines from to in
     let whole = slice_parts lines from to le in
     let upto : take to lines ≡ take from lines ++ middle = ap (λ (n : ℕ). take n lines) (omega arith) ∙ take-add from (to - from) lines in
-    lines_go_out (take from lines) middle (drop to lines) (subst IsDocument whole d) (sym (inside_past-append false (take from lines) middle) ∙ ap (inside_past false) (sym upto) ∙ e)
+    lines_go_out (take from lines) middle (drop to lines) (subst IsDocument whole d) (sym (inside_after_all-append false (take from lines) middle) ∙ ap (inside_after_all false) (sym upto) ∙ e)
 
 pub level_lines_go_out_at : (lines : List (Line Word)) (from to : ℕ) → from ≤ to → IsDocument lines → list_all is_level (slice_range lines from to) ≡ true → IsDocument (without lines from to)
 level_lines_go_out_at lines from to le d e =
     let upto : take to lines ≡ take from lines ++ slice_range lines from to = ap (λ (n : ℕ). take n lines) (omega arith) ∙ take-add from (to - from) lines in
-    lines_go_out_at lines from to le d (ap (inside_past false) upto ∙ inside_past-append false (take from lines) (slice_range lines from to) ∙ inside_past-level (inside_past false (take from lines)) (slice_range lines from to) e)
+    lines_go_out_at lines from to le d (ap (inside_after_all false) upto ∙ inside_after_all-append false (take from lines) (slice_range lines from to) ∙ inside_after_all-level (inside_after_all false (take from lines)) (slice_range lines from to) e)
 
--- an opening, the level lines in its block, the closing, and level lines behind it
+-- an opening, the level lines in its block, the closing, and level lines after it
 pub block_goes_out_at : (lines inner behind : List (Line Word)) (from to : ℕ) (verb : Word) (suffix last : Option (List ℕ)) → from ≤ to → IsDocument lines → slice_range lines from to ≡ Open verb suffix ∷ (inner ++ Close last ∷ behind) → list_all is_level inner ≡ true → list_all is_level behind ≡ true → IsDocument (without lines from to)
 block_goes_out_at lines inner behind from to verb suffix last le d is e f =
     let front : List (Line Word) = take from lines in
@@ -116,11 +116,11 @@ block_goes_out_at lines inner behind from to verb suffix last le d is e f =
     let whole : lines ≡ front ++ (block ++ drop to lines) = slice_parts lines from to le ∙ ap (λ (l : List (Line Word)). front ++ (l ++ drop to lines)) is in
     let all = lines_stand start (front ++ (block ++ drop to lines)) (subst IsDocument whole d) in
     let opening = (stand_parts false front (block ++ drop to lines) all.0).1.0 in
-    let outside : inside_past false front ≡ false = open_outside (inside_past false front) verb suffix opening in
-    let closed : inside_past true (inner ++ Close last ∷ behind) ≡ false = inside_past-append true inner (Close last ∷ behind) ∙ inside_past-level false behind f in
+    let outside : inside_after_all false front ≡ false = open_outside (inside_after_all false front) verb suffix opening in
+    let closed : inside_after_all true (inner ++ Close last ∷ behind) ≡ false = inside_after_all-append true inner (Close last ∷ behind) ∙ inside_after_all-level false behind f in
     lines_go_out front block (drop to lines) (subst IsDocument whole d) (closed ∙ sym outside)
 
--- ---- into a document
+-- ---- inserting lines
 
 not_level : (l m : Line Word) → line_ok l ≡ line_ok m → is_level l ≡ false → is_level m ≡ true → ⊥
 not_level l m e n k = true≢false (sym k ∙ sym (ap is_level (same_ok l m e)) ∙ n)
@@ -172,34 +172,34 @@ class_level inside other (w ∷ ws) suffix l e k =
     let t = level_tests inside (w ∷ ws) suffix l e k in
     class_anywhere other (w ∷ ws) suffix (omega arith) t.0 t.1 ∙ sym (class_anywhere inside (w ∷ ws) suffix (omega arith) t.0 t.1) ∙ e
 
--- a level line that can stand somewhere can stand anywhere
-pub stands_anywhere : (inside other : Bool) (line : Line Word) → is_level line ≡ true → CanStand inside line → CanStand other line
-stands_anywhere inside other line k (text, plain, at) =
+-- a level line that is valid somewhere is valid anywhere
+pub valid_anywhere : (inside other : Bool) (line : Line Word) → is_level line ≡ true → IsValidLine inside line → IsValidLine other line
+valid_anywhere inside other line k (text, plain, at) =
     (text, plain, record { words = at.words; comment = at.comment; spelled = at.spelled; classed = class_level inside other at.words at.comment line at.classed k })
 
-pub level_line_goes_in : (front back : List (Line Word)) (line : Line Word) (inside : Bool) → IsDocument (front ++ back) → is_level line ≡ true → CanStand inside line → IsDocument (front ++ line ∷ back)
+pub level_line_goes_in : (front back : List (Line Word)) (line : Line Word) (inside : Bool) → IsDocument (front ++ back) → is_level line ≡ true → IsValidLine inside line → IsDocument (front ++ line ∷ back)
 level_line_goes_in front back line inside d k s =
     let all = lines_stand start (front ++ back) d in
     let parts = stand_parts false front back all.0 in
-    let b : Bool = inside_past false front in
+    let b : Bool = inside_after_all false front in
     let same : inside_after b line ≡ b = inside_after-level b line k in
     standing_lines start (front ++ line ∷ back)
-    (stand_together false front (line ∷ back) parts.0 (stands_anywhere inside b line k s, subst (λ (x : Bool). StandFrom x back) (sym same) parts.1))
-    (inside_past-append false front (line ∷ back) ∙ ap (λ (x : Bool). inside_past x back) same ∙ sym (inside_past-append false front back) ∙ all.1)
+    (stand_together false front (line ∷ back) parts.0 (valid_anywhere inside b line k s, subst (λ (x : Bool). AreValidFrom x back) (sym same) parts.1))
+    (inside_after_all-append false front (line ∷ back) ∙ ap (λ (x : Bool). inside_after_all x back) same ∙ sym (inside_after_all-append false front back) ∙ all.1)
 
--- the same by place
-pub level_line_goes_in_at : (lines : List (Line Word)) (at : ℕ) (line : Line Word) (inside : Bool) → IsDocument lines → is_level line ≡ true → CanStand inside line → IsDocument (insert lines at line)
+-- the same, by index
+pub level_line_goes_in_at : (lines : List (Line Word)) (at : ℕ) (line : Line Word) (inside : Bool) → IsDocument lines → is_level line ≡ true → IsValidLine inside line → IsDocument (insert lines at line)
 level_line_goes_in_at lines at line inside d k s = level_line_goes_in (take at lines) (drop at lines) line inside (subst IsDocument (sym (take-append-drop at lines)) d) k s
 
--- ---- lines that edits make
+-- ---- lines made by edits
 
-pub blank_stands : (inside : Bool) → CanStand inside Blank
+pub blank_stands : (inside : Bool) → IsValidLine inside Blank
 blank_stands inside = let s = words_are_spelled [] None tt tt in (s.0, s.1, record { words = []; comment = None; spelled = s.2; classed = class_blank inside })
 
-pub comment_stands : (inside : Bool) (text : List ℕ) → IsSuffix (Some text) → CanStand inside (Comment text)
+pub comment_stands : (inside : Bool) (text : List ℕ) → IsSuffix (Some text) → IsValidLine inside (Comment text)
 comment_stands inside text h = let s = words_are_spelled [] (Some text) tt h in (s.0, s.1, record { words = []; comment = Some text; spelled = s.2; classed = class_comment inside text })
 
-pub entry_stands : (inside : Bool) (words : List Word) (suffix : Option (List ℕ)) → IsEntry words suffix → CanStand inside (Entry words suffix)
+pub entry_stands : (inside : Bool) (words : List Word) (suffix : Option (List ℕ)) → IsEntry words suffix → IsValidLine inside (Entry words suffix)
 entry_stands inside words suffix h =
     let s = words_are_spelled words suffix h.are_words h.is_suffix in
     (s.0, s.1, record { words = words; comment = suffix; spelled = s.2; classed = class_anywhere inside words suffix h.filled h.opens_nothing h.closes_nothing })
@@ -208,7 +208,7 @@ filled_length : (words : List Word) → words ≢ [] → 0 < length words
 filled_length [] h = absurd (h refl)
 filled_length (w ∷ words) h = omega arith
 
-pub standing_entry : (inside : Bool) (words : List Word) (suffix : Option (List ℕ)) → CanStand inside (Entry words suffix) → IsEntry words suffix
+pub standing_entry : (inside : Bool) (words : List Word) (suffix : Option (List ℕ)) → IsValidLine inside (Entry words suffix) → IsEntry words suffix
 standing_entry inside words suffix (text, plain, at) =
     let f = from_words inside at.words at.comment (Entry words suffix) at.classed in
     let g = good_parts inside text (Entry words suffix) plain at words suffix f.0 f.1 in

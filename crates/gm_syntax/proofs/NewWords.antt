@@ -1,4 +1,4 @@
--- The words that edits make, and the values of words.
+-- The words made by edits, and the values of words.
 use Rattle.std.proofs.Common.{◌≡◌, ℕ, ◌-◌, ◌==◌, Bool, true, false, List, [], ◌∷◌, ◌++◌, length, None, refl, sym, ap, subst, ◌∙◌, arith, inl, inr, length-append}
 use Rattle.std.specs.Prelude.{◌||◌, ◌↔◌, if◌then◌else◌}
 use Rattle.std.proofs.lemmas.Bool.{cases_Bool, true≢false}
@@ -72,7 +72,7 @@ plain_escaped (b ∷ value) h = plain_append (if (b == 34) || (b == 92) then 92 
 pub plain_quoted : (value : List ℕ) → HasNoLineFeed value → HasNoLineFeed (in_quotes value)
 plain_quoted value h = (omega arith, plain_append (escaped value) (34 ∷ []) (plain_escaped value h) (omega arith, tt))
 
--- the function and the relation say one word
+-- the function and the relation describe the same word
 pub new_word_is : (value : List ℕ) (t : Placed) → IsNewWord value t → t ≡ record { word = new_word value; line = 0; span = None }
 new_word_is value t h =
     elim (cases_Bool (can_be_bare value)) [
@@ -93,7 +93,7 @@ new_word_stands value t plain h = subst (λ (p : Placed). IsWord p.word × HasVa
 no_mark : (b : ℕ) (value : List ℕ) → is_mark b (new_word value) ≡ false
 no_mark b value = elim (cases_Bool (can_be_bare value)) [ inl e ↦ rw e refl | inr e ↦ rw e refl ]
 
--- a new word is no punctuation
+-- a new word is not punctuation
 pub new_word_no_mark : (b : ℕ) (value : List ℕ) (t : Placed) → IsNewWord value t → is_mark b t.word ≡ false
 new_word_no_mark b value t h = ap (λ (p : Placed). is_mark b p.word) (new_word_is value t h) ∙ no_mark b value
 

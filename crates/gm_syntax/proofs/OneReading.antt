@@ -24,7 +24,7 @@ from_piece n line rest words after_bare piece.Comment le p e later = record { wo
 from_piece n line rest words after_bare (piece.Word kind m) le p e later = later (drop m rest) _ (is_bare kind) (omega (arith, length-drop m rest, word_positive p kind m e, word_in_range p kind m e)) (progress_word p kind m e)
 from_piece n line rest words after_bare (piece.Fault kind) le p e later = record { words = words; ending = Fault kind; only = progress_fault p kind e }
 
--- what is left of the line has one reading, so the line has
+-- since the rest of the line has only one reading, so has the line
 from_rest : (n : ℕ) (line rest : List ℕ) (words : List Word) (after_bare : Bool) → length rest ≤ n → Progress line words after_bare rest → OneReading line
 from_rest zero line rest words after_bare le p = from_piece zero line rest words after_bare (piece_of after_bare rest) le p refl (λ other more b lt q. absurd (omega arith))
 from_rest (suc n) line rest words after_bare le p = from_piece (suc n) line rest words after_bare (piece_of after_bare rest) le p refl (λ other more b lt q. from_rest n line other more b (omega arith) q)

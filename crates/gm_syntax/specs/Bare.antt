@@ -1,10 +1,10 @@
--- Which texts can stand as one bare word, as a test that computes, and the word that an edit makes of a text.
+-- Which texts can be one bare word, as a test that computes, and the word that an edit makes from a text.
 use Rattle.std.specs.Prelude.{length, ℕ, suc, ◌==◌, ◌||◌, ◌&&◌, Bool, false, not, List, [], ◌∷◌, ◌++◌, if◌then◌else◌}
 use Rattle.gm_syntax.specs.declared.word.Kind.TheVariants.{Bare, Text}
 use Rattle.gm_syntax.specs.Bytes.{is_word_byte}
 use Rattle.gm_syntax.specs.Words.{Word, escaped}
 
--- the text begins with that byte
+-- the text begins with this byte
 abbrev pub begins : ℕ → List ℕ → Bool
 begins b [] = false
 begins b (c ∷ bytes) = c == b
@@ -19,12 +19,13 @@ abbrev pub begins_arrow : List ℕ → Bool
 begins_arrow [] = false
 begins_arrow (b ∷ bytes) = (b == 61) && begins 62 bytes
 
--- how far a bare word runs from the begin of a text: over bytes of bare words, up to // or /*
+-- how many bytes from the start a bare word takes: bytes that it may have, up to // or /*
 unfoldable pub bare_len : List ℕ → ℕ
 bare_len [] = 0
 bare_len (b ∷ bytes) = if is_word_byte b && not (opens_comment (b ∷ bytes)) then suc (bare_len bytes) else 0
 
--- the text can stand as one bare word, as IsBare says it: it isn't empty, doesn't begin with =>, and a bare word runs over all of it
+-- the text can be one bare word, as IsBare states it: it is not empty, does not begin with =>, and a bare word
+-- takes all of it
 unfoldable pub can_be_bare : List ℕ → Bool
 can_be_bare bytes = not (length bytes == 0) && (not (begins_arrow bytes) && (bare_len bytes == length bytes))
 
@@ -32,6 +33,7 @@ can_be_bare bytes = not (length bytes == 0) && (not (begins_arrow bytes) && (bar
 abbrev pub in_quotes : List ℕ → List ℕ
 in_quotes value = 34 ∷ (escaped value ++ 34 ∷ [])
 
--- the word that an edit makes for a value: bare where it can be, else in quotes
+-- the word that an edit makes for a value: bare if possible, otherwise in quotes
 abbrev pub new_word : List ℕ → Word
-new_word value = if can_be_bare value then record { kind = Bare; spelling = value } else record { kind = Text; spelling = in_quotes value }
+new_word value = if can_be_bare value then record { kind = Bare; spelling = value }
+    else record { kind = Text; spelling = in_quotes value }

@@ -1,28 +1,28 @@
-//! Why a call gives no value, and the line that says so. Calls go to functions of several crates, each with faults of its own,
-//! and `?` makes one type of them.
+//! Why a call gives no value, and the line that says so. Calls go to functions of several crates, each with its own
+//! faults, and `?` turns these into one type.
 
 use gm_file::{DirectiveKind, FileFault};
 use gm_name::{EscapeFault, PathFault, VersionFault};
-use gm_sums::SumFault;
-use gm_syntax::fault::{SyntaxFault, SyntaxKind};
+use gm_store_sums::SumFault;
+use gm_syntax::{SyntaxFault, SyntaxKind};
 use std::alloc::{AllocError, Global};
 
 /// Why a call gives no value. All but the first two are named in what it prints.
 #[derive(Clone, Copy, Debug, PartialEq, Eq)]
 pub(crate) enum CallFault {
-    /// A growth was refused.
+    /// Memory ran out.
     NoMemory,
     /// There is no such call, or the case has no file of that name.
     NoCall,
-    /// A text is no module path.
+    /// A text is not a module path.
     BadPath,
-    /// A text is no version, not even one that isn't canonical.
+    /// A text is not a version, not even one that isn't canonical.
     BadVersion,
     /// A version isn't canonical.
     NotCanonical,
     /// A version doesn't fit its path.
     Misfit,
-    /// A text is no escaped text.
+    /// A text is not an escaped name.
     BadEscape,
     /// A file has too many bytes.
     TooMany,
@@ -37,7 +37,7 @@ pub(crate) enum CallFault {
 }
 
 impl CallFault {
-    /// The line that names it, which is none where there is no such call.
+    /// The line that names it, or none where there is no such call.
     pub(crate) fn line(self, alloc: Global) -> Result<Option<String>, AllocError> {
         let line = match self {
             CallFault::NoMemory => return Err(AllocError),

@@ -1,13 +1,13 @@
-//! Calls: commands of a case that call a function of a library, for rules that no command line shows by itself. docs/CASES.md
-//! says what each of them gives.
+//! Calls: commands of a case that call a function of a library, for rules that no command line shows by itself.
+//! docs/CASES.md says what each of them gives.
 
 use crate::call_faults::CallFault;
 use crate::views::View;
 use crate::{file_calls, name_calls, store_calls};
 use std::alloc::{AllocError, Global};
 
-/// What a call prints. There is none where there is no such call, it has another number of arguments, or a file that it names
-/// is not there.
+/// What a call prints, or none if there is no such call, the number of arguments is wrong, or a file that it names
+/// doesn't exist.
 pub(crate) fn call(
     alloc: Global,
     view: &View<'_>,
@@ -54,7 +54,7 @@ fn about_names(alloc: Global, name: &str, arguments: &[&str]) -> Result<String, 
     }
 }
 
-/// What a call about words and places gives, which needs no file.
+/// What a call about words and places gives. It needs no file.
 fn about_places(alloc: Global, name: &str, arguments: &[&str]) -> Result<String, CallFault> {
     match (name, arguments) {
         ("spell", [value]) => file_calls::spell(alloc, value),

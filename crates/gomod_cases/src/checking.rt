@@ -1,145 +1,166 @@
-//! Whether the commands of a case come to what it says.
+//! Whether the commands of a case have the results that it states.
 
 use crate::calls::call;
 use crate::cases::{Case, Run};
+use crate::differences::Differences;
 use crate::folders::{lay_files, make_folder};
 use crate::memory::outcome_in_memory;
-use crate::outcomes::{Outcome, Rooms};
-use crate::realm::{Realm, are_opened, is_each_opened_once};
+use crate::outcomes::{Outcome, Room};
 use crate::stores::Form;
 use crate::sweeping::sweep;
-use crate::telling::Told;
 use crate::views::View;
+use crate::workspace::{Workspace, are_opened, is_each_opened_once};
 use std::{fs, io};
 
-/// How many bytes more than it is to write a command may write to an output.
+/// How many bytes beyond the expected ones an output takes.
 const SPARE: usize = 4_096;
 
-/// The outputs that a command is run over.
-pub(crate) fn rooms_for(run: &Run<'_>) -> Rooms {
-    Rooms {
+/// The room of the outputs that a command is run with.
+pub(crate) fn room_for(run: &Run<'_>) -> Room {
+    Room {
         out: run.out.len().saturating_add(SPARE),
         report: run.report.len().saturating_add(SPARE),
     }
 }
 
-/// Checks the commands of a case, and tells how what they come to differs from what the case says.
+/// Checks the commands of a case, and reports how their results differ from those that the case states.
 pub(crate) fn check_case(
     rt: &HostRuntime,
     number: usize,
     case: &Case<'_>,
-    told: &mut Told,
+    differences: &mut Differences,
 ) -> io::Result<()> {
     let root = make_folder(rt, number)?;
     let root = root.as_str();
     let folder = format!(in rt.alloc(); "{root}/main")?;
-    let checked = check_in(rt, folder.as_str(), case, told);
+    let checked = check_in(rt, folder.as_str(), case, differences);
     fs::remove_dir_all(rt, root)?;
     checked
 }
 
-fn check_in(rt: &HostRuntime, folder: &str, case: &Case<'_>, told: &mut Told) -> io::Result<()> {
+fn check_in(
+    rt: &HostRuntime,
+    folder: &str,
+    case: &Case<'_>,
+    differences: &mut Differences,
+) -> io::Result<()> {
     lay_files(rt, folder, case)?;
-    let realm = Realm {
+    let workspace = Workspace {
         system: *rt,
         folder,
         input: case.input(),
     };
     for run in &case.runs {
-        check_run(&realm, case, run, told)?;
+        check_run(&workspace, case, run, differences)?;
     }
-    if told.is_empty() && !case.is_large {
-        sweep(&realm, case, told)?;
+    if differences.is_empty() && !case.is_large {
+        sweep(&workspace, case, differences)?;
     }
     Ok(())
 }
 
-fn check_run(realm: &Realm<'_>, case: &Case<'_>, run: &Run<'_>, told: &mut Told) -> io::Result<()> {
+fn check_run(
+    workspace: &Workspace<'_>,
+    case: &Case<'_>,
+    run: &Run<'_>,
+    differences: &mut Differences,
+) -> io::Result<()> {
     if !run.is_command_line() {
-        return check_call(realm, case, run, told);
+        return check_call(workspace, case, run, differences);
     }
-    let opens_none = check_real(realm, run, told)?;
-    if !run.is_over_files_only {
-        check_in_memory(realm, case, run, opens_none, told)?;
-    }
-    Ok(())
+    check_real(workspace, run, differences)?;
+    check_in_memory(workspace, case, run, differences)
 }
 
 /// Checks a call of a library function.
 fn check_call(
-    realm: &Realm<'_>,
+    workspace: &Workspace<'_>,
     case: &Case<'_>,
     run: &Run<'_>,
-    told: &mut Told,
+    differences: &mut Differences,
 ) -> io::Result<()> {
-    let alloc = realm.system.alloc();
+    let alloc = workspace.system.alloc();
     let words = run.texts(alloc)?;
     let Some(text) = call(alloc, &View::whole(case), words.as_slice())? else {
-        told.command(run, "as a call")?;
-        told.line("  there is no such call, or a file that it names is not there")?;
+        differences.command(run, "as a call")?;
+        differences.line("  there is no such call, or a file that it names is not there")?;
         return Ok(());
     };
     if text.as_slice() != run.out.as_slice() {
-        told.command(run, "as a call")?;
-        told.line("  got:")?;
-        told.text(">", text.as_slice())?;
-        told.wanted(run)?;
+        differences.command(run, "as a call")?;
+        differences.line("  got:")?;
+        differences.text(">", text.as_slice())?;
+        differences.wanted(run)?;
     }
     Ok(())
 }
 
-/// Checks a command line over real files, and says whether it opens none.
-fn check_real(realm: &Realm<'_>, run: &Run<'_>, told: &mut Told) -> io::Result<bool> {
-    let alloc = realm.system.alloc();
-    let real = realm.outcome(run, rooms_for(run))?;
+/// Checks a command line over real files.
+fn check_real(
+    workspace: &Workspace<'_>,
+    run: &Run<'_>,
+    differences: &mut Differences,
+) -> io::Result<()> {
+    let alloc = workspace.system.alloc();
+    let real = workspace.outcome(run, room_for(run))?;
     if !is_wanted(run, &real.outcome) {
-        told.command(run, "over real files")?;
-        told.outcome(&real.outcome)?;
-        told.wanted(run)?;
-        return Ok(false);
+        differences.command(run, "over real files")?;
+        differences.outcome(&real.outcome)?;
+        return Ok(differences.wanted(run)?);
     }
     let is_right = match &run.opened {
         Some(names) => are_opened(alloc, real.opened.as_slice(), names.as_slice())?,
         None => is_each_opened_once(alloc, real.opened.as_slice())?,
     };
     if !is_right {
-        told.command(run, "the files that it opens")?;
-        told.line("  got:")?;
-        told.opened(real.opened.as_slice())?;
+        differences.command(run, "the files that it opens")?;
+        differences.line("  got:")?;
+        differences.opened(real.opened.as_slice())?;
     }
-    Ok(real.opened.is_empty())
+    Ok(())
 }
 
-/// Checks a command line over a store in memory.
+/// Checks a command line over a store in memory. Where the result differs there, or the command can't be run in memory,
+/// the case has to say so.
 fn check_in_memory(
-    realm: &Realm<'_>,
+    workspace: &Workspace<'_>,
     case: &Case<'_>,
     run: &Run<'_>,
-    opens_none: bool,
-    told: &mut Told,
+    differences: &mut Differences,
 ) -> io::Result<()> {
-    let alloc = realm.system.alloc();
-    let words = run.texts(alloc)?;
-    let view = View::whole(case);
-    let found = outcome_in_memory(alloc, &view, words.as_slice(), Form::Named, rooms_for(run))?;
-    match found {
-        Some(found) if !is_wanted(run, &found.outcome) => {
-            told.command(run, "in memory")?;
-            told.outcome(&found.outcome)?;
-            told.wanted(run)?;
+    let found = match &run.parsed {
+        Some(parsed) => {
+            let view = View::whole(case);
+            outcome_in_memory(
+                workspace.system.alloc(),
+                &view,
+                parsed,
+                Form::Named,
+                room_for(run),
+            )?
         }
-        Some(_) => {}
-        // a fault of usage, or help
-        None if opens_none => {}
-        None => {
-            told.command(run, "in memory")?;
-            told.line("  has no form in memory: say so by a line % files")?;
+        None => None,
+    };
+    let is_needless = match &found {
+        Some(found) => is_wanted(run, &found.outcome),
+        // a usage error, or a request for help
+        None => run.parsed.is_none(),
+    };
+    if run.is_over_files_only == is_needless {
+        differences.command(run, "in memory")?;
+        match found {
+            _ if is_needless => differences.line("  its line % files is not needed")?,
+            Some(found) => {
+                differences.outcome(&found.outcome)?;
+                differences.wanted(run)?;
+            }
+            None => differences.line("  has no form in memory: say so by a line % files")?,
         }
     }
     Ok(())
 }
 
-/// Whether a command came to what the case says.
+/// Whether a command had the result that the case states.
 fn is_wanted(run: &Run<'_>, outcome: &Outcome) -> bool {
     outcome.out.bytes() == run.out.as_slice()
         && outcome.report.bytes() == run.report.as_slice()

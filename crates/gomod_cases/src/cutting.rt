@@ -1,18 +1,17 @@
-//! What commands come to where one of their files is cut off.
+//! Commands over files of which one is cut off.
 
 use crate::cases::{Case, Run};
-use crate::memory::outcome_in_memory;
-use crate::outcomes::{DEVICE, Outcome, Rooms};
-use crate::realm::Realm;
+use crate::differences::Differences;
+use crate::memory::{layout, outcome_in_memory};
+use crate::outcomes::{DEVICE, Outcome, Room};
 use crate::stores::Form;
-use crate::telling::Told;
 use crate::views::View;
-use gm_words::{Command, read_words};
+use crate::workspace::Workspace;
 use std::alloc::{AllocError, Global};
 use std::io;
 
-/// The outputs of a command over a file that is cut off.
-const AMPLE: Rooms = Rooms {
+/// The room of the outputs of a command over a file that is cut off.
+const AMPLE: Room = Room {
     out: 16_384,
     report: 16_384,
 };
@@ -24,65 +23,64 @@ pub(crate) struct Cut<'a> {
     pub(crate) bytes: &'a [u8],
 }
 
-/// Runs the commands of a case over real files, of which one is cut off, and over the same in memory. Both have to come to the same, a
-/// command that fails writes nothing but its report, and where `fmt` refuses a main file each command over it reports the same.
+/// Runs the commands of a case over real files of which one is cut off, and over the same files in memory. Both must
+/// have the same result, a command that fails writes nothing but its report, and where `fmt` refuses a main file each
+/// command over it reports the same.
 pub(crate) fn check_cut(
-    realm: &Realm<'_>,
+    workspace: &Workspace<'_>,
     case: &Case<'_>,
     cut: &Cut<'_>,
-    told: &mut Told,
+    differences: &mut Differences,
 ) -> io::Result<()> {
-    let alloc = realm.system.alloc();
+    let alloc = workspace.system.alloc();
     let view = View {
         case,
         cut: Some((cut.name, cut.bytes)),
     };
-    let layout = layout_of(alloc, &view, cut.name)?;
+    let layout = layout_of(alloc, case, cut)?;
     for run in &case.runs {
         if !run.is_command_line() {
             continue;
         }
-        let real = realm.outcome(run, AMPLE)?;
-        let words = run.texts(alloc)?;
-        let words = words.as_slice();
-        // a go.sum that can't be read is reported before a main file that doesn't read
+        let real = workspace.outcome(run, AMPLE)?;
+        // an invalid go.sum is reported before an invalid main file
         let fault = match &layout {
-            Some(layout) if run.status != DEVICE && is_main(alloc, words, cut.name)? => {
+            Some(layout) if run.status != DEVICE && reads_main(run, cut.name) => {
                 differs(layout, &real.outcome)
             }
             _ => None,
         };
         let fault = match fault {
             Some(fault) => Some(fault),
-            None => unsound(alloc, &view, run, words, &real.outcome)?,
+            None => unsound(alloc, &view, run, &real.outcome)?,
         };
         if let Some(fault) = fault {
-            told.command(run, fault)?;
-            told.line(cut.name)?;
-            told.number("  cut off after so many bytes", cut.bytes.len())?;
-            return Ok(told.outcome(&real.outcome)?);
+            differences.command(run, fault)?;
+            differences.line(cut.name)?;
+            differences.number("  cut off after so many bytes", cut.bytes.len())?;
+            return Ok(differences.outcome(&real.outcome)?);
         }
     }
     Ok(())
 }
 
-/// What `fmt` comes to over a file that is cut off.
-fn layout_of(alloc: Global, view: &View<'_>, name: &str) -> Result<Option<Outcome>, AllocError> {
-    let words = ["gomod", "fmt", name];
-    let found = outcome_in_memory(alloc, view, &words, Form::Named, AMPLE)?;
-    Ok(found.map(|found| found.outcome))
-}
-
 /// Whether a command reads this file as a main file.
-fn is_main(alloc: Global, words: &[&str], name: &str) -> Result<bool, AllocError> {
-    match read_words(alloc, words) {
-        Ok((Command::Versions { .. }, _)) => Ok(false),
-        Ok((_, places)) => Ok(places.main.as_str() == name),
-        Err(_) => Ok(false),
+fn reads_main(run: &Run<'_>, name: &str) -> bool {
+    match &run.parsed {
+        Some(parsed) => parsed.reads_main(name),
+        None => false,
     }
 }
 
-/// How a command over a main file differs from what `fmt` reports of it.
+/// The result of `fmt` over a file that is cut off, if a command of the case reads it as a main file.
+fn layout_of(alloc: Global, case: &Case<'_>, cut: &Cut<'_>) -> Result<Option<Outcome>, AllocError> {
+    if !case.runs.iter().any(|run| reads_main(run, cut.name)) {
+        return Ok(None);
+    }
+    Ok(Some(layout(alloc, cut.bytes, AMPLE)?))
+}
+
+/// How a command over a main file differs from what `fmt` reports.
 fn differs(layout: &Outcome, outcome: &Outcome) -> Option<&'static str> {
     if layout.status == 0 || layout.is_same(outcome) {
         None
@@ -91,28 +89,30 @@ fn differs(layout: &Outcome, outcome: &Outcome) -> Option<&'static str> {
     }
 }
 
-/// What is wrong with what a command came to over files of which one is cut off.
+/// What is wrong with the result of a command over files of which one is cut off.
 fn unsound(
     alloc: Global,
     view: &View<'_>,
     run: &Run<'_>,
-    words: &[&str],
     outcome: &Outcome,
 ) -> Result<Option<&'static str>, AllocError> {
     if !is_sound(run, outcome) {
         return Ok(Some("over a file that is cut off"));
     }
+    let Some(parsed) = &run.parsed else {
+        return Ok(None);
+    };
     if run.is_over_files_only {
         return Ok(None);
     }
-    match outcome_in_memory(alloc, view, words, Form::Named, AMPLE)? {
+    match outcome_in_memory(alloc, view, parsed, Form::Named, AMPLE)? {
         Some(found) if !found.outcome.is_same(outcome) => Ok(Some("otherwise than in memory")),
         _ => Ok(None),
     }
 }
 
-/// Whether a command that fails writes nothing to its output and says why, and one that does not fail reports nothing. It fails as a
-/// device does, or by a fault of usage, only where it does over the whole file.
+/// Whether a command that fails writes nothing to its output and reports why, and one that succeeds reports nothing. A
+/// status of 2 or 3 is right only where the command has it over the whole file too.
 fn is_sound(run: &Run<'_>, outcome: &Outcome) -> bool {
     let out = outcome.out.bytes();
     let report = outcome.report.bytes();

@@ -2,12 +2,12 @@
 
 use std::alloc::{AllocError, AllocFailed, Global};
 
-/// Why escaped text has no bytes.
+/// Why escaped text can't be read.
 #[derive(Clone, Copy, Debug, PartialEq, Eq)]
 pub(crate) enum EscapeFault {
-    /// A growth was refused.
+    /// Memory ran out.
     NoMemory,
-    /// A backslash is followed by what is no escape.
+    /// A backslash begins no known escape.
     NoEscape,
 }
 
@@ -23,7 +23,7 @@ impl<T: Drop> From<AllocFailed<T>> for EscapeFault {
     }
 }
 
-/// What the bytes so far ended in.
+/// What the bytes so far end in.
 #[derive(Clone, Copy)]
 enum State {
     Plain,
@@ -35,7 +35,7 @@ enum State {
     FirstDigit(u8),
 }
 
-/// Takes escaped text byte by byte, and keeps the bytes that it stands for.
+/// Takes escaped text byte by byte, and keeps the bytes that it denotes.
 #[derive(Drop)]
 pub(crate) struct Unescaper {
     bytes: Vec<u8>,
@@ -50,12 +50,12 @@ impl Unescaper {
         }
     }
 
-    /// Whether an escape is begun and not ended.
+    /// Whether an escape has begun and not ended.
     pub(crate) fn is_inside_escape(&self) -> bool {
         !matches!(self.state, State::Plain)
     }
 
-    /// Takes a byte that is no part of an escape.
+    /// Takes a byte outside an escape.
     pub(crate) fn push(&mut self, byte: u8) -> Result<(), EscapeFault> {
         self.bytes.push(byte)?;
         Ok(())
@@ -92,7 +92,7 @@ impl Unescaper {
     }
 }
 
-/// The byte that a backslash and this byte stand for.
+/// The byte that a backslash and this byte denote.
 fn escaped(byte: u8) -> Option<u8> {
     match byte {
         b'n' => Some(b'\n'),
@@ -120,7 +120,7 @@ fn joined(first: u8, second: u8) -> Option<u8> {
     first.checked_mul(16)?.checked_add(second)
 }
 
-/// The bytes that escaped text stands for.
+/// The bytes that escaped text denotes.
 pub(crate) fn unescaped(alloc: Global, text: &str) -> Result<Vec<u8>, EscapeFault> {
     let mut unescaper = Unescaper::new(alloc);
     for byte in text.as_bytes() {

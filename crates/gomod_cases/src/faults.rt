@@ -1,4 +1,4 @@
-//! Why a text is no file of cases.
+//! Why a text is not a file of cases.
 
 use crate::escapes::EscapeFault;
 use crate::words::WordFault;
@@ -7,7 +7,7 @@ use thiserror::Error;
 
 /// What is wrong with a line of a file of cases.
 #[derive(Clone, Copy, Debug, PartialEq, Eq, Error)]
-pub enum LineFault {
+pub(crate) enum LineFault {
     #[error("stands before the first title")]
     BeforeTitle,
     #[error("begins with no mark of a case")]
@@ -32,13 +32,13 @@ pub enum LineFault {
     SeveralLines,
 }
 
-/// Why a text is no file of cases.
+/// Why a text is not a file of cases.
 #[derive(Clone, Copy, Debug, PartialEq, Eq, Error)]
-pub enum CaseFault {
-    /// A growth was refused.
+pub(crate) enum CaseFault {
+    /// Memory ran out.
     #[error("out of memory")]
     NoMemory,
-    /// The line of this number is none of a case.
+    /// The line of this number is invalid.
     #[error("line {0} {1}")]
     Line(usize, LineFault),
 }

@@ -4,9 +4,7 @@ use crate::call_faults::CallFault;
 use crate::name_calls::{pair, yes_or_no};
 use gm_file::{DepFile, Interval, MainFile, Replace, Right};
 use gm_name::{KnownNames, ModVer};
-use gm_syntax::doc::Doc;
-use gm_syntax::line::Line;
-use gm_syntax::token::{Text, Token};
+use gm_syntax::{Doc, Line, Text, Token};
 use std::alloc::{AllocError, Global};
 
 /// The document of some bytes, read as a main file.
@@ -15,7 +13,7 @@ fn main_file<'a>(alloc: Global, bytes: &'a [u8]) -> Result<MainFile<'a>, CallFau
     Ok(MainFile::read(alloc, doc)?)
 }
 
-/// Puts the comment behind the words of a line at the end, if there is one.
+/// Appends the comment after the words of a line, if there is one.
 fn push_comment(text: &mut String, comment: &Option<Text>) -> Result<(), AllocError> {
     if let Some(comment) = comment {
         text.push(' ')?;
@@ -24,7 +22,7 @@ fn push_comment(text: &mut String, comment: &Option<Text>) -> Result<(), AllocEr
     Ok(())
 }
 
-/// Puts words at the end, each as it is spelled.
+/// Appends words, each as it is spelled.
 fn push_words(text: &mut String, words: &[Token]) -> Result<(), AllocError> {
     for word in words {
         text.push(' ')?;
@@ -33,7 +31,7 @@ fn push_words(text: &mut String, words: &[Token]) -> Result<(), AllocError> {
     Ok(())
 }
 
-/// Puts what a line of a document is at the end.
+/// Appends the description of a line of a document.
 fn push_line(text: &mut String, line: &Line) -> Result<(), AllocError> {
     match line {
         Line::Blank => text.push_str("Blank")?,
@@ -69,7 +67,7 @@ pub(crate) fn document(alloc: Global, bytes: &[u8]) -> Result<String, CallFault>
     Ok(text)
 }
 
-/// Puts where a word stands, and the word, at the end.
+/// Appends the place of a word, and the word.
 fn push_place(text: &mut String, word: &Token) -> Result<(), AllocError> {
     let Some(span) = word.span() else {
         return Ok(());
@@ -79,7 +77,7 @@ fn push_place(text: &mut String, word: &Token) -> Result<(), AllocError> {
     writeln!(text, "{line} {first}..{after} {spelling}")
 }
 
-/// Puts the places of a line's words at the end.
+/// Appends the places of a line's words.
 fn push_places(text: &mut String, line: &Line) -> Result<(), AllocError> {
     match line {
         Line::Open(verb, _) => push_place(text, verb)?,
@@ -93,7 +91,7 @@ fn push_places(text: &mut String, line: &Line) -> Result<(), AllocError> {
     Ok(())
 }
 
-/// Where the words of a file stand.
+/// The places of the words of a file.
 pub(crate) fn spans(alloc: Global, bytes: &[u8]) -> Result<String, CallFault> {
     let doc = Doc::parse(alloc, bytes)?;
     let mut text = String::new(alloc);
@@ -103,7 +101,7 @@ pub(crate) fn spans(alloc: Global, bytes: &[u8]) -> Result<String, CallFault> {
     Ok(text)
 }
 
-/// The word with a value, which is none where the value has a line feed.
+/// The word with a value, or none where the value has a line feed.
 pub(crate) fn spell(alloc: Global, value: &str) -> Result<String, CallFault> {
     if !value.as_bytes().iter().all(|byte| *byte != b'\n') {
         return Ok(String::from_str(alloc, "none\n")?);
@@ -113,7 +111,7 @@ pub(crate) fn spell(alloc: Global, value: &str) -> Result<String, CallFault> {
     Ok(format!(in alloc; "{spelling}\n")?)
 }
 
-/// Puts the directives at the end that have a path and a version behind their verb.
+/// Appends the directives that have a path and a version after their verb.
 fn push_pairs(text: &mut String, verb: &str, pairs: &[ModVer]) -> Result<(), AllocError> {
     for pair in pairs {
         let (path, version) = (pair.path(), pair.version());
@@ -122,7 +120,7 @@ fn push_pairs(text: &mut String, verb: &str, pairs: &[ModVer]) -> Result<(), All
     Ok(())
 }
 
-/// Puts retractions at the end.
+/// Appends retractions.
 fn push_retractions(text: &mut String, intervals: &[Interval]) -> Result<(), AllocError> {
     for interval in intervals {
         let (low, high) = (&interval.low, &interval.high);
@@ -131,7 +129,7 @@ fn push_retractions(text: &mut String, intervals: &[Interval]) -> Result<(), All
     Ok(())
 }
 
-/// Puts the right side of a replacement at the end.
+/// Appends the right side of a replacement.
 fn push_right(text: &mut String, right: &Right) -> Result<(), AllocError> {
     match right {
         Right::Folder(folder) => text.push_str(folder.as_str()),
@@ -139,7 +137,7 @@ fn push_right(text: &mut String, right: &Right) -> Result<(), AllocError> {
     }
 }
 
-/// Puts a replacement at the end.
+/// Appends a replacement.
 fn push_replacement(text: &mut String, replacement: &Replace) -> Result<(), AllocError> {
     let path = &replacement.left;
     match &replacement.version {
@@ -150,7 +148,7 @@ fn push_replacement(text: &mut String, replacement: &Replace) -> Result<(), Allo
     text.push('\n')
 }
 
-/// Puts the go version at the end.
+/// Appends the go version.
 fn push_go(text: &mut String, go: (u32, u32)) -> Result<(), AllocError> {
     let (first, second) = go;
     writeln!(text, "go {first}.{second}")
@@ -185,7 +183,7 @@ pub(crate) fn lax(alloc: Global, bytes: &[u8]) -> Result<String, CallFault> {
     Ok(text)
 }
 
-/// What replaces a version in a main file.
+/// The replacement of a version in a main file.
 pub(crate) fn replacement(
     alloc: Global,
     bytes: &[u8],

@@ -1,11 +1,11 @@
-//! The folders of the system that the commands of a case run in.
+//! The real folders that the commands of a case run in.
 
 use crate::cases::{Case, CaseFile, Content, STDIN};
 use std::fs::{OpenFile, OpenOptions, Permissions};
 use std::os::unix::fs::PermissionsExt;
 use std::{env, fs, io, process};
 
-/// Makes a new folder. Nothing else lies in it.
+/// Makes a new, empty folder.
 pub(crate) fn make_folder(rt: &HostRuntime, number: usize) -> io::Result<String> {
     let system = env::temp_dir(rt)?;
     let system = system.as_str();
@@ -18,7 +18,7 @@ pub(crate) fn make_folder(rt: &HostRuntime, number: usize) -> io::Result<String>
     Ok(folder)
 }
 
-/// Lays the files of a case down in a folder.
+/// Writes the files of a case into a folder.
 pub(crate) fn lay_files(rt: &HostRuntime, folder: &str, case: &Case<'_>) -> io::Result<()> {
     fs::create_dir_all(rt, folder)?;
     for file in &case.files {

@@ -1,12 +1,14 @@
-//! Runs the program over cases that stand in text files, and says which of them come to something else than they say. docs/CASES.md
-//! has the form of the files.
+//! Runs the program over cases in text files, and reports those whose results differ. docs/CASES.md describes the form
+//! of the files.
 #![tactic(auto)]
 
 mod call_faults;
 mod calls;
+mod case_runtime;
 mod cases;
 mod checking;
 mod cutting;
+mod differences;
 mod escapes;
 mod faults;
 mod file_calls;
@@ -15,21 +17,17 @@ mod memory;
 mod name_calls;
 mod numbering;
 mod outcomes;
+mod parsing;
 mod pieces;
 mod places;
 mod program;
 mod reading;
-mod realm;
 mod refusals;
-mod rooms;
 mod store_calls;
 mod stores;
 mod sweeping;
-mod telling;
 mod views;
 mod words;
+mod workspace;
 
-pub use crate::cases::{Case, CaseFile, Content, Run};
-pub use crate::faults::{CaseFault, LineFault};
-pub use crate::program::{Tells, exit_code};
-pub use crate::reading::read_cases;
+pub use crate::program::{Stream, exit_code};

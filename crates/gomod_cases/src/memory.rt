@@ -1,70 +1,67 @@
-//! What command lines come to over stores in memory.
+//! Command lines over stores in memory.
 
 ghost use Rattle.std.specs.Prelude.{◌≡◌, [], None, false, true};
 ghost use Rattle.std.specs.Option.{option_map};
-ghost use Rattle.gm_run.specs.Runs.{takes_sums};
+ghost use Rattle.gomod_run.specs.Runs.{takes_sums};
 
 use crate::cases::STDIN;
-use crate::outcomes::{Outcome, Rooms};
+use crate::outcomes::{Outcome, Room};
+use crate::parsing::Parsed;
 use crate::stores::{Folders, Form};
 use crate::views::View;
 use gm_name::ModPath;
-use gm_run::run;
-use gm_store::{FileName, Files, Held, MemoryFiles, copy_name};
-use gm_words::{Command, Places, read_words};
+use gm_store::{FileName, Files, Held, MemoryFiles, ProxyList, copy_name};
+use gomod_run::run;
+use gomod_words::Command;
 use std::alloc::{AllocError, Global};
 
 /// A file that a store was asked for.
 #[derive(Drop)]
 pub(crate) struct Asked {
     pub(crate) name: FileName,
-    /// What a report calls it.
+    /// Its name in a report.
     pub(crate) label: String,
 }
 
-/// What a command line came to over a store in memory, and the files that it was asked for, in their order.
+/// The result of a command line over a store in memory, and the files that the store was asked for, in order.
 #[derive(Drop)]
 pub(crate) struct InMemory {
     pub(crate) outcome: Outcome,
     pub(crate) asked: Vec<Asked>,
 }
 
-/// What a command line comes to over stores in memory. There is no such form where its words are a fault of usage or ask for help, and
-/// where a file that they name is not in the case.
+/// Runs a command line over stores in memory. The result is none where a file that its words name is not in the case.
 pub(crate) fn outcome_in_memory(
     alloc: Global,
     view: &View<'_>,
-    words: &[&str],
+    parsed: &Parsed,
     form: Form<'_>,
-    rooms: Rooms,
+    room: Room,
 ) -> Result<Option<InMemory>, AllocError> {
-    let Ok((command, places)) = read_words(alloc, words) else {
-        return Ok(None);
-    };
-    match &command {
+    let command = &parsed.command;
+    match command {
         Command::Versions { path, .. } => {
-            let folders = list_folders(alloc, view, path, &places, form)?;
-            over_folders(alloc, &command, b"", folders, rooms)
+            let folders = list_folders(alloc, view, path, &parsed.proxy, form)?;
+            over_folders(alloc, command, b"", folders, room)
         }
-        Command::Fmt | Command::Edit(_) => match view.named(places.main.as_str()) {
-            Some(main) => over_main(alloc, &command, main, rooms),
-            None => Ok(None),
-        },
+        Command::Fmt | Command::Edit(_) => {
+            let Some(main) = view.named(parsed.main.as_str()) else {
+                return Ok(None);
+            };
+            let mut files = MemoryFiles::new(alloc);
+            Ok(Some(run_over(alloc, command, main, None, &mut files, room)?))
+        }
         Command::Graph | Command::List { .. } | Command::Chain(_) => {
-            over_graph(alloc, view, &command, &places, form, rooms)
+            over_graph(alloc, view, parsed, form, room)
         }
     }
 }
 
-/// Runs `fmt` or `edit`.
-fn over_main(
-    alloc: Global,
-    command: &Command,
-    main: &[u8],
-    rooms: Rooms,
-) -> Result<Option<InMemory>, AllocError> {
+/// The result of `fmt` over a main file.
+pub(crate) fn layout(alloc: Global, main: &[u8], room: Room) -> Result<Outcome, AllocError> {
     let mut files = MemoryFiles::new(alloc);
-    Ok(Some(run_over(alloc, command, main, None, &mut files, rooms)?))
+    let found = run_over(alloc, &Command::Fmt, main, None, &mut files, room)?;
+    Ok(found.outcome)
 }
 
 /// The folders of `versions`: those that the words name, or one with the list on standard input.
@@ -72,14 +69,14 @@ fn list_folders(
     alloc: Global,
     view: &View<'_>,
     path: &ModPath,
-    places: &Places,
+    proxy: &Option<ProxyList>,
     form: Form<'_>,
 ) -> Result<Folders, AllocError> {
-    let mut folders = match &places.proxy {
+    let mut folders = match proxy {
         Some(list) => Folders::named(alloc, view, list, form)?,
         None => Folders::new(alloc)?,
     };
-    if places.proxy.is_none() {
+    if proxy.is_none() {
         let mut bytes = Vec::new(alloc);
         bytes.extend_from_slice(view.named(STDIN).unwrap_or(b""))?;
         folders.put(FileName::List(path.copy(alloc)?), Held::Content(bytes))?;
@@ -94,10 +91,10 @@ fn over_folders(
     command: &Command,
     main: &[u8],
     folders: Folders,
-    rooms: Rooms,
+    room: Room,
 ) -> Result<Option<InMemory>, AllocError> {
     match folders.into_store(alloc) {
-        Some(mut files) => Ok(Some(run_over(alloc, command, main, None, &mut files, rooms)?)),
+        Some(mut files) => Ok(Some(run_over(alloc, command, main, None, &mut files, room)?)),
         None => Ok(None),
     }
 }
@@ -106,44 +103,44 @@ fn over_folders(
 fn over_graph(
     alloc: Global,
     view: &View<'_>,
-    command: &Command,
-    places: &Places,
+    parsed: &Parsed,
     form: Form<'_>,
-    rooms: Rooms,
+    room: Room,
 ) -> Result<Option<InMemory>, AllocError>
-    requires { takes_sums command.now ≡ true }
+    requires { takes_sums parsed.now.command ≡ true }
 {
-    let (Some(main), Some(list)) = (view.named(places.main.as_str()), &places.proxy) else {
+    let command = &parsed.command;
+    let (Some(main), Some(list)) = (view.named(parsed.main.as_str()), &parsed.proxy) else {
         return Ok(None);
     };
     let mut folders = Folders::named(alloc, view, list, form)?;
-    folders.put_replacements(alloc, view, places.main.as_str(), main)?;
+    folders.put_replacements(alloc, view, parsed.main.as_str(), main)?;
     folders.break_at(alloc, form)?;
-    let Some(sums) = &places.sums else {
-        return over_folders(alloc, command, main, folders, rooms);
+    let Some(sums) = &parsed.sums else {
+        return over_folders(alloc, command, main, folders, room);
     };
     let Some(sums) = view.named(sums.as_str()) else {
         return Ok(None);
     };
     match folders.into_store(alloc) {
-        Some(mut files) => Ok(Some(run_over(alloc, command, main, Some(sums), &mut files, rooms)?)),
+        Some(mut files) => Ok(Some(run_over(alloc, command, main, Some(sums), &mut files, room)?)),
         None => Ok(None),
     }
 }
 
-/// Runs a command over a store that was asked nothing.
+/// Runs a command over a store that was asked for nothing yet.
 fn run_over<F: Files>(
     alloc: Global,
     command: &Command,
     main: &[u8],
     sums: Option<&[u8]>,
     files: &mut F,
-    rooms: Rooms,
+    room: Room,
 ) -> Result<InMemory, AllocError>
     requires unasked { F.asked files.old ≡ [] }
     requires no_sums { takes_sums command.now ≡ false → option_map (λ sums. sums.now) sums ≡ None }
 {
-    let (mut out, mut report) = rooms.sinks(alloc)?;
+    let (mut out, mut report) = room.sinks(alloc)?;
     let status = run(alloc, command, main, sums, files, &mut out, &mut report);
     let asked = asked_of(alloc, files)?;
     let outcome = Outcome {
@@ -165,7 +162,7 @@ fn asked_of<F: Files>(alloc: Global, files: &F) -> Result<Vec<Asked>, AllocError
     Ok(asked)
 }
 
-/// What a report calls a file.
+/// The name of a file in a report.
 fn label_of(alloc: Global, name: &FileName) -> Result<String, AllocError> {
     match name {
         FileName::Mod(path, version) => {

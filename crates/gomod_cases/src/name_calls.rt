@@ -15,7 +15,7 @@ pub(crate) fn pair(alloc: Global, path: &str, version: &str) -> Result<ModVer, C
     }
 }
 
-/// How a test came out.
+/// The result of a test.
 pub(crate) fn yes_or_no(is_true: bool) -> &'static str {
     if is_true { "yes" } else { "no" }
 }
@@ -32,7 +32,7 @@ pub(crate) fn path(alloc: Global, path: &str) -> Result<String, CallFault> {
     Ok(format!(in alloc; "{major:?}{fetchable}\n")?)
 }
 
-/// What sort of version a text spells.
+/// The kind of version that a text spells.
 pub(crate) fn version(alloc: Global, version: &str) -> Result<String, CallFault> {
     let version = ModVersion::parse(alloc, version)?;
     let sort = if version.is_release() {
@@ -61,7 +61,7 @@ pub(crate) fn pseudo(alloc: Global, version: &str) -> Result<String, CallFault> 
     Ok(format!(in alloc; "{form} {time} {revision}\n")?)
 }
 
-/// The version that a pseudo-version stands on.
+/// The base version of a pseudo-version.
 pub(crate) fn base(alloc: Global, version: &str) -> Result<String, CallFault> {
     let version = ModVersion::parse(alloc, version)?;
     match gm_name::base(alloc, &version)? {
@@ -84,7 +84,7 @@ pub(crate) fn unescape(alloc: Global, name: &str) -> Result<String, CallFault> {
     Ok(text)
 }
 
-/// The line that says in which order two things stand.
+/// The line that says how two things are ordered.
 fn ordering(alloc: Global, ordering: Ordering) -> Result<String, CallFault> {
     let line = match ordering {
         Ordering::Less => "less\n",

@@ -2,7 +2,7 @@
 
 use std::alloc::{AllocError, Global};
 
-/// What stands for the number in a line that is repeated.
+/// The placeholder of the number in a line that is repeated.
 pub(crate) const NUMBER: &str = "{n}";
 
 /// How often a line may be repeated, and how long a file may be made.
@@ -18,7 +18,7 @@ pub(crate) fn count_of(text: &str) -> Option<usize> {
     }
 }
 
-/// A number with zeros in front, as long as the greatest one.
+/// A number with leading zeros, as long as the greatest one.
 fn padded(alloc: Global, number: usize, greatest: usize) -> Result<String, AllocError> {
     let digits = format!(in alloc; "{number}")?;
     let width = format!(in alloc; "{greatest}")?.len();
@@ -41,7 +41,7 @@ pub(crate) fn numbered(
     text.replace(alloc, NUMBER, digits.as_str())
 }
 
-/// Appends a line so many times, with its number in it.
+/// Appends a line this many times, each with its number.
 pub(crate) fn push_repeated(
     alloc: Global,
     bytes: &mut Vec<u8>,

@@ -1,9 +1,9 @@
-//! What a command comes to.
+//! The results of commands.
 
 use gm_store::MemorySink;
 use std::alloc::{AllocError, Global};
 
-/// The status of a command that an output, a file or memory failed.
+/// The status of a command for which an output, a file or memory failed.
 pub(crate) const DEVICE: u8 = 3;
 
 /// What a command wrote, and its status.
@@ -15,7 +15,7 @@ pub(crate) struct Outcome {
 }
 
 impl Outcome {
-    /// Whether two commands came to the same.
+    /// Whether two commands had the same result.
     pub(crate) fn is_same(&self, other: &Outcome) -> bool {
         self.out.bytes() == other.out.bytes()
             && self.report.bytes() == other.report.bytes()
@@ -25,13 +25,13 @@ impl Outcome {
 
 /// How many bytes the outputs of a command take.
 #[derive(Clone, Copy)]
-pub(crate) struct Rooms {
+pub(crate) struct Room {
     pub(crate) out: usize,
     pub(crate) report: usize,
 }
 
-impl Rooms {
-    /// Outputs that take these bytes.
+impl Room {
+    /// Outputs with room for exactly these texts.
     pub(crate) fn sinks(&self, alloc: Global) -> Result<(MemorySink, MemorySink), AllocError> {
         let out = MemorySink::new(alloc, self.out)?;
         let report = MemorySink::new(alloc, self.report)?;

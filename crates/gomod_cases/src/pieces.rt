@@ -4,6 +4,7 @@ use crate::cases::{Case, CaseFile, Content};
 use crate::escapes::unescaped;
 use crate::faults::{CaseFault, LineFault};
 use crate::numbering::{NUMBER, count_of, numbered, push_line};
+use crate::places::tidied;
 use crate::words::words_of;
 use std::alloc::{AllocError, Global};
 
@@ -11,25 +12,25 @@ use std::alloc::{AllocError, Global};
 pub(crate) const NO_LINE_END: &str = "\\ No newline at end of file";
 
 /// What the header of a piece says of its lines.
-#[derive(Debug, Drop)]
+#[derive(Drop)]
 enum Kind {
-    /// The lines as they stand.
+    /// The lines as is.
     Plain,
     /// The lines have escapes.
     Escaped,
-    /// The lines so many times, with the number in them.
+    /// The lines this many times, each with its number.
     Repeat(usize),
-    /// A line, whose last character is repeated to make so many bytes with the line's end.
+    /// A line whose last character is repeated until the line, with its end, has this many bytes.
     Fill(usize),
     Folder,
     Link(String),
     Copy(String),
-    /// The lines as they stand, of a file with this mode.
+    /// The lines as is, of a file with this mode.
     Mode(u32),
 }
 
 /// A piece of a file of a case: its header, and the lines below it.
-#[derive(Debug, Drop)]
+#[derive(Drop)]
 pub(crate) struct Piece {
     /// The number of the header's line.
     line: usize,
@@ -37,7 +38,7 @@ pub(crate) struct Piece {
     kind: Kind,
     bytes: Vec<u8>,
     lines: usize,
-    /// How many blank lines came last, which are not among the bytes yet.
+    /// The number of blank lines at the end, which are not among the bytes yet.
     blanks: usize,
 }
 
@@ -70,10 +71,14 @@ fn kind_of(alloc: Global, words: &[String]) -> Result<Option<Kind>, AllocError> 
     })
 }
 
-/// Whether a name leads no further out of the folder of a case than one folder up.
-fn is_near(name: &str) -> bool {
-    let name = name.strip_prefix("../").unwrap_or(name);
-    !name.is_empty() && !name.split('/').any(|part| part == "..")
+/// Whether the name of a file is the shortest spelling of its place, and leads at most one folder up out of the folder
+/// of its case.
+fn is_place(alloc: Global, name: &str) -> Result<bool, AllocError> {
+    let rest = name.strip_prefix("../").unwrap_or(name);
+    if rest.is_empty() || rest.split('/').any(|part| part == "..") {
+        return Ok(false);
+    }
+    Ok(tidied(alloc, name)?.as_str() == name)
 }
 
 impl Piece {
@@ -90,7 +95,7 @@ impl Piece {
         let Some(kind) = kind_of(alloc, words.as_slice())? else {
             return Err(CaseFault::Line(line, LineFault::BadHeader));
         };
-        if !is_near(name.as_str()) {
+        if !is_place(alloc, name.as_str())? {
             return Err(CaseFault::Line(line, LineFault::BadHeader));
         }
         Ok(Piece {
@@ -131,7 +136,7 @@ impl Piece {
         }
     }
 
-    /// Takes the blank lines that came last, but for so many.
+    /// Takes the blank lines at the end, but for this many.
     fn take_blanks(&mut self, left: usize) -> Result<(), AllocError> {
         for _ in left..self.blanks {
             push_line(&mut self.bytes, "")?;
@@ -140,7 +145,7 @@ impl Piece {
         Ok(())
     }
 
-    /// Puts the piece into the files of its case. One blank line at the end of the last piece belongs to no file.
+    /// Adds the piece to the files of its case. One blank line at the end of the last piece belongs to no file.
     pub(crate) fn end(
         mut self,
         alloc: Global,
@@ -178,7 +183,7 @@ pub(crate) fn take_line(text: &mut Vec<u8>, line: &str) -> Result<(), AllocError
     push_line(text, line)
 }
 
-/// Puts a file into a case, or more bytes into one that it has.
+/// Adds a file to a case, or more bytes to one that it has.
 fn put(
     case: &mut Case<'_>,
     name: String,
@@ -206,7 +211,7 @@ fn append(file: &mut CaseFile, bytes: &[u8]) -> Result<(), CaseFault> {
     Ok(())
 }
 
-/// Puts what is no file into a case.
+/// Adds a folder, link or copy to a case.
 fn put_other(case: &mut Case<'_>, name: String, content: Content) -> Result<(), CaseFault> {
     Ok(
         case.files.push(CaseFile {
@@ -217,7 +222,7 @@ fn put_other(case: &mut Case<'_>, name: String, content: Content) -> Result<(), 
     )
 }
 
-/// Puts so many files into a case, or so many lines into one.
+/// Adds this many files to a case, or this many lines to one file.
 fn put_repeated(
     alloc: Global,
     case: &mut Case<'_>,
@@ -240,7 +245,7 @@ fn put_repeated(
     put(case, name, bytes, None)
 }
 
-/// Puts so many files into a case.
+/// Adds this many files to a case.
 fn put_files(
     alloc: Global,
     case: &mut Case<'_>,
@@ -257,7 +262,7 @@ fn put_files(
     Ok(())
 }
 
-/// Puts a file of so many bytes into a case.
+/// Adds a file of this many bytes to a case.
 fn put_filled(
     case: &mut Case<'_>,
     name: String,

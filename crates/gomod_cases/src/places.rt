@@ -1,8 +1,8 @@
-//! Where files lie.
+//! The places of files.
 
 use std::alloc::{AllocError, Global};
 
-/// The parts of a path that lead somewhere: none that is empty or `.`, and none that `..` after it takes back.
+/// The parts of a path that lead somewhere: not those that are empty or `.`, nor those that a later `..` undoes.
 fn parts_of(alloc: Global, path: &str) -> Result<Vec<&str>, AllocError> {
     let mut parts = Vec::new(alloc);
     for part in path.split('/') {
@@ -17,7 +17,7 @@ fn parts_of(alloc: Global, path: &str) -> Result<Vec<&str>, AllocError> {
     Ok(parts)
 }
 
-/// A path without parts that lead nowhere. A `/` in front stays.
+/// A path without parts that lead nowhere. A leading `/` stays.
 pub(crate) fn tidied(alloc: Global, path: &str) -> Result<String, AllocError> {
     let parts = parts_of(alloc, path)?;
     let mut tidied = String::new(alloc);
@@ -33,7 +33,7 @@ pub(crate) fn tidied(alloc: Global, path: &str) -> Result<String, AllocError> {
     Ok(tidied)
 }
 
-/// Whether a path leads no further out of the folder of a case than one folder up.
+/// Whether a path leads at most one folder up out of the folder of a case.
 pub(crate) fn is_near(alloc: Global, path: &str) -> Result<bool, AllocError> {
     let parts = parts_of(alloc, path)?;
     let ups = parts.iter().filter(|part| **part == "..").count();

@@ -2,22 +2,22 @@
 
 use crate::cases::{Case, Content};
 use crate::checking::check_case;
+use crate::differences::Differences;
 use crate::faults::CaseFault;
 use crate::reading::read_cases;
-use crate::telling::Told;
 use std::process::ExitCode;
 use std::{env, fs, io};
 
-/// Where it is told how a case differs.
+/// Where differences are reported.
 #[derive(Clone, Copy)]
-pub enum Tells {
-    /// To standard error, as a program over cases that all pass does.
-    ToError,
-    /// To standard output, where it is compared.
-    ToOutput,
+pub enum Stream {
+    /// To standard error, for a program over cases that should all pass.
+    Stderr,
+    /// To standard output, where the gate compares them.
+    Stdout,
 }
 
-/// How many cases passed, and how many did not.
+/// The numbers of cases that passed and failed.
 #[derive(Clone, Copy)]
 struct Tally {
     passed: usize,
@@ -37,11 +37,11 @@ impl Tally {
 /// The ending of the words that name files of cases.
 const ENDING: &str = ".txt";
 
-/// The program. Its words that end in `.txt` name files of cases, and any others choose the cases whose title has one of them. It runs
-/// these cases, tells of each that does not pass how it differs, and prints how many passed and failed. The status is 0 where all
-/// passed, 1 where one did not, and 3 where a file of cases can't be read or the cases can't be run.
-pub fn exit_code(rt: &HostRuntime, tells: Tells) -> ExitCode {
-    match run_files(rt, tells) {
+/// The program. Its words that end in `.txt` name files of cases, and all others choose the cases whose titles contain
+/// one of them. It runs these cases, reports how each that fails differs, and prints how many passed and failed. The
+/// status is 0 if all passed, 1 if one failed, and 3 if a file of cases can't be read or the cases can't be run.
+pub fn exit_code(rt: &HostRuntime, stream: Stream) -> ExitCode {
+    match run_files(rt, stream) {
         Ok(Tally { failed: 0, .. }) => ExitCode::SUCCESS,
         Ok(_) => ExitCode::from(1),
         Err(error) => {
@@ -51,7 +51,7 @@ pub fn exit_code(rt: &HostRuntime, tells: Tells) -> ExitCode {
     }
 }
 
-fn run_files(rt: &HostRuntime, tells: Tells) -> io::Result<Tally> {
+fn run_files(rt: &HostRuntime, stream: Stream) -> io::Result<Tally> {
     let mut tally = Tally {
         passed: 0,
         failed: 0,
@@ -59,7 +59,7 @@ fn run_files(rt: &HostRuntime, tells: Tells) -> io::Result<Tally> {
     let words: Vec<String> = env::args(rt)?.skip(1).collect(rt.alloc())?;
     for word in &words {
         if word.as_str().ends_with(ENDING) {
-            run_file(rt, tells, word.as_str(), words.as_slice(), &mut tally)?;
+            run_file(rt, stream, word.as_str(), words.as_slice(), &mut tally)?;
         }
     }
     let Tally { passed, failed } = tally;
@@ -70,7 +70,7 @@ fn run_files(rt: &HostRuntime, tells: Tells) -> io::Result<Tally> {
 /// Runs the cases of a file.
 fn run_file(
     rt: &HostRuntime,
-    tells: Tells,
+    stream: Stream,
     name: &str,
     words: &[String],
     tally: &mut Tally,
@@ -80,7 +80,7 @@ fn run_file(
         Err(error) => {
             tally.count(false);
             let line = format!(in rt.alloc(); "{name}: {error}\n")?;
-            return tell(rt, tells, line.as_str());
+            return report(rt, stream, line.as_str());
         }
     };
     match read_cases(rt.alloc(), text.as_str()) {
@@ -88,18 +88,18 @@ fn run_file(
             for case in &mut cases {
                 read_copies(rt, case)?;
             }
-            run_cases(rt, tells, name, cases.as_slice(), words, tally)
+            run_cases(rt, stream, name, cases.as_slice(), words, tally)
         }
         Err(CaseFault::Line(number, fault)) => {
             tally.count(false);
             let line = format!(in rt.alloc(); "{name}:{number}: {fault}\n")?;
-            tell(rt, tells, line.as_str())
+            report(rt, stream, line.as_str())
         }
         Err(CaseFault::NoMemory) => Err(io::Error::from(io::ErrorKind::OutOfMemory)),
     }
 }
 
-/// Reads the files that a case has copies of.
+/// Reads the files that a case copies.
 fn read_copies(rt: &HostRuntime, case: &mut Case<'_>) -> io::Result<()> {
     for file in &mut case.files {
         let bytes = match &file.content {
@@ -113,7 +113,7 @@ fn read_copies(rt: &HostRuntime, case: &mut Case<'_>) -> io::Result<()> {
 
 fn run_cases(
     rt: &HostRuntime,
-    tells: Tells,
+    stream: Stream,
     name: &str,
     cases: &[Case<'_>],
     words: &[String],
@@ -123,21 +123,21 @@ fn run_cases(
         if !is_chosen(case, words) {
             continue;
         }
-        let mut told = Told::new(rt.alloc());
-        check_case(rt, number, case, &mut told)?;
-        tally.count(told.is_empty());
-        if !told.is_empty() {
+        let mut differences = Differences::new(rt.alloc());
+        check_case(rt, number, case, &mut differences)?;
+        tally.count(differences.is_empty());
+        if !differences.is_empty() {
             let line = case.line;
             let title = case.title;
             let head = format!(in rt.alloc(); "{name}:{line}: {title}\n")?;
-            tell(rt, tells, head.as_str())?;
-            tell(rt, tells, told.as_str())?;
+            report(rt, stream, head.as_str())?;
+            report(rt, stream, differences.as_str())?;
         }
     }
     Ok(())
 }
 
-/// Whether the words choose a case: where no word chooses titles, all cases are.
+/// Whether the words choose a case. Where no word chooses titles, all cases are chosen.
 fn is_chosen(case: &Case<'_>, words: &[String]) -> bool {
     let mut chooses = false;
     for word in words {
@@ -151,9 +151,9 @@ fn is_chosen(case: &Case<'_>, words: &[String]) -> bool {
     !chooses
 }
 
-fn tell(rt: &HostRuntime, tells: Tells, text: &str) -> io::Result<()> {
-    match tells {
-        Tells::ToError => eprint!(rt; "{text}"),
-        Tells::ToOutput => print!(rt; "{text}"),
+fn report(rt: &HostRuntime, stream: Stream, text: &str) -> io::Result<()> {
+    match stream {
+        Stream::Stderr => eprint!(rt; "{text}"),
+        Stream::Stdout => print!(rt; "{text}"),
     }
 }

@@ -11,7 +11,7 @@ use std::alloc::Global;
 /// The line of a case that is cut at every byte.
 const EVERY_BYTE: &str = "% every byte";
 
-/// The line of a command that has no form in memory.
+/// The line of a command that is run over real files alone.
 const FILES_ONLY: &str = "% files";
 
 /// Takes the lines of a file of cases.
@@ -26,14 +26,14 @@ struct Reader<'a> {
 }
 
 /// The cases of a text.
-pub fn read_cases<'a>(alloc: Global, text: &'a str) -> Result<Vec<Case<'a>>, CaseFault> {
+pub(crate) fn read_cases<'a>(alloc: Global, text: &'a str) -> Result<Vec<Case<'a>>, CaseFault> {
     let mut reader = Reader {
         alloc,
         cases: Vec::new(alloc),
         case: None,
         piece: None,
     };
-    // the last piece of a text that ends in a line end is no line
+    // what follows the last line end of a text is not a line
     let text = text.strip_suffix('\n').unwrap_or(text);
     for (index, line) in text.split('\n').enumerate() {
         reader.take(index.saturating_add(1), line)?;
@@ -104,7 +104,7 @@ fn take_before_cases(number: usize, line: &str) -> Result<(), CaseFault> {
     Err(CaseFault::Line(number, LineFault::BeforeTitle))
 }
 
-/// Whether a line among commands says nothing: a blank one, or a remark.
+/// Whether a line among commands is blank or a remark.
 fn is_passed(line: &str) -> bool {
     line.trim().is_empty() || line.starts_with('#')
 }
@@ -122,7 +122,7 @@ fn take_line_of_runs<'a>(
     if let Some(command) = line.strip_prefix("$ ") {
         return match words_of(alloc, command) {
             Ok(words) if words.is_empty() => Err(CaseFault::Line(number, LineFault::BadWords)),
-            Ok(words) => Ok(runs.push(Run::new(alloc, number, command, words))?),
+            Ok(words) => Ok(runs.push(Run::new(alloc, number, command, words)?)?),
             Err(fault) => Err(CaseFault::of_words(number, fault)),
         };
     }
@@ -132,7 +132,7 @@ fn take_line_of_runs<'a>(
     }
 }
 
-/// Takes a line that says what a command comes to.
+/// Takes a line of the expected result of a command.
 fn take_line_of_run<'a>(
     alloc: Global,
     run: &mut Run<'a>,
@@ -162,7 +162,7 @@ fn take_line_of_run<'a>(
     Err(CaseFault::Line(number, LineFault::NoMark))
 }
 
-/// Takes what stands after the mark of a line that a command writes.
+/// Takes the text after the mark of a line that a command writes.
 fn take_written(
     alloc: Global,
     text: &mut Vec<u8>,
@@ -190,7 +190,7 @@ fn take_written(
     }
 }
 
-/// Takes what stands after the mark of a file that a command opens.
+/// Takes the text after the mark of a file that a command opens.
 fn take_opened<'a>(
     alloc: Global,
     run: &mut Run<'a>,

@@ -1,13 +1,14 @@
-//! What command lines come to where a store fails at a file, or the files of a proxy folder are divided between two.
+//! Command lines over a store that fails at a file, and over a proxy folder whose files are divided between two.
 
 use crate::memory::{Asked, InMemory, outcome_in_memory};
-use crate::outcomes::{DEVICE, Rooms};
+use crate::outcomes::{DEVICE, Room};
+use crate::parsing::Parsed;
 use crate::stores::Form;
 use crate::views::View;
 use std::alloc::{AllocError, Global};
 
 /// The outputs of a command that writes a line.
-const A_LINE: Rooms = Rooms {
+const A_LINE: Room = Room {
     out: 65_536,
     report: 65_536,
 };
@@ -21,17 +22,17 @@ fn are_asked(asked: &[Asked], wanted: &[Asked]) -> bool {
             .all(|(one, other)| one.label == other.label)
 }
 
-/// Lets the device of the store fail at each file that a command asks for in turn. It has to write nothing, to report that file, and to
-/// ask for the files before it and no other. The file at which it does otherwise is given, if there is one.
+/// Makes the store fail at each file that a command asks for, one at a time. The command must write nothing, report
+/// that file, and ask for the files before it and no other. The result is a file for which it doesn't, if there is one.
 pub(crate) fn unsound_refusal<'a>(
     alloc: Global,
     view: &View<'_>,
-    words: &[&str],
+    parsed: &Parsed,
     wanted: &'a InMemory,
 ) -> Result<Option<&'a Asked>, AllocError> {
     for (index, asked) in wanted.asked.iter().enumerate() {
         let form = Form::Broken(&asked.name);
-        let Some(found) = outcome_in_memory(alloc, view, words, form, A_LINE)? else {
+        let Some(found) = outcome_in_memory(alloc, view, parsed, form, A_LINE)? else {
             return Ok(Some(asked));
         };
         let before = wanted.asked.iter().take(index);
@@ -51,15 +52,16 @@ pub(crate) fn unsound_refusal<'a>(
     Ok(None)
 }
 
-/// Whether a command comes to the same over the files of one proxy folder that are divided between two, and asks for the same files.
+/// Whether a command has the same result over the files of one proxy folder when they are divided between two, and asks
+/// for the same files.
 pub(crate) fn stands_division(
     alloc: Global,
     view: &View<'_>,
-    words: &[&str],
+    parsed: &Parsed,
     wanted: &InMemory,
-    rooms: Rooms,
+    room: Room,
 ) -> Result<bool, AllocError> {
-    match outcome_in_memory(alloc, view, words, Form::Divided, rooms)? {
+    match outcome_in_memory(alloc, view, parsed, Form::Divided, room)? {
         Some(found) => Ok(
             found.outcome.is_same(&wanted.outcome)
                 && are_asked(found.asked.as_slice(), wanted.asked.as_slice()),

@@ -1,14 +1,14 @@
-//! Calls about what lies around modules: hashes and sums, lists of versions, and the places of files.
+//! Calls about hashes and sums, lists of versions, and the places of files.
 
 use crate::call_faults::CallFault;
 use gm_name::{ModPath, ModVersion};
 use gm_store::{FileName, Looked, Mark};
-use gm_sums::SumTable;
+use gm_store_sums::SumTable;
 use std::alloc::Global;
 
 /// The hash of a file as the go.mod of a module.
 pub(crate) fn hash(alloc: Global, bytes: &[u8]) -> Result<String, CallFault> {
-    let mut text = gm_sums::mod_hash(alloc, bytes)?;
+    let mut text = gm_store_sums::mod_hash(alloc, bytes)?;
     text.push('\n')?;
     Ok(text)
 }
@@ -47,14 +47,14 @@ pub(crate) fn latest(alloc: Global, path: &str, bytes: &[u8]) -> Result<String, 
     }
 }
 
-/// Where the file of a name lies.
+/// The place of the file of a name.
 fn place(alloc: Global, name: &FileName) -> Result<String, CallFault> {
     let mut text = gm_store::relative_name(alloc, name)?;
     text.push('\n')?;
     Ok(text)
 }
 
-/// Where the .mod file of a version lies.
+/// The place of the .mod file of a version.
 pub(crate) fn place_of_version(
     alloc: Global,
     path: &str,
@@ -65,26 +65,26 @@ pub(crate) fn place_of_version(
     place(alloc, &FileName::Mod(path, version))
 }
 
-/// Where the list of a module's versions lies.
+/// The place of the list of a module's versions.
 pub(crate) fn place_of_list(alloc: Global, path: &str) -> Result<String, CallFault> {
     let path = ModPath::parse(alloc, path)?;
     place(alloc, &FileName::List(path))
 }
 
-/// Where the go.mod of a folder lies.
+/// The place of the go.mod of a folder.
 pub(crate) fn place_in_folder(alloc: Global, folder: &str) -> Result<String, CallFault> {
     let folder = String::from_str(alloc, folder)?;
     place(alloc, &FileName::Folder(folder))
 }
 
-/// The folder that a file lies in.
+/// The folder of a file.
 pub(crate) fn folder_of(alloc: Global, file: &str) -> Result<String, CallFault> {
     let mut text = gm_store::folder_of(alloc, file)?;
     text.push('\n')?;
     Ok(text)
 }
 
-/// What a look into a folder found, by its name.
+/// What a lookup in a folder found, by its name.
 fn looked_named(alloc: Global, name: &str) -> Option<Looked> {
     match name {
         "Found" => Some(Looked::Found(Vec::new(alloc))),
@@ -105,7 +105,7 @@ fn mark_named(name: &str) -> Option<Option<Mark>> {
     }
 }
 
-/// What follows a look into a folder.
+/// What follows a lookup in a folder.
 pub(crate) fn step(alloc: Global, looked: &str, mark: &str) -> Result<String, CallFault> {
     let (Some(looked), Some(mark)) = (looked_named(alloc, looked), mark_named(mark)) else {
         return Err(CallFault::NoCall);

@@ -1,4 +1,4 @@
-//! Stores in memory that stand for the proxy folders of a command.
+//! Stores in memory in place of the proxy folders of a command.
 
 ghost use Rattle.std.specs.Prelude.{◌≡◌, [], IfSome};
 ghost use Rattle.gm_store.specs.Views.{asked_by};
@@ -8,28 +8,29 @@ use crate::views::View;
 use gm_file::{MainFile, Right};
 use gm_name::{ModPath, ModVersion, unescape};
 use gm_store::{
-    FileName, Held, Mark, MemoryFolders, ProxyList, Shelf, copy_name, folder_of, relative_name,
+    FileName, Held, Mark, MemoryFallback, MemoryFolder, ProxyList, copy_name, folder_of,
+    relative_name,
 };
-use gm_syntax::doc::Doc;
+use gm_syntax::Doc;
 use std::alloc::{AllocError, Global};
 
-/// How stores in memory stand for the proxy folders of a command.
+/// How stores in memory represent the proxy folders of a command.
 #[derive(Clone, Copy)]
 pub(crate) enum Form<'a> {
     /// One folder in memory for each that the words name, with the marks between them.
     Named,
     /// The files of the one folder that the words name, divided between two, with `,` between them.
     Divided,
-    /// As `Named`, but for a file at which the device fails.
+    /// As `Named`, but the device fails at one file.
     Broken(&'a FileName),
 }
 
-/// The folders of a store that is being filled.
+/// The folders of a store while it is filled.
 #[derive(Drop)]
 pub(crate) struct Folders {
-    proxies: Vec<Shelf>,
+    proxies: Vec<MemoryFolder>,
     marks: Vec<Mark>,
-    beside: Shelf,
+    beside: MemoryFolder,
 }
 
 impl Folders {
@@ -38,9 +39,9 @@ impl Folders {
         let mut folders = Folders {
             proxies: Vec::new(alloc),
             marks: Vec::new(alloc),
-            beside: Shelf::new(alloc),
+            beside: MemoryFolder::new(alloc),
         };
-        folders.proxies.push(Shelf::new(alloc))?;
+        folders.proxies.push(MemoryFolder::new(alloc))?;
         Ok(folders)
     }
 
@@ -54,7 +55,7 @@ impl Folders {
         let mut folders = Folders {
             proxies: Vec::new(alloc),
             marks: Vec::new(alloc),
-            beside: Shelf::new(alloc),
+            beside: MemoryFolder::new(alloc),
         };
         if let (Form::Divided, [folder]) = (form, list.folders()) {
             for part in 0..2usize {
@@ -74,7 +75,7 @@ impl Folders {
         Ok(folders)
     }
 
-    /// Puts a file into the first proxy folder, or beside the main file.
+    /// Adds a file to the first proxy folder, or to the folder of the main file.
     pub(crate) fn put(&mut self, name: FileName, held: Held) -> Result<(), AllocError> {
         if matches!(name, FileName::Folder(_)) {
             return self.beside.put(name, held);
@@ -85,7 +86,7 @@ impl Folders {
         }
     }
 
-    /// Lets the device fail at a file.
+    /// Makes the device fail at a file.
     pub(crate) fn break_at(&mut self, alloc: Global, form: Form<'_>) -> Result<(), AllocError> {
         match form {
             Form::Broken(name) => self.put(copy_name(alloc, name)?, Held::Broken),
@@ -93,7 +94,7 @@ impl Folders {
         }
     }
 
-    /// Puts the go.mod files of the folders that a main file has in the place of modules beside it.
+    /// Adds the go.mod files of the folders by which a main file replaces modules.
     pub(crate) fn put_replacements(
         &mut self,
         alloc: Global,
@@ -116,7 +117,7 @@ impl Folders {
         Ok(())
     }
 
-    /// Puts the go.mod of a folder beside the main file, if the case has it.
+    /// Adds the go.mod of a folder to the folder of the main file, if the case has it.
     fn put_folder(
         &mut self,
         alloc: Global,
@@ -140,7 +141,7 @@ impl Folders {
     }
 
     /// The store over these folders, if there is one more folder than marks.
-    pub(crate) fn into_store(self, alloc: Global) -> Option<MemoryFolders>
+    pub(crate) fn into_store(self, alloc: Global) -> Option<MemoryFallback>
         ensures { IfSome result (λ store. asked_by store ≡ []) }
     {
         let Folders {
@@ -149,21 +150,20 @@ impl Folders {
             beside,
         } = self;
         if proxies.len() > 0 && proxies.len() - 1 == marks.len() {
-            Some(MemoryFolders::in_memory(alloc, proxies, marks, beside))
+            Some(MemoryFallback::in_memory(alloc, proxies, marks, beside))
         } else {
             None
         }
     }
 }
 
-/// The bytes of the file of a case that lies in a place.
+/// The bytes of the file of a case at a place.
 fn bytes_at(alloc: Global, view: &View<'_>, place: &str) -> Result<Option<Vec<u8>>, AllocError> {
     for file in &view.case.files {
         let Some(bytes) = view.bytes(file) else {
             continue;
         };
-        let name = tidied(alloc, file.name.as_str())?;
-        if name.as_str() == place {
+        if file.name.as_str() == place {
             return Ok(Some(copied(alloc, bytes)?));
         }
     }
@@ -176,16 +176,15 @@ fn filled(
     view: &View<'_>,
     folder: &str,
     part: Option<usize>,
-) -> Result<Shelf, AllocError> {
+) -> Result<MemoryFolder, AllocError> {
     let folder = tidied(alloc, folder)?;
-    let mut shelf = Shelf::new(alloc);
+    let mut shelf = MemoryFolder::new(alloc);
     let mut count = 0usize;
     for file in &view.case.files {
         let Some(bytes) = view.bytes(file) else {
             continue;
         };
-        let name = tidied(alloc, file.name.as_str())?;
-        let Some(name) = name_in(alloc, folder.as_str(), name.as_str())? else {
+        let Some(name) = name_in(alloc, folder.as_str(), file.name.as_str()) else {
             continue;
         };
         count = count.saturating_add(1);
@@ -196,37 +195,35 @@ fn filled(
     Ok(shelf)
 }
 
-/// Bytes of their own.
+/// A copy of bytes.
 fn copied(alloc: Global, bytes: &[u8]) -> Result<Vec<u8>, AllocError> {
     let mut copy = Vec::new(alloc);
     copy.extend_from_slice(bytes)?;
     Ok(copy)
 }
 
-/// Which file of a proxy lies in a place, if it lies in this folder.
-fn name_in(alloc: Global, folder: &str, place: &str) -> Result<Option<FileName>, AllocError> {
-    let Some(rest) = place
-        .strip_prefix(folder)
-        .and_then(|rest| rest.strip_prefix('/'))
-    else {
-        return Ok(None);
-    };
-    let Some((path, file)) = rest.split_once("/@v/") else {
-        return Ok(None);
-    };
-    let Some(path) = path_of(alloc, path) else {
-        return Ok(None);
-    };
-    if file == "list" {
-        return Ok(Some(FileName::List(path)));
+/// The rest of a path after a folder.
+fn rest_in<'a>(folder: &str, place: &'a str) -> Option<&'a str> {
+    match folder {
+        "" if place.starts_with('/') => None,
+        "" => Some(place),
+        "/" => place.strip_prefix('/'),
+        _ => place.strip_prefix(folder)?.strip_prefix('/'),
     }
-    let Some(version) = file.strip_suffix(".mod") else {
-        return Ok(None);
-    };
-    Ok(version_of(alloc, version).map(|version| FileName::Mod(path, version)))
 }
 
-/// The module path that a name of a folder escapes.
+/// Which file of a proxy is at a place, if that is in this folder.
+fn name_in(alloc: Global, folder: &str, place: &str) -> Option<FileName> {
+    let (path, file) = rest_in(folder, place)?.split_once("/@v/")?;
+    let path = path_of(alloc, path)?;
+    if file == "list" {
+        return Some(FileName::List(path));
+    }
+    let version = version_of(alloc, file.strip_suffix(".mod")?)?;
+    Some(FileName::Mod(path, version))
+}
+
+/// The module path that the name of a folder escapes.
 fn path_of(alloc: Global, name: &str) -> Option<ModPath> {
     let text = unescape(alloc, name).ok()?;
     ModPath::parse(alloc, text.as_str()).ok()

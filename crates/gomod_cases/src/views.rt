@@ -6,12 +6,12 @@ use crate::cases::{Case, CaseFile, Content};
 #[derive(Clone, Copy)]
 pub(crate) struct View<'a> {
     pub(crate) case: &'a Case<'a>,
-    /// The name of the file with other bytes, and these.
+    /// The name of the file with other bytes, and these bytes.
     pub(crate) cut: Option<(&'a str, &'a [u8])>,
 }
 
 impl<'a> View<'a> {
-    /// The files as they stand in the case.
+    /// The files as the case has them.
     pub(crate) fn whole(case: &'a Case<'a>) -> View<'a> {
         View { case, cut: None }
     }

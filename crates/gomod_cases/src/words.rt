@@ -3,12 +3,12 @@
 use crate::escapes::{EscapeFault, Unescaper};
 use std::alloc::{AllocError, AllocFailed, Global};
 
-/// Why a text has no words.
+/// Why a text can't be split into words.
 #[derive(Clone, Copy, Debug, PartialEq, Eq)]
 pub(crate) enum WordFault {
-    /// A growth was refused.
+    /// Memory ran out.
     NoMemory,
-    /// A quote is not closed or goes on, an escape is none, or a word is not UTF-8.
+    /// A quote is not closed or is followed by more of the word, an escape is invalid, or a word is not UTF-8.
     NoWord,
 }
 
@@ -33,7 +33,7 @@ impl From<EscapeFault> for WordFault {
     }
 }
 
-/// Where in the words a byte stands.
+/// Where a byte is in the words.
 #[derive(Clone, Copy, PartialEq, Eq)]
 enum State {
     /// Between words.

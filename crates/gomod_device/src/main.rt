@@ -1,8 +1,9 @@
-//! The program, whose stored run ends at a folder that stands where a module's list should be.
+//! The gomod program again, with a stored run that ends with status 3: a folder is in the place of a module's list.
 #![tactic(auto)]
 
 use std::process::ExitCode;
 
+/// Runs the program and returns its exit status.
 fn main(rt: HostRuntime) -> ExitCode {
-    gm_run::exit_code(&rt)
+    gomod_run::exit_code(&rt)
 }

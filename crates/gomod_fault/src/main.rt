@@ -1,8 +1,10 @@
-//! The program, whose stored run reports the modules whose hashes are not those of a go.sum.
+//! The gomod program again, with a stored run that ends with status 1: it reports the modules whose hashes differ from
+//! those in a go.sum.
 #![tactic(auto)]
 
 use std::process::ExitCode;
 
+/// Runs the program and returns its exit status.
 fn main(rt: HostRuntime) -> ExitCode {
-    gm_run::exit_code(&rt)
+    gomod_run::exit_code(&rt)
 }

@@ -1,8 +1,9 @@
-//! The program, whose stored run ends with status 2: the words want a path.
+//! The gomod program again, with a stored run that ends with status 2: the command line lacks a path.
 #![tactic(auto)]
 
 use std::process::ExitCode;
 
+/// Runs the program and returns its exit status.
 fn main(rt: HostRuntime) -> ExitCode {
-    gm_run::exit_code(&rt)
+    gomod_run::exit_code(&rt)
 }

@@ -1,9 +1,10 @@
-//! Runs the cases of the files that its words name. docs/CASES.md has their form.
+//! Runs the cases in the files that the command line names. docs/CASES.md has the form of these files.
 #![tactic(auto)]
 
-use gomod_cases::Tells;
+use gomod_cases::Stream;
 use std::process::ExitCode;
 
+/// Runs the cases, reports on standard error, and returns the exit status.
 fn main(rt: HostRuntime) -> ExitCode {
-    gomod_cases::exit_code(&rt, Tells::ToError)
+    gomod_cases::exit_code(&rt, Stream::Stderr)
 }

@@ -1,9 +1,11 @@
-//! Runs cases that are wrong on purpose, and tells on standard output how each differs, so that it is seen.
+//! Runs cases that are wrong on purpose, and reports on standard output how each differs, so that the stored run shows
+//! that a wrong case is found.
 #![tactic(auto)]
 
-use gomod_cases::Tells;
+use gomod_cases::Stream;
 use std::process::ExitCode;
 
+/// Runs the cases, reports on standard output, and returns the exit status.
 fn main(rt: HostRuntime) -> ExitCode {
-    gomod_cases::exit_code(&rt, Tells::ToOutput)
+    gomod_cases::exit_code(&rt, Stream::Stdout)
 }

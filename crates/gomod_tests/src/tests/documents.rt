@@ -1,4 +1,4 @@
-//! Documents, words and names: copies, lines that go in and out, and an operation that is refused.
+//! Documents, words and names: copies, inserted and removed lines, and an operation that is refused.
 
 ghost use Rattle.std.specs.Prelude.{◌≡◌};
 ghost use Rattle.gm_syntax.specs.Lines.{HasNoLineFeed};
@@ -6,18 +6,16 @@ ghost use Rattle.gm_syntax.specs.Document.{is_level};
 ghost use Rattle.gm_syntax.specs.LineViews.{line_of, plain};
 
 use super::{OUT_OF_MEMORY, file_name, main_file};
-use gm_edit::{EditFault, Op, apply};
 use gm_file::MainFile;
+use gm_file_edit::{EditFault, Op, apply};
 use gm_store::copy_name;
-use gm_syntax::doc::Doc;
-use gm_syntax::line::Line;
-use gm_syntax::token::Token;
-use gm_syntax::word::{Kind, Punct};
+use gm_syntax::{Doc, Kind, Line, Punct, Token};
 use std::alloc::{AllocError, Global};
 use std::test::Fail;
 
 // ---- words
 
+/// Each mark with its spelling.
 const MARKS: [(Punct, &str); 6] = [
     (Punct::LeftParen, "("),
     (Punct::RightParen, ")"),
@@ -27,7 +25,7 @@ const MARKS: [(Punct, &str); 6] = [
     (Punct::Arrow, "=>"),
 ];
 
-/// Whether a word is this mark, made anew.
+/// Whether a word is this mark, newly made and not read from a text.
 fn is_mark(token: &Token<'_>, spelling: &str) -> bool {
     token.kind() == Kind::Mark
         && token.spelling() == spelling
@@ -48,9 +46,10 @@ fn marks_are_made_and_copied(rt: HostRuntime) -> Result<(), Fail> {
 
 // ---- lines
 
+/// A document with a comment, a block and a quoted word. It is already in its layout.
 const TEXT: &str = "a // c\nb (\n\t\"c d\"\n)\n";
 
-/// Puts an entry of one new word at the end, or leaves the document where memory runs out.
+/// Appends an entry of one new word. If memory runs out, the document stays as it is.
 fn add_entry(alloc: Global, doc: &mut Doc<'_>, value: &str) -> Result<(), AllocError>
     requires { HasNoLineFeed value.now }
 {
@@ -60,7 +59,7 @@ fn add_entry(alloc: Global, doc: &mut Doc<'_>, value: &str) -> Result<(), AllocE
     doc.insert_line(end, Line::Entry(words, None))
 }
 
-/// Whether a line opens and closes nothing.
+/// Whether a line neither opens nor closes a block.
 fn is_level(line: &Line<'_>) -> bool
     ensures { result ≡ is_level (plain (line_of line.now)) }
 {
@@ -73,7 +72,7 @@ fn is_level(line: &Line<'_>) -> bool
     }
 }
 
-/// Takes the first line out, if it opens and closes nothing.
+/// Removes the first line if it neither opens nor closes a block. Says whether it did.
 fn drop_first(doc: &mut Doc<'_>) -> bool {
     if doc.lines().is_empty() || !is_level(&doc.lines()[0]) {
         return false;
@@ -82,6 +81,7 @@ fn drop_first(doc: &mut Doc<'_>) -> bool {
     true
 }
 
+/// The text of a document in its layout. `None` if memory runs out.
 fn layout(alloc: Global, doc: &Doc<'_>) -> Option<String> {
     doc.format(alloc).ok()
 }
@@ -106,7 +106,7 @@ fn lines_go_in_and_out(rt: HostRuntime) -> Result<(), Fail> {
 
 // ---- names
 
-/// Whether a file's name is the same as its copy. There is no answer where memory runs out.
+/// Whether a file's name is equal to its copy. `None` if memory runs out.
 fn is_copied(alloc: Global, path: &str, version: &str) -> Option<bool> {
     let name = file_name(alloc, path, version)?;
     let copy = copy_name(alloc, &name).ok()?;
@@ -126,9 +126,10 @@ fn names_are_copied(rt: HostRuntime) -> Result<(), Fail> {
 
 // ---- an operation that is refused
 
+/// A main module's file in its layout, with a comment that a rewrite could lose.
 const MAIN: &str = "module example.com/m\n\nrequire example.com/p v1.0.0 // kept\n";
 
-/// How an operation ends.
+/// The result of applying an operation. `None` if the text of the operation can't be parsed.
 fn applied<'a>(
     alloc: Global,
     file: &mut MainFile<'a>,

@@ -5,7 +5,8 @@ use gm_name::{KnownNames, ModVer, PairFault};
 use std::alloc::Global;
 use std::test::Fail;
 
-/// A path, a version, and what is wrong with them. Where they stand a second time they are known, if there was room.
+/// A path, a version, and what is wrong with them. Pairs that occur a second time are known by then, if there
+/// was room for them.
 const PAIRS: [(&'static str, &'static str, Option<PairFault>); 10] = [
     ("a.io", "v1.0.0", None),
     ("a.io", "v1.0.1", None),
@@ -20,11 +21,11 @@ const PAIRS: [(&'static str, &'static str, Option<PairFault>); 10] = [
 ];
 
 /// Whether a module at a version has these texts.
-fn is_read(pair: &ModVer, path: &str, version: &str) -> bool {
+fn has_texts(pair: &ModVer, path: &str, version: &str) -> bool {
     pair.path().as_str() == path && pair.version().as_str() == version
 }
 
-/// What is wrong with two texts, if something is, and whether others were read in their place.
+/// What is wrong with two texts, if anything, and whether a different pair was read in their place.
 fn fault_of(
     alloc: Global,
     names: &mut KnownNames,
@@ -32,12 +33,13 @@ fn fault_of(
     version: &str,
 ) -> (Option<PairFault>, bool) {
     match names.pair(alloc, path, version) {
-        Ok(pair) => (None, !is_read(&pair, path, version)),
+        Ok(pair) => (None, !has_texts(&pair, path, version)),
         Err(fault) => (Some(fault), false),
     }
 }
 
-/// The first two texts that are not read as they should be with this room, and what is wrong with them.
+/// The first pair of texts that is read incorrectly when there is room for this many names, with the fault
+/// that was given. `None` if all are read correctly.
 fn first_wrong(
     alloc: Global,
     room: usize,

@@ -1,18 +1,19 @@
-//! Loading by a queue, beside loading in rounds.
+//! Compares loading by a worklist with loading in rounds. The second is so simple that it can be checked by
+//! reading it.
 
 use super::projects::{PROJECTS, Project};
-use super::rounds::{Plain, load_in_rounds};
+use super::rounds::{RoundsResult, load_in_rounds};
 use super::{OUT_OF_MEMORY, main_file, store_of};
-use gm_cache::{Depth, Turn};
 use gm_file::{MainFile, Right};
 use gm_graph::{Loaded, load};
+use gm_graph_cache::{Depth, Turn};
+use gm_graph_select::Row;
 use gm_name::NoMemory;
-use gm_select::Row;
 use std::alloc::Global;
 use std::test::Fail;
 
-/// The path and version in a module's place, or the folder.
-fn right_in_words(right: &Option<Right>) -> (&str, &str) {
+/// The path and version of a replacement, or its folder and no version. Empty if there is no replacement.
+fn replacement_parts(right: &Option<Right>) -> (&str, &str) {
     match right {
         None => ("", ""),
         Some(Right::Folder(folder)) => (folder.as_str(), ""),
@@ -20,34 +21,43 @@ fn right_in_words(right: &Option<Right>) -> (&str, &str) {
     }
 }
 
-/// Rows of a build list, a line each.
-fn rows_in_words(alloc: Global, rows: &[Row]) -> Result<String, NoMemory> {
+/// The rows of a build list, one per line.
+fn rows_text(alloc: Global, rows: &[Row]) -> Result<String, NoMemory> {
     let mut text = String::new(alloc);
     for row in rows {
-        let (path, version) = right_in_words(&row.right);
+        let (path, version) = replacement_parts(&row.right);
         let line = format!(in alloc; "{:?} => {path} {version}\n", row.step)?;
         text.push_str(line.as_str())?;
     }
     Ok(text)
 }
 
-/// The rows that were loaded and those of the plain body. There are none where a module has a fault.
-fn both_rows(alloc: Global, loaded: &Loaded, plain: &Plain) -> Result<(String, String), NoMemory> {
+/// The rows by worklist and the rows by rounds. Both are empty if a module has a fault, as there is no build
+/// list then.
+fn both_rows(
+    alloc: Global,
+    loaded: &Loaded,
+    plain: &RoundsResult,
+) -> Result<(String, String), NoMemory> {
     if !loaded.faults().is_empty() {
         return Ok((String::new(alloc), String::new(alloc)));
     }
-    let rows = rows_in_words(alloc, loaded.build_list())?;
-    Ok((rows, rows_in_words(alloc, &plain.rows)?))
+    let rows = rows_text(alloc, loaded.build_list())?;
+    Ok((rows, rows_text(alloc, &plain.rows)?))
 }
 
-/// What both bodies find of a project, with the rows in words.
+/// What both ways of loading find for a project, with the rows as text.
 #[derive(Drop)]
 struct Found {
+    /// What the worklist finds.
     loaded: Loaded,
-    plain: Plain,
+    /// What the rounds find.
+    plain: RoundsResult,
+    /// The rows of both, in this order.
     rows: (String, String),
 }
 
+/// What both ways of loading find, over a main file that was read. `None` if memory runs out.
 fn find_over(alloc: Global, main: &MainFile<'_>, project: Project) -> Option<Found> {
     let mut store = store_of(alloc, project.files)?;
     let loaded = load(alloc, main, &mut store, None).ok()?;
@@ -60,7 +70,7 @@ fn find_over(alloc: Global, main: &MainFile<'_>, project: Project) -> Option<Fou
     })
 }
 
-/// What both bodies find. There is no answer where memory runs out.
+/// What both ways of loading find for a project. `None` if memory runs out.
 fn find(alloc: Global, project: Project) -> Option<Found> {
     let main = main_file(alloc, project.main)?;
     find_over(alloc, &main, project)
@@ -86,7 +96,7 @@ fn a_queue_and_rounds_find_the_same(rt: HostRuntime) -> Result<(), Fail> {
     Ok(())
 }
 
-/// Whether one of these turns takes a module to this depth, and no other does.
+/// Whether exactly one of these turns takes a module to this depth.
 fn is_taken_once(turns: &[Turn], path: &str, depth: Depth) -> bool {
     let mut count: usize = 0;
     for turn in turns {
@@ -97,6 +107,7 @@ fn is_taken_once(turns: &[Turn], path: &str, depth: Depth) -> bool {
     count == 1
 }
 
+/// Whether the turns are exactly the expected ones, in any order.
 fn are_taken(turns: &[Turn], wanted: &'static [(&'static str, Depth)]) -> bool {
     for (path, depth) in wanted {
         if !is_taken_once(turns, path, *depth) {

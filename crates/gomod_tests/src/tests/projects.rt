@@ -1,17 +1,22 @@
-//! Projects: what a main module's file says, and the files of the modules that it leads to.
+//! Projects to load: the content of a main module's file, and the files of the modules that it leads to.
 
 use super::File;
-use gm_cache::Depth;
+use gm_graph_cache::Depth;
 
-/// A project, and for which modules requirements are read to which depth, where that is to be seen.
+/// A project, with the expected work of loading it where that matters.
 #[derive(Clone, Copy)]
 pub(super) struct Project {
+    /// What the project shows.
     pub(super) title: &'static str,
+    /// The content of the main module's file.
     pub(super) main: &'static str,
+    /// The files of other modules.
     pub(super) files: &'static [File],
+    /// For which module paths requirements are read, and to which depth. `None` if this is not checked.
     pub(super) turns: Option<&'static [(&'static str, Depth)]>,
 }
 
+/// Small module graphs, each with a feature that loading must handle correctly.
 pub(super) const PROJECTS: &'static [Project] = &[
     Project {
         title: "no requirements",

@@ -1,4 +1,4 @@
-//! Readers that fail, that give few bytes at a call, and that have more bytes than are read.
+//! Readers that fail, that give few bytes per call, or that have more bytes than are read.
 
 use super::OUT_OF_MEMORY;
 use gm_store::{LIMIT, ReadFault, read_limited};
@@ -7,16 +7,21 @@ use std::io;
 use std::io::{ErrorKind, Read};
 use std::test::Fail;
 
-/// A reader over bytes in memory, which gives at most `step` of them at a call, and fails after so many calls.
+/// A reader over bytes in memory. It gives at most `step` bytes per call, and fails after `calls` calls.
 #[derive(Clone, Copy)]
-struct Source<'a> {
+struct LimitedReader<'a> {
+    /// The bytes that are left to read.
     bytes: &'a [u8],
+    /// The most bytes that one call gives.
     step: usize,
+    /// How many more calls succeed.
     calls: usize,
+    /// How the calls after them fail.
     fault: ErrorKind,
 }
 
-impl Read for Source<'_> {
+impl Read for LimitedReader<'_> {
+    /// Gives the next bytes, or fails once the calls are used up.
     fn read(&mut self, piece: &mut [u8]) -> io::Result<usize> {
         if self.calls == 0 {
             return Err(io::Error::from(self.fault));
@@ -30,15 +35,16 @@ impl Read for Source<'_> {
     }
 }
 
+/// As a number of calls or bytes: without limit.
 const NEVER: usize = usize::MAX;
 
-/// So many bytes `x`.
+/// This many bytes `x`. `None` if memory runs out.
 fn letters(alloc: Global, length: usize) -> Option<Vec<u8>> {
     vec![in alloc; b'x'; length].ok()
 }
 
-/// Whether reading so many bytes, of which at most `step` are given at a call, takes the front of them up to this length, and leaves the
-/// rest. There is no answer where memory runs out.
+/// Whether reading the first `length` of these bytes, at most `step` of them per call, takes exactly the
+/// first `taken` of them and leaves the rest. `None` if memory runs out.
 fn takes_front(
     alloc: Global,
     bytes: &[u8],
@@ -47,7 +53,7 @@ fn takes_front(
     taken: usize,
 ) -> Option<bool> {
     let (bytes, _) = bytes.split_at_checked(length)?;
-    let mut reader = Source {
+    let mut reader = LimitedReader {
         bytes,
         step,
         calls: NEVER,
@@ -58,7 +64,7 @@ fn takes_front(
     Some(read.as_slice() == front && reader.bytes == rest)
 }
 
-/// The lengths of files, how many bytes are given at a call, and how many are read.
+/// The lengths of files, how many bytes a call gives, and how many bytes are read.
 const LENGTHS: [(usize, usize, usize); 8] = [
     (0, NEVER, 0),
     (1, 1, 1),
@@ -84,8 +90,8 @@ fn reads_up_to_the_limit_and_leaves_the_rest(rt: HostRuntime) -> Result<(), Fail
     Ok(())
 }
 
-/// What reading ends with: the number of bytes, or the fault.
-fn outcome(alloc: Global, source: Source<'_>) -> Result<usize, ReadFault> {
+/// The result of reading: the number of bytes, or the fault.
+fn outcome(alloc: Global, source: LimitedReader<'_>) -> Result<usize, ReadFault> {
     let mut reader = source;
     Ok(read_limited(alloc, &mut reader)?.len())
 }
@@ -94,7 +100,7 @@ fn outcome(alloc: Global, source: Source<'_>) -> Result<usize, ReadFault> {
 fn fails_where_a_read_fails(rt: HostRuntime) -> Result<(), Fail> {
     for fault in [ErrorKind::Interrupted, ErrorKind::Other] {
         for calls in 0..8 {
-            let source = Source {
+            let source = LimitedReader {
                 bytes: b"0123456789",
                 step: 2,
                 calls,

@@ -1,27 +1,30 @@
-//! The plain body of loading, without a queue, marks and a cache: rounds over the list of deeply opened modules, each of which reads
-//! every file again. No go.sum is looked at.
+//! A plain implementation of loading, without a worklist, marks or a cache. It repeats rounds over the list
+//! of deeply opened modules, and each round reads every file again. It ignores the go.sum.
 
 use super::File;
-use gm_cache::{Class, Misreading};
 use gm_file::{DepFile, FileFault, MainFile, Right};
 use gm_graph::Fault;
+use gm_graph_cache::{Class, Misreading};
+use gm_graph_select::{Edge, Row, Step};
 use gm_name::{KnownNames, ModVer, NoMemory};
-use gm_select::{Edge, Row, Step};
-use gm_syntax::doc::Doc;
+use gm_syntax::Doc;
 use std::alloc::{AllocError, Global};
 
-/// What is found.
+/// What loading finds.
 #[derive(Drop)]
-pub(super) struct Plain {
+pub(super) struct RoundsResult {
+    /// The opened modules with faults, in ascending order.
     pub(super) faults: Vec<Fault>,
+    /// The edges of the module graph, each once, in ascending order.
     pub(super) edges: Vec<Edge>,
+    /// The build list. Meaningful only if no module has a fault.
     pub(super) rows: Vec<Row>,
 }
 
 // ---- what the file of a module says
 
-/// The path and version that a module's file has in the store, or its folder and no version.
-fn place_of<'a>(main: &'a MainFile<'_>, vertex: &'a ModVer) -> (&'a str, &'a str) {
+/// The path and version under which a module's file is in the store, or its folder and no version.
+fn store_key<'a>(main: &'a MainFile<'_>, vertex: &'a ModVer) -> (&'a str, &'a str) {
     match main.replacement(vertex) {
         None => (vertex.path().as_str(), vertex.version().as_str()),
         Some(Right::Folder(folder)) => (folder.as_str(), ""),
@@ -29,6 +32,7 @@ fn place_of<'a>(main: &'a MainFile<'_>, vertex: &'a ModVer) -> (&'a str, &'a str
     }
 }
 
+/// Whether the store may be asked for a module's file.
 fn is_fetchable(main: &MainFile<'_>, vertex: &ModVer) -> bool {
     match main.replacement(vertex) {
         None => vertex.path().is_fetchable(),
@@ -37,6 +41,7 @@ fn is_fetchable(main: &MainFile<'_>, vertex: &ModVer) -> bool {
     }
 }
 
+/// The content of a file, or `None` if there is no such file.
 fn content(files: &'static [File], path: &str, version: &str) -> Option<&'static str> {
     for file in files {
         if file.0 == path && file.1 == version {
@@ -46,7 +51,7 @@ fn content(files: &'static [File], path: &str, version: &str) -> Option<&'static
     None
 }
 
-/// What a file says, or what is wrong with it. Each file of these projects is a document.
+/// What a file says, or what is wrong with it. Every file of these projects is a valid document.
 fn read(alloc: Global, text: &str) -> Result<Result<DepFile, Class>, NoMemory> {
     let Ok(doc) = Doc::parse(alloc, text.as_bytes()) else {
         return Err(AllocError);
@@ -61,6 +66,7 @@ fn read(alloc: Global, text: &str) -> Result<Result<DepFile, Class>, NoMemory> {
     }
 }
 
+/// Whether a file names the module that it is read for. The file in a folder may have any name.
 fn has_right_path(main: &MainFile<'_>, vertex: &ModVer, file: &DepFile) -> bool {
     match main.replacement(vertex) {
         None => file.module() == Some(vertex.path()),
@@ -71,20 +77,26 @@ fn has_right_path(main: &MainFile<'_>, vertex: &ModVer, file: &DepFile) -> bool 
     }
 }
 
-/// A project's main file, and the files of modules.
+/// A project's main file, and the files of other modules.
 #[derive(Clone, Copy)]
 struct Given<'a, 'b> {
+    /// The allocator.
     alloc: Global,
+    /// The main module's file.
     main: &'a MainFile<'b>,
+    /// The files of other modules.
     files: &'static [File],
 }
 
 /// What the file of a module says, or what is wrong with it.
-fn said(given: &Given<'_, '_>, vertex: &ModVer) -> Result<Result<DepFile, Class>, NoMemory> {
+fn read_module_file(
+    given: &Given<'_, '_>,
+    vertex: &ModVer,
+) -> Result<Result<DepFile, Class>, NoMemory> {
     if !is_fetchable(given.main, vertex) {
         return Ok(Err(Class::NotFetchable));
     }
-    let (path, version) = place_of(given.main, vertex);
+    let (path, version) = store_key(given.main, vertex);
     let Some(text) = content(given.files, path, version) else {
         return Ok(Err(Class::Missing));
     };
@@ -97,7 +109,7 @@ fn said(given: &Given<'_, '_>, vertex: &ModVer) -> Result<Result<DepFile, Class>
     Ok(file)
 }
 
-/// Those that the main module's file does not exclude.
+/// Those of the modules that the main module's file does not exclude.
 fn kept(given: &Given<'_, '_>, required: &[ModVer]) -> Result<Vec<ModVer>, NoMemory> {
     let mut kept = Vec::new(given.alloc);
     for vertex in required {
@@ -108,21 +120,22 @@ fn kept(given: &Given<'_, '_>, required: &[ModVer]) -> Result<Vec<ModVer>, NoMem
     Ok(kept)
 }
 
-/// What a module requires. One with a fault requires nothing.
+/// What a module requires. A module with a fault requires nothing.
 fn requirements(given: &Given<'_, '_>, vertex: &ModVer) -> Result<Vec<ModVer>, NoMemory> {
-    if let Ok(file) = said(given, vertex)? {
+    if let Ok(file) = read_module_file(given, vertex)? {
         return Ok(kept(given, file.requirements())?);
     }
     Ok(Vec::new(given.alloc))
 }
 
+/// Whether a module with this go version has its requirements pruned: from 1.17 on.
 fn is_pruned(go: (u32, u32)) -> bool {
     go >= (1, 17)
 }
 
 /// Whether the file of a module has no fault and is not pruned.
 fn is_unpruned(given: &Given<'_, '_>, vertex: &ModVer) -> Result<bool, NoMemory> {
-    if let Ok(file) = said(given, vertex)? {
+    if let Ok(file) = read_module_file(given, vertex)? {
         return Ok(!is_pruned(file.go()));
     }
     Ok(false)
@@ -130,7 +143,7 @@ fn is_unpruned(given: &Given<'_, '_>, vertex: &ModVer) -> Result<bool, NoMemory>
 
 // ---- which modules are opened
 
-/// Adds modules to a list, which stays in order.
+/// Adds modules to a list, which stays in ascending order and without duplicates.
 fn add_all(alloc: Global, list: &mut Vec<ModVer>, others: &[ModVer]) -> Result<(), NoMemory> {
     for vertex in others {
         list.push(vertex.copy(alloc)?)?;
@@ -150,9 +163,10 @@ fn required_by(given: &Given<'_, '_>, list: &[ModVer]) -> Result<Vec<ModVer>, No
     Ok(all)
 }
 
-/// The modules that are opened deeply without a look at what those require: all that the main module requires, or, where its file is
-/// pruned, what those of them require whose files are not.
-fn first_deep(given: &Given<'_, '_>, top: &[ModVer]) -> Result<Vec<ModVer>, NoMemory> {
+/// The modules that are deeply opened before any requirement of theirs is followed. If the main module's file
+/// is not pruned, these are all modules that it requires. Otherwise they are what the modules among them
+/// require whose files are not pruned.
+fn initial_deep(given: &Given<'_, '_>, top: &[ModVer]) -> Result<Vec<ModVer>, NoMemory> {
     if !is_pruned(given.main.go()) {
         return Ok(kept(given, top)?);
     }
@@ -165,12 +179,12 @@ fn first_deep(given: &Given<'_, '_>, top: &[ModVer]) -> Result<Vec<ModVer>, NoMe
     required_by(given, &unpruned)
 }
 
-/// More rounds than a way through any of these projects has steps.
+/// More rounds than any path through one of these projects has steps.
 const ROUNDS: usize = 10;
 
-/// The modules that are opened, where the main module requires these.
+/// The modules that are opened, if the main module requires these.
 fn opened(given: &Given<'_, '_>, top: &[ModVer]) -> Result<Vec<ModVer>, NoMemory> {
-    let mut list = first_deep(given, top)?;
+    let mut list = initial_deep(given, top)?;
     for _ in 0..ROUNDS {
         let required = required_by(given, &list)?;
         add_all(given.alloc, &mut list, &required)?;
@@ -181,10 +195,11 @@ fn opened(given: &Given<'_, '_>, top: &[ModVer]) -> Result<Vec<ModVer>, NoMemory
 
 // ---- what follows from the opened modules
 
+/// The opened modules that have faults.
 fn faults(given: &Given<'_, '_>, opened: &[ModVer]) -> Result<Vec<Fault>, NoMemory> {
     let mut faults = Vec::new(given.alloc);
     for vertex in opened {
-        if let Err(class) = said(given, vertex)? {
+        if let Err(class) = read_module_file(given, vertex)? {
             let vertex = vertex.copy(given.alloc)?;
             faults.push(Fault { vertex, class })?;
         }
@@ -192,6 +207,7 @@ fn faults(given: &Given<'_, '_>, opened: &[ModVer]) -> Result<Vec<Fault>, NoMemo
     Ok(faults)
 }
 
+/// Adds an edge to each of these vertices.
 fn add_edges(
     alloc: Global,
     edges: &mut Vec<Edge>,
@@ -206,6 +222,7 @@ fn add_edges(
     Ok(())
 }
 
+/// The edges that leave the main module and the opened modules.
 fn edges(given: &Given<'_, '_>, top: &[ModVer], opened: &[ModVer]) -> Result<Vec<Edge>, NoMemory> {
     let mut edges = Vec::new(given.alloc);
     add_edges(given.alloc, &mut edges, &Step::Main, top)?;
@@ -219,7 +236,8 @@ fn edges(given: &Given<'_, '_>, top: &[ModVer], opened: &[ModVer]) -> Result<Vec
     Ok(edges)
 }
 
-/// Whether none of these is a greater version of a module, and its path isn't the main module's.
+/// Whether a module is in the build list: none of these vertices is a greater version of it, and its path is
+/// not the main module's.
 fn is_selected(given: &Given<'_, '_>, ends: &[ModVer], vertex: &ModVer) -> bool {
     for end in ends {
         if *end.path() == *vertex.path() && *end.version() > *vertex.version() {
@@ -229,6 +247,7 @@ fn is_selected(given: &Given<'_, '_>, ends: &[ModVer], vertex: &ModVer) -> bool 
     *vertex.path() != *given.main.module()
 }
 
+/// The row of a module in the build list, with its replacement, if any.
 fn row(given: &Given<'_, '_>, vertex: &ModVer) -> Result<Row, NoMemory> {
     let right = match given.main.replacement(vertex) {
         Some(right) => Some(right.copy(given.alloc)?),
@@ -238,7 +257,7 @@ fn row(given: &Given<'_, '_>, vertex: &ModVer) -> Result<Row, NoMemory> {
     Ok(Row { step, right })
 }
 
-/// The build list of these ends of edges.
+/// The build list, if the edges lead to these vertices.
 fn rows(given: &Given<'_, '_>, ends: &[ModVer]) -> Result<Vec<Row>, NoMemory> {
     let mut rows = Vec::new(given.alloc);
     rows.push(Row {
@@ -253,18 +272,18 @@ fn rows(given: &Given<'_, '_>, ends: &[ModVer]) -> Result<Vec<Row>, NoMemory> {
     Ok(rows)
 }
 
-/// What loading finds. The rows count only where no module has a fault.
+/// What loading finds. The rows are meaningful only if no module has a fault.
 pub(super) fn load_in_rounds(
     alloc: Global,
     main: &MainFile<'_>,
     files: &'static [File],
-) -> Result<Plain, NoMemory> {
+) -> Result<RoundsResult, NoMemory> {
     let given = Given { alloc, main, files };
     let top = kept(&given, main.requirements())?;
     let opened = opened(&given, &top)?;
     let mut ends = required_by(&given, &opened)?;
     add_all(alloc, &mut ends, &top)?;
-    Ok(Plain {
+    Ok(RoundsResult {
         faults: faults(&given, &opened)?,
         edges: edges(&given, &top, &opened)?,
         rows: rows(&given, &ends)?,

@@ -1,17 +1,19 @@
-//! A command that no command line makes.
+//! A command that no command line results in.
 
 use super::OUT_OF_MEMORY;
-use gm_run::{Status, run};
 use gm_store::{MemoryFiles, MemorySink};
-use gm_words::Command;
+use gomod_run::{Status, run};
+use gomod_words::Command;
 use std::alloc::Global;
 use std::test::Fail;
 
+/// A main module's file that is not in its layout.
 const MAIN: &[u8] = b"module m.io\n\n\n\nrequire a.io   v1.0.0\n";
 
+/// The report of a run that runs out of memory.
 const NO_MEMORY: &[u8] = b"gomod: no memory\n";
 
-/// What `edit` writes without an operation, and its status. There is no answer where memory runs out.
+/// What `edit` writes when there are no operations, and its status. `None` if memory runs out.
 fn edit_nothing(alloc: Global) -> Option<(MemorySink, Status)> {
     let command = Command::Edit(Vec::new(alloc));
     let mut store = MemoryFiles::new(alloc);

@@ -1,4 +1,4 @@
-//! Sinks that fail in mid-stream: sinks in memory without room, and writers that take few bytes at a call.
+//! Sinks that fail in mid-stream: sinks in memory without room, and writers that take few bytes per call.
 
 use super::OUT_OF_MEMORY;
 use gm_store::{MemorySink, Sink, StdSink, WriteFault, write_all};
@@ -6,6 +6,7 @@ use std::io;
 use std::io::{ErrorKind, Write};
 use std::test::Fail;
 
+/// The text that is written.
 const TEXT: &[u8] = b"example.com/p v1.9.0 v1.10.0-rc.1 v1.10.0\n";
 
 #[test]
@@ -38,18 +39,23 @@ fn a_sink_in_memory_fails_again(rt: HostRuntime) -> Result<(), Fail> {
     Ok(())
 }
 
-/// How many bytes a writer takes at a call at most.
+/// The most bytes that a writer takes per call.
 const STEP: usize = 5;
 
-/// A writer that takes few bytes at a call, and after so many calls fails, or takes nothing where it has no fault.
+/// A writer that takes few bytes per call. Once its calls are used up it fails, or takes nothing if it has no
+/// fault.
 #[derive(Drop)]
-struct Drain {
+struct LimitedWriter {
+    /// The bytes that were taken.
     bytes: Vec<u8>,
+    /// How many more calls succeed.
     calls: usize,
+    /// How the calls after them fail.
     fault: Option<ErrorKind>,
 }
 
-impl Write for Drain {
+impl Write for LimitedWriter {
+    /// Takes the next bytes, or fails once the calls are used up.
     fn write(&mut self, piece: &[u8]) -> io::Result<usize> {
         if self.calls == 0 {
             return match self.fault {
@@ -63,6 +69,7 @@ impl Write for Drain {
         Ok(count)
     }
 
+    /// Does nothing, as nothing is buffered.
     fn flush(&mut self) -> io::Result<()> {
         Ok(())
     }
@@ -79,7 +86,7 @@ fn a_writer_fails_after_each_call(rt: HostRuntime) -> Result<(), Fail> {
             let bytes = Vec::with_capacity(rt.alloc(), TEXT.len())
                 .ok()
                 .ok_or(OUT_OF_MEMORY)?;
-            let mut drain = Drain {
+            let mut drain = LimitedWriter {
                 bytes,
                 calls,
                 fault,

@@ -5,10 +5,13 @@ ghost use Rattle.gm_store.specs.Views.{asked_by};
 
 use super::{File, OUT_OF_MEMORY, store_of};
 use gm_name::{ModPath, ModVersion};
-use gm_store::{Answer, AskFault, FailingFiles, FileName, Files, Held, Mark, MemoryFolders, Shelf};
+use gm_store::{
+    Answer, AskFault, FailingFiles, FileName, Files, Held, Mark, MemoryFallback, MemoryFolder,
+};
 use std::alloc::Global;
 use std::test::Fail;
 
+/// One file of a module at a version, and one in a folder.
 const FILES: &'static [File] = &[
     ("a.io", "v1.0.0", "module a.io\n"),
     ("../b", "", "module b.io\n"),
@@ -19,8 +22,8 @@ fn counts(store: &FailingFiles) -> (usize, u64) {
     (store.count(), store.faults())
 }
 
-/// The counts after the first ask, after the second, which the device refuses, and after that is tried again. There is no answer where
-/// memory runs out.
+/// The counts after the first ask, after the second, on which the device fails, and after a retry of the
+/// second. `None` if memory runs out.
 fn fails_once(alloc: Global) -> Option<[(usize, u64); 3]> {
     let mut store = FailingFiles::after(store_of(alloc, FILES)?, 1);
     let path = ModPath::parse(alloc, "a.io").ok()?;
@@ -46,9 +49,10 @@ fn a_failing_store_refuses_one_ask(rt: HostRuntime) -> Result<(), Fail> {
     Ok(())
 }
 
-/// A folder with the list of a module, or with one at which the device fails.
-fn shelf(alloc: Global, list: Option<&str>) -> Option<Shelf> {
-    let mut shelf = Shelf::new(alloc);
+/// A folder that has the list of a module, or one where the device fails on that list. `None` if memory runs
+/// out.
+fn shelf(alloc: Global, list: Option<&str>) -> Option<MemoryFolder> {
+    let mut shelf = MemoryFolder::new(alloc);
     let name = FileName::List(ModPath::parse(alloc, "p.io").ok()?);
     let held = match list {
         Some(text) => Held::Content(Vec::from_slice(alloc, text.as_bytes()).ok()?),
@@ -58,8 +62,9 @@ fn shelf(alloc: Global, list: Option<&str>) -> Option<Shelf> {
     Some(shelf)
 }
 
-/// A store over a folder where the device fails and one with a list. It was asked for nothing.
-fn broken_and_whole(alloc: Global, mark: Mark) -> Option<MemoryFolders>
+/// A store that was not asked for anything yet, over a folder where the device fails and one that has a list.
+/// `None` if memory runs out.
+fn broken_then_working(alloc: Global, mark: Mark) -> Option<MemoryFallback>
     ensures { IfSome result (λ store. asked_by store ≡ []) }
 {
     let mut proxies = Vec::new(alloc);
@@ -67,12 +72,13 @@ fn broken_and_whole(alloc: Global, mark: Mark) -> Option<MemoryFolders>
     proxies.push(shelf(alloc, Some("v1.0.0\n"))?).ok()?;
     let mut marks = Vec::new(alloc);
     marks.push(mark).ok()?;
-    Some(MemoryFolders::in_memory(alloc, proxies, marks, Shelf::new(alloc)))
+    Some(MemoryFallback::in_memory(alloc, proxies, marks, MemoryFolder::new(alloc)))
 }
 
-/// Whether a store answered what the second folder has, and how often a device failed. There is no answer where memory runs out.
+/// Whether a store answered with the content of the second folder, and how often a device failed. `None` if
+/// memory runs out.
 fn answer_after(alloc: Global, mark: Mark) -> Option<(bool, u64)> {
-    let mut store = broken_and_whole(alloc, mark)?;
+    let mut store = broken_then_working(alloc, mark)?;
     let name = FileName::List(ModPath::parse(alloc, "p.io").ok()?);
     let has_answered = match store.ask(&name) {
         Ok(()) => is_list(store.answer(0)),
@@ -82,6 +88,7 @@ fn answer_after(alloc: Global, mark: Mark) -> Option<(bool, u64)> {
     Some((has_answered, store.faults()))
 }
 
+/// Whether an answer is the list of the second folder.
 fn is_list(answer: &Answer) -> bool {
     match answer {
         Answer::Bytes(bytes) => bytes.as_slice() == b"v1.0.0\n".as_slice(),

@@ -1,24 +1,24 @@
 use Rattle.std.proofs.Common.{drop, take, ◌+◌}
 use Rattle.std.specs.Option.{option_map}
-use Rattle.gm_syntax.specs.LineViews.{line_of, lines_seen, plain, plains}
-use Rattle.gm_file.specs.VerbViews.{mode_seen}
-use Rattle.gm_file.proofs.Lines.{fault-told, length-before, lines-all, lines-next, lines-split, read-more, read-none}
+use Rattle.gm_syntax.specs.LineViews.{line_of, line_views, plain, plain_lines}
+use Rattle.gm_file.specs.VerbViews.{mode_view}
+use Rattle.gm_file.proofs.Lines.{fault-reported, length-before, lines-all, lines-next, lines-split, read-more, read-none}
 use Rattle.gm_file.proofs.fields.read_lines.Goals as goal
 
 pub loop-n-init : goal.loop-n-init
-loop-n-init c = read-none (mode_seen c.args.mode) c.new-fields.result (c.new-fields.ensures.holds (mode_seen c.args.mode)) c.new-fields.ensures.found
+loop-n-init c = read-none (mode_view c.args.mode) c.new-fields.result (c.new-fields.ensures.holds (mode_view c.args.mode)) c.new-fields.ensures.found
 
 pub loop-n-preserved : goal.loop-n-preserved
 loop-n-preserved c =
-    rw (lines-next c.args.lines.now c.loop-n.n c.index-lines-n.result c.loop-n-test.true c.index-lines-n.is, c.block_behind-block.ensures)
-    (read-more (mode_seen c.args.mode) (take c.loop-n.n (plains (lines_seen c.args.lines.now))) (option_map (λ t. t.now.word) c.loop-n.block) (plain (line_of c.index-lines-n.result))
+    rw (lines-next c.args.lines.now c.loop-n.n c.index-lines-n.result c.loop-n-test.true c.index-lines-n.is, c.block_after_line-block.ensures)
+    (read-more (mode_view c.args.mode) (take c.loop-n.n (plain_lines (line_views c.args.lines.now))) (option_map (λ t. t.now.word) c.loop-n.block) (plain (line_of c.index-lines-n.result))
     c.loop-n.fields c.read_line.new.self c.loop-n.invariant c.in_default.ensures.found c.in_default.ensures.added)
 
 pub returns-in-Err-clause-fault : goal.returns-in-Err-clause-fault
 returns-in-Err-clause-fault c =
     rw c.at_line.ensures
-    (fault-told (mode_seen c.args.mode) (take c.loop-n.n (plains (lines_seen c.args.lines.now))) (option_map (λ t. t.now.word) c.loop-n.block) (plain (line_of c.index-lines-n.result))
-    (drop (c.loop-n.n + 1) (plains (lines_seen c.args.lines.now))) (plains (lines_seen c.args.lines.now)) (c.loop-n.n + 1) c.loop-n.fields c.read_line.new.self c.in-Err.fault
+    (fault-reported (mode_view c.args.mode) (take c.loop-n.n (plain_lines (line_views c.args.lines.now))) (option_map (λ t. t.now.word) c.loop-n.block) (plain (line_of c.index-lines-n.result))
+    (drop (c.loop-n.n + 1) (plain_lines (line_views c.args.lines.now))) (plain_lines (line_views c.args.lines.now)) (c.loop-n.n + 1) c.loop-n.fields c.read_line.new.self c.in-Err.fault
     c.loop-n.invariant (length-before c.args.lines.now c.loop-n.n c.loop-n-test.true) (lines-split c.args.lines.now c.loop-n.n c.index-lines-n.result c.loop-n-test.true c.index-lines-n.is) c.in-Err.ensures.added)
 
 pub returns-clause-ok : goal.returns-clause-ok

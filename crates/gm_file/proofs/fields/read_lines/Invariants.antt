@@ -1,9 +1,9 @@
 use Rattle.std.proofs.Common.{take}
 use Rattle.std.specs.Option.{option_map}
-use Rattle.gm_syntax.specs.LineViews.{lines_seen, plains}
+use Rattle.gm_syntax.specs.LineViews.{line_views, plain_lines}
 use Rattle.gm_file.specs.Holding.{AreReadTo}
-use Rattle.gm_file.specs.VerbViews.{mode_seen}
+use Rattle.gm_file.specs.VerbViews.{mode_view}
 use Rattle.gm_file.proofs.fields.read_lines.Given as goal
 
 abbrev pub invariant-loop-n : goal.invariant-loop-n
-invariant-loop-n l = AreReadTo (mode_seen l.mode) (take l.n (plains (lines_seen l.lines))) (option_map (λ t. t.now.word) l.block) l.fields
+invariant-loop-n l = AreReadTo (mode_view l.mode) (take l.n (plain_lines (line_views l.lines))) (option_map (λ t. t.now.word) l.block) l.fields

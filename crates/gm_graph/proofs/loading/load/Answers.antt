@@ -1,9 +1,9 @@
 use Rattle.std.proofs.Common.{◌∙◌, Err, Option, sym, ap, subst}
 use Rattle.std.specs.Option.{option_copied}
 use Rattle.gm_store.specs.Asked.{name_of}
-use Rattle.gm_sums.specs.declared.sums.SumTable.{SumTable}
-use Rattle.gm_cache.specs.Cached.{main_in}
-use Rattle.gm_cache.specs.Main.{Main, main_of}
+use Rattle.gm_store_sums.specs.declared.sum_table.SumTable.{SumTable}
+use Rattle.gm_graph_cache.specs.Cached.{main_in}
+use Rattle.gm_graph_cache.specs.Main.{Main, main_of}
 use Rattle.gm_graph.specs.Loading.{AreTooMany, IsDue, Told}
 use Rattle.gm_graph.proofs.Dues.{asks_nothing}
 use Rattle.gm_graph.proofs.Loads.{gathered_ends, gathered_rooted, loads_of, too_many_first}
@@ -12,40 +12,40 @@ use Rattle.gm_graph.proofs.loading.load.Goals as goal
 pub returns-in_err-required-clause-asks : goal.returns-in_err-required-clause-asks
 returns-in_err-required-clause-asks g c = asks_nothing _ _ _ c.requires
 
-pub returns-in_err-opening-clause-asks : goal.returns-in_err-opening-clause-asks
-returns-in_err-opening-clause-asks g c = asks_nothing _ _ _ c.requires
+pub returns-in_err-worklist-clause-asks : goal.returns-in_err-worklist-clause-asks
+returns-in_err-worklist-clause-asks g c = asks_nothing _ _ _ c.requires
 
-pub returns-in_err-gathered-clause-asks : goal.returns-in_err-gathered-clause-asks
-returns-in_err-gathered-clause-asks g c = asks_nothing _ _ _ c.requires
+pub returns-in_err-builder-clause-asks : goal.returns-in_err-builder-clause-asks
+returns-in_err-builder-clause-asks g c = asks_nothing _ _ _ c.requires
 
-pub returns-in_err-opening-clause-too_many : goal.returns-in_err-opening-clause-too_many
-returns-in_err-opening-clause-too_many g c = λ e.
+pub returns-in_err-worklist-clause-too_many : goal.returns-in_err-worklist-clause-too_many
+returns-in_err-worklist-clause-too_many g c = λ e.
     too_many_first (main_of c.args.main.now) (option_copied c.args.sums) (g.F.Files.asked c.args.files.now) c.deref.result.now c.requires (c.deref.ensures.value ∙ c.in_ok-required.ensures)
-    (c.in_err-opening.ensures.too_many (ap Err (sym (rw e at c.from_residual-in_err-opening.ensures.1))))
+    (c.in_err-worklist.ensures.too_many (ap Err (sym (rw e at c.from_residual-in_err-worklist.ensures.1))))
 
-pub returns-in_err-open_in_turn-clause-device : goal.returns-in_err-open_in_turn-clause-device
-returns-in_err-open_in_turn-clause-device g c = λ name e.
-    let pairs = g.F.Files.asked c.open_in_turn.new.files in
+pub returns-in_err-visit_all-clause-device : goal.returns-in_err-visit_all-clause-device
+returns-in_err-visit_all-clause-device g c = λ name e.
+    let pairs = g.F.Files.asked c.visit_all.new.files in
     subst (λ (m : Main). IsDue m (option_copied c.args.sums) pairs (name_of name)) c.new-cache.ensures.main
     (subst (λ (s : Option SumTable). IsDue (main_in c.new-cache.result) s pairs (name_of name)) c.new-cache.ensures.sums
-    (c.in_err-open_in_turn.ensures.device name (ap Err (sym (rw e at c.from_residual-in_err-open_in_turn.ensures.1)))))
+    (c.in_err-visit_all.ensures.device name (ap Err (sym (rw e at c.from_residual-in_err-visit_all.ensures.1)))))
 
-pub returns-in_err-open_in_turn-clause-too_many : goal.returns-in_err-open_in_turn-clause-too_many
-returns-in_err-open_in_turn-clause-too_many g c = λ e.
-    let pairs = g.F.Files.asked c.open_in_turn.new.files in
+pub returns-in_err-visit_all-clause-too_many : goal.returns-in_err-visit_all-clause-too_many
+returns-in_err-visit_all-clause-too_many g c = λ e.
+    let pairs = g.F.Files.asked c.visit_all.new.files in
     subst (λ (m : Main). Told m (option_copied c.args.sums) pairs (AreTooMany m)) c.new-cache.ensures.main
     (subst (λ (s : Option SumTable). Told (main_in c.new-cache.result) s pairs (AreTooMany (main_in c.new-cache.result))) c.new-cache.ensures.sums
-    (c.in_err-open_in_turn.ensures.too_many (ap Err (sym (rw e at c.from_residual-in_err-open_in_turn.ensures.1)))))
+    (c.in_err-visit_all.ensures.too_many (ap Err (sym (rw e at c.from_residual-in_err-visit_all.ensures.1)))))
 
-pub put_together-requires : goal.put_together-requires
-put_together-requires g c = record {
-  rooted = gathered_rooted _ _ _ c.open_in_turn.new.opening c.open_in_turn.new.gathered c.in_ok-open_in_turn.ensures.opened;
-  ends = gathered_ends _ _ _ c.open_in_turn.new.opening c.open_in_turn.new.gathered c.in_ok-open_in_turn.ensures.opened;
+pub assemble-requires : goal.assemble-requires
+assemble-requires g c = record {
+  rooted = gathered_rooted _ _ _ c.visit_all.new.worklist c.visit_all.new.builder c.in_ok-visit_all.ensures.opened;
+  ends = gathered_ends _ _ _ c.visit_all.new.worklist c.visit_all.new.builder c.in_ok-visit_all.ensures.opened;
 }
 
 pub returns-clause-loaded : goal.returns-clause-loaded
 returns-clause-loaded g c =
-    let told = c.in_ok-put_together.ensures in
-    loads_of c.new-cache.result c.open_in_turn.new.cache (g.F.Files.asked c.open_in_turn.new.files) c.open_in_turn.new.opening c.open_in_turn.new.gathered c.in_ok-open_in_turn.ensures.opened
-    (main_of c.args.main.now) (option_copied c.args.sums) c.new-cache.ensures.main c.new-cache.ensures.sums c.in_ok-put_together.field-0 c.open_in_turn.ensures.asks
+    let told = c.in_ok-assemble.ensures in
+    loads_of c.new-cache.result c.visit_all.new.cache (g.F.Files.asked c.visit_all.new.files) c.visit_all.new.worklist c.visit_all.new.builder c.in_ok-visit_all.ensures.opened
+    (main_of c.args.main.now) (option_copied c.args.sums) c.new-cache.ensures.main c.new-cache.ensures.sums c.in_ok-assemble.field-0 c.visit_all.ensures.asks
     told.main told.faults told.ordered told.ascending told.edges told.rows told.turns

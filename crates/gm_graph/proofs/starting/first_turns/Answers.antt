@@ -1,18 +1,18 @@
 use Rattle.std.proofs.Common.{List, Err, sym, ap, subst}
-use Rattle.gm_cache.specs.declared.depth.Depth.{Depth}
-use Rattle.gm_cache.specs.Main.{Vertex, kept, main_of}
+use Rattle.gm_graph_cache.specs.declared.depth.Depth.{Depth}
+use Rattle.gm_graph_cache.specs.Main.{Vertex, kept, main_of}
 use Rattle.gm_graph.specs.Turns.{AddsAll}
 use Rattle.gm_graph.proofs.Adding.{overflow_of}
 use Rattle.gm_graph.proofs.Rounds.{first_turns_are}
 use Rattle.gm_graph.proofs.starting.first_turns.Goals as goal
 
 pub returns-in_err-add_all-clause-too_many : goal.returns-in_err-add_all-clause-too_many
-returns-in_err-add_all-clause-too_many c = λ e. overflow_of c.args.required.now c.new-opening.ensures.no_vertices (c.in_err-add_all.ensures.too_many (ap Err (sym (rw e at c.from_residual.ensures.1))))
+returns-in_err-add_all-clause-too_many c = λ e. overflow_of c.args.required.now c.new-worklist.ensures.no_vertices (c.in_err-add_all.ensures.too_many (ap Err (sym (rw e at c.from_residual.ensures.1))))
 
 pub returns-clause-first : goal.returns-clause-first
 returns-clause-first c =
     let main = main_of c.args.main.now in
-    let old = c.new-opening.result.turns.items in
+    let old = c.new-worklist.result.turns.items in
     let new = c.add_all.new.self.turns.items in
-    first_turns_are main old new c.new-opening.ensures.empty
+    first_turns_are main old new c.new-worklist.ensures.empty
     (subst (λ (d : Depth). AddsAll old new (kept main main.requirements) d) c.first_depth.ensures (subst (λ (xs : List Vertex). AddsAll old new xs c.first_depth.result) c.requires c.in_ok-add_all.ensures.adds))

@@ -1,5 +1,5 @@
 use Rattle.std.proofs.Common.{◌≡◌, take}
-use Rattle.gm_cache.specs.Main.{kept, main_of}
+use Rattle.gm_graph_cache.specs.Main.{kept, main_of}
 use Rattle.gm_graph.proofs.starting.kept_requirements.Given as goal
 
 abbrev pub invariant-loop-y : goal.invariant-loop-y

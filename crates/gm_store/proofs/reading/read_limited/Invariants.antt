@@ -2,7 +2,7 @@ use Rattle.std.proofs.Common.{◌<◌, ◌≤◌, ◌-◌, length, vec_len}
 use Rattle.std.specs.Io.KnownBytes.{Consumes}
 use Rattle.gm_store.proofs.reading.read_limited.Given as goal
 
--- what was read so far is what the reader has given
+-- the bytes read so far are those that the reader has yielded
 abbrev pub invariant-fill : goal.invariant-fill
 invariant-fill g l = record {
   given : Consumes (g.R.Read.remaining l.initial.reader) (g.R.Read.remaining l.reader) l.bytes.items;

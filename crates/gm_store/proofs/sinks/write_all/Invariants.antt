@@ -3,7 +3,7 @@ use Rattle.std.specs.Io.KnownBytes.{Appends}
 use Rattle.gm_store.proofs.Appending.{RoomLeft}
 use Rattle.gm_store.proofs.sinks.write_all.Given as goal
 
--- the pieces so far were appended, and faults did not fall
+-- the first `at` bytes were appended, and the count of faults didn't fall
 abbrev pub invariant-pieces : goal.invariant-pieces
 invariant-pieces g l = record {
   place : l.at ≤ length l.piece;

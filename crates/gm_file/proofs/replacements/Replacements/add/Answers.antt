@@ -13,13 +13,13 @@ pub returns-clause-indexed : goal.returns-clause-indexed
 returns-clause-indexed c = elim c.match-replace.branch [
   | in-Some+in_ok-copy-in-Some+in_ok-copy-in-Some-2+in-Some-pair+in_ok-note-in-Some-pair w ↦
       rw w.self-is (version-indexed c.args.self.now.lines.items c.push.new.self.items c.args.replace w.in-Some.version
-      c.args.self.now.of_versions w.note.new.index c.args.self.now.of_paths w.in-Some-pair.key
+      c.args.self.now.by_version w.note.new.index c.args.self.now.by_path w.in-Some-pair.key
       (rw w.self-is at c.in_ok-push.ensures.items) w.in-Some.is
       (w.in-Some-pair.ensures.some.0 ∙ ap (λ (x : List ℕ). pair x w.in_ok-copy-in-Some-2.field-0) w.in_ok-copy-in-Some.ensures ∙ ap (pair c.args.replace.left) w.in_ok-copy-in-Some-2.ensures)
       c.requires.indexed w.in_ok-note-in-Some-pair.ensures)
   | in-None+in_ok-copy-in-None+in_ok-note-in-None w ↦
       rw w.self-is (path-indexed c.args.self.now.lines.items c.push.new.self.items c.args.replace
-      c.args.self.now.of_versions c.args.self.now.of_paths w.note-in-None.new.index w.in_ok-copy-in-None.field-0
+      c.args.self.now.by_version c.args.self.now.by_path w.note-in-None.new.index w.in_ok-copy-in-None.field-0
       (rw w.self-is at c.in_ok-push.ensures.items) w.in-None.is w.in_ok-copy-in-None.ensures
       c.requires.indexed w.in_ok-note-in-None.ensures)
 ]

@@ -1,7 +1,7 @@
 use Rattle.std.proofs.Common.{◌≡◌, false, List, [], ◌∷◌, ◌++◌, length, None, insert, refl, ap, subst, sym, ◌∙◌, arith}
 use Rattle.gm_syntax.specs.Tokens.{Placed, words_of}
 use Rattle.gm_syntax.specs.Document.{Line, Entry, IsDocument, IsEntry}
-use Rattle.gm_syntax.specs.LineViews.{plain, plains}
+use Rattle.gm_syntax.specs.LineViews.{plain, plain_lines}
 use Rattle.gm_syntax.proofs.Edits.{map-insert}
 use Rattle.gm_syntax.proofs.Changes.{entry_stands, level_line_goes_in_at}
 use Rattle.gm_syntax.proofs.NewWords.{new_word_stands, new_word_no_mark}
@@ -23,6 +23,6 @@ insert_line-requires-clause-document c =
       opens_nothing = new_word_no_mark 40 c.args.value.now w new;
       closes_nothing = new_word_no_mark 41 c.args.value.now w new;
     } in
-    let document : IsDocument (plains c.args.doc.now) = c.lines-end.ensures.document in
-    let put = level_line_goes_in_at (plains c.args.doc.now) end (plain (entry_of (w ∷ []))) false document refl (entry_stands false (words_of (w ∷ [])) None entry) in
-    subst IsDocument (sym (ap (λ (l : List Placed). plains (insert c.args.doc.now end (entry_of l))) items ∙ map-insert plain c.args.doc.now end (entry_of (w ∷ [])))) put
+    let document : IsDocument (plain_lines c.args.doc.now) = c.lines-end.ensures.document in
+    let put = level_line_goes_in_at (plain_lines c.args.doc.now) end (plain (entry_of (w ∷ []))) false document refl (entry_stands false (words_of (w ∷ [])) None entry) in
+    subst IsDocument (sym (ap (λ (l : List Placed). plain_lines (insert c.args.doc.now end (entry_of l))) items ∙ map-insert plain c.args.doc.now end (entry_of (w ∷ [])))) put

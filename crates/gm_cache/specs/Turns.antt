@@ -1,7 +1,0 @@
--- Turns of vertices.
-use Rattle.gm_cache.specs.declared.depth.Depth.{Depth}
-use Rattle.gm_cache.specs.declared.depth.Turn.{Turn}
-use Rattle.gm_cache.specs.Main.{Vertex}
-
-abbrev pub turn : Vertex → Depth → Turn
-turn x d = record { vertex = x; depth = d }

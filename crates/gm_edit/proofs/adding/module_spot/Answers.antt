@@ -1,8 +1,0 @@
-use Rattle.gm_syntax.specs.LineViews.{lines_seen}
-use Rattle.gm_file.specs.Faults.{is_module}
-use Rattle.gm_edit.proofs.AddingCode.{meet-begin}
-use Rattle.gm_edit.proofs.Sound.{sound-file}
-use Rattle.gm_edit.proofs.adding.module_spot.Goals as goal
-
-pub loop-n-init : goal.loop-n-init
-loop-n-init c = meet-begin is_module (lines_seen c.args.lines.now) (sound-file (lines_seen c.args.lines.now) c.requires.document c.requires.sound)

@@ -1,9 +1,0 @@
-use Rattle.std.proofs.Common.{drop}
-use Rattle.std.specs.Option.{option_map}
-use Rattle.gm_syntax.specs.LineViews.{lines_seen}
-use Rattle.gm_file.specs.Faults.{is_module}
-use Rattle.gm_edit.proofs.AddingCode.{IsUnmet}
-use Rattle.gm_edit.proofs.adding.module_spot.Given as goal
-
-abbrev pub invariant-loop-n : goal.invariant-loop-n
-invariant-loop-n l = IsUnmet is_module (lines_seen l.lines) (lines_seen (drop l.n l.lines)) (option_map (λ t. t.now) l.block) l.n

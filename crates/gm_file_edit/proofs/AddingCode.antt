@@ -1,0 +1,195 @@
+-- The loops that find the position of a new entry, and the insertion of lines.
+use Rattle.std.proofs.Common.{◌≡◌, ℕ, zero, suc, ◌+◌, ◌-◌, ◌≤◌, Bool, true, false, List, [], ◌∷◌, ◌++◌, length, take, drop, Option, Some, None, Result, Ok, Err, is_some, refl, sym, ap, subst, ◌∙◌, arith, inl, inr}
+use Rattle.std.specs.Prelude.{if◌then◌else◌, insert, IfOk}
+use Rattle.std.proofs.lemmas.Bool.{cases_Bool}
+use Rattle.std.proofs.lemmas.List.{drop-map, length-drop, length-map, map-append, take-map, take_all}
+use Rattle.std.specs.Option.{option_map, option_or, option_to_list}
+use Rattle.gm_syntax.specs.Tokens.{Placed}
+use Rattle.gm_syntax.specs.Document.{Line, Blank, Comment, Open, Close, Entry}
+use Rattle.gm_syntax.specs.declared.line.Line as declared
+use Rattle.gm_syntax.specs.LineViews.{line_of, line_views}
+use Rattle.gm_file.specs.Directives.{Directive, block_after_line}
+use Rattle.gm_file_edit.specs.declared.adding.Spot.{Spot}
+use Rattle.gm_file_edit.specs.Adding.{added, added_at, after_first_that, spot_after_first, spot_after_last, spot_after_line, close_len, entry_at, further, past_block, insert_at_spot, single}
+use Rattle.gm_file_edit.specs.Fates.{IsValidAt, held_at, passes}
+use Rattle.gm_file_edit.proofs.Sound.{SoundFrom}
+
+-- the same position with `n` more lines before it
+abbrev pub shifted : ℕ → Spot → Spot
+shifted n spot = record { before = n + spot.before; inside = spot.inside }
+
+shifted-not : (spot : Spot) → shifted 0 spot ≡ spot
+shifted-not spot = let e : 0 + spot.before ≡ spot.before = omega arith in ap (λ (n : ℕ). record { before = n; inside = spot.inside }) e
+
+shifted-none : (o : Option Spot) → option_map (shifted 0) o ≡ o
+shifted-none None = refl
+shifted-none (Some spot) = ap Some (shifted-not spot)
+
+-- one step of the loop: a line moves from the rest to the lines before the position
+shifted-further : (n : ℕ) (spot : Spot) → shifted (n + 1) spot ≡ shifted n (further spot)
+shifted-further n spot = let e : n + 1 + spot.before ≡ n + suc spot.before = omega arith in ap (λ (k : ℕ). record { before = k; inside = spot.inside }) e
+
+-- ---- the position after the last match
+
+-- Loop invariant: the rest is valid, and the position in the whole file is the one found in the rest or, if there is
+-- none, the best one so far.
+pub record IsSoughtTo (test : Directive → Bool) (whole rest : List (Line Placed)) (block : Option Placed) (n : ℕ) (best : Option Spot) : Type 0 where
+  pub sound : (earlier : List Directive) × SoundFrom earlier block rest
+  pub place : option_or (option_map (shifted n) (spot_after_last test block rest)) best ≡ spot_after_last test None whole
+
+or-end : (o : Option Spot) → option_or (option_map (shifted 0) o) None ≡ o
+or-end None = refl
+or-end (Some spot) = ap Some (shifted-not spot)
+
+pub seek-begin : (test : Directive → Bool) (whole : List (Line Placed)) → SoundFrom [] None whole → IsSoughtTo test whole whole None 0 None
+seek-begin test whole sound = record { sound = ([], sound); place = or-end (spot_after_last test None whole) }
+
+pub seek-right : (test : Directive → Bool) (whole rest more : List (Line Placed)) (block : Option Placed) (n : ℕ) (best : Option Spot) (line : Line Placed) → rest ≡ line ∷ more → IsSoughtTo test whole rest block n best → IsValidAt block line
+seek-right test whole rest more block n best line is so = let s = subst (SoundFrom so.sound.0 block) is so.sound.1 in (so.sound.0, s.1)
+
+-- the best position after one more line
+abbrev pub better : ℕ → Option Placed → Bool → Option Spot → Option Spot
+better n block true best = Some (record { before = n + 1; inside = is_some block })
+better n block false best = best
+
+place-more : (n : ℕ) (block : Option Placed) (b : Bool) (best later : Option Spot)
+    → option_or (option_map (shifted (n + 1)) later) (better n block b best) ≡ option_or (option_map (shifted n) (option_or (option_map further later) (if b then Some (spot_after_line block) else None))) best
+place-more n block b best (Some spot) = ap Some (shifted-further n spot)
+place-more n block true best None = refl
+place-more n block false best None = refl
+
+pub seek-more : (test : Directive → Bool) (whole rest more : List (Line Placed)) (block next_block : Option Placed) (n : ℕ) (best next : Option Spot) (line : Line Placed) → rest ≡ line ∷ more → next_block ≡ block_after_line block line
+    → next ≡ better n block (passes test (held_at block line)) best → IsSoughtTo test whole rest block n best → IsSoughtTo test whole more next_block (n + 1) next
+seek-more test whole rest more block next_block n best next line is behind found so =
+    let s = subst (SoundFrom so.sound.0 block) is so.sound.1 in
+    rw (behind, found) (record {
+      sound = (so.sound.0 ++ option_to_list (held_at block line), s.2);
+      place =
+          place-more n block (passes test (held_at block line)) best (spot_after_last test (block_after_line block line) more)
+          ∙ ap (λ (lines : List (Line Placed)). option_or (option_map (shifted n) (spot_after_last test block lines)) best) (sym is) ∙ so.place;
+    })
+
+-- ---- the position after the first match
+
+-- Loop invariant: the rest is valid, and the position in the whole file is the one found in the rest.
+pub record IsUnmet (test : Directive → Bool) (whole rest : List (Line Placed)) (block : Option Placed) (n : ℕ) : Type 0 where
+  pub sound : (earlier : List Directive) × SoundFrom earlier block rest
+  pub place : option_map (shifted n) (spot_after_first test block rest) ≡ spot_after_first test None whole
+
+pub meet-begin : (test : Directive → Bool) (whole : List (Line Placed)) → SoundFrom [] None whole → IsUnmet test whole whole None 0
+meet-begin test whole sound = record { sound = ([], sound); place = shifted-none (spot_after_first test None whole) }
+
+pub meet-right : (test : Directive → Bool) (whole rest more : List (Line Placed)) (block : Option Placed) (n : ℕ) (line : Line Placed) → rest ≡ line ∷ more → IsUnmet test whole rest block n → IsValidAt block line
+meet-right test whole rest more block n line is so = let s = subst (SoundFrom so.sound.0 block) is so.sound.1 in (so.sound.0, s.1)
+
+further-all : (n : ℕ) (later : Option Spot) → option_map (shifted (n + 1)) later ≡ option_map (shifted n) (option_map further later)
+further-all n None = refl
+further-all n (Some spot) = ap Some (shifted-further n spot)
+
+-- the position found in the lines, if the first line passes the test and if it doesn't
+met : (test : Directive → Bool) (block : Option Placed) (line : Line Placed) (lines : List (Line Placed)) (n : ℕ) → passes test (held_at block line) ≡ true
+    → Some (record { before = n + 1; inside = is_some block }) ≡ option_map (shifted n) (spot_after_first test block (line ∷ lines))
+met test block line lines n e = rw e refl
+
+unmet : (test : Directive → Bool) (block : Option Placed) (line : Line Placed) (lines : List (Line Placed)) (n : ℕ) → passes test (held_at block line) ≡ false
+    → option_map (shifted (n + 1)) (spot_after_first test (block_after_line block line) lines) ≡ option_map (shifted n) (spot_after_first test block (line ∷ lines))
+unmet test block line lines n e = rw e (further-all n (spot_after_first test (block_after_line block line) lines))
+
+pub meet-more : (test : Directive → Bool) (whole rest more : List (Line Placed)) (block next_block : Option Placed) (n : ℕ) (line : Line Placed) → rest ≡ line ∷ more → next_block ≡ block_after_line block line
+    → passes test (held_at block line) ≡ false → IsUnmet test whole rest block n → IsUnmet test whole more next_block (n + 1)
+meet-more test whole rest more block next_block n line is behind fails so =
+    let s = subst (SoundFrom so.sound.0 block) is so.sound.1 in
+    rw behind (record {
+      sound = (so.sound.0 ++ option_to_list (held_at block line), s.2);
+      place = unmet test block line more n fails ∙ ap (λ (lines : List (Line Placed)). option_map (shifted n) (spot_after_first test block lines)) (sym is) ∙ so.place;
+    })
+
+pub meet-found : (test : Directive → Bool) (whole rest more : List (Line Placed)) (block : Option Placed) (n : ℕ) (line : Line Placed) → rest ≡ line ∷ more
+    → passes test (held_at block line) ≡ true → IsUnmet test whole rest block n → Some (record { before = n + 1; inside = is_some block }) ≡ spot_after_first test None whole
+meet-found test whole rest more block n line is holds so =
+    met test block line more n holds ∙ ap (λ (lines : List (Line Placed)). option_map (shifted n) (spot_after_first test block lines)) (sym is) ∙ so.place
+
+pub meet-none : (test : Directive → Bool) (whole rest : List (Line Placed)) (block : Option Placed) (n : ℕ) → rest ≡ [] → IsUnmet test whole rest block n → None ≡ spot_after_first test None whole
+meet-none test whole rest block n is so = ap (λ (lines : List (Line Placed)). option_map (shifted n) (spot_after_first test block lines)) (sym is) ∙ so.place
+
+-- ---- the position after a block
+
+pub past-closing : (lines : List (Line Placed)) (spot : Spot) (n : ℕ) → spot.inside ≡ true → n ≡ close_len (drop spot.before lines) → spot.before + n ≡ past_block lines spot
+past-closing lines spot n inside is = rw (inside, is) refl
+
+close-short : (lines : List (Line Placed)) → close_len lines ≤ length lines
+close-short [] = omega arith
+close-short (Blank ∷ lines) = let le = close-short lines in omega arith
+close-short (Comment text ∷ lines) = let le = close-short lines in omega arith
+close-short (Open opened suffix ∷ lines) = let le = close-short lines in omega arith
+close-short (Close suffix ∷ lines) = omega arith
+close-short (Entry words suffix ∷ lines) = let le = close-short lines in omega arith
+
+past-inside-range : (lines : List (Line Placed)) (n : ℕ) → n ≤ length lines → n + close_len (drop n lines) ≤ length lines
+past-inside-range lines n le = let short = close-short (drop n lines) in let rest = length-drop n lines in omega (arith, le, short, rest)
+
+pub past-in-range : (lines : List (Line Placed)) (spot : Spot) → spot.before ≤ length lines → past_block lines spot ≤ length lines
+past-in-range lines spot le = elim (cases_Bool spot.inside) [
+  | inl inside ↦ rw inside (past-inside-range lines spot.before le)
+  | inr outside ↦ rw outside le
+]
+
+pub rest-is : (lines : List declared.Line) (n : ℕ) → take (length lines - n) (drop n lines) ≡ drop n lines
+rest-is lines n = let rest = length-drop n lines in take_all (length lines - n) (drop n lines) (omega (arith, rest))
+
+-- ---- inserted lines
+
+pub insert-both : {X : Type 0} (xs : List X) (at : ℕ) (x y : X) → at ≤ length xs → insert (insert xs at y) at x ≡ take at xs ++ (x ∷ y ∷ drop at xs)
+insert-both xs zero x y le = refl
+insert-both [] (suc at) x y le = absurd (omega (arith, le))
+insert-both (z ∷ xs) (suc at) x y le = ap (λ l. z ∷ l) (insert-both xs at x y (omega (arith, le)))
+
+pub both-seen : (lines : List declared.Line) (at : ℕ) (x y : declared.Line) → at ≤ length lines
+    → line_views (insert (insert lines at y) at x) ≡ take at (line_views lines) ++ (line_of x ∷ line_of y ∷ drop at (line_views lines))
+both-seen lines at x y le =
+    ap line_views (insert-both lines at x y le) ∙ map-append line_of (take at lines) (x ∷ y ∷ drop at lines)
+    ∙ rw (take-map line_of at lines, drop-map line_of at lines) refl
+
+-- ---- the lines with new ones
+
+pub if-ok : {X E : Type 0} (r : Result X E) (P Q : X → Type 0) → ((x : X) → P x → Q x) → IfOk r P → IfOk r Q
+if-ok (Ok x) P Q h p = h x p
+if-ok (Err e) P Q h p = tt
+
+-- an index into the lines is valid in a copy of them
+pub in-copies : (lines copies : List declared.Line) (n : ℕ) → line_views copies ≡ line_views lines → n ≤ length (line_views lines) → n ≤ length copies
+in-copies lines copies n same le =
+    let there = length-map copies line_of in
+    let here = ap length same in
+    omega (arith, le, there, here)
+
+pub in-lines : (lines : List declared.Line) (n : ℕ) → n ≤ length (line_views lines) → n ≤ length lines
+in-lines lines n le = in-copies lines lines n refl le
+
+pub add-there : (test : Directive → Bool) (text : List ℕ) (arguments : List Placed) (lines copies : List (Line Placed)) (line : Line Placed) (o : Option Spot) (spot : Spot)
+    → o ≡ spot_after_last test None lines → o ≡ Some spot → copies ≡ lines → line ≡ entry_at spot.inside text arguments → insert copies spot.before line ≡ added test text arguments lines
+unfolding added
+add-there test text arguments lines copies line o spot told is same so =
+    let at : added_at text arguments lines (Some spot) ≡ added_at text arguments lines (spot_after_last test None lines) = ap (added_at text arguments lines) (sym is ∙ told) in
+    rw (same, so) at
+
+pub add-last : (test : Directive → Bool) (text : List ℕ) (arguments : List Placed) (lines copies : List (Line Placed)) (line : Line Placed) (o : Option Spot)
+    → o ≡ spot_after_last test None lines → o ≡ None → copies ≡ lines → line ≡ single text arguments → copies ++ (Blank ∷ line ∷ []) ≡ added test text arguments lines
+unfolding added
+add-last test text arguments lines copies line o told is same so =
+    let at : added_at text arguments lines None ≡ added_at text arguments lines (spot_after_last test None lines) = ap (added_at text arguments lines) (sym is ∙ told) in
+    rw (same, so) at
+
+pub put-there : (test : Directive → Bool) (new : Line Placed) (lines copies : List (Line Placed)) (line : Line Placed) (o : Option Spot) (spot : Spot) (n : ℕ)
+    → o ≡ spot_after_first test None lines → o ≡ Some spot → n ≡ past_block lines spot → copies ≡ lines → line ≡ new → take n copies ++ (Blank ∷ line ∷ drop n copies) ≡ after_first_that test (Blank ∷ new ∷ []) lines
+unfolding after_first_that
+put-there test new lines copies line o spot n told is past same so =
+    let at : insert_at_spot (Blank ∷ new ∷ []) lines (Some spot) ≡ insert_at_spot (Blank ∷ new ∷ []) lines (spot_after_first test None lines) = ap (insert_at_spot (Blank ∷ new ∷ []) lines) (sym is ∙ told) in
+    rw (past, same, so) at
+
+pub put-last : (test : Directive → Bool) (new : Line Placed) (lines copies : List (Line Placed)) (line : Line Placed) (o : Option Spot)
+    → o ≡ spot_after_first test None lines → o ≡ None → copies ≡ lines → line ≡ new → copies ++ (Blank ∷ line ∷ []) ≡ after_first_that test (Blank ∷ new ∷ []) lines
+unfolding after_first_that
+put-last test new lines copies line o told is same so =
+    let at : insert_at_spot (Blank ∷ new ∷ []) lines None ≡ insert_at_spot (Blank ∷ new ∷ []) lines (spot_after_first test None lines) = ap (insert_at_spot (Blank ∷ new ∷ []) lines) (sym is ∙ told) in
+    rw (same, so) at

@@ -1,0 +1,81 @@
+-- Splitting and trimming the texts of operations keeps them valid UTF-8.
+use Rattle.std.specs.Borrow.{Bor}
+use Rattle.std.specs.Prelude.{MatchOption}
+use Rattle.gm_file_edit.specs.Views.{split_seen}
+use Rattle.gm_name.proofs.NameTests.{and_both}
+use Rattle.std.proofs.Common.{length-drop, get_or-drop, ◌≡◌, ℕ, ◌+◌, ◌-◌, ◌==◌, ◌&&◌, ◌<◌, ◌≤◌, nat_lt, true, false, List, [], ◌∷◌, length, get_or, drop, take_while, Option, Some, None, inl, inr, refl, subst, ◌∙◌, arith}
+use Rattle.std.specs.Prelude.{slice_index}
+use Rattle.std.proofs.lemmas.Bool.{cases_Bool, cases_lt}
+use Rattle.std.proofs.lemmas.Bool.Decides.{nat_tests}
+use Rattle.std.proofs.lemmas.List.Folds.{length-prefix_len}
+use Rattle.std.proofs.lemmas.List.Sums.{prefix_len-le-length, prefix_len_passes}
+use Rattle.std.proofs.lemmas.Str.{IsCharBoundary-start, IsCharBoundary-after_ascii, IsCharBoundary-before_ascii}
+use Rattle.std.specs.List.{position_or_len, prefix_len, before_first, after_first}
+use Rattle.std.specs.Str.{IsCharBoundary, IsUtf8}
+use Rattle.gm_file_edit.specs.Edits.{split_at_byte, has_byte, is_bracketed, is_space_or_tab}
+
+pub blank-ascii : (b : ℕ) → is_space_or_tab b ≡ true → b < 128
+blank-ascii b e = grind (arith, nat_tests)
+
+boundary-at : (text : List ℕ) (n : ℕ) → IsUtf8 text → n ≤ length text → ((k : ℕ) → k < n → is_space_or_tab (get_or text k 0) ≡ true) → IsCharBoundary text n
+boundary-at text n utf8 le passes = elim (cases_lt 0 n) [
+  | inl some ↦
+      let lt : n - 1 < length text = omega (arith, le, some) in
+      let e : (n - 1) + 1 ≡ n = omega (arith, some) in
+      let small : get_or text (n - 1) 0 < 128 = blank-ascii (get_or text (n - 1) 0) (passes (n - 1) (omega (arith, some))) in
+      subst (IsCharBoundary text) e (IsCharBoundary-after_ascii text (n - 1) utf8 lt small)
+  | inr none ↦
+      let e : 0 ≡ n = omega (arith, none) in
+      subst (IsCharBoundary text) e (IsCharBoundary-start text utf8)
+]
+
+-- the end of the leading spaces and tabs is a character boundary
+pub blanks-boundary : (text : List ℕ) → IsUtf8 text → IsCharBoundary text (length (take_while is_space_or_tab text))
+blanks-boundary text utf8 =
+    rw (length-prefix_len is_space_or_tab text) (boundary-at text (prefix_len is_space_or_tab text) utf8 (prefix_len-le-length is_space_or_tab text)
+    (λ k lt. prefix_len_passes is_space_or_tab text k 0 lt))
+
+-- a list contains an element if and only if the position of the first one is in range
+any-position : (b : ℕ) (xs : List ℕ) → has_byte b xs ≡ nat_lt (position_or_len (λ c. c == b) xs) (length xs)
+any-position b [] = refl
+any-position b (x ∷ xs) = elim (cases_Bool (x == b)) [
+  | inl holds ↦ rw holds (grind (arith, nat_tests))
+  | inr fails ↦ let rest = any-position b xs in rw (fails, rest) (grind (arith, nat_tests))
+]
+
+pub cut-none : (b : ℕ) (text : List ℕ) → position_or_len (λ c. c == b) text ≡ length text → split_at_byte b text ≡ None
+cut-none b text e = let f : has_byte b text ≡ false = any-position b text ∙ (let g : nat_lt (position_or_len (λ c. c == b) text) (length text) ≡ false = grind (arith, nat_tests) in g) in rw f refl
+
+pub cut-some : (b : ℕ) (text front back : List ℕ) → position_or_len (λ c. c == b) text < length text
+    → front ≡ before_first (λ c. c == b) text → back ≡ after_first (λ c. c == b) text → Some (front, back) ≡ split_at_byte b text
+cut-some b text front back lt f g =
+    let there : has_byte b text ≡ true = any-position b text ∙ (let h : nat_lt (position_or_len (λ c. c == b) text) (length text) ≡ true = grind (arith, nat_tests) in h) in
+    rw (there, f, g) refl
+
+pub cut-is : (b : ℕ) (text : List ℕ) (r : Option (Bor (List ℕ) × Bor (List ℕ)))
+    → MatchOption r (position_or_len (λ c. c == b) text ≡ length text) (λ x. (position_or_len (λ c. c == b) text < length text) × (x.0.now ≡ before_first (λ c. c == b) text) × (x.1.now ≡ after_first (λ c. c == b) text))
+    → split_seen r ≡ split_at_byte b text
+cut-is b text None e = rw (cut-none b text e) refl
+cut-is b text (Some x) is = cut-some b text x.0.now x.1.now is.0 is.1 is.2
+
+-- in a text in brackets, the end of the first byte and the start of the last are character boundaries
+pub open-boundary : (text : List ℕ) → IsUtf8 text → is_bracketed text ≡ true → IsCharBoundary text 1
+open-boundary text utf8 e =
+    let outer = and_both (nat_lt 1 (length text) && (slice_index text 0 == 91)) (slice_index text (length text - 1) == 93) e in
+    let inner = and_both (nat_lt 1 (length text)) (slice_index text 0 == 91) outer.0 in
+    let long : 1 < length text = grind (arith, nat_tests) in
+    let at : slice_index text 0 ≡ 91 = grind (arith, nat_tests) in
+    let small : get_or text 0 0 < 128 = grind arith in
+    IsCharBoundary-after_ascii text 0 utf8 (omega (arith, long)) small
+
+pub close-boundary : (text rest : List ℕ) → rest ≡ drop 1 text → is_bracketed text ≡ true → IsCharBoundary rest (length rest - 1)
+close-boundary text rest is e =
+    let outer = and_both (nat_lt 1 (length text) && (slice_index text 0 == 91)) (slice_index text (length text - 1) == 93) e in
+    let inner = and_both (nat_lt 1 (length text)) (slice_index text 0 == 91) outer.0 in
+    let long : 1 < length text = grind (arith, nat_tests) in
+    let at : slice_index text (length text - 1) ≡ 93 = grind (arith, nat_tests) in
+    let some : length rest ≡ length text - 1 = rw is (length-drop 1 text) in
+    let place : 1 + (length rest - 1) ≡ length text - 1 = omega (arith, some, long) in
+    let read : get_or rest (length rest - 1) 0 ≡ get_or text (1 + (length rest - 1)) 0 = rw is (get_or-drop 1 text (length (drop 1 text) - 1) 0) in
+    let small : get_or rest (length rest - 1) 0 < 128 = rw (read, place) (grind arith) in
+    IsCharBoundary-before_ascii rest (length rest - 1) (omega (arith, some, long)) small

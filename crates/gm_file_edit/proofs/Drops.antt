@@ -1,0 +1,107 @@
+-- The loop that drops entries.
+use Rattle.std.proofs.Common.{◌≡◌, Bool, true, false, List, [], ◌∷◌, ◌++◌, Option, Some, None, Ok, Err, Bor, refl, sym, ap, subst, ◌∙◌}
+use Rattle.std.specs.Option.{option_map, option_to_list}
+use Rattle.gm_syntax.specs.Words.{Word}
+use Rattle.gm_syntax.specs.Tokens.{Placed}
+use Rattle.gm_syntax.specs.Document.{Line}
+use Rattle.gm_syntax.specs.LineViews.{plain}
+use Rattle.gm_file.specs.declared.directive.Directive as declared
+use Rattle.gm_file.specs.declared.fault.DirectiveKind.{DirectiveKind}
+use Rattle.gm_file.specs.declared.fault.LineFault.TheVariants as line_fault
+use Rattle.gm_file.specs.DirectiveViews.{IsLineRead, directive_view}
+use Rattle.gm_file.specs.Directives.{Strict, Directive, DeclaresModule, DeclaresGo, Requires, Excludes, Replaces, Retracts, Kept, Item, block_after_line, directive_in, item_at}
+use Rattle.gm_file.specs.Faults.{item_kinds}
+use Rattle.gm_file.specs.Fields.{first}
+use Rattle.gm_file_edit.specs.declared.walk.Walk as declared_walk
+use Rattle.gm_file_edit.specs.Fates.{Fate, IsValidAt, dropped, dropping_from, fate_of, held_at, remaining_from, passes, word_of}
+use Rattle.gm_file_edit.specs.Walks.{remaining_by}
+use Rattle.gm_file_edit.proofs.Sound.{SoundFrom}
+use Rattle.gm_file_edit.proofs.Leaving.{AreMarked, AreMild, IsGone, Marked, Near, fates_in, left-sound, lines_in}
+use Rattle.gm_file.specs.Faults.{is_module}
+use Rattle.std.proofs.Common.{inl, inr}
+use Rattle.std.proofs.lemmas.Bool.{cases_Bool}
+
+block-words : (block : Option (Bor Placed)) → option_map (λ t. t.now.word) block ≡ option_map word_of (option_map (λ t. t.now) block)
+block-words None = refl
+block-words (Some t) = refl
+
+read-held : (item : Item) (read : Option declared.Directive) → IsLineRead Strict item (Ok read) → option_map directive_view read ≡ directive_in Strict item
+read-held item None h = sym h.0
+read-held item (Some d) h = sym h.0
+
+pub line-read : (block : Option (Bor Placed)) (line : Line Placed) (read : Option declared.Directive) → IsLineRead Strict (item_at (option_map (λ t. t.now.word) block, plain line)) (Ok read)
+    → option_map directive_view read ≡ held_at (option_map (λ t. t.now) block) line
+line-read block line read h = read-held (item_at (option_map (λ t. t.now.word) block, plain line)) read h ∙ ap (λ (b : Option Word). directive_in Strict (item_at (b, plain line))) (block-words block)
+
+pub never-wrong : (P : Type 0) (block : Option (Bor Placed)) (line : Line Placed) (kind : DirectiveKind) → IsValidAt (option_map (λ t. t.now) block) line
+    → IsLineRead Strict (item_at (option_map (λ t. t.now.word) block, plain line)) (Err (line_fault.Kind kind)) → P
+never-wrong P block line kind right h =
+    let told = subst (λ (b : Option Word). first (item_kinds Strict right.0 (item_at (b, plain line))) ≡ Some kind) (block-words block) (h right.0) in
+    let none = ap first right.1 in
+    absurd (cc (told, none))
+
+-- Loop invariant: the walk followed by the fates of the rest gives the final result, and the rest is valid.
+pub record IsDroppedTo (test : Directive → Bool) (whole rest : List (Line Placed)) (block : Option Placed) (walk : declared_walk.Walk) : Type 0 where
+  pub sound : (earlier : List Directive) × SoundFrom earlier block rest
+  pub left : remaining_by walk (dropping_from test block rest) ≡ dropped test whole
+
+pub drop-begin : (test : Directive → Bool) (whole : List (Line Placed)) (walk : declared_walk.Walk) → SoundFrom [] None whole → ((fates : List Fate) → remaining_by walk fates ≡ remaining_from false None fates) → IsDroppedTo test whole whole None walk
+drop-begin test whole walk sound is = record { sound = ([], sound); left = is (dropping_from test None whole) }
+
+pub drop-right : (test : Directive → Bool) (whole rest more : List (Line Placed)) (block : Option Placed) (line : Line Placed) (walk : declared_walk.Walk) → rest ≡ line ∷ more → IsDroppedTo test whole rest block walk → IsValidAt block line
+drop-right test whole rest more block line walk is so = let s = subst (SoundFrom so.sound.0 block) is so.sound.1 in (so.sound.0, s.1)
+
+pub drop-more : (test : Directive → Bool) (whole rest more : List (Line Placed)) (block next_block : Option Placed) (line : Line Placed) (old next : declared_walk.Walk) (fate : Fate) → rest ≡ line ∷ more → next_block ≡ block_after_line block line
+    → fate ≡ fate_of test block line → ((fates : List Fate) → remaining_by next fates ≡ remaining_by old (fate ∷ fates)) → IsDroppedTo test whole rest block old → IsDroppedTo test whole more next_block next
+drop-more test whole rest more block next_block line old next fate is behind fated moved so =
+    let s = subst (SoundFrom so.sound.0 block) is so.sound.1 in
+    subst (λ (b : Option Placed). IsDroppedTo test whole more b next) (sym behind) (record {
+      sound = (so.sound.0 ++ option_to_list (held_at block line), s.2);
+      left =
+          moved (dropping_from test (block_after_line block line) more) ∙ ap (λ (f : Fate). remaining_by old (f ∷ dropping_from test (block_after_line block line) more)) fated
+          ∙ ap (λ (lines : List (Line Placed)). remaining_by old (dropping_from test block lines)) (sym is) ∙ so.left;
+    })
+
+-- ---- the lines after a drop are a document without a fault
+
+-- each line with its fate
+abbrev pub dropping : (Directive → Bool) → Option Placed → List (Line Placed) → List Marked
+dropping test block [] = []
+dropping test block (line ∷ lines) = (line, fate_of test block line) ∷ dropping test (block_after_line block line) lines
+
+pub dropping-lines : (test : Directive → Bool) (block : Option Placed) (lines : List (Line Placed)) → lines_in (dropping test block lines) ≡ lines
+dropping-lines test block [] = refl
+dropping-lines test block (line ∷ lines) = ap (λ (ls : List (Line Placed)). line ∷ ls) (dropping-lines test (block_after_line block line) lines)
+
+pub dropping-fates : (test : Directive → Bool) (block : Option Placed) (lines : List (Line Placed)) → fates_in (dropping test block lines) ≡ dropping_from test block lines
+dropping-fates test block [] = refl
+dropping-fates test block (line ∷ lines) = ap (λ (fs : List Fate). fate_of test block line ∷ fs) (dropping-fates test (block_after_line block line) lines)
+
+mild-kept : (held : Option Directive) → AreMild Kept held
+mild-kept None = tt
+mild-kept (Some (DeclaresModule path)) = (refl, refl)
+mild-kept (Some (DeclaresGo text)) = (refl, refl)
+mild-kept (Some (Requires p)) = (refl, refl)
+mild-kept (Some (Excludes p)) = (refl, refl)
+mild-kept (Some (Replaces r)) = (refl, refl)
+mild-kept (Some (Retracts ends)) = (refl, refl)
+mild-kept (Some Kept) = (refl, refl)
+
+pub gone-line : (test : Directive → Bool) → ((d : Directive) → test d ≡ true → is_module d ≡ false) → (block : Option Placed) (line : Line Placed) (held : Option Directive) → held_at block line ≡ held → passes test held ≡ true → IsGone block line
+gone-line test other block line None is e = absurd cc
+gone-line test other block line (Some d) is e = record { was = d; held = is; undeclared = other d e }
+
+dropping-marked : (test : Directive → Bool) → ((d : Directive) → test d ≡ true → is_module d ≡ false) → (block : Option Placed) (lines : List (Line Placed)) → AreMarked Kept true block (dropping test block lines)
+dropping-marked test other block [] = tt
+dropping-marked test other block (line ∷ lines) = elim (cases_Bool (passes test (held_at block line))) [
+  | inl holds ↦ rw holds (gone-line test other block line (held_at block line) refl holds, dropping-marked test other (block_after_line block line) lines)
+  | inr fails ↦ rw fails (inl (refl, mild-kept (held_at block line), dropping-marked test other (block_after_line block line) lines))
+]
+
+near-same : (xs : List Directive) → Near Kept true xs xs
+near-same xs = record { among = λ p n e. e; declared = λ e. e; clear = λ e. absurd cc }
+
+pub dropped-sound : (test : Directive → Bool) → ((d : Directive) → test d ≡ true → is_module d ≡ false) → (lines : List (Line Placed)) → SoundFrom [] None lines → SoundFrom [] None (dropped test lines)
+dropped-sound test other lines sound =
+    subst (λ (fates : List Fate). SoundFrom [] None (remaining_from false None fates)) (dropping-fates test None lines)
+    (left-sound Kept (dropping test None lines) false true None [] [] (near-same []) (subst (SoundFrom [] None) (sym (dropping-lines test None lines)) sound) (dropping-marked test other None lines))

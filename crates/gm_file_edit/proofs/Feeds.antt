@@ -1,0 +1,156 @@
+-- Texts without a line feed: paths, versions and go versions.
+use Rattle.std.proofs.Common.{◌≡◌, ℕ, suc, ◌+◌, ◌==◌, ◌&&◌, not, nat_lt, Bool, true, false, List, [], ◌∷◌, length, take, drop, take_while, Option, Some, None, is_some, refl, sym, ap, subst, ◌∙◌, arith, inl, inr}
+use Rattle.std.specs.Prelude.{◌||◌, if◌then◌else◌, ◌⊎◌}
+use Rattle.std.specs.Char.{is_ascii_digit, is_ascii_lowercase}
+use Rattle.std.specs.List.{list_all, prefix_len}
+use Rattle.std.specs.Str.Parse.{digits_value}
+use Rattle.std.proofs.lemmas.Bool.{cases_Bool, true≢false}
+use Rattle.std.proofs.lemmas.Bool.Decides.{nat_tests}
+use Rattle.std.proofs.lemmas.List.{take-append-drop}
+use Rattle.std.proofs.lemmas.List.Folds.{length-prefix_len}
+use Rattle.gm_syntax.specs.Lines.{HasNoLineFeed}
+use Rattle.gm_syntax.proofs.Stable.{plain_append}
+use Rattle.gm_name.specs.Names.{is_decimal, is_path, is_version}
+use Rattle.gm_name.specs.Number.{starts_as_no_number}
+use Rattle.gm_name.specs.Path.{IsPath, is_byte_of_path}
+use Rattle.gm_name.specs.Version.{IsVersion, is_byte_of_version}
+use Rattle.gm_name.proofs.Bytes.{path-bytes, version-bytes}
+use Rattle.gm_name.proofs.NameTests.{and_both, path-tested, version-tested}
+use Rattle.gm_file.specs.Values.{both}
+use Rattle.gm_file_edit.specs.Edits.{has_byte}
+use Rattle.gm_file.specs.GoVersions.{after_dot, before_dot, first_number, has_dot, is_go_suffix, last_number, numbers, second_number, small_number, strict_go}
+
+or-false : (a b : Bool) → (a || b) ≡ false → (a ≡ false) × (b ≡ false)
+or-false true b e = absurd cc
+or-false false b e = (refl, e)
+
+pub no-feed : (test : ℕ → Bool) → test 10 ≡ false → (text : List ℕ) → list_all test text ≡ true → HasNoLineFeed text
+no-feed test fails [] all = tt
+no-feed test fails (b ∷ text) all =
+    let parts = and_both (test b) (list_all test text) all in
+    ((λ e. true≢false (sym parts.0 ∙ ap test e ∙ fails)), no-feed test fails text parts.1)
+
+pub path-plain : (text : List ℕ) → IsPath text → HasNoLineFeed text
+path-plain text path = no-feed is_byte_of_path refl text (path-bytes text path)
+
+pub path-feed : (text : List ℕ) → is_path text ≡ true → HasNoLineFeed text
+path-feed text h = path-plain text ((path-tested text).0 h)
+
+pub version-plain : (text : List ℕ) → IsVersion text → HasNoLineFeed text
+version-plain text version = no-feed is_byte_of_version refl text (version-bytes text version)
+
+pub version-feed : (text : List ℕ) → is_version text ≡ true → HasNoLineFeed text
+version-feed text h = version-plain text ((version-tested text).0 h)
+
+-- a text that doesn't contain the byte has no line feed
+pub byte-feed : (text : List ℕ) → has_byte 10 text ≡ false → HasNoLineFeed text
+byte-feed [] e = tt
+byte-feed (b ∷ text) e =
+    let parts = or-false (b == 10) (has_byte 10 text) e in
+    ((λ is. true≢false (sym (ap (λ (x : ℕ). x == 10) is) ∙ parts.0)), byte-feed text parts.1)
+
+-- ---- go versions
+
+pub if-some : {X : Type 0} (b : Bool) (o : Option X) (x : X) → (if b then o else None) ≡ Some x → (b ≡ true) × (o ≡ Some x)
+if-some true o x e = (refl, e)
+if-some false o x e = absurd cc
+
+pub if-other : {X : Type 0} (b : Bool) (o : Option X) (x : X) → (if b then None else o) ≡ Some x → (b ≡ false) × (o ≡ Some x)
+if-other true o x e = absurd cc
+if-other false o x e = (refl, e)
+
+pub both-some : {A B C : Type 0} (f : A → B → C) (a : Option A) (b : Option B) (c : C) → both f a b ≡ Some c → ((x : A) × (a ≡ Some x)) × ((y : B) × (b ≡ Some y))
+both-some f None b c e = absurd cc
+both-some f (Some x) None c e = absurd cc
+both-some f (Some x) (Some y) c e = ((x, refl), (y, refl))
+
+decimal-feed : (text : List ℕ) → is_decimal text ≡ true → HasNoLineFeed text
+decimal-feed text h = no-feed is_ascii_digit refl text (and_both (not (starts_as_no_number text)) (list_all is_ascii_digit text) h).1
+
+small-feed : (text : List ℕ) (n : ℕ) → small_number text ≡ Some n → HasNoLineFeed text
+unfolding small_number
+small-feed text n e =
+    let test = if-some (is_decimal text && nat_lt (digits_value 10 text) 1000000000) (Some (digits_value 10 text)) n e in
+    decimal-feed text (and_both (is_decimal text) (nat_lt (digits_value 10 text) 1000000000) test.0).0
+
+first-feed : (text : List ℕ) (n : ℕ) → first_number text ≡ Some n → HasNoLineFeed text
+unfolding first_number
+first-feed text n e = small-feed text n (if-other _ (small_number text) n e).1
+
+cut-feed : (n : ℕ) (text : List ℕ) → HasNoLineFeed (take n text) → HasNoLineFeed (drop n text) → HasNoLineFeed text
+cut-feed n text front back = subst HasNoLineFeed (take-append-drop n text) (plain_append (take n text) (drop n text) front back)
+
+while-feed : (test : ℕ → Bool) → test 10 ≡ false → (text : List ℕ) → HasNoLineFeed (take_while test text)
+while-feed test fails [] = tt
+while-feed test fails (b ∷ text) = elim (cases_Bool (test b)) [
+  | inl holds ↦ let e : 1 + prefix_len test text ≡ suc (prefix_len test text) = omega arith in
+      rw (holds, e) ((λ is. true≢false (sym holds ∙ ap test is ∙ fails)), while-feed test fails text)
+  | inr out ↦ rw out tt
+]
+
+empty-feed : (text : List ℕ) → length text ≡ 0 → HasNoLineFeed text
+empty-feed [] e = tt
+empty-feed (b ∷ text) e = absurd cc
+
+or-true : (a b : Bool) → (a || b) ≡ true → (a ≡ true) ⊎ (b ≡ true)
+or-true true b e = inl refl
+or-true false b e = inr e
+
+behind-feed : (test : ℕ → Bool) → test 10 ≡ false → (text : List ℕ) → HasNoLineFeed (drop (length (take_while test text)) text) → HasNoLineFeed text
+behind-feed test fails text back =
+    cut-feed (prefix_len test text) text (while-feed test fails text) (subst (λ (k : ℕ). HasNoLineFeed (drop k text)) (length-prefix_len test text) back)
+
+suffix-feed : (text : List ℕ) → is_go_suffix text ≡ true → HasNoLineFeed text
+unfolding is_go_suffix
+suffix-feed text e =
+    let letters : List ℕ = take_while is_ascii_lowercase text in
+    let some : Bool = nat_lt 0 (length letters) && nat_lt (length letters) (length text) in
+    let digits : Bool = list_all is_ascii_digit (drop (length letters) text) in
+    elim (or-true (length text == 0) (some && digits) e) [
+      | inl none ↦ let zero : length text ≡ 0 = grind (arith, nat_tests) in empty-feed text zero
+      | inr rest ↦ behind-feed is_ascii_lowercase refl text (no-feed is_ascii_digit refl (drop (length letters) text) (and_both some digits rest).1)
+    ]
+
+last-feed : (text : List ℕ) (n : ℕ) → last_number text ≡ Some n → HasNoLineFeed text
+unfolding last_number
+last-feed text n e =
+    let digits : List ℕ = take_while is_ascii_digit text in
+    behind-feed is_ascii_digit refl text (suffix-feed (drop (length digits) text) (if-some (is_go_suffix (drop (length digits) text)) (small_number digits) n e).0)
+
+dot-feed : (text : List ℕ) → HasNoLineFeed (before_dot text) → HasNoLineFeed (after_dot text) → HasNoLineFeed text
+dot-feed [] before after = tt
+dot-feed (b ∷ text) before after =
+    let n : ℕ = prefix_len (λ (x : ℕ). not (x == 46)) text in
+    elim (cases_Bool (b == 46)) [
+      | inl dot ↦
+          let none : prefix_len (λ (x : ℕ). not (x == 46)) (b ∷ text) ≡ 0 = rw dot refl in
+          ((λ is. true≢false (sym dot ∙ ap (λ (x : ℕ). x == 46) is)), subst (λ (k : ℕ). HasNoLineFeed (drop (k + 1) (b ∷ text))) none after)
+      | inr other ↦
+          let more : prefix_len (λ (x : ℕ). not (x == 46)) (b ∷ text) ≡ suc n = rw other (omega arith) in
+          let next : suc n + 1 ≡ suc (n + 1) = omega arith in
+          let front : HasNoLineFeed (b ∷ take n text) = subst (λ (k : ℕ). HasNoLineFeed (take k (b ∷ text))) more before in
+          let back : HasNoLineFeed (drop (suc n + 1) (b ∷ text)) = subst (λ (k : ℕ). HasNoLineFeed (drop (k + 1) (b ∷ text))) more after in
+          (front.0, dot-feed text front.1 (subst (λ (k : ℕ). HasNoLineFeed (drop k (b ∷ text))) next back))
+    ]
+
+some-in : {X : Type 0} (o : Option X) → is_some o ≡ true → (x : X) × (o ≡ Some x)
+some-in None e = absurd cc
+some-in (Some x) e = (x, refl)
+
+second-feed : (text : List ℕ) (n : ℕ) → second_number text ≡ Some n → HasNoLineFeed text
+unfolding second_number
+second-feed text n e = elim (cases_Bool (has_dot text)) [
+  | inl dot ↦
+      let inner = rw dot at e in
+      let test = if-some (is_some (last_number (after_dot text))) (small_number (before_dot text)) n inner in
+      let last = some-in (last_number (after_dot text)) test.0 in
+      dot-feed text (small-feed (before_dot text) n test.1) (last-feed (after_dot text) last.0 last.1)
+  | inr none ↦ last-feed text n (rw none at e)
+]
+
+pub go-feed : (text : List ℕ) → is_some (strict_go text) ≡ true → HasNoLineFeed text
+unfolding strict_go
+go-feed text e =
+    let read = some-in (strict_go text) e in
+    let parts = both-some numbers (first_number (before_dot text)) (second_number (after_dot text)) read.0 read.1 in
+    dot-feed text (first-feed (before_dot text) parts.0.0 parts.0.1) (second-feed (after_dot text) parts.1.0 parts.1.1)

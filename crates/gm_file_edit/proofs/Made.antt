@@ -1,0 +1,222 @@
+-- The words of new entries, and what an entry says after its arguments are replaced.
+use Rattle.std.proofs.Common.{◌≡◌, ℕ, ◌<◌, true, false, List, [], ◌∷◌, ◌++◌, length, Option, Some, None, is_some, refl, sym, ap, subst, ◌∙◌, arith, inl, inr}
+use Rattle.std.specs.List.{AllByRecursion, list_any}
+use Rattle.std.proofs.lemmas.Bool.{cases_Bool}
+use Rattle.gm_syntax.specs.declared.word.Kind.{Kind}
+use Rattle.gm_syntax.specs.declared.word.Kind.TheVariants.{Bare, Text, Mark}
+use Rattle.gm_syntax.specs.Lines.{HasNoLineFeed}
+use Rattle.gm_syntax.specs.Words.{Word, IsBare}
+use Rattle.gm_syntax.specs.Bare.{can_be_bare, in_quotes, new_word}
+use Rattle.gm_syntax.specs.Values.{string_value, value_of}
+use Rattle.gm_syntax.specs.Spelling.{IsWord}
+use Rattle.gm_syntax.specs.Tokens.{Placed, IsNewWord, words_of}
+use Rattle.gm_syntax.specs.Document.{Line, Blank, Comment, Open, Close, Entry, IsValidLine, IsEntry, begins_close, ends_open, is_mark, is_mark_byte}
+use Rattle.gm_syntax.specs.LineViews.{plain}
+use Rattle.gm_syntax.proofs.Spelled.{is_bare_word, bare_word_is}
+use Rattle.gm_syntax.proofs.NewWords.{new_word_no_mark, new_word_stands, value_is}
+use Rattle.gm_syntax.proofs.Changes.{entry_stands, standing_entry}
+use Rattle.gm_file.specs.Values.{argument, argument_of_kind}
+use Rattle.gm_file.specs.Directives.{Strict, Pair, pair, Directive, DeclaresModule, DeclaresGo, Requires, Excludes, Replaces, Retracts, Kept, Saying, Verb, ForModule, ForGo, ForRequire, ForExclude, ForReplace, ForRetract, ForNothing, Unknown, directive_in, directive_of, ends_of, is_empty_block, item_at, main_verb, one_of, pair_of, replacing_of}
+use Rattle.gm_file.specs.Faults.{directive_kinds, is_module, item_kinds, entry_kinds}
+use Rattle.gm_file_edit.specs.Fates.{held_at, item_of}
+use Rattle.gm_file_edit.specs.NewWords.{made_word}
+use Rattle.gm_file_edit.specs.Renewing.{with_arguments, with_last}
+use Rattle.gm_file_edit.proofs.Leaving.{IsMadeNew, clashes}
+use Rattle.gm_file_edit.proofs.Parts.{both-are, map-some}
+
+-- ---- new words
+
+not-bare : (value : List ℕ) → ¬ IsBare value → can_be_bare value ≡ false
+not-bare value n = elim (cases_Bool (can_be_bare value)) [ inl e ↦ absurd (n (is_bare_word value e)) | inr e ↦ e ]
+
+is-new : (value : List ℕ) → IsNewWord value (made_word value)
+is-new value = record { bare = λ h. rw (bare_word_is value h) refl; quoted = λ n. rw (not-bare value n) refl }
+
+pub made-stands : (value : List ℕ) → HasNoLineFeed value → IsWord (new_word value)
+made-stands value plain = (new_word_stands value (made_word value) plain (is-new value)).0
+
+pub made-value : (value : List ℕ) → HasNoLineFeed value → argument (new_word value) ≡ Some value
+made-value value plain =
+    let is : value_of (new_word value) ≡ value = value_is (new_word value) value (new_word_stands value (made_word value) plain (is-new value)).1 in
+    elim (cases_Bool (can_be_bare value)) [
+      | inl e ↦ rw e refl
+      | inr e ↦ let quoted : string_value (in_quotes value) ≡ value = rw e at is in rw e (ap Some quoted)
+    ]
+
+pub made-no-mark : (b : ℕ) (value : List ℕ) → is_mark b (new_word value) ≡ false
+made-no-mark b value = new_word_no_mark b value (made_word value) (is-new value)
+
+kind-no-mark : (b : ℕ) (kind : Kind) (text value : List ℕ) → argument_of_kind kind text ≡ Some value → is_mark_byte b kind text ≡ false
+kind-no-mark b Bare text value e = refl
+kind-no-mark b Text text value e = refl
+kind-no-mark b Mark text value e = absurd cc
+
+-- a punctuation mark is not an argument
+pub no-mark : (b : ℕ) (w : Word) (value : List ℕ) → argument w ≡ Some value → is_mark b w ≡ false
+no-mark b w value e = kind-no-mark b w.kind w.spelling value e
+
+-- ---- arguments
+
+-- words that can be the arguments of an entry
+pub record AreArguments (arguments : List Placed) : Type 0 where
+  pub words : AllByRecursion IsWord (words_of arguments)
+  pub filled : 0 < length (words_of arguments)
+  pub opens_nothing : ends_open (words_of arguments) ≡ false
+  pub closes_nothing : begins_close (words_of arguments) ≡ false
+  pub no_block : is_empty_block (words_of arguments) ≡ false
+
+-- the words of an entry before its arguments: its verb, unless it is at the opening of the block
+abbrev pub IsFront : Option Placed → List ℕ → List Placed → Type 0
+IsFront None verb front = (w : Placed) × (front ≡ w ∷ []) × (verb ≡ w.word.spelling)
+IsFront (Some v) verb front = (front ≡ []) × (verb ≡ v.word.spelling)
+
+pub record IsHeldBy (block : Option Placed) (line : Line Placed) (d : Directive) : Type 0 where
+  pub front : List Placed
+  pub verb : List ℕ
+  pub arguments : List Placed
+  pub suffix : Option (List ℕ)
+  pub is : line ≡ Entry (front ++ arguments) suffix
+  pub at : IsFront block verb front
+  pub says : directive_of (main_verb verb) (words_of arguments) ≡ Some d
+
+pub held-by : (block : Option Placed) (line : Line Placed) (d : Directive) → held_at block line ≡ Some d → IsHeldBy block line d
+unfolding item_at
+held-by block Blank d e = absurd cc
+held-by block (Comment text) d e = absurd cc
+held-by block (Open verb suffix) d e = absurd cc
+held-by block (Close suffix) d e = absurd cc
+held-by (Some v) (Entry words suffix) d e = record { front = []; verb = v.word.spelling; arguments = words; suffix = suffix; is = refl; at = (refl, refl); says = e }
+held-by None (Entry [] suffix) d e = absurd cc
+held-by None (Entry (w ∷ words) suffix) d e = elim (cases_Bool (is_empty_block (words_of words))) [
+  | inl holds ↦ let wrong = rw holds at e in absurd cc
+  | inr fails ↦ record { front = w ∷ []; verb = w.word.spelling; arguments = words; suffix = suffix; is = refl; at = (w, refl, refl); says = rw fails at e }
+]
+
+new-item : (block : Option Placed) (verb : List ℕ) (front arguments : List Placed) (suffix : Option (List ℕ)) → IsFront block verb front → is_empty_block (words_of arguments) ≡ false
+    → item_of block (Entry (front ++ arguments) suffix) ≡ Saying verb (words_of arguments)
+unfolding item_at
+new-item None verb front arguments suffix at fails = rw (at.1, at.2, fails) refl
+new-item (Some v) verb front arguments suffix at fails = rw (at.0, at.1) refl
+
+pub open-behind : (w : Word) (ws : List Word) → 0 < length ws → ends_open (w ∷ ws) ≡ ends_open ws
+open-behind w [] some = absurd (omega arith)
+open-behind w (v ∷ ws) some = refl
+
+new-entry : (block : Option Placed) (verb : List ℕ) (front old arguments : List Placed) (suffix : Option (List ℕ)) → IsFront block verb front
+    → IsEntry (words_of (front ++ old)) suffix → AreArguments arguments → IsEntry (words_of (front ++ arguments)) suffix
+new-entry None verb front old arguments suffix at entry are =
+    let w : Placed = at.0 in
+    let before : IsEntry (words_of (w ∷ old)) suffix = subst (λ (f : List Placed). IsEntry (words_of (f ++ old)) suffix) at.1 entry in
+    let after : IsEntry (words_of (w ∷ arguments)) suffix = record {
+      are_words = (before.are_words.0, are.words);
+      is_suffix = before.is_suffix;
+      filled = omega arith;
+      opens_nothing = open-behind w.word (words_of arguments) are.filled ∙ are.opens_nothing;
+      closes_nothing = before.closes_nothing;
+    } in
+    subst (λ (f : List Placed). IsEntry (words_of (f ++ arguments)) suffix) (sym at.1) after
+new-entry (Some v) verb front old arguments suffix at entry are =
+    let after : IsEntry (words_of arguments) suffix = record {
+      are_words = are.words;
+      is_suffix = entry.is_suffix;
+      filled = are.filled;
+      opens_nothing = are.opens_nothing;
+      closes_nothing = are.closes_nothing;
+    } in
+    subst (λ (f : List Placed). IsEntry (words_of (f ++ arguments)) suffix) (sym at.0) after
+
+-- an entry whose arguments are replaced says what the new ones say
+pub entry-made : (new was : Directive) (block : Option Placed) (line next : Line Placed) (h : IsHeldBy block line was) (arguments : List Placed)
+    → held_at block line ≡ Some was → next ≡ Entry (h.front ++ arguments) h.suffix → IsValidLine (is_some block) (plain line) → AreArguments arguments
+    → directive_of (main_verb h.verb) (words_of arguments) ≡ Some new → (is_module was ≡ true → is_module new ≡ true)
+    → ((earlier : List Directive) → list_any (clashes new) earlier ≡ false → directive_kinds Strict earlier new ≡ [])
+    → IsMadeNew new block line next
+entry-made new was block line next h arguments held is stands are says declares kinds =
+    let item : item_of block (Entry (h.front ++ arguments) h.suffix) ≡ Saying h.verb (words_of arguments) = new-item block h.verb h.front arguments h.suffix h.at are.no_block in
+    let stood : IsValidLine (is_some block) (plain (Entry (h.front ++ h.arguments) h.suffix)) = subst (λ (l : Line Placed). IsValidLine (is_some block) (plain l)) h.is stands in
+    let old : IsEntry (words_of (h.front ++ h.arguments)) h.suffix = standing_entry (is_some block) (words_of (h.front ++ h.arguments)) h.suffix stood in
+    let entry : IsEntry (words_of (h.front ++ arguments)) h.suffix = new-entry block h.verb h.front h.arguments arguments h.suffix h.at old are in
+    record {
+      was = was;
+      held = held;
+      declared = declares;
+      words = h.front ++ arguments;
+      suffix = h.suffix;
+      is_entry = is;
+      stands = entry_stands (is_some block) (words_of (h.front ++ arguments)) h.suffix entry;
+      holds = ap (directive_in Strict) item ∙ says;
+      sound = λ earlier clear. ap (item_kinds Strict earlier) item ∙ ap (entry_kinds Strict earlier (main_verb h.verb)) says ∙ kinds earlier clear;
+    }
+
+-- ---- verbs
+
+abbrev pub verb_for : Directive → Verb
+verb_for (DeclaresModule path) = ForModule
+verb_for (DeclaresGo text) = ForGo
+verb_for (Requires p) = ForRequire
+verb_for (Excludes p) = ForExclude
+verb_for (Replaces r) = ForReplace
+verb_for (Retracts ends) = ForRetract
+verb_for Kept = ForNothing
+
+pub says-verb : (v : Verb) (ws : List Word) (d : Directive) → directive_of v ws ≡ Some d → v ≡ verb_for d
+unfolding directive_of
+says-verb ForModule ws d e = ap verb_for (map-some DeclaresModule (one_of ws) d e).2
+says-verb ForGo ws d e = ap verb_for (map-some DeclaresGo (one_of ws) d e).2
+says-verb ForRequire ws d e = ap verb_for (map-some Requires (pair_of ws) d e).2
+says-verb ForExclude ws d e = ap verb_for (map-some Excludes (pair_of ws) d e).2
+says-verb ForReplace ws d e = ap verb_for (map-some Replaces (replacing_of ws) d e).2
+says-verb ForRetract ws d e = ap verb_for (map-some Retracts (ends_of ws) d e).2
+says-verb ForNothing ws d e = let same : Kept ≡ d = cc in ap verb_for same
+says-verb Unknown ws d e = absurd cc
+
+-- ---- replacing the last word
+
+pub one-last : (block : Option Placed) (verb : List ℕ) (front : List Placed) (line : Line Placed) (suffix : Option (List ℕ)) (value : List ℕ) (a : Placed) → IsFront block verb front
+    → line ≡ Entry (front ++ a ∷ []) suffix → with_last value block line ≡ Entry (front ++ made_word value ∷ []) suffix
+one-last None verb front line suffix value a at is = rw (is, at.1) refl
+one-last (Some v) verb front line suffix value a at is = rw (is, at.0) refl
+
+pub two-last : (block : Option Placed) (verb : List ℕ) (front : List Placed) (line : Line Placed) (suffix : Option (List ℕ)) (value : List ℕ) (a b : Placed) → IsFront block verb front
+    → line ≡ Entry (front ++ a ∷ b ∷ []) suffix → with_last value block line ≡ Entry (front ++ a ∷ made_word value ∷ []) suffix
+two-last None verb front line suffix value a b at is = rw (is, at.1) refl
+two-last (Some v) verb front line suffix value a b at is = rw (is, at.0) refl
+
+pub all-arguments : (block : Option Placed) (verb : List ℕ) (front old : List Placed) (line : Line Placed) (suffix : Option (List ℕ)) (arguments : List Placed) → IsFront block verb front
+    → line ≡ Entry (front ++ old) suffix → with_arguments arguments block line ≡ Entry (front ++ arguments) suffix
+all-arguments None verb front old line suffix arguments at is = rw (is, at.1) refl
+all-arguments (Some v) verb front old line suffix arguments at is = rw (is, at.0) refl
+
+-- ---- one argument or two
+
+pub one-argument : (words : List Placed) (v : List ℕ) → one_of (words_of words) ≡ Some v → (a : Placed) × (words ≡ a ∷ [])
+one-argument [] v e = absurd cc
+one-argument (a ∷ []) v e = (a, refl)
+one-argument (a ∷ b ∷ words) v e = absurd cc
+
+pub two-arguments : (words : List Placed) (p : Pair) → pair_of (words_of words) ≡ Some p → (a b : Placed) × (words ≡ a ∷ b ∷ []) × (argument a.word ≡ Some p.0)
+two-arguments [] p e = absurd cc
+two-arguments (a ∷ []) p e = absurd cc
+two-arguments (a ∷ b ∷ []) p e =
+    let parts = both-are pair (argument a.word) (argument b.word) p e in
+    (a, b, refl, parts.2 ∙ ap (λ (q : Pair). Some q.0) parts.4)
+two-arguments (a ∷ b ∷ c ∷ words) p e = absurd cc
+
+pub one-are : (value : List ℕ) → HasNoLineFeed value → AreArguments (made_word value ∷ [])
+one-are value plain = record {
+  words = (made-stands value plain, tt);
+  filled = omega arith;
+  opens_nothing = made-no-mark 40 value;
+  closes_nothing = made-no-mark 41 value;
+  no_block = refl;
+}
+
+-- a word that stays and a new one
+pub two-are : (a : Placed) (path value : List ℕ) → IsWord a.word → argument a.word ≡ Some path → HasNoLineFeed value → AreArguments (a ∷ made_word value ∷ [])
+two-are a path value word is plain = record {
+  words = (word, (made-stands value plain, tt));
+  filled = omega arith;
+  opens_nothing = made-no-mark 40 value;
+  closes_nothing = no-mark 41 a.word path is;
+  no_block = rw (no-mark 40 a.word path is) refl;
+}

@@ -1,0 +1,380 @@
+-- The result of an operation doesn't depend on source positions: it commutes with removing the positions of words.
+use Rattle.std.proofs.Common.{◌≡◌, ℕ, suc, ◌+◌, ◌-◌, ◌||◌, ◌&&◌, Bool, true, false, List, [], ◌∷◌, ◌++◌, length, map, take, drop, Option, Some, None, is_none, refl, sym, ap, ◌∙◌}
+use Rattle.std.specs.Prelude.{if◌then◌else◌, codes, insert}
+use Rattle.std.specs.Option.{option_map, option_or}
+use Rattle.std.specs.List.{list_all, list_any}
+use Rattle.std.specs.Str.{bytes_eq}
+use Rattle.std.proofs.lemmas.List.{drop-map, length-map, map-append, take-map}
+use Rattle.gm_syntax.specs.declared.word.Punct.TheVariants.{Arrow}
+use Rattle.gm_syntax.specs.Words.{Word}
+use Rattle.gm_syntax.specs.Tokens.{Placed}
+use Rattle.gm_syntax.specs.Document.{Line, Blank, Comment, Open, Close, Entry, map_line}
+use Rattle.gm_syntax.specs.LineViews.{plain, plain_lines}
+use Rattle.gm_syntax.proofs.Edits.{map-insert}
+use Rattle.gm_file.specs.Directives.{Strict, Directive, Pair, Right, Folder, Module, Replacing, block_after_line, directive_in, item_at}
+use Rattle.gm_file.specs.Faults.{is_go, is_module}
+use Rattle.gm_file_edit.specs.Edits.{Edit, SetModule, SetGo, SetRequire, DropRequire, AddExclude, DropExclude, SetReplace, DropReplace, AddRetract, DropRetract}
+use Rattle.gm_file_edit.specs.NewWords.{interval_words, left_words, left_words_of, made_mark, made_word, pair_words, replace_words, right_words, unplaced}
+use Rattle.gm_file_edit.specs.Fates.{Begun, Fate, begin, block_lines, dropped, dropping_from, held_at, is_emptied, kept, leaves_nothing, remaining_from, passes, renewed, renewing_from, with_line, word_of}
+use Rattle.gm_file_edit.specs.Renewing.{before_arguments, with_arguments, with_last}
+use Rattle.gm_file_edit.specs.About.{about, excludes_pair, is_replaced_by, replaces_left, requires_path, retracts_ends}
+use Rattle.gm_file_edit.specs.Searching.{is_there, is_there_from}
+use Rattle.gm_file_edit.specs.Adding.{added, added_at, after_first_that, spot_after_first, spot_after_last, spot_after_line, close_len, entry_at, further, is_exclude, is_replace, is_require, is_retract, past_block, insert_at_spot, single}
+use Rattle.gm_file_edit.specs.Changes.{changed, edited, put_in}
+
+-- ---- lines without source positions
+
+-- the word without its source position
+abbrev loose : Placed → Placed
+loose t = unplaced t.word
+
+abbrev loose_block : Option Placed → Option Placed
+loose_block block = option_map loose block
+
+abbrev loose_line : Line Placed → Line Placed
+loose_line line = map_line loose line
+
+abbrev loose_lines : List (Line Placed) → List (Line Placed)
+loose_lines lines = map loose_line lines
+
+abbrev loose_fate : Fate → Fate
+loose_fate fate = option_map loose_line fate
+
+abbrev loose_fates : List Fate → List Fate
+loose_fates fates = map loose_fate fates
+
+abbrev loose_begun : Begun → Begun
+loose_begun b = record { verb = loose b.verb; suffix = b.suffix; inner = loose_fates b.inner }
+
+words-loose : (words : List Placed) → map (λ (t : Placed). t.word) (map loose words) ≡ map (λ (t : Placed). t.word) words
+words-loose [] = refl
+words-loose (t ∷ words) = ap (λ (ws : List Word). t.word ∷ ws) (words-loose words)
+
+plain-loose : (line : Line Placed) → plain (loose_line line) ≡ plain line
+plain-loose Blank = refl
+plain-loose (Comment text) = refl
+plain-loose (Open verb suffix) = refl
+plain-loose (Close suffix) = refl
+plain-loose (Entry words suffix) = ap (λ (ws : List Word). Entry ws suffix) (words-loose words)
+
+plain_lines-loose : (lines : List (Line Placed)) → plain_lines (loose_lines lines) ≡ plain_lines lines
+plain_lines-loose [] = refl
+plain_lines-loose (line ∷ lines) = ap (λ (l : Line Word). l ∷ plain_lines (loose_lines lines)) (plain-loose line) ∙ ap (λ (ls : List (Line Word)). plain line ∷ ls) (plain_lines-loose lines)
+
+-- removing positions is the same as placing the bare words anew, without a position
+words-again : (words : List Placed) → map loose words ≡ map unplaced (map (λ (t : Placed). t.word) words)
+words-again [] = refl
+words-again (t ∷ words) = ap (λ (ts : List Placed). loose t ∷ ts) (words-again words)
+
+line-again : (line : Line Placed) → loose_line line ≡ map_line unplaced (plain line)
+line-again Blank = refl
+line-again (Comment text) = refl
+line-again (Open verb suffix) = refl
+line-again (Close suffix) = refl
+line-again (Entry words suffix) = ap (λ (ts : List Placed). Entry ts suffix) (words-again words)
+
+lines-again : (lines : List (Line Placed)) → loose_lines lines ≡ map (λ (l : Line Word). map_line unplaced l) (plain_lines lines)
+lines-again [] = refl
+lines-again (line ∷ lines) =
+    ap (λ (l : Line Placed). l ∷ loose_lines lines) (line-again line) ∙ ap (λ (ls : List (Line Placed)). map_line unplaced (plain line) ∷ ls) (lines-again lines)
+
+same-loose : (lines others : List (Line Placed)) → plain_lines lines ≡ plain_lines others → loose_lines lines ≡ loose_lines others
+same-loose lines others e = lines-again lines ∙ ap (λ (ls : List (Line Word)). map (λ (l : Line Word). map_line unplaced l) ls) e ∙ sym (lines-again others)
+
+-- ---- what a line holds
+
+chosen : {X Y : Type 0} (g : Y → X) (c d : Bool) (x y : X) (u v : Y) → c ≡ d → x ≡ g u → y ≡ g v → (if c then x else y) ≡ g (if d then u else v)
+chosen g c true x y u v e f h = rw e f
+chosen g c false x y u v e f h = rw e h
+
+block-word : (block : Option Placed) → option_map word_of (loose_block block) ≡ option_map word_of block
+block-word None = refl
+block-word (Some verb) = refl
+
+held-loose : (block : Option Placed) (line : Line Placed) → held_at (loose_block block) (loose_line line) ≡ held_at block line
+held-loose block line =
+    ap (λ (b : Option Word). directive_in Strict (item_at (b, plain (loose_line line)))) (block-word block)
+    ∙ ap (λ (l : Line Word). directive_in Strict (item_at (option_map word_of block, l))) (plain-loose line)
+
+passes-loose : (test : Directive → Bool) (block : Option Placed) (line : Line Placed) → passes test (held_at (loose_block block) (loose_line line)) ≡ passes test (held_at block line)
+passes-loose test block line = ap (passes test) (held-loose block line)
+
+behind-loose : (block : Option Placed) (line : Line Placed) → block_after_line (loose_block block) (loose_line line) ≡ loose_block (block_after_line block line)
+behind-loose block Blank = refl
+behind-loose block (Comment text) = refl
+behind-loose block (Open verb suffix) = refl
+behind-loose block (Close suffix) = refl
+behind-loose block (Entry words suffix) = refl
+
+there-loose : (test : Directive → Bool) (block : Option Placed) (lines : List (Line Placed)) → is_there_from test (loose_block block) (loose_lines lines) ≡ is_there_from test block lines
+there-loose test block [] = refl
+there-loose test block (line ∷ lines) =
+    ap (λ (c : Bool). c || is_there_from test (block_after_line (loose_block block) (loose_line line)) (loose_lines lines)) (passes-loose test block line)
+    ∙ ap (λ (b : Option Placed). passes test (held_at block line) || is_there_from test b (loose_lines lines)) (behind-loose block line)
+    ∙ ap (λ (c : Bool). passes test (held_at block line) || c) (there-loose test (block_after_line block line) lines)
+
+-- ---- the fates of lines
+
+dropping-loose : (test : Directive → Bool) (block : Option Placed) (lines : List (Line Placed)) → dropping_from test (loose_block block) (loose_lines lines) ≡ loose_fates (dropping_from test block lines)
+dropping-loose test block [] = refl
+dropping-loose test block (line ∷ lines) =
+    ap (λ (f : Fate). f ∷ dropping_from test (block_after_line (loose_block block) (loose_line line)) (loose_lines lines))
+    (chosen loose_fate (passes test (held_at (loose_block block) (loose_line line))) (passes test (held_at block line)) None (Some (loose_line line)) None (Some line) (passes-loose test block line) refl refl)
+    ∙ ap (λ (b : Option Placed). loose_fate (if passes test (held_at block line) then None else Some line) ∷ dropping_from test b (loose_lines lines)) (behind-loose block line)
+    ∙ ap (λ (fs : List Fate). loose_fate (if passes test (held_at block line) then None else Some line) ∷ fs) (dropping-loose test (block_after_line block line) lines)
+
+-- a rewrite doesn't depend on source positions
+abbrev IsBlind : (Option Placed → Line Placed → Line Placed) → Type 0
+IsBlind new = (block : Option Placed) (line : Line Placed) → new (loose_block block) (loose_line line) ≡ loose_line (new block line)
+
+renewing-loose : (test : Directive → Bool) (new : Option Placed → Line Placed → Line Placed) → IsBlind new → (block : Option Placed) (lines : List (Line Placed))
+    → renewing_from test new (loose_block block) (loose_lines lines) ≡ loose_fates (renewing_from test new block lines)
+renewing-loose test new blind block [] = refl
+renewing-loose test new blind block (line ∷ lines) =
+    chosen loose_fates (passes test (held_at (loose_block block) (loose_line line))) (passes test (held_at block line))
+    (Some (new (loose_block block) (loose_line line)) ∷ dropping_from test (block_after_line (loose_block block) (loose_line line)) (loose_lines lines))
+    (Some (loose_line line) ∷ renewing_from test new (block_after_line (loose_block block) (loose_line line)) (loose_lines lines))
+    (Some (new block line) ∷ dropping_from test (block_after_line block line) lines)
+    (Some line ∷ renewing_from test new (block_after_line block line) lines)
+    (passes-loose test block line)
+    (ap (λ (l : Line Placed). Some l ∷ dropping_from test (block_after_line (loose_block block) (loose_line line)) (loose_lines lines)) (blind block line)
+    ∙ ap (λ (b : Option Placed). Some (loose_line (new block line)) ∷ dropping_from test b (loose_lines lines)) (behind-loose block line)
+    ∙ ap (λ (fs : List Fate). Some (loose_line (new block line)) ∷ fs) (dropping-loose test (block_after_line block line) lines))
+    (ap (λ (b : Option Placed). Some (loose_line line) ∷ renewing_from test new b (loose_lines lines)) (behind-loose block line)
+    ∙ ap (λ (fs : List Fate). Some (loose_line line) ∷ fs) (renewing-loose test new blind (block_after_line block line) lines))
+
+kept-loose : (fates : List Fate) → kept (loose_fates fates) ≡ loose_lines (kept fates)
+kept-loose [] = refl
+kept-loose (None ∷ fates) = kept-loose fates
+kept-loose (Some line ∷ fates) = ap (λ (ls : List (Line Placed)). loose_line line ∷ ls) (kept-loose fates)
+
+none-loose : (fate : Fate) → is_none (loose_fate fate) ≡ is_none fate
+none-loose None = refl
+none-loose (Some line) = refl
+
+nothing-loose : (fate : Fate) → leaves_nothing (loose_fate fate) ≡ leaves_nothing fate
+nothing-loose None = refl
+nothing-loose (Some Blank) = refl
+nothing-loose (Some (Comment text)) = refl
+nothing-loose (Some (Open verb suffix)) = refl
+nothing-loose (Some (Close suffix)) = refl
+nothing-loose (Some (Entry words suffix)) = refl
+
+any-loose : (fates : List Fate) → list_any is_none (loose_fates fates) ≡ list_any is_none fates
+any-loose [] = refl
+any-loose (f ∷ fates) = ap (λ (c : Bool). c || list_any is_none (loose_fates fates)) (none-loose f) ∙ ap (λ (c : Bool). is_none f || c) (any-loose fates)
+
+all-loose : (fates : List Fate) → list_all leaves_nothing (loose_fates fates) ≡ list_all leaves_nothing fates
+all-loose [] = refl
+all-loose (f ∷ fates) = ap (λ (c : Bool). c && list_all leaves_nothing (loose_fates fates)) (nothing-loose f) ∙ ap (λ (c : Bool). leaves_nothing f && c) (all-loose fates)
+
+emptied-loose : (open_suffix : Option (List ℕ)) (inner : List Fate) (suffix : Option (List ℕ)) → is_emptied open_suffix (loose_fates inner) suffix ≡ is_emptied open_suffix inner suffix
+emptied-loose open_suffix inner suffix =
+    ap (λ (c : Bool). c && list_all leaves_nothing (loose_fates inner) && is_none open_suffix && is_none suffix) (any-loose inner)
+    ∙ ap (λ (c : Bool). list_any is_none inner && c && is_none open_suffix && is_none suffix) (all-loose inner)
+
+more-loose : (b : Begun) (fate : Fate) → with_line (loose_begun b) (loose_fate fate) ≡ loose_begun (with_line b fate)
+more-loose b fate = ap (λ (fs : List Fate). let whole : Begun = record { verb = loose b.verb; suffix = b.suffix; inner = fs } in whole) (sym (map-append loose_fate b.inner (fate ∷ [])))
+
+block-loose : (b : Begun) (suffix : Option (List ℕ)) (rest : List (Line Placed)) → block_lines (loose_begun b) suffix (loose_lines rest) ≡ loose_lines (block_lines b suffix rest)
+block-loose b suffix rest =
+    ap (λ (ls : List (Line Placed)). Open (loose b.verb) b.suffix ∷ (ls ++ Close suffix ∷ loose_lines rest)) (kept-loose b.inner)
+    ∙ ap (λ (ls : List (Line Placed)). Open (loose b.verb) b.suffix ∷ ls) (sym (map-append loose_line (kept b.inner) (Close suffix ∷ rest)))
+
+left-loose : (after : Bool) (begun : Option Begun) (fates : List Fate) → remaining_from after (option_map loose_begun begun) (loose_fates fates) ≡ loose_lines (remaining_from after begun fates)
+unfolding remaining_from
+left-loose after None [] = refl
+left-loose after (Some b) [] = ap (λ (ls : List (Line Placed)). Open (loose b.verb) b.suffix ∷ ls) (kept-loose b.inner)
+left-loose after None (None ∷ fates) = left-loose after None fates
+left-loose true None (Some Blank ∷ fates) = left-loose false None fates
+left-loose false None (Some Blank ∷ fates) = ap (λ (ls : List (Line Placed)). Blank ∷ ls) (left-loose false None fates)
+left-loose after None (Some (Comment text) ∷ fates) = ap (λ (ls : List (Line Placed)). Comment text ∷ ls) (left-loose false None fates)
+left-loose after None (Some (Open verb suffix) ∷ fates) = left-loose false (Some (begin verb suffix)) fates
+left-loose after None (Some (Close suffix) ∷ fates) = ap (λ (ls : List (Line Placed)). Close suffix ∷ ls) (left-loose false None fates)
+left-loose after None (Some (Entry words suffix) ∷ fates) = ap (λ (ls : List (Line Placed)). Entry (map loose words) suffix ∷ ls) (left-loose false None fates)
+left-loose after (Some b) (Some (Close suffix) ∷ fates) =
+    chosen loose_lines (is_emptied b.suffix (loose_fates b.inner) suffix) (is_emptied b.suffix b.inner suffix)
+    (remaining_from true None (loose_fates fates)) (block_lines (loose_begun b) suffix (remaining_from false None (loose_fates fates)))
+    (remaining_from true None fates) (block_lines b suffix (remaining_from false None fates))
+    (emptied-loose b.suffix b.inner suffix)
+    (left-loose true None fates)
+    (ap (block_lines (loose_begun b) suffix) (left-loose false None fates) ∙ block-loose b suffix (remaining_from false None fates))
+left-loose after (Some b) (None ∷ fates) =
+    ap (λ (x : Begun). remaining_from after (Some x) (loose_fates fates)) (more-loose b None) ∙ left-loose after (Some (with_line b None)) fates
+left-loose after (Some b) (Some Blank ∷ fates) =
+    ap (λ (x : Begun). remaining_from after (Some x) (loose_fates fates)) (more-loose b (Some Blank)) ∙ left-loose after (Some (with_line b (Some Blank))) fates
+left-loose after (Some b) (Some (Comment text) ∷ fates) =
+    ap (λ (x : Begun). remaining_from after (Some x) (loose_fates fates)) (more-loose b (Some (Comment text))) ∙ left-loose after (Some (with_line b (Some (Comment text)))) fates
+left-loose after (Some b) (Some (Open verb suffix) ∷ fates) =
+    ap (λ (x : Begun). remaining_from after (Some x) (loose_fates fates)) (more-loose b (Some (Open verb suffix))) ∙ left-loose after (Some (with_line b (Some (Open verb suffix)))) fates
+left-loose after (Some b) (Some (Entry words suffix) ∷ fates) =
+    ap (λ (x : Begun). remaining_from after (Some x) (loose_fates fates)) (more-loose b (Some (Entry words suffix))) ∙ left-loose after (Some (with_line b (Some (Entry words suffix)))) fates
+
+dropped-loose : (test : Directive → Bool) (lines : List (Line Placed)) → dropped test (loose_lines lines) ≡ loose_lines (dropped test lines)
+dropped-loose test lines = ap (remaining_from false None) (dropping-loose test None lines) ∙ left-loose false None (dropping_from test None lines)
+
+renewed-loose : (test : Directive → Bool) (new : Option Placed → Line Placed → Line Placed) → IsBlind new → (lines : List (Line Placed)) → renewed test new (loose_lines lines) ≡ loose_lines (renewed test new lines)
+renewed-loose test new blind lines = ap (remaining_from false None) (renewing-loose test new blind None lines) ∙ left-loose false None (renewing_from test new None lines)
+
+-- ---- rewritten entries
+
+-- words that have no source positions
+abbrev AreLoose : List Placed → Type 0
+AreLoose words = map loose words ≡ words
+
+front-loose : (n : ℕ) (words arguments : List Placed) → AreLoose arguments → take n (map loose words) ++ arguments ≡ map loose (take n words ++ arguments)
+front-loose n words arguments are =
+    ap (λ (ws : List Placed). ws ++ arguments) (take-map loose n words)
+    ∙ ap (λ (ws : List Placed). map loose (take n words) ++ ws) (sym are)
+    ∙ sym (map-append loose (take n words) arguments)
+
+last-blind : (value : List ℕ) → IsBlind (with_last value)
+last-blind value block Blank = refl
+last-blind value block (Comment text) = refl
+last-blind value block (Open verb suffix) = refl
+last-blind value block (Close suffix) = refl
+last-blind value block (Entry words suffix) =
+    ap (λ (n : ℕ). Entry (take (n - 1) (map loose words) ++ made_word value ∷ []) suffix) (length-map words loose)
+    ∙ ap (λ (ws : List Placed). Entry ws suffix) (front-loose (length words - 1) words (made_word value ∷ []) refl)
+
+before-loose : (block : Option Placed) → before_arguments (loose_block block) ≡ before_arguments block
+before-loose None = refl
+before-loose (Some verb) = refl
+
+arguments-blind : (arguments : List Placed) → AreLoose arguments → IsBlind (with_arguments arguments)
+arguments-blind arguments are block Blank = refl
+arguments-blind arguments are block (Comment text) = refl
+arguments-blind arguments are block (Open verb suffix) = refl
+arguments-blind arguments are block (Close suffix) = refl
+arguments-blind arguments are block (Entry words suffix) =
+    ap (λ (n : ℕ). Entry (take n (map loose words) ++ arguments) suffix) (before-loose block)
+    ∙ ap (λ (ws : List Placed). Entry ws suffix) (front-loose (before_arguments block) words arguments are)
+
+left-are : (path : List ℕ) (version : Option (List ℕ)) → AreLoose (left_words_of path version)
+left-are path None = refl
+left-are path (Some version) = refl
+
+right-are : (right : Right) → AreLoose (right_words right)
+right-are (Folder text) = refl
+right-are (Module path version) = refl
+
+replace-are : (r : Replacing) → AreLoose (replace_words r)
+replace-are r =
+    map-append loose (left_words r.0) (made_mark Arrow ∷ right_words r.1)
+    ∙ ap (λ (ws : List Placed). ws ++ made_mark Arrow ∷ map loose (right_words r.1)) (left-are r.0.path r.0.version)
+    ∙ ap (λ (ws : List Placed). left_words r.0 ++ made_mark Arrow ∷ ws) (right-are r.1)
+
+either-are : (c : Bool) (x y : List Placed) → AreLoose x → AreLoose y → AreLoose (if c then x else y)
+either-are true x y e f = e
+either-are false x y e f = f
+
+interval-are : (ends : Pair) → AreLoose (interval_words ends)
+interval-are ends = either-are (bytes_eq ends.0 ends.1) _ _ refl refl
+
+-- ---- added entries
+
+spot-loose : (block : Option Placed) → spot_after_line (loose_block block) ≡ spot_after_line block
+spot-loose None = refl
+spot-loose (Some verb) = refl
+
+last-loose : (test : Directive → Bool) (block : Option Placed) (lines : List (Line Placed)) → spot_after_last test (loose_block block) (loose_lines lines) ≡ spot_after_last test block lines
+last-loose test block [] = refl
+last-loose test block (line ∷ lines) =
+    ap (λ (b : Option Placed). option_or (option_map further (spot_after_last test b (loose_lines lines))) (if passes test (held_at (loose_block block) (loose_line line)) then Some (spot_after_line (loose_block block)) else None))
+    (behind-loose block line)
+    ∙ ap (λ s. option_or (option_map further s) (if passes test (held_at (loose_block block) (loose_line line)) then Some (spot_after_line (loose_block block)) else None)) (last-loose test (block_after_line block line) lines)
+    ∙ ap (λ (c : Bool). option_or (option_map further (spot_after_last test (block_after_line block line) lines)) (if c then Some (spot_after_line (loose_block block)) else None)) (passes-loose test block line)
+    ∙ ap (λ s. option_or (option_map further (spot_after_last test (block_after_line block line) lines)) (if passes test (held_at block line) then Some s else None)) (spot-loose block)
+
+first-loose : (test : Directive → Bool) (block : Option Placed) (lines : List (Line Placed)) → spot_after_first test (loose_block block) (loose_lines lines) ≡ spot_after_first test block lines
+first-loose test block [] = refl
+first-loose test block (line ∷ lines) =
+    ap (λ (b : Option Placed). if passes test (held_at (loose_block block) (loose_line line)) then Some (spot_after_line (loose_block block)) else option_map further (spot_after_first test b (loose_lines lines)))
+    (behind-loose block line)
+    ∙ ap (λ s. if passes test (held_at (loose_block block) (loose_line line)) then Some (spot_after_line (loose_block block)) else option_map further s) (first-loose test (block_after_line block line) lines)
+    ∙ ap (λ (c : Bool). if c then Some (spot_after_line (loose_block block)) else option_map further (spot_after_first test (block_after_line block line) lines)) (passes-loose test block line)
+    ∙ ap (λ s. if passes test (held_at block line) then Some s else option_map further (spot_after_first test (block_after_line block line) lines)) (spot-loose block)
+
+close-loose : (lines : List (Line Placed)) → close_len (loose_lines lines) ≡ close_len lines
+close-loose [] = refl
+close-loose (Blank ∷ lines) = ap suc (close-loose lines)
+close-loose (Comment text ∷ lines) = ap suc (close-loose lines)
+close-loose (Open verb suffix ∷ lines) = ap suc (close-loose lines)
+close-loose (Close suffix ∷ lines) = refl
+close-loose (Entry words suffix ∷ lines) = ap suc (close-loose lines)
+
+past-loose : (lines : List (Line Placed)) (spot : _) → past_block (loose_lines lines) spot ≡ past_block lines spot
+past-loose lines spot =
+    ap (λ (n : ℕ). if spot.inside then spot.before + n else spot.before) (ap close_len (drop-map loose_line spot.before lines) ∙ close-loose (drop spot.before lines))
+
+single-loose : (verb : List ℕ) (arguments : List Placed) → AreLoose arguments → loose_line (single verb arguments) ≡ single verb arguments
+single-loose verb arguments are = ap (λ (ws : List Placed). single verb ws) are
+
+entry-loose : (inside : Bool) (verb : List ℕ) (arguments : List Placed) → AreLoose arguments → loose_line (entry_at inside verb arguments) ≡ entry_at inside verb arguments
+entry-loose false verb arguments are = single-loose verb arguments are
+entry-loose true verb arguments are = ap (λ (ws : List Placed). Entry ws None) are
+
+at-loose : (verb : List ℕ) (arguments : List Placed) → AreLoose arguments → (lines : List (Line Placed)) (spot : _) → added_at verb arguments (loose_lines lines) spot ≡ loose_lines (added_at verb arguments lines spot)
+at-loose verb arguments are lines None =
+    ap (λ (l : Line Placed). loose_lines lines ++ Blank ∷ l ∷ []) (sym (single-loose verb arguments are)) ∙ sym (map-append loose_line lines (Blank ∷ single verb arguments ∷ []))
+at-loose verb arguments are lines (Some spot) =
+    ap (λ (l : Line Placed). insert (loose_lines lines) spot.before l) (sym (entry-loose spot.inside verb arguments are)) ∙ sym (map-insert loose_line lines spot.before (entry_at spot.inside verb arguments))
+
+added-loose : (test : Directive → Bool) (verb : List ℕ) (arguments : List Placed) → AreLoose arguments → (lines : List (Line Placed)) → added test verb arguments (loose_lines lines) ≡ loose_lines (added test verb arguments lines)
+unfolding added
+added-loose test verb arguments are lines = ap (added_at verb arguments (loose_lines lines)) (last-loose test None lines) ∙ at-loose verb arguments are lines (spot_after_last test None lines)
+
+put-loose : (new lines : List (Line Placed)) → loose_lines new ≡ new → (spot : _) → insert_at_spot new (loose_lines lines) spot ≡ loose_lines (insert_at_spot new lines spot)
+put-loose new lines are None = ap (λ (ls : List (Line Placed)). loose_lines lines ++ ls) (sym are) ∙ sym (map-append loose_line lines new)
+put-loose new lines are (Some spot) =
+    ap (λ (n : ℕ). take n (loose_lines lines) ++ (new ++ drop n (loose_lines lines))) (past-loose lines spot)
+    ∙ ap (λ (ls : List (Line Placed)). ls ++ (new ++ drop (past_block lines spot) (loose_lines lines))) (take-map loose_line (past_block lines spot) lines)
+    ∙ ap (λ (ls : List (Line Placed)). loose_lines (take (past_block lines spot) lines) ++ (ls ++ drop (past_block lines spot) (loose_lines lines))) (sym are)
+    ∙ ap (λ (ls : List (Line Placed)). loose_lines (take (past_block lines spot) lines) ++ (loose_lines new ++ ls)) (drop-map loose_line (past_block lines spot) lines)
+    ∙ ap (λ (ls : List (Line Placed)). loose_lines (take (past_block lines spot) lines) ++ ls) (sym (map-append loose_line new (drop (past_block lines spot) lines)))
+    ∙ sym (map-append loose_line (take (past_block lines spot) lines) (new ++ drop (past_block lines spot) lines))
+
+behind-first-loose : (test : Directive → Bool) (new lines : List (Line Placed)) → loose_lines new ≡ new → after_first_that test new (loose_lines lines) ≡ loose_lines (after_first_that test new lines)
+unfolding after_first_that
+behind-first-loose test new lines are = ap (insert_at_spot new (loose_lines lines)) (first-loose test None lines) ∙ put-loose new lines are (spot_after_first test None lines)
+
+-- ---- the lines after an operation
+
+changed-loose : (edit : Edit) (lines : List (Line Placed)) → changed edit (loose_lines lines) ≡ loose_lines (changed edit lines)
+unfolding changed
+changed-loose (SetModule path) lines = renewed-loose is_module (with_last path) (last-blind path) lines
+changed-loose (SetGo text) lines = renewed-loose is_go (with_last text) (last-blind text) lines
+changed-loose (SetRequire p) lines = renewed-loose (requires_path p.0) (with_last p.1) (last-blind p.1) lines
+changed-loose (DropRequire path) lines = dropped-loose (requires_path path) lines
+changed-loose (AddExclude p) lines = refl
+changed-loose (DropExclude p) lines = dropped-loose (excludes_pair p) lines
+changed-loose (SetReplace r) lines = renewed-loose (is_replaced_by r.0) (with_arguments (replace_words r)) (arguments-blind (replace_words r) (replace-are r)) lines
+changed-loose (DropReplace left) lines = dropped-loose (replaces_left left) lines
+changed-loose (AddRetract ends) lines = refl
+changed-loose (DropRetract ends) lines = dropped-loose (retracts_ends ends) lines
+
+put-in-loose : (edit : Edit) (lines : List (Line Placed)) → put_in edit (loose_lines lines) ≡ loose_lines (put_in edit lines)
+unfolding put_in
+put-in-loose (SetModule path) lines = refl
+put-in-loose (SetGo text) lines = behind-first-loose is_module (Blank ∷ single (codes "go") (made_word text ∷ []) ∷ []) lines refl
+put-in-loose (SetRequire p) lines = added-loose is_require (codes "require") (pair_words p) refl lines
+put-in-loose (DropRequire path) lines = refl
+put-in-loose (AddExclude p) lines = added-loose is_exclude (codes "exclude") (pair_words p) refl lines
+put-in-loose (DropExclude p) lines = refl
+put-in-loose (SetReplace r) lines = added-loose is_replace (codes "replace") (replace_words r) (replace-are r) lines
+put-in-loose (DropReplace left) lines = refl
+put-in-loose (AddRetract ends) lines = added-loose is_retract (codes "retract") (interval_words ends) (interval-are ends) lines
+put-in-loose (DropRetract ends) lines = refl
+
+edited-loose : (edit : Edit) (lines : List (Line Placed)) → edited edit (loose_lines lines) ≡ loose_lines (edited edit lines)
+unfolding edited
+edited-loose edit lines =
+    chosen loose_lines (is_there (about edit) (loose_lines lines)) (is_there (about edit) lines) (changed edit (loose_lines lines)) (put_in edit (loose_lines lines)) (changed edit lines) (put_in edit lines)
+    (there-loose (about edit) None lines) (changed-loose edit lines) (put-in-loose edit lines)
+
+-- an operation gives the same result for lines that differ only in source positions
+pub edited-same : (edit : Edit) (lines others : List (Line Placed)) → plain_lines lines ≡ plain_lines others → plain_lines (edited edit lines) ≡ plain_lines (edited edit others)
+edited-same edit lines others e =
+    sym (plain_lines-loose (edited edit lines)) ∙ ap plain_lines (sym (edited-loose edit lines))
+    ∙ ap (λ (ls : List (Line Placed)). plain_lines (edited edit ls)) (same-loose lines others e)
+    ∙ ap plain_lines (edited-loose edit others) ∙ plain_lines-loose (edited edit others)

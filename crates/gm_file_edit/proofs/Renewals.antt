@@ -1,0 +1,356 @@
+-- The operations that rewrite an entry.
+use Rattle.std.proofs.Common.{◌≡◌, ℕ, ◌&&◌, not, Bool, true, false, List, [], ◌∷◌, ◌++◌, Option, Some, None, is_some, refl, sym, ap, subst, ◌∙◌, arith, inl, inr}
+use Rattle.std.specs.List.{list_any}
+use Rattle.std.specs.Str.{bytes_eq}
+use Rattle.std.proofs.lemmas.Bool.{cases_Bool, true≢false}
+use Rattle.std.proofs.lemmas.Slice.Eq.{bytes_eq-Decides}
+use Rattle.gm_syntax.specs.declared.word.Punct.TheVariants.{Arrow}
+use Rattle.gm_file.specs.declared.fault.DirectiveKind.TheVariants.{ConflictingReplace}
+use Rattle.gm_syntax.specs.Lines.{HasNoLineFeed}
+use Rattle.gm_syntax.specs.Words.{Word}
+use Rattle.gm_syntax.specs.Bare.{can_be_bare, new_word}
+use Rattle.gm_syntax.specs.Spelling.{IsWord}
+use Rattle.gm_syntax.specs.Tokens.{Placed, words_of}
+use Rattle.gm_syntax.specs.Document.{Line, Entry, IsValidLine}
+use Rattle.gm_syntax.specs.LineViews.{plain}
+use Rattle.gm_syntax.proofs.NewWords.{mark_stands}
+use Rattle.gm_syntax.proofs.Changes.{standing_entry}
+use Rattle.gm_name.proofs.NameTests.{and_both}
+use Rattle.gm_name.specs.Names.{does_fit, is_path}
+use Rattle.gm_file.specs.Values.{argument}
+use Rattle.gm_file.specs.GoVersions.{strict_go}
+use Rattle.gm_file.specs.Directives.{Strict, Pair, Left, Right, Folder, Module, Replacing, Directive, DeclaresModule, DeclaresGo, Requires, Excludes, Replaces, Retracts, Kept, Verb, ForModule, ForGo, ForRequire, ForReplace, directive_of, is_arrow, main_verb, one_of, pair_of}
+use Rattle.gm_file.specs.Faults.{conflicts, directive_kinds, does_left_fit, is_go, is_module, is_same_left, is_same_right, is_same_version, left_version_kinds, path_kinds, pair_kinds, right_path_kinds, right_version_kinds, sides_kinds, unless}
+use Rattle.gm_file_edit.specs.About.{is_covered_by, is_replaced_by, requires_path}
+use Rattle.gm_file_edit.specs.Fates.{held_at}
+use Rattle.gm_file_edit.specs.NewWords.{left_words_of, made_mark, made_word, replace_words, right_words}
+use Rattle.gm_file_edit.specs.Renewing.{with_arguments, with_last}
+use Rattle.gm_file_edit.specs.Sound.{IsPairOfNames, IsSoundLeft, IsSoundRight, IsSoundVersion}
+use Rattle.gm_file_edit.proofs.Feeds.{byte-feed, go-feed, path-feed, version-feed}
+use Rattle.gm_file_edit.proofs.Folders.{path-no-folder}
+use Rattle.gm_file_edit.proofs.Leaving.{AreMild, IsMadeNew, clashes}
+use Rattle.gm_file_edit.proofs.Made.{AreArguments, IsFront, all-arguments, entry-made, held-by, made-no-mark, made-stands, made-value, one-are, one-argument, one-last, says-verb, two-are, two-arguments, two-last}
+use Rattle.gm_file_edit.proofs.Parts.{map-some}
+use Rattle.gm_file_edit.proofs.Renews.{IsRenewal, later-marked, module-later}
+use Rattle.gm_file_edit.proofs.Sound.{both-nil}
+
+-- ---- the module
+
+module-mild : (path : List ℕ) (d : Directive) → is_module d ≡ false → AreMild (DeclaresModule path) (Some d)
+module-mild path (DeclaresModule p) e = absurd cc
+module-mild path (DeclaresGo text) e = (refl, refl)
+module-mild path (Requires p) e = (refl, refl)
+module-mild path (Excludes p) e = (refl, refl)
+module-mild path (Replaces r) e = (refl, refl)
+module-mild path (Retracts ends) e = (refl, refl)
+module-mild path Kept e = (refl, refl)
+
+module-kinds : (path : List ℕ) → is_path path ≡ true → (earlier : List Directive) → list_any (clashes (DeclaresModule path)) earlier ≡ false → directive_kinds Strict earlier (DeclaresModule path) ≡ []
+unfolding directive_kinds
+module-kinds path h earlier clear = let none : list_any is_module earlier ≡ false = clear in rw (h, none) refl
+
+module-says : (path : List ℕ) → HasNoLineFeed path → directive_of ForModule (words_of (made_word path ∷ [])) ≡ Some (DeclaresModule path)
+unfolding directive_of
+module-says path plain = rw (made-value path plain) refl
+
+held-one : (words : List Word) (path : List ℕ) → directive_of ForModule words ≡ Some (DeclaresModule path) → (v : List ℕ) × (one_of words ≡ Some v)
+unfolding directive_of
+held-one words path e = let m = map-some DeclaresModule (one_of words) (DeclaresModule path) e in (m.0, m.1)
+
+module-made : (path : List ℕ) → is_path path ≡ true → (block : Option Placed) (line : Line Placed) (d : Directive) → held_at block line ≡ Some d → is_module d ≡ true → IsValidLine (is_some block) (plain line)
+    → IsMadeNew (DeclaresModule path) block line (with_last path block line)
+module-made path h block line (DeclaresModule old) held e stands =
+    let plain = path-feed path h in
+    let by = held-by block line (DeclaresModule old) held in
+    let verb : main_verb by.verb ≡ ForModule = says-verb (main_verb by.verb) (words_of by.arguments) (DeclaresModule old) by.says in
+    let one = held-one (words_of by.arguments) old (rw verb at by.says) in
+    let a = one-argument by.arguments one.0 one.1 in
+    let is : line ≡ Entry (by.front ++ a.0 ∷ []) by.suffix = by.is ∙ ap (λ (ws : List Placed). Entry (by.front ++ ws) by.suffix) a.1 in
+    entry-made (DeclaresModule path) (DeclaresModule old) block line (with_last path block line) by (made_word path ∷ []) held
+    (one-last block by.verb by.front line by.suffix path a.0 by.at is) stands (one-are path plain) (rw verb (module-says path plain)) (λ e. refl) (module-kinds path h)
+module-made path h block line (DeclaresGo text) held e stands = absurd cc
+module-made path h block line (Requires p) held e stands = absurd cc
+module-made path h block line (Excludes p) held e stands = absurd cc
+module-made path h block line (Replaces r) held e stands = absurd cc
+module-made path h block line (Retracts ends) held e stands = absurd cc
+module-made path h block line Kept held e stands = absurd cc
+
+pub module-renewal : (path : List ℕ) → is_path path ≡ true → IsRenewal is_module (DeclaresModule path) (with_last path)
+module-renewal path h = record { mild = module-mild path; made = module-made path h; later = module-later (DeclaresModule path) (module-mild path) }
+
+-- ---- the go version
+
+go-mild : (text : List ℕ) (d : Directive) → is_go d ≡ false → AreMild (DeclaresGo text) (Some d)
+go-mild text (DeclaresModule p) e = (refl, refl)
+go-mild text (DeclaresGo t) e = absurd cc
+go-mild text (Requires p) e = (refl, refl)
+go-mild text (Excludes p) e = (refl, refl)
+go-mild text (Replaces r) e = (refl, refl)
+go-mild text (Retracts ends) e = (refl, refl)
+go-mild text Kept e = (refl, refl)
+
+go-other : (d : Directive) → is_go d ≡ true → is_module d ≡ false
+go-other (DeclaresModule p) e = absurd cc
+go-other (DeclaresGo t) e = refl
+go-other (Requires p) e = refl
+go-other (Excludes p) e = refl
+go-other (Replaces r) e = refl
+go-other (Retracts ends) e = refl
+go-other Kept e = refl
+
+pub go-kinds : (text : List ℕ) → is_some (strict_go text) ≡ true → (earlier : List Directive) → list_any (clashes (DeclaresGo text)) earlier ≡ false → directive_kinds Strict earlier (DeclaresGo text) ≡ []
+unfolding directive_kinds
+go-kinds text h earlier clear = let none : list_any is_go earlier ≡ false = clear in rw (h, none) refl
+
+pub go-says : (text : List ℕ) → HasNoLineFeed text → directive_of ForGo (words_of (made_word text ∷ [])) ≡ Some (DeclaresGo text)
+unfolding directive_of
+go-says text plain = rw (made-value text plain) refl
+
+held-go : (words : List Word) (text : List ℕ) → directive_of ForGo words ≡ Some (DeclaresGo text) → (v : List ℕ) × (one_of words ≡ Some v)
+unfolding directive_of
+held-go words text e = let m = map-some DeclaresGo (one_of words) (DeclaresGo text) e in (m.0, m.1)
+
+go-made : (text : List ℕ) → is_some (strict_go text) ≡ true → (block : Option Placed) (line : Line Placed) (d : Directive) → held_at block line ≡ Some d → is_go d ≡ true → IsValidLine (is_some block) (plain line)
+    → IsMadeNew (DeclaresGo text) block line (with_last text block line)
+go-made text h block line (DeclaresGo old) held e stands =
+    let plain = go-feed text h in
+    let by = held-by block line (DeclaresGo old) held in
+    let verb : main_verb by.verb ≡ ForGo = says-verb (main_verb by.verb) (words_of by.arguments) (DeclaresGo old) by.says in
+    let one = held-go (words_of by.arguments) old (rw verb at by.says) in
+    let a = one-argument by.arguments one.0 one.1 in
+    let is : line ≡ Entry (by.front ++ a.0 ∷ []) by.suffix = by.is ∙ ap (λ (ws : List Placed). Entry (by.front ++ ws) by.suffix) a.1 in
+    entry-made (DeclaresGo text) (DeclaresGo old) block line (with_last text block line) by (made_word text ∷ []) held
+    (one-last block by.verb by.front line by.suffix text a.0 by.at is) stands (one-are text plain) (rw verb (go-says text plain)) (λ w. absurd cc) (go-kinds text h)
+go-made text h block line (DeclaresModule p) held e stands = absurd cc
+go-made text h block line (Requires p) held e stands = absurd cc
+go-made text h block line (Excludes p) held e stands = absurd cc
+go-made text h block line (Replaces r) held e stands = absurd cc
+go-made text h block line (Retracts ends) held e stands = absurd cc
+go-made text h block line Kept held e stands = absurd cc
+
+pub go-renewal : (text : List ℕ) → is_some (strict_go text) ≡ true → IsRenewal is_go (DeclaresGo text) (with_last text)
+go-renewal text h = record { mild = go-mild text; made = go-made text h; later = later-marked is_go (DeclaresGo text) (go-mild text) go-other }
+
+-- ---- a requirement
+
+require-mild : (p : Pair) (d : Directive) → AreMild (Requires p) (Some d)
+require-mild p (DeclaresModule q) = (refl, refl)
+require-mild p (DeclaresGo t) = (refl, refl)
+require-mild p (Requires q) = (refl, refl)
+require-mild p (Excludes q) = (refl, refl)
+require-mild p (Replaces r) = (refl, refl)
+require-mild p (Retracts ends) = (refl, refl)
+require-mild p Kept = (refl, refl)
+
+require-other : (path : List ℕ) (d : Directive) → requires_path path d ≡ true → is_module d ≡ false
+require-other path (DeclaresModule p) e = absurd cc
+require-other path (DeclaresGo t) e = refl
+require-other path (Requires p) e = refl
+require-other path (Excludes p) e = refl
+require-other path (Replaces r) e = refl
+require-other path (Retracts ends) e = refl
+require-other path Kept e = refl
+
+pub pair-kinds : (p : Pair) → IsPairOfNames p → does_fit p.0 p.1 ≡ true → pair_kinds p ≡ []
+pair-kinds p names fit = rw (names.0, names.1, fit) refl
+
+require-kinds : (p : Pair) → IsPairOfNames p → does_fit p.0 p.1 ≡ true → (earlier : List Directive) → directive_kinds Strict earlier (Requires p) ≡ []
+unfolding directive_kinds
+require-kinds p names fit earlier = pair-kinds p names fit
+
+require-says : (a : Placed) (p : Pair) → argument a.word ≡ Some p.0 → HasNoLineFeed p.1 → directive_of ForRequire (words_of (a ∷ made_word p.1 ∷ [])) ≡ Some (Requires p)
+unfolding directive_of
+require-says a p is plain = rw (is, made-value p.1 plain) refl
+
+held-pair : (words : List Word) (p : Pair) → directive_of ForRequire words ≡ Some (Requires p) → pair_of words ≡ Some p
+unfolding directive_of
+held-pair words p e = let m = map-some Requires (pair_of words) (Requires p) e in let same : m.0 ≡ p = cc in m.1 ∙ ap Some same
+
+-- the words of an existing line are valid words
+kept-word : (block : Option Placed) (verb : List ℕ) (front others : List Placed) (suffix : Option (List ℕ)) (a : Placed) (line : Line Placed) → IsFront block verb front → line ≡ Entry (front ++ a ∷ others) suffix → IsValidLine (is_some block) (plain line) → IsWord a.word
+kept-word None verb front others suffix a line at is stands =
+    let whole : line ≡ Entry (at.0 ∷ a ∷ others) suffix = is ∙ ap (λ (f : List Placed). Entry (f ++ a ∷ others) suffix) at.1 in
+    let entry = standing_entry false (words_of (at.0 ∷ a ∷ others)) suffix (subst (λ (l : Line Placed). IsValidLine false (plain l)) whole stands) in
+    entry.are_words.1.0
+kept-word (Some v) verb front others suffix a line at is stands =
+    let whole : line ≡ Entry (a ∷ others) suffix = is ∙ ap (λ (f : List Placed). Entry (f ++ a ∷ others) suffix) at.0 in
+    let entry = standing_entry true (words_of (a ∷ others)) suffix (subst (λ (l : Line Placed). IsValidLine true (plain l)) whole stands) in
+    entry.are_words.0
+
+require-made : (p : Pair) → IsPairOfNames p → does_fit p.0 p.1 ≡ true → (block : Option Placed) (line : Line Placed) (d : Directive) → held_at block line ≡ Some d → requires_path p.0 d ≡ true → IsValidLine (is_some block) (plain line)
+    → IsMadeNew (Requires p) block line (with_last p.1 block line)
+require-made p names fit block line (Requires q) held e stands =
+    let plain_version = version-feed p.1 names.1 in
+    let by = held-by block line (Requires q) held in
+    let verb : main_verb by.verb ≡ ForRequire = says-verb (main_verb by.verb) (words_of by.arguments) (Requires q) by.says in
+    let two = two-arguments by.arguments q (held-pair (words_of by.arguments) q (rw verb at by.says)) in
+    let same : q.0 ≡ p.0 = (bytes_eq-Decides q.0 p.0).0 e in
+    let path : argument two.0.word ≡ Some p.0 = two.3 ∙ ap Some same in
+    let is : line ≡ Entry (by.front ++ two.0 ∷ two.1 ∷ []) by.suffix = by.is ∙ ap (λ (ws : List Placed). Entry (by.front ++ ws) by.suffix) two.2 in
+    let word : IsWord two.0.word = kept-word block by.verb by.front (two.1 ∷ []) by.suffix two.0 line by.at is stands in
+    entry-made (Requires p) (Requires q) block line (with_last p.1 block line) by (two.0 ∷ made_word p.1 ∷ []) held
+    (two-last block by.verb by.front line by.suffix p.1 two.0 two.1 by.at is) stands (two-are two.0 p.0 p.1 word path plain_version) (subst (λ (v : Verb). directive_of v (words_of (two.0 ∷ made_word p.1 ∷ [])) ≡ Some (Requires p)) (sym verb) (require-says two.0 p path plain_version)) (λ w. absurd cc) (λ earlier clear. require-kinds p names fit earlier)
+require-made p names fit block line (DeclaresModule q) held e stands = absurd cc
+require-made p names fit block line (DeclaresGo q) held e stands = absurd cc
+require-made p names fit block line (Excludes q) held e stands = absurd cc
+require-made p names fit block line (Replaces r) held e stands = absurd cc
+require-made p names fit block line (Retracts ends) held e stands = absurd cc
+require-made p names fit block line Kept held e stands = absurd cc
+
+pub require-renewal : (p : Pair) → IsPairOfNames p → does_fit p.0 p.1 ≡ true → IsRenewal (requires_path p.0) (Requires p) (with_last p.1)
+require-renewal p names fit = record {
+  mild = λ d e. require-mild p d;
+  made = require-made p names fit;
+  later = later-marked (requires_path p.0) (Requires p) (λ d e. require-mild p d) (require-other p.0);
+}
+
+-- ---- a replace
+
+bytes-same : (a b : List ℕ) → bytes_eq a b ≡ false → bytes_eq b a ≡ false
+bytes-same a b e = elim (cases_Bool (bytes_eq b a)) [
+  | inl holds ↦ absurd (true≢false (sym ((bytes_eq-Decides a b).1 (sym ((bytes_eq-Decides b a).0 holds))) ∙ e))
+  | inr fails ↦ fails
+]
+
+and-none : (a b : Bool) → (a ≡ false) → (a && b) ≡ false
+and-none a b e = rw e refl
+
+version-same : (v w : Option (List ℕ)) → is_same_version v w ≡ true → v ≡ w
+version-same None None e = refl
+version-same None (Some w) e = absurd cc
+version-same (Some v) None e = absurd cc
+version-same (Some v) (Some w) e = ap Some ((bytes_eq-Decides v w).0 e)
+
+pub version-itself : (v : Option (List ℕ)) → is_same_version v v ≡ true
+version-itself None = refl
+version-itself (Some v) = (bytes_eq-Decides v v).1 refl
+
+same-left : (a b : Left) → is_same_left a b ≡ false → is_same_left b a ≡ false
+same-left a b e = elim (cases_Bool (is_same_left b a)) [
+  | inl holds ↦
+      let parts = and_both (bytes_eq b.path a.path) (is_same_version b.version a.version) holds in
+      let path : bytes_eq a.path b.path ≡ true = (bytes_eq-Decides a.path b.path).1 (sym ((bytes_eq-Decides b.path a.path).0 parts.0)) in
+      let version : is_same_version a.version b.version ≡ true = subst (λ (v : Option (List ℕ)). is_same_version v b.version ≡ true) (version-same b.version a.version parts.1) (version-itself b.version) in
+      let whole : is_same_left a b ≡ true = rw (path, version) refl in
+      absurd (true≢false (sym whole ∙ e))
+  | inr fails ↦ fails
+]
+
+not-covered : (left other : Left) (v : Option (List ℕ)) → is_covered_by left v other ≡ false → is_same_left other left ≡ false
+not-covered left other None e = and-none (bytes_eq other.path left.path) (is_same_version other.version left.version) e
+not-covered left other (Some version) e = e
+
+pub replace-mild : (r : Replacing) (d : Directive) → is_replaced_by r.0 d ≡ false → AreMild (Replaces r) (Some d)
+replace-mild r (DeclaresModule p) e = (refl, refl)
+replace-mild r (DeclaresGo t) e = (refl, refl)
+replace-mild r (Requires p) e = (refl, refl)
+replace-mild r (Excludes p) e = (refl, refl)
+replace-mild r (Replaces q) e =
+    let apart : is_same_left q.0 r.0 ≡ false = not-covered r.0 q.0 r.0.version e in
+    (and-none (is_same_left q.0 r.0) (not (is_same_right q.1 r.1)) apart, and-none (is_same_left r.0 q.0) (not (is_same_right r.1 q.1)) (same-left q.0 r.0 apart))
+replace-mild r (Retracts ends) e = (refl, refl)
+replace-mild r Kept e = (refl, refl)
+
+replace-other : (left : Left) (d : Directive) → is_replaced_by left d ≡ true → is_module d ≡ false
+replace-other left (DeclaresModule p) e = absurd cc
+replace-other left (DeclaresGo t) e = refl
+replace-other left (Requires p) e = refl
+replace-other left (Excludes p) e = refl
+replace-other left (Replaces r) e = refl
+replace-other left (Retracts ends) e = refl
+replace-other left Kept e = refl
+
+right-path-right : (right : Right) → IsSoundRight right → right_path_kinds right ≡ []
+right-path-right (Folder text) s = refl
+right-path-right (Module path version) s = rw s.0 refl
+
+right-version-right : (right : Right) → IsSoundRight right → right_version_kinds right ≡ []
+right-version-right (Folder text) s = refl
+right-version-right (Module path version) s = rw s.1 refl
+
+left-version-right : (version : Option (List ℕ)) → IsSoundVersion version → left_version_kinds version ≡ []
+left-version-right None s = refl
+left-version-right (Some version) s = rw s refl
+
+sides-right : (left : Left) (right : Right) → IsSoundLeft left → IsSoundRight right → does_left_fit left.path left.version ≡ true → sides_kinds left right ≡ []
+sides-right left right l r fit =
+    let path : path_kinds left.path ≡ [] = rw l.0 refl in
+    rw (path, right-path-right right r, left-version-right left.version l.1, right-version-right right r, fit) refl
+
+pub replace-kinds : (r : Replacing) → IsSoundLeft r.0 → IsSoundRight r.1 → does_left_fit r.0.path r.0.version ≡ true → (earlier : List Directive) → list_any (conflicts r) earlier ≡ false → directive_kinds Strict earlier (Replaces r) ≡ []
+unfolding directive_kinds
+replace-kinds r left right fit earlier clear = both-nil (sides_kinds r.0 r.1) (unless (not (list_any (conflicts r) earlier)) ConflictingReplace) (sides-right r.0 r.1 left right fit) (rw clear refl)
+
+no-arrow : (value : List ℕ) → is_arrow (new_word value) ≡ false
+no-arrow value = elim (cases_Bool (can_be_bare value)) [ inl e ↦ rw e refl | inr e ↦ rw e refl ]
+
+replace-says-of : (path : List ℕ) (version : Option (List ℕ)) (right : Right) → is_path path ≡ true → IsSoundVersion version → IsSoundRight right
+    → directive_of ForReplace (words_of (left_words_of path version ++ made_mark Arrow ∷ right_words right)) ≡ Some (Replaces (record { path = path; version = version }, right))
+unfolding directive_of
+replace-says-of path None (Folder text) p v r =
+    rw (no-arrow path, made-value path (path-feed path p), made-value text (byte-feed text r.1), r.0) refl
+replace-says-of path None (Module q w) p v r =
+    rw (no-arrow path, made-value path (path-feed path p), made-value q (path-feed q r.0), made-value w (version-feed w r.1), path-no-folder q r.0) refl
+replace-says-of path (Some version) (Folder text) p v r =
+    rw (no-arrow path, no-arrow version, made-value path (path-feed path p), made-value version (version-feed version v), made-value text (byte-feed text r.1), r.0) refl
+replace-says-of path (Some version) (Module q w) p v r =
+    rw (no-arrow path, no-arrow version, made-value path (path-feed path p), made-value version (version-feed version v), made-value q (path-feed q r.0), made-value w (version-feed w r.1), path-no-folder q r.0) refl
+
+pub replace-says : (r : Replacing) → IsSoundLeft r.0 → IsSoundRight r.1 → directive_of ForReplace (words_of (replace_words r)) ≡ Some (Replaces r)
+replace-says r left right = replace-says-of r.0.path r.0.version r.1 left.0 left.1 right
+
+replace-are-of : (path : List ℕ) (version : Option (List ℕ)) (right : Right) → is_path path ≡ true → IsSoundVersion version → IsSoundRight right
+    → AreArguments (left_words_of path version ++ made_mark Arrow ∷ right_words right)
+replace-are-of path None (Folder text) p v r = record {
+  words = (made-stands path (path-feed path p), (mark_stands Arrow, (made-stands text (byte-feed text r.1), tt)));
+  filled = omega arith;
+  opens_nothing = made-no-mark 40 text;
+  closes_nothing = made-no-mark 41 path;
+  no_block = refl;
+}
+replace-are-of path None (Module q w) p v r = record {
+  words = (made-stands path (path-feed path p), (mark_stands Arrow, (made-stands q (path-feed q r.0), (made-stands w (version-feed w r.1), tt))));
+  filled = omega arith;
+  opens_nothing = made-no-mark 40 w;
+  closes_nothing = made-no-mark 41 path;
+  no_block = refl;
+}
+replace-are-of path (Some version) (Folder text) p v r = record {
+  words = (made-stands path (path-feed path p), (made-stands version (version-feed version v), (mark_stands Arrow, (made-stands text (byte-feed text r.1), tt))));
+  filled = omega arith;
+  opens_nothing = made-no-mark 40 text;
+  closes_nothing = made-no-mark 41 path;
+  no_block = refl;
+}
+replace-are-of path (Some version) (Module q w) p v r = record {
+  words = (made-stands path (path-feed path p), (made-stands version (version-feed version v), (mark_stands Arrow, (made-stands q (path-feed q r.0), (made-stands w (version-feed w r.1), tt)))));
+  filled = omega arith;
+  opens_nothing = made-no-mark 40 w;
+  closes_nothing = made-no-mark 41 path;
+  no_block = refl;
+}
+
+pub replace-are : (r : Replacing) → IsSoundLeft r.0 → IsSoundRight r.1 → AreArguments (replace_words r)
+replace-are r left right = replace-are-of r.0.path r.0.version r.1 left.0 left.1 right
+
+replace-made : (r : Replacing) → IsSoundLeft r.0 → IsSoundRight r.1 → does_left_fit r.0.path r.0.version ≡ true → (block : Option Placed) (line : Line Placed) (d : Directive)
+    → held_at block line ≡ Some d → is_replaced_by r.0 d ≡ true → IsValidLine (is_some block) (plain line) → IsMadeNew (Replaces r) block line (with_arguments (replace_words r) block line)
+replace-made r left right fit block line (Replaces q) held e stands =
+    let by = held-by block line (Replaces q) held in
+    let verb : main_verb by.verb ≡ ForReplace = says-verb (main_verb by.verb) (words_of by.arguments) (Replaces q) by.says in
+    entry-made (Replaces r) (Replaces q) block line (with_arguments (replace_words r) block line) by (replace_words r) held
+    (all-arguments block by.verb by.front by.arguments line by.suffix (replace_words r) by.at by.is) stands (replace-are r left right) (rw verb (replace-says r left right)) (λ w. absurd cc)
+    (λ earlier clear. replace-kinds r left right fit earlier clear)
+replace-made r left right fit block line (DeclaresModule p) held e stands = absurd cc
+replace-made r left right fit block line (DeclaresGo t) held e stands = absurd cc
+replace-made r left right fit block line (Requires p) held e stands = absurd cc
+replace-made r left right fit block line (Excludes p) held e stands = absurd cc
+replace-made r left right fit block line (Retracts ends) held e stands = absurd cc
+replace-made r left right fit block line Kept held e stands = absurd cc
+
+pub replace-renewal : (r : Replacing) → IsSoundLeft r.0 → IsSoundRight r.1 → does_left_fit r.0.path r.0.version ≡ true → IsRenewal (is_replaced_by r.0) (Replaces r) (with_arguments (replace_words r))
+replace-renewal r left right fit = record {
+  mild = replace-mild r;
+  made = replace-made r left right fit;
+  later = later-marked (is_replaced_by r.0) (Replaces r) (replace-mild r) (replace-other r.0);
+}

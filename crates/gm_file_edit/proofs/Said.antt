@@ -1,0 +1,312 @@
+-- What the lines of a file say after an operation.
+use Rattle.std.proofs.Common.{◌≡◌, ℕ, ◌||◌, not, Bool, true, false, List, [], ◌∷◌, ◌++◌, take, drop, Option, Some, None, is_some, refl, sym, ap, subst, ◌∙◌, append-nil, append_assoc, inl, inr}
+use Rattle.std.specs.Prelude.{filter}
+use Rattle.std.specs.Option.{option_to_list}
+use Rattle.std.specs.List.{list_all, list_any}
+use Rattle.std.proofs.lemmas.Bool.{cases_Bool}
+use Rattle.std.proofs.lemmas.List.{take-append-drop}
+use Rattle.std.proofs.lemmas.List.Elements.{filter-append, filter_map-append}
+use Rattle.gm_syntax.specs.Tokens.{Placed}
+use Rattle.gm_syntax.specs.Document.{Line, Blank, Comment, Open, Close, Entry, IsValidLine}
+use Rattle.gm_syntax.specs.LineViews.{plain}
+use Rattle.gm_file.specs.Directives.{Directive, block_after_lines, block_after_line, item_at}
+use Rattle.gm_file_edit.specs.declared.adding.AddedVerb.{AddedVerb}
+use Rattle.gm_file_edit.specs.declared.adding.Spot.{Spot}
+use Rattle.gm_file_edit.specs.Adding.{added, added_at, after_first_that, spot_after_first, spot_after_last, entry_at, is_of, past_block, insert_at_spot, single, verb_text}
+use Rattle.gm_file_edit.specs.Fates.{Begun, Fate, begin, dropped, dropping_from, held_at, is_emptied, itself, kept, leaves_nothing, remaining_from, opened_lines, passes, renewed, renewing_from, with_line}
+use Rattle.gm_file_edit.specs.Searching.{is_there, is_there_from}
+use Rattle.gm_file_edit.proofs.AddingSound.{Fits, IsAddition, IsIn, IsVerbSpot, back-sound, entry-fits, first-is-in, held-append, held_from, last-is, passing-level, past-outside}
+use Rattle.gm_file_edit.proofs.Leaving.{IsMadeNew, emptied-inner}
+use Rattle.gm_file_edit.proofs.Sound.{SoundFrom}
+
+-- ---- lists of directives
+
+abbrev pub others : (Directive → Bool) → Directive → Bool
+others test d = not (test d)
+
+filter-one : (p : Directive → Bool) (d : Directive) (ds : List Directive) → p d ≡ true → filter p (d ∷ ds) ≡ d ∷ filter p ds
+filter-one p d ds e = rw e refl
+
+filter-none : (p : Directive → Bool) (d : Directive) (ds : List Directive) → p d ≡ false → filter p (d ∷ ds) ≡ filter p ds
+filter-none p d ds e = rw e refl
+
+other-false : (test : Directive → Bool) (d : Directive) → test d ≡ true → others test d ≡ false
+other-false test d e = ap not e
+
+other-true : (test : Directive → Bool) (d : Directive) → test d ≡ false → others test d ≡ true
+other-true test d e = ap not e
+
+-- filtering a second time changes nothing
+pub others-twice : (test : Directive → Bool) (ds : List Directive) → filter (others test) (filter (others test) ds) ≡ filter (others test) ds
+others-twice test [] = refl
+others-twice test (d ∷ ds) = elim (cases_Bool (test d)) [
+  | inl holds ↦ rw holds (others-twice test ds)
+  | inr fails ↦ rw fails (filter-one (others test) d (filter (others test) ds) (other-true test d fails) ∙ ap (λ (es : List Directive). d ∷ es) (others-twice test ds))
+]
+
+-- none of the others passes the test
+none-of-others : (test : Directive → Bool) (ds : List Directive) → filter test (filter (others test) ds) ≡ []
+none-of-others test [] = refl
+none-of-others test (d ∷ ds) = elim (cases_Bool (test d)) [
+  | inl holds ↦ rw holds (none-of-others test ds)
+  | inr fails ↦ rw fails (filter-none test d (filter (others test) ds) fails ∙ none-of-others test ds)
+]
+
+or-none : (a b : Bool) → (a || b) ≡ false → (a ≡ false) × (b ≡ false)
+or-none true b e = absurd cc
+or-none false b e = (refl, e)
+
+or-neither : (a b : Bool) → a ≡ false → b ≡ false → (a || b) ≡ false
+or-neither a b e f = rw (e, f) refl
+
+pub none-any : (test : Directive → Bool) (ds : List Directive) → filter test ds ≡ [] → list_any test ds ≡ false
+none-any test [] e = refl
+none-any test (d ∷ ds) e = elim (cases_Bool (test d)) [
+  | inl holds ↦ let wrong : d ∷ filter test ds ≡ [] = sym (filter-one test d ds holds) ∙ e in absurd cc
+  | inr fails ↦ or-neither (test d) (list_any test ds) fails (none-any test ds (sym (filter-none test d ds fails) ∙ e))
+]
+
+pub others-none : (test : Directive → Bool) (ds : List Directive) → list_any test (filter (others test) ds) ≡ false
+others-none test ds = none-any test (filter (others test) ds) (none-of-others test ds)
+
+no-filter : (test : Directive → Bool) (ds : List Directive) → list_any test ds ≡ false → filter test ds ≡ []
+no-filter test [] e = refl
+no-filter test (d ∷ ds) e = let parts = or-none (test d) (list_any test ds) e in filter-none test d ds parts.0 ∙ no-filter test ds parts.1
+
+-- the same with the directive that a line holds, if any
+gone-held : (test : Directive → Bool) (held : Option Directive) (rest : List Directive) → passes test held ≡ true → filter (others test) (option_to_list held ++ rest) ≡ filter (others test) rest
+gone-held test None rest e = absurd cc
+gone-held test (Some d) rest e = filter-none (others test) d rest (other-false test d e)
+
+stay-held : (test : Directive → Bool) (held : Option Directive) (rest : List Directive) → passes test held ≡ false → filter (others test) (option_to_list held ++ rest) ≡ option_to_list held ++ filter (others test) rest
+stay-held test None rest e = refl
+stay-held test (Some d) rest e = filter-one (others test) d rest (other-true test d e)
+
+past-held : (test : Directive → Bool) (held : Option Directive) (rest : List Directive) → passes test held ≡ false → filter test (option_to_list held ++ rest) ≡ filter test rest
+past-held test None rest e = refl
+past-held test (Some d) rest e = filter-none test d rest e
+
+same-front : (p : Directive → Bool) (front xs ys : List Directive) → filter p xs ≡ filter p ys → filter p (front ++ xs) ≡ filter p (front ++ ys)
+same-front p front xs ys e = filter-append p front xs ∙ ap (λ (ds : List Directive). filter p front ++ ds) e ∙ sym (filter-append p front ys)
+
+-- ---- the remaining lines say what the lines that stay say
+
+abbrev pub opened : Option Begun → List (Line Placed)
+opened None = []
+opened (Some b) = opened_lines b
+
+blank-held : (inner : List Fate) (block : Option Placed) (lines : List (Line Placed)) → list_all leaves_nothing inner ≡ true → held_from block (kept inner ++ lines) ≡ held_from block lines
+unfolding item_at
+blank-held [] block lines e = refl
+blank-held (None ∷ inner) block lines e = blank-held inner block lines e
+blank-held (Some Blank ∷ inner) block lines e = blank-held inner block lines e
+blank-held (Some (Comment text) ∷ inner) block lines e = absurd cc
+blank-held (Some (Open verb suffix) ∷ inner) block lines e = absurd cc
+blank-held (Some (Close suffix) ∷ inner) block lines e = absurd cc
+blank-held (Some (Entry words suffix) ∷ inner) block lines e = absurd cc
+
+opened-more : (b : Begun) (fate : Fate) (fates : List Fate) → opened_lines (with_line b fate) ++ kept fates ≡ opened_lines b ++ kept (fate ∷ fates)
+opened-more b fate fates =
+    ap (λ (ls : List (Line Placed)). Open b.verb b.suffix ∷ ls)
+    (ap (λ (ls : List (Line Placed)). ls ++ kept fates) (filter_map-append itself b.inner (fate ∷ [])) ∙ append_assoc (kept b.inner) (kept (fate ∷ [])) (kept fates)
+    ∙ ap (λ (ls : List (Line Placed)). kept b.inner ++ ls) (sym (filter_map-append itself (fate ∷ []) fates)))
+
+same-behind : (block : Option Placed) (front xs ys : List (Line Placed)) → ((b : Option Placed) → held_from b xs ≡ held_from b ys) → held_from block (front ++ xs) ≡ held_from block (front ++ ys)
+same-behind block [] xs ys h = h block
+same-behind block (line ∷ front) xs ys h = ap (λ (ds : List Directive). option_to_list (held_at block line) ++ ds) (same-behind (block_after_line block line) front xs ys h)
+
+closing-held : (after : Bool) (b : Begun) (suffix : Option (List ℕ)) (fates : List Fate) → ((f : Bool) → held_from None (remaining_from f None fates) ≡ held_from None (kept fates))
+    → held_from None (remaining_from after (Some b) (Some (Close suffix) ∷ fates)) ≡ held_from None (opened_lines b ++ kept (Some (Close suffix) ∷ fates))
+unfolding remaining_from item_at
+closing-held after b suffix fates next = elim (cases_Bool (is_emptied b.suffix b.inner suffix)) [
+  | inl holds ↦ rw holds (next true ∙ sym (blank-held b.inner (Some b.verb) (Close suffix ∷ kept fates) (emptied-inner b.suffix b.inner suffix holds)))
+  | inr fails ↦ rw fails (same-behind (Some b.verb) (kept b.inner) (Close suffix ∷ remaining_from false None fates) (Close suffix ∷ kept fates) (λ block. next false))
+]
+
+pub left-held : (after : Bool) (b : Option Begun) (fates : List Fate) → held_from None (remaining_from after b fates) ≡ held_from None (opened b ++ kept fates)
+unfolding remaining_from item_at
+left-held after None [] = refl
+left-held after (Some b) [] = ap (held_from None) (sym (append-nil (opened_lines b)))
+left-held after None (None ∷ fates) = left-held after None fates
+left-held true None (Some Blank ∷ fates) = left-held false None fates
+left-held false None (Some Blank ∷ fates) = left-held false None fates
+left-held after None (Some (Comment text) ∷ fates) = left-held false None fates
+left-held after None (Some (Open verb suffix) ∷ fates) = left-held false (Some (begin verb suffix)) fates
+left-held after None (Some (Close suffix) ∷ fates) = left-held false None fates
+left-held after None (Some (Entry words suffix) ∷ fates) = ap (λ (ds : List Directive). option_to_list (held_at None (Entry words suffix)) ++ ds) (left-held false None fates)
+left-held after (Some b) (Some (Close suffix) ∷ fates) = closing-held after b suffix fates (λ f. left-held f None fates)
+left-held after (Some b) (None ∷ fates) = left-held after (Some (with_line b None)) fates ∙ ap (held_from None) (opened-more b None fates)
+left-held after (Some b) (Some Blank ∷ fates) = left-held after (Some (with_line b (Some Blank))) fates ∙ ap (held_from None) (opened-more b (Some Blank) fates)
+left-held after (Some b) (Some (Comment text) ∷ fates) = left-held after (Some (with_line b (Some (Comment text)))) fates ∙ ap (held_from None) (opened-more b (Some (Comment text)) fates)
+left-held after (Some b) (Some (Open verb suffix) ∷ fates) = left-held after (Some (with_line b (Some (Open verb suffix)))) fates ∙ ap (held_from None) (opened-more b (Some (Open verb suffix)) fates)
+left-held after (Some b) (Some (Entry words suffix) ∷ fates) = left-held after (Some (with_line b (Some (Entry words suffix)))) fates ∙ ap (held_from None) (opened-more b (Some (Entry words suffix)) fates)
+
+-- ---- what is said after entries are removed
+
+dropping-held : (test : Directive → Bool) (block : Option Placed) (lines : List (Line Placed)) → held_from block (kept (dropping_from test block lines)) ≡ filter (others test) (held_from block lines)
+dropping-held test block [] = refl
+dropping-held test block (line ∷ lines) =
+    let behind : Option Placed = block_after_line block line in
+    let rest : List Directive = held_from behind lines in
+    elim (cases_Bool (passes test (held_at block line))) [
+      | inl holds ↦
+          rw holds (ap (λ (b : Option Placed). held_from b (kept (dropping_from test behind lines))) (sym (passing-level test block line holds)) ∙ dropping-held test behind lines ∙ sym (gone-held test (held_at block line) rest holds))
+      | inr fails ↦ rw fails (ap (λ (ds : List Directive). option_to_list (held_at block line) ++ ds) (dropping-held test behind lines) ∙ sym (stay-held test (held_at block line) rest fails))
+    ]
+
+-- a drop leaves exactly the other directives
+pub dropped-held : (test : Directive → Bool) (lines : List (Line Placed)) → held_from None (dropped test lines) ≡ filter (others test) (held_from None lines)
+dropped-held test lines = left-held false None (dropping_from test None lines) ∙ dropping-held test None lines
+
+-- ---- what is said after an entry is rewritten
+
+abbrev pub Makes : (Directive → Bool) → Directive → (Option Placed → Line Placed → Line Placed) → Type 0
+Makes test said make = (block : Option Placed) (line : Line Placed) (d : Directive) → held_at block line ≡ Some d → test d ≡ true → IsValidLine (is_some block) (plain line) → IsMadeNew said block line (make block line)
+
+held-some : (test : Directive → Bool) (held : Option Directive) → passes test held ≡ true → (d : Directive) × (held ≡ Some d) × (test d ≡ true)
+held-some test None e = absurd cc
+held-some test (Some d) e = (d, refl, e)
+
+made-held : (said : Directive) (block : Option Placed) (line next : Line Placed) (back : List (Line Placed)) → IsMadeNew said block line next → held_from block (next ∷ back) ≡ said ∷ held_from block back
+made-held said block line next back made =
+    ap (λ (l : Line Placed). held_from block (l ∷ back)) made.is_entry ∙ ap (λ (o : Option Directive). option_to_list o ++ held_from block back) made.holds
+
+-- the first matching entry is rewritten, and the later ones are removed
+first-held : (test : Directive → Bool) (said : Directive) (make : Option Placed → Line Placed → Line Placed) → Makes test said make → (block : Option Placed) (line : Line Placed) (lines : List (Line Placed))
+    → passes test (held_at block line) ≡ true → IsValidLine (is_some block) (plain line)
+    → held_from block (make block line ∷ kept (dropping_from test (block_after_line block line) lines)) ≡ said ∷ filter (others test) (held_from (block_after_line block line) lines)
+first-held test said make makes block line lines holds stands =
+    let h = held-some test (held_at block line) holds in
+    let behind : Option Placed = block_after_line block line in
+    made-held said block line (make block line) (kept (dropping_from test behind lines)) (makes block line h.0 h.1 h.2 stands)
+    ∙ ap (λ (b : Option Placed). said ∷ held_from b (kept (dropping_from test behind lines))) (sym (passing-level test block line holds))
+    ∙ ap (λ (ds : List Directive). said ∷ ds) (dropping-held test behind lines)
+
+renewing-others : (test : Directive → Bool) (said : Directive) (make : Option Placed → Line Placed → Line Placed) → test said ≡ true → Makes test said make
+    → (earlier : List Directive) (block : Option Placed) (lines : List (Line Placed)) → SoundFrom earlier block lines
+    → filter (others test) (held_from block (kept (renewing_from test make block lines))) ≡ filter (others test) (held_from block lines)
+renewing-others test said make own makes earlier block [] sound = refl
+renewing-others test said make own makes earlier block (line ∷ lines) sound =
+    let behind : Option Placed = block_after_line block line in
+    let rest : List Directive = held_from behind lines in
+    elim (cases_Bool (passes test (held_at block line))) [
+      | inl holds ↦
+          rw holds (ap (filter (others test)) (first-held test said make makes block line lines holds sound.0) ∙ filter-none (others test) said (filter (others test) rest) (other-false test said own)
+          ∙ others-twice test rest ∙ sym (gone-held test (held_at block line) rest holds))
+      | inr fails ↦
+          rw fails (same-front (others test) (option_to_list (held_at block line)) (held_from behind (kept (renewing_from test make behind lines))) rest
+          (renewing-others test said make own makes (earlier ++ option_to_list (held_at block line)) behind lines sound.2))
+    ]
+
+or-second : (a b : Bool) → a ≡ false → (a || b) ≡ true → b ≡ true
+or-second a b e f = ap (λ (x : Bool). x || b) (sym e) ∙ f
+
+renewing-alone : (test : Directive → Bool) (said : Directive) (make : Option Placed → Line Placed → Line Placed) → test said ≡ true → Makes test said make
+    → (earlier : List Directive) (block : Option Placed) (lines : List (Line Placed)) → SoundFrom earlier block lines → is_there_from test block lines ≡ true
+    → filter test (held_from block (kept (renewing_from test make block lines))) ≡ said ∷ []
+renewing-alone test said make own makes earlier block [] sound there = absurd cc
+renewing-alone test said make own makes earlier block (line ∷ lines) sound there =
+    let behind : Option Placed = block_after_line block line in
+    let rest : List Directive = held_from behind lines in
+    elim (cases_Bool (passes test (held_at block line))) [
+      | inl holds ↦
+          rw holds (ap (filter test) (first-held test said make makes block line lines holds sound.0) ∙ filter-one test said (filter (others test) rest) own ∙ ap (λ (ds : List Directive). said ∷ ds) (none-of-others test rest))
+      | inr fails ↦
+          rw fails (past-held test (held_at block line) (held_from behind (kept (renewing_from test make behind lines))) fails
+          ∙ renewing-alone test said make own makes (earlier ++ option_to_list (held_at block line)) behind lines sound.2 (or-second (passes test (held_at block line)) (is_there_from test behind lines) fails there))
+    ]
+
+pub renewed-others : (test : Directive → Bool) (said : Directive) (make : Option Placed → Line Placed → Line Placed) → test said ≡ true → Makes test said make
+    → (lines : List (Line Placed)) → SoundFrom [] None lines → filter (others test) (held_from None (renewed test make lines)) ≡ filter (others test) (held_from None lines)
+renewed-others test said make own makes lines sound = ap (filter (others test)) (left-held false None (renewing_from test make None lines)) ∙ renewing-others test said make own makes [] None lines sound
+
+pub renewed-alone : (test : Directive → Bool) (said : Directive) (make : Option Placed → Line Placed → Line Placed) → test said ≡ true → Makes test said make
+    → (lines : List (Line Placed)) → SoundFrom [] None lines → is_there test lines ≡ true → filter test (held_from None (renewed test make lines)) ≡ said ∷ []
+renewed-alone test said make own makes lines sound there = ap (filter test) (left-held false None (renewing_from test make None lines)) ∙ renewing-alone test said make own makes [] None lines sound there
+
+-- ---- what is said after an entry is added
+
+-- the list after is the list before with a new directive inserted
+pub record IsPutIn (new : Directive) (before after : List Directive) : Type 0 where
+  pub front : List Directive
+  pub back : List Directive
+  pub was : before ≡ front ++ back
+  pub is : after ≡ front ++ new ∷ back
+
+fits-held : (new : Directive) (block : Option Placed) (line : Line Placed) (back : List (Line Placed)) → Fits block new line → held_from block (line ∷ back) ≡ new ∷ held_from block back
+fits-held new block line back fits =
+    ap (λ (o : Option Directive). option_to_list o ++ held_from (block_after_line block line) back) fits.holds ∙ ap (λ (b : Option Placed). new ∷ held_from b back) fits.level
+
+line-put : (new : Directive) (front back : List (Line Placed)) (line : Line Placed) → Fits (block_after_lines None front) new line → IsPutIn new (held_from None (front ++ back)) (held_from None (front ++ line ∷ back))
+line-put new front back line fits = record {
+  front = held_from None front;
+  back = held_from (block_after_lines None front) back;
+  was = held-append None front back;
+  is = held-append None front (line ∷ back) ∙ ap (λ (ds : List Directive). held_from None front ++ ds) (fits-held new (block_after_lines None front) line back fits);
+}
+
+blank-first : (block : Option Placed) (back : List (Line Placed)) → held_from block (Blank ∷ back) ≡ held_from block back
+unfolding item_at
+blank-first block back = refl
+
+alone-put : (new : Directive) (front back : List (Line Placed)) (line : Line Placed) → block_after_lines None front ≡ None → Fits None new line
+    → IsPutIn new (held_from None (front ++ back)) (held_from None (front ++ Blank ∷ line ∷ back))
+alone-put new front back line outside fits =
+    let here : Fits (block_after_lines None front) new line = subst (λ (b : Option Placed). Fits b new line) (sym outside) fits in record {
+      front = held_from None front;
+      back = held_from (block_after_lines None front) back;
+      was = held-append None front back;
+      is =
+          held-append None front (Blank ∷ line ∷ back)
+          ∙ ap (λ (ds : List Directive). held_from None front ++ ds) (blank-first (block_after_lines None front) (line ∷ back) ∙ fits-held new (block_after_lines None front) line back here);
+    }
+
+last-put : (new : Directive) (lines : List (Line Placed)) (line : Line Placed) → Fits None new line → SoundFrom [] None lines → IsPutIn new (held_from None lines) (held_from None (lines ++ Blank ∷ line ∷ []))
+last-put new lines line fits sound =
+    let same : lines ≡ lines ++ [] = sym (append-nil lines) in
+    let whole : SoundFrom [] None (lines ++ []) = subst (SoundFrom [] None) same sound in
+    subst (λ (ls : List (Line Placed)). IsPutIn new (held_from None ls) (held_from None (lines ++ Blank ∷ line ∷ []))) (append-nil lines) (alone-put new lines [] line (back-sound [] None lines [] whole).0 fits)
+
+added-at-put : (v : AddedVerb) (arguments : List Placed) (new : Directive) (lines : List (Line Placed)) → IsAddition v arguments new → SoundFrom [] None lines
+    → (o : Option Spot) → ((spot : Spot) → o ≡ Some spot → IsVerbSpot v None lines spot) → IsPutIn new (held_from None lines) (held_from None (added_at (verb_text v) arguments lines o))
+added-at-put v arguments new lines so sound None is = last-put new lines (single (verb_text v) arguments) (entry-fits v arguments new None tt so) sound
+added-at-put v arguments new lines so sound (Some spot) is =
+    let front : List (Line Placed) = take spot.before lines in
+    let back : List (Line Placed) = drop spot.before lines in
+    let here = is spot refl in
+    let entry : Line Placed = entry_at spot.inside (verb_text v) arguments in
+    subst (λ (ls : List (Line Placed)). IsPutIn new (held_from None ls) (held_from None (front ++ entry ∷ back))) (take-append-drop spot.before lines)
+    (line-put new front back entry (subst (λ (b : Bool). Fits (block_after_lines None front) new (entry_at b (verb_text v) arguments)) here.0.inside (entry-fits v arguments new (block_after_lines None front) here.1 so)))
+
+pub added-put : (v : AddedVerb) (arguments : List Placed) (new : Directive) (lines : List (Line Placed)) → IsAddition v arguments new → SoundFrom [] None lines
+    → IsPutIn new (held_from None lines) (held_from None (added (is_of v) (verb_text v) arguments lines))
+unfolding added
+added-put v arguments new lines so sound = added-at-put v arguments new lines so sound (spot_after_last (is_of v) None lines) (last-is v None lines)
+
+behind-put : (new : Directive) (line : Line Placed) (lines : List (Line Placed)) → Fits None new line → SoundFrom [] None lines
+    → (o : Option Spot) → ((spot : Spot) → o ≡ Some spot → IsIn None lines spot) → IsPutIn new (held_from None lines) (held_from None (insert_at_spot (Blank ∷ line ∷ []) lines o))
+behind-put new line lines fits sound None is = last-put new lines line fits sound
+behind-put new line lines fits sound (Some spot) is =
+    let n : ℕ = past_block lines spot in
+    subst (λ (ls : List (Line Placed)). IsPutIn new (held_from None ls) (held_from None (take n lines ++ Blank ∷ line ∷ drop n lines))) (take-append-drop n lines)
+    (alone-put new (take n lines) (drop n lines) line (past-outside lines spot sound (is spot refl)) fits)
+
+pub after-first-put : (test : Directive → Bool) (new : Directive) (line : Line Placed) (lines : List (Line Placed)) → Fits None new line → SoundFrom [] None lines
+    → IsPutIn new (held_from None lines) (held_from None (after_first_that test (Blank ∷ line ∷ []) lines))
+unfolding after_first_that
+after-first-put test new line lines fits sound = behind-put new line lines fits sound (spot_after_first test None lines) (first-is-in test None lines)
+
+pub put-others : (test : Directive → Bool) (new : Directive) (before after : List Directive) → test new ≡ true → IsPutIn new before after → filter (others test) after ≡ filter (others test) before
+put-others test new before after own put =
+    ap (filter (others test)) put.is ∙ same-front (others test) put.front (new ∷ put.back) put.back (filter-none (others test) new put.back (other-false test new own)) ∙ ap (filter (others test)) (sym put.was)
+
+nil-both : (xs ys : List Directive) → xs ++ ys ≡ [] → (xs ≡ []) × (ys ≡ [])
+nil-both [] ys e = (refl, e)
+nil-both (x ∷ xs) ys e = absurd cc
+
+pub put-alone : (test : Directive → Bool) (new : Directive) (before after : List Directive) → test new ≡ true → list_any test before ≡ false → IsPutIn new before after → filter test after ≡ new ∷ []
+put-alone test new before after own none put =
+    let nothing : filter test put.front ++ filter test put.back ≡ [] = sym (filter-append test put.front put.back) ∙ ap (filter test) (sym put.was) ∙ no-filter test before none in
+    let parts = nil-both (filter test put.front) (filter test put.back) nothing in
+    ap (filter test) put.is ∙ filter-append test put.front (new ∷ put.back) ∙ ap (λ (ds : List Directive). ds ++ filter test (new ∷ put.back)) parts.0
+    ∙ filter-one test new put.back own ∙ ap (λ (ds : List Directive). new ∷ ds) parts.1

@@ -1,0 +1,102 @@
+-- The arguments of a parsed operation are valid.
+use Rattle.std.proofs.Common.{◌≡◌, ℕ, true, List, Some, is_some, subst, inl, inr}
+use Rattle.std.proofs.lemmas.Bool.{cases_Bool}
+use Rattle.gm_name.specs.Names.{is_path, is_version}
+use Rattle.gm_file.specs.Values.{is_folder}
+use Rattle.gm_file.specs.GoVersions.{strict_go}
+use Rattle.gm_file.specs.Directives.{Pair, pair, Left, left_without, Right, Folder, Replacing, replacing}
+use Rattle.gm_file_edit.specs.declared.name.Name.{Name}
+use Rattle.gm_file_edit.specs.declared.name.Name.TheVariants as name
+use Rattle.gm_file_edit.specs.Edits.{Edit, SetModule, SetGo, SetRequire, DropRequire, AddExclude, DropExclude, SetReplace, DropReplace, AddRetract, DropRetract, both_versions_in, split_at_byte, edit_in, go_text_in, has_byte, inside_brackets, interval_in, is_bracketed, left_in, left_of_pair, module_of_pair, name_in, named, named_in, pair_in, path_and_version_in, path_in, replacing_in, right_in, sides_in, trimmed, two_versions_in, version_in}
+use Rattle.gm_file_edit.specs.Sound.{AreVersions, IsPairOfNames, IsSoundEdit, IsSoundLeft, IsSoundRight}
+use Rattle.gm_file_edit.proofs.Feeds.{if-some, if-other}
+use Rattle.gm_file_edit.proofs.Parts.{both-are, map-some, then-some}
+
+path-sound : (text path : List ℕ) → path_in text ≡ Some path → is_path path ≡ true
+path-sound text path e =
+    let t = if-some (is_path text) (Some text) path e in
+    let same : text ≡ path = cc in
+    subst (λ (p : List ℕ). is_path p ≡ true) same t.0
+
+version-sound : (text version : List ℕ) → version_in text ≡ Some version → is_version version ≡ true
+version-sound text version e =
+    let t = if-some (is_version text) (Some text) version e in
+    let same : text ≡ version = cc in
+    subst (λ (v : List ℕ). is_version v ≡ true) same t.0
+
+go-sound : (text go : List ℕ) → go_text_in text ≡ Some go → is_some (strict_go go) ≡ true
+go-sound text go e =
+    let t = if-some (is_some (strict_go text)) (Some text) go e in
+    let same : text ≡ go = cc in
+    subst (λ (g : List ℕ). is_some (strict_go g) ≡ true) same t.0
+
+pair-sound : (text : List ℕ) (p : Pair) → pair_in text ≡ Some p → IsPairOfNames p
+unfolding pair_in
+pair-sound text p e =
+    let cut = then-some path_and_version_in (split_at_byte 64 text) p e in
+    let parts = both-are pair (path_in cut.0.0) (version_in cut.0.1) p cut.2 in
+    subst IsPairOfNames parts.4 (path-sound cut.0.0 parts.0 parts.2, version-sound cut.0.1 parts.1 parts.3)
+
+left-sound : (text : List ℕ) (left : Left) → left_in text ≡ Some left → IsSoundLeft left
+unfolding left_in
+left-sound text left e = elim (cases_Bool (has_byte 64 text)) [
+  | inl versioned ↦
+      let m = map-some left_of_pair (pair_in text) left (rw versioned at e) in
+      subst IsSoundLeft m.2 (pair-sound text m.0 m.1)
+  | inr bare ↦
+      let m = map-some left_without (path_in text) left (rw bare at e) in
+      subst IsSoundLeft m.2 (path-sound text m.0 m.1, tt)
+]
+
+right-sound : (text : List ℕ) (right : Right) → right_in text ≡ Some right → IsSoundRight right
+unfolding right_in
+right-sound text right e = elim (cases_Bool (is_folder text)) [
+  | inl folder ↦
+      let t = if-other (has_byte 10 text) (Some (Folder text)) right (rw folder at e) in
+      let same : Folder text ≡ right = cc in
+      subst IsSoundRight same (folder, t.0)
+  | inr other ↦
+      let m = map-some module_of_pair (pair_in text) right (rw other at e) in
+      subst IsSoundRight m.2 (pair-sound text m.0 m.1)
+]
+
+replacing-sound : (text : List ℕ) (r : Replacing) → replacing_in text ≡ Some r → IsSoundLeft r.0 × IsSoundRight r.1
+unfolding replacing_in
+replacing-sound text r e =
+    let cut = then-some sides_in (split_at_byte 61 text) r e in
+    let parts = both-are replacing (left_in cut.0.0) (right_in cut.0.1) r cut.2 in
+    subst (λ (x : Replacing). IsSoundLeft x.0 × IsSoundRight x.1) parts.4 (left-sound cut.0.0 parts.0 parts.2, right-sound cut.0.1 parts.1 parts.3)
+
+ends-sound : (text : List ℕ) (ends : Pair) → interval_in text ≡ Some ends → AreVersions ends
+unfolding interval_in two_versions_in
+ends-sound text ends e = elim (cases_Bool (is_bracketed text)) [
+  | inl two ↦
+      let cut = then-some both_versions_in (split_at_byte 44 (inside_brackets text)) ends (rw two at e) in
+      let parts = both-are pair (version_in (trimmed cut.0.0)) (version_in (trimmed cut.0.1)) ends cut.2 in
+      subst AreVersions parts.4 (version-sound (trimmed cut.0.0) parts.0 parts.2, version-sound (trimmed cut.0.1) parts.1 parts.3)
+  | inr one ↦
+      let m = map-some (λ (v : List ℕ). pair v v) (version_in text) ends (rw one at e) in
+      let v = version-sound text m.0 m.1 in
+      subst AreVersions m.2 (v, v)
+]
+
+pub named-sound : (text : List ℕ) (n : Name) (edit : Edit) → named text n ≡ Some edit → IsSoundEdit edit
+unfolding named
+named-sound text name.Module edit e = let m = map-some SetModule (path_in text) edit e in subst IsSoundEdit m.2 (path-sound text m.0 m.1)
+named-sound text name.Go edit e = let m = map-some SetGo (go_text_in text) edit e in subst IsSoundEdit m.2 (go-sound text m.0 m.1)
+named-sound text name.Require edit e = let m = map-some SetRequire (pair_in text) edit e in subst IsSoundEdit m.2 (pair-sound text m.0 m.1)
+named-sound text name.DropRequire edit e = let m = map-some DropRequire (path_in text) edit e in subst IsSoundEdit m.2 tt
+named-sound text name.Exclude edit e = let m = map-some AddExclude (pair_in text) edit e in subst IsSoundEdit m.2 (pair-sound text m.0 m.1)
+named-sound text name.DropExclude edit e = let m = map-some DropExclude (pair_in text) edit e in subst IsSoundEdit m.2 tt
+named-sound text name.Replace edit e = let m = map-some SetReplace (replacing_in text) edit e in subst IsSoundEdit m.2 (replacing-sound text m.0 m.1)
+named-sound text name.DropReplace edit e = let m = map-some DropReplace (left_in text) edit e in subst IsSoundEdit m.2 tt
+named-sound text name.Retract edit e = let m = map-some AddRetract (interval_in text) edit e in subst IsSoundEdit m.2 (ends-sound text m.0 m.1)
+named-sound text name.DropRetract edit e = let m = map-some DropRetract (interval_in text) edit e in subst IsSoundEdit m.2 tt
+
+-- an operation that some text spells has valid arguments
+pub written-sound : (text : List ℕ) (edit : Edit) → edit_in text ≡ Some edit → IsSoundEdit edit
+unfolding edit_in
+written-sound text edit e =
+    let cut = then-some named_in (split_at_byte 61 text) edit e in
+    let n = then-some (named cut.0.1) (name_in cut.0.0) edit cut.2 in
+    named-sound cut.0.1 n.0 edit n.2

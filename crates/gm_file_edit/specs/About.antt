@@ -1,0 +1,55 @@
+-- Which directives an operation targets.
+use Rattle.std.specs.Prelude.{ℕ, ◌&&◌, Bool, false, List, Option, Some, None}
+use Rattle.std.specs.Str.{bytes_eq}
+use Rattle.gm_file.specs.Directives.{Pair, Left, Directive, Requires, Excludes, Replaces, Retracts}
+use Rattle.gm_file.specs.Faults.{is_go, is_module, is_same_left}
+use Rattle.gm_file_edit.specs.Edits.{Edit, SetModule, SetGo, SetRequire, DropRequire, AddExclude, DropExclude, SetReplace, DropReplace, AddRetract, DropRetract}
+
+-- the same path and version, or the same ends of an interval
+abbrev pub is_same_pair : Pair → Pair → Bool
+is_same_pair a b = bytes_eq a.0 b.0 && bytes_eq a.1 b.1
+
+-- a requirement of this path
+abbrev pub requires_path : List ℕ → Directive → Bool
+requires_path path (Requires p) = bytes_eq p.0 path
+requires_path path _ = false
+
+-- an exclusion of this pair
+abbrev pub excludes_pair : Pair → Directive → Bool
+excludes_pair pair (Excludes p) = is_same_pair p pair
+excludes_pair pair _ = false
+
+-- a replace with exactly this left side
+abbrev pub replaces_left : Left → Directive → Bool
+replaces_left left (Replaces r) = is_same_left r.0 left
+replaces_left left _ = false
+
+-- Whether a replace with the first left side supersedes one with the other. A left side without a version applies to
+-- all versions of its path, so it supersedes every left side with that path.
+abbrev pub is_covered_by : Left → Option (List ℕ) → Left → Bool
+is_covered_by left None other = bytes_eq other.path left.path
+is_covered_by left (Some version) other = is_same_left other left
+
+-- a replace that gives way to a new one with this left side
+abbrev pub is_replaced_by : Left → Directive → Bool
+is_replaced_by left (Replaces r) = is_covered_by left left.version r.0
+is_replaced_by left _ = false
+
+-- a retraction of exactly this interval
+abbrev pub retracts_ends : Pair → Directive → Bool
+retracts_ends ends (Retracts e) = is_same_pair e ends
+retracts_ends ends _ = false
+
+-- Whether an operation targets a directive. It changes or drops such directives, or does nothing if there is one
+-- already.
+abbrev pub about : Edit → Directive → Bool
+about (SetModule path) d = is_module d
+about (SetGo text) d = is_go d
+about (SetRequire p) d = requires_path p.0 d
+about (DropRequire path) d = requires_path path d
+about (AddExclude p) d = excludes_pair p d
+about (DropExclude p) d = excludes_pair p d
+about (SetReplace r) d = is_replaced_by r.0 d
+about (DropReplace left) d = replaces_left left d
+about (AddRetract ends) d = retracts_ends ends d
+about (DropRetract ends) d = retracts_ends ends d

@@ -1,0 +1,110 @@
+-- The lines of a file with an added entry, and where it goes.
+use Rattle.std.specs.Prelude.{ℕ, suc, ◌+◌, if◌then◌else◌, Bool, true, false, List, [], ◌∷◌, ◌++◌, take, drop, insert, codes, Option, Some, None, is_some}
+use Rattle.std.specs.Option.{option_map, option_or}
+use Rattle.gm_syntax.specs.Bare.{new_word}
+use Rattle.gm_syntax.specs.Tokens.{Placed}
+use Rattle.gm_syntax.specs.Document.{Line, Blank, Close, Entry}
+use Rattle.gm_file.specs.Directives.{Directive, Requires, Excludes, Replaces, Retracts, block_after_line}
+use Rattle.gm_file_edit.specs.declared.adding.AddedVerb.{AddedVerb}
+use Rattle.gm_file_edit.specs.declared.adding.AddedVerb.TheVariants as verb
+use Rattle.gm_file_edit.specs.declared.adding.Spot.{Spot}
+use Rattle.gm_file_edit.specs.Fates.{held_at, passes}
+
+-- ---- the verb of a directive
+
+abbrev pub is_require : Directive → Bool
+is_require (Requires p) = true
+is_require _ = false
+
+abbrev pub is_exclude : Directive → Bool
+is_exclude (Excludes p) = true
+is_exclude _ = false
+
+abbrev pub is_replace : Directive → Bool
+is_replace (Replaces r) = true
+is_replace _ = false
+
+abbrev pub is_retract : Directive → Bool
+is_retract (Retracts ends) = true
+is_retract _ = false
+
+-- whether a directive has this verb
+abbrev pub is_of : AddedVerb → Directive → Bool
+is_of verb.Require d = is_require d
+is_of verb.Exclude d = is_exclude d
+is_of verb.Replace d = is_replace d
+is_of verb.Retract d = is_retract d
+
+-- how a verb is spelled
+abbrev pub verb_text : AddedVerb → List ℕ
+verb_text verb.Require = codes "require"
+verb_text verb.Exclude = codes "exclude"
+verb_text verb.Replace = codes "replace"
+verb_text verb.Retract = codes "retract"
+
+-- ---- new entries
+
+-- an entry outside blocks; its verb has no source position
+abbrev pub single : List ℕ → List Placed → Line Placed
+single verb arguments = Entry (record { word = new_word verb; line = 0; span = None } ∷ arguments) None
+
+-- an entry, in a block of its verb if the flag says so; the verb is then left out
+abbrev pub entry_at : Bool → List ℕ → List Placed → Line Placed
+entry_at false verb arguments = single verb arguments
+entry_at true verb arguments = Entry arguments None
+
+-- ---- where new entries go
+
+-- the position directly after a line, given the block that is open before it
+abbrev pub spot_after_line : Option Placed → Spot
+spot_after_line block = record { before = 1; inside = is_some block }
+
+-- the same position with one more line before it
+abbrev pub further : Spot → Spot
+further spot = record { before = suc spot.before; inside = spot.inside }
+
+-- the position directly after the last line that holds a directive that passes the test
+abbrev pub spot_after_last : (Directive → Bool) → Option Placed → List (Line Placed) → Option Spot
+spot_after_last test block [] = None
+spot_after_last test block (line ∷ lines) =
+    option_or (option_map further (spot_after_last test (block_after_line block line) lines))
+    (if passes test (held_at block line) then Some (spot_after_line block) else None)
+
+-- the position directly after the first such line
+abbrev pub spot_after_first : (Directive → Bool) → Option Placed → List (Line Placed) → Option Spot
+spot_after_first test block [] = None
+spot_after_first test block (line ∷ lines) =
+    if passes test (held_at block line) then Some (spot_after_line block)
+    else option_map further (spot_after_first test (block_after_line block line) lines)
+
+-- the number of lines that remain of an open block, including its closing bracket
+abbrev pub close_len : List (Line Placed) → ℕ
+close_len [] = 0
+close_len (Close suffix ∷ lines) = 1
+close_len (line ∷ lines) = suc (close_len lines)
+
+-- the number of lines before a position, moved to the end of the block if one is open there
+abbrev pub past_block : List (Line Placed) → Spot → ℕ
+past_block lines spot = if spot.inside then spot.before + close_len (drop spot.before lines) else spot.before
+
+-- ---- the lines with new entries
+
+-- the lines with an entry at a position, or with a blank line and the entry at the end
+abbrev pub added_at : List ℕ → List Placed → List (Line Placed) → Option Spot → List (Line Placed)
+added_at verb arguments lines None = lines ++ Blank ∷ single verb arguments ∷ []
+added_at verb arguments lines (Some spot) = insert lines spot.before (entry_at spot.inside verb arguments)
+
+-- The lines with an added entry. It goes directly after the last line that holds a directive that passes the test, in
+-- the same block if that line is in one. If there is no such line, it goes to the end, after a blank line.
+unfoldable pub added : (Directive → Bool) → List ℕ → List Placed → List (Line Placed) → List (Line Placed)
+added test verb arguments lines = added_at verb arguments lines (spot_after_last test None lines)
+
+-- the lines with new ones at a position, moved out of its block, or at the end
+abbrev pub insert_at_spot : List (Line Placed) → List (Line Placed) → Option Spot → List (Line Placed)
+insert_at_spot new lines None = lines ++ new
+insert_at_spot new lines (Some spot) = take (past_block lines spot) lines ++ (new ++ drop (past_block lines spot) lines)
+
+-- The lines with new ones directly after the first line that holds a directive that passes the test, or after its
+-- whole block if that line is in one. If there is no such line, they go to the end.
+unfoldable pub after_first_that : (Directive → Bool) → List (Line Placed) → List (Line Placed) → List (Line Placed)
+after_first_that test new lines = insert_at_spot new lines (spot_after_first test None lines)

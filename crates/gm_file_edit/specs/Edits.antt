@@ -1,0 +1,159 @@
+-- Operations on the go.mod file of a main module, and how they are spelled (go help mod edit).
+use Rattle.std.specs.Prelude.{ℕ, ◌-◌, ◌==◌, ◌&&◌, ◌||◌, nat_lt, if◌then◌else◌, Bool, List, length, take, drop, slice_index, codes, Option, Some, None, is_some, take_while, option_and_then}
+use Rattle.std.specs.Option.{option_map}
+use Rattle.std.specs.List.{after_first, before_first, list_any, suffix_len}
+use Rattle.std.specs.Str.{bytes_eq}
+use Rattle.gm_file_edit.specs.declared.name.Name.{Name}
+use Rattle.gm_file_edit.specs.declared.name.Name.TheVariants as name
+use Rattle.gm_name.specs.Names.{is_path, is_version}
+use Rattle.gm_file.specs.Values.{both, is_folder}
+use Rattle.gm_file.specs.GoVersions.{strict_go}
+use Rattle.gm_file.specs.Directives.{Pair, pair, Left, left_with, left_without, Right, Folder, Module, Replacing, replacing}
+
+-- an operation with its arguments
+pub data Edit : Type 0 where
+  SetModule : List ℕ → Edit
+  SetGo : List ℕ → Edit
+  SetRequire : Pair → Edit
+  DropRequire : List ℕ → Edit
+  AddExclude : Pair → Edit
+  DropExclude : Pair → Edit
+  SetReplace : Replacing → Edit
+  DropReplace : Left → Edit
+  AddRetract : Pair → Edit
+  DropRetract : Pair → Edit
+
+-- ---- how an operation is spelled: a name, `=` and an argument
+
+-- whether the text contains the byte
+abbrev pub has_byte : ℕ → List ℕ → Bool
+has_byte b text = list_any (λ c. c == b) text
+
+-- the text before the first such byte, and the text after it
+abbrev pub split_at_byte : ℕ → List ℕ → Option Pair
+split_at_byte b text =
+    if has_byte b text then Some (before_first (λ c. c == b) text, after_first (λ c. c == b) text)
+    else None
+
+-- a module path
+abbrev pub path_in : List ℕ → Option (List ℕ)
+path_in text = if is_path text then Some text else None
+
+-- a canonical version
+abbrev pub version_in : List ℕ → Option (List ℕ)
+version_in text = if is_version text then Some text else None
+
+-- a go version that strict reading accepts
+abbrev pub go_text_in : List ℕ → Option (List ℕ)
+go_text_in text = if is_some (strict_go text) then Some text else None
+
+-- both parts of a split text, as a path and a version
+abbrev pub path_and_version_in : Pair → Option Pair
+path_and_version_in parts = both pair (path_in parts.0) (version_in parts.1)
+
+-- a path, `@` and a version
+unfoldable pub pair_in : List ℕ → Option Pair
+pair_in text = option_and_then path_and_version_in (split_at_byte 64 text)
+
+abbrev pub left_of_pair : Pair → Left
+left_of_pair p = left_with p.0 p.1
+
+-- a path, optionally with `@` and a version
+unfoldable pub left_in : List ℕ → Option Left
+left_in text =
+    if has_byte 64 text then option_map left_of_pair (pair_in text)
+    else option_map left_without (path_in text)
+
+abbrev pub module_of_pair : Pair → Right
+module_of_pair p = Module p.0 p.1
+
+-- a folder, taken verbatim, without a line feed
+abbrev pub folder_in : List ℕ → Option Right
+folder_in text = if has_byte 10 text then None else Some (Folder text)
+
+-- a folder, or a path, `@` and a version
+unfoldable pub right_in : List ℕ → Option Right
+right_in text = if is_folder text then folder_in text else option_map module_of_pair (pair_in text)
+
+-- both parts of a split text, as a left side and a right side
+abbrev pub sides_in : Pair → Option Replacing
+sides_in parts = both replacing (left_in parts.0) (right_in parts.1)
+
+-- a left side, `=` and a right side; the left side ends at the first `=`
+unfoldable pub replacing_in : List ℕ → Option Replacing
+replacing_in text = option_and_then sides_in (split_at_byte 61 text)
+
+abbrev pub is_space_or_tab : ℕ → Bool
+is_space_or_tab b = (b == 32) || (b == 9)
+
+-- the text without the spaces and tabs at its start
+abbrev pub without_leading : List ℕ → List ℕ
+without_leading text = drop (length (take_while is_space_or_tab text)) text
+
+-- the text without the spaces and tabs at its end
+abbrev pub without_trailing : List ℕ → List ℕ
+without_trailing text = take (length text - suffix_len is_space_or_tab text) text
+
+-- the text without the spaces and tabs at its start and its end
+unfoldable pub trimmed : List ℕ → List ℕ
+trimmed text = without_trailing (without_leading text)
+
+-- both parts of a split text, trimmed, as versions
+abbrev pub both_versions_in : Pair → Option Pair
+both_versions_in parts = both pair (version_in (trimmed parts.0)) (version_in (trimmed parts.1))
+
+-- whether the text starts with `[` and ends with another byte, `]`
+abbrev pub is_bracketed : List ℕ → Bool
+is_bracketed text = nat_lt 1 (length text) && (slice_index text 0 == 91) && (slice_index text (length text - 1) == 93)
+
+-- the text without its first byte and its last
+abbrev pub inside_brackets : List ℕ → List ℕ
+inside_brackets text = take (length text - 2) (drop 1 text)
+
+-- a version as both ends of an interval
+abbrev pub one_version_in : List ℕ → Option Pair
+one_version_in text = option_map (λ v. pair v v) (version_in text)
+
+-- two versions separated by a comma; spaces and tabs are allowed around each
+abbrev pub two_versions_in : List ℕ → Option Pair
+two_versions_in text = option_and_then both_versions_in (split_at_byte 44 text)
+
+-- a version, which is both ends, or two in brackets
+unfoldable pub interval_in : List ℕ → Option Pair
+interval_in text = if is_bracketed text then two_versions_in (inside_brackets text) else one_version_in text
+
+-- the name that a text spells
+abbrev pub name_in : List ℕ → Option Name
+name_in text =
+    if bytes_eq text (codes "module") then Some name.Module
+    else (if bytes_eq text (codes "go") then Some name.Go
+    else (if bytes_eq text (codes "require") then Some name.Require
+    else (if bytes_eq text (codes "droprequire") then Some name.DropRequire
+    else (if bytes_eq text (codes "exclude") then Some name.Exclude
+    else (if bytes_eq text (codes "dropexclude") then Some name.DropExclude
+    else (if bytes_eq text (codes "replace") then Some name.Replace
+    else (if bytes_eq text (codes "dropreplace") then Some name.DropReplace
+    else (if bytes_eq text (codes "retract") then Some name.Retract
+    else (if bytes_eq text (codes "dropretract") then Some name.DropRetract
+    else None)))))))))
+
+-- the operation with this argument and this name
+unfoldable pub named : List ℕ → Name → Option Edit
+named text name.Module = option_map SetModule (path_in text)
+named text name.Go = option_map SetGo (go_text_in text)
+named text name.Require = option_map SetRequire (pair_in text)
+named text name.DropRequire = option_map DropRequire (path_in text)
+named text name.Exclude = option_map AddExclude (pair_in text)
+named text name.DropExclude = option_map DropExclude (pair_in text)
+named text name.Replace = option_map SetReplace (replacing_in text)
+named text name.DropReplace = option_map DropReplace (left_in text)
+named text name.Retract = option_map AddRetract (interval_in text)
+named text name.DropRetract = option_map DropRetract (interval_in text)
+
+-- both parts of a split text, as a name and its argument
+abbrev pub named_in : Pair → Option Edit
+named_in parts = option_and_then (named parts.1) (name_in parts.0)
+
+-- the operation that a text spells
+unfoldable pub edit_in : List ℕ → Option Edit
+edit_in text = option_and_then named_in (split_at_byte 61 text)

@@ -1,0 +1,65 @@
+-- Laws about what a file says before and after an operation (go help mod edit). They concern the definitions alone.
+use Rattle.std.specs.Prelude.{◌≡◌, if◌then◌else◌, ℕ, Bool, true, false, not, List, [], ◌∷◌, Option, Some, None, filter}
+use Rattle.std.specs.List.{list_any}
+use Rattle.gm_syntax.specs.Tokens.{Placed}
+use Rattle.gm_syntax.specs.Document.{Line, IsDocument}
+use Rattle.gm_syntax.specs.LineViews.{plain_lines}
+use Rattle.gm_file.specs.Directives.{Strict, Directive, DeclaresModule, DeclaresGo, Requires, Excludes, Replaces, Retracts, directives}
+use Rattle.gm_file.specs.Faults.{fault_of}
+use Rattle.gm_file_edit.specs.About.{about}
+use Rattle.gm_file_edit.specs.Changes.{edited, is_fit}
+use Rattle.gm_file_edit.specs.Edits.{Edit, SetModule, SetGo, SetRequire, DropRequire, AddExclude, DropExclude, SetReplace, DropReplace, AddRetract, DropRetract, edit_in}
+
+-- the directives that lines hold, in order
+abbrev pub directives_of : List (Line Placed) → List Directive
+directives_of lines = directives Strict (plain_lines lines)
+
+-- whether an operation drops the directives that it targets
+abbrev pub is_drop : Edit → Bool
+is_drop (DropRequire path) = true
+is_drop (DropExclude p) = true
+is_drop (DropReplace left) = true
+is_drop (DropRetract ends) = true
+is_drop _ = false
+
+-- the directive that an operation sets, in place of all that it targets
+abbrev pub set_by : Edit → Option Directive
+set_by (SetModule path) = Some (DeclaresModule path)
+set_by (SetGo text) = Some (DeclaresGo text)
+set_by (SetRequire p) = Some (Requires p)
+set_by (SetReplace r) = Some (Replaces r)
+set_by _ = None
+
+-- the directive that an operation adds if none is targeted
+abbrev pub added_by : Edit → Option Directive
+added_by (AddExclude p) = Some (Excludes p)
+added_by (AddRetract ends) = Some (Retracts ends)
+added_by _ = None
+
+-- the operation is spelled by some text and isn't refused, and the lines are a file without a fault
+abbrev pub IsEditOf : Edit → List (Line Placed) → Type 0
+IsEditOf edit lines = ((text : List ℕ) × (edit_in text ≡ Some edit)) × (is_fit edit ≡ true)
+    × IsDocument (plain_lines lines) × (fault_of Strict (plain_lines lines) ≡ None)
+
+-- after a drop no directive is left that it targets
+abbrev pub DroppedIsGone : Type 0
+DroppedIsGone = (edit : Edit) (lines : List (Line Placed)) → is_drop edit ≡ true
+    → list_any (about edit) (directives_of (edited edit lines)) ≡ false
+
+-- what an operation sets is there once, and no other directive that it targets
+abbrev pub SetStandsAlone : Type 0
+SetStandsAlone = (edit : Edit) (lines : List (Line Placed)) (d : Directive) → IsEditOf edit lines
+    → set_by edit ≡ Some d → filter (about edit) (directives_of (edited edit lines)) ≡ d ∷ []
+
+-- what an operation adds is there once if nothing was targeted, and otherwise the targeted directives are as before
+abbrev pub AddedIsThere : Type 0
+AddedIsThere = (edit : Edit) (lines : List (Line Placed)) (d : Directive) → IsEditOf edit lines
+    → added_by edit ≡ Some d
+    → filter (about edit) (directives_of (edited edit lines))
+    ≡ (if list_any (about edit) (directives_of lines) then filter (about edit) (directives_of lines) else d ∷ [])
+
+-- the directives that an operation doesn't target are the same list before and after it
+abbrev pub OthersStay : Type 0
+OthersStay = (edit : Edit) (lines : List (Line Placed)) → IsEditOf edit lines
+    → filter (λ d. not (about edit d)) (directives_of (edited edit lines))
+    ≡ filter (λ d. not (about edit d)) (directives_of lines)

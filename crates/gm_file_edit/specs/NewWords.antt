@@ -1,0 +1,49 @@
+-- The words of new entries.
+use Rattle.std.specs.Prelude.{ℕ, if◌then◌else◌, List, [], ◌∷◌, ◌++◌, Option, Some, None}
+use Rattle.std.specs.Str.{bytes_eq}
+use Rattle.gm_syntax.specs.declared.word.Kind.TheVariants.{Mark}
+use Rattle.gm_syntax.specs.declared.word.Punct.{Punct}
+use Rattle.gm_syntax.specs.declared.word.Punct.TheVariants.{LeftBracket, RightBracket, Comma, Arrow}
+use Rattle.gm_syntax.specs.Words.{Word, mark_text}
+use Rattle.gm_syntax.specs.Bare.{new_word}
+use Rattle.gm_syntax.specs.Tokens.{Placed}
+use Rattle.gm_file.specs.Directives.{Pair, Left, Right, Folder, Module, Replacing}
+
+-- a word with no source position
+abbrev pub unplaced : Word → Placed
+unplaced word = record { word = word; line = 0; span = None }
+
+-- the word with this value: bare if possible, and quoted otherwise
+abbrev pub made_word : List ℕ → Placed
+made_word value = unplaced (new_word value)
+
+-- a punctuation mark
+abbrev pub made_mark : Punct → Placed
+made_mark punct = unplaced (record { kind = Mark; spelling = mark_text punct })
+
+-- a path and a version
+abbrev pub pair_words : Pair → List Placed
+pair_words p = made_word p.0 ∷ made_word p.1 ∷ []
+
+abbrev pub left_words_of : List ℕ → Option (List ℕ) → List Placed
+left_words_of path None = made_word path ∷ []
+left_words_of path (Some version) = made_word path ∷ made_word version ∷ []
+
+-- the words of a left side
+abbrev pub left_words : Left → List Placed
+left_words left = left_words_of left.path left.version
+
+-- the words of a right side
+abbrev pub right_words : Right → List Placed
+right_words (Folder text) = made_word text ∷ []
+right_words (Module path version) = made_word path ∷ made_word version ∷ []
+
+-- the two sides of a replace, with the arrow between them
+abbrev pub replace_words : Replacing → List Placed
+replace_words r = left_words r.0 ++ made_mark Arrow ∷ right_words r.1
+
+-- one version if both ends are equal, and both in brackets otherwise
+abbrev pub interval_words : Pair → List Placed
+interval_words ends =
+    if bytes_eq ends.0 ends.1 then made_word ends.0 ∷ []
+    else made_mark LeftBracket ∷ made_word ends.0 ∷ made_mark Comma ∷ made_word ends.1 ∷ made_mark RightBracket ∷ []

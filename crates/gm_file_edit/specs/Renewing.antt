@@ -1,0 +1,54 @@
+-- Entries that an operation rewrites.
+use Rattle.std.specs.Prelude.{ℕ, ◌-◌, Bool, true, false, List, [], ◌∷◌, ◌++◌, length, take, Option, Some, None}
+use Rattle.gm_syntax.specs.Tokens.{Placed}
+use Rattle.gm_syntax.specs.Document.{Line, Blank, Comment, Open, Close, Entry}
+use Rattle.gm_file.specs.Directives.{Directive}
+use Rattle.gm_file_edit.specs.Edits.{Edit, SetModule, SetGo, SetRequire, DropRequire, AddExclude, DropExclude, SetReplace, DropReplace, AddRetract, DropRetract}
+use Rattle.gm_file_edit.specs.NewWords.{made_word, replace_words}
+use Rattle.gm_file_edit.specs.Fates.{Fate, dropping_from, renewing_from}
+
+-- an entry with its last word replaced
+abbrev pub with_last : List ℕ → Option Placed → Line Placed → Line Placed
+with_last value block Blank = Blank
+with_last value block (Comment text) = Comment text
+with_last value block (Open verb suffix) = Open verb suffix
+with_last value block (Close suffix) = Close suffix
+with_last value block (Entry words suffix) = Entry (take (length words - 1) words ++ made_word value ∷ []) suffix
+
+-- the number of words before the arguments: the verb, unless it is at the opening of the block
+abbrev pub before_arguments : Option Placed → ℕ
+before_arguments None = 1
+before_arguments (Some verb) = 0
+
+-- an entry with its arguments replaced; its comment stays
+abbrev pub with_arguments : List Placed → Option Placed → Line Placed → Line Placed
+with_arguments arguments block Blank = Blank
+with_arguments arguments block (Comment text) = Comment text
+with_arguments arguments block (Open verb suffix) = Open verb suffix
+with_arguments arguments block (Close suffix) = Close suffix
+with_arguments arguments block (Entry words suffix) = Entry (take (before_arguments block) words ++ arguments) suffix
+
+-- the first targeted entry as the operation rewrites it
+abbrev pub made_new : Edit → Option Placed → Line Placed → Line Placed
+made_new (SetModule path) block line = with_last path block line
+made_new (SetGo text) block line = with_last text block line
+made_new (SetRequire p) block line = with_last p.1 block line
+made_new (DropRequire path) block line = line
+made_new (AddExclude p) block line = line
+made_new (DropExclude p) block line = line
+made_new (SetReplace r) block line = with_arguments (replace_words r) block line
+made_new (DropReplace left) block line = line
+made_new (AddRetract ends) block line = line
+made_new (DropRetract ends) block line = line
+
+-- the fate of a line, given whether a targeted entry came before it, and whether it is one itself
+abbrev pub new_fate : Bool → Bool → (Option Placed → Line Placed → Line Placed) → Option Placed → Line Placed → Fate
+new_fate done false new block line = Some line
+new_fate false true new block line = Some (new block line)
+new_fate true true new block line = None
+
+-- the fates of lines, given whether a targeted entry came before them
+abbrev pub renewing_rest : Bool → (Directive → Bool) → (Option Placed → Line Placed → Line Placed) → Option Placed
+    → List (Line Placed) → List Fate
+renewing_rest true test new block lines = dropping_from test block lines
+renewing_rest false test new block lines = renewing_from test new block lines

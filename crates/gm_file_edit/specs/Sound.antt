@@ -1,0 +1,47 @@
+-- What is known of the arguments of a parsed operation. No public contract cites it.
+use Rattle.std.specs.Prelude.{◌≡◌, ℕ, true, false, List, Option, Some, None, is_some, ⊤}
+use Rattle.gm_name.specs.Names.{is_path, is_version}
+use Rattle.gm_file.specs.Values.{is_folder}
+use Rattle.gm_file.specs.GoVersions.{strict_go}
+use Rattle.gm_file.specs.Directives.{Pair, Left, Right, Folder, Module}
+use Rattle.gm_file_edit.specs.Edits.{Edit, SetModule, SetGo, SetRequire, DropRequire, AddExclude, DropExclude, SetReplace, DropReplace, AddRetract, DropRetract, edit_in, has_byte}
+
+-- a path and a version
+abbrev pub IsPairOfNames : Pair → Type 0
+IsPairOfNames p = (is_path p.0 ≡ true) × (is_version p.1 ≡ true)
+
+-- two versions
+abbrev pub AreVersions : Pair → Type 0
+AreVersions ends = (is_version ends.0 ≡ true) × (is_version ends.1 ≡ true)
+
+-- a version, or none
+abbrev pub IsSoundVersion : Option (List ℕ) → Type 0
+IsSoundVersion None = ⊤
+IsSoundVersion (Some version) = is_version version ≡ true
+
+-- a left side
+abbrev pub IsSoundLeft : Left → Type 0
+IsSoundLeft left = (is_path left.path ≡ true) × IsSoundVersion left.version
+
+-- a right side; a folder has no line feed
+abbrev pub IsSoundRight : Right → Type 0
+IsSoundRight (Folder text) = (is_folder text ≡ true) × (has_byte 10 text ≡ false)
+IsSoundRight (Module path version) = (is_path path ≡ true) × (is_version version ≡ true)
+
+-- The arguments that an operation puts into a file are valid. Those of drops aren't put in, so nothing is said of
+-- them.
+abbrev pub IsSoundEdit : Edit → Type 0
+IsSoundEdit (SetModule path) = is_path path ≡ true
+IsSoundEdit (SetGo text) = is_some (strict_go text) ≡ true
+IsSoundEdit (SetRequire p) = IsPairOfNames p
+IsSoundEdit (DropRequire path) = ⊤
+IsSoundEdit (AddExclude p) = IsPairOfNames p
+IsSoundEdit (DropExclude p) = ⊤
+IsSoundEdit (SetReplace r) = IsSoundLeft r.0 × IsSoundRight r.1
+IsSoundEdit (DropReplace left) = ⊤
+IsSoundEdit (AddRetract ends) = AreVersions ends
+IsSoundEdit (DropRetract ends) = ⊤
+
+-- some text spells the operation
+abbrev pub IsWritten : Edit → Type 0
+IsWritten edit = (text : List ℕ) × (edit_in text ≡ Some edit)

@@ -1,0 +1,27 @@
+//! Edits of the go.mod file of a main module: the editing flags of `go mod edit` as operations (go help mod edit).
+//!
+//! An operation is written as a name, `=` and an argument. `Op::parse` parses one, and `apply` applies it to a parsed
+//! file. Entries that the operation doesn't target stay as they are, and so do their comments and blocks.
+//!
+//! For example, `require=example.com/b@v1.3.0` writes `v1.3.0` into the first requirement of `example.com/b` and
+//! removes the later ones. If nothing requires `example.com/b`, it adds a requirement after the last requirement in
+//! the file, in the same block if that one is in a block. If there are no requirements, it adds one at the end.
+#![tactic(auto)]
+
+mod about;
+mod adding;
+mod applying;
+mod dropping;
+mod fault;
+pub mod laws;
+mod name;
+mod new_words;
+mod op;
+mod part;
+mod renewing;
+mod searching;
+mod walk;
+
+pub use crate::applying::apply;
+pub use crate::fault::{EditFault, OpFault};
+pub use crate::op::Op;

@@ -1,0 +1,253 @@
+//! Parsing the arguments of operations.
+//!
+//! Each `read_` function fails with `OpFault::Spelling` if and only if the text isn't such an argument, unless memory
+//! runs out.
+
+ghost use Rattle.std.specs.Prelude.{◌≡◌, true, drop, length, take_while};
+ghost use Rattle.std.specs.Option.{option_map};
+ghost use Rattle.std.specs.List.{suffix_len};
+ghost use Rattle.std.specs.String.{string_bytes};
+ghost use Rattle.gm_file.specs.Views.{interval_view, replace_view, right_view};
+ghost use Rattle.gm_file_edit.specs.Edits.{split_at_byte, has_byte, inside_brackets, interval_in, is_bracketed, is_space_or_tab, go_text_in, left_in, pair_in, path_in, replacing_in, right_in, trimmed, two_versions_in, version_in, without_trailing, without_leading};
+ghost use Rattle.gm_file_edit.specs.Views.{Reads, split_seen, left_seen};
+
+use crate::fault::OpFault;
+use gm_file::{Interval, Replace, Right, is_folder, strict_go};
+use gm_name::{ModPath, ModVersion, PathFault, VersionFault};
+use std::alloc::Global;
+
+/// The left side of a `replace`.
+#[derive(Drop)]
+pub(crate) struct LeftSide {
+    /// The module path that is replaced.
+    pub(crate) path: ModPath,
+    /// The only version that is replaced, or `None` for all versions of the path.
+    pub(crate) version: Option<ModVersion>,
+}
+
+/// Splits a text at its first `=`, which is in neither part.
+pub(crate) fn split_at_equals(text: &str) -> Option<(&str, &str)>
+    ensures { split_seen result ≡ split_at_byte 61 text.now }
+{
+    text.split_once('=')
+}
+
+/// Splits a text at its first `@`, which is in neither part.
+fn split_at_sign(text: &str) -> Option<(&str, &str)>
+    ensures { split_seen result ≡ split_at_byte 64 text.now }
+{
+    text.split_once('@')
+}
+
+/// Splits a text at its first comma, which is in neither part.
+fn split_at_comma(text: &str) -> Option<(&str, &str)>
+    ensures { split_seen result ≡ split_at_byte 44 text.now }
+{
+    text.split_once(',')
+}
+
+/// Whether a text contains a line feed.
+fn has_line_feed(text: &[u8]) -> bool
+    ensures { result ≡ has_byte 10 text.now }
+{
+    text.iter().any(|b| *b == b'\n')
+}
+
+/// Parses a module path.
+pub(crate) fn read_path(alloc: Global, text: &str) -> Result<ModPath, OpFault>
+    ensures { Reads (λ path. path) (path_in text.now) result }
+{
+    match ModPath::parse(alloc, text) {
+        Ok(path) => Ok(path),
+        Err(fault) => match fault {
+            PathFault::NoMemory => Err(OpFault::NoMemory),
+            PathFault::BadPath => Err(OpFault::Spelling),
+        },
+    }
+}
+
+/// Parses a canonical version.
+fn read_version(alloc: Global, text: &str) -> Result<ModVersion, OpFault>
+    ensures { Reads (λ version. version) (version_in text.now) result }
+{
+    match ModVersion::parse(alloc, text) {
+        Ok(version) => Ok(version),
+        Err(fault) => match fault {
+            VersionFault::NoMemory => Err(OpFault::NoMemory),
+            VersionFault::BadVersion => Err(OpFault::Spelling),
+            VersionFault::NotCanonical => Err(OpFault::Spelling),
+        },
+    }
+}
+
+/// Copies a go version that strict reading of a main file accepts.
+pub(crate) fn read_go(alloc: Global, text: &str) -> Result<String, OpFault>
+    ensures { Reads string_bytes (go_text_in text.now) result }
+{
+    match strict_go(text) {
+        Some(_) => Ok(String::from_str(alloc, text)?),
+        None => Err(OpFault::Spelling),
+    }
+}
+
+/// Parses a path, `@` and a version.
+#[tactic(auto, unfolding(crate::specs::Edits::pair_in))]
+pub(crate) fn read_pair(alloc: Global, text: &str) -> Result<(ModPath, ModVersion), OpFault>
+    ensures { Reads (λ pair. pair) (pair_in text.now) result }
+{
+    let Some((path, version)) = split_at_sign(text) else {
+        return Err(OpFault::Spelling);
+    };
+    let path = read_path(alloc, path)?;
+    let version = read_version(alloc, version)?;
+    Ok((path, version))
+}
+
+/// Whether a text contains `@`.
+fn has_at_sign(text: &[u8]) -> bool
+    ensures { result ≡ has_byte 64 text.now }
+{
+    text.iter().any(|b| *b == b'@')
+}
+
+/// Parses the left side of a `replace`: a path, optionally with `@` and a version.
+#[tactic(auto, unfolding(crate::specs::Edits::left_in))]
+pub(crate) fn read_left(alloc: Global, text: &str) -> Result<LeftSide, OpFault>
+    ensures { Reads left_seen (left_in text.now) result }
+{
+    if has_at_sign(text.as_bytes()) {
+        let (path, version) = read_pair(alloc, text)?;
+        return Ok(LeftSide {
+            path,
+            version: Some(version),
+        });
+    }
+    let path = read_path(alloc, text)?;
+    Ok(LeftSide {
+        path,
+        version: None,
+    })
+}
+
+/// Parses the right side of a `replace`: a folder, taken verbatim, or a path, `@` and a version. A folder with a line
+/// feed is refused, since a word that an edit makes can't hold one.
+#[tactic(auto, unfolding(crate::specs::Edits::right_in))]
+fn read_right(alloc: Global, text: &str) -> Result<Right, OpFault>
+    ensures { Reads right_view (right_in text.now) result }
+{
+    if is_folder(text) {
+        if has_line_feed(text.as_bytes()) {
+            return Err(OpFault::Spelling);
+        }
+        return Ok(Right::Folder(String::from_str(alloc, text)?));
+    }
+    let (path, version) = read_pair(alloc, text)?;
+    Ok(Right::Module(path, version))
+}
+
+/// Parses a left side, `=` and a right side. The first `=` separates them.
+#[tactic(auto, unfolding(crate::specs::Edits::replacing_in))]
+pub(crate) fn read_replace(alloc: Global, text: &str) -> Result<Replace, OpFault>
+    ensures { Reads replace_view (replacing_in text.now) result }
+{
+    let Some((left, right)) = split_at_equals(text) else {
+        return Err(OpFault::Spelling);
+    };
+    let LeftSide { path, version } = read_left(alloc, left)?;
+    let right = read_right(alloc, right)?;
+    Ok(Replace {
+        left: path,
+        version,
+        right,
+    })
+}
+
+/// Whether a byte is a space or a tab.
+fn is_space_or_tab(byte: u8) -> bool
+    ensures { result ≡ is_space_or_tab byte }
+{
+    byte == b' ' || byte == b'\t'
+}
+
+/// The number of spaces and tabs at the start of a text.
+fn leading_len(text: &[u8]) -> usize
+    ensures { result ≡ length (take_while is_space_or_tab text.now) }
+{
+    text.iter().take_while(|b| is_space_or_tab(**b)).count()
+}
+
+/// The number of spaces and tabs at the end of a text.
+fn trailing_len(text: &[u8]) -> usize
+    ensures { result ≡ suffix_len is_space_or_tab text.now }
+{
+    text.iter()
+        .rev()
+        .take_while(|b| is_space_or_tab(**b))
+        .count()
+}
+
+/// The text without the spaces and tabs at its start.
+fn without_leading(text: &str) -> &str
+    ensures { result.now ≡ without_leading text.now }
+{
+    let (_, rest) = text.split_at(leading_len(text.as_bytes()));
+    rest
+}
+
+/// The text without the spaces and tabs at its end.
+fn without_trailing(text: &str) -> &str
+    ensures { result.now ≡ without_trailing text.now }
+{
+    let (front, _) = text.split_at(text.len() - trailing_len(text.as_bytes()));
+    front
+}
+
+/// The text without the spaces and tabs at its start and its end.
+#[tactic(auto, unfolding(crate::specs::Edits::trimmed))]
+fn trimmed(text: &str) -> &str
+    ensures { result.now ≡ trimmed text.now }
+{
+    without_trailing(without_leading(text))
+}
+
+/// Whether a text starts with `[` and ends with another byte, `]`.
+fn is_bracketed(text: &[u8]) -> bool
+    ensures { result ≡ is_bracketed text.now }
+{
+    text.len() > 1 && text[0] == b'[' && text[text.len() - 1] == b']'
+}
+
+/// The text between the brackets.
+fn inside_brackets(text: &str) -> &str
+    requires { is_bracketed text.now ≡ true }
+    ensures { result.now ≡ inside_brackets text.now }
+{
+    let (_, rest) = text.split_at(1);
+    let (inside, _) = rest.split_at(rest.len() - 1);
+    inside
+}
+
+/// Parses two versions separated by a comma, with spaces and tabs allowed around each.
+fn read_two_versions(alloc: Global, text: &str) -> Result<Interval, OpFault>
+    ensures { Reads interval_view (two_versions_in text.now) result }
+{
+    let Some((low, high)) = split_at_comma(text) else {
+        return Err(OpFault::Spelling);
+    };
+    let low = read_version(alloc, trimmed(low))?;
+    let high = read_version(alloc, trimmed(high))?;
+    Ok(Interval { low, high })
+}
+
+/// Parses an interval: two versions in brackets, or one version that is both ends.
+#[tactic(auto, unfolding(crate::specs::Edits::interval_in))]
+pub(crate) fn read_interval(alloc: Global, text: &str) -> Result<Interval, OpFault>
+    ensures { Reads interval_view (interval_in text.now) result }
+{
+    if is_bracketed(text.as_bytes()) {
+        return read_two_versions(alloc, inside_brackets(text));
+    }
+    let low = read_version(alloc, text)?;
+    let high = low.copy(alloc)?;
+    Ok(Interval { low, high })
+}

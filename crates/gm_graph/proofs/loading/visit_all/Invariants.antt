@@ -1,0 +1,16 @@
+use Rattle.std.proofs.Common.{◌≡◌, ◌-◌}
+use Rattle.gm_graph_cache.specs.Asking.{MayGrow, MayLess}
+use Rattle.gm_graph_cache.specs.Cached.{main_in, sums_in}
+use Rattle.gm_graph.proofs.Stepping.{IsAt}
+use Rattle.gm_graph.proofs.loading.visit_all.Given as goal
+
+abbrev pub invariant-turns : goal.invariant-turns
+invariant-turns g l = record {
+  state : IsAt (main_in l.fn.cache) (sums_in l.fn.cache) l.cache (g.F.Files.asked l.files) l.worklist l.builder l.at;
+  may : MayGrow (g.F.Files.may_answer l.fn.files) (g.F.Files.asked l.fn.files) (g.F.Files.asked l.files);
+  same_store : MayLess (g.F.Files.may_answer l.files) (g.F.Files.may_answer l.fn.files);
+  refused : g.F.Files.refused l.files ≡ g.F.Files.refused l.fn.files;
+}
+
+abbrev pub decreases-turns : goal.decreases-turns
+decreases-turns g l = 131072 - l.at

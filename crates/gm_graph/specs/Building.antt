@@ -1,0 +1,85 @@
+-- What the graph builder collects during visits: edges, and the faults of vertices.
+use Rattle.std.specs.Prelude.{◌≡◌, ◌⊎◌, Bool, true, not, List, Option, None, Some, Err, Contains, if◌then◌else◌}
+use Rattle.std.specs.List.{list_any}
+use Rattle.std.specs.BTreeMap as map
+use Rattle.gm_graph_cache.specs.declared.class.Class.{Class}
+use Rattle.gm_graph_cache.specs.declared.depth.Depth.{Depth}
+use Rattle.gm_graph_cache.specs.declared.depth.Depth.TheVariants.{Top, Deep}
+use Rattle.gm_graph_cache.specs.declared.depth.Turn.{Turn}
+use Rattle.gm_graph_cache.specs.declared.finding.Finding.{Finding}
+use Rattle.gm_graph_cache.specs.declared.finding.Finding.TheVariants.{Fault, Sound}
+use Rattle.gm_graph_cache.specs.Turns.{turn}
+use Rattle.gm_graph_cache.specs.Main.{Main, Vertex}
+use Rattle.gm_graph_cache.specs.Reading.{Readings, fault_of, requirements_of}
+use Rattle.gm_graph_select.specs.declared.step.Edge.{Edge}
+use Rattle.gm_graph_select.specs.declared.step.Step.TheVariants.{Main as FromMain, Of}
+use Rattle.gm_graph_select.specs.Graph.{edge, vertex_cmp}
+use Rattle.gm_graph.specs.declared.fault.Fault.{Fault as HeldFault}
+use Rattle.gm_graph.specs.declared.graph_builder.GraphBuilder.{GraphBuilder}
+use Rattle.gm_graph.specs.Graph.{IsEdge, IsOpened, IsTop, same_vertex}
+use Rattle.gm_graph.specs.Adjacency.{edges_of}
+use Rattle.gm_graph.specs.Turns.{Extends, same_turn}
+
+-- a vertex and its fault
+abbrev pub fault : Vertex → Class → HeldFault
+fault x class = record { vertex = x; class = class }
+
+-- the edges of a graph builder
+abbrev pub edges_in : GraphBuilder → List Edge
+edges_in builder = edges_of builder.leaving.items
+
+-- the fault of each vertex that has one
+abbrev pub Faults : Type 0
+Faults = Vertex → Option Class
+
+abbrev pub faults_in : GraphBuilder → Faults
+faults_in builder x = map.get vertex_cmp builder.faults x
+
+-- the faults, and that of one more vertex if it has one
+abbrev pub noted : Option Class → Vertex → Faults → Faults
+noted None x faults y = faults y
+noted (Some class) x faults y = if same_vertex x y then Some class else faults y
+
+-- the fault that was found
+abbrev pub found_fault : Finding → Option Class
+found_fault (Fault class) = Some class
+found_fault (Sound name) = None
+
+-- Whether a vertex's edges are added in a visit to this depth: if it is visited at both depths, at the top only.
+abbrev pub gathers_at : Depth → Bool → Bool
+gathers_at Top has_top = true
+gathers_at Deep has_top = not has_top
+
+abbrev pub gathers : List Turn → Turn → Bool
+gathers turns one = gathers_at one.depth (list_any (same_turn (turn one.vertex Top)) turns)
+
+-- Edges from a vertex to each of these were added, and no others.
+pub record AddsEdges (old new : List Edge) (x : Vertex) (ys : List Vertex) : Type 0 where
+  pub extends : Extends old new
+  pub each : (y : Vertex) → Contains ys y → Contains new (edge (Of x) y)
+  pub only : (one : Edge) → Contains new one → Contains old one ⊎ ((y : Vertex) × Contains ys y × (one ≡ edge (Of x) y))
+
+-- The edges and the fault of a turn were added, and nothing else.
+pub record Gathers (main : Main) (readings : Readings) (turns : List Turn) (old new : List Edge) (before after : Faults)
+    (one : Turn) : Type 0 where
+  pub extends : Extends old new
+  pub each : gathers turns one ≡ true → (y : Vertex) → Contains (requirements_of main readings one.vertex) y
+      → Contains new (edge (Of one.vertex) y)
+  pub only : (e : Edge) → Contains new e
+      → Contains old e ⊎ ((y : Vertex) × Contains (requirements_of main readings one.vertex) y
+      × (e ≡ edge (Of one.vertex) y))
+  pub faults : (x : Vertex) → after x ≡ noted (fault_of readings one.vertex) one.vertex before x
+
+-- A turn's edges and its fault are in the graph builder.
+pub record IsGathered (main : Main) (readings : Readings) (turns : List Turn) (edges : List Edge) (faults : Faults)
+    (one : Turn) : Type 0 where
+  pub each : gathers turns one ≡ true → (y : Vertex) → Contains (requirements_of main readings one.vertex) y
+      → Contains edges (edge (Of one.vertex) y)
+  pub fault : (class : Class) → readings one.vertex ≡ Some (Err class) → faults one.vertex ≡ Some class
+
+-- The edges from the main module are in the graph builder, and everything in it belongs to the graph.
+pub record AreGathered (main : Main) (readings : Readings) (edges : List Edge) (faults : Faults) : Type 0 where
+  pub from_main : (y : Vertex) → IsTop main y → Contains edges (edge FromMain y)
+  pub only : (one : Edge) → Contains edges one → IsEdge main readings one.from one.to
+  pub known : (x : Vertex) (class : Class) → faults x ≡ Some class
+      → IsOpened main readings x × (readings x ≡ Some (Err class))

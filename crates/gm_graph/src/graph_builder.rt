@@ -1,0 +1,91 @@
+//! The graph under construction: edges and faults, in the order in which the vertices are visited.
+
+ghost use Rattle.std.specs.Prelude.{◌≡◌, IfOk, OnOk, map};
+ghost use Rattle.std.specs.BTreeMap as tree;
+ghost use Rattle.gm_graph_cache.specs.Main.{Main, Vertex, kept};
+ghost use Rattle.gm_graph_cache.specs.Reading.{Readings};
+ghost use Rattle.gm_graph_select.specs.Graph.{vertex_cmp};
+ghost use Rattle.gm_graph.specs.Building.{AddsEdges, AreGathered, edges_in, fault, faults_in, found_fault, noted};
+
+use crate::adjacency::Adjacency;
+use crate::fault::Fault;
+use gm_graph_cache::{Class, Finding};
+use gm_graph_select::Step;
+use gm_name::ModVer;
+use std::alloc::{AllocError, Global};
+use std::collections::BTreeMap;
+
+/// The edges, grouped by the steps that they leave in the order of the visits, and the faults of vertices.
+#[derive(Drop)]
+pub(crate) struct GraphBuilder {
+    /// The edges, in one group for each step that was visited.
+    pub(crate) leaving: Vec<Adjacency>,
+    /// The faults of the visited vertices that have one.
+    pub(crate) faults: BTreeMap<ModVer, Class>,
+}
+
+impl GraphBuilder {
+    /// Records the fault of a vertex, if it has one.
+    pub(crate) fn note(
+        &mut self,
+        alloc: Global,
+        vertex: &ModVer,
+        finding: &Finding,
+    ) -> Result<(), AllocError>
+        ensures faults { OnOk result ((x : Vertex)
+            → faults_in self.new x ≡ noted (found_fault finding.now) vertex.now (faults_in self.old) x) }
+        ensures edges { edges_in self.new ≡ edges_in self.old }
+    {
+        if let Finding::Fault(class) = finding {
+            self.faults.insert(vertex.copy(alloc)?, *class)?;
+        }
+        Ok(())
+    }
+
+    /// Adds an edge from a vertex to each of these.
+    pub(crate) fn add_edges(
+        &mut self,
+        alloc: Global,
+        vertex: &ModVer,
+        required: &[ModVer],
+    ) -> Result<(), AllocError>
+        ensures edges { OnOk result (AddsEdges (edges_in self.old) (edges_in self.new) vertex.now required.now) }
+        ensures faults { (x : Vertex) → faults_in self.new x ≡ faults_in self.old x }
+    {
+        if required.is_empty() {
+            return Ok(());
+        }
+        let one = Adjacency::new(alloc, Step::Of(vertex.copy(alloc)?), required)?;
+        self.leaving.push(one)?;
+        Ok(())
+    }
+}
+
+/// A graph with edges from the main module to each of these, and without faults.
+pub(crate) fn main_edges(alloc: Global, required: &[ModVer]) -> Result<GraphBuilder, AllocError>
+    ensures { IfOk result (λ builder. (main : Main) (readings : Readings) → required.now ≡ kept main main.requirements
+        → AreGathered main readings (edges_in builder) (faults_in builder)) }
+{
+    let one = Adjacency::new(alloc, Step::Main, required)?;
+    let mut leaving = Vec::new(alloc);
+    leaving.push(one)?;
+    Ok(GraphBuilder {
+        leaving,
+        faults: BTreeMap::new(alloc),
+    })
+}
+
+/// The faults of a map, in the order of their vertices.
+pub(crate) fn fault_list(
+    alloc: Global,
+    faults: BTreeMap<ModVer, Class>,
+) -> Result<Vec<Fault>, AllocError>
+    ensures faults { IfOk result (λ list. list.items ≡ map (λ entry. fault entry.0 entry.1) faults.entries) }
+    ensures ordered { OnOk result (tree.IsOrdered vertex_cmp faults) }
+{
+    let mut list = Vec::new(alloc);
+    for (vertex, class) in faults {
+        list.push(Fault { vertex, class })?;
+    }
+    Ok(list)
+}

@@ -1,0 +1,108 @@
+-- What stays when more is asked for, and when a cache returns requirements.
+use Rattle.std.proofs.Common.{◌≡◌, ◌∙◌, Bool, true, false, cond, List, [], ◌∷◌, ◌++◌, Option, Some, None, Result, sym, ap, subst, refl}
+use Rattle.std.specs.Option.{option_map}
+use Rattle.std.specs.Map.{lookup}
+use Rattle.gm_file.specs.Fields.{Dependency}
+use Rattle.gm_store.specs.Asked.{Name, Reply, answer_in, same_name}
+use Rattle.gm_store_sums.specs.declared.sum_table.SumTable.{SumTable}
+use Rattle.gm_graph_cache.specs.declared.class.Class.{Class}
+use Rattle.gm_graph_cache.specs.declared.name_key.NameKey.{NameKey}
+use Rattle.gm_graph_cache.specs.declared.summary.Summary.{Summary}
+use Rattle.gm_graph_cache.specs.declared.cache.Cache.{Cache}
+use Rattle.gm_graph_cache.specs.Main.{Main, Vertex, main_of, replacement_of}
+use Rattle.gm_graph_cache.specs.Marks.{is_key_of}
+use Rattle.gm_graph_cache.specs.Reading.{Held, IsTold, Keeps, KeepsHeld, Tells, file_of, is_askable, reading_if, readings_by, with_right_path}
+use Rattle.gm_graph_cache.specs.Summaries.{IsKept, said}
+use Rattle.gm_graph_cache.specs.Cached.{HoldsSame, Knows, held_of, main_in, sums_in}
+use Rattle.gm_graph_cache.proofs.OneReading.{one_reading}
+
+-- ---- readings are unique
+
+one_at : (sums : Option SumTable) (name : Name) (reply : Option Reply) (a b : Option (Result Dependency Class)) → IsTold sums name reply a → IsTold sums name reply b → a ≡ b
+one_at sums name None None None is other = refl
+one_at sums name None None (Some r) is other = absurd other
+one_at sums name None (Some r) b is other = absurd is
+one_at sums name (Some reply) None b is other = absurd is
+one_at sums name (Some reply) (Some r) None is other = absurd other
+one_at sums name (Some reply) (Some r) (Some s) is other = ap Some (one_reading sums name reply r s is other)
+
+pub one_told : (sums : Option SumTable) (pairs : List (Name × Reply)) (a b : Held) → Tells sums pairs a → Tells sums pairs b → (name : Name) → a name ≡ b name
+one_told sums pairs a b is other name = one_at sums name (answer_in pairs name) (a name) (b name) (is name) (other name)
+
+-- ---- answers stay when more is asked for
+
+pub answer_stays : (pairs more : List (Name × Reply)) (name : Name) (reply : Reply) → answer_in pairs name ≡ Some reply → answer_in (pairs ++ more) name ≡ Some reply
+answer_stays [] more name reply e = absurd cc
+answer_stays (pair ∷ pairs) more name reply e =
+    elim (same_name name pair.0) as (λ b. cond b (Some pair.1) (answer_in pairs name) ≡ Some reply → cond b (Some pair.1) (answer_in (pairs ++ more) name) ≡ Some reply) [
+      | true ↦ λ h. h
+      | false ↦ λ h. answer_stays pairs more name reply h
+    ] e
+
+told_stays_at : (sums : Option SumTable) (name : Name) (first all : Option Reply) (old new : Option (Result Dependency Class)) (reading : Result Dependency Class)
+    → ((reply : Reply) → first ≡ Some reply → all ≡ Some reply) → IsTold sums name first old → IsTold sums name all new → old ≡ Some reading → new ≡ Some reading
+told_stays_at sums name None all old new reading stays is other e = absurd (nothing old is e)
+  where
+    nothing : (old : Option (Result Dependency Class)) → IsTold sums name None old → old ≡ Some reading → ⊥
+    nothing None is e = cc
+    nothing (Some r) is e = is
+told_stays_at sums name (Some reply) all old new reading stays is other e =
+    sym (one_at sums name (Some reply) old new is (subst (λ (o : Option Reply). IsTold sums name o new) (stays reply refl) other)) ∙ e
+
+pub earlier_readings_stay : (sums : Option SumTable) (pairs more : List (Name × Reply)) (old new : Held) → Tells sums pairs old → Tells sums (pairs ++ more) new → KeepsHeld old new
+earlier_readings_stay sums pairs more old new is other name reading e =
+    told_stays_at sums name (answer_in pairs name) (answer_in (pairs ++ more) name) (old name) (new name) reading (λ reply f. answer_stays pairs more name reply f) (is name) (other name) e
+
+-- a reading, if there was an answer
+abbrev only_if : {A B : Type 0} → Option A → Option B → Option B
+only_if None held = None
+only_if (Some a) held = held
+
+-- what is held of the names among those pairs
+abbrev pub held_first : List (Name × Reply) → Held → Held
+held_first pairs held name = only_if (answer_in pairs name) (held name)
+
+first_at : (sums : Option SumTable) (name : Name) (first all : Option Reply) (held : Option (Result Dependency Class)) → ((reply : Reply) → first ≡ Some reply → all ≡ Some reply) → IsTold sums name all held → IsTold sums name first (only_if first held)
+first_at sums name None all held stays is = tt
+first_at sums name (Some reply) all held stays is = subst (λ (o : Option Reply). IsTold sums name o held) (stays reply refl) is
+
+pub first_told : (sums : Option SumTable) (pairs more : List (Name × Reply)) (held : Held) → Tells sums (pairs ++ more) held → Tells sums pairs (held_first pairs held)
+first_told sums pairs more held is name = first_at sums name (answer_in pairs name) (answer_in (pairs ++ more) name) (held name) (λ reply f. answer_stays pairs more name reply f) (is name)
+
+pub prefix_has_readings : (sums : Option SumTable) (pairs more : List (Name × Reply)) (new : Held) → Tells sums (pairs ++ more) new → (old : Held) × Tells sums pairs old × KeepsHeld old new
+prefix_has_readings sums pairs more new is =
+    let first = first_told sums pairs more new is in
+    (held_first pairs new, first, earlier_readings_stay sums pairs more (held_first pairs new) new first is)
+
+-- ---- readings stay
+
+map_stays : {A B : Type 0} (f : A → B) (a b : Option A) → ((r : A) → a ≡ Some r → b ≡ Some r) → (s : B) → option_map f a ≡ Some s → option_map f b ≡ Some s
+map_stays f None b stays s e = absurd cc
+map_stays f (Some r) b stays s e = ap (option_map f) (stays r refl) ∙ e
+
+reading_stays : (t : Bool) (main : Main) (x : Vertex) (a b : Option (Result Dependency Class)) → ((r : Result Dependency Class) → a ≡ Some r → b ≡ Some r) → (s : Result Dependency Class) → reading_if t main x a ≡ Some s → reading_if t main x b ≡ Some s
+reading_stays true main x a b stays s e = map_stays (with_right_path x (replacement_of main x)) a b stays s e
+reading_stays false main x a b stays s e = e
+
+pub readings_stay : (main : Main) (old new : Held) → KeepsHeld old new → Keeps (readings_by main old) (readings_by main new)
+readings_stay main old new keeps x reading e = reading_stays (is_askable (file_of main x)) main x (old (file_of main x)) (new (file_of main x)) (λ r f. keeps (file_of main x) r f) reading e
+
+-- ---- a cache that holds the same
+
+-- what a map holds of the file of each name
+abbrev held_among : List (NameKey × Result Summary Class) → Held
+held_among entries name = option_map said (lookup (is_key_of name) entries)
+
+pub main_same : (old new : Cache) → HoldsSame old new → main_in new ≡ main_in old
+main_same old new same = ap main_of same.main
+
+pub held_same : (old new : Cache) → HoldsSame old new → held_of new ≡ held_of old
+held_same old new same = ap held_among same.entries
+
+-- A cache that holds the same knows the same.
+pub knows_still : (old new : Cache) (pairs : List (Name × Reply)) → HoldsSame old new → Knows old pairs → Knows new pairs
+knows_still old new pairs same knows = record {
+  tells = subst (λ (s : Option SumTable). Tells s pairs (held_of new)) (sym same.sums) (subst (λ (h : Held). Tells (sums_in old) pairs h) (sym (held_same old new same)) knows.tells);
+  lends = λ name one e. subst (λ (m : Main). IsKept m one) (sym (main_same old new same))
+      (knows.lends name one (ap (λ (es : List (NameKey × Result Summary Class)). lookup (is_key_of name) es) (sym same.entries) ∙ e));
+}

@@ -1,0 +1,111 @@
+-- The readings of the answers so far, and of one more answer.
+use Rattle.std.proofs.Common.{◌≡◌, ◌∙◌, ◌-◌, ℕ, Bool, true, false, cond, List, [], ◌∷◌, ◌++◌, length, Option, Some, None, Result, slice_get, Bor, is_some, sym, ap, subst, refl, arith, length-append}
+use Rattle.std.specs.Option.{option_copied, option_map}
+use Rattle.gm_file.specs.Fields.{Dependency}
+use Rattle.gm_store.specs.Asked.{Name, Reply, answer_in, replies_in, same_name}
+use Rattle.gm_store_sums.specs.declared.sum_table.SumTable.{SumTable}
+use Rattle.gm_store.proofs.NameOrder.{names_equal, name_itself}
+use Rattle.gm_graph_cache.specs.declared.class.Class.{Class}
+use Rattle.gm_graph_cache.specs.declared.summary.Summary.{Summary}
+use Rattle.gm_graph_cache.specs.declared.cache.Cache.{Cache}
+use Rattle.gm_graph_cache.specs.Main.{Main, main_of}
+use Rattle.gm_graph_cache.specs.Reading.{Held, IsFileReading, IsTold, Tells}
+use Rattle.gm_graph_cache.specs.Summaries.{IsKept, AddsSummary, said}
+use Rattle.gm_graph_cache.specs.Cached.{Knows, held_of, main_in, summary_at, sums_in}
+
+-- If no reading is held, the name was not answered.
+none_told : (sums : Option SumTable) (name : Name) (a : Option Reply) (h : Option (Result Dependency Class)) → IsTold sums name a h → h ≡ None → a ≡ None
+none_told sums name None h told e = refl
+none_told sums name (Some reply) None told e = absurd told
+none_told sums name (Some reply) (Some reading) told e = absurd cc
+
+said_none : (o : Option (Result Summary Class)) → o ≡ None → option_map said o ≡ None
+said_none o e = ap (option_map said) e
+
+-- A name without an entry was not asked for.
+pub not_asked : (cache : Cache) (pairs : List (Name × Reply)) (name : Name) → Knows cache pairs → summary_at cache name ≡ None → answer_in pairs name ≡ None
+not_asked cache pairs name knows e = none_told (sums_in cache) name (answer_in pairs name) (held_of cache name) (knows.tells name) (said_none (summary_at cache name) e)
+
+-- ---- one more answer
+
+answer_there : (pairs : List (Name × Reply)) (name : Name) (reply : Reply) → answer_in pairs name ≡ None → answer_in (pairs ++ (name, reply) ∷ []) name ≡ Some reply
+answer_there [] name reply e = ap (λ (b : Bool). cond b (Some reply) None) (name_itself name)
+answer_there (pair ∷ pairs) name reply e =
+    elim (same_name name pair.0) as (λ b. cond b (Some pair.1) (answer_in pairs name) ≡ None → cond b (Some pair.1) (answer_in (pairs ++ (name, reply) ∷ []) name) ≡ Some reply) [
+      | true ↦ λ h. absurd cc
+      | false ↦ λ h. answer_there pairs name reply h
+    ] e
+
+answer_elsewhere : (pairs : List (Name × Reply)) (name other : Name) (reply : Reply) → same_name other name ≡ false → answer_in (pairs ++ (name, reply) ∷ []) other ≡ answer_in pairs other
+answer_elsewhere [] name other reply e = ap (λ (b : Bool). cond b (Some reply) None) e
+answer_elsewhere (pair ∷ pairs) name other reply e = ap (λ (o : Option Reply). cond (same_name other pair.0) (Some pair.1) o) (answer_elsewhere pairs name other reply e)
+
+told_along : (sums : Option SumTable) (name : Name) (a b : Option Reply) (h k : Option (Result Dependency Class)) → a ≡ b → h ≡ k → IsTold sums name b k → IsTold sums name a h
+told_along sums name a b h k e f told = subst (λ (x : Option Reply). IsTold sums name x h) (sym e) (subst (λ (y : Option (Result Dependency Class)). IsTold sums name b y) (sym f) told)
+
+-- what is held with one more reading, at one name
+told_with : (b : Bool) (sums : Option SumTable) (pairs : List (Name × Reply)) (old new : Held) (name : Name) (reply : Reply) (reading : Result Dependency Class) (other : Name)
+    → (b ≡ same_name other name) → Tells sums pairs old → answer_in pairs name ≡ None → IsFileReading sums name reply reading → new other ≡ cond b (Some reading) (old other)
+    → IsTold sums other (answer_in (pairs ++ (name, reply) ∷ []) other) (new other)
+told_with true sums pairs old new name reply reading other is tells fresh reads e =
+    let same : name ≡ other = sym (names_equal other name (sym is)) in
+    told_along sums other (answer_in (pairs ++ (name, reply) ∷ []) other) (Some reply) (new other) (Some reading)
+    (subst (λ (n : Name). answer_in (pairs ++ (name, reply) ∷ []) n ≡ Some reply) same (answer_there pairs name reply fresh)) e
+    (subst (λ (n : Name). IsFileReading sums n reply reading) same reads)
+told_with false sums pairs old new name reply reading other is tells fresh reads e =
+    told_along sums other (answer_in (pairs ++ (name, reply) ∷ []) other) (answer_in pairs other) (new other) (old other)
+    (answer_elsewhere pairs name other reply (sym is)) e (tells other)
+
+-- With the reading of one more reply added, what is held has the readings of all pairs.
+pub tells_more : (sums : Option SumTable) (pairs : List (Name × Reply)) (old new : Held) (name : Name) (reply : Reply) (reading : Result Dependency Class)
+    → Tells sums pairs old → answer_in pairs name ≡ None → IsFileReading sums name reply reading → ((other : Name) → new other ≡ cond (same_name other name) (Some reading) (old other))
+    → Tells sums (pairs ++ (name, reply) ∷ []) new
+tells_more sums pairs old new name reply reading tells fresh reads e other = told_with (same_name other name) sums pairs old new name reply reading other refl tells fresh reads (e other)
+
+map_cond : {A B : Type 0} (f : A → B) (b : Bool) (v : A) (r : Option A) → option_map f (cond b (Some v) r) ≡ cond b (Some (f v)) (option_map f r)
+map_cond f true v r = refl
+map_cond f false v r = refl
+
+-- ---- a cache with one more entry
+
+held_with : (old new : Cache) (name : Name) (one : Result Summary Class) → AddsSummary old.summaries new.summaries name one → (other : Name) → held_of new other ≡ cond (same_name other name) (Some (said one)) (held_of old other)
+held_with old new name one keeps other = ap (option_map said) (keeps other) ∙ map_cond said (same_name other name) one (summary_at old other)
+
+kept_with : (b : Bool) (main : Main) (o : Option (Result Summary Class)) (one some : Result Summary Class) → ((any : Result Summary Class) → o ≡ Some any → IsKept main any) → IsKept main one → cond b (Some one) o ≡ Some some → IsKept main some
+kept_with true main o one some were is e = let same : one ≡ some = cc in subst (λ (x : Result Summary Class). IsKept main x) same is
+kept_with false main o one some were is e = were some e
+
+-- The cache knows the pairs and one more.
+pub knows_more : (old new : Cache) (pairs : List (Name × Reply)) (name : Name) (reply : Reply) (one : Result Summary Class)
+    → Knows old pairs → summary_at old name ≡ None → new.main.now ≡ old.main.now → sums_in new ≡ sums_in old → AddsSummary old.summaries new.summaries name one
+    → IsFileReading (sums_in old) name reply (said one) → IsKept (main_in old) one → Knows new (pairs ++ (name, reply) ∷ [])
+knows_more old new pairs name reply one knows none same_main same_sums keeps reads is = record {
+  tells = subst (λ (s : Option SumTable). Tells s (pairs ++ (name, reply) ∷ []) (held_of new)) (sym same_sums)
+      (tells_more (sums_in old) pairs (held_of old) (held_of new) name reply (said one) knows.tells (not_asked old pairs name knows none) reads (held_with old new name one keeps));
+  lends = λ other some e. subst (λ (m : Main). IsKept m some) (ap main_of (sym same_main))
+      (kept_with (same_name other name) (main_in old) (summary_at old other) one some (λ any f. knows.lends other any f) is (sym (keeps other) ∙ e));
+}
+
+-- A cache that adds the reading of the last answer knows all answers.
+pub knows_last : (old new : Cache) (pairs all : List (Name × Reply)) (name : Name) (reply found : Reply) (one : Result Summary Class)
+    → Knows old pairs → summary_at old name ≡ None → new.main.now ≡ old.main.now → sums_in new ≡ sums_in old → AddsSummary old.summaries new.summaries name one
+    → all ≡ pairs ++ (name, reply) ∷ [] → found ≡ reply → IsFileReading (sums_in old) name found (said one) → IsKept (main_in old) one → Knows new all
+knows_last old new pairs all name reply found one knows none same_main same_sums keeps e f reads is =
+    subst (λ (ps : List (Name × Reply)). Knows new ps) (sym e)
+    (knows_more old new pairs name reply one knows none same_main same_sums keeps (subst (λ (r : Reply). IsFileReading (sums_in old) name r (said one)) f reads) is)
+
+pub none_copied : {X : Type 0} (o : Option (Bor X)) (b : Bool) (r : Option X) → option_copied o ≡ r → b ≡ is_some o → b ≡ false → r ≡ None
+none_copied None b r e i f = sym e
+none_copied (Some x) b r e i f = absurd cc
+
+-- ---- the last answer
+
+last_reply : (pairs : List (Name × Reply)) (pair : Name × Reply) → slice_get (replies_in (pairs ++ pair ∷ [])) (length pairs) ≡ Some pair.1
+last_reply [] pair = refl
+last_reply (first ∷ pairs) pair = last_reply pairs pair
+
+pub last_answered : (all pairs : List (Name × Reply)) (name : Name) (reply found : Reply) (count : ℕ) → all ≡ pairs ++ (name, reply) ∷ [] → count ≡ length all → slice_get (replies_in all) (count - 1) ≡ Some found → found ≡ reply
+last_answered all pairs name reply found count e c at =
+    let place : count - 1 ≡ length pairs = omega (arith, ap length e, length-append pairs ((name, reply) ∷ [])) in
+    let here : Some found ≡ Some reply = sym at ∙ ap (λ (i : ℕ). slice_get (replies_in all) i) place ∙ ap (λ (ps : List (Name × Reply)). slice_get (replies_in ps) (length pairs)) e ∙ last_reply pairs (name, reply) in
+    cc

@@ -1,0 +1,91 @@
+-- What a cache holds, what it finds of a vertex, and which requirements it returns.
+use Rattle.std.specs.Prelude.{◌≡◌, List, [], ◌∷◌, ◌++◌, Option, Some, None, MatchResult, Result, Ok, Err}
+use Rattle.std.specs.Option.{option_copied, option_map}
+use Rattle.std.specs.Borrow.{Fml, MutBor}
+use Rattle.std.specs.Io.BufRead.{Rests}
+use Rattle.gm_file.specs.Fields.{Dependency}
+use Rattle.gm_store.specs.Asked.{Name, Reply, name_of}
+use Rattle.gm_store_sums.specs.declared.sum_table.SumTable.{SumTable}
+use Rattle.gm_graph_cache.specs.declared.class.Class.{Class}
+use Rattle.gm_graph_cache.specs.declared.depth.Turn.{Turn}
+use Rattle.gm_graph_cache.specs.declared.finding.Finding.{Finding}
+use Rattle.gm_graph_cache.specs.declared.finding.Finding.TheVariants.{Fault, Sound}
+use Rattle.gm_graph_cache.specs.declared.summary.Summary.{Summary}
+use Rattle.gm_graph_cache.specs.declared.cache.Cache.{Cache}
+use Rattle.gm_graph_cache.specs.Main.{Main, Vertex, main_of}
+use Rattle.gm_graph_cache.specs.Summaries.{IsKept, found_in, said}
+use Rattle.gm_graph_cache.specs.Reading.{Held, Tells, readings_by, file_of}
+use mir.Syntax.{named}
+use Rattle.gm_graph_cache.specs.contracts.cache.Cache.{the_row}
+
+-- the main file of a cache
+abbrev pub main_in : Cache → Main
+main_in cache = main_of cache.main.now
+
+-- the go.sum of a cache, if it has one
+abbrev pub sums_in : Cache → Option SumTable
+sums_in cache = option_copied cache.sums
+
+-- the turns whose requirements were requested
+abbrev pub turns_in : Cache → List Turn
+turns_in cache = cache.turns.items
+
+-- the entry of a name
+abbrev pub summary_at : Cache → Name → Option (Result Summary Class)
+summary_at cache name = found_in cache.summaries name
+
+-- what a cache holds of the file of each name
+abbrev pub held_of : Cache → Held
+held_of cache name = option_map said (summary_at cache name)
+
+-- Each summary has the requirements of its file, without the excluded ones.
+abbrev pub LendsKept : Cache → Type 0
+LendsKept cache = (name : Name) (one : Result Summary Class) → summary_at cache name ≡ Some one
+    → IsKept (main_in cache) one
+
+-- The cache holds what these replies say, and nothing else.
+pub record Knows (cache : Cache) (pairs : List (Name × Reply)) : Type 0 where
+  pub tells : Tells (sums_in cache) pairs (held_of cache)
+  pub lends : LendsKept cache
+
+-- the same main file, go.sum and summaries
+pub record HoldsSame (old new : Cache) : Type 0 where
+  pub main : new.main.now ≡ old.main.now
+  pub sums : sums_in new ≡ sums_in old
+  pub entries : new.summaries.entries ≡ old.summaries.entries
+
+-- the same main file, go.sum and list of turns
+pub record LentSame (old new : Cache) : Type 0 where
+  pub main : new.main.now ≡ old.main.now
+  pub sums : sums_in new ≡ sums_in old
+  pub turns : turns_in new ≡ turns_in old
+
+-- What is found of a vertex: its fault, or the name of its file if that has no fault.
+abbrev pub IsFinding : Main → Held → Vertex → Finding → Type 0
+IsFinding main held x (Fault class) = readings_by main held x ≡ Some (Err class)
+IsFinding main held x (Sound name) = (name_of name ≡ file_of main x) × (file : Dependency)
+    × (readings_by main held x ≡ Some (Ok file))
+
+-- The name under which a vertex's requirements are found: none if the vertex has a fault, otherwise the name of its
+-- file.
+abbrev pub IsLender : Main → Held → Vertex → Option Name → Type 0
+IsLender main held x None = (class : Class) × (readings_by main held x ≡ Some (Err class))
+IsLender main held x (Some name) = (name ≡ file_of main x) × (file : Dependency)
+    × (readings_by main held x ≡ Some (Ok file))
+
+-- The list has one more turn at its end, and everything else is the same.
+pub record AddsTurn (old new : Cache) (one : Turn) : Type 0 where
+  pub turns : turns_in new ≡ turns_in old ++ one ∷ []
+  pub holds : HoldsSame old new
+
+-- Everything is the same.
+pub record IsUnchanged (old new : Cache) : Type 0 where
+  pub turns : turns_in new ≡ turns_in old
+  pub holds : HoldsSame old new
+
+-- Once the borrow of the requirements ends, the cache has one more turn. If the call was refused, the cache is
+-- unchanged.
+abbrev pub Lends : {T E : Type 0} → MutBor Cache → Turn → Result T E → Fml
+Lends cache one result =
+    Rests (the_row (record { mir = named 1; lft = [] })) cache
+    (λ end. MatchResult result (λ _. AddsTurn cache.now end one) (λ _. IsUnchanged cache.now end))

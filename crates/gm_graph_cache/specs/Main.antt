@@ -1,0 +1,48 @@
+-- What the main module's file says, and what that means for a module at a version.
+use Rattle.std.specs.Prelude.{ℕ, ◌==◌, ◌&&◌, ◌||◌, not, nat_lt, nat_le, Bool, List, [], filter, Option, unwrap_or}
+use Rattle.std.specs.List.{list_any}
+use Rattle.gm_syntax.specs.Tokens.{Placed}
+use Rattle.gm_syntax.specs.Document.{Line}
+use Rattle.gm_syntax.specs.LineViews.{plain_lines}
+use Rattle.gm_file.specs.Directives.{Strict, Replacing, Right}
+use Rattle.gm_file.specs.Fields.{module_of, go_of, requirements_of, excludes_of, replaces_of, replacement_of as right_among}
+use Rattle.gm_file.specs.Pairs.{pair_eq}
+
+-- a module at a version: its path and its version
+abbrev pub Vertex : Type 0
+Vertex = List ℕ × List ℕ
+
+-- what the main module's file says (Go Modules Reference, "go.mod files")
+pub record Main : Type 0 where
+  pub path : List ℕ
+  pub go : ℕ × ℕ
+  pub requirements : List Vertex
+  pub excludes : List Vertex
+  pub replaces : List Replacing
+
+-- What these lines say as a main module's file. A valid file declares its path.
+abbrev pub main_of : List (Line Placed) → Main
+main_of lines = record {
+  path = unwrap_or (module_of Strict (plain_lines lines)) [];
+  go = go_of Strict (plain_lines lines);
+  requirements = requirements_of Strict (plain_lines lines);
+  excludes = excludes_of (plain_lines lines);
+  replaces = replaces_of (plain_lines lines);
+}
+
+-- The main file excludes that version of that path (Go Modules Reference, "exclude directive").
+abbrev pub is_excluded : Main → Vertex → Bool
+is_excluded main x = list_any (λ y. pair_eq y x) main.excludes
+
+-- the modules that the main file does not exclude
+abbrev pub kept : Main → List Vertex → List Vertex
+kept main = filter (λ x. not (is_excluded main x))
+
+-- What replaces a module at a version (Go Modules Reference, "replace directive"): the right-hand side of the
+-- `replace` of that version, or otherwise of the whole path.
+abbrev pub replacement_of : Main → Vertex → Option Right
+replacement_of main x = right_among main.replaces x
+
+-- go 1.17 and later, by the first two numbers (Go Modules Reference, "Module graph pruning")
+abbrev pub is_pruned_by : ℕ × ℕ → Bool
+is_pruned_by go = nat_lt 1 go.0 || ((go.0 == 1) && nat_le 17 go.1)

@@ -1,0 +1,19 @@
+-- File names as keys, prefixed by their fingerprints.
+use Rattle.std.specs.Prelude.{◌≡◌, ◌&&◌, ℕ, Bool, nat_eq}
+use Rattle.gm_name.specs.Fingerprint.{fingerprint}
+use Rattle.gm_store.specs.Asked.{Name, mod_file, folder_file, list_file, name_of, same_name}
+use Rattle.gm_graph_cache.specs.declared.name_key.NameKey.{NameKey}
+
+-- the fingerprint of a name
+abbrev pub number_of : Name → ℕ
+number_of (mod_file path version) = fingerprint (fingerprint 0 path) version
+number_of (folder_file text) = fingerprint 0 text
+number_of (list_file path) = fingerprint 0 path
+
+-- Whether a key has the fingerprint and the name of this name.
+abbrev pub is_key_of : Name → NameKey → Bool
+is_key_of name key = nat_eq (number_of name) key.number && same_name name (name_of key.name)
+
+-- A key's number is the fingerprint of its name.
+abbrev pub IsNameKey : NameKey → Type 0
+IsNameKey key = key.number ≡ number_of (name_of key.name)

@@ -1,0 +1,175 @@
+-- What the answers of a store mean for a vertex: its fault, or what its file says.
+use Rattle.std.specs.Prelude.{◌≡◌, ◌||◌, ℕ, Bool, true, false, not, if◌then◌else◌, List, [], Option, Some, None, Result, Ok, Err, ⊤}
+use Rattle.std.specs.Option.{option_map}
+use Rattle.std.specs.Str.{bytes_eq}
+use Rattle.gm_name.specs.Path.{is_fetchable}
+use Rattle.gm_syntax.specs.Tokens.{Placed}
+use Rattle.gm_syntax.specs.Document.{Line}
+use Rattle.gm_syntax.specs.LineViews.{plain_lines}
+use Rattle.gm_syntax.specs.Parsed.{IsParsedAs}
+use Rattle.gm_syntax.specs.declared.fault.SyntaxFault.TheVariants as syntax
+use Rattle.gm_file.specs.Directives.{Lax, Right, Folder, Module}
+use Rattle.gm_file.specs.Faults.{fault_of as directive_fault}
+use Rattle.gm_file.specs.Fields.{Dependency, dependency_of}
+use Rattle.gm_store.specs.Asked.{Name, Reply, mod_file, folder_file, list_file, bytes, absent, too_long, answer_in}
+use Rattle.gm_store_sums.specs.Sums.{check_in}
+use Rattle.gm_store_sums.specs.Hash.{file_hash}
+use Rattle.gm_store_sums.specs.declared.sum_table.SumTable.{SumTable}
+use Rattle.gm_store_sums.specs.declared.sum_table.Sum.{Sum}
+use Rattle.gm_store_sums.specs.declared.sum_table.Sum.TheVariants.{Good, Unlisted, Differs}
+use Rattle.gm_graph_cache.specs.declared.class.Class.{Class}
+use Rattle.gm_graph_cache.specs.declared.class.Class.TheVariants.{NotFetchable, Missing, TooLong, NoSum, SumDiffers, Malformed, WrongPath}
+use Rattle.gm_graph_cache.specs.declared.class.Misreading.{Misreading}
+use Rattle.gm_graph_cache.specs.declared.class.Misreading.TheVariants as misreading
+use Rattle.gm_graph_cache.specs.Main.{Main, Vertex, kept, is_pruned_by, replacement_of}
+
+-- ---- which file is read
+
+-- the file of a vertex: that of its replacement, or its own
+abbrev pub file_named : Vertex → Option Right → Name
+file_named x None = mod_file x.0 x.1
+file_named x (Some (Folder text)) = folder_file text
+file_named x (Some (Module path version)) = mod_file path version
+
+abbrev pub file_of : Main → Vertex → Name
+file_of main x = file_named x (replacement_of main x)
+
+-- A file is asked for, unless it comes from a proxy and its path is not fetchable.
+abbrev pub is_askable : Name → Bool
+is_askable (mod_file path version) = is_fetchable path
+is_askable (folder_file text) = true
+is_askable (list_file path) = true
+
+-- ---- what a file says, or what is wrong with it
+
+-- the class of a failed hash check
+abbrev pub class_of_sum : Sum → Option Class
+class_of_sum Good = None
+class_of_sum Unlisted = Some NoSum
+class_of_sum Differs = Some SumDiffers
+
+-- What a go.sum, if there is one, finds wrong with the bytes of a proxy file, under that file's own path and
+-- version.
+abbrev pub sum_fault : Option SumTable → Name → List ℕ → Option Class
+sum_fault None name content = None
+sum_fault (Some table) (mod_file path version) content = class_of_sum (check_in table path version (file_hash content))
+sum_fault (Some table) (folder_file text) content = None
+sum_fault (Some table) (list_file path) content = None
+
+-- The bytes can't be read as a dependency's file: the line, or 0 for the whole file, and the kind of the error
+-- there.
+abbrev pub IsMisread : List ℕ → ℕ → Misreading → Type 0
+IsMisread content line misreading.TooMany = (line ≡ 0) × IsParsedAs content (Err syntax.TooMany)
+IsMisread content line misreading.NotUtf8 = (line ≡ 0) × IsParsedAs content (Err syntax.NotUtf8)
+IsMisread content line (misreading.Syntax kind) = IsParsedAs content (Err (syntax.Syntax line kind))
+IsMisread content line (misreading.Directive kind) = (doc : List (Line Placed)) × IsParsedAs content (Ok doc)
+    × (directive_fault Lax (plain_lines doc) ≡ Some (line, kind))
+
+-- The bytes can be read as a dependency's file with these contents.
+abbrev pub IsReadAs : List ℕ → Dependency → Type 0
+IsReadAs content file = (doc : List (Line Placed)) × IsParsedAs content (Ok doc)
+    × (directive_fault Lax (plain_lines doc) ≡ None) × (dependency_of (plain_lines doc) ≡ file)
+
+-- the contents of the bytes as a dependency's file, or why they can't be read
+abbrev pub IsContentReading : List ℕ → Result Dependency Class → Type 0
+IsContentReading content (Ok file) = IsReadAs content file
+IsContentReading content (Err (Malformed line kind)) = IsMisread content line kind
+IsContentReading content (Err class) = ⊥
+
+-- A fault that was found first takes precedence over the contents of the bytes.
+abbrev pub IsReadUnless : Option Class → List ℕ → Result Dependency Class → Type 0
+IsReadUnless (Some class) content reading = reading ≡ Err class
+IsReadUnless None content reading = IsContentReading content reading
+
+-- What the reply to a name says, or what is wrong with it: the first that applies.
+abbrev pub IsFileReading : Option SumTable → Name → Reply → Result Dependency Class → Type 0
+IsFileReading sums name absent reading = reading ≡ Err Missing
+IsFileReading sums name too_long reading = reading ≡ Err TooLong
+IsFileReading sums name (bytes content) reading = IsReadUnless (sum_fault sums name content) content reading
+
+-- ---- what the files say that were asked for
+
+-- What the file of each name says or what is wrong with it, where that is known.
+abbrev pub Held : Type 0
+Held = Name → Option (Result Dependency Class)
+
+abbrev pub IsTold : Option SumTable → Name → Option Reply → Option (Result Dependency Class) → Type 0
+IsTold sums name None None = ⊤
+IsTold sums name None (Some reading) = ⊥
+IsTold sums name (Some reply) None = ⊥
+IsTold sums name (Some reply) (Some reading) = IsFileReading sums name reply reading
+
+-- What is held is what the replies to the requested names say, and nothing about any other name.
+abbrev pub Tells : Option SumTable → List (Name × Reply) → Held → Type 0
+Tells sums pairs held = (name : Name) → IsTold sums name (answer_in pairs name) (held name)
+
+-- What is held stays.
+abbrev pub KeepsHeld : Held → Held → Type 0
+KeepsHeld old new = (name : Name) (reading : Result Dependency Class) → old name ≡ Some reading
+    → new name ≡ Some reading
+
+-- ---- what that means for a vertex
+
+abbrev pub declares : List ℕ → Option (List ℕ) → Bool
+declares path None = false
+declares path (Some declared) = bytes_eq declared path
+
+-- The declared path is the vertex's own. If another module replaces the vertex, it may be that module's path as
+-- well; in a replacing folder it may be any path or none.
+abbrev pub is_right_path : Vertex → Option Right → Option (List ℕ) → Bool
+is_right_path x None declared = declares x.0 declared
+is_right_path x (Some (Folder text)) declared = true
+is_right_path x (Some (Module path version)) declared = declares x.0 declared || declares path declared
+
+-- the same reading, unless the declared path is wrong
+abbrev pub with_right_path : Vertex → Option Right → Result Dependency Class → Result Dependency Class
+with_right_path x right (Err class) = Err class
+with_right_path x right (Ok file) = if is_right_path x right file.declared then Ok file else Err WrongPath
+
+-- For each vertex, what its file says or its fault, where that is known.
+abbrev pub Readings : Type 0
+Readings = Vertex → Option (Result Dependency Class)
+
+abbrev pub reading_if : Bool → Main → Vertex → Option (Result Dependency Class) → Option (Result Dependency Class)
+reading_if true main x held = option_map (with_right_path x (replacement_of main x)) held
+reading_if false main x held = Some (Err NotFetchable)
+
+-- the readings of vertices, by what is held of the files
+abbrev pub readings_by : Main → Held → Readings
+readings_by main held x = reading_if (is_askable (file_of main x)) main x (held (file_of main x))
+
+-- ---- fault, requirements, pruning
+
+abbrev pub fault_in : Option (Result Dependency Class) → Option Class
+fault_in None = None
+fault_in (Some (Ok file)) = None
+fault_in (Some (Err class)) = Some class
+
+abbrev pub said_in : Option (Result Dependency Class) → Option Dependency
+said_in None = None
+said_in (Some (Ok file)) = Some file
+said_in (Some (Err class)) = None
+
+-- the fault of a vertex
+abbrev pub fault_of : Readings → Vertex → Option Class
+fault_of readings x = fault_in (readings x)
+
+abbrev pub requirements_in : Main → Option Dependency → List Vertex
+requirements_in main None = []
+requirements_in main (Some file) = kept main file.requirements
+
+-- The requirements of a vertex, without the excluded ones: none if it has a fault or is not known.
+abbrev pub requirements_of : Main → Readings → Vertex → List Vertex
+requirements_of main readings x = requirements_in main (said_in (readings x))
+
+abbrev pub is_unpruned_in : Option Dependency → Bool
+is_unpruned_in None = false
+is_unpruned_in (Some file) = not (is_pruned_by file.go)
+
+-- The vertex has no fault, and its file is unpruned.
+abbrev pub is_unpruned : Readings → Vertex → Bool
+is_unpruned readings x = is_unpruned_in (said_in (readings x))
+
+-- Each reading stays.
+abbrev pub Keeps : Readings → Readings → Type 0
+Keeps old new = (x : Vertex) (reading : Result Dependency Class) → old x ≡ Some reading → new x ≡ Some reading

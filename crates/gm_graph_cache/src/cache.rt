@@ -1,0 +1,264 @@
+//! The cache of the files that were read.
+//!
+//! It exists so that each file is asked for and parsed once, however many vertices and turns need it. The test of
+//! the declared path depends on the vertex, not on the file alone, and is therefore repeated for each vertex.
+
+ghost use Rattle.std.specs.Prelude.{◌≡◌, ◌<◌, ◌⊎◌, ◌^◌, ◌-◌, ◌++◌, ◌∷◌, [], ℕ, List, IfOk, OnOk, OnErr, IsSome, None, Some, Ok, Err, true};
+ghost use Rattle.std.specs.Option.{option_copied, option_map};
+ghost use Rattle.gm_store.specs.Asked.{Name, Reply, answer_in, name_of, reply_of};
+ghost use Rattle.gm_store.specs.declared.files.FileName.{FileName};
+ghost use Rattle.gm_graph_cache.specs.Main.{Vertex, main_of};
+ghost use Rattle.gm_graph_cache.specs.Marks.{IsNameKey};
+ghost use Rattle.gm_graph_cache.specs.Asking.{AsksAtMost, AsksFor, MayGrow, MayLess};
+ghost use Rattle.gm_graph_cache.specs.Reading.{IsFileReading, KeepsHeld, file_of, is_askable as may_be_asked, is_unpruned, is_unpruned_in, readings_by, requirements_of, said_in};
+ghost use Rattle.gm_graph_cache.specs.Refusals.{refused_in};
+ghost use Rattle.gm_graph_cache.specs.Summaries.{IsKept, said};
+ghost use Rattle.gm_graph_cache.specs.Turns.{turn};
+
+use crate::class::Class;
+use crate::depth::{Depth, Turn};
+use crate::finding::Finding;
+use crate::load_fault::LoadFault;
+use crate::name_key::{NameKey, mark, mark_any, mark_copy};
+use crate::naming::{file_name, is_askable};
+use crate::paths::is_right_path;
+use crate::reading::read_answer;
+use crate::summary::{Summary, summary_of};
+use crate::summary_map::{find_summary, insert_summary, is_unpruned_in, lent_in};
+use gm_file::MainFile;
+use gm_name::{KnownNames, ModVer, NoMemory};
+use gm_store::{Answer, AskFault, FileName, Files};
+use gm_store_sums::SumTable;
+use std::alloc::Global;
+use std::collections::BTreeMap;
+
+/// What was read of the files that a store was asked for, and the turns whose requirements were requested. Only the
+/// cache reads a store's answers, and it reads each of them once, at the time of asking. The test of the declared
+/// path is made for each vertex.
+#[derive(Drop)]
+pub struct Cache<'a> {
+    /// The allocator of all that the cache holds.
+    alloc: Global,
+    /// The main module's file.
+    main: &'a MainFile<'a>,
+    /// The go.sum, if there is one.
+    sums: Option<&'a SumTable>,
+    /// The paths and versions that the files share.
+    names: KnownNames,
+    /// What was read of each file, or what is wrong with it.
+    summaries: BTreeMap<NameKey, Result<Summary, Class>>,
+    /// The turns whose requirements were requested, in order.
+    turns: Vec<Turn>,
+}
+
+/// How many paths, and how many versions, are shared between files. Beyond that number more are read, but each has
+/// its own copy.
+const MOST_KNOWN: usize = 65_536;
+
+/// The answer to the last request.
+fn last_answer<F: Files>(files: &F) -> &Answer
+    requires { (pairs : List (Name × Reply)) × (name : Name) × (reply : Reply)
+        × (F.asked files.now ≡ pairs ++ (name, reply) ∷ []) }
+    ensures { (pairs : List (Name × Reply)) (name : Name) (reply : Reply)
+        → F.asked files.now ≡ pairs ++ (name, reply) ∷ [] → reply_of result.now ≡ reply }
+{
+    files.answer(files.count() - 1)
+}
+
+/// What an answer says, without the excluded requirements, or what is wrong with it.
+fn summarize(
+    alloc: Global,
+    names: &mut KnownNames,
+    main: &MainFile,
+    sums: Option<&SumTable>,
+    name: &FileName,
+    answer: &Answer,
+) -> Result<Result<Summary, Class>, NoMemory>
+    ensures reading { IfOk result (λ one.
+        IsFileReading (option_copied sums.entry) (name_of name.now) (reply_of answer.now) (said one)) }
+    ensures kept { IfOk result (IsKept (main_of main.now)) }
+{
+    match read_answer(alloc, names, sums, name, answer)? {
+        Ok(file) => Ok(Ok(summary_of(alloc, main, file)?)),
+        Err(class) => Ok(Err(class)),
+    }
+}
+
+/// Appends a turn to the list.
+fn push_turn(
+    alloc: Global,
+    turns: &mut Vec<Turn>,
+    vertex: &ModVer,
+    depth: Depth,
+) -> Result<(), NoMemory>
+    ensures ok { OnOk result (turns.new.items ≡ turns.old.items ++ turn vertex.now depth ∷ []) }
+    ensures err { OnErr result (turns.new.items ≡ turns.old.items) }
+{
+    turns.push(Turn {
+        vertex: vertex.copy(alloc)?,
+        depth,
+    })?;
+    Ok(())
+}
+
+impl<'a> Cache<'a> {
+    ghost use Rattle.std.specs.Borrow.{sem};
+    ghost use Rattle.gm_graph_cache.specs.Cached.{HoldsSame, IsFinding, IsLender, IsUnchanged, Knows, LendsKept, LentSame, Lends, held_of, main_in, summary_at, sums_in, turns_in};
+
+    /// An empty cache for a main file. If there is a go.sum, the files that come from proxies are checked against
+    /// it.
+    pub fn new(alloc: Global, main: &'a MainFile<'a>, sums: Option<&'a SumTable>) -> Cache<'a>
+        ensures main { main_in result ≡ main_of main.entry.now }
+        ensures sums { sums_in result ≡ option_copied sums.entry }
+        ensures knows { Knows result [] }
+        ensures turns { turns_in result ≡ [] }
+    {
+        Cache {
+            alloc,
+            main,
+            sums,
+            names: KnownNames::new(alloc, MOST_KNOWN),
+            summaries: BTreeMap::new(alloc),
+            turns: Vec::new(alloc),
+        }
+    }
+
+    /// Asks for the file of that name and reads it, unless it is known already.
+    fn read_file<F: Files>(&mut self, files: &mut F, key: &NameKey) -> Result<(), AskFault>
+        requires knows { Knows self.old (F.asked files.old) }
+        requires marked { IsNameKey key.now }
+        ensures knows { OnOk result (Knows self.new (F.asked files.new)) }
+        ensures found { OnOk result (IsSome (summary_at self.new (name_of key.now.name))) }
+        ensures lent { LentSame self.old self.new }
+        ensures grows { KeepsHeld (held_of self.old) (held_of self.new) }
+        ensures err { OnErr result (HoldsSame self.old self.new) }
+        ensures asks { AsksAtMost (F.asked files.old) (F.asked files.new) (name_of key.now.name) }
+        ensures device { result ≡ Err AskFault.Device
+            → (F.asked files.new ≡ F.asked files.old) × (answer_in (F.asked files.old) (name_of key.now.name) ≡ None)
+            × (F.refused files.new ≡ F.refused files.old ++ name_of key.now.name ∷ []) }
+        ensures not_refused { (result ≡ Err AskFault.Device → ⊥) → F.refused files.new ≡ F.refused files.old }
+        ensures cause { result ≡ Err AskFault.Device
+            → (F.fault_count files.old < F.fault_count files.new) ⊎ (F.fault_count files.old ≡ 2 ^ 64 - 1) }
+        ensures may { MayGrow (F.may_answer files.old) (F.asked files.old) (F.asked files.new) }
+        ensures same_store { MayLess (F.may_answer files.new) (F.may_answer files.old) }
+    {
+        if find_summary(&self.summaries, key).is_some() {
+            return Ok(());
+        }
+        files.ask(&key.name)?;
+        let one = summarize(
+            self.alloc,
+            &mut self.names,
+            self.main,
+            self.sums,
+            &key.name,
+            last_answer(files),
+        )?;
+        insert_summary(self.alloc, &mut self.summaries, key, one)?;
+        Ok(())
+    }
+
+    /// What is found of a vertex whose file is known.
+    fn find(&self, x: &ModVer, key: NameKey) -> Finding
+        requires marked { IsNameKey key }
+        requires file { name_of key.name ≡ file_of (main_in self.now) x.now }
+        requires askable { may_be_asked (name_of key.name) ≡ true }
+        requires found { IsSome (summary_at self.now (name_of key.name)) }
+        ensures { IsFinding (main_in self.now) (held_of self.now) x.now result }
+    {
+        match find_summary(&self.summaries, &key) {
+            None => unreachable!(),
+            Some(Err(class)) => Finding::Fault(*class),
+            Some(Ok(summary)) => {
+                if is_right_path(self.main, x, &summary.file) {
+                    Finding::Sound(key.name)
+                } else {
+                    Finding::Fault(Class::WrongPath)
+                }
+            }
+        }
+    }
+
+    /// Makes the file of a vertex known, and reports what is found of the vertex. The store is asked for that file
+    /// unless it is known already, or comes from a proxy and its path isn't fetchable.
+    ///
+    /// `NoMemory` is returned if memory runs out; the store may then hold an answer that the cache doesn't.
+    /// `Device` is returned exactly if the store's device fails in this request. `TooMany` is never returned. After
+    /// any refusal the cache is unchanged.
+    pub fn known<F: Files>(&mut self, files: &mut F, x: &ModVer) -> Result<Finding, LoadFault>
+        requires { Knows self.old (F.asked files.old) }
+        ensures knows { OnOk result (Knows self.new (F.asked files.new)) }
+        ensures finding { IfOk result (IsFinding (main_in self.new) (held_of self.new) x.now) }
+        ensures lent { LentSame self.old self.new }
+        ensures grows { KeepsHeld (held_of self.old) (held_of self.new) }
+        ensures err { OnErr result (HoldsSame self.old self.new) }
+        ensures asks { AsksFor (main_in self.old) (F.asked files.old) (F.asked files.new) x.now }
+        ensures not_too_many { result ≡ Err LoadFault.TooMany → ⊥ }
+        ensures device { (name : FileName) → result ≡ Err (LoadFault.Device name)
+            → (F.asked files.new ≡ F.asked files.old) × (name_of name ≡ file_of (main_in self.old) x.now)
+            × (may_be_asked (name_of name) ≡ true) × (answer_in (F.asked files.old) (name_of name) ≡ None) }
+        ensures refused { F.refused files.new ≡ F.refused files.old ++ refused_in result }
+        ensures cause { (name : FileName) → result ≡ Err (LoadFault.Device name)
+            → (F.fault_count files.old < F.fault_count files.new) ⊎ (F.fault_count files.old ≡ 2 ^ 64 - 1) }
+        ensures may { MayGrow (F.may_answer files.old) (F.asked files.old) (F.asked files.new) }
+        ensures same_store { MayLess (F.may_answer files.new) (F.may_answer files.old) }
+    {
+        let name = file_name(self.alloc, self.main, x)?;
+        if !is_askable(&name) {
+            return Ok(Finding::Fault(Class::NotFetchable));
+        }
+        let key = mark(name);
+        match self.read_file(files, &key) {
+            Ok(()) => Ok(self.find(x, key)),
+            Err(AskFault::NoMemory) => Err(LoadFault::NoMemory),
+            Err(AskFault::Device) => Err(LoadFault::Device(key.name)),
+        }
+    }
+
+    /// Returns the requirements of a vertex, without the excluded ones, and appends the vertex and the depth to the
+    /// list of turns. For a vertex with a fault `name` is `None`, and there are no requirements; for any other
+    /// vertex `name` is the name of its file. `NoMemory`, the only refusal, leaves the cache unchanged.
+    pub fn lend(
+        &mut self,
+        vertex: &ModVer,
+        depth: Depth,
+        name: Option<&FileName>,
+    ) -> Result<&[ModVer], NoMemory>
+        requires lends { LendsKept self.old }
+        requires lender { IsLender (main_in self.old) (held_of self.old) vertex.now
+            (option_map (λ n. name_of n.now) name) }
+        ensures lent { IfOk result (λ lent. lent.now
+            ≡ requirements_of (main_in self.old) (readings_by (main_in self.old) (held_of self.old)) vertex.now) }
+        ensures* after { sem 𝓛 (Lends self.entry (turn vertex.now depth) result) }
+    {
+        let key = mark_any(self.alloc, name)?;
+        push_turn(self.alloc, &mut self.turns, vertex, depth)?;
+        Ok(lent_in(&self.summaries, key))
+    }
+
+    /// Whether the file of that name is known, has no fault and is unpruned, that is, whether the first two numbers
+    /// of its go version are below 1.17 (Go Modules Reference, "Module graph pruning"). The only refusal is
+    /// `NoMemory`.
+    pub fn is_unpruned(&self, name: &FileName) -> Result<bool, NoMemory>
+        ensures held { IfOk result (λ is. is ≡ is_unpruned_in (said_in (held_of self.now (name_of name.now)))) }
+        ensures vertex { (x : Vertex) → IsLender (main_in self.now) (held_of self.now) x (Some (name_of name.now))
+            → IfOk result (λ is. is ≡ is_unpruned (readings_by (main_in self.now) (held_of self.now)) x) }
+    {
+        let key = mark_copy(self.alloc, name)?;
+        Ok(is_unpruned_in(find_summary(&self.summaries, &key)))
+    }
+
+    /// The vertices and depths whose requirements were requested, in order.
+    pub fn turns(&self) -> &[Turn]
+        ensures { result.now ≡ turns_in self.now }
+    {
+        self.turns.as_slice()
+    }
+
+    /// The list of turns. The rest of the cache is dropped.
+    pub fn into_turns(self) -> Vec<Turn>
+        ensures { result.items ≡ turns_in self.entry }
+    {
+        self.turns
+    }
+}

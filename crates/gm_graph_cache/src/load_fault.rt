@@ -1,0 +1,36 @@
+//! Why loading a module graph stops.
+
+ghost use Rattle.std.specs.Prelude.{◌≡◌};
+ghost use Rattle.gm_graph_cache.specs.declared.load_fault.LoadFault.TheVariants as load;
+
+use gm_store::FileName;
+use std::alloc::{AllocError, AllocFailed};
+
+/// Why loading stopped.
+#[derive(Debug, Drop)]
+pub enum LoadFault {
+    /// Memory ran out.
+    NoMemory,
+    /// The store's device failed when it was asked for this file.
+    Device(FileName),
+    /// More than 65,536 vertices would be opened.
+    TooMany,
+}
+
+impl From<AllocError> for LoadFault {
+    ghost from_gives = { λ _ fault. fault ≡ load.NoMemory };
+
+    /// A failed allocation is `NoMemory`.
+    fn from(_error: AllocError) -> LoadFault {
+        LoadFault::NoMemory
+    }
+}
+
+impl<T: Drop> From<AllocFailed<T>> for LoadFault {
+    ghost from_gives = { λ _ fault. fault ≡ load.NoMemory };
+
+    /// A failed allocation is `NoMemory`. The value that couldn't be stored is dropped.
+    fn from(_error: AllocFailed<T>) -> LoadFault {
+        LoadFault::NoMemory
+    }
+}

@@ -1,0 +1,79 @@
+//! File names as keys of a map, prefixed by their fingerprints.
+//!
+//! Paths may be as long as a file and share long prefixes, so comparing them at each step of a lookup would be
+//! slow. Fingerprints decide almost every comparison.
+
+ghost use Rattle.std.specs.Prelude.{◌≡◌, IfOk, IfSome};
+ghost use Rattle.std.specs.Option.{option_map};
+ghost use Rattle.gm_store.specs.Asked.{name_of};
+ghost use Rattle.gm_graph_cache.specs.Marks.{IsNameKey, number_of};
+
+use gm_name::{NoMemory, fingerprint};
+use gm_store::{FileName, copy_name};
+use std::alloc::Global;
+
+/// A file's name with its fingerprint in front. In a map such keys are ordered by their numbers, so a lookup
+/// compares names only if two numbers are equal. Names crafted to have equal fingerprints cost no more than in a
+/// map keyed by names alone.
+#[derive(Drop, PartialEq, Eq, PartialOrd, Ord)]
+pub(crate) struct NameKey {
+    /// The fingerprint of the name.
+    pub(crate) number: u64,
+    /// The name.
+    pub(crate) name: FileName,
+}
+
+/// The fingerprint of a name.
+fn number_of(name: &FileName) -> u64
+    ensures { result ≡ number_of (name_of name.now) }
+{
+    match name {
+        FileName::Mod(path, version) => fingerprint(path.fingerprint(), version.as_str()),
+        FileName::Folder(text) => fingerprint(0, text.as_str()),
+        FileName::List(path) => path.fingerprint(),
+    }
+}
+
+/// The key of a name.
+pub(crate) fn mark(name: FileName) -> NameKey
+    ensures marked { IsNameKey result }
+    ensures name { name_of result.name ≡ name_of name }
+{
+    NameKey {
+        number: number_of(&name),
+        name,
+    }
+}
+
+/// The key of a copy of a name. The only refusal is `NoMemory`.
+pub(crate) fn mark_copy(alloc: Global, name: &FileName) -> Result<NameKey, NoMemory>
+    ensures marked { IfOk result IsNameKey }
+    ensures name { IfOk result (λ key. name_of key.name ≡ name_of name.now) }
+{
+    Ok(mark(copy_name(alloc, name)?))
+}
+
+/// The key of a copy of a name, if there is one. The only refusal is `NoMemory`.
+pub(crate) fn mark_any(alloc: Global, name: Option<&FileName>) -> Result<Option<NameKey>, NoMemory>
+    ensures marked { IfOk result (λ key. IfSome key IsNameKey) }
+    ensures name { IfOk result (λ key. option_map (λ k. name_of k.name) key
+        ≡ option_map (λ n. name_of n.now) name.entry) }
+{
+    match name {
+        None => Ok(None),
+        Some(name) => Ok(Some(mark_copy(alloc, name)?)),
+    }
+}
+
+impl NameKey {
+    /// An equal key. The only refusal is `NoMemory`.
+    pub(crate) fn copy(&self, alloc: Global) -> Result<NameKey, NoMemory>
+        ensures number { IfOk result (λ key. key.number ≡ self.now.number) }
+        ensures name { IfOk result (λ key. name_of key.name ≡ name_of self.now.name) }
+    {
+        Ok(NameKey {
+            number: self.number,
+            name: copy_name(alloc, &self.name)?,
+        })
+    }
+}

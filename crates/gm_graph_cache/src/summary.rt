@@ -1,0 +1,68 @@
+//! What the cache keeps of a valid file.
+
+ghost use Rattle.std.specs.Prelude.{◌≡◌, IfOk};
+ghost use Rattle.std.specs.List.{list_any};
+ghost use Rattle.gm_graph_cache.specs.Main.{is_excluded, kept, main_of};
+ghost use Rattle.gm_graph_cache.specs.Summaries.{lent_by};
+
+use crate::main_view::is_excluded;
+use gm_file::{DepFile, MainFile};
+use gm_name::{ModVer, NoMemory};
+use std::alloc::Global;
+
+/// What the cache keeps of a valid file.
+#[derive(Drop)]
+pub(crate) struct Summary {
+    /// The file's contents.
+    pub(crate) file: DepFile,
+    /// The requirements without the excluded ones, if one of them is excluded. Otherwise the list of the file
+    /// itself serves, so that most summaries need no copy.
+    pub(crate) kept: Option<Vec<ModVer>>,
+}
+
+/// Whether one of these is excluded.
+fn has_excluded(main: &MainFile, list: &[ModVer]) -> bool
+    ensures { result ≡ list_any (is_excluded (main_of main.now)) list.now }
+{
+    list.iter().any(|x| is_excluded(main, x))
+}
+
+/// Copies of those that are not excluded.
+fn copy_kept(alloc: Global, main: &MainFile, list: &[ModVer]) -> Result<Vec<ModVer>, NoMemory>
+    ensures { IfOk result (λ some. some.items ≡ kept (main_of main.now) list.now) }
+{
+    let mut some = Vec::new(alloc);
+    for x in list {
+        if !is_excluded(main, x) {
+            some.push(x.copy(alloc)?)?;
+        }
+    }
+    Ok(some)
+}
+
+/// The summary of a file.
+pub(crate) fn summary_of(alloc: Global, main: &MainFile, file: DepFile) -> Result<Summary, NoMemory>
+    ensures file { IfOk result (λ summary. summary.file ≡ file) }
+    ensures kept { IfOk result (λ summary. lent_by summary ≡ kept (main_of main.now) file.requirements) }
+{
+    if !has_excluded(main, file.requirements()) {
+        return Ok(Summary { file, kept: None });
+    }
+    let some = copy_kept(alloc, main, file.requirements())?;
+    Ok(Summary {
+        file,
+        kept: Some(some),
+    })
+}
+
+impl Summary {
+    /// The requirements without the excluded ones.
+    pub(crate) fn lent(&self) -> &[ModVer]
+        ensures { result.now ≡ lent_by self.now }
+    {
+        match &self.kept {
+            None => self.file.requirements(),
+            Some(some) => some.as_slice(),
+        }
+    }
+}

@@ -1,0 +1,145 @@
+-- What the commands do with what was found.
+use Rattle.std.proofs.Common.{◌≡◌, ◌∙◌, ◌++◌, ℕ, List, [], ◌∷◌, Option, Some, Result, Ok, Err, IfOk, MatchResult, sym, refl, subst, inl, inr, append-nil}
+use Rattle.gm_syntax.specs.Document.{Line}
+use Rattle.gm_syntax.specs.Tokens.{Placed}
+use Rattle.gm_store.specs.Asked.{Name, Reply, name_of}
+use Rattle.gm_store.specs.declared.files.FileName.{FileName}
+use Rattle.gm_store_sums.specs.declared.sum_table.SumTable.{SumTable}
+use Rattle.gm_graph_cache.specs.Main.{Main, main_of}
+use Rattle.gm_graph_cache.specs.Reading.{Held, Readings, Tells, readings_by}
+use Rattle.gm_graph_cache.specs.Refusals.{refused_by, refused_in}
+use Rattle.gm_graph_cache.specs.declared.load_fault.LoadFault.{LoadFault}
+use Rattle.gm_graph_cache.specs.declared.load_fault.LoadFault.TheVariants as load
+use Rattle.gm_graph_select.specs.BuildList.{Entry, IsRestAfter}
+use Rattle.gm_graph_select.specs.Graph.{among, edge}
+use Rattle.gm_graph_select.proofs.Same.{same_chain}
+use Rattle.gm_graph.specs.declared.fault.Fault.{Fault}
+use Rattle.gm_graph.specs.Graph.{IsEdge}
+use Rattle.gm_graph.specs.Loading.{AreTooMany, IsDue, Told}
+use Rattle.gm_graph.specs.Outcome.{AreFaults, IsLoaded, Outcome as Loaded}
+use Rattle.gm_graph_listing.specs.declared.answering.Read.{Read}
+use Rattle.gm_graph_listing.specs.declared.output.Output.{Output}
+use Rattle.gm_graph_listing.specs.declared.query.Query.{Query}
+use Rattle.gm_graph_listing.specs.declared.query.Query.TheVariants.{Graph, List as Rows, Chain}
+use Rattle.gm_graph_listing.specs.Texts.{limited, list_text}
+use Rattle.gm_graph_listing.specs.Reports.{Place, main_line}
+use Rattle.gm_graph_listing.specs.Outcomes.{AreKnown, AreInvalidSums, AreSums, FailsInOrder, IsAnswer, IsMainFile, IsMainOf, IsMalformedMain, IsRefusedRead, Outcome, PrintsFor, PrintsRows, answers, device, faulty, given, outcome_of, printed, refused, too_many}
+use Rattle.gm_graph_listing.specs.Found.{FailsOver, IsAnswerOver, IsLoadReport, ReportsFaultsOr, PrintsFound, FilesReadAs}
+
+-- the case where the rows after a path are printed
+pub rest_printed : {E : Type 0} (main : Main) (rows rest : List Entry) (path : List ℕ) (limit : Option ℕ) (result : Result Output E) → IsRestAfter main.path rows path rest
+    → IfOk result (λ output. outcome_of output ≡ printed (list_text main.path (limited limit rest)))
+    → IfOk result (λ output. PrintsRows main rows (Some path) limit (outcome_of output))
+rest_printed main rows rest path limit (Ok output) is says = inl (rest, is, says)
+rest_printed main rows rest path limit (Err e) is says = tt
+
+-- the outcome when both files are valid, with the names on which the store's device failed
+abbrev pub Answered : Query → Main → Option SumTable → List (Name × Reply) → List Name → List Name → Outcome → Type 0
+Answered query main table asked before after outcome =
+    (failed : List Name) × (after ≡ before ++ failed) × IsAnswerOver query main table (answers asked failed) outcome
+
+pub not_loaded : (query : Query) (main : Main) (table : Option SumTable) (asked : List (Name × Reply)) (before after : List Name) (fault : LoadFault) (outcome : Outcome)
+    → (fault ≡ load.TooMany → Told main table asked (AreTooMany main))
+    → ((name : FileName) → fault ≡ load.Device name → IsDue main table asked (name_of name))
+    → after ≡ before ++ refused_by fault → IsLoadReport fault outcome
+    → Answered query main table asked before after outcome
+not_loaded query main table asked before after load.NoMemory outcome many due failed report = absurd report
+not_loaded query main table asked before after load.TooMany outcome many due failed report = ([], failed, inl (too_many (many refl) refl report))
+not_loaded query main table asked before after (load.Device name) outcome many due failed report =
+    (name_of name ∷ [], failed, inl (device (name_of name) (due name refl) refl report))
+
+-- the device failed on the file that loading names
+pub load_fails : {T : Type 0} (main : Main) (table : Option SumTable) (asked : List (Name × Reply)) (before after : List Name) (result : Result T LoadFault)
+    → after ≡ before ++ refused_in result → ((name : FileName) → result ≡ Err (load.Device name) → IsDue main table asked (name_of name))
+    → FailsOver main table asked before after
+load_fails main table asked before after (Ok loaded) grown due = inl (grown ∙ append-nil before)
+load_fails main table asked before after (Err load.NoMemory) grown due = inl (grown ∙ append-nil before)
+load_fails main table asked before after (Err load.TooMany) grown due = inl (grown ∙ append-nil before)
+load_fails main table asked before after (Err (load.Device name)) grown due = inr (name_of name, due name refl, grown)
+
+pub over_fails : (file : List ℕ) (sums : Option (List ℕ)) (main : Main) (table : Option SumTable) (asked : List (Name × Reply)) (before after : List Name)
+    → FilesReadAs file sums main table → FailsOver main table asked before after → FailsInOrder file sums asked before after
+over_fails file sums main table asked before after read (inl none) = inl none
+over_fails file sums main table asked before after (main_file, sums_are) (inr (name, due, grown)) = inr (main, table, name, main_file, sums_are, due, grown)
+
+-- the files of the opened modules are known
+pub known : (main : Main) (table : Option SumTable) (asked : List (Name × Reply)) (loaded : Loaded) (held : Held) → Tells table asked held
+    → IsLoaded main asked loaded (readings_by main held) → AreKnown main table (answers asked []) held
+known main table asked loaded held tells is = record { tells = tells; answered = is.answered; asked = is.asked; few = is.few; none_failed = refl }
+
+-- a command prints the same of what was found as of the readings
+pub prints_for : (query : Query) (main : Main) (asked : List (Name × Reply)) (loaded : Loaded) (readings : Readings) (outcome : Outcome) → IsLoaded main asked loaded readings
+    → PrintsFound query main loaded outcome → PrintsFor query main readings outcome
+prints_for Graph main asked loaded readings outcome is prints = (loaded.edges, is.edges, prints)
+prints_for (Rows after limit) main asked loaded readings outcome is prints = (loaded.rows, is.rows, prints)
+prints_for (Chain path) main asked loaded readings outcome is (inl (s, steps, entry, chain, says)) =
+    (loaded.rows, is.rows, inl (s, steps, entry, same_chain (among loaded.edges) (IsEdge main readings) (λ t y. is.edges.each (edge t y)) chain, says))
+prints_for (Chain path) main asked loaded readings outcome is (inr unlisted) = (loaded.rows, is.rows, inr unlisted)
+
+pub by_faults : (query : Query) (main : Main) (table : Option SumTable) (asked : List (Name × Reply)) (before after : List Name) (loaded : Loaded) (faults : List Fault) (outcome : Outcome)
+    → Told main table asked (IsLoaded main asked loaded) → after ≡ before ++ [] → faults ≡ loaded.faults
+    → ReportsFaultsOr faults (PrintsFound query main loaded outcome) outcome → Answered query main table asked before after outcome
+by_faults query main table asked before after loaded [] outcome (held, tells, is) failed same told = (
+  [],
+  failed,
+  inr (held, known main table asked loaded held tells is, subst (AreFaults main (readings_by main held)) (sym same) is.faults, prints_for query main asked loaded (readings_by main held) outcome is told),
+)
+by_faults query main table asked before after loaded (first ∷ others) outcome (held, tells, is) failed same told = (
+  [],
+  failed,
+  inl (faulty held first others (known main table asked loaded held tells is) (subst (AreFaults main (readings_by main held)) (sym same) is.faults) told),
+)
+
+-- ---- what was read
+
+abbrev pub IsMainRead : List ℕ → Result (List (Line Placed)) Output → Type 0
+IsMainRead file r = MatchResult r (λ lines. IsMainOf file lines) (λ output. (place : Place) × IsMalformedMain file place × (outcome_of output ≡ refused (main_line place)))
+
+-- the report of a main module's file that was not read
+pub main_err : (file : List ℕ) (r : Result (List (Line Placed)) Output) (output : Output) → r ≡ Err output → IsMainRead file r
+    → (place : Place) × IsMalformedMain file place × (outcome_of output ≡ refused (main_line place))
+main_err file r output is match = subst (IsMainRead file) is match
+
+pub main_ok : (file : List ℕ) (r : Result (List (Line Placed)) Output) (lines : List (Line Placed)) → r ≡ Ok lines → IsMainRead file r → IsMainFile file (main_of lines)
+main_ok file r lines is match = (lines, subst (IsMainRead file) is match, refl)
+
+abbrev pub AreSumsRead : Option (List ℕ) → Result (Option SumTable) Output → Type 0
+AreSumsRead sums r = MatchResult r (λ table. AreSums sums table) (λ output. (report : List ℕ) × AreInvalidSums sums report × (outcome_of output ≡ refused report))
+
+pub sums_err : (sums : Option (List ℕ)) (r : Result (Option SumTable) Output) (x : Output) → r ≡ Err x → AreSumsRead sums r
+    → (report : List ℕ) × AreInvalidSums sums report × (outcome_of x ≡ refused report)
+sums_err sums r x is match = subst (AreSumsRead sums) is match
+
+pub sums_ok : (sums : Option (List ℕ)) (r : Result (Option SumTable) Output) (table : Option SumTable) → r ≡ Ok table → AreSumsRead sums r → AreSums sums table
+sums_ok sums r table is match = subst (AreSumsRead sums) is match
+
+pub both_read : (file : List ℕ) (sums : Option (List ℕ)) (r : Result (List (Line Placed)) Output) (s : Result (Option SumTable) Output) (lines : List (Line Placed)) (table : Option SumTable)
+    → r ≡ Ok lines → IsMainRead file r → s ≡ Ok table → AreSumsRead sums s → FilesReadAs file sums (main_of lines) table
+both_read file sums r s lines table is main are read = (main_ok file r lines is main, sums_ok sums s table are read)
+
+abbrev pub IsBothRead : List ℕ → Option (List ℕ) → Result Read Output → Type 0
+IsBothRead file sums r = MatchResult r (λ both. FilesReadAs file sums (main_of both.main) both.table) (λ output. IsRefusedRead file sums (outcome_of output))
+
+pub both_ok : (file : List ℕ) (sums : Option (List ℕ)) (r : Result Read Output) (x : Read) → r ≡ Ok x → IsBothRead file sums r → FilesReadAs file sums (main_of x.main) x.table
+both_ok file sums r x is match = subst (IsBothRead file sums) is match
+
+pub both_err : (file : List ℕ) (sums : Option (List ℕ)) (r : Result Read Output) (x : Output) → r ≡ Err x → IsBothRead file sums r → IsRefusedRead file sums (outcome_of x)
+both_err file sums r x is match = subst (IsBothRead file sums) is match
+
+pub sums_refused : (file : List ℕ) (sums : Option (List ℕ)) (main : Main) (outcome : Outcome) → IsMainFile file main
+    → ((report : List ℕ) × AreInvalidSums sums report × (outcome ≡ refused report)) → IsRefusedRead file sums outcome
+sums_refused file sums main outcome is (report, misread, says) = inr (main, report, is, misread, says)
+
+-- the outcome of a whole run, with the names on which the store's device failed
+abbrev pub AnsweredOf : Query → List ℕ → Option (List ℕ) → List (Name × Reply) → List Name → List Name → Outcome → Type 0
+AnsweredOf query file sums asked before after outcome =
+    (failed : List Name) × (after ≡ before ++ failed) × IsAnswer query (given file sums (answers asked failed)) outcome
+
+pub refused_read : (query : Query) (file : List ℕ) (sums : Option (List ℕ)) (asked : List (Name × Reply)) (names : List Name) (outcome : Outcome) → asked ≡ []
+    → IsRefusedRead file sums outcome → AnsweredOf query file sums asked names names outcome
+refused_read query file sums asked names outcome none is = ([], sym (append-nil names), inl (is, (none, refl)))
+
+pub answered : (query : Query) (file : List ℕ) (sums : Option (List ℕ)) (main : Main) (table : Option SumTable) (asked : List (Name × Reply)) (before after : List Name) (outcome : Outcome)
+    → FilesReadAs file sums main table → Answered query main table asked before after outcome → AnsweredOf query file sums asked before after outcome
+answered query file sums main table asked before after outcome (main_file, sums_are) (failed, is, over) =
+    (failed, is, inr (main, table, record { main_file = main_file; sums = sums_are }, over))

@@ -1,0 +1,66 @@
+-- What loading found, what is reported when it stops early, and what the commands do with its result.
+use Rattle.std.specs.Prelude.{◌≡◌, ◌⊎◌, ◌++◌, ℕ, List, [], ◌∷◌, Option}
+use Rattle.std.specs.Option.{option_copied}
+use Rattle.gm_store.specs.Asked.{Name, Reply, name_of}
+use Rattle.gm_store_sums.specs.declared.sum_table.SumTable.{SumTable}
+use Rattle.gm_graph_cache.specs.Main.{Main}
+use Rattle.gm_graph_cache.specs.declared.load_fault.LoadFault.{LoadFault}
+use Rattle.gm_graph_cache.specs.declared.load_fault.LoadFault.TheVariants as load
+use Rattle.gm_graph_select.specs.declared.step.Step.{Step}
+use Rattle.gm_graph_select.specs.BuildList.{IsEntryOf}
+use Rattle.gm_graph_select.specs.Chains.{IsChain}
+use Rattle.gm_graph_select.specs.Graph.{among}
+use Rattle.gm_graph.specs.declared.fault.Fault.{Fault}
+use Rattle.gm_graph.specs.Loading.{IsDue}
+use Rattle.gm_graph.specs.Outcome.{Outcome as Found}
+use Rattle.gm_graph_listing.specs.declared.query.Query.{Query}
+use Rattle.gm_graph_listing.specs.declared.query.Query.TheVariants.{Graph, List as Rows, Chain}
+use Rattle.gm_graph_listing.specs.Texts.{chain_text, graph_text}
+use Rattle.gm_graph_listing.specs.Reports.{device_line, faults_text, too_many_line}
+use Rattle.gm_graph_listing.specs.Outcomes.{Answers, AreSums, IsMainFile, IsOutcomeOver, IsUnlisted, Outcome, PrintsFor, PrintsRows, failed, printed, refused}
+
+-- what is reported when loading stops early. Memory running out has no report of its own.
+abbrev pub IsLoadReport : LoadFault → Outcome → Type 0
+IsLoadReport load.NoMemory outcome = ⊥
+IsLoadReport load.TooMany outcome = outcome ≡ refused too_many_line
+IsLoadReport (load.Device name) outcome = outcome ≡ failed (device_line (name_of name))
+
+-- both files are valid, and this is what they say
+abbrev pub FilesReadAs : List ℕ → Option (List ℕ) → Main → Option SumTable → Type 0
+FilesReadAs file sums main table = IsMainFile file main × AreSums sums table
+
+-- `graph` prints the edges that were found
+abbrev pub PrintsEdges : Main → Found → Outcome → Type 0
+PrintsEdges main found outcome = outcome ≡ printed (graph_text main.path found.edges)
+
+-- `chain` prints the chain over the edges that were found, or reports that the path is not listed
+abbrev pub PrintsSteps : List ℕ → Main → Found → Outcome → Type 0
+PrintsSteps path main found outcome =
+    ((s : Step) × (steps : List Step) × IsEntryOf main.path found.rows path s
+    × IsChain (among found.edges) s steps × (outcome ≡ printed (chain_text main.path steps)))
+    ⊎ IsUnlisted main found.rows path outcome
+
+-- what a command prints of what was found
+abbrev pub PrintsFound : Query → Main → Found → Outcome → Type 0
+PrintsFound Graph main found outcome = PrintsEdges main found outcome
+PrintsFound (Rows after limit) main found outcome = PrintsRows main found.rows (option_copied after) limit outcome
+PrintsFound (Chain path) main found outcome = PrintsSteps path.now main found outcome
+
+-- the faults are reported if there are any; otherwise this is what the command prints
+abbrev pub ReportsFaultsOr : List Fault → Type 0 → Outcome → Type 0
+ReportsFaultsOr [] prints outcome = prints
+ReportsFaultsOr (first ∷ others) prints outcome = outcome ≡ refused (faults_text (first ∷ others))
+
+-- the outcome of a command over what was found
+abbrev pub IsOutcomeOfFound : Query → Main → Found → Outcome → Type 0
+IsOutcomeOfFound query main found outcome = ReportsFaultsOr found.faults (PrintsFound query main found outcome) outcome
+
+-- the outcome of a command when both files are valid
+abbrev pub IsAnswerOver : Query → Main → Option SumTable → Answers → Outcome → Type 0
+IsAnswerOver query main table told outcome = IsOutcomeOver (PrintsFor query) main table told outcome
+
+-- When both files are valid: the device failed on no file, or on one that was due under the answers.
+abbrev pub FailsOver : Main → Option SumTable → List (Name × Reply) → List Name → List Name → Type 0
+FailsOver main table asked before after =
+    (after ≡ before)
+    ⊎ ((name : Name) × IsDue main table asked name × (after ≡ before ++ name ∷ []))

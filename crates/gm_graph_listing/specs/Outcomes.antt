@@ -1,0 +1,266 @@
+-- The outcomes of `graph`, `list` and `chain`, given the bytes of a main module's file, those of a go.sum and
+-- the answers of a store: Go Modules Reference, "Minimal version selection", "go.mod files", "go.sum files",
+-- "go mod graph", "go list -m".
+use Rattle.std.specs.Prelude.{◌≡◌, ◌<◌, ◌≤◌, ◌⊎◌, ◌++◌, ℕ, List, [], ◌∷◌, length, Option, Some, None, Ok, ⊤, codes}
+use Rattle.gm_syntax.specs.Document.{Line}
+use Rattle.gm_syntax.specs.Tokens.{Placed}
+use Rattle.gm_syntax.specs.LineViews.{plain_lines}
+use Rattle.gm_syntax.specs.Parsed.{IsParsedAs}
+use Rattle.gm_file.specs.Directives.{Strict}
+use Rattle.gm_file.specs.Faults.{fault_of as directive_fault}
+use Rattle.gm_store.specs.Asked.{Name, Reply, names_in}
+use Rattle.gm_store_sums.specs.Sums.{HasValidLines, IsFirstInvalid, ReadsAs}
+use Rattle.gm_store_sums.specs.declared.sum_table.SumTable.{SumTable}
+use Rattle.gm_graph_cache.specs.Main.{Main, Vertex, main_of}
+use Rattle.gm_graph_cache.specs.Reading.{Held, IsMisread, Readings, Tells, readings_by}
+use Rattle.gm_graph_cache.specs.declared.class.Misreading.TheVariants as misreading
+use Rattle.gm_graph_select.specs.declared.step.Step.{Step}
+use Rattle.gm_graph_select.specs.declared.step.Edge.{Edge}
+use Rattle.gm_graph_select.specs.BuildList.{Entry, IsBuildList, IsEntryOf, IsListed, IsRestAfter}
+use Rattle.gm_graph_select.specs.Chains.{IsChain}
+use Rattle.gm_graph.specs.declared.fault.Fault.{Fault}
+use Rattle.gm_graph.specs.Graph.{IsEdge, IsOpened}
+use Rattle.gm_graph.specs.Loading.{AreAsked, AreFew, AreTooMany, AsksInTurn, IsAnswered, IsDue, Told}
+use Rattle.gm_graph.specs.Outcome.{AreEdges, AreFaults}
+use Rattle.gm_graph_listing.specs.declared.query.Query.{Query}
+use Rattle.gm_graph_listing.specs.declared.query.Query.TheVariants.{Graph, List as Rows, Chain}
+use Rattle.gm_graph_listing.specs.declared.output.Output.{Output}
+use Rattle.gm_graph_listing.specs.declared.output.Status.{Status}
+use Rattle.gm_graph_listing.specs.declared.output.Status.TheVariants.{Done, Fault as Faulty, Device}
+use Rattle.gm_graph_listing.specs.Texts.{chain_text, graph_text, limited, line, list_text}
+use Rattle.gm_graph_listing.specs.Reports.{Place, bad_sum_line, device_line, faults_text, main_line, not_listed_line, too_many_line}
+use Rattle.std.specs.Option.{option_copied}
+use Rattle.std.specs.String.{string_bytes}
+
+-- the exit status
+abbrev pub code_of : Status → ℕ
+code_of Done = 0
+code_of Faulty = 1
+code_of Device = 3
+
+-- what is printed, what is reported, and the exit status
+pub record Outcome : Type 0 where
+  pub text : List ℕ
+  pub report : List ℕ
+  pub status : ℕ
+
+-- the outcome that an `Output` of the library stands for
+abbrev pub outcome_of : Output → Outcome
+outcome_of output =
+    record { text = string_bytes output.text; report = string_bytes output.report; status = code_of output.status }
+
+-- a text, and nothing to report
+abbrev pub printed : List ℕ → Outcome
+printed text = record { text = text; report = []; status = 0 }
+
+-- nothing printed, and what is wrong with what was read
+abbrev pub refused : List ℕ → Outcome
+refused report = record { text = []; report = report; status = 1 }
+
+-- nothing printed, and what failed
+abbrev pub failed : List ℕ → Outcome
+failed report = record { text = []; report = report; status = 3 }
+
+-- What a store answered: the names that it was asked for with its answers, and the names on which its device
+-- failed.
+pub record Answers : Type 0 where
+  pub asked : List (Name × Reply)
+  pub failed : List Name
+
+-- the record of these two lists
+abbrev pub answers : List (Name × Reply) → List Name → Answers
+answers asked failed = record { asked = asked; failed = failed }
+
+-- What a run depends on: the bytes of the main module's file, those of the go.sum if one is given, and what
+-- the store answered.
+pub record Given : Type 0 where
+  pub file : List ℕ
+  pub sums : Option (List ℕ)
+  pub told : Answers
+
+-- the record of these three
+abbrev pub given : List ℕ → Option (List ℕ) → Answers → Given
+given file sums told = record { file = file; sums = sums; told = told }
+
+-- ---- the main module's file and the go.sum
+
+-- the longest file and the longest list that is read, in bytes
+abbrev pub longest : ℕ
+longest = 16777216
+
+-- the bytes are a valid main module's file with these lines
+abbrev pub IsMainOf : List ℕ → List (Line Placed) → Type 0
+IsMainOf bytes lines = IsParsedAs bytes (Ok lines) × (directive_fault Strict (plain_lines lines) ≡ None)
+
+-- the bytes are a valid main module's file, and this is what it says
+abbrev pub IsMainFile : List ℕ → Main → Type 0
+IsMainFile bytes main = (lines : List (Line Placed)) × IsMainOf bytes lines × (main_of lines ≡ main)
+
+-- The bytes are not a valid main module's file: the line, or 0 for the whole file, and the kind of what is
+-- wrong there. Bytes that are not a document are misread in the same way as a dependency's file; directives are
+-- read strictly.
+abbrev pub IsMalformedMain : List ℕ → Place → Type 0
+IsMalformedMain bytes (number, misreading.TooMany) = IsMisread bytes number misreading.TooMany
+IsMalformedMain bytes (number, misreading.NotUtf8) = IsMisread bytes number misreading.NotUtf8
+IsMalformedMain bytes (number, misreading.Syntax kind) = IsMisread bytes number (misreading.Syntax kind)
+IsMalformedMain bytes (number, misreading.Directive kind) =
+    (lines : List (Line Placed)) × IsParsedAs bytes (Ok lines)
+    × (directive_fault Strict (plain_lines lines) ≡ Some (number, kind))
+
+-- The go.sum is valid, and the table is what it says; or no go.sum is given, and there is no table.
+abbrev pub AreSums : Option (List ℕ) → Option SumTable → Type 0
+AreSums None None = ⊤
+AreSums None (Some table) = ⊥
+AreSums (Some text) None = ⊥
+AreSums (Some text) (Some table) = (length text ≤ longest) × HasValidLines text × ReadsAs table text
+
+-- the go.sum is invalid, and this is what is reported of it
+abbrev pub AreInvalidSums : Option (List ℕ) → List ℕ → Type 0
+AreInvalidSums None report = ⊥
+AreInvalidSums (Some text) report =
+    ((longest < length text) × (report ≡ line (codes "go.sum:0: TooMany")))
+    ⊎ ((length text ≤ longest) × (number : ℕ) × IsFirstInvalid text number × (report ≡ bad_sum_line number))
+
+-- both are valid, and this is what they say
+pub record AreRead (run : Given) (main : Main) (table : Option SumTable) : Type 0 where
+  pub main_file : IsMainFile run.file main
+  pub sums : AreSums run.sums table
+
+-- ---- a run
+
+-- the store was asked for nothing, and its device did not fail
+abbrev pub IsUnasked : Answers → Type 0
+IsUnasked told = (told.asked ≡ []) × (told.failed ≡ [])
+
+-- Of the files of the opened modules, those that may be asked for were asked for, each once, and no other
+-- file was. This is what the files say.
+pub record AreKnown (main : Main) (table : Option SumTable) (told : Answers) (held : Held) : Type 0 where
+  pub tells : Tells table told.asked held
+  pub answered : (x : Vertex) → IsOpened main (readings_by main held) x → IsAnswered main told.asked x
+  pub asked : AreAsked main (readings_by main held) (names_in told.asked)
+  pub few : AreFew main (readings_by main held)
+  pub none_failed : told.failed ≡ []
+
+-- Why nothing is printed although both files are valid: the first of these that applies.
+pub data IsStopped (main : Main) (table : Option SumTable) (told : Answers) (outcome : Outcome) : Type 0 where
+  -- more than 65,536 modules are opened
+  too_many : Told main table told.asked (AreTooMany main) → told.failed ≡ []
+      → outcome ≡ refused too_many_line → IsStopped main table told outcome
+  -- the store's device failed on the file of an opened module
+  device : (name : Name) → IsDue main table told.asked name → told.failed ≡ name ∷ []
+      → outcome ≡ failed (device_line name) → IsStopped main table told outcome
+  -- the files of the opened modules are known, and some have faults: exactly these are reported
+  faulty : (held : Held) (first : Fault) (others : List Fault) → AreKnown main table told held
+      → AreFaults main (readings_by main held) (first ∷ others)
+      → outcome ≡ refused (faults_text (first ∷ others)) → IsStopped main table told outcome
+
+-- What a command prints: a relation between what the main file says, what the files of modules say, and the
+-- outcome.
+abbrev pub Prints : Type 1
+Prints = Main → Readings → Outcome → Type 0
+
+-- The outcome of a run when both files are valid: either loading stops or finds faults, or the files of the
+-- opened modules are known, none has a fault, and the command prints.
+abbrev pub IsOutcomeOver : Prints → Main → Option SumTable → Answers → Outcome → Type 0
+IsOutcomeOver prints main table told outcome =
+    IsStopped main table told outcome
+    ⊎ ((held : Held) × AreKnown main table told held × AreFaults main (readings_by main held) []
+    × prints main (readings_by main held) outcome)
+
+-- Why nothing is asked for and nothing is printed: the main module's file is invalid, or it is valid and the
+-- go.sum is invalid.
+abbrev pub IsRefusedRead : List ℕ → Option (List ℕ) → Outcome → Type 0
+IsRefusedRead file sums outcome =
+    ((place : Place) × IsMalformedMain file place × (outcome ≡ refused (main_line place)))
+    ⊎ ((main : Main) × (report : List ℕ) × IsMainFile file main × AreInvalidSums sums report
+    × (outcome ≡ refused report))
+
+-- The outcome of a run.
+abbrev pub IsOutcome : Prints → Given → Outcome → Type 0
+IsOutcome prints run outcome =
+    (IsRefusedRead run.file run.sums outcome × IsUnasked run.told)
+    ⊎ ((main : Main) × (table : Option SumTable) × AreRead run main table
+    × IsOutcomeOver prints main table run.told outcome)
+
+-- ---- graph
+
+-- each edge of the module graph once, in ascending order
+abbrev pub PrintsGraph : Prints
+PrintsGraph main readings outcome =
+    (edges : List Edge) × AreEdges main readings edges × (outcome ≡ printed (graph_text main.path edges))
+
+-- the outcome of `graph`
+abbrev pub IsGraphOutcome : Given → Outcome → Type 0
+IsGraphOutcome run outcome = IsOutcome PrintsGraph run outcome
+
+-- ---- list
+
+-- The build list: the main module, followed by each other path that an edge leads to, once, in path order, at
+-- the greatest version.
+abbrev pub AreRows : Main → Readings → List Entry → Type 0
+AreRows main readings rows = IsBuildList main.path main.replaces (IsEdge main readings) rows
+
+-- the path is not in the build list, and this is reported
+abbrev pub IsUnlisted : Main → List Entry → List ℕ → Outcome → Type 0
+IsUnlisted main rows path outcome = ¬ (IsListed main.path rows path) × (outcome ≡ refused (not_listed_line path))
+
+-- all rows, or only those after the row of a path; and of these the first `limit`, if there is a limit
+abbrev pub PrintsRows : Main → List Entry → Option (List ℕ) → Option ℕ → Outcome → Type 0
+PrintsRows main rows None limit outcome = outcome ≡ printed (list_text main.path (limited limit rows))
+PrintsRows main rows (Some path) limit outcome =
+    ((rest : List Entry) × IsRestAfter main.path rows path rest
+    × (outcome ≡ printed (list_text main.path (limited limit rest))))
+    ⊎ IsUnlisted main rows path outcome
+
+-- what `list` prints of the build list
+abbrev pub PrintsList : Option (List ℕ) → Option ℕ → Prints
+PrintsList after limit main readings outcome =
+    (rows : List Entry) × AreRows main readings rows × PrintsRows main rows after limit outcome
+
+-- the outcome of `list`
+abbrev pub IsListOutcome : Option (List ℕ) → Option ℕ → Given → Outcome → Type 0
+IsListOutcome after limit run outcome = IsOutcome (PrintsList after limit) run outcome
+
+-- ---- chain
+
+-- the steps of the chain to the build list's entry for the path, or the report that there is none
+abbrev pub PrintsChain : List ℕ → Prints
+PrintsChain path main readings outcome =
+    (rows : List Entry) × AreRows main readings rows
+    × (((s : Step) × (steps : List Step) × IsEntryOf main.path rows path s
+    × IsChain (IsEdge main readings) s steps × (outcome ≡ printed (chain_text main.path steps)))
+    ⊎ IsUnlisted main rows path outcome)
+
+-- the outcome of `chain`
+abbrev pub IsChainOutcome : List ℕ → Given → Outcome → Type 0
+IsChainOutcome path run outcome = IsOutcome (PrintsChain path) run outcome
+
+-- ---- each command
+
+-- what the command for a query prints
+abbrev pub PrintsFor : Query → Prints
+PrintsFor Graph = PrintsGraph
+PrintsFor (Rows after limit) = PrintsList (option_copied after) limit
+PrintsFor (Chain path) = PrintsChain path.now
+
+-- the outcome of the command for a query
+abbrev pub IsAnswer : Query → Given → Outcome → Type 0
+IsAnswer query run outcome = IsOutcome (PrintsFor query) run outcome
+
+-- ---- what a run asks for, however it ends
+
+-- The store was asked for nothing; or the main module's file and the go.sum are valid, and each file that was
+-- asked for was due under the answers before it.
+abbrev pub AsksInOrder : List ℕ → Option (List ℕ) → List (Name × Reply) → Type 0
+AsksInOrder file sums asked =
+    (asked ≡ [])
+    ⊎ ((main : Main) × (table : Option SumTable) × IsMainFile file main × AreSums sums table
+    × AsksInTurn main table asked)
+
+-- The device failed on no file; or the main module's file and the go.sum are valid, and it failed on one
+-- file, which was due under the answers.
+abbrev pub FailsInOrder : List ℕ → Option (List ℕ) → List (Name × Reply) → List Name → List Name → Type 0
+FailsInOrder file sums asked before after =
+    (after ≡ before)
+    ⊎ ((main : Main) × (table : Option SumTable) × (name : Name) × IsMainFile file main × AreSums sums table
+    × IsDue main table asked name × (after ≡ before ++ name ∷ []))

@@ -1,0 +1,141 @@
+//! Runs a command over a module graph: reads the two files, loads what the main module's file leads to, and
+//! answers.
+
+ghost use Rattle.std.specs.Prelude.{◌≡◌, ◌++◌, [], Contains, IfOk, MatchResult, List};
+ghost use Rattle.std.specs.Option.{option_copied};
+ghost use Rattle.gm_store.specs.Asked.{Name, Reply};
+ghost use Rattle.gm_graph_cache.specs.Main.{main_of};
+ghost use Rattle.gm_graph.specs.Loading.{AsksInTurn};
+ghost use Rattle.gm_graph_listing.specs.Outcomes.{AsksInOrder, FailsInOrder, IsAnswer, IsRefusedRead, answers, given, outcome_of};
+ghost use Rattle.gm_graph_listing.specs.Found.{FailsOver, IsAnswerOver, IsLoadReport, FilesReadAs};
+
+use crate::output::{Output, failed, refused};
+use crate::printing::tell;
+use crate::query::Query;
+use crate::reading::{main_file, sum_table};
+use crate::report::{TOO_MANY, device_report};
+use gm_file::MainFile;
+use gm_graph::load;
+use gm_graph_cache::LoadFault;
+use gm_name::NoMemory;
+use gm_store::Files;
+use gm_store_sums::SumTable;
+use std::alloc::{AllocError, Global};
+
+/// The outcome when loading stops early. Memory running out has no report: it is this function's refusal.
+fn not_loaded(alloc: Global, fault: LoadFault) -> Result<Output, NoMemory>
+    ensures { IfOk result (λ output. IsLoadReport fault (outcome_of output)) }
+{
+    match &fault {
+        LoadFault::NoMemory => Err(AllocError),
+        LoadFault::TooMany => Ok(refused(alloc, String::from_str(alloc, TOO_MANY)?)),
+        LoadFault::Device(name) => Ok(failed(alloc, device_report(alloc, name)?)),
+    }
+}
+
+/// The two files that are given as bytes, both valid.
+#[derive(Drop)]
+struct Read<'a> {
+    /// The main module's file.
+    main: MainFile<'a>,
+    /// The hashes of the go.sum, or `None` if no go.sum is given.
+    table: Option<SumTable>,
+}
+
+/// Both files, or the outcome that reports the first invalid one. The main module's file is read first.
+fn read_files<'a>(
+    alloc: Global,
+    file: &'a [u8],
+    sums: Option<&[u8]>,
+) -> Result<Result<Read<'a>, Output>, NoMemory>
+    ensures { IfOk result (λ read. MatchResult read
+        (λ both. FilesReadAs file.now (option_copied sums.entry) (main_of both.main) both.table)
+        (λ output. IsRefusedRead file.now (option_copied sums.entry) (outcome_of output))) }
+{
+    let main = match main_file(alloc, file)? {
+        Ok(main) => main,
+        Err(output) => return Ok(Err(output)),
+    };
+    match sum_table(alloc, sums)? {
+        Ok(table) => Ok(Ok(Read { main, table })),
+        Err(output) => Ok(Err(output)),
+    }
+}
+
+/// The outcome when both files are valid.
+fn answer_over<F: Files>(
+    alloc: Global,
+    query: Query<'_>,
+    main: &MainFile<'_>,
+    table: Option<&SumTable>,
+    files: &mut F,
+) -> Result<Output, NoMemory>
+    requires { F.asked files.old ≡ [] }
+    ensures comes { IfOk result (λ output.
+        (failed : List Name) × (F.refused files.new ≡ F.refused files.old ++ failed)
+        × IsAnswerOver query.entry (main_of main.now) (option_copied table.entry) (answers (F.asked files.new) failed)
+        (outcome_of output)) }
+    ensures asks { AsksInTurn (main_of main.now) (option_copied table.entry) (F.asked files.new) }
+    ensures fails { FailsOver (main_of main.now) (option_copied table.entry) (F.asked files.new)
+        (F.refused files.old) (F.refused files.new) }
+    ensures may_answer { (name : Name) (reply : Reply) → Contains (F.asked files.new) (name, reply)
+        → F.may_answer files.old name reply }
+{
+    match load(alloc, main, files, table) {
+        Ok(loaded) => {
+            let output = tell(alloc, query, main, loaded)?;
+            Ok(output)
+        }
+        Err(fault) => {
+            let output = not_loaded(alloc, fault)?;
+            Ok(output)
+        }
+    }
+}
+
+/// The outcome of the command `query` over the bytes `file` of a main module's go.mod, the bytes `sums` of a
+/// go.sum if one is given, and a store `files` (Go Modules Reference, "Minimal version selection", "go mod
+/// graph" and "go list -m").
+///
+/// If both files are valid, loading completes and no opened module has a fault, the text is what `query` asks
+/// for: the edges of the module graph, rows of the build list, or a shortest chain of requirements to the
+/// build list's entry for a path. If the list has no entry for the path, the text is empty and the report
+/// says so. Otherwise the text is empty, and the report gives the first of these that applies:
+///
+/// - the first fault of the main file,
+/// - the first fault of the go.sum,
+/// - that more than 65,536 modules are opened, or the file on which the store's device failed,
+/// - each opened module that has a fault.
+///
+/// If one of the two files is invalid, the store is asked for nothing. Otherwise it is asked for the files of
+/// the modules that are opened according to its previous answers, each once, and for no other file. Each
+/// answer is one that the store may give. Its device fails on at most one file, which is one of these. All
+/// this holds however the run ends.
+///
+/// The store must not have been asked for anything before. Refused only when memory runs out, which can
+/// happen in place of any answer.
+pub fn answer<F: Files>(
+    alloc: Global,
+    query: Query<'_>,
+    file: &[u8],
+    sums: Option<&[u8]>,
+    files: &mut F,
+) -> Result<Output, NoMemory>
+    requires { F.asked files.old ≡ [] }
+    ensures comes { IfOk result (λ output.
+        (failed : List Name) × (F.refused files.new ≡ F.refused files.old ++ failed)
+        × IsAnswer query.entry (given file.now (option_copied sums.entry) (answers (F.asked files.new) failed))
+        (outcome_of output)) }
+    ensures asks { AsksInOrder file.now (option_copied sums.entry) (F.asked files.new) }
+    ensures fails { FailsInOrder file.now (option_copied sums.entry) (F.asked files.new)
+        (F.refused files.old) (F.refused files.new) }
+    ensures may_answer { (name : Name) (reply : Reply) → Contains (F.asked files.new) (name, reply)
+        → F.may_answer files.old name reply }
+{
+    let read = match read_files(alloc, file, sums)? {
+        Ok(read) => read,
+        Err(output) => return Ok(output),
+    };
+    let output = answer_over(alloc, query, &read.main, read.table.as_ref(), files)?;
+    Ok(output)
+}

@@ -1,0 +1,80 @@
+-- Ascending lists with the same members are equal.
+use Rattle.std.proofs.Common.{◌≡◌, zero, suc, List, [], ◌∷◌, ◌++◌, Contains, ap₂, ◌∙◌, sym, refl, subst, inl, inr, ◌⊎◌, ◌↔◌, arith}
+use Rattle.std.specs.Prelude.{AllPairs}
+use Rattle.std.specs.Cmp.{IsTotalOrder}
+use Rattle.std.specs.declared.cmp.Ordering.{Ordering}
+use Rattle.std.specs.declared.cmp.Ordering.TheVariants.{Less, Equal}
+use Rattle.std.proofs.lemmas.List.Elements.{Contains-append_right}
+use Rattle.gm_graph_select.specs.Order.{IsAscending}
+use Rattle.gm_graph_select.proofs.Ranges.{own_turn}
+
+-- ---- pairs of a list
+
+module _ {T : Type 0} where
+  pub pairs_tail : (R : T → T → Type 0) (x : T) (xs : List T) → AllPairs R (x ∷ xs) → AllPairs R xs
+  pairs_tail R x xs h i j d lt below = h (suc i) (suc j) d (omega (arith, lt)) (omega (arith, below))
+
+  pub pairs_head : (R : T → T → Type 0) (x y : T) (xs : List T) → AllPairs R (x ∷ xs) → Contains xs y → R x y
+  pairs_head R x y xs h (k, below, at) = subst (λ (z : T). R x z) at (h 0 (suc k) y (omega arith) (omega (arith, below)))
+
+  pub member_cases : (x y : T) (xs : List T) → Contains (x ∷ xs) y → (x ≡ y) ⊎ Contains xs y
+  member_cases x y xs (zero, below, at) = inl at
+  member_cases x y xs (suc k, below, at) = inr (k, omega (arith, below), at)
+
+  pub member_head : (x : T) (xs : List T) → Contains (x ∷ xs) x
+  member_head x xs = (0, omega arith, refl)
+
+  pub member_tail : (x y : T) (xs : List T) → Contains xs y → Contains (x ∷ xs) y
+  member_tail x y xs h = Contains-append_right (x ∷ []) xs y h
+
+  pub no_member : (x : T) → Contains [] x → ⊥
+  no_member x h = omega (arith, h.1)
+
+  -- a member before another one
+  pub pairs_split : (R : T → T → Type 0) (before after : List T) (e x : T) → AllPairs R (before ++ e ∷ after) → Contains before x → R x e
+  pairs_split R [] after e x h there = absurd (no_member x there)
+  pairs_split R (b ∷ before) after e x h there = elim (member_cases b x before there) [
+    | inl is ↦ subst (λ (z : T). R z e) is (pairs_head R b e (before ++ e ∷ after) h (Contains-append_right before (e ∷ after) e (member_head e after)))
+    | inr rest ↦ pairs_split R before after e x (pairs_tail R b (before ++ e ∷ after) h) rest
+  ]
+
+-- ---- ascending lists
+
+module _ {T : Type 0} {cmp : T → T → Ordering} (total : IsTotalOrder cmp) where
+  pub less_itself : (x : T) → cmp x x ≡ Less → ⊥
+  less_itself x h = let same : Less ≡ Equal = sym h ∙ own_turn _ (total.antisymm x x) in cc same
+
+  pub same_lists : (xs ys : List T) → IsAscending cmp xs → IsAscending cmp ys → ((z : T) → Contains xs z ↔ Contains ys z) → xs ≡ ys
+  same_lists [] [] up down h = refl
+  same_lists [] (y ∷ ys) up down h = absurd (no_member y ((h y).1 (member_head y ys)))
+  same_lists (x ∷ xs) [] up down h = absurd (no_member x ((h x).0 (member_head x xs)))
+  same_lists (x ∷ xs) (y ∷ ys) up down h = ap₂ (λ (z : T) (zs : List T). z ∷ zs) head (same_lists xs ys (pairs_tail R x xs up) (pairs_tail R y ys down) tail)
+    where
+      R : T → T → Type 0
+      R a b = cmp a b ≡ Less
+
+      under : cmp y x ≡ Less → (x ≡ y) ⊎ Contains xs y → x ≡ y
+      under less (inl is) = is
+      under less (inr there) = absurd (less_itself x (total.trans x y x (pairs_head (λ a b. cmp a b ≡ Less) x y xs up there) less))
+
+      first : (y ≡ x) ⊎ Contains ys x → x ≡ y
+      first (inl is) = sym is
+      first (inr there) = under (pairs_head (λ a b. cmp a b ≡ Less) y x ys down there) (member_cases x y xs ((h y).1 (member_head y ys)))
+
+      head : x ≡ y
+      head = first (member_cases y x ys ((h x).0 (member_head x xs)))
+
+      there : (z : T) → Contains xs z → Contains ys z
+      there z inside = elim (member_cases y z ys ((h z).0 (member_tail x z xs inside))) [
+        | inl is ↦ absurd (less_itself x (subst (λ (w : T). cmp x w ≡ Less) (sym (first (member_cases y x ys ((h x).0 (member_head x xs))) ∙ is)) (pairs_head (λ a b. cmp a b ≡ Less) x z xs up inside)))
+        | inr rest ↦ rest
+      ]
+
+      back : (z : T) → Contains ys z → Contains xs z
+      back z inside = elim (member_cases x z xs ((h z).1 (member_tail y z ys inside))) [
+        | inl is ↦ absurd (less_itself y (subst (λ (w : T). cmp y w ≡ Less) (sym (sym (first (member_cases y x ys ((h x).0 (member_head x xs)))) ∙ is)) (pairs_head (λ a b. cmp a b ≡ Less) y z ys down inside)))
+        | inr rest ↦ rest
+      ]
+
+      tail : (z : T) → Contains xs z ↔ Contains ys z
+      tail z = (there z, back z)

@@ -1,0 +1,232 @@
+-- The laws hold.
+use Rattle.std.proofs.Common.{◌≡◌, ◌≢◌, ◌<◌, ◌≤◌, ℕ, zero, suc, false, List, [], ◌∷◌, ◌++◌, length, take, drop, get_or, map, Option, Some, None, Contains, append_assoc, ap, ◌∙◌, sym, refl, subst, inl, inr, ◌⊎◌, arith, length-append, length-drop}
+use Rattle.std.specs.Prelude.{AllPairs, All}
+use Rattle.std.specs.Cmp.{IsTotalOrder, on_total}
+use Rattle.std.specs.Cmp.Lexicographic.{nat_list_cmp_total, slice_cmp}
+use Rattle.std.specs.Ordering.{is_gt, is_lt, nat_cmp, ordering_reverse}
+use Rattle.std.specs.declared.cmp.Ordering.{Ordering}
+use Rattle.std.specs.declared.cmp.Ordering.TheVariants.{Less, Equal, Greater}
+use Rattle.std.proofs.lemmas.Bool.{false≢true}
+use Rattle.std.proofs.lemmas.List.{get_or-map, length-map, length-take, take-append-drop}
+use Rattle.std.proofs.lemmas.List.Kept.{AllPairs-cons}
+use Rattle.std.proofs.lemmas.List.Elements.{Contains-append_right, Contains-get_or}
+use Rattle.gm_name.specs.Version.{version_cmp}
+use Rattle.gm_file.specs.Directives.{Replacing, Right}
+use Rattle.gm_file.specs.Fields.{replacement_of}
+use Rattle.gm_graph_select.specs.declared.step.Edge.{Edge}
+use Rattle.gm_graph_select.specs.declared.step.Step.{Step}
+use Rattle.gm_graph_select.specs.declared.step.Step.TheVariants.{Main, Of}
+use Rattle.gm_graph_select.specs.Graph.{Vertex, Edges, among, step_cmp}
+use Rattle.gm_graph_select.specs.StepOrder.{step-anti, step_total}
+use Rattle.gm_graph_select.specs.BuildList.{Entry, IsAt, IsBuildList, IsEntryOf, IsSelected, entry_of, main_entry, path_cmp, path_of}
+use Rattle.gm_graph_select.specs.Chains.{at_main, along, IsPredecessor, IsChain, begins, goes_on, IsLevel, IsReached, IsRooted}
+use Rattle.gm_graph_select.specs.Laws.{ArePages, no_more, one_more, joined, ChainIsShortest, EntriesAreReached, MainIsFirst, OneBuildList, OneChain, OneRest, PagesExist, PagesJoin, RowsAreEnds, RowsSatisfy}
+use Rattle.gm_graph_select.proofs.Ascending.{less_itself, member_cases, member_head, member_tail, pairs_split, same_lists}
+use Rattle.gm_graph_select.proofs.Greatest.{IsGreatest, bests, ending}
+use Rattle.gm_graph_select.proofs.Same.{EndAlike, alike_selected, ending_ends, ends_alike, ends_of}
+use Rattle.gm_graph_select.proofs.RestRows.{one_at, one_entry}
+
+path_total : IsTotalOrder path_cmp
+path_total = on_total (λ (x : Vertex). x.0) nat_list_cmp_total
+
+nowhere : Vertex
+nowhere = ([], [])
+
+-- ---- the build list of any relation
+
+module _ (main : List ℕ) (replaces : List Replacing) (E : Edges) (entries : List Entry) (list : IsBuildList main replaces E entries) where
+  -- The vertex of a row is selected.
+  pub row_selected : (x : Vertex) (right : Option Right) → Contains entries (Of x, right) → IsSelected main E x
+  row_selected x right there = (list.each x).0 (cases (member_cases main_entry (Of x, right) (map (entry_of replaces) list.selected) (subst (λ (es : List Entry). Contains es (Of x, right)) list.entries_are there)))
+    where
+      same_vertex : (v : Vertex) → Of v ≡ Of x → v ≡ x
+      same_vertex v e = cc e
+
+      cases : (main_entry ≡ (Of x, right)) ⊎ Contains (map (entry_of replaces) list.selected) (Of x, right) → Contains list.selected x
+      cases (inl is) = absurd (let first : Main ≡ Of x = ap (λ (e : Entry). e.0) is in cc first)
+      cases (inr (k, below, at)) =
+          let inside : k < length list.selected = rw length-map at below in
+          (k, inside, same_vertex (get_or list.selected k x) (ap (λ (e : Entry). e.0) (sym (get_or-map (entry_of replaces) list.selected k x (Of x, right) inside) ∙ at)))
+
+  -- Each selected vertex has a row.
+  pub selected_row : (x : Vertex) → IsSelected main E x → Contains entries (entry_of replaces x)
+  selected_row x is =
+      let (k, below, at) = (list.each x).1 is in
+      let there : Contains (map (entry_of replaces) list.selected) (entry_of replaces x) = (k, rw length-map below, get_or-map (entry_of replaces) list.selected k x (entry_of replaces x) below ∙ ap (entry_of replaces) at) in
+      subst (λ (es : List Entry). Contains es (entry_of replaces x)) (sym list.entries_are) (member_tail main_entry (entry_of replaces x) (map (entry_of replaces) list.selected) there)
+
+  -- No two entries have the same path.
+  pub distinct : AllPairs (λ (a b : Entry). path_of main a.0 ≢ path_of main b.0) entries
+  distinct = subst (λ (es : List Entry). AllPairs (λ (a b : Entry). path_of main a.0 ≢ path_of main b.0) es) (sym list.entries_are) (AllPairs-cons (λ (a b : Entry). path_of main a.0 ≢ path_of main b.0) main_entry (map (entry_of replaces) list.selected) firsts others)
+    where
+      path_at : (k : ℕ) (d : Entry) → k < length list.selected → path_of main (get_or (map (entry_of replaces) list.selected) k d).0 ≡ (get_or list.selected k nowhere).0
+      path_at k d below = ap (λ (e : Entry). path_of main e.0) (get_or-map (entry_of replaces) list.selected k nowhere d below)
+
+      firsts : All (λ (b : Entry). main ≢ path_of main b.0) (map (entry_of replaces) list.selected)
+      firsts k d below same =
+          let inside : k < length list.selected = rw length-map at below in
+          ((list.each (get_or list.selected k nowhere)).0 (Contains-get_or list.selected k nowhere inside)).not_main (sym (same ∙ path_at k d inside))
+
+      others : AllPairs (λ (a b : Entry). path_of main a.0 ≢ path_of main b.0) (map (entry_of replaces) list.selected)
+      others i j d lt below same =
+          let inside : j < length list.selected = rw length-map at below in
+          let x = get_or list.selected i nowhere in
+          let y = get_or list.selected j nowhere in
+          let less : slice_cmp nat_cmp x.0 y.0 ≡ Less = list.ascending i j nowhere lt inside in
+          let paths : x.0 ≡ y.0 = sym (path_at i d (omega arith)) ∙ same ∙ path_at j d inside in
+          less_itself nat_list_cmp_total x.0 (subst (λ (p : List ℕ). slice_cmp nat_cmp x.0 p ≡ Less) (sym paths) less)
+
+  pub reached_entry : (path : List ℕ) (s : Step) → IsRooted E → IsEntryOf main entries path s → IsReached E s
+  reached_entry path s rooted (entry, rest, at, is) = go s is
+    where
+      there : Contains entries entry
+      there = subst (λ (es : List Entry). Contains es entry) (sym at.parts) (Contains-append_right at.before (entry ∷ rest) entry (member_head entry rest))
+
+      go : (s : Step) → entry.0 ≡ s → IsReached E s
+      go Main e = (0, at_main)
+      go (Of x) e =
+          let make : Step → Option Right → Entry = λ t o. (t, o) in
+          let row : Contains entries (Of x, entry.1) = subst (λ (r : Entry). Contains entries r) (ap (λ (t : Step). make t entry.1) e) (subst (λ (es : List Entry). Contains es entry) (sym at.parts) (Contains-append_right at.before (entry ∷ rest) entry (member_head entry rest))) in
+          let (t, edge) = (row_selected x entry.1 row).is_end in
+          let (n, leads) = rooted t x edge in
+          (suc n, along leads edge)
+
+pub rows_are_ends : RowsAreEnds
+rows_are_ends main replaces edges entries list x right there = (row_selected main replaces (among edges) entries list x right there).is_end
+
+pub rows_satisfy : RowsSatisfy
+rows_satisfy main replaces edges entries list y end apart = go ((bests main ends).0 y.0) ((bests main ends).1 y.0)
+  where
+    ends : List Vertex
+    ends = map (λ (e : Edge). e.to) edges
+
+    alike : EndAlike (ending ends) (among edges)
+    alike = ends_alike ends (ending ends) (among edges) (ending_ends ends) (ends_of edges)
+
+    go : (o : Option Vertex) → IsGreatest main (ending ends) y.0 o → (x : Vertex) × (right : Option Right) × Contains entries (Of x, right) × (x.0 ≡ y.0) × (is_gt (version_cmp y.1 x.1) ≡ false)
+    go None g = absurd (apart (g y ((alike y).1 end) refl))
+    go (Some x) (is, selected) = (x, replacement_of replaces x, selected_row main replaces (among edges) entries list x (alike_selected main (ending ends) (among edges) alike x selected), is, selected.greatest y ((alike y).1 end) (sym is))
+
+pub same_build_lists : (main : List ℕ) (replaces : List Replacing) (E : Edges) (a b : List Entry) → IsBuildList main replaces E a → IsBuildList main replaces E b → a ≡ b
+same_build_lists main replaces E a b x y =
+    let same : x.selected ≡ y.selected = same_lists path_total x.selected y.selected x.ascending y.ascending (λ z. ((λ h. (y.each z).1 ((x.each z).0 h)), (λ h. (x.each z).1 ((y.each z).0 h)))) in
+    x.entries_are ∙ ap (λ (xs : List Vertex). main_entry ∷ map (entry_of replaces) xs) same ∙ sym y.entries_are
+
+pub one_build_list : OneBuildList
+one_build_list main replaces edges = same_build_lists main replaces (among edges)
+
+pub one_rest : OneRest
+one_rest main entries path a b (x, h) (y, g) = (one_at main entries path x y a b h g).1
+
+pub main_is_first : MainIsFirst
+main_is_first main replaces edges entries s list entry =
+    let first : IsAt main entries main main_entry (map (entry_of replaces) list.selected) = record { before = []; parts = list.entries_are; path_is = refl; others = λ x h. absurd (let none = h.1 in omega (arith, none)) } in
+    one_entry main entries main s Main entry (main_entry, map (entry_of replaces) list.selected, first, refl)
+
+pub entries_are_reached : EntriesAreReached
+entries_are_reached main replaces edges entries path s list rooted entry = reached_entry main replaces (among edges) entries list path s rooted entry
+
+-- ---- chains
+
+shortest : (E : Edges) (s : Step) (steps : List Step) → IsChain E s steps → (n : ℕ) × (length steps ≡ suc n) × IsLevel E s n
+shortest E _ _ begins = (0, refl, record { leads = at_main; least = λ m h. omega arith })
+shortest E _ _ (goes_on {s} {y} {steps} chain before) =
+    let (n, long, level) = shortest E s steps chain in
+    let low = level.least before.level before.nearer.leads in
+    let high = before.nearer.least n level.leads in
+    (suc before.level, length-append steps (Of y ∷ []) ∙ omega (arith, long, low, high), before.further)
+
+pub chain_is_shortest : ChainIsShortest
+chain_is_shortest edges s steps chain = shortest (among edges) s steps chain
+
+not_either : (s t : Step) → is_lt (step_cmp s t) ≡ false → is_lt (step_cmp t s) ≡ false → s ≡ t
+not_either s t h g = go (step_cmp s t) refl
+  where
+    go : (r : Ordering) → step_cmp s t ≡ r → s ≡ t
+    go Less e = absurd (false≢true (sym h ∙ ap is_lt e))
+    go Equal e = step-anti s t e
+    go Greater e = absurd (false≢true (sym g ∙ ap is_lt (step_total.antisymm t s ∙ ap ordering_reverse e)))
+
+one_before : (E : Edges) (s t : Step) (y : Vertex) → IsPredecessor E s y → IsPredecessor E t y → s ≡ t
+one_before E s t y a b =
+    let low = a.further.least (suc b.level) b.further.leads in
+    let high = b.further.least (suc a.level) a.further.leads in
+    let same : a.level ≡ b.level = omega (arith, low, high) in
+    not_either s t
+    (b.least s a.is_edge (subst (λ (n : ℕ). IsLevel E s n) same a.nearer))
+    (a.least t b.is_edge (subst (λ (n : ℕ). IsLevel E t n) (sym same) b.nearer))
+
+of_main : (E : Edges) {s : Step} {b : List Step} → IsChain E s b → s ≡ Main → b ≡ Main ∷ []
+of_main E begins e = refl
+of_main E (goes_on {s} {y} c before) e = absurd (let same : Of y ≡ Main = e in cc same)
+
+of_vertex : (E : Edges) {s : Step} {b : List Step} → IsChain E s b → (y : Vertex) → s ≡ Of y → (t : Step) × (steps : List Step) × IsChain E t steps × IsPredecessor E t y × (b ≡ steps ++ Of y ∷ [])
+of_vertex E begins y e = absurd (let same : Main ≡ Of y = e in cc same)
+of_vertex E (goes_on {s} {y = z} {steps} c before) y e =
+    let same : z ≡ y = cc e in
+    (s, steps, c, subst (λ (w : Vertex). IsPredecessor E s w) same before, ap (λ (w : Vertex). steps ++ Of w ∷ []) same)
+
+same_chains : (E : Edges) {s : Step} {a : List Step} → IsChain E s a → (b : List Step) → IsChain E s b → a ≡ b
+same_chains E begins b h = sym (of_main E h refl)
+same_chains E (goes_on {s} {y} {steps} c before) b h =
+    let (t, more, d, other, is) = of_vertex E h y refl in
+    let same : t ≡ s = one_before E t s y other before in
+    ap (λ (l : List Step). l ++ Of y ∷ []) (same_chains E c more (subst (λ (u : Step). IsChain E u more) same d)) ∙ sym is
+
+pub one_chain : OneChain
+one_chain edges s a b h g = same_chains (among edges) h b g
+
+-- ---- pages
+
+snoc : (x : Entry) (xs : List Entry) → (front : List Entry) × (last : Entry) × (x ∷ xs ≡ front ++ last ∷ [])
+snoc x [] = ([], x, refl)
+snoc x (y ∷ xs) =
+    let (front, last, is) = snoc y xs in
+    (x ∷ front, last, ap (λ (l : List Entry). x ∷ l) is)
+
+module _ (main : List ℕ) (entries : List Entry) (apart : AllPairs (λ (a b : Entry). path_of main a.0 ≢ path_of main b.0) entries) (n : ℕ) where
+  -- What is left after a page follows the page's last entry.
+  page_end : (before left front : List Entry) (last : Entry) → entries ≡ before ++ left → take n left ≡ front ++ last ∷ [] → IsAt main entries (path_of main last.0) last (drop n left)
+  page_end before left front last whole page = record { before = before ++ front; parts = parts; path_is = refl; others = others }
+    where
+      parts : entries ≡ (before ++ front) ++ last ∷ drop n left
+      parts =
+          whole ∙ ap (λ (l : List Entry). before ++ l) (sym (take-append-drop n left) ∙ ap (λ (l : List Entry). l ++ drop n left) page ∙ append_assoc front (last ∷ []) (drop n left))
+          ∙ sym (append_assoc before front (last ∷ drop n left))
+
+      others : (x : Entry) → Contains (before ++ front) x → path_of main x.0 ≢ path_of main last.0
+      others x h = pairs_split (λ (a b : Entry). path_of main a.0 ≢ path_of main b.0) (before ++ front) (drop n left) last x (subst (λ (l : List Entry). AllPairs (λ (a b : Entry). path_of main a.0 ≢ path_of main b.0) l) (
+          whole ∙ ap (λ (l : List Entry). before ++ l) (sym (take-append-drop n left) ∙ ap (λ (l : List Entry). l ++ drop n left) page ∙ append_assoc front (last ∷ []) (drop n left))
+          ∙ sym (append_assoc before front (last ∷ drop n left))) apart) h
+
+  further : (before left : List Entry) → entries ≡ before ++ left → entries ≡ (before ++ take n left) ++ drop n left
+  further before left whole = whole ∙ ap (λ (l : List Entry). before ++ l) (sym (take-append-drop n left)) ∙ sym (append_assoc before (take n left) (drop n left))
+
+  pages_join_from : (before left : List Entry) (pages : List (List Entry)) → entries ≡ before ++ left → ArePages main entries n left pages → joined pages ≡ left
+  pages_join_from before _ _ whole no_more = refl
+  pages_join_from before left _ whole (one_more {rest} {pages} front last page after more) =
+      let (entry, at) = after in
+      let same : rest ≡ drop n left = (one_at main entries (path_of main last.0) entry last rest (drop n left) at (page_end before left front last whole page)).1 in
+      let rest_whole : entries ≡ (before ++ take n left) ++ rest = subst (λ (l : List Entry). entries ≡ (before ++ take n left) ++ l) (sym same) (further before left whole) in
+      ap (λ (l : List Entry). take n left ++ l) (pages_join_from (before ++ take n left) rest pages rest_whole more ∙ same) ∙ take-append-drop n left
+
+  -- one page, followed by the others
+  page_more : 0 < n → (before left : List Entry) (x : Entry) → entries ≡ before ++ x ∷ left → (page : List Entry) → take n (x ∷ left) ≡ page → (pages : List (List Entry)) × ArePages main entries n (drop n (x ∷ left)) pages → (pages : List (List Entry)) × ArePages main entries n (x ∷ left) pages
+  page_more some before left x whole [] is more = absurd (let none = ap length is in omega (arith, length-take n (x ∷ left), none, some))
+  page_more some before left x whole (y ∷ ys) is (pages, more) =
+      let (front, last, parts) = snoc y ys in
+      let page : take n (x ∷ left) ≡ front ++ last ∷ [] = is ∙ parts in
+      (take n (x ∷ left) ∷ pages, one_more front last page (last, page_end before (x ∷ left) front last whole page) more)
+
+  pages_from : 0 < n → (m : ℕ) (before left : List Entry) → length left ≤ m → entries ≡ before ++ left → (pages : List (List Entry)) × ArePages main entries n left pages
+  pages_from some m before [] low whole = ([], no_more)
+  pages_from some zero before (x ∷ left) low whole = absurd (omega (arith, low))
+  pages_from some (suc m) before (x ∷ left) low whole =
+      let shorter : length (drop n (x ∷ left)) ≤ m = omega (arith, length-drop n (x ∷ left), low, some) in
+      page_more some before left x whole (take n (x ∷ left)) refl (pages_from some m (before ++ take n (x ∷ left)) (drop n (x ∷ left)) shorter (further before (x ∷ left) whole))
+
+pub pages_join : PagesJoin
+pages_join main replaces edges entries n pages list h = pages_join_from main entries (distinct main replaces (among edges) entries list) n [] entries pages refl h
+
+pub pages_exist : PagesExist
+pages_exist main replaces edges entries n some list = pages_from main entries (distinct main replaces (among edges) entries list) n some (length entries) [] entries (omega arith) refl

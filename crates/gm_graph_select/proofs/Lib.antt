@@ -1,0 +1,15 @@
+pub mod Sorts
+pub mod RestRows
+pub mod Same
+pub mod VertexKey
+pub mod Greatest
+pub mod Selected
+pub mod Ranges
+pub mod Marking
+pub mod Leveling
+pub mod Numbered
+pub mod Stepping
+pub mod Walking
+pub mod Ascending
+pub mod Inserting
+pub mod Lawful

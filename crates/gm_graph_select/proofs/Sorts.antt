@@ -1,0 +1,47 @@
+-- Sorted lists without duplicates.
+use Rattle.std.proofs.Common.{◌≡◌, ◌+◌, ◌<◌, ℕ, Bool, true, false, List, [], ◌∷◌, length, get_or, Contains, ap, ◌∙◌, sym, refl, subst, arith}
+use Rattle.std.proofs.lemmas.Bool.{false≢true}
+use Rattle.std.specs.declared.cmp.Ordering.{Ordering}
+use Rattle.std.specs.declared.cmp.Ordering.TheVariants.{Less, Equal, Greater}
+use Rattle.std.specs.Ordering.{eq_by_cmp, is_lt}
+use Rattle.std.specs.Cmp.{IsTotalOrder, IsEquivalence, Equal-is}
+use Rattle.std.specs.List.{AllAdjacentBelow, dedup}
+use Rattle.std.specs.List.Sorted.{IsSorted, IsPermutation}
+use Rattle.std.proofs.lemmas.List.Kept.{Any-dedup, Contains-from_dedup, IsStrictlySortedBy-dedup}
+use Rattle.std.proofs.lemmas.List.Sorted.{Contains-permutation, IsPermutation-sym}
+use Rattle.std.proofs.lemmas.Map.Keys.{Less-from_sorted, sorted_from_all_adjacent}
+use Rattle.gm_graph_select.specs.Order.{IsAscending, HaveSame, TiesAreEqual}
+
+module _ {T : Type 0} {cmp : T → T → Ordering} (total : IsTotalOrder cmp) {eq : T → T → Bool} (ties : (x y : T) → eq x y ≡ eq_by_cmp cmp x y) where
+  pub ascending : (xs : List T) → IsSorted cmp xs → IsAscending cmp (dedup eq xs)
+  ascending xs sorted i j d lt below =
+      Less-from_sorted cmp (dedup eq xs) i j d (IsStrictlySortedBy-dedup total ties xs sorted) lt below
+
+  pub members : IsEquivalence eq → (xs ys : List T) → TiesAreEqual cmp xs → IsPermutation xs ys → HaveSame xs (dedup eq ys)
+  members laws xs ys tellable same x = (kept, from)
+    where
+      from : Contains (dedup eq ys) x → Contains xs x
+      from h = Contains-permutation ys xs x (IsPermutation-sym xs ys same) (Contains-from_dedup eq ys x h)
+
+      kept : Contains xs x → Contains (dedup eq ys) x
+      kept h =
+          let (k, y, below, at, e) = Any-dedup laws ys x (Contains-permutation xs ys x same h) in
+          let there : Contains (dedup eq ys) y = (k, below, at) in
+          let inside = Contains-permutation ys xs y (IsPermutation-sym xs ys same) (Contains-from_dedup eq ys y there) in
+          let is : x ≡ y = tellable x y h inside ((Equal-is (cmp x y)).0 (sym (ties x y) ∙ e)) in
+          subst (λ (z : T). Contains (dedup eq ys) z) (sym is) there
+
+-- Each element is less than the next.
+pub from_adjacent : {T : Type 0} {cmp : T → T → Ordering} → IsTotalOrder cmp → (xs : List T) → AllAdjacentBelow (λ x y. true ≡ is_lt (cmp x y)) xs (length xs) → IsAscending cmp xs
+from_adjacent {T} {cmp} total xs each i j d lt below =
+    Less-from_sorted cmp xs i j d (sorted_from_all_adjacent total xs d (λ k inside. lt_Less _ (sym (each k d inside)))) lt below
+  where
+    lt_Less : (r : Ordering) → is_lt r ≡ true → r ≡ Less
+    lt_Less Less e = refl
+    lt_Less Equal e = cc
+    lt_Less Greater e = cc
+
+-- Some element is not less than the next.
+pub not_ascending : {T : Type 0} (cmp : T → T → Ordering) (xs : List T) (k : ℕ) → k + 1 < length xs → ((d : T) → false ≡ is_lt (cmp (get_or xs k d) (get_or xs (k + 1) d))) → IsAscending cmp xs → ⊥
+not_ascending cmp [] k below low up = omega (arith, below)
+not_ascending cmp (x ∷ xs) k below low up = false≢true (low x ∙ ap is_lt (up k (k + 1) x (omega arith) below))

@@ -1,0 +1,34 @@
+use Rattle.std.proofs.Common.{◌∙◌, ap, sym}
+use Rattle.gm_graph_select.specs.BuildList.{entries_of_rows, entry_of_row}
+use Rattle.gm_graph_select.proofs.RestRows.{behind_from, behind_more, at_found, not_found, texts_differ, texts_same}
+use Rattle.gm_graph_select.proofs.row.row_at.Goals as goal
+
+pub rows-init : goal.rows-init
+rows-init c = record {
+  can = tt;
+  finite = tt;
+  behind = behind_from c.args.main.now _ _ c.args.path.now (sym (ap entries_of_rows c.all-rest.ensures));
+}
+
+pub returns-then-eq-clause-some : goal.returns-then-eq-clause-some
+returns-then-eq-clause-some c =
+    at_found c.args.main.now (entries_of_rows c.args.rows.now) c.args.path.now (entry_of_row c.in-Some.row.now) (entries_of_rows c.rows.rest.rest.now) (entries_of_rows c.next.new.self.rest.now)
+    (ap entries_of_rows c.in-Some.ensures.steps)
+    (sym c.path_of.ensures ∙ texts_same _ _ (sym c.eq.ensures ∙ c.if-eq.true))
+    c.rows.invariant.behind
+
+pub rows-preserved : goal.rows-preserved
+rows-preserved c = record {
+  can = tt;
+  finite = tt;
+  behind = behind_more c.args.main.now (entries_of_rows c.args.rows.now) c.args.path.now (entry_of_row c.in-Some.row.now) (entries_of_rows c.rows.rest.rest.now) (entries_of_rows c.next.new.self.rest.now)
+      (ap entries_of_rows c.in-Some.ensures.steps)
+      (λ is. texts_differ c.path_of.result.now c.args.path.now (sym c.eq.ensures ∙ c.if-eq.false) (c.path_of.ensures ∙ is))
+      c.rows.invariant.behind;
+}
+
+pub returns-clause-none : goal.returns-clause-none
+returns-clause-none c =
+    not_found c.args.main.now (entries_of_rows c.args.rows.now) c.args.path.now (entries_of_rows c.rows.rest.rest.now)
+    (ap entries_of_rows c.in_default.ensures.steps.0)
+    c.rows.invariant.behind

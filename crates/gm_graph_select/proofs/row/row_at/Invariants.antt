@@ -1,0 +1,10 @@
+use Rattle.gm_graph_select.specs.BuildList.{entries_of_rows}
+use Rattle.gm_graph_select.proofs.RestRows.{IsRemainder}
+use Rattle.gm_graph_select.proofs.row.row_at.Given as goal
+
+abbrev pub invariant-rows : goal.invariant-rows
+invariant-rows l = record {
+  can : (goal.iterator-rows).can_next l.rest;
+  finite : (goal.iterator-rows).is_finite l.rest;
+  behind : IsRemainder l.main (entries_of_rows l.rows) l.path (entries_of_rows l.rest.rest.now);
+}

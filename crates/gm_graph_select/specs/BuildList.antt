@@ -1,0 +1,90 @@
+-- The build list by minimal version selection (Go Modules Reference, "Minimal version selection"), and the rest of
+-- it after an entry.
+use Rattle.std.specs.Prelude.{◌≡◌, ◌≢◌, ◌↔◌, ℕ, false, List, [], ◌∷◌, ◌++◌, map, unwrap_or, Option, None, Contains}
+use Rattle.std.specs.Option.{option_map}
+use Rattle.std.specs.declared.cmp.Ordering.{Ordering}
+use Rattle.std.specs.Ordering.{is_gt, nat_cmp}
+use Rattle.std.specs.Cmp.Lexicographic.{slice_cmp}
+use Rattle.gm_name.specs.Version.{version_cmp}
+use Rattle.gm_syntax.specs.Tokens.{Placed}
+use Rattle.gm_syntax.specs.Document.{Line}
+use Rattle.gm_syntax.specs.LineViews.{plain_lines}
+use Rattle.gm_file.specs.Directives.{Strict, Replacing, Right}
+use Rattle.gm_file.specs.Fields.{module_of, replaces_of, replacement_of}
+use Rattle.gm_file.specs.Views.{right_view}
+use Rattle.gm_graph_select.specs.declared.step.Step.{Step}
+use Rattle.gm_graph_select.specs.declared.step.Step.TheVariants.{Main, Of}
+use Rattle.gm_graph_select.specs.declared.row.Row.{Row}
+use Rattle.gm_graph_select.specs.Graph.{Vertex, Edges, IsEnd}
+use Rattle.gm_graph_select.specs.Order.{IsAscending}
+
+-- a module of the build list, and its replacement
+abbrev pub Entry : Type 0
+Entry = Step × Option Right
+
+-- a row, as contracts state it
+abbrev pub entry_of_row : Row → Entry
+entry_of_row row = (row.step, option_map right_view row.right)
+
+abbrev pub entries_of_rows : List Row → List Entry
+entries_of_rows rows = map entry_of_row rows
+
+-- The vertex has the greatest version of a path that is not the main module's.
+pub record IsSelected (main : List ℕ) (edges : Edges) (x : Vertex) : Type 0 where
+  pub not_main : x.0 ≢ main
+  pub is_end : IsEnd edges x
+  pub greatest : (y : Vertex) → IsEnd edges y → y.0 ≡ x.0 → is_gt (version_cmp y.1 x.1) ≡ false
+
+-- the order of vertices by the bytes of their paths alone
+abbrev pub path_cmp : Vertex → Vertex → Ordering
+path_cmp x y = slice_cmp nat_cmp x.0 y.0
+
+abbrev pub main_entry : Entry
+main_entry = (Main, None)
+
+abbrev pub entry_of : List Replacing → Vertex → Entry
+entry_of replaces x = (Of x, replacement_of replaces x)
+
+-- The main module comes first, followed by the selected vertices in strictly ascending order of the bytes of their
+-- paths, each with its replacement.
+pub record IsBuildList (main : List ℕ) (replaces : List Replacing) (edges : Edges) (entries : List Entry) : Type 0 where
+  pub selected : List Vertex
+  pub entries_are : entries ≡ main_entry ∷ map (entry_of replaces) selected
+  pub ascending : IsAscending path_cmp selected
+  pub each : (x : Vertex) → Contains selected x ↔ IsSelected main edges x
+
+-- The path that a main file declares. A valid main file declares one.
+abbrev pub main_path : List (Line Placed) → List ℕ
+main_path lines = unwrap_or (module_of Strict (plain_lines lines)) []
+
+-- what a main file replaces
+abbrev pub main_replaces : List (Line Placed) → List Replacing
+main_replaces lines = replaces_of (plain_lines lines)
+
+-- ---- entries by their path
+
+-- the path of an entry: the main module's, or that of its vertex
+abbrev pub path_of : List ℕ → Step → List ℕ
+path_of main Main = main
+path_of main (Of x) = x.0
+
+-- An entry has the path.
+abbrev pub IsListed : List ℕ → List Entry → List ℕ → Type 0
+IsListed main entries path = (entry : Entry) × Contains entries entry × (path_of main entry.0 ≡ path)
+
+-- the first entry of the path, and what follows it
+pub record IsAt (main : List ℕ) (entries : List Entry) (path : List ℕ) (entry : Entry)
+    (rest : List Entry) : Type 0 where
+  pub before : List Entry
+  pub parts : entries ≡ before ++ entry ∷ rest
+  pub path_is : path_of main entry.0 ≡ path
+  pub others : (other : Entry) → Contains before other → path_of main other.0 ≢ path
+
+-- what follows the entry of a path
+abbrev pub IsRestAfter : List ℕ → List Entry → List ℕ → List Entry → Type 0
+IsRestAfter main entries path rest = (entry : Entry) × IsAt main entries path entry rest
+
+-- the step that the list has for a path: the main module or a vertex
+abbrev pub IsEntryOf : List ℕ → List Entry → List ℕ → Step → Type 0
+IsEntryOf main entries path s = (entry : Entry) × (rest : List Entry) × IsAt main entries path entry rest
+    × (entry.0 ≡ s)

@@ -1,0 +1,85 @@
+-- Laws over the definitions alone.
+use Rattle.std.specs.Prelude.{◌≡◌, ◌≢◌, ◌<◌, ℕ, suc, false, List, [], ◌∷◌, ◌++◌, length, take, Option, Contains}
+use Rattle.std.specs.Ordering.{is_gt}
+use Rattle.gm_name.specs.Version.{version_cmp}
+use Rattle.gm_file.specs.Directives.{Replacing, Right}
+use Rattle.gm_graph_select.specs.declared.step.Step.{Step}
+use Rattle.gm_graph_select.specs.declared.step.Step.TheVariants.{Main, Of}
+use Rattle.gm_graph_select.specs.declared.step.Edge.{Edge}
+use Rattle.gm_graph_select.specs.Graph.{Vertex, IsEnd, among}
+use Rattle.gm_graph_select.specs.BuildList.{Entry, IsBuildList, IsEntryOf, IsRestAfter, path_of}
+use Rattle.gm_graph_select.specs.Chains.{IsChain, IsLevel, IsReached, IsRooted}
+
+-- The version of each row is one that an edge leads to.
+abbrev pub RowsAreEnds : Type 0
+RowsAreEnds = (main : List ℕ) (replaces : List Replacing) (edges : List Edge) (entries : List Entry)
+    → IsBuildList main replaces (among edges) entries
+    → (x : Vertex) (right : Option Right) → Contains entries (Of x, right) → IsEnd (among edges) x
+
+-- Each path other than the main module's that an edge leads to has a row, whose version is not below that of the
+-- edge.
+abbrev pub RowsSatisfy : Type 0
+RowsSatisfy = (main : List ℕ) (replaces : List Replacing) (edges : List Edge) (entries : List Entry)
+    → IsBuildList main replaces (among edges) entries
+    → (y : Vertex) → IsEnd (among edges) y → y.0 ≢ main
+    → (x : Vertex) × (right : Option Right) × Contains entries (Of x, right) × (x.0 ≡ y.0)
+    × (is_gt (version_cmp y.1 x.1) ≡ false)
+
+-- The edges have at most one build list.
+abbrev pub OneBuildList : Type 0
+OneBuildList = (main : List ℕ) (replaces : List Replacing) (edges : List Edge) (a b : List Entry)
+    → IsBuildList main replaces (among edges) a → IsBuildList main replaces (among edges) b → a ≡ b
+
+-- The edges have a build list.
+abbrev pub SomeBuildList : Type 0
+SomeBuildList = (main : List ℕ) (replaces : List Replacing) (edges : List Edge)
+    → (entries : List Entry) × IsBuildList main replaces (among edges) entries
+
+-- The rest after a path is unique.
+abbrev pub OneRest : Type 0
+OneRest = (main : List ℕ) (entries : List Entry) (path : List ℕ) (a b : List Entry) → IsRestAfter main entries path a
+    → IsRestAfter main entries path b → a ≡ b
+
+-- Pages of n entries of the remaining list, each starting after the last entry of the page before.
+pub data ArePages (main : List ℕ) (entries : List Entry) (n : ℕ) : List Entry → List (List Entry) → Type 0 where
+  no_more : ArePages main entries n [] []
+  one_more : {left rest : List Entry} {pages : List (List Entry)} (front : List Entry) (last : Entry)
+      → take n left ≡ front ++ last ∷ [] → IsRestAfter main entries (path_of main last.0) rest
+      → ArePages main entries n rest pages → ArePages main entries n left (take n left ∷ pages)
+
+abbrev pub joined : List (List Entry) → List Entry
+joined [] = []
+joined (page ∷ pages) = page ++ joined pages
+
+-- The joined pages are the build list.
+abbrev pub PagesJoin : Type 0
+PagesJoin = (main : List ℕ) (replaces : List Replacing) (edges : List Edge) (entries : List Entry) (n : ℕ)
+    (pages : List (List Entry)) → IsBuildList main replaces (among edges) entries
+    → ArePages main entries n entries pages → joined pages ≡ entries
+
+-- Such pages exist.
+abbrev pub PagesExist : Type 0
+PagesExist = (main : List ℕ) (replaces : List Replacing) (edges : List Edge) (entries : List Entry) (n : ℕ) → 0 < n
+    → IsBuildList main replaces (among edges) entries
+    → (pages : List (List Entry)) × ArePages main entries n entries pages
+
+-- A chain has one step more than its last step's level, and fewer edges never lead there.
+abbrev pub ChainIsShortest : Type 0
+ChainIsShortest = (edges : List Edge) (s : Step) (steps : List Step) → IsChain (among edges) s steps
+    → (n : ℕ) × (length steps ≡ suc n) × IsLevel (among edges) s n
+
+-- The chain to a step is unique.
+abbrev pub OneChain : Type 0
+OneChain = (edges : List Edge) (s : Step) (a b : List Step) → IsChain (among edges) s a → IsChain (among edges) s b
+    → a ≡ b
+
+-- The entry of the main module's path is the main module.
+abbrev pub MainIsFirst : Type 0
+MainIsFirst = (main : List ℕ) (replaces : List Replacing) (edges : List Edge) (entries : List Entry) (s : Step)
+    → IsBuildList main replaces (among edges) entries → IsEntryOf main entries main s → s ≡ Main
+
+-- If each edge leaves a step that edges lead to from the main module, edges lead to every entry.
+abbrev pub EntriesAreReached : Type 0
+EntriesAreReached = (main : List ℕ) (replaces : List Replacing) (edges : List Edge) (entries : List Entry)
+    (path : List ℕ) (s : Step) → IsBuildList main replaces (among edges) entries → IsRooted (among edges)
+    → IsEntryOf main entries path s → IsReached (among edges) s

@@ -1,0 +1,40 @@
+//! Sorting with duplicates removed.
+//!
+//! The graph's lists are stated as strictly ascending, so that equal graphs have equal lists.
+
+ghost use Rattle.std.specs.Prelude.{◌≡◌, false, true};
+ghost use Rattle.gm_graph_select.specs.Graph.{edge_cmp};
+ghost use Rattle.gm_graph_select.specs.Order.{TiesAreEqual, HaveSame, IsAscending};
+
+use crate::step::Edge;
+
+/// Whether each item is less than the next. It takes no memory, and one comparison per item.
+pub fn is_ascending<T: Ord>(items: &[T]) -> bool
+    ensures yes { result ≡ true → IsAscending T.cmp items.now }
+    ensures no { result ≡ false → IsAscending T.cmp items.now → ⊥ }
+{
+    items.is_sorted_by(|a, b| a.cmp(b).is_lt())
+}
+
+/// The same items in strictly ascending order, without duplicates. Items that compare as equal must be the same. It
+/// takes no memory, and n log n comparisons, or only n if the items are in that order already.
+pub fn sorted<T: Ord + Drop>(mut items: Vec<T>) -> Vec<T>
+    requires { TiesAreEqual T.cmp items.items }
+    ensures ascending { IsAscending T.cmp result.items }
+    ensures members { HaveSame items.items result.items }
+{
+    if is_ascending(&items) {
+        return items;
+    }
+    items.sort_unstable();
+    items.dedup();
+    items
+}
+
+/// The same edges in strictly ascending order, without duplicates. It takes no memory, and n log n comparisons.
+pub fn sorted_edges(edges: Vec<Edge>) -> Vec<Edge>
+    ensures ascending { IsAscending edge_cmp result.items }
+    ensures members { HaveSame edges.items result.items }
+{
+    sorted(edges)
+}

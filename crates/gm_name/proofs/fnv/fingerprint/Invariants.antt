@@ -1,6 +1,0 @@
-use Rattle.std.proofs.Common.{◌≡◌, drop}
-use Rattle.gm_name.specs.Fingerprint.{fingerprint}
-use Rattle.gm_name.proofs.fnv.fingerprint.Given as goal
-
-abbrev pub invariant-loop-byte : goal.invariant-loop-byte
-invariant-loop-byte l = fingerprint l.number (drop l.byte-index l.text) ≡ fingerprint l.fn.start l.fn.text

@@ -1,6 +1,0 @@
-use Rattle.std.proofs.Common.{drop, map, string_bytes}
-use Rattle.gm_run.proofs.EditsInTurn.{IsGoneTo}
-use Rattle.gm_run.proofs.edit.apply_all.Given as goal
-
-abbrev pub invariant-loop-n : goal.invariant-loop-n
-invariant-loop-n l = IsGoneTo (map string_bytes l.texts) l.initial.file l.n (map string_bytes (drop l.n l.texts)) l.file

@@ -1,6 +1,0 @@
-use Rattle.gm_run.proofs.Endings.{ends_wider, file_served}
-use Rattle.gm_run.proofs.program.serve_file.Goals as goal
-
-pub returns : goal.returns
-returns g c =
-    ends_wider _ _ _ _ _ _ _ (file_served c.args.command.now c.args.places c.as_str-name.result.now c.read_file-read.result c.requires c.as_str-name.ensures.value) c.file_read.ensures

@@ -1,5 +1,0 @@
-use Rattle.gm_select.proofs.Lawful as lawful
-use Rattle.gm_select.proofs.laws.entries_are_reached.Goals as goal
-
-pub returns : goal.returns
-returns c = lawful.entries_are_reached

@@ -1,5 +1,0 @@
-use Rattle.gm_select.proofs.Lawful as lawful
-use Rattle.gm_select.proofs.laws.main_is_first.Goals as goal
-
-pub returns : goal.returns
-returns c = lawful.main_is_first

@@ -1,5 +1,0 @@
-use Rattle.gm_select.proofs.Lawful as lawful
-use Rattle.gm_select.proofs.laws.rows_are_ends.Goals as goal
-
-pub returns : goal.returns
-returns c = lawful.rows_are_ends

@@ -1,5 +1,0 @@
-use Rattle.gm_store.proofs.Stops.{held_stop}
-use Rattle.gm_store.proofs.laws.memory_folders_answer_what_they_hold.Goals as goal
-
-pub returns : goal.returns
-returns c = held_stop

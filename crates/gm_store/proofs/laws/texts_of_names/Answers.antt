@@ -1,8 +1,0 @@
-use Rattle.gm_store.proofs.Inside.{texts_differ, texts_small}
-use Rattle.gm_store.proofs.laws.texts_of_names.Goals as goal
-
-pub returns-clause-differ : goal.returns-clause-differ
-returns-clause-differ c = texts_differ
-
-pub returns-clause-small : goal.returns-clause-small
-returns-clause-small c = texts_small

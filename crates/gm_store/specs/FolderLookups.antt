@@ -1,0 +1,28 @@
+-- Which folders and marks a name is looked up with, and the results of all lookups over folders in memory.
+use Rattle.std.specs.Prelude.{ℕ, List, [], ◌∷◌, map}
+use Rattle.gm_store.specs.declared.proxy_list.Mark.{Mark}
+use Rattle.gm_store.specs.declared.folders_in_memory.FoldersInMemory.{FoldersInMemory}
+use Rattle.gm_store.specs.Asked.{Name, mod_file, folder_file, list_file}
+use Rattle.gm_store.specs.FoldersInMemory.{result_at}
+use Rattle.gm_store.specs.Steps.{Seen}
+
+-- the results of looking up a name in every folder: a module's file in each proxy folder in turn, the go.mod of a
+-- local folder only in the folder beside the main file
+abbrev pub lookup_results : FoldersInMemory → Name → List Seen
+lookup_results folders (mod_file path version) =
+    map (λ shelf. result_at shelf (mod_file path version)) folders.proxies.items
+lookup_results folders (list_file path) =
+    map (λ shelf. result_at shelf (list_file path)) folders.proxies.items
+lookup_results folders (folder_file text) = result_at folders.beside (folder_file text) ∷ []
+
+-- the marks that apply to a name: none for the go.mod of a local folder, which is looked up in one place
+abbrev pub marks_for : Name → List Mark → List Mark
+marks_for (mod_file path version) marks = marks
+marks_for (list_file path) marks = marks
+marks_for (folder_file text) marks = []
+
+-- the number of folders that a name may be looked up in, given the number of proxy folders
+abbrev pub count_for : ℕ → Name → ℕ
+count_for proxies (mod_file path version) = proxies
+count_for proxies (list_file path) = proxies
+count_for proxies (folder_file text) = 1

@@ -1,0 +1,144 @@
+//! The GOPROXY fallback as a store: each request is looked up in several folders in turn.
+//!
+//! Folders in memory and folders of a file system differ only in the lookup, so both share this store and its
+//! proofs.
+
+ghost use Rattle.std.specs.Prelude.{◌<◌, length};
+ghost use Rattle.gm_store.specs.Asked.{Name};
+ghost use Rattle.gm_store.specs.FolderLookups.{marks_for};
+
+use crate::fallback_walk::{Folders, walk};
+use crate::files::{Answer, AskFault, Asked, FileName, Files, copy_name};
+use crate::folders_in_memory::marks_for;
+use crate::proxy_list::Mark;
+use std::alloc::Global;
+
+/// A store over several folders. `MemoryFallback` has them in memory, `DiskFallback` on a device.
+///
+/// The answer to a request is that of the folder at which `step` stops. Each failure of the device is counted,
+/// even if the lookup then falls back to the next folder. Running out of memory stops a request at once; the
+/// failures until then are still counted.
+#[derive(Drop)]
+pub struct FallbackStore<F: Folders> {
+    /// The allocator for the kept names and answers.
+    pub(crate) alloc: Global,
+    /// The folders.
+    pub(crate) folders: F,
+    /// The marks between the proxy folders, one fewer than these.
+    pub(crate) marks: Vec<Mark>,
+    /// The answered requests, in order.
+    pub(crate) asked: Vec<Asked>,
+    /// The names whose requests were refused because the device failed, in order.
+    pub(crate) refused: Vec<FileName>,
+    /// How often the device has failed. The count saturates.
+    pub(crate) faults: u64,
+    // A folder follows each mark, for each name, so the walk can't leave the list.
+    ghost between: { (name : Name) → length (marks_for name marks.items) < F.count_for folders name },
+}
+
+impl<F: Folders> FallbackStore<F> {
+    ghost use Rattle.std.specs.Prelude.{◌≡◌, []};
+    ghost use Rattle.gm_store.specs.Views.{asked_by, faults_of, folders_under, marks_between, refused_by};
+
+    /// A store over these folders, with the marks between the proxy folders. Nothing has been requested from it
+    /// yet.
+    ///
+    /// The caller shows that for each name there are more folders than marks.
+    pub(crate) fn over(alloc: Global, folders: F, marks: Vec<Mark>) -> FallbackStore<F>
+        requires { (name : Name) → length (marks_for name marks.items) < F.count_for folders name }
+        ensures folders { folders_under result ≡ folders }
+        ensures marks { marks_between result ≡ marks.items }
+        ensures asked { asked_by result ≡ [] }
+        ensures refused { refused_by result ≡ [] }
+        ensures faults { faults_of result ≡ 0 }
+    {
+        FallbackStore {
+            alloc,
+            folders,
+            marks,
+            asked: Vec::new(alloc),
+            refused: Vec::new(alloc),
+            faults: 0,
+        }
+    }
+}
+
+impl<F: Folders> Files for FallbackStore<F> {
+    ghost use Rattle.std.specs.Prelude.{◌≡◌, ◌-◌, ◌^◌, ◌<◌, ◌⊎◌, ℕ, [], ◌∷◌, ◌++◌, None, Some, OnOk, OnErr};
+    ghost use Rattle.gm_store.specs.Asked.{Reply, answer_in, name_of};
+    ghost use Rattle.gm_store.specs.Steps.{HasCounted, MayStop, counted_up};
+    ghost use Rattle.gm_store.specs.Views.{asked_by, faults_of, folders_under, marks_between, refused_by};
+
+    ghost asked = { asked_by };
+
+    ghost refused = { refused_by };
+
+    ghost fault_count = { faults_of };
+
+    ghost may_answer = { λ store name reply. (failures : ℕ)
+        × MayStop (λ k seen. F.may_find (folders_under store) k name seen)
+        (marks_for name (marks_between store)) (Some reply) failures };
+
+    fn ask(&mut self, name: &FileName) -> Result<(), AskFault>
+        requires { answer_in (asked_by self.old) (name_of name.now) ≡ None }
+        ensures ok { OnOk result ((reply : Reply)
+            × ((failures : ℕ) × MayStop (λ k seen. F.may_find (folders_under self.old) k (name_of name.now) seen)
+            (marks_for (name_of name.now) (marks_between self.old)) (Some reply) failures)
+            × (asked_by self.new ≡ asked_by self.old ++ (name_of name.now, reply) ∷ [])) }
+        ensures err { OnErr result (asked_by self.new ≡ asked_by self.old) }
+        ensures refused { result ≡ Err AskFault.Device
+            → refused_by self.new ≡ refused_by self.old ++ name_of name.now ∷ [] }
+        ensures not_refused { (result ≡ Err AskFault.Device → ⊥) → refused_by self.new ≡ refused_by self.old }
+        ensures cause { result ≡ Err AskFault.Device
+            → (faults_of self.old < faults_of self.new) ⊎ (faults_of self.old ≡ 2 ^ 64 - 1) }
+        ensures same_store { (folders_under self.new ≡ folders_under self.old)
+            × (marks_between self.new ≡ marks_between self.old) }
+
+        // The answer is that of the folder at which `step` stops. The request fails only if `step` stops at a
+        // failure of the device. Failures in the folders before are counted too.
+        ensures counted { OnOk result ((reply : Reply)
+            × (failures : ℕ) × MayStop (λ k seen. F.may_find (folders_under self.old) k (name_of name.now) seen)
+            (marks_for (name_of name.now) (marks_between self.old)) (Some reply) failures
+            × (asked_by self.new ≡ asked_by self.old ++ (name_of name.now, reply) ∷ [])
+            × (faults_of self.new ≡ counted_up (faults_of self.old) failures)) }
+        ensures device { result ≡ Err AskFault.Device
+            → (failures : ℕ) × MayStop (λ k seen. F.may_find (folders_under self.old) k (name_of name.now) seen)
+            (marks_for (name_of name.now) (marks_between self.old)) None failures
+            × (faults_of self.new ≡ counted_up (faults_of self.old) failures) }
+        ensures no_memory { result ≡ Err AskFault.NoMemory
+            → HasCounted (λ k seen. F.may_find (folders_under self.old) k (name_of name.now) seen)
+            (faults_of self.old) (faults_of self.new) }
+    {
+        // This read puts the count's range into the proof, also for the early return when memory runs out.
+        let _faults = self.faults;
+        let copy = copy_name(self.alloc, name)?;
+        let marks = marks_for(name, &self.marks);
+        let outcome = walk(&self.folders, marks, name, &mut self.faults)?;
+        match outcome {
+            Some(answer) => {
+                self.asked.push(Asked { name: copy, answer })?;
+                Ok(())
+            }
+            None => {
+                self.refused.push(copy)?;
+                Err(AskFault::Device)
+            }
+        }
+    }
+
+    fn count(&self) -> usize {
+        self.asked.len()
+    }
+
+    fn name(&self, i: usize) -> &FileName {
+        &self.asked[i].name
+    }
+
+    fn answer(&self, i: usize) -> &Answer {
+        &self.asked[i].answer
+    }
+
+    fn faults(&self) -> u64 {
+        self.faults
+    }
+}

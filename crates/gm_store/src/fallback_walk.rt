@@ -1,0 +1,103 @@
+//! The GOPROXY fallback itself: folders are looked into in turn until `step` stops.
+//!
+//! The loop works over the trait `Folders`, so folders in memory and on a device share it.
+
+ghost use Rattle.std.specs.Prelude.{◌≡◌, ◌-◌, ◌^◌, ◌<◌, ◌⊎◌, ℕ, [], ◌∷◌, length, slice_get, Some, IfNone, IfOk, OnErr, false};
+ghost use Rattle.std.specs.List.{count_by};
+ghost use Rattle.std.specs.Option.{option_map};
+ghost use Rattle.gm_store.specs.Asked.{name_of, reply_of};
+ghost use Rattle.gm_store.specs.Steps.{HasCounted, MayStop, counted_up, has_failed, outcome_of, result_of, step_of};
+
+use crate::fallback_step::{Looked, Next, step};
+use crate::files::{Answer, FileName};
+use crate::proxy_list::Mark;
+use gm_name::NoMemory;
+use std::alloc::AllocError;
+
+/// A list of folders that can be looked into.
+pub trait Folders {
+    ghost use Rattle.gm_store.specs.Asked.{Name, name_of};
+    ghost use Rattle.gm_store.specs.Steps.{Seen, result_of};
+
+    /// How many folders there are for a name.
+    ghost count_for: { Self → Name → ℕ };
+
+    /// The possible results of a lookup of a name in folder number k, counted from 0. For real folders any result
+    /// is possible.
+    ghost may_find: { Self → ℕ → Name → Seen → Type 0 };
+
+    /// Looks up a name in folder number `folder`, counted from 0.
+    ///
+    /// A device failure is a result, `Looked::Failed`, since the fallback may continue after it. The only refusal
+    /// is `NoMemory`.
+    fn look(&self, folder: usize, name: &FileName) -> Result<Looked, NoMemory>
+        requires { folder < count_for self.now (name_of name.now) }
+        ensures { IfOk result (λ looked. may_find self.now folder (name_of name.now) (result_of looked)) };
+}
+
+/// Looks into the folders in turn, and returns the answer of the one at which `step` stops, or `None` if the
+/// device failed there. `marks` has the marks between the folders.
+///
+/// Each failure of the device is added to `faults`, which saturates. The only refusal is `NoMemory`, and the
+/// failures until then are added too.
+pub(crate) fn walk<F: Folders>(
+    folders: &F,
+    marks: &[Mark],
+    name: &FileName,
+    faults: &mut u64,
+) -> Result<Option<Answer>, NoMemory>
+    requires { length marks.now < F.count_for folders.now (name_of name.now) }
+    ensures cause { IfOk result (λ answer. IfNone answer ((faults.old < faults.new) ⊎ (faults.old ≡ 2 ^ 64 - 1))) }
+    ensures stop { IfOk result (λ answer. (failures : ℕ)
+        × MayStop (λ k seen. F.may_find folders.now k (name_of name.now) seen) marks.now
+        (option_map reply_of answer) failures
+        × (faults.new ≡ counted_up faults.old failures)) }
+    ensures no_memory { OnErr result
+        (HasCounted (λ k seen. F.may_find folders.now k (name_of name.now) seen) faults.old faults.new) }
+{
+    let mut at = 0;
+    let mut count = *faults;
+    'folders: loop {
+        let Ok(looked) = folders.look(at, name) else {
+            *faults = count;
+            return Err(AllocError);
+        };
+        count = counted(count, &looked);
+        *faults = count;
+        match step(&looked, mark_at(marks, at)) {
+            Next::Take => return Ok(answer_in(looked)),
+            Next::Fail => return Ok(None),
+            Next::Go => at += 1,
+        }
+    }
+}
+
+/// The mark after folder number `at`, or `None` after the last folder.
+fn mark_at(marks: &[Mark], at: usize) -> Option<Mark>
+    ensures { result ≡ slice_get marks.now at }
+{
+    marks.get(at).copied()
+}
+
+/// The count of failures after a lookup. It saturates.
+fn counted(faults: u64, looked: &Looked) -> u64
+    ensures { result ≡ counted_up faults (count_by has_failed (result_of looked.now ∷ [])) }
+{
+    match looked {
+        Looked::Failed => faults.saturating_add(1),
+        _ => faults,
+    }
+}
+
+/// The answer that a lookup results in, or `None` if the device failed.
+fn answer_in(looked: Looked) -> Option<Answer>
+    ensures { has_failed (result_of looked) ≡ false
+        → option_map reply_of result ≡ outcome_of (result_of looked) Next.Take }
+{
+    match looked {
+        Looked::Found(content) => Some(Answer::Bytes(content)),
+        Looked::TooLong => Some(Answer::TooLong),
+        Looked::Absent => Some(Answer::Absent),
+        Looked::Failed => None,
+    }
+}

@@ -1,0 +1,45 @@
+//! Paths of files in a file system: which path a lookup opens.
+//!
+//! Module files come from the proxy folders. The `go.mod` of a local folder doesn't: its path is relative to the
+//! main file's folder (Go Modules Reference, `replace` directive).
+
+ghost use Rattle.std.specs.Prelude.{◌≡◌, ◌<◌, IfOk, length, map, string_bytes};
+ghost use Rattle.gm_store.specs.Asked.{name_of};
+ghost use Rattle.gm_store.specs.Placed.{is_absolute, lookup_path_text};
+ghost use Rattle.gm_store.specs.FolderLookups.{count_for};
+
+use crate::files::FileName;
+use crate::relative_path::{below, relative_name};
+use gm_name::NoMemory;
+use std::alloc::Global;
+
+/// The path that is opened to look up a name in folder number `folder`, counted from 0.
+///
+/// For a module's file it is below that proxy folder. For the `go.mod` of a local folder it is relative to `main`,
+/// unless the local folder's text is absolute. The only refusal is `NoMemory`.
+pub(crate) fn lookup_path(
+    alloc: Global,
+    main: &str,
+    proxies: &[String],
+    folder: usize,
+    name: &FileName,
+) -> Result<String, NoMemory>
+    requires { folder < count_for (length proxies.now) (name_of name.now) }
+    ensures { IfOk result (λ place. string_bytes place
+        ≡ lookup_path_text main.now (map string_bytes proxies.now) folder (name_of name.now)) }
+{
+    let relative = relative_name(alloc, name)?;
+    match name {
+        FileName::Folder(text) if is_absolute(text.as_str()) => Ok(relative),
+        FileName::Folder(_) => below(alloc, main, relative.as_str()),
+        _ => below(alloc, proxies[folder].as_str(), relative.as_str()),
+    }
+}
+
+/// Whether a path is absolute.
+fn is_absolute(text: &str) -> bool
+    ensures { result ≡ is_absolute text.now }
+{
+    let bytes = text.as_bytes();
+    !bytes.is_empty() && bytes[0] == b'/'
+}

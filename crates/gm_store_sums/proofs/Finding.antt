@@ -1,0 +1,206 @@
+-- Where the lines for a path and a version are in a table, and what they say about a hash.
+use Rattle.std.proofs.Common.{◌≡◌, ◌<◌, ◌≤◌, ◌+◌, ◌-◌, ℕ, Bool, true, false, not, List, length, map, ap, ◌∙◌, sym, refl, arith, slice_index_or, inl, inr}
+use Rattle.std.proofs.lemmas.Bool.{cases_lt}
+use Rattle.std.proofs.lemmas.Cmp.{nat_list_cmp_total, on_total, then_total, tied_itself}
+use Rattle.std.proofs.lemmas.List.{get_or_default}
+use Rattle.std.proofs.lemmas.List.Sorted.{sorted_far, ranks_by, searchable_from_sorted}
+use Rattle.std.proofs.lemmas.Slice.Eq.{bytes_eq-Decides}
+use Rattle.std.specs.Cmp.{IsTotalOrder, first_so, second_so, unsigned_ties}
+use Rattle.std.specs.Cmp.Lexicographic.{lists_ties, slice_cmp}
+use Rattle.std.specs.List.{list_any}
+use Rattle.std.specs.List.Sorted.{IsNonDecreasingBy, IsPartitionPoint, IsPartitionedBy, IsSortedBy}
+use Rattle.std.specs.Ordering.{is_eq, is_gt, is_le, is_lt, nat_cmp, ordering_index, ordering_reverse, ordering_then}
+use Rattle.std.specs.Prelude.{Contains, if◌then◌else◌}
+use Rattle.std.specs.Str.{bytes_eq}
+use Rattle.std.specs.declared.cmp.Ordering.{Ordering}
+use Rattle.std.specs.declared.cmp.Ordering.TheVariants.{Less, Equal, Greater}
+use Rattle.gm_store_sums.specs.Order.{AreInOrder, line_cmp, key_cmp, triple}
+use Rattle.gm_store_sums.specs.Sums.{is_line_for, is_other_hash}
+use Rattle.gm_store_sums.specs.declared.sum_table.Sum.TheVariants.{Good, Unlisted, Differs}
+use Rattle.gm_store_sums.specs.declared.sum_table.SumLine.{SumLine}
+use Rattle.gm_store_sums.proofs.Summing.{Triple, any_map, any_found, any_none, both_true, line_for, other_apart}
+
+abbrev Place : Type 0
+Place = List ℕ × List ℕ
+
+-- ---- the orders
+
+pub key_total : IsTotalOrder (λ (x y : Place). ordering_then (slice_cmp nat_cmp x.0 y.0) (slice_cmp nat_cmp x.1 y.1))
+key_total = then_total (on_total (λ (x : Place). x.0) nat_list_cmp_total) (on_total (λ (x : Place). x.1) nat_list_cmp_total)
+
+pub line_total : IsTotalOrder line_cmp
+line_total = then_total (on_total (λ (x : Triple). x.0) nat_list_cmp_total) (then_total (on_total (λ (x : Triple). x.1) nat_list_cmp_total) (on_total (λ (x : Triple). x.2) nat_list_cmp_total))
+
+shorter : (a b c : Ordering) → is_lt (ordering_then a (ordering_then b c)) ≡ false → is_lt (ordering_then a b) ≡ false
+shorter Less b c e = e
+shorter Greater b c e = refl
+shorter Equal Less c e = e
+shorter Equal Greater c e = refl
+shorter Equal Equal c e = refl
+
+place_of : SumLine → Place
+place_of line = (line.path.items, line.version.items)
+
+-- lines in ascending order are in the order of their paths and versions
+shorter_lines : (x y : SumLine) → is_lt (line_cmp (triple x) (triple y)) ≡ false → is_lt (ordering_then (slice_cmp nat_cmp x.path.items y.path.items) (slice_cmp nat_cmp x.version.items y.version.items)) ≡ false
+shorter_lines x y e = shorter (slice_cmp nat_cmp x.path.items y.path.items) (slice_cmp nat_cmp x.version.items y.version.items) (slice_cmp nat_cmp x.hash.items y.hash.items) e
+
+by_key : (lines : List SumLine) → AreInOrder lines → IsSortedBy (λ x y. is_lt (ordering_then (slice_cmp nat_cmp x.path.items y.path.items) (slice_cmp nat_cmp x.version.items y.version.items))) lines
+by_key lines order = λ k d low high. shorter_lines (slice_index_or lines (k + 1) d) (slice_index_or lines k d) (order k d low high)
+
+rising : (lines : List SumLine) (path version : List ℕ) → AreInOrder lines → IsNonDecreasingBy (λ line. ordering_index (key_cmp (triple line) (path, version))) lines
+rising lines path version order = searchable_from_sorted key_total (λ line. (line.path.items, line.version.items)) lines (path, version) (by_key lines order)
+
+less_down : (a b : Ordering) → ordering_index a ≤ ordering_index b → is_lt b ≡ true → is_lt a ≡ true
+less_down Less b le e = refl
+less_down Equal Less le e = absurd (omega arith)
+less_down Greater Less le e = absurd (omega arith)
+less_down Equal Equal le e = e
+less_down Equal Greater le e = cc e
+less_down Greater Equal le e = cc e
+less_down Greater Greater le e = e
+
+up_to_down : (a b : Ordering) → ordering_index a ≤ ordering_index b → is_le b ≡ true → is_le a ≡ true
+up_to_down Less b le e = refl
+up_to_down Equal b le e = refl
+up_to_down Greater Less le e = absurd (omega arith)
+up_to_down Greater Equal le e = absurd (omega arith)
+up_to_down Greater Greater le e = e
+
+pub parted_before : (lines : List SumLine) (path version : List ℕ) → AreInOrder lines → IsPartitionedBy (λ line. is_lt (key_cmp (triple line) (path, version))) lines
+parted_before lines path version order = λ i j d le within. less_down _ _ (rising lines path version order i j d le within)
+
+pub parted_up_to : (lines : List SumLine) (path version : List ℕ) → AreInOrder lines → IsPartitionedBy (λ line. is_le (key_cmp (triple line) (path, version))) lines
+parted_up_to lines path version order = λ i j d le within. up_to_down _ _ (rising lines path version order i j d le within)
+
+-- ---- which lines are for a path and version
+
+same_texts : (x y : List ℕ) → slice_cmp nat_cmp x y ≡ Equal → x ≡ y
+same_texts x y e = (bytes_eq-Decides x y).0 (lists_ties nat_cmp unsigned_ties x y ∙ ap is_eq e)
+
+then_first : (a b : Ordering) → ordering_then a b ≡ Equal → a ≡ Equal
+then_first Less b e = absurd (cc (ap is_lt e))
+then_first Equal b e = refl
+then_first Greater b e = absurd (cc (ap is_gt e))
+
+then_second : (a b : Ordering) → ordering_then a b ≡ Equal → b ≡ Equal
+then_second a b e = ap (λ o. ordering_then o b) (sym (then_first a b e)) ∙ e
+
+between : (o : Ordering) → is_lt o ≡ false → is_le o ≡ true → o ≡ Equal
+between Less e f = cc e
+between Equal e f = refl
+between Greater e f = cc f
+
+-- a line that is neither below nor above a path and version is for them
+is_at : (path version : List ℕ) (t : Triple) → is_lt (key_cmp t (path, version)) ≡ false → is_le (key_cmp t (path, version)) ≡ true → is_line_for path version t ≡ true
+is_at path version t low high =
+    let even = between (key_cmp t (path, version)) low high in
+    both_true _ _ ((bytes_eq-Decides t.0 path).1 (same_texts t.0 path (then_first _ (slice_cmp nat_cmp t.1 version) even)))
+    ((bytes_eq-Decides t.1 version).1 (same_texts t.1 version (then_second (slice_cmp nat_cmp t.0 path) _ even)))
+
+even_at : (path version : List ℕ) (t : Triple) → is_line_for path version t ≡ true → key_cmp t (path, version) ≡ Equal
+even_at path version t e =
+    let p : t.0 ≡ path = (bytes_eq-Decides t.0 path).0 (first_so (bytes_eq t.0 path) (bytes_eq t.1 version) e) in
+    let v : t.1 ≡ version = (bytes_eq-Decides t.1 version).0 (second_so (bytes_eq t.0 path) (bytes_eq t.1 version) e) in
+    ap (λ a. key_cmp (a, t.1, t.2) (path, version)) p ∙ ap (λ b. key_cmp (path, b, t.2) (path, version)) v ∙ tied_itself key_total (path, version)
+
+-- ---- what is found
+
+neither : (o p : Ordering) → o ≡ ordering_reverse p → is_lt o ≡ false → is_lt p ≡ false → o ≡ Equal
+neither Less p e low high = cc low
+neither Equal p e low high = refl
+neither Greater Less e low high = cc high
+neither Greater Equal e low high = cc (ap is_gt e)
+neither Greater Greater e low high = cc (ap is_gt e)
+
+ap2 : {A B C : Type 0} (f : A → B → C) {x y : A} {u v : B} → x ≡ y → u ≡ v → f x u ≡ f y v
+ap2 f {y = y} {u = u} e g = ap (λ a. f a u) e ∙ ap (f y) g
+
+never_true : (b : Bool) → (b ≡ true → ⊥) → b ≡ false
+never_true true never = absurd (never refl)
+never_true false never = refl
+
+never_false : (b : Bool) → (b ≡ false → ⊥) → b ≡ true
+never_false true never = refl
+never_false false never = absurd (never refl)
+
+module _ (lines : List SumLine) (path version hash : List ℕ) (start end : ℕ)
+    (before : IsPartitionPoint (λ line. is_lt (key_cmp (triple line) (path, version)) ≡ true) (λ line. is_lt (key_cmp (triple line) (path, version)) ≡ false) lines start)
+    (up_to : IsPartitionPoint (λ line. is_le (key_cmp (triple line) (path, version)) ≡ true) (λ line. is_le (key_cmp (triple line) (path, version)) ≡ false) lines end)
+    (within : end ≤ length lines) where
+  not_below : (y : SumLine) (k : ℕ) → slice_index_or lines k y ≡ y → is_line_for path version (triple y) ≡ true → k < start → ⊥
+  not_below y k is for low =
+      let below : is_lt (key_cmp (triple y) (path, version)) ≡ true = ap (λ line. is_lt (key_cmp (triple line) (path, version))) (sym is) ∙ before.0 k y (omega arith) low in
+      let never : false ≡ true = ap is_lt (sym (even_at path version (triple y) for)) ∙ below in
+      cc never
+
+  not_above : (y : SumLine) (k : ℕ) → slice_index_or lines k y ≡ y → is_line_for path version (triple y) ≡ true → k < length lines → end ≤ k → ⊥
+  not_above y k is for in_list high =
+      let above : is_le (key_cmp (triple y) (path, version)) ≡ false = ap (λ line. is_le (key_cmp (triple line) (path, version))) (sym is) ∙ up_to.1 k y high in_list in
+      let never : true ≡ false = ap is_le (sym (even_at path version (triple y) for)) ∙ above in
+      cc never
+
+  pub found_at : (y : SumLine) → Contains lines y → is_line_for path version (triple y) ≡ true → (k : ℕ) × (start ≤ k) × (k < end) × (slice_index_or lines k y ≡ y)
+  found_at y (k, in_list, is) for = elim (cases_lt k start) [
+    | inl low ↦ absurd (not_below y k is for low)
+    | inr low ↦ elim (cases_lt k end) [
+      | inl high ↦ (k, low, high, is)
+      | inr high ↦ absurd (not_above y k is for in_list high)
+    ]
+  ]
+
+  -- the lines from start to end are for the path and version
+  pub stands_for : (y : SumLine) (k : ℕ) → slice_index_or lines k y ≡ y → start ≤ k → k < end → is_line_for path version (triple y) ≡ true
+  stands_for y k is low high =
+      is_at path version (triple y)
+      (ap (λ line. is_lt (key_cmp (triple line) (path, version))) (sym is) ∙ before.1 k y low (omega arith))
+      (ap (λ line. is_le (key_cmp (triple line) (path, version))) (sym is) ∙ up_to.0 k y (omega arith) high)
+
+  pub unlisted : end ≤ start → Unlisted ≡ (if not (list_any (is_line_for path version) (map triple lines)) then Unlisted else (if list_any (is_other_hash path version hash) (map triple lines) then Differs else Good))
+  unlisted same =
+      let nothing : list_any (is_line_for path version) (map triple lines) ≡ false = any_map (is_line_for path version) triple lines ∙ never_true _ (λ e.
+      let y = any_found (λ line. is_line_for path version (triple line)) lines e in
+      let k = found_at y.0 y.1 y.2 in
+      let low = k.1 in
+      let high = k.2 in
+      omega arith) in
+      ap (λ b. if not b then Unlisted else (if list_any (is_other_hash path version hash) (map triple lines) then Differs else Good)) (sym nothing)
+
+  listed : (y : SumLine) → slice_index_or lines start y ≡ y → start < end → list_any (is_line_for path version) (map triple lines) ≡ true
+  listed y is some = any_map (is_line_for path version) triple lines ∙ never_false _ (λ e.
+      let none = any_none (λ line. is_line_for path version (triple line)) lines e y (start, omega arith, is) in
+      let never : true ≡ false = sym (stands_for y start is (omega arith) some) ∙ none in
+      cc never)
+
+  -- a line for the path and version with another hash
+  pub differs : (first y : SumLine) (k : ℕ) → slice_index_or lines start first ≡ first → slice_index_or lines k y ≡ y → start ≤ k → k < end → bytes_eq y.hash.items hash ≡ false → Differs ≡ (if not (list_any (is_line_for path version) (map triple lines)) then Unlisted else (if list_any (is_other_hash path version hash) (map triple lines) then Differs else Good))
+  differs first y k is_first is low high other =
+      let found : list_any (is_other_hash path version hash) (map triple lines) ≡ true = any_map (is_other_hash path version hash) triple lines ∙ never_false _ (λ e.
+      let none = any_none (λ line. is_other_hash path version hash (triple line)) lines e y (k, omega arith, is) in
+      let both : is_other_hash path version hash (triple y) ≡ true = both_true _ _ (stands_for y k is low high) (ap not other) in
+      let never : true ≡ false = sym both ∙ none in
+      cc never) in
+      sym (ap (λ b. if not b then Unlisted else (if list_any (is_other_hash path version hash) (map triple lines) then Differs else Good)) (listed first is_first (omega arith)) ∙ ap (λ b. if b then Differs else Good) found)
+
+  whole : (y : SumLine) → is_line_for path version (triple y) ≡ true → bytes_eq y.hash.items hash ≡ true → triple y ≡ (path, version, hash)
+  whole y for same = line_for path version (triple y) for ∙ ap (λ h. (path, version, h)) ((bytes_eq-Decides y.hash.items hash).0 same)
+
+  -- between two lines with this hash there is no other
+  pub good : (first last : SumLine) → AreInOrder lines → start < end → slice_index_or lines start first ≡ first → slice_index_or lines (end - 1) last ≡ last → bytes_eq first.hash.items hash ≡ true → bytes_eq last.hash.items hash ≡ true → Good ≡ (if not (list_any (is_line_for path version) (map triple lines)) then Unlisted else (if list_any (is_other_hash path version hash) (map triple lines) then Differs else Good))
+  good first last order some is_first is_last same_first same_last =
+      let first_is : triple first ≡ (path, version, hash) = whole first (stands_for first start is_first (omega arith) some) same_first in
+      let last_is : triple last ≡ (path, version, hash) = whole last (stands_for last (end - 1) is_last (omega arith) (omega arith)) same_last in
+      let none : list_any (is_other_hash path version hash) (map triple lines) ≡ false = any_map (is_other_hash path version hash) triple lines ∙ never_true _ (λ e.
+      let y = any_found (λ line. is_other_hash path version hash (triple line)) lines e in
+      let for = first_so (is_line_for path version (triple y.0)) (not (bytes_eq y.0.hash.items hash)) y.2 in
+      let k = found_at y.0 y.1 for in
+      let low = k.1 in
+      let high = k.2 in
+      let at_first : slice_index_or lines start y.0 ≡ first = get_or_default lines start y.0 first (omega arith) ∙ is_first in
+      let at_last : slice_index_or lines (end - 1) y.0 ≡ last = get_or_default lines (end - 1) y.0 last (omega arith) ∙ is_last in
+      let up : is_lt (line_cmp (triple y.0) (triple first)) ≡ false = ap2 (λ a b. is_lt (line_cmp (triple a) (triple b))) (sym k.3) (sym at_first) ∙ sorted_far (λ x y. is_lt (line_cmp (triple x) (triple y))) (ranks_by line_total triple) lines order start k.0 y.0 low (omega arith) in
+      let down : is_lt (line_cmp (triple last) (triple y.0)) ≡ false = ap2 (λ a b. is_lt (line_cmp (triple a) (triple b))) (sym at_last) (sym k.3) ∙ sorted_far (λ x y. is_lt (line_cmp (triple x) (triple y))) (ranks_by line_total triple) lines order k.0 (end - 1) y.0 (omega arith) (omega arith) in
+      let even : line_cmp (triple y.0) (path, version, hash) ≡ Equal = neither _ _ (line_total.antisymm (triple y.0) (path, version, hash)) (ap (λ t. is_lt (line_cmp (triple y.0) t)) (sym first_is) ∙ up) (ap (λ t. is_lt (line_cmp t (triple y.0))) (sym last_is) ∙ down) in
+      let hash_even : slice_cmp nat_cmp y.0.hash.items hash ≡ Equal = then_second (slice_cmp nat_cmp y.0.version.items version) _ (then_second (slice_cmp nat_cmp y.0.path.items path) _ even) in
+      other_apart path version hash (triple y.0) y.2 (same_texts y.0.hash.items hash hash_even)) in
+      sym (ap (λ b. if not b then Unlisted else (if list_any (is_other_hash path version hash) (map triple lines) then Differs else Good)) (listed first is_first some) ∙ ap (λ b. if b then Differs else Good) none)

@@ -1,0 +1,177 @@
+-- The hashes that lines list, and what a table says about them.
+use Rattle.std.proofs.Common.{◌≡◌, ◌≢◌, ◌⊎◌, ◌-◌, ◌&&◌, ◌||◌, ℕ, Bool, true, false, not, zero, suc, List, [], ◌∷◌, ◌++◌, length, take, drop, map, ap, ◌∙◌, sym, refl, subst, inl, inr, arith, codes, Bor}
+use Rattle.std.proofs.lemmas.Grind.{common_steps}
+use Rattle.std.proofs.lemmas.List.{append_cancel_right, map-append}
+use Rattle.std.proofs.lemmas.List.Elements.{Contains-append_cases, Contains-append_left, Contains-append_right}
+use Rattle.std.proofs.lemmas.List.Sorted.{Contains-permutation, IsPermutation-sym}
+use Rattle.std.proofs.lemmas.Slice.Eq.{bytes_eq-Decides}
+use Rattle.std.specs.Cmp.{first_so, second_so}
+use Rattle.std.specs.List.Sorted.{IsPermutation}
+use Rattle.std.specs.List.{list_any, starts_with}
+use Rattle.std.specs.Prelude.{◌↔◌, Contains, nat_eq, if◌then◌else◌}
+use Rattle.std.specs.Str.{bytes_eq}
+use Rattle.gm_store.specs.Lines.{fields, lines}
+use Rattle.gm_store_sums.specs.Shapes.{Gives}
+use Rattle.gm_store_sums.specs.Sums.{HoldsSums, IsSum, Says, is_line_for, is_other_hash}
+use Rattle.gm_store_sums.specs.declared.sum_table.Sum.TheVariants.{Good, Unlisted, Differs}
+
+abbrev pub Triple : Type 0
+Triple = List ℕ × List ℕ × List ℕ
+
+-- exactly the hashes that the fields of some lines list
+abbrev pub HoldsGiven : List (List (List ℕ)) → List (List ℕ × List ℕ × List ℕ) → Type 0
+HoldsGiven given sums = (path version hash : List ℕ) → Contains sums (path, version, hash) ↔ (Contains given (path ∷ (version ++ codes "/go.mod") ∷ hash ∷ []) × (starts_with nat_eq hash (codes "h1:") ≡ true))
+
+one_only : {X : Type 0} (x y : X) → Contains (x ∷ []) y → x ≡ y
+one_only x y (zero, within, is) = is
+one_only x y (suc k, within, is) = absurd (omega arith)
+
+one_itself : {X : Type 0} (x : X) → Contains (x ∷ []) x
+one_itself x = (0, omega arith, refl)
+
+cases : {A B C : Type 0} → A ⊎ B → (A → C) → (B → C) → C
+cases (inl a) f g = f a
+cases (inr b) f g = g b
+
+same_triple : (p v h path version hash : List ℕ) → p ∷ (v ++ codes "/go.mod") ∷ h ∷ [] ≡ path ∷ (version ++ codes "/go.mod") ∷ hash ∷ [] → ◌≡◌ {A = Triple} (p, v, h) (path, version, hash)
+same_triple p v h path version hash e =
+    let first : p ≡ path = cc e in
+    let ending : v ++ codes "/go.mod" ≡ version ++ codes "/go.mod" = cc e in
+    let second : v ≡ version = append_cancel_right v version (codes "/go.mod") ending in
+    let third : h ≡ hash = cc e in
+    ap (λ a. (a, v, h)) first ∙ ap (λ b. (path, b, h)) second ∙ ap (λ d. (path, version, d)) third
+
+whole : (n : ℕ) (text : List ℕ) → text ≡ take n text ++ drop n text
+whole n text = grind (arith, common_steps)
+
+-- one more line, which lists a hash
+pub given_more : (given : List (List (List ℕ))) (sums : List Triple) (words : List (List ℕ)) (p v h : List ℕ) → HoldsGiven given sums → Gives words p v h → HoldsGiven (given ++ words ∷ []) (sums ++ (p, v, h) ∷ [])
+given_more given sums words p v h holds gives = λ path version hash. (
+  λ has. cases (Contains-append_cases sums ((p, v, h) ∷ []) (path, version, hash) has)
+      (λ old. let both = (holds path version hash).0 old in (Contains-append_left given (words ∷ []) _ both.0, both.1))
+      (λ new. let same : ◌≡◌ {A = Triple} (p, v, h) (path, version, hash) = one_only _ _ new in
+      (Contains-append_right given (words ∷ []) _ (subst (Contains (words ∷ [])) (gives.0 ∙ ap (λ (t : Triple). t.0 ∷ (t.1 ++ codes "/go.mod") ∷ t.2 ∷ []) same) (one_itself words)), ap (λ (t : Triple). starts_with nat_eq t.2 (codes "h1:")) (sym same) ∙ gives.1)),
+  λ has. cases (Contains-append_cases given (words ∷ []) (path ∷ (version ++ codes "/go.mod") ∷ hash ∷ []) has.0)
+      (λ old. Contains-append_left sums ((p, v, h) ∷ []) (path, version, hash) ((holds path version hash).1 (old, has.1)))
+      (λ new. Contains-append_right sums ((p, v, h) ∷ []) (path, version, hash) (subst (Contains ((p, v, h) ∷ [])) (same_triple p v h path version hash (sym gives.0 ∙ one_only _ _ new)) (one_itself (p, v, h)))),
+)
+
+-- one more line, which lists none
+pub given_same : (given : List (List (List ℕ))) (sums : List Triple) (words : List (List ℕ)) → HoldsGiven given sums → ((p v h : List ℕ) → ¬ (Gives words p v h)) → HoldsGiven (given ++ words ∷ []) sums
+given_same given sums words holds none = λ path version hash. (
+  λ has. let both = (holds path version hash).0 has in (Contains-append_left given (words ∷ []) _ both.0, both.1),
+  λ has. cases (Contains-append_cases given (words ∷ []) (path ∷ (version ++ codes "/go.mod") ∷ hash ∷ []) has.0)
+      (λ old. (holds path version hash).1 (old, has.1))
+      (λ new. absurd (none path version hash (one_only _ _ new, has.1))),
+)
+
+words_more : (seen : List (Bor (List ℕ))) (line : Bor (List ℕ)) → map fields (map (λ line. line.now) (seen ++ line ∷ [])) ≡ map fields (map (λ line. line.now) seen) ++ fields line.now ∷ []
+words_more seen line = ap (map fields) (map-append (λ (line : Bor (List ℕ)). line.now) seen (line ∷ [])) ∙ map-append fields (map (λ line. line.now) seen) (line.now ∷ [])
+
+pub line_gives : (seen : List (Bor (List ℕ))) (line : Bor (List ℕ)) (sums new : List Triple) (p v h : List ℕ) → HoldsGiven (map fields (map (λ line. line.now) seen)) sums → Gives (fields line.now) p v h → new ≡ sums ++ (p, v, h) ∷ [] → HoldsGiven (map fields (map (λ line. line.now) (seen ++ line ∷ []))) new
+line_gives seen line sums new p v h holds gives grown =
+    subst (λ given. HoldsGiven given new) (sym (words_more seen line))
+    (subst (HoldsGiven (map fields (map (λ line. line.now) seen) ++ fields line.now ∷ [])) (sym grown) (given_more _ sums (fields line.now) p v h holds gives))
+
+pub line_gives_none : (seen : List (Bor (List ℕ))) (line : Bor (List ℕ)) (sums : List Triple) → HoldsGiven (map fields (map (λ line. line.now) seen)) sums → ((p v h : List ℕ) → ¬ (Gives (fields line.now) p v h)) → HoldsGiven (map fields (map (λ line. line.now) (seen ++ line ∷ []))) sums
+line_gives_none seen line sums holds none =
+    subst (λ given. HoldsGiven given sums) (sym (words_more seen line)) (given_same _ sums (fields line.now) holds none)
+
+pub holds_all : (text : List ℕ) (sums : List Triple) → HoldsGiven (map fields (lines text)) sums → HoldsSums sums text
+holds_all text sums holds = λ path version hash. (λ has. let both = (holds path version hash).0 has in record { line = both.0; kind = both.1 }, λ is. (holds path version hash).1 (is.line, is.kind))
+
+-- a text without its ending
+pub stripped : (text ending front : List ℕ) → bytes_eq (drop (length text - length ending) text) ending ≡ true → front ≡ take (length text - length ending) text → text ≡ front ++ ending
+stripped text ending front same cut =
+    let end : drop (length text - length ending) text ≡ ending = (bytes_eq-Decides _ ending).0 same in
+    whole (length text - length ending) text ∙ ap (λ t. t ++ drop (length text - length ending) text) (sym cut) ∙ ap (λ t. front ++ t) end
+
+-- ---- what a table says
+
+found_step : {X : Type 0} (f : X → Bool) (x : X) (xs : List X) (hit : Bool) → f x ≡ hit → list_any f (x ∷ xs) ≡ true → (list_any f xs ≡ true → (y : X) × Contains xs y × (f y ≡ true)) → (y : X) × Contains (x ∷ xs) y × (f y ≡ true)
+found_step f x xs true e any rest = (x, (0, omega arith, refl), e)
+found_step f x xs false e any rest =
+    let later : list_any f xs ≡ true = ap (λ b. b || list_any f xs) (sym e) ∙ any in
+    let found = rest later in
+    (found.0, Contains-append_right (x ∷ []) xs found.0 found.1, found.2)
+
+pub any_found : {X : Type 0} (f : X → Bool) (xs : List X) → list_any f xs ≡ true → (x : X) × Contains xs x × (f x ≡ true)
+any_found f [] e = cc e
+any_found f (x ∷ xs) e = found_step f x xs (f x) refl e (any_found f xs)
+
+none_left : (a b : Bool) → (a || b) ≡ false → a ≡ false
+none_left true b e = cc e
+none_left false b e = refl
+
+none_right : (a b : Bool) → (a || b) ≡ false → b ≡ false
+none_right true b e = cc e
+none_right false b e = e
+
+none_inside : {X : Type 0} {y : X} → Contains [] y → ⊥
+none_inside (k, within, is) = omega arith
+
+pub any_none : {X : Type 0} (f : X → Bool) (xs : List X) → list_any f xs ≡ false → (y : X) → Contains xs y → f y ≡ false
+any_none f [] e y has = absurd (none_inside has)
+any_none f (x ∷ xs) e y has = cases (Contains-append_cases (x ∷ []) xs y has)
+    (λ here. ap f (sym (one_only x y here)) ∙ none_left (f x) (list_any f xs) e)
+    (λ later. any_none f xs (none_right (f x) (list_any f xs) e) y later)
+
+pub both_true : (a b : Bool) → a ≡ true → b ≡ true → (a && b) ≡ true
+both_true a b e f = cc
+
+-- the lines for a path and a version list its hashes
+pub line_for : (path version : List ℕ) (t : Triple) → is_line_for path version t ≡ true → t ≡ (path, version, t.2)
+line_for path version t e =
+    ap (λ a. (a, t.1, t.2)) ((bytes_eq-Decides t.0 path).0 (first_so (bytes_eq t.0 path) (bytes_eq t.1 version) e))
+    ∙ ap (λ b. (path, b, t.2)) ((bytes_eq-Decides t.1 version).0 (second_so (bytes_eq t.0 path) (bytes_eq t.1 version) e))
+
+is_for : (path version hash : List ℕ) → is_line_for path version (path, version, hash) ≡ true
+is_for path version hash = both_true _ _ ((bytes_eq-Decides path path).1 refl) ((bytes_eq-Decides version version).1 refl)
+
+not_true : (b : Bool) → not b ≡ true → b ≡ false
+not_true true e = cc e
+not_true false e = refl
+
+pub other_apart : (path version hash : List ℕ) (t : Triple) → is_other_hash path version hash t ≡ true → t.2 ≢ hash
+other_apart path version hash t e same =
+    let differs = not_true (bytes_eq t.2 hash) (second_so (is_line_for path version t) (not (bytes_eq t.2 hash)) e) in
+    let equal : bytes_eq t.2 hash ≡ true = (bytes_eq-Decides t.2 hash).1 same in
+    let never : false ≡ true = sym differs ∙ equal in
+    cc never
+
+same_by : (equal line : Bool) (a b : List ℕ) → (equal ≡ true → a ≡ b) → line ≡ true → (line && not equal) ≡ false → a ≡ b
+same_by true line a b told for none = told refl
+same_by false true a b told for none = cc none
+same_by false false a b told for none = cc for
+
+same_hash : (path version hash other : List ℕ) → is_other_hash path version hash (path, version, other) ≡ false → other ≡ hash
+same_hash path version hash other e = same_by (bytes_eq other hash) (is_line_for path version (path, version, other)) other hash (bytes_eq-Decides other hash).0 (is_for path version other) e
+
+-- lookups in a table say what the text says
+says_step : (text path version hash : List ℕ) (sums : List Triple) (listed other : Bool) → HoldsSums sums text → list_any (is_line_for path version) sums ≡ listed → list_any (is_other_hash path version hash) sums ≡ other
+    → Says text path version hash (if not listed then Unlisted else (if other then Differs else Good))
+says_step text path version hash sums false other holds e f = λ h is.
+    let never : true ≡ false = sym (is_for path version h) ∙ any_none (is_line_for path version) sums e (path, version, h) ((holds path version h).1 is) in
+    cc never
+says_step text path version hash sums true true holds e f =
+    let found = any_found (is_other_hash path version hash) sums f in
+    let line = line_for path version found.0 (first_so (is_line_for path version found.0) (not (bytes_eq found.0.2 hash)) found.2) in
+    (found.0.2, (holds path version found.0.2).0 (subst (Contains sums) line found.1), other_apart path version hash found.0 found.2)
+says_step text path version hash sums true false holds e f =
+    let found = any_found (is_line_for path version) sums e in
+    let line = line_for path version found.0 found.2 in
+    let only = λ (other : List ℕ) (is : IsSum text path version other). same_hash path version hash other (any_none (is_other_hash path version hash) sums f (path, version, other) ((holds path version other).1 is)) in
+    let is = (holds path version found.0.2).0 (subst (Contains sums) line found.1) in
+    (subst (IsSum text path version) (only found.0.2 is) is, only)
+
+-- reordering the lines keeps the hashes
+pub holds_moved : (text : List ℕ) (sums moved : List Triple) → IsPermutation sums moved → HoldsSums sums text → HoldsSums moved text
+holds_moved text sums moved change holds = λ path version hash. (λ has. (holds path version hash).0 (Contains-permutation _ _ _ (IsPermutation-sym _ _ change) has), λ is. Contains-permutation _ _ _ change ((holds path version hash).1 is))
+
+pub says : (text path version hash : List ℕ) (sums : List Triple) → HoldsSums sums text
+    → Says text path version hash (if not (list_any (is_line_for path version) sums) then Unlisted else (if list_any (is_other_hash path version hash) sums then Differs else Good))
+says text path version hash sums holds = says_step text path version hash sums (list_any (is_line_for path version) sums) (list_any (is_other_hash path version hash) sums) holds refl refl
+
+pub any_map : {X Y : Type 0} (f : Y → Bool) (h : X → Y) (xs : List X) → list_any f (map h xs) ≡ list_any (λ x. f (h x)) xs
+any_map f h [] = refl
+any_map f h (x ∷ xs) = ap (λ b. f (h x) || b) (any_map f h xs)

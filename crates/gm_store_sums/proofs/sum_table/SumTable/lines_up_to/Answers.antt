@@ -1,0 +1,13 @@
+use Rattle.std.proofs.Common.{rules}
+use borrow.Author.Tests.{tests}
+use Rattle.std.proofs.lemmas.List.Sorted.{IsPartitionPoint-from_clause}
+use Rattle.std.specs.Ordering.{is_le}
+use Rattle.gm_store_sums.specs.Order.{key_cmp, triple}
+use Rattle.gm_store_sums.proofs.Finding.{parted_up_to}
+use Rattle.gm_store_sums.proofs.sum_table.SumTable.lines_up_to.Goals as goal
+
+pub returns-clause-point : goal.returns-clause-point
+returns-clause-point c =
+    IsPartitionPoint-from_clause (λ line. is_le (key_cmp (triple line) (c.args.path.now, c.args.version.now))) c.args.self.now.lines.items _ (rw c.deref.ensures.value at c.partition_point.ensures.partitioned)
+    (parted_up_to c.args.self.now.lines.items c.args.path.now c.args.version.now c.args.self.now.in_order)
+    (λ a r q k. search (rules, tests))

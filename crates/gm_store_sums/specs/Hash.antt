@@ -1,0 +1,15 @@
+-- The hash of a go.mod: Go Modules Reference, go.sum files.
+use Rattle.std.specs.Prelude.{ℕ, List, ◌++◌, codes}
+use Rattle.sha2.specs.Sha256.{sha256}
+use Rattle.hex.specs.Hex.{encode_lower}
+use Rattle.base64.specs.GeneralPurpose.{encode_of}
+use Rattle.base64.specs.Engines.{standard}
+
+-- the line with the digest of the bytes and the name of the file
+abbrev pub summary_line : List ℕ → List ℕ
+summary_line content = encode_lower (sha256 content) ++ codes "  go.mod\n"
+
+-- the hash of the go.mod of a module with these bytes: the SHA-256 (FIPS 180-4) of that line, in standard
+-- base64 (RFC 4648, section 4)
+abbrev pub file_hash : List ℕ → List ℕ
+file_hash content = codes "h1:" ++ encode_of standard (sha256 (summary_line content))

@@ -1,0 +1,69 @@
+-- A go.sum: Go Modules Reference, go.sum files. "Each line has three fields separated by spaces".
+use Rattle.std.specs.Prelude.{◌↔◌, ◌≡◌, ◌≢◌, ◌<◌, ◌≤◌, ◌+◌, ℕ, ◌&&◌, not, nat_eq, Bool, true, false, List, [], ◌∷◌, ◌++◌, length, map, codes, Contains, if◌then◌else◌}
+use Rattle.std.specs.List.{list_any, position_or_len, starts_with}
+use Rattle.std.specs.Str.{bytes_eq, is_utf8}
+use Rattle.gm_store_sums.specs.declared.sum_table.Sum.{Sum}
+use Rattle.gm_store_sums.specs.declared.sum_table.Sum.TheVariants.{Good, Unlisted, Differs}
+use Rattle.gm_store_sums.specs.declared.sum_table.SumTable.{SumTable}
+use Rattle.gm_store.specs.Lines.{fields, lines}
+use Rattle.gm_store_sums.specs.Order.{triple}
+
+-- ---- the lines of a go.sum
+
+-- a line is valid if it has no fields, or three of UTF-8
+abbrev pub are_valid_fields : List (List ℕ) → Bool
+are_valid_fields [] = true
+are_valid_fields (path ∷ version ∷ hash ∷ []) = is_utf8 path && is_utf8 version && is_utf8 hash
+are_valid_fields _ = false
+
+-- how many lines come before the first invalid line, or the number of lines if all are valid
+abbrev pub lines_before_invalid : List ℕ → ℕ
+lines_before_invalid text = position_or_len (λ line. not (are_valid_fields (fields line))) (lines text)
+
+-- the text has no invalid line
+abbrev pub HasValidLines : List ℕ → Type 0
+HasValidLines text = length (lines text) ≤ lines_before_invalid text
+
+-- the line of this number, counted from 1, is the first invalid one
+abbrev pub IsFirstInvalid : List ℕ → ℕ → Type 0
+IsFirstInvalid text number = (lines_before_invalid text < length (lines text))
+    × (number ≡ lines_before_invalid text + 1)
+
+-- some line of the text lists this hash for the go.mod of a module at a version; hashes of other kinds are skipped
+pub record IsSum (text path version hash : List ℕ) : Type 0 where
+  pub line : Contains (map fields (lines text)) (path ∷ (version ++ codes "/go.mod") ∷ hash ∷ [])
+  pub kind : starts_with nat_eq hash (codes "h1:") ≡ true
+
+-- what the text says about a hash: `Unlisted` if it lists none, `Differs` if it lists another, even in addition
+-- to this one
+abbrev pub Says : List ℕ → List ℕ → List ℕ → List ℕ → Sum → Type 0
+Says text path version hash Unlisted = (other : List ℕ) → ¬ (IsSum text path version other)
+Says text path version hash Differs = (other : List ℕ) × IsSum text path version other × (other ≢ hash)
+Says text path version hash Good = IsSum text path version hash
+    × ((other : List ℕ) → IsSum text path version other → other ≡ hash)
+
+-- ---- the table
+
+-- the lines of a table
+abbrev pub lines_in : SumTable → List (List ℕ × List ℕ × List ℕ)
+lines_in table = map triple table.lines.items
+
+abbrev pub is_line_for : List ℕ → List ℕ → List ℕ × List ℕ × List ℕ → Bool
+is_line_for path version line = bytes_eq line.0 path && bytes_eq line.1 version
+
+-- a line for this path and version with another hash
+abbrev pub is_other_hash : List ℕ → List ℕ → List ℕ → List ℕ × List ℕ × List ℕ → Bool
+is_other_hash path version hash line = is_line_for path version line && not (bytes_eq line.2 hash)
+
+-- what a table says about this hash of a module's go.mod
+abbrev pub check_in : SumTable → List ℕ → List ℕ → List ℕ → Sum
+check_in table path version hash = if not (list_any (is_line_for path version) (lines_in table)) then Unlisted
+    else (if list_any (is_other_hash path version hash) (lines_in table) then Differs else Good)
+
+-- the table says about each hash what the text says
+abbrev pub ReadsAs : SumTable → List ℕ → Type 0
+ReadsAs table text = (path version hash : List ℕ) → Says text path version hash (check_in table path version hash)
+
+-- the lines are those of the text that list a hash for a go.mod
+abbrev pub HoldsSums : List (List ℕ × List ℕ × List ℕ) → List ℕ → Type 0
+HoldsSums sums text = (path version hash : List ℕ) → Contains sums (path, version, hash) ↔ IsSum text path version hash

@@ -1,0 +1,153 @@
+//! The table of the hashes in a go.sum, sorted so that lookups are fast.
+
+ghost use Rattle.std.specs.Prelude.{◌≡◌, ◌<◌, ◌≤◌, ◌↔◌, ℕ, IfOk, OnOk, length, true, false};
+ghost use Rattle.std.specs.List.Sorted.{IsPartitionPoint};
+ghost use Rattle.std.specs.Ordering.{is_le, is_lt};
+ghost use Rattle.std.specs.Str.{bytes_eq};
+ghost use Rattle.gm_store_sums.specs.Order.{AreInOrder, key_cmp, triple};
+ghost use Rattle.gm_store_sums.specs.declared.sum_table.SumFault.TheVariants.{NoMemory as OutOfMemory};
+
+use crate::sum_lines::{first_invalid_line, sums_of};
+use gm_name::{ModPath, ModVersion};
+use gm_store::LIMIT;
+use std::alloc::{AllocError, Global};
+use std::cmp::Ordering;
+use thiserror::Error;
+
+/// Why `SumTable::read` returned no table.
+#[derive(Clone, Copy, Debug, PartialEq, Eq, Error)]
+pub enum SumFault {
+    /// Memory ran out.
+    #[error("out of memory")]
+    NoMemory,
+    /// The text has more than `LIMIT` bytes.
+    #[error("too many bytes")]
+    TooMany,
+    /// The line of this number, counted from 1, is the first that is neither blank nor three fields of UTF-8.
+    #[error("line {0} has not three fields of UTF-8")]
+    BadSum(usize),
+}
+
+impl From<AllocError> for SumFault {
+    ghost from_gives = { λ _ fault. fault ≡ OutOfMemory };
+
+    fn from(_error: AllocError) -> SumFault {
+        SumFault::NoMemory
+    }
+}
+
+/// What a table says about the hash of a file.
+#[derive(Clone, Copy, Debug, PartialEq, Eq)]
+pub enum Sum {
+    /// The table lists this hash and no other.
+    Good,
+    /// The table lists no hash.
+    Unlisted,
+    /// The table lists another hash, perhaps in addition to this one.
+    Differs,
+}
+
+/// A line of a table: the hash of the go.mod of a module at a version.
+#[derive(Debug, Drop, PartialEq, Eq, PartialOrd, Ord)]
+pub struct SumLine {
+    /// The module's path.
+    pub path: Vec<u8>,
+    /// The module's version, without `/go.mod`.
+    pub version: Vec<u8>,
+    /// The hash, with its `h1:`.
+    pub hash: Vec<u8>,
+}
+
+/// The hashes of go.mod files that a go.sum lists.
+#[derive(Debug, Drop)]
+pub struct SumTable {
+    /// The lines in the order of their paths, versions and hashes.
+    pub(crate) lines: Vec<SumLine>,
+    ghost in_order: { AreInOrder lines.items },
+}
+
+impl SumTable {
+    ghost use Rattle.gm_store_sums.specs.Sums.{HasValidLines, IsFirstInvalid, ReadsAs, check_in};
+
+    /// The table of a go.sum (Go Modules Reference, go.sum files). Blank lines are skipped, and so are the
+    /// hashes of whole modules and those that don't begin with `h1:`.
+    ///
+    /// `TooMany` exactly when the text has more than `LIMIT` bytes, whatever its lines. Otherwise `BadSum` with
+    /// the number of the first line that is neither blank nor three fields of UTF-8. `NoMemory` only if the
+    /// text has neither fault.
+    pub fn read(alloc: Global, text: &[u8]) -> Result<SumTable, SumFault>
+        ensures ok { IfOk result (λ table. ReadsAs table text.now) }
+        ensures good { OnOk result (HasValidLines text.now) }
+        ensures too_many { (result ≡ Err SumFault.TooMany) ↔ (LIMIT < length text.now) }
+        ensures bad { (number : ℕ) → result ≡ Err (SumFault.BadSum number) → IsFirstInvalid text.now number }
+        ensures no_memory { result ≡ Err SumFault.NoMemory → HasValidLines text.now }
+    {
+        if text.len() > LIMIT {
+            return Err(SumFault::TooMany);
+        }
+        if let Some(before) = first_invalid_line(text) {
+            return Err(SumFault::BadSum(before + 1));
+        }
+        let mut lines = sums_of(alloc, text)?;
+        lines.sort_unstable();
+        Ok(SumTable { lines })
+    }
+
+    /// What the table says about this hash of the go.mod of a module at a version. Allocates no memory, and
+    /// takes time logarithmic in the number of lines.
+    pub fn check(&self, path: &ModPath, version: &ModVersion, hash: &str) -> Sum
+        ensures { result ≡ check_in self.now path.now version.now hash.now }
+    {
+        // The lines for a path and version are adjacent and in the order of their hashes, so if the first and
+        // the last have this hash, all of them do.
+        let start = self.lines_before(path, version);
+        let end = self.lines_up_to(path, version);
+        if start >= end {
+            return Sum::Unlisted;
+        }
+        if has_hash(&self.lines[start], hash) && has_hash(&self.lines[end - 1], hash) {
+            Sum::Good
+        } else {
+            Sum::Differs
+        }
+    }
+
+    /// How many lines are before those for this path and version.
+    fn lines_before(&self, path: &ModPath, version: &ModVersion) -> usize
+        ensures within { result ≤ length self.now.lines.items }
+        ensures point { IsPartitionPoint
+            (λ line. is_lt (key_cmp (triple line) (path.now, version.now)) ≡ true)
+            (λ line. is_lt (key_cmp (triple line) (path.now, version.now)) ≡ false)
+            self.now.lines.items result }
+    {
+        self.lines
+            .partition_point(|line| compare_key(line, path, version).is_lt())
+    }
+
+    /// How many lines are before those for this path and version or among them.
+    fn lines_up_to(&self, path: &ModPath, version: &ModVersion) -> usize
+        ensures within { result ≤ length self.now.lines.items }
+        ensures point { IsPartitionPoint
+            (λ line. is_le (key_cmp (triple line) (path.now, version.now)) ≡ true)
+            (λ line. is_le (key_cmp (triple line) (path.now, version.now)) ≡ false)
+            self.now.lines.items result }
+    {
+        self.lines
+            .partition_point(|line| compare_key(line, path, version).is_le())
+    }
+}
+
+/// Compares the path and version of a line with these.
+fn compare_key(line: &SumLine, path: &ModPath, version: &ModVersion) -> Ordering
+    ensures { result ≡ key_cmp (triple line.now) (path.now, version.now) }
+{
+    let by_path = line.path.as_slice().cmp(path.as_str().as_bytes());
+    by_path.then(line.version.as_slice().cmp(version.as_str().as_bytes()))
+}
+
+/// Whether a line has this hash.
+fn has_hash(line: &SumLine, hash: &str) -> bool
+    ensures { result ≡ bytes_eq line.now.hash.items hash.now }
+{
+    line.hash.as_slice() == hash.as_bytes()
+}

@@ -1,8 +1,0 @@
-use Rattle.std.proofs.Common.{map}
-use Rattle.std.proofs.lemmas.List.Sorted.{IsPermutation-map}
-use Rattle.gm_sums.specs.Order.{triple}
-use Rattle.gm_sums.proofs.Summing.{holds_moved, says}
-use Rattle.gm_sums.proofs.sums.SumTable.read.Goals as goal
-
-pub returns-clause-ok : goal.returns-clause-ok
-returns-clause-ok c = λ path version hash. says c.args.text.now path version hash _ (holds_moved c.args.text.now (map triple c.in_ok-lines.lines.items) _ (IsPermutation-map triple _ _ c.sort_unstable.ensures.permutation) c.in_ok-lines.ensures)

@@ -1,5 +1,0 @@
-use Rattle.gm_syntax.proofs.Changes.{blank_stands}
-use Rattle.gm_syntax.proofs.laws.blank_lines_can_stand.Goals as goal
-
-pub returns : goal.returns
-returns c = λ inside. blank_stands inside

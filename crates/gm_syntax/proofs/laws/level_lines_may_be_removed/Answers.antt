@@ -1,0 +1,5 @@
+use Rattle.gm_syntax.proofs.Changes.{level_lines_go_out_at}
+use Rattle.gm_syntax.proofs.laws.level_lines_may_be_removed.Goals as goal
+
+pub returns : goal.returns
+returns c = λ lines from to le d e. level_lines_go_out_at lines from to le d e

@@ -1,5 +1,0 @@
-use Rattle.gm_syntax.proofs.NewWords.{mark_stands}
-use Rattle.gm_syntax.proofs.laws.marks_can_stand.Goals as goal
-
-pub returns : goal.returns
-returns c = λ punct. mark_stands punct

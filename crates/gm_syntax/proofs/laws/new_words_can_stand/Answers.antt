@@ -1,5 +1,0 @@
-use Rattle.gm_syntax.proofs.NewWords.{new_word_stands}
-use Rattle.gm_syntax.proofs.laws.new_words_can_stand.Goals as goal
-
-pub returns : goal.returns
-returns c = λ value t plain h. new_word_stands value t plain h

@@ -1,0 +1,142 @@
+//! A runtime whose files are in one folder.
+
+use crate::places::is_near;
+use std::alloc::{AllocError, Allocator, Global};
+use std::cell::{Cell, RefCell};
+use std::fs::{File, Metadata, OpenOptions};
+use std::io;
+use std::io::{BufRead, ErrorKind, Lines};
+use std::rt::Files;
+
+/// The files that were opened, and which of them can't be opened.
+#[derive(Drop)]
+pub(crate) struct Log {
+    opened: RefCell<Vec<String>>,
+    /// How many files can be opened before the one that can't, if there is one.
+    left: Cell<Option<usize>>,
+}
+
+impl Log {
+    /// An empty log. Where a number is given, the file after that many others can't be opened.
+    pub(crate) fn new(alloc: Global, left: Option<usize>) -> Log {
+        Log {
+            opened: RefCell::new(Vec::new(alloc)),
+            left: Cell::new(left),
+        }
+    }
+
+    /// Records a file that is to be opened, and says whether it can be.
+    fn note(&self, alloc: Global, path: &str) -> io::Result<()> {
+        let name = String::from_str(alloc, path)?;
+        if let Ok(mut opened) = self.opened.try_borrow_mut() {
+            opened.push(name).map_err(AllocError::from)?;
+        }
+        let Some(left) = self.left.get() else {
+            return Ok(());
+        };
+        if left == 0 {
+            self.left.set(None);
+            return Err(io::Error::from(ErrorKind::PermissionDenied));
+        }
+        self.left.set(Some(left.saturating_sub(1)));
+        Ok(())
+    }
+
+    /// The names of the files, in the order in which they were opened.
+    pub(crate) fn take(&self, alloc: Global) -> Vec<String> {
+        match self.opened.try_replace(Vec::new(alloc)) {
+            Ok(opened) => opened,
+            Err(_) => Vec::new(alloc),
+        }
+    }
+}
+
+/// A runtime whose files are in one real folder, and whose standard input is some bytes. All it can do is open a file.
+#[derive(Clone, Copy)]
+pub(crate) struct CaseRuntime<'a> {
+    pub(crate) system: HostRuntime,
+    pub(crate) folder: &'a str,
+    pub(crate) input: &'a [u8],
+    pub(crate) log: &'a Log,
+}
+
+fn unsupported<T>() -> io::Result<T> {
+    Err(io::Error::from(ErrorKind::Unsupported))
+}
+
+impl Alloc for CaseRuntime<'_> {
+    type A = Global;
+
+    fn alloc(&self) -> Global {
+        self.system.alloc()
+    }
+}
+
+impl<'a> Input for CaseRuntime<'a> {
+    type Reader = &'a [u8];
+
+    fn read_line<A: Allocator + Clone>(&self, buf: &mut String<A>) -> io::Result<usize> {
+        self.reader().read_line(buf)
+    }
+
+    fn lines<A: Allocator>(&self, alloc: A) -> Lines<&'a [u8], A> {
+        self.reader().lines(alloc)
+    }
+
+    fn reader(&self) -> &'a [u8] {
+        self.input
+    }
+}
+
+impl Files for CaseRuntime<'_> {
+    type File = File;
+
+    type Dir = <HostRuntime as Files>::Dir;
+
+    fn open_file(&self, how: &OpenOptions, path: &str) -> io::Result<File> {
+        let alloc = self.system.alloc();
+        self.log.note(alloc, path)?;
+        if !is_near(alloc, path)? {
+            return Err(io::Error::from(ErrorKind::NotFound));
+        }
+        let folder = self.folder;
+        let place = format!(in alloc; "{folder}/{path}")?;
+        self.system.open_file(how, place.as_str())
+    }
+
+    fn open_dir(&self, _path: &str) -> io::Result<<HostRuntime as Files>::Dir> {
+        unsupported()
+    }
+
+    fn metadata(&self, _path: &str) -> io::Result<Metadata> {
+        unsupported()
+    }
+
+    fn symlink_metadata(&self, _path: &str) -> io::Result<Metadata> {
+        unsupported()
+    }
+
+    fn copy(&self, _from: &str, _to: &str) -> io::Result<u64> {
+        unsupported()
+    }
+
+    fn rename(&self, _from: &str, _to: &str) -> io::Result<()> {
+        unsupported()
+    }
+
+    fn remove_file(&self, _path: &str) -> io::Result<()> {
+        unsupported()
+    }
+
+    fn create_dir(&self, _path: &str) -> io::Result<()> {
+        unsupported()
+    }
+
+    fn remove_dir(&self, _path: &str) -> io::Result<()> {
+        unsupported()
+    }
+
+    fn remove_dir_all<B: Allocator>(&self, _alloc: B, _path: &str) -> io::Result<()> {
+        unsupported()
+    }
+}

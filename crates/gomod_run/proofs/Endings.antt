@@ -1,0 +1,141 @@
+-- Facts about how the program ends.
+use Rattle.std.proofs.Common.{◌≡◌, ◌∙◌, ◌++◌, ◌∷◌, ℕ, List, [], Option, None, Result, Ok, Contains, ap, false, inl, inr, string_bytes, subst, sym, true}
+use Rattle.std.specs.Global.{Vec}
+use Rattle.gm_store.specs.Asked.{Name, Reply, answer_in, list_file, reply_for}
+use Rattle.gm_store.specs.Memory.{may_give}
+use Rattle.gm_store.specs.declared.memory_files.MemoryFiles.{MemoryFiles}
+use Rattle.gm_store.specs.declared.reading.ReadFault.{ReadFault}
+use Rattle.gomod_words.specs.declared.usage.Command.TheVariants.{Fmt, Edit, Versions, Graph, List as Rows, Chain}
+use Rattle.gomod_words.specs.Usage.{AskFor, IsFaultOf}
+use Rattle.gomod_words.specs.declared.usage.UsageFault.{UsageFault}
+use Rattle.gomod_words.specs.declared.usage.Command.{Command}
+use Rattle.gomod_words.specs.declared.usage.Places.{Places}
+use Rattle.gm_graph_listing.specs.Outcomes.{Outcome, longest}
+use Rattle.gomod_run.specs.Held.{HoldsOne}
+use Rattle.gomod_run.specs.Program.{AreOfOneFile, IsFolderOutcome, IsInputOutcome, IsUnreadableWords, IsProgramOutcome, IsProgramStatus, IsReadOutcome, IsServed, IsWordsOutcome, usage_outcome}
+use Rattle.gomod_run.specs.Runs.{IsRunOutcome, Needs, StatesOutcome, StoreState, is_over_file, is_query}
+use Rattle.gomod_run.specs.Queries.{RunsTo}
+use Rattle.gomod_run.proofs.Answering.{answered_in}
+use Rattle.gomod_run.specs.Written.{Ends, SinkState}
+
+-- an end may be stated more widely: if each outcome of the one kind is of the other, so is the end
+pub ends_weaken : (one other : Outcome → Type 0) (out out' report report' : SinkState) (status : ℕ)
+    → ((outcome : Outcome) → one outcome → other outcome) → Ends one out out' report report' status → Ends other out out' report report' status
+ends_weaken one other out out' report report' status wider ends = record {
+  outcome = ends.outcome;
+  as_stated = elim ends.as_stated [ inl stated ↦ inl (wider ends.outcome stated) | inr memory ↦ inr memory ];
+  written = ends.written;
+}
+
+-- the end of the command that the words ask for is an end of these words
+pub words_end : (words : List (List ℕ)) (command : Command) (places : Places) (out out' report report' : SinkState) (status code : ℕ) → code ≡ status
+    → AskFor words command places → Ends (IsServed command places) out out' report report' status
+    → Ends (IsWordsOutcome words) out out' report report' code
+words_end words command places out out' report report' status code same asked ends =
+    let P : ℕ → Type 0 = λ n. Ends (IsWordsOutcome words) out out' report report' n in
+    subst P (sym same) (ends_weaken (IsServed command places) (IsWordsOutcome words) out out' report report' status
+    (λ outcome stated. inr (command, places, asked, stated)) ends)
+
+-- an end that reports the words' usage error is an end of these words
+pub fault_ends : (words : List (List ℕ)) (fault : UsageFault) (out out' report report' : SinkState) (status : ℕ) → IsFaultOf words fault
+    → Ends (λ outcome. outcome ≡ usage_outcome fault) out out' report report' status → Ends (IsWordsOutcome words) out out' report report' status
+fault_ends words fault out out' report report' status is ends =
+    ends_weaken (λ outcome. outcome ≡ usage_outcome fault) (IsWordsOutcome words) out out' report report' status (λ outcome same. inl (fault, is, same)) ends
+
+-- an end of some words is an end of the program
+pub program_ends : (words : List (List ℕ)) (out out' report report' : SinkState) (status : ℕ) → Ends (IsWordsOutcome words) out out' report report' status
+    → Ends IsProgramOutcome out out' report report' status
+program_ends words out out' report report' status ends =
+    ends_weaken (IsWordsOutcome words) IsProgramOutcome out out' report report' status (λ outcome stated. inl (words, stated)) ends
+
+-- an end that reports a word which is not UTF-8 is an end of the program
+pub unreadable_ends : (fault : UsageFault) (out out' report report' : SinkState) (status : ℕ) → IsUnreadableWords fault
+    → Ends (λ outcome. outcome ≡ usage_outcome fault) out out' report report' status → Ends IsProgramOutcome out out' report report' status
+unreadable_ends fault out out' report report' status is ends =
+    ends_weaken (λ outcome. outcome ≡ usage_outcome fault) IsProgramOutcome out out' report report' status (λ outcome same. inr (fault, is, same)) ends
+
+-- an end with an equal status is the same end
+pub same_status : (out out' report report' : SinkState) (status code : ℕ) → code ≡ status → Ends IsProgramOutcome out out' report report' status
+    → Ends IsProgramOutcome out out' report report' code
+same_status out out' report report' status code same ends = subst (λ (n : ℕ). Ends IsProgramOutcome out out' report report' n) (sym same) ends
+
+-- the exit status is that of the program's end
+pub program_status : (out out' report report' : SinkState) (status : ℕ) → Ends IsProgramOutcome out out' report report' status → IsProgramStatus status
+program_status out out' report report' status ends = elim ends.written [
+  | inl whole ↦ elim ends.as_stated [
+    | inl stated ↦ inl (ends.outcome, stated, whole.1)
+    | inr memory ↦ inr (whole.1 ∙ ap (λ (outcome : Outcome). outcome.status) memory)
+  ]
+  | inr part ↦ inr part.1
+]
+
+-- `fmt` and `edit` need no file of the store, so their outcome follows from the bytes alone
+by_bytes : (command : Command) (file : List ℕ) (sums : Option (List ℕ)) (old new : StoreState) (outcome : Outcome) → is_over_file command ≡ true
+    → RunsTo command file sums old new outcome → StatesOutcome command file None (λ name. None) outcome
+by_bytes Fmt file sums old new outcome over (inl stated) = stated.0
+by_bytes Fmt file sums old new outcome over (inr refused) = absurd refused.2
+by_bytes (Edit operations) file sums old new outcome over (inl stated) = stated.0
+by_bytes (Edit operations) file sums old new outcome over (inr refused) = absurd refused.2
+by_bytes (Versions path all) file sums old new outcome over runs = cc over
+by_bytes Graph file sums old new outcome over runs = cc over
+by_bytes (Rows after limit) file sums old new outcome over runs = cc over
+by_bytes (Chain path) file sums old new outcome over runs = cc over
+
+pub file_weaken : (command : Command) (name file : List ℕ) (sums : Option (List ℕ)) (old new : StoreState) (read : Result (Vec ℕ) ReadFault) (content : Vec ℕ)
+    → is_over_file command ≡ true → read ≡ Ok content → file ≡ content.items → (outcome : Outcome) → RunsTo command file sums old new outcome
+    → IsReadOutcome name (λ main outcome. StatesOutcome command main None (λ name. None) outcome) read outcome
+file_weaken command name file sums old new read content over is same outcome runs =
+    let P : Result (Vec ℕ) ReadFault → Type 0 = λ r. IsReadOutcome name (λ main outcome. StatesOutcome command main None (λ name. None) outcome) r outcome in
+    subst P (sym is) (subst (λ (bytes : List ℕ). StatesOutcome command bytes None (λ name. None) outcome) same (by_bytes command file sums old new outcome over runs))
+
+-- such a command is served with what was read of the file with its name
+pub file_served : (command : Command) (places : Places) (name : List ℕ) (read : Result (Vec ℕ) ReadFault) → is_over_file command ≡ true
+    → name ≡ string_bytes places.main → (outcome : Outcome)
+    → IsReadOutcome name (λ main outcome. StatesOutcome command main None (λ name. None) outcome) read outcome → IsServed command places outcome
+file_served Fmt places name read over is outcome stated =
+    (read, subst (λ (n : List ℕ). IsReadOutcome n (λ main outcome. StatesOutcome Fmt main None (λ name. None) outcome) read outcome) is stated)
+file_served (Edit operations) places name read over is outcome stated =
+    (read, subst (λ (n : List ℕ). IsReadOutcome n (λ main outcome. StatesOutcome (Edit operations) main None (λ name. None) outcome) read outcome) is stated)
+file_served (Versions path all) places name read over is outcome stated = cc over
+file_served Graph places name read over is outcome stated = cc over
+file_served (Rows after limit) places name read over is outcome stated = cc over
+file_served (Chain path) places name read over is outcome stated = cc over
+
+-- a store that has one file answers with it, and with nothing else
+of_one : (path list : List ℕ) (store : MemoryFiles) (asked : List (Name × Reply)) → HoldsOne (list_file path) list store
+    → ((name : Name) (reply : Reply) → Contains asked (name, reply) → may_give store name reply) → AreOfOneFile (list_file path) list (answer_in asked)
+of_one path list store asked held allowed = λ name reply e.
+    allowed name reply (answered_in asked name reply e) ∙ ap (reply_for longest) (held name)
+
+-- a store in memory never fails, so the outcome follows from its answers
+pub input_weaken : (command : Command) (path list : List ℕ) (store : MemoryFiles) (asked : List (Name × Reply)) (old new : StoreState) → new.asked ≡ asked
+    → old.refused ≡ [] → new.refused ≡ [] → HoldsOne (list_file path) list store
+    → ((name : Name) (reply : Reply) → Contains asked (name, reply) → may_give store name reply)
+    → (outcome : Outcome) → IsRunOutcome (Needs command [] None) (StatesOutcome command [] None) old new outcome → IsInputOutcome command path list outcome
+input_weaken command path list store asked old new same none still held allowed outcome (inl stated) = (
+  answer_in asked,
+  of_one path list store asked held allowed,
+  subst (λ (a : List (Name × Reply)). StatesOutcome command [] None (answer_in a) outcome) same stated.0,
+)
+input_weaken command path list store asked old new same none still held allowed outcome (inr refused) =
+    let grown : [] ≡ refused.0 ∷ [] = sym still ∙ refused.4 ∙ ap (λ (names : List Name). names ++ refused.0 ∷ []) none in absurd (cc)
+
+-- the outcomes of `fmt`, `edit` and `versions` are those of `IsRunOutcome`
+pub plain_runs : (command : Command) (main : List ℕ) (sums : Option (List ℕ)) (old new : StoreState) (outcome : Outcome) → is_query command ≡ false
+    → RunsTo command main sums old new outcome → IsRunOutcome (Needs command main sums) (StatesOutcome command main sums) old new outcome
+plain_runs Fmt main sums old new outcome plain runs = runs
+plain_runs (Edit operations) main sums old new outcome plain runs = runs
+plain_runs (Versions path all) main sums old new outcome plain runs = runs
+plain_runs Graph main sums old new outcome plain runs = cc plain
+plain_runs (Rows after limit) main sums old new outcome plain runs = cc plain
+plain_runs (Chain path) main sums old new outcome plain runs = cc plain
+
+folders_come : (command : Command) (old new : StoreState) (outcome : Outcome) → IsRunOutcome (Needs command [] None) (StatesOutcome command [] None) old new outcome
+    → IsFolderOutcome command outcome
+folders_come command old new outcome (inl stated) = inl (answer_in new.asked, stated.0)
+folders_come command old new outcome (inr refused) = inr (answer_in new.asked, refused.0, refused.2, refused.1)
+
+-- the outcome of a run over proxy folders follows from some answers
+pub folder_weaken : (command : Command) (old new : StoreState) → is_query command ≡ false → (outcome : Outcome) → RunsTo command [] None old new outcome
+    → IsFolderOutcome command outcome
+folder_weaken command old new plain outcome runs = folders_come command old new outcome (plain_runs command [] None old new outcome plain runs)

@@ -1,0 +1,13 @@
+mod AllAsked
+mod Answering
+mod EditsInTurn
+mod Endings
+mod InTurn
+mod Misread
+mod Joining
+mod Sameness
+mod Uniqueness
+mod Steps
+mod QueryRuns
+mod OneEnd
+mod OneStore

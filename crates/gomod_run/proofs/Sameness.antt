@@ -1,0 +1,135 @@
+-- A command has one outcome.
+use Rattle.std.proofs.Common.{◌≡◌, ◌⊎◌, ◌∙◌, ℕ, Bool, true, false, List, [], ◌∷◌, Option, Some, None, Ok, Err, ap, arith, inl, inr, refl, subst, sym}
+use Rattle.std.specs.List.{filter_map}
+use Rattle.gm_syntax.specs.declared.fault.SyntaxFault.{SyntaxFault}
+use Rattle.gm_syntax.specs.declared.fault.SyntaxFault.TheVariants as faults
+use Rattle.gm_syntax.specs.Document.{Faulty, Line, Whole}
+use Rattle.gm_syntax.specs.Layout.{layout}
+use Rattle.gm_syntax.specs.LineViews.{plain_lines}
+use Rattle.gm_syntax.specs.Parsed.{IsParsedAs}
+use Rattle.gm_syntax.specs.Tokens.{Placed}
+use Rattle.gm_syntax.specs.Words.{Word}
+use Rattle.gm_file_edit.specs.Changes.{edited}
+use Rattle.gm_file_edit.specs.Edits.{Edit as Change, edit_in}
+use Rattle.gm_file_edit.proofs.Places.{edited-same}
+use Rattle.gm_store.specs.Asked.{Reply, absent, bytes, list_file, mod_file, too_long}
+use Rattle.gm_store.specs.Latest.{IsLatest}
+use Rattle.gomod_words.specs.Usage.{texts_in}
+use Rattle.gomod_words.specs.declared.usage.Command.{Command}
+use Rattle.gomod_words.specs.declared.usage.Command.TheVariants.{Fmt, Edit, Versions, Graph, List as Rows, Chain}
+use Rattle.gm_graph_cache.proofs.OneReading.{one_reading}
+use Rattle.gm_graph_listing.specs.Outcomes.{Outcome, printed, refused}
+use Rattle.gm_graph_listing.specs.Reports.{Place, main_line, syntax_place}
+use Rattle.gm_graph_listing.proofs.OneRead.{misread_or_lines, one_place, same_lines}
+use Rattle.gomod_run.specs.Editing.{IsEditOutcome, edited_in_turn, edits_outcome, refusals_from}
+use Rattle.gomod_run.specs.Runs.{IsFmtOutcome, StatesOutcome}
+use Rattle.gomod_run.specs.Versions.{Answers, IsOutcomeByList, IsListedOutcome, IsShownOutcome, IsVersionsOutcome, shown_by}
+use Rattle.gomod_run.proofs.Uniqueness.{latest_once, listed_once, none_latest}
+
+-- ---- fmt
+
+no_fault : (file : List ℕ) (lines : List (Line Placed)) (fault : SyntaxFault) (place : Place) → IsParsedAs file (Ok lines)
+    → IsParsedAs file (Err fault) → syntax_place fault ≡ Some place → ⊥
+no_fault file lines faults.NoMemory place good bad named = cc
+no_fault file lines faults.TooMany place good bad named = let short = good.0.0 in absurd (omega arith)
+no_fault file lines faults.NotUtf8 place good bad named = bad.1 good.0.1
+no_fault file lines (faults.Syntax line kind) place good bad named = let ends = (good.1.only bad.1 (Faulty line kind) bad.2.reads).1 in cc
+
+same_place : (file : List ℕ) (one other : SyntaxFault) (here there : Place) → IsParsedAs file (Err one) → IsParsedAs file (Err other)
+    → syntax_place one ≡ Some here → syntax_place other ≡ Some there → here ≡ there
+same_place file faults.NoMemory other here there a b p q = absurd (cc)
+same_place file faults.TooMany faults.NoMemory here there a b p q = absurd (cc)
+same_place file faults.TooMany faults.TooMany here there a b p q = cc
+same_place file faults.TooMany faults.NotUtf8 here there a b p q = let short = b.0 in absurd (omega arith)
+same_place file faults.TooMany (faults.Syntax line kind) here there a b p q = let short = b.0.0 in absurd (omega arith)
+same_place file faults.NotUtf8 faults.NoMemory here there a b p q = absurd (cc)
+same_place file faults.NotUtf8 faults.TooMany here there a b p q = let short = a.0 in absurd (omega arith)
+same_place file faults.NotUtf8 faults.NotUtf8 here there a b p q = cc
+same_place file faults.NotUtf8 (faults.Syntax line kind) here there a b p q = absurd (a.1 b.0.1)
+same_place file (faults.Syntax line kind) faults.NoMemory here there a b p q = absurd (cc)
+same_place file (faults.Syntax line kind) faults.TooMany here there a b p q = let short = a.0.0 in absurd (omega arith)
+same_place file (faults.Syntax line kind) faults.NotUtf8 here there a b p q = absurd (b.1 a.0.1)
+same_place file (faults.Syntax line kind) (faults.Syntax row sort) here there a b p q =
+    let ends = (a.2.only b.1 (Faulty row sort) b.2.reads).1 in cc
+
+fmt_once : (file : List ℕ) (one other : Outcome) → IsFmtOutcome file one → IsFmtOutcome file other → one ≡ other
+fmt_once file one other (inl a) (inl b) =
+    let same = (b.1.1.only (plain_lines a.0) Whole a.1.1.reads).0 in a.2 ∙ ap (λ t. printed (layout t)) same ∙ sym b.2
+fmt_once file one other (inl a) (inr b) = absurd (no_fault file a.0 b.0 b.1 a.1 b.2 b.3)
+fmt_once file one other (inr a) (inl b) = absurd (no_fault file b.0 a.0 a.1 b.1 a.2 a.3)
+fmt_once file one other (inr a) (inr b) =
+    a.4 ∙ ap (λ (place : Place). refused (main_line place)) (same_place file a.0 b.0 a.1 b.1 a.2 b.2 a.3 b.3) ∙ sym b.4
+
+-- ---- edit
+
+-- the result of operations doesn't depend on where the tokens were
+in_turn_same : (edits : List Change) (one other : List (Line Placed)) → plain_lines one ≡ plain_lines other → plain_lines (edited_in_turn edits one) ≡ plain_lines (edited_in_turn edits other)
+in_turn_same [] one other same = same
+in_turn_same (edit ∷ edits) one other same = in_turn_same edits (edited edit one) (edited edit other) (edited-same edit one other same)
+
+printed_same : (refusals : List (ℕ × List ℕ)) (one other : List (Line Placed)) → plain_lines one ≡ plain_lines other → edits_outcome refusals one ≡ edits_outcome refusals other
+printed_same [] one other same = ap (λ (ls : List (Line Word)). printed (layout ls)) same
+printed_same (refusal ∷ later) one other same = refl
+
+edit_once : (texts : List (List ℕ)) (file : List ℕ) (one other : Outcome) → IsEditOutcome texts file one → IsEditOutcome texts file other → one ≡ other
+edit_once texts file one other (inl a) (inl b) = a.2 ∙ ap (λ (place : Place). refused (main_line place)) (one_place file a.0 b.0 a.1 b.1) ∙ sym b.2
+edit_once texts file one other (inl a) (inr b) = absurd (misread_or_lines file a.0 b.0 a.1 b.1)
+edit_once texts file one other (inr a) (inl b) = absurd (misread_or_lines file b.0 a.0 b.1 a.1)
+edit_once texts file one other (inr a) (inr b) =
+    let edits = filter_map edit_in texts in
+    a.2 ∙ printed_same (refusals_from 1 texts) (edited_in_turn edits a.0) (edited_in_turn edits b.0)
+    (in_turn_same edits a.0 b.0 (same_lines file a.0 b.0 a.1.0 b.1.0)) ∙ sym b.2
+
+-- ---- versions
+
+same_answer : (answer : Option Reply) (one other : Reply) → answer ≡ Some one → answer ≡ Some other → one ≡ other
+same_answer answer one other a b = cc
+
+shown_once : (path : List ℕ) (versions : List (List ℕ)) (latest : List ℕ) (reply : Reply) (one other : Outcome)
+    → IsShownOutcome path versions latest reply one → IsShownOutcome path versions latest reply other → one ≡ other
+shown_once path versions latest reply one other a b =
+    a.outcome_is ∙ ap (shown_by path versions latest) (one_reading None (mod_file path latest) reply a.reading b.reading a.says b.says) ∙ sym b.outcome_is
+
+not_all : (all : Bool) (versions : List (List ℕ)) (latest : List ℕ) → (all ≡ true) ⊎ (versions ≡ []) → all ≡ false → IsLatest versions latest → ⊥
+not_all all versions latest (inl every) some is = let e = sym every ∙ some in cc
+not_all all versions latest (inr none) some is = none_latest latest (subst (λ (vs : List (List ℕ)). IsLatest vs latest) none is)
+
+listed_outcome_once : (path : List ℕ) (all : Bool) (answers : Answers) (versions : List (List ℕ)) (one other : Outcome)
+    → IsListedOutcome path all answers versions one → IsListedOutcome path all answers versions other → one ≡ other
+listed_outcome_once path all answers versions one other (inl a) (inl b) = a.1 ∙ sym b.1
+listed_outcome_once path all answers versions one other (inl a) (inr b) = absurd (not_all all versions b.0 a.0 b.2 b.3)
+listed_outcome_once path all answers versions one other (inr a) (inl b) = absurd (not_all all versions a.0 b.0 a.2 a.3)
+listed_outcome_once path all answers versions one other (inr a) (inr b) =
+    let latest : a.0 ≡ b.0 = latest_once versions a.0 b.0 a.3 b.3 in
+    let answered : answers (mod_file path b.0) ≡ Some a.1 = subst (λ (v : List ℕ). answers (mod_file path v) ≡ Some a.1) latest a.4 in
+    let reply : a.1 ≡ b.1 = same_answer (answers (mod_file path b.0)) a.1 b.1 answered b.4 in
+    let P : List ℕ → Type 0 = λ v. IsShownOutcome path versions v a.1 one in
+    let Q : Reply → Type 0 = λ r. IsShownOutcome path versions b.0 r one in
+    shown_once path versions b.0 b.1 one other (subst Q reply (subst P latest a.5)) b.5
+
+list_once : (path : List ℕ) (all : Bool) (answers : Answers) (reply : Reply) (one other : Outcome)
+    → IsOutcomeByList path all answers reply one → IsOutcomeByList path all answers reply other → one ≡ other
+list_once path all answers absent one other a b = a ∙ sym b
+list_once path all answers too_long one other a b = a ∙ sym b
+list_once path all answers (bytes list) one other a b =
+    let P : List (List ℕ) → Type 0 = λ vs. IsListedOutcome path all answers vs one in
+    listed_outcome_once path all answers b.0 one other (subst P (listed_once path list a.0 b.0 a.1 b.1) a.2) b.2
+
+versions_once : (path : List ℕ) (all : Bool) (answers : Answers) (one other : Outcome)
+    → IsVersionsOutcome path all answers one → IsVersionsOutcome path all answers other → one ≡ other
+versions_once path all answers one other (inl a) (inl b) = a.1 ∙ sym b.1
+versions_once path all answers one other (inl a) (inr b) = let e = sym a.0 ∙ b.1 in absurd (cc)
+versions_once path all answers one other (inr a) (inl b) = let e = sym b.0 ∙ a.1 in absurd (cc)
+versions_once path all answers one other (inr a) (inr b) =
+    let P : Reply → Type 0 = λ r. IsOutcomeByList path all answers r one in
+    list_once path all answers b.0 one other (subst P (same_answer (answers (list_file path)) a.0 b.0 a.2 b.2) a.3) b.3
+
+-- a command over what was read and answered has one outcome
+pub one_outcome : (command : Command) (main : List ℕ) (sums : Option (List ℕ)) (answers : Answers) (one other : Outcome)
+    → StatesOutcome command main sums answers one → StatesOutcome command main sums answers other → one ≡ other
+one_outcome (Versions path all) main sums answers one other a b = versions_once path all answers one other a b
+one_outcome Fmt main sums answers one other a b = fmt_once main one other a b
+one_outcome (Edit operations) main sums answers one other a b = edit_once (texts_in operations) main one other a b
+one_outcome Graph main sums answers one other a b = absurd a
+one_outcome (Rows after limit) main sums answers one other a b = absurd a
+one_outcome (Chain path) main sums answers one other a b = absurd a

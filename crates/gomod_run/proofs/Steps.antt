@@ -1,0 +1,330 @@
+-- Runs of `versions` over a store, step by step.
+use Rattle.std.proofs.Common.{◌≡◌, ◌⊎◌, ◌∙◌, ◌++◌, ◌∷◌, zero, suc, ℕ, ◌<◌, Bool, true, false, List, [], Some, None, Result, Ok, Err, Contains, IfErr, IfOk, ap, arith, codes, inl, inr, refl, subst, sym}
+use Rattle.std.specs.Global.{Vec}
+use Rattle.gm_name.specs.Path.{is_fetchable}
+use Rattle.gm_store.specs.Asked.{Name, Reply, absent, answer_in, bytes, list_file, mod_file, too_long}
+use Rattle.gm_store.specs.Latest.{IsLatest}
+use Rattle.gm_store.specs.Listed.{AreListed}
+use Rattle.gm_file.specs.Fields.{Dependency}
+use Rattle.gm_graph_cache.specs.declared.class.Class.{Class}
+use Rattle.gm_graph_cache.specs.Reading.{IsContentReading, IsFileReading}
+use Rattle.gm_graph_listing.specs.declared.output.Output.{Output}
+use Rattle.gm_graph_listing.specs.Outcomes.{Outcome, failed, outcome_of, printed, refused}
+use Rattle.gm_graph_listing.specs.Reports.{device_line}
+use Rattle.gomod_run.specs.Asking.{IsAnswered, IsLatestAsked}
+use Rattle.gomod_run.specs.Listing.{IsListState}
+use Rattle.gomod_run.specs.Kinds.{list_line}
+use Rattle.gomod_run.specs.Reading.{IsListRead}
+use Rattle.gm_file_retract.specs.Shown.{shown_of}
+use Rattle.gomod_run.specs.Runs.{AnsweredAll, AskedInTurn, IsRunOutcome, FailsInTurn, StoreState}
+use Rattle.gomod_run.specs.Versions.{Answers, IsShownOutcome, IsVersionsOutcome, NeedsFile, VersionsNeed, shown_by, versions_line}
+use Rattle.gomod_run.specs.Written.{out_of_memory}
+use Rattle.gomod_run.proofs.Answering.{file_answer, list_answer}
+use Rattle.gomod_run.proofs.Uniqueness.{latest_once, listed_once, none_latest}
+
+-- what is asked, with the answers
+abbrev pub Pairs : Type 0
+Pairs = List (Name × Reply)
+
+-- given these answers the file is needed, and is not among them
+abbrev IsWanted : (Answers → Name → Type 0) → Pairs → Name → Type 0
+IsWanted needs asked name = needs (answer_in asked) name × (answer_in asked name ≡ None)
+
+module _ (path : List ℕ) (all : Bool) where
+  Needed : Pairs → Type 0
+  Needed asked = AskedInTurn (VersionsNeed path all) asked
+
+  pub none_in_turn : (asked : Pairs) → asked ≡ [] → AskedInTurn (VersionsNeed path all) asked
+  none_in_turn asked none = subst (λ (a : Pairs). AskedInTurn (VersionsNeed path all) a) (sym none) tt
+
+  pub list_in_turn : (asked : Pairs) (reply : Reply) → is_fetchable path ≡ true → asked ≡ (list_file path, reply) ∷ [] → AskedInTurn (VersionsNeed path all) asked
+  list_in_turn asked reply fetchable is =
+      subst (λ (a : Pairs). AskedInTurn (VersionsNeed path all) a) (sym is) ((fetchable, inl refl), refl, tt)
+
+  file_needed : (list : List ℕ) (versions : List (List ℕ)) (latest : List ℕ) (rest : Pairs) → all ≡ false → AreListed path list versions
+      → IsLatest versions latest → NeedsFile path all (answer_in ((list_file path, bytes list) ∷ rest)) (mod_file path latest)
+  file_needed list versions latest rest some listed is = (list, versions, latest, some, list_answer path (bytes list) rest, listed, is, refl)
+
+  pub both_in_turn : (asked : Pairs) (list : List ℕ) (versions : List (List ℕ)) (latest : List ℕ) (reply : Reply) → is_fetchable path ≡ true → all ≡ false
+      → AreListed path list versions → IsLatest versions latest → asked ≡ (list_file path, bytes list) ∷ (mod_file path latest, reply) ∷ []
+      → AskedInTurn (VersionsNeed path all) asked
+  both_in_turn asked list versions latest reply fetchable some listed latest_is is =
+      subst (λ (a : Pairs). AskedInTurn (VersionsNeed path all) a) (sym is)
+      ((fetchable, inl refl), refl, ((fetchable, inr (file_needed list versions latest [] some listed latest_is)), refl, tt))
+
+  -- ---- endings
+
+  module _ (old new : StoreState) (output : Outcome) where
+    Ending : Type 0
+    Ending = IsRunOutcome (VersionsNeed path all) (IsVersionsOutcome path all) old new output
+
+    pub ends_unfetchable : is_fetchable path ≡ false → new.refused ≡ old.refused → output ≡ refused (list_line path (codes "NotFetchable"))
+        → IsRunOutcome (VersionsNeed path all) (IsVersionsOutcome path all) old new output
+    ends_unfetchable not same is = inl (inl (not, is), λ name need. let e = sym not ∙ need.0 in absurd (cc), same)
+
+    pub ends_device_list : is_fetchable path ≡ true → new.asked ≡ [] → output ≡ failed (device_line (list_file path))
+        → new.refused ≡ old.refused ++ list_file path ∷ [] → IsRunOutcome (VersionsNeed path all) (IsVersionsOutcome path all) old new output
+    ends_device_list fetchable none is grown =
+        inr (list_file path, is, (fetchable, inl refl), ap (λ (a : Pairs). answer_in a (list_file path)) none, grown)
+
+    -- the answers, if only the list was asked for
+    list_is : (reply : Reply) → new.asked ≡ (list_file path, reply) ∷ [] → answer_in new.asked (list_file path) ≡ Some reply
+    list_is reply asked = ap (λ (a : Pairs). answer_in a (list_file path)) asked ∙ list_answer path reply []
+
+    unread : (reply : Reply) → ((list : List ℕ) → ¬ (reply ≡ bytes list)) → new.asked ≡ (list_file path, reply) ∷ []
+        → AnsweredAll (VersionsNeed path all) (answer_in new.asked)
+    unread reply none asked = λ name need. elim need.1 [
+      | inl is ↦ (reply, ap (answer_in new.asked) is ∙ list_is reply asked)
+      | inr file ↦ let e : Some reply ≡ Some (bytes file.0) = sym (list_is reply asked) ∙ file.4 in absurd (none file.0 (cc))
+    ]
+
+    pub ends_missing : is_fetchable path ≡ true → new.asked ≡ (list_file path, absent) ∷ [] → new.refused ≡ old.refused
+        → output ≡ refused (list_line path (codes "Missing")) → IsRunOutcome (VersionsNeed path all) (IsVersionsOutcome path all) old new output
+    ends_missing fetchable asked same is =
+        inl (inr (absent, fetchable, list_is absent asked, is), unread absent (λ list e. cc e) asked, same)
+
+    pub ends_too_long : is_fetchable path ≡ true → new.asked ≡ (list_file path, too_long) ∷ [] → new.refused ≡ old.refused
+        → output ≡ refused (list_line path (codes "TooLong")) → IsRunOutcome (VersionsNeed path all) (IsVersionsOutcome path all) old new output
+    ends_too_long fetchable asked same is =
+        inl (inr (too_long, fetchable, list_is too_long asked, is), unread too_long (λ list e. cc e) asked, same)
+
+    same_list : (one other : List ℕ) → Some (bytes one) ≡ Some (bytes other) → one ≡ other
+    same_list one other e = cc
+
+    no_file : (list : List ℕ) (versions : List (List ℕ)) → AreListed path list versions → (all ≡ true) ⊎ (versions ≡ [])
+        → new.asked ≡ (list_file path, bytes list) ∷ [] → AnsweredAll (VersionsNeed path all) (answer_in new.asked)
+    no_file list versions listed none asked = λ name need. elim need.1 [
+      | inl is ↦ (bytes list, ap (answer_in new.asked) is ∙ list_is (bytes list) asked)
+      | inr file ↦ absurd (elim none [
+        | inl every ↦ let e = sym every ∙ file.3 in cc
+        | inr empty ↦
+            let same : list ≡ file.0 = same_list list file.0 (sym (list_is (bytes list) asked) ∙ file.4) in
+            let theirs : AreListed path list file.1 = subst (λ (l : List ℕ). AreListed path l file.1) (sym same) file.5 in
+            let nothing : file.1 ≡ [] = listed_once path list file.1 versions theirs listed ∙ empty in
+            none_latest file.2 (subst (λ (vs : List (List ℕ)). IsLatest vs file.2) nothing file.6)
+      ])
+    ]
+
+    pub ends_all : (list : List ℕ) (versions : List (List ℕ)) → is_fetchable path ≡ true → AreListed path list versions → (all ≡ true) ⊎ (versions ≡ [])
+        → new.asked ≡ (list_file path, bytes list) ∷ [] → new.refused ≡ old.refused → output ≡ printed (versions_line path versions)
+        → IsRunOutcome (VersionsNeed path all) (IsVersionsOutcome path all) old new output
+    ends_all list versions fetchable listed every asked same is =
+        inl (inr (bytes list, fetchable, list_is (bytes list) asked, (versions, listed, inl (every, is))), no_file list versions listed every asked, same)
+
+    -- the go.mod of the latest version is needed and not answered
+    file_wanted : (list : List ℕ) (versions : List (List ℕ)) (latest : List ℕ) → is_fetchable path ≡ true → all ≡ false
+        → AreListed path list versions → IsLatest versions latest → new.asked ≡ (list_file path, bytes list) ∷ []
+        → IsWanted (VersionsNeed path all) new.asked (mod_file path latest)
+    file_wanted list versions latest fetchable some listed latest_is asked =
+        let needed : VersionsNeed path all (answer_in new.asked) (mod_file path latest) =
+        (fetchable, inr (subst (λ (a : Pairs). NeedsFile path all (answer_in a) (mod_file path latest)) (sym asked) (file_needed list versions latest [] some listed latest_is))) in
+        (needed, ap (λ (a : Pairs). answer_in a (mod_file path latest)) asked)
+
+    pub ends_device_file : (list : List ℕ) (versions : List (List ℕ)) (latest : List ℕ) → is_fetchable path ≡ true → all ≡ false
+        → AreListed path list versions → IsLatest versions latest → new.asked ≡ (list_file path, bytes list) ∷ []
+        → output ≡ failed (device_line (mod_file path latest)) → new.refused ≡ old.refused ++ mod_file path latest ∷ []
+        → IsRunOutcome (VersionsNeed path all) (IsVersionsOutcome path all) old new output
+    ends_device_file list versions latest fetchable some listed latest_is asked is grown =
+        let wanted : IsWanted (VersionsNeed path all) new.asked (mod_file path latest) = file_wanted list versions latest fetchable some listed latest_is asked in
+        inr (mod_file path latest, is, wanted.0, wanted.1, grown)
+
+    both_list : (list latest : List ℕ) (reply : Reply) → new.asked ≡ (list_file path, bytes list) ∷ (mod_file path latest, reply) ∷ []
+        → answer_in new.asked (list_file path) ≡ Some (bytes list)
+    both_list list latest reply asked = ap (λ (a : Pairs). answer_in a (list_file path)) asked ∙ list_answer path (bytes list) ((mod_file path latest, reply) ∷ [])
+
+    both_file : (list latest : List ℕ) (reply : Reply) → new.asked ≡ (list_file path, bytes list) ∷ (mod_file path latest, reply) ∷ []
+        → answer_in new.asked (mod_file path latest) ≡ Some reply
+    both_file list latest reply asked = ap (λ (a : Pairs). answer_in a (mod_file path latest)) asked ∙ file_answer path latest (bytes list) reply []
+
+    both_answered : (list : List ℕ) (versions : List (List ℕ)) (latest : List ℕ) (reply : Reply) → AreListed path list versions → IsLatest versions latest
+        → new.asked ≡ (list_file path, bytes list) ∷ (mod_file path latest, reply) ∷ [] → AnsweredAll (VersionsNeed path all) (answer_in new.asked)
+    both_answered list versions latest reply listed latest_is asked = λ name need. elim need.1 [
+      | inl is ↦ (bytes list, ap (answer_in new.asked) is ∙ both_list list latest reply asked)
+      | inr file ↦
+          let same : list ≡ file.0 = same_list list file.0 (sym (both_list list latest reply asked) ∙ file.4) in
+          let theirs : AreListed path list file.1 = subst (λ (l : List ℕ). AreListed path l file.1) (sym same) file.5 in
+          let versions_same : file.1 ≡ versions = listed_once path list file.1 versions theirs listed in
+          let their_latest : IsLatest versions file.2 = subst (λ (vs : List (List ℕ)). IsLatest vs file.2) versions_same file.6 in
+          let latest_same : file.2 ≡ latest = latest_once versions file.2 latest their_latest latest_is in
+          (reply, ap (answer_in new.asked) (file.7 ∙ ap (mod_file path) latest_same) ∙ both_file list latest reply asked)
+    ]
+
+    pub ends_shown : (list : List ℕ) (versions : List (List ℕ)) (latest : List ℕ) (reply : Reply) → is_fetchable path ≡ true → all ≡ false
+        → AreListed path list versions → IsLatest versions latest → new.asked ≡ (list_file path, bytes list) ∷ (mod_file path latest, reply) ∷ []
+        → new.refused ≡ old.refused → IsShownOutcome path versions latest reply output
+        → IsRunOutcome (VersionsNeed path all) (IsVersionsOutcome path all) old new output
+    ends_shown list versions latest reply fetchable some listed latest_is asked same is =
+        inl (
+          inr (
+            bytes list,
+            fetchable,
+            both_list list latest reply asked,
+            (versions, listed, inr (latest, reply, some, latest_is, both_file list latest reply asked, is)),
+          ),
+          both_answered list versions latest reply listed latest_is asked,
+          same,
+        )
+
+-- ---- from the contracts of the functions
+
+-- the one answer is one that the store may give
+one_allowed : (may : Name → Reply → Type 0) (asked : Pairs) (first : Name) (reply : Reply) → may first reply → asked ≡ (first, reply) ∷ []
+    → (name : Name) (r : Reply) → Contains asked (name, r) → may name r
+one_allowed may asked first reply allowed is name r inside = at_pair (subst (λ (a : Pairs). Contains {X = Name × Reply} a (name, r)) is inside)
+  where
+    at_pair : Contains {X = Name × Reply} ((first, reply) ∷ []) (name, r) → may name r
+    at_pair (zero, within, same) = subst (λ (p : Name × Reply). may p.0 p.1) same allowed
+    at_pair (suc k, within, same) = absurd (omega arith)
+
+both_allowed : (may : Name → Reply → Type 0) (asked : Pairs) (first second : Name) (one two : Reply) → may first one → may second two
+    → asked ≡ (first, one) ∷ (second, two) ∷ [] → (name : Name) (r : Reply) → Contains asked (name, r) → may name r
+both_allowed may asked first second one two allowed also is name r inside = at_pair (subst (λ (a : Pairs). Contains {X = Name × Reply} a (name, r)) is inside)
+  where
+    at_pair : Contains {X = Name × Reply} ((first, one) ∷ (second, two) ∷ []) (name, r) → may name r
+    at_pair (zero, within, same) = subst (λ (p : Name × Reply). may p.0 p.1) same allowed
+    at_pair (suc zero, within, same) = subst (λ (p : Name × Reply). may p.0 p.1) same also
+    at_pair (suc (suc k), within, same) = absurd (omega arith)
+
+pub none_allowed : (may : Name → Reply → Type 0) (asked : Pairs) → asked ≡ [] → (name : Name) (r : Reply) → Contains asked (name, r) → may name r
+none_allowed may asked none name r inside =
+    let there = subst (λ (a : Pairs). Contains {X = Name × Reply} a (name, r)) none inside in
+    let within : there.0 < 0 = there.1 in absurd (omega arith)
+
+-- the store answered for the list
+pub record ListAnswered (path : List ℕ) (may : Name → Reply → Type 0) (old new : StoreState) (reply : Reply) : Type 0 where
+  pub allowed : may (list_file path) reply
+  pub asked : new.asked ≡ (list_file path, reply) ∷ []
+  pub unrefused : new.refused ≡ old.refused
+
+pub list_answered : (path p : List ℕ) (may : Name → Reply → Type 0) (old new : StoreState) (reply : Reply) → p ≡ path → old.asked ≡ []
+    → IsAnswered (list_file p) may old new reply → ListAnswered path may old new reply
+list_answered path p may old new reply same none answered =
+    let here = subst (λ (q : List ℕ). IsAnswered (list_file q) may old new reply) same answered in
+    record {
+      allowed = here.0;
+      asked = here.1 ∙ ap (λ (a : Pairs). a ++ (list_file path, reply) ∷ []) none;
+      unrefused = here.2;
+    }
+
+pub list_allowed : (path : List ℕ) (may : Name → Reply → Type 0) (old new : StoreState) (reply : Reply) → ListAnswered path may old new reply
+    → (name : Name) (r : Reply) → Contains new.asked (name, r) → may name r
+list_allowed path may old new reply answered = one_allowed may new.asked (list_file path) reply answered.allowed answered.asked
+
+pub read_state : {E : Type 0} (path : List ℕ) (may : Name → Reply → Type 0) (old new : StoreState) (answer reply : Reply) (result : Result (Result (Vec (List ℕ)) Output) E)
+    → is_fetchable path ≡ true → ListAnswered path may old new reply → answer ≡ reply → IfOk result (IsListRead path answer)
+    → IfOk result (λ read. IfOk read (λ versions. IsListState path may old new versions.items))
+read_state path may old new answer reply (Err e) fetchable answered same known = tt
+read_state path may old new answer reply (Ok (Err output)) fetchable answered same known = tt
+read_state path may old new answer reply (Ok (Ok versions)) fetchable answered same known = by_reply reply answered (subst (λ (r : Reply). IsListRead path r (Ok versions)) same known)
+  where
+    by_reply : (r : Reply) → ListAnswered path may old new r → IsListRead path r (Ok versions) → IsListState path may old new versions.items
+    by_reply (bytes list) a k = record { list = list; fetchable = fetchable; allowed = a.allowed; asked = a.asked; unrefused = a.unrefused; listed = k }
+    by_reply absent a k = absurd k
+    by_reply too_long a k = absurd k
+
+pub read_comes : {E : Type 0} (path : List ℕ) (all : Bool) (may : Name → Reply → Type 0) (old new : StoreState) (answer reply : Reply) (result : Result (Result (Vec (List ℕ)) Output) E)
+    → is_fetchable path ≡ true → ListAnswered path may old new reply → answer ≡ reply → IfOk result (IsListRead path answer)
+    → IfOk result (λ read. IfErr read (λ output. IsRunOutcome (VersionsNeed path all) (IsVersionsOutcome path all) old new (outcome_of output)))
+read_comes path all may old new answer reply (Err e) fetchable answered same known = tt
+read_comes path all may old new answer reply (Ok (Ok versions)) fetchable answered same known = tt
+read_comes path all may old new answer reply (Ok (Err output)) fetchable answered same known = by_reply reply answered (subst (λ (r : Reply). IsListRead path r (Err output)) same known)
+  where
+    by_reply : (r : Reply) → ListAnswered path may old new r → IsListRead path r (Err output) → IsRunOutcome (VersionsNeed path all) (IsVersionsOutcome path all) old new (outcome_of output)
+    by_reply (bytes list) a k = absurd k
+    by_reply absent a k = ends_missing path all old new (outcome_of output) fetchable a.asked a.unrefused k
+    by_reply too_long a k = ends_too_long path all old new (outcome_of output) fetchable a.asked a.unrefused k
+
+-- the output follows from the latest version's go.mod
+pub shown_asked : {E : Type 0} (path : List ℕ) (versions : List (List ℕ)) (latest : List ℕ) (may : Name → Reply → Type 0) (old new : StoreState) (answer reply : Reply)
+    (result : Result Output E) → IsAnswered (mod_file path latest) may old new reply → answer ≡ reply
+    → IfOk result (λ output. IsShownOutcome path versions latest answer (outcome_of output)) → IsLatestAsked path versions latest may old new result
+shown_asked path versions latest may old new answer reply (Ok output) answered same known =
+    inl (reply, answered, subst (λ (r : Reply). IsShownOutcome path versions latest r (outcome_of output)) same known)
+shown_asked path versions latest may old new answer reply (Err e) answered same known = inr (reply, answered)
+
+module _ (path : List ℕ) (mid new : StoreState) (latest : List ℕ) where
+  grown : (list : List ℕ) (reply : Reply) → mid.asked ≡ (list_file path, bytes list) ∷ [] → new.asked ≡ mid.asked ++ (mod_file path latest, reply) ∷ []
+      → new.asked ≡ (list_file path, bytes list) ∷ (mod_file path latest, reply) ∷ []
+  grown list reply first second = second ∙ ap (λ (a : Pairs). a ++ (mod_file path latest, reply) ∷ []) first
+
+-- the device failed at the go.mod of the latest version
+file_fails : (path : List ℕ) (all : Bool) (may : Name → Reply → Type 0) (old mid new : StoreState) (versions : List (List ℕ)) (latest : List ℕ)
+    → IsListState path may old mid versions → all ≡ false → IsLatest versions latest → new.asked ≡ mid.asked
+    → new.refused ≡ mid.refused ++ mod_file path latest ∷ [] → FailsInTurn (VersionsNeed path all) old new
+file_fails path all may old mid new versions latest state some is same more =
+    let wanted : IsWanted (VersionsNeed path all) new.asked (mod_file path latest) =
+    file_wanted path all old new out_of_memory state.list versions latest state.fetchable some state.listed is (same ∙ state.asked) in
+    inr (mod_file path latest, wanted.0, wanted.1, more ∙ ap (λ (r : List Name). r ++ mod_file path latest ∷ []) state.unrefused)
+
+module _ {E : Type 0} (path : List ℕ) (all : Bool) (may later : Name → Reply → Type 0) (old mid new : StoreState) (versions : List (List ℕ)) (latest : List ℕ) where
+  pub latest_comes : (result : Result Output E) → IsListState path may old mid versions → all ≡ false → IsLatest versions latest
+      → IsLatestAsked path versions latest later mid new result
+      → IfOk result (λ output. IsRunOutcome (VersionsNeed path all) (IsVersionsOutcome path all) old new (outcome_of output))
+  latest_comes (Err e) state some is asked = tt
+  latest_comes (Ok output) state some is (inl a) =
+      ends_shown path all old new (outcome_of output) state.list versions latest a.0 state.fetchable some state.listed is
+      (grown path mid new latest state.list a.0 state.asked a.1.1) (a.1.2 ∙ state.unrefused) a.2
+  latest_comes (Ok output) state some is (inr a) =
+      ends_device_file path all old new (outcome_of output) state.list versions latest state.fetchable some state.listed is
+      (a.1 ∙ state.asked) a.0 (a.2 ∙ ap (λ (r : List Name). r ++ mod_file path latest ∷ []) state.unrefused)
+
+  pub latest_in_turn : (result : Result Output E) → IsListState path may old mid versions → all ≡ false → IsLatest versions latest
+      → IsLatestAsked path versions latest later mid new result → AskedInTurn (VersionsNeed path all) new.asked
+  latest_in_turn (Ok output) state some is (inl a) =
+      both_in_turn path all new.asked state.list versions latest a.0 state.fetchable some state.listed is (grown path mid new latest state.list a.0 state.asked a.1.1)
+  latest_in_turn (Ok output) state some is (inr a) = list_in_turn path all new.asked (bytes state.list) state.fetchable (a.1 ∙ state.asked)
+  latest_in_turn (Err e) state some is (inl a) = list_in_turn path all new.asked (bytes state.list) state.fetchable (a.0 ∙ state.asked)
+  latest_in_turn (Err e) state some is (inr a) =
+      both_in_turn path all new.asked state.list versions latest a.0 state.fetchable some state.listed is (grown path mid new latest state.list a.0 state.asked a.1.1)
+
+  pub latest_allowed : (result : Result Output E) → IsListState path may old mid versions → ((name : Name) (r : Reply) → later name r → may name r)
+      → IsLatestAsked path versions latest later mid new result → (name : Name) (r : Reply) → Contains new.asked (name, r) → may name r
+  latest_allowed (Ok output) state same (inl a) =
+      both_allowed may new.asked (list_file path) (mod_file path latest) (bytes state.list) a.0 state.allowed (same _ _ a.1.0) (grown path mid new latest state.list a.0 state.asked a.1.1)
+  latest_allowed (Ok output) state same (inr a) = one_allowed may new.asked (list_file path) (bytes state.list) state.allowed (a.1 ∙ state.asked)
+  latest_allowed (Err e) state same (inl a) = one_allowed may new.asked (list_file path) (bytes state.list) state.allowed (a.0 ∙ state.asked)
+  latest_allowed (Err e) state same (inr a) =
+      both_allowed may new.asked (list_file path) (mod_file path latest) (bytes state.list) a.0 state.allowed (same _ _ a.1.0) (grown path mid new latest state.list a.0 state.asked a.1.1)
+
+  pub latest_fails : (result : Result Output E) → IsListState path may old mid versions → all ≡ false → IsLatest versions latest
+      → IsLatestAsked path versions latest later mid new result → FailsInTurn (VersionsNeed path all) old new
+  latest_fails (Ok output) state some is (inl a) = inl (a.1.2 ∙ state.unrefused)
+  latest_fails (Ok output) state some is (inr a) = file_fails path all may old mid new versions latest state some is a.1 a.2
+  latest_fails (Err e) state some is (inl (same, inl none)) = inl (none ∙ state.unrefused)
+  latest_fails (Err e) state some is (inl (same, inr more)) = file_fails path all may old mid new versions latest state some is same more
+  latest_fails (Err e) state some is (inr a) = inl (a.1.2 ∙ state.unrefused)
+
+-- what an answer says, by what its bytes say
+pub answer_says : {E : Type 0} (name : Name) (reply : Reply) (content : List ℕ) (result : Result (Result Dependency Class) E) → reply ≡ bytes content
+    → IfOk result (IsContentReading content) → IfOk result (IsFileReading None name reply)
+answer_says name reply content (Err e) is says = tt
+answer_says name reply content (Ok reading) is says = subst (λ (r : Reply). IsFileReading None name r reading) (sym is) says
+
+-- the outcome by what the latest version's go.mod says, or what is wrong with it
+pub shown_read : (path : List ℕ) (versions : List (List ℕ)) (latest : List ℕ) (reply : Reply) (read reading : Result Dependency Class) (outcome : Outcome)
+    → IsFileReading None (mod_file path latest) reply read → read ≡ reading → outcome ≡ shown_by path versions latest reading
+    → IsShownOutcome path versions latest reply outcome
+shown_read path versions latest reply read reading outcome says is shows =
+    record { reading = reading; says = subst (IsFileReading None (mod_file path latest) reply) is says; outcome_is = shows }
+
+-- without intervals all versions are shown
+pub shown_all : (versions : List (List ℕ)) → shown_of [] versions ≡ versions
+shown_all [] = refl
+shown_all (v ∷ versions) = ap (λ (vs : List (List ℕ)). v ∷ vs) (shown_all versions)
+
+pub all_comes : {E : Type 0} (path : List ℕ) (all : Bool) (may : Name → Reply → Type 0) (old new : StoreState) (versions : List (List ℕ)) (result : Result Output E)
+    → IsListState path may old new versions → (all ≡ true) ⊎ (versions ≡ []) → IfOk result (λ output. outcome_of output ≡ printed (versions_line path versions))
+    → IfOk result (λ output. IsRunOutcome (VersionsNeed path all) (IsVersionsOutcome path all) old new (outcome_of output))
+all_comes path all may old new versions (Err e) state every known = tt
+all_comes path all may old new versions (Ok output) state every known =
+    ends_all path all old new (outcome_of output) state.list versions state.fetchable state.listed every state.asked state.unrefused known
+
+-- no go.mod has been answered yet
+pub file_unasked : (path latest : List ℕ) (may : Name → Reply → Type 0) (old new : StoreState) (versions : List (List ℕ)) → IsListState path may old new versions
+    → answer_in new.asked (mod_file path latest) ≡ None
+file_unasked path latest may old new versions state = ap (λ (a : Pairs). answer_in a (mod_file path latest)) state.asked
+
+-- and all answers so far are ones that the store may give
+pub state_allowed : (path : List ℕ) (may : Name → Reply → Type 0) (old new : StoreState) (versions : List (List ℕ)) → IsListState path may old new versions
+    → (name : Name) (r : Reply) → Contains new.asked (name, r) → may name r
+state_allowed path may old new versions state = one_allowed may new.asked (list_file path) (bytes state.list) state.allowed state.asked

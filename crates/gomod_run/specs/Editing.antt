@@ -1,0 +1,42 @@
+-- The outcome of `edit`: go help mod edit. That nothing is printed if an operation is refused is this program's own
+-- rule.
+use Rattle.std.specs.Prelude.{◌≡◌, ◌⊎◌, ◌++◌, ◌∷◌, ◌+◌, ℕ, List, [], Option, Some, None, codes, if◌then◌else◌}
+use Rattle.std.specs.List.{filter_map, fold}
+use Rattle.std.specs.Option.{option_map, option_to_list}
+use Rattle.gm_syntax.specs.Document.{Line}
+use Rattle.gm_syntax.specs.Layout.{layout}
+use Rattle.gm_syntax.specs.LineViews.{plain_lines}
+use Rattle.gm_syntax.specs.Tokens.{Placed}
+use Rattle.gm_file_edit.specs.Changes.{edited, is_fit}
+use Rattle.gm_file_edit.specs.Edits.{Edit, edit_in}
+use Rattle.gm_graph_listing.specs.Outcomes.{IsMainOf, IsMalformedMain, Outcome, printed, refused}
+use Rattle.gm_graph_listing.specs.Reports.{Place, main_line}
+use Rattle.gomod_run.specs.Kinds.{edit_line}
+
+-- why a parsed operation is refused, if it is
+abbrev pub refusal_of : Option Edit → Option (List ℕ)
+refusal_of None = Some (codes "Spelling")
+refusal_of (Some edit) = if is_fit edit then None else Some (codes "Misfit")
+
+-- the refused operations with their numbers; the first operation has this number
+abbrev pub refusals_from : ℕ → List (List ℕ) → List (ℕ × List ℕ)
+refusals_from number [] = []
+refusals_from number (text ∷ texts) =
+    option_to_list (option_map (λ kind. (number, kind)) (refusal_of (edit_in text)))
+    ++ refusals_from (number + 1) texts
+
+-- the lines after operations, each applied to what those before it left
+abbrev pub edited_in_turn : List Edit → List (Line Placed) → List (Line Placed)
+edited_in_turn edits lines = fold (λ lines edit. edited edit lines) lines edits
+
+-- the first refusal is reported; without one the layout is printed
+abbrev pub edits_outcome : List (ℕ × List ℕ) → List (Line Placed) → Outcome
+edits_outcome [] lines = printed (layout (plain_lines lines))
+edits_outcome (refusal ∷ later) lines = refused (edit_line refusal)
+
+-- `edit FILE OP..` over the bytes of the file: the file is read strictly, then each operation is parsed and applied
+abbrev pub IsEditOutcome : List (List ℕ) → List ℕ → Outcome → Type 0
+IsEditOutcome texts file outcome =
+    ((place : Place) × IsMalformedMain file place × (outcome ≡ refused (main_line place)))
+    ⊎ ((lines : List (Line Placed)) × IsMainOf file lines
+    × (outcome ≡ edits_outcome (refusals_from 1 texts) (edited_in_turn (filter_map edit_in texts) lines)))

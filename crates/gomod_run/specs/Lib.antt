@@ -1,0 +1,14 @@
+pub mod Asking
+pub mod Edited
+pub mod Editing
+pub mod Reading
+pub mod Held
+pub mod Kinds
+pub mod Laws
+pub mod Listing
+pub mod Needs
+pub mod Program
+pub mod Queries
+pub mod Runs
+pub mod Versions
+pub mod Written

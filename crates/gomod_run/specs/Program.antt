@@ -1,0 +1,125 @@
+-- The outcomes of the whole program, from its words to its exit status.
+use Rattle.std.specs.Prelude.{◌≡◌, ◌⊎◌, ◌++◌, ℕ, List, [], Option, Some, None, Result, Ok, Err, codes, option_map, if◌then◌else◌}
+use Rattle.std.specs.Global.{Vec}
+use Rattle.std.specs.String.{string_bytes}
+use Rattle.gm_store.specs.Asked.{Name, Reply, list_file, reply_for, same_name}
+use Rattle.gm_store.specs.declared.proxy_list.ProxyList.{ProxyList}
+use Rattle.gm_store.specs.declared.reading.ReadFault.{ReadFault}
+use Rattle.gm_store.specs.declared.reading.ReadFault.TheVariants as reading
+use Rattle.gomod_words.specs.Usage.{AskFor, IsFaultOf}
+use Rattle.gomod_words.specs.declared.usage.Command.{Command}
+use Rattle.gomod_words.specs.declared.usage.Command.TheVariants.{Fmt, Edit, Versions, Graph, List as Rows, Chain}
+use Rattle.gomod_words.specs.declared.usage.Places.{Places}
+use Rattle.gomod_words.specs.declared.usage.UsageFault.{UsageFault}
+use Rattle.gomod_words.specs.declared.usage.UsageFault.TheVariants as usage
+use Rattle.gm_graph_listing.specs.Outcomes.{Answers as Told, Outcome, failed, given, longest, printed}
+use Rattle.gm_graph_listing.specs.Reports.{device_line}
+use Rattle.gm_graph_listing.specs.Texts.{line}
+use Rattle.gomod_run.specs.Runs.{Needs, StatesOutcome}
+use Rattle.gomod_run.specs.Queries.{IsQueryOutcome}
+use Rattle.gomod_run.specs.Versions.{Answers}
+use Rattle.gomod_run.specs.Written.{out_of_memory}
+
+-- the report of a usage error, which no run ends with
+abbrev pub usage_error : List ℕ → Outcome
+usage_error text = record { text = []; report = text; status = 2 }
+
+-- a usage error or a request for help
+abbrev pub usage_outcome : UsageFault → Outcome
+usage_outcome usage.NoMemory = out_of_memory
+usage_outcome (usage.Help text) = printed (string_bytes text)
+usage_outcome (usage.Line text) = usage_error (string_bytes text)
+usage_outcome (usage.BadPath text) = usage_error (codes "gomod: bad path " ++ string_bytes text ++ codes "\n")
+usage_outcome (usage.BadProxy text) = usage_error (codes "gomod: bad proxy " ++ string_bytes text ++ codes "\n")
+
+-- `gomod: cannot read NAME`
+abbrev pub cannot_read_line : List ℕ → List ℕ
+cannot_read_line name = line (codes "gomod: cannot read " ++ name)
+
+-- the file or device with this name could not be read
+abbrev pub unread_outcome : List ℕ → ReadFault → Outcome
+unread_outcome name reading.NoMemory = out_of_memory
+unread_outcome name reading.Device = failed (cannot_read_line name)
+
+-- the result of reading the file or device with this name: the outcome over its bytes, or the report
+abbrev pub IsReadOutcome : List ℕ → (List ℕ → Outcome → Type 0) → Result (Vec ℕ) ReadFault → Outcome → Type 0
+IsReadOutcome name states (Ok content) outcome = states content.items outcome
+IsReadOutcome name states (Err fault) outcome = outcome ≡ unread_outcome name fault
+
+-- the answers are those of a store that has one file and no other
+abbrev pub AreOfOneFile : Name → List ℕ → Answers → Type 0
+AreOfOneFile file content answers = (name : Name) (reply : Reply) → answers name ≡ Some reply
+    → reply ≡ reply_for longest (if same_name name file then Some content else None)
+
+-- `versions PATH` without proxy folders: over the list that was read from standard input
+abbrev pub IsInputOutcome : Command → List ℕ → List ℕ → Outcome → Type 0
+IsInputOutcome command path list outcome =
+    (answers : Answers)
+    × AreOfOneFile (list_file path) list answers
+    × StatesOutcome command [] None answers outcome
+
+-- a command over the answers of proxy folders, or the report of a needed file at which their device failed
+abbrev pub IsFolderOutcome : Command → Outcome → Type 0
+IsFolderOutcome command outcome =
+    ((answers : Answers) × StatesOutcome command [] None answers outcome)
+    ⊎ ((answers : Answers) × (name : Name) × Needs command [] None answers name × (outcome ≡ failed (device_line name)))
+
+-- `versions PATH`: over standard input, or over proxy folders if there are any
+abbrev pub IsVersionsServed : Command → List ℕ → Option ProxyList → Outcome → Type 0
+IsVersionsServed command path None outcome =
+    (read : Result (Vec ℕ) ReadFault)
+    × IsReadOutcome (codes "-") (IsInputOutcome command path) read outcome
+IsVersionsServed command path (Some folders) outcome = IsFolderOutcome command outcome
+
+-- a query on a module graph, over the bytes of the main file, those of a go.sum where one is given, and the answers
+-- of a store
+abbrev pub IsQueryRun : Command → List ℕ → Option (List ℕ) → Outcome → Type 0
+IsQueryRun command main sums outcome = (told : Told) × IsQueryOutcome command (given main sums told) outcome
+
+-- the go.sum is read if one is named
+abbrev pub IsSumsServed : Command → Option (List ℕ) → List ℕ → Outcome → Type 0
+IsSumsServed command None main outcome = IsQueryRun command main None outcome
+IsSumsServed command (Some name) main outcome = (read : Result (Vec ℕ) ReadFault)
+    × IsReadOutcome name (λ sums outcome. IsQueryRun command main (Some sums) outcome) read outcome
+
+-- the main file is read, then the go.sum
+abbrev pub IsQueryServed : Command → Places → Outcome → Type 0
+IsQueryServed command places outcome = (read : Result (Vec ℕ) ReadFault)
+    × IsReadOutcome (string_bytes places.main)
+    (λ main outcome. IsSumsServed command (option_map string_bytes places.sums) main outcome) read outcome
+
+-- `fmt` or `edit` over the bytes of the file that the words name
+abbrev pub IsFileServed : Command → List ℕ → Outcome → Type 0
+IsFileServed command name outcome = (read : Result (Vec ℕ) ReadFault)
+    × IsReadOutcome name (λ main outcome. StatesOutcome command main None (λ name. None) outcome) read outcome
+
+-- a command over the files that the words name
+abbrev pub IsServed : Command → Places → Outcome → Type 0
+IsServed Fmt places outcome = IsFileServed Fmt (string_bytes places.main) outcome
+IsServed (Edit operations) places outcome = IsFileServed (Edit operations) (string_bytes places.main) outcome
+IsServed (Versions path all) places outcome = IsVersionsServed (Versions path all) path places.proxy outcome
+IsServed Graph places outcome = IsQueryServed Graph places outcome
+IsServed (Rows after limit) places outcome = IsQueryServed (Rows after limit) places outcome
+IsServed (Chain path) places outcome = IsQueryServed (Chain path) places outcome
+
+-- the outcome for these words: their usage error, or the outcome of their command over the files that they name
+abbrev pub IsWordsOutcome : List (List ℕ) → Outcome → Type 0
+IsWordsOutcome words outcome =
+    ((fault : UsageFault) × IsFaultOf words fault × (outcome ≡ usage_outcome fault))
+    ⊎ ((command : Command) × (places : Places) × AskFor words command places × IsServed command places outcome)
+
+-- the error of a command line with a word that is not UTF-8, or for which memory ran out
+abbrev pub IsUnreadableWords : UsageFault → Type 0
+IsUnreadableWords usage.NoMemory = Unit {0}
+IsUnreadableWords (usage.Line text) = string_bytes text ≡ codes "error: a word is not UTF-8\n"
+IsUnreadableWords fault = ⊥
+
+-- the outcome of the program: that of its words, or the error if one of them is not UTF-8
+abbrev pub IsProgramOutcome : Outcome → Type 0
+IsProgramOutcome outcome =
+    ((words : List (List ℕ)) × IsWordsOutcome words outcome)
+    ⊎ ((fault : UsageFault) × IsUnreadableWords fault × (outcome ≡ usage_outcome fault))
+
+-- the exit status: that of the program's outcome, or 3 if memory runs out or an output fails
+abbrev pub IsProgramStatus : ℕ → Type 0
+IsProgramStatus status = ((outcome : Outcome) × IsProgramOutcome outcome × (status ≡ outcome.status)) ⊎ (status ≡ 3)

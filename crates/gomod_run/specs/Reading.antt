@@ -1,0 +1,25 @@
+-- The results of reading lists and files.
+use Rattle.std.specs.Prelude.{◌≡◌, ℕ, List, Option, Some, None, Result, Ok, Err, codes}
+use Rattle.std.specs.Global.{Vec}
+use Rattle.gm_store.specs.Asked.{Reply, absent, bytes, too_long}
+use Rattle.gm_store.specs.Listed.{AreListed}
+use Rattle.gm_graph_cache.specs.declared.class.Class.{Class}
+use Rattle.gm_graph_cache.specs.declared.class.Class.TheVariants.{Malformed}
+use Rattle.gm_graph_listing.specs.declared.output.Output.{Output}
+use Rattle.gm_graph_listing.specs.Outcomes.{outcome_of, refused}
+use Rattle.gm_graph_listing.specs.Reports.{Place}
+use Rattle.gomod_run.specs.Kinds.{list_line}
+
+-- the answer is a list with these versions, or the output reports that it is no list that can be read
+abbrev pub IsListRead : List ℕ → Reply → Result (Vec (List ℕ)) Output → Type 0
+IsListRead path (bytes list) (Ok versions) = AreListed path list versions.items
+IsListRead path absent (Err output) = outcome_of output ≡ refused (list_line path (codes "Missing"))
+IsListRead path too_long (Err output) = outcome_of output ≡ refused (list_line path (codes "TooLong"))
+IsListRead path (bytes list) (Err output) = ⊥
+IsListRead path absent (Ok versions) = ⊥
+IsListRead path too_long (Ok versions) = ⊥
+
+-- the class of a file with a fault at this place, if there is one
+abbrev pub class_at : Option Place → Option Class
+class_at None = None
+class_at (Some place) = Some (Malformed place.0 place.1)

@@ -1,0 +1,79 @@
+-- The outcome of `versions`: Go Modules Reference, GOPROXY protocol (`$module/@v/list`, `$module/@v/$version.mod`),
+-- and the retract directive.
+use Rattle.std.specs.Prelude.{◌≡◌, ◌⊎◌, ◌++◌, ◌∷◌, ℕ, Bool, List, [], Option, Some, None, Result, Ok, Err, codes, true, false}
+use Rattle.std.specs.List.{join_with_byte}
+use Rattle.gm_name.specs.Path.{is_fetchable}
+use Rattle.gm_store.specs.Asked.{Name, Reply, absent, bytes, list_file, mod_file, too_long}
+use Rattle.gm_store.specs.Latest.{IsLatest}
+use Rattle.gm_store.specs.Listed.{AreListed}
+use Rattle.gm_file.specs.Fields.{Dependency}
+use Rattle.gm_file_retract.specs.Shown.{shown_of}
+use Rattle.gm_graph_cache.specs.declared.class.Class.{Class}
+use Rattle.gm_graph_cache.specs.Reading.{IsFileReading}
+use Rattle.gm_graph_listing.specs.Outcomes.{Outcome, printed, refused}
+use Rattle.gm_graph_listing.specs.Reports.{fault_line}
+use Rattle.gomod_run.specs.Kinds.{list_line}
+
+-- what a store answered
+abbrev pub Answers : Type 0
+Answers = Name → Option Reply
+
+-- the path and the versions, separated by single spaces
+abbrev pub versions_line : List ℕ → List (List ℕ) → List ℕ
+versions_line path versions = join_with_byte 32 (path ∷ versions) ++ codes "\n"
+
+-- the listed versions, given what the go.mod of the latest one says or what is wrong with it: the versions that its
+-- retractions do not contain, or the report of its fault
+abbrev pub shown_by : List ℕ → List (List ℕ) → List ℕ → Result Dependency Class → Outcome
+shown_by path versions latest (Ok dependency) =
+    printed (versions_line path (shown_of dependency.retracts versions))
+shown_by path versions latest (Err class) = refused (fault_line (path, latest) class)
+
+-- the listed versions, given the answer for the go.mod of the latest one. No hash is checked.
+pub record IsShownOutcome (path : List ℕ) (versions : List (List ℕ)) (latest : List ℕ) (reply : Reply)
+    (outcome : Outcome) : Type 0 where
+  pub reading : Result Dependency Class
+  pub says : IsFileReading None (mod_file path latest) reply reading
+  pub outcome_is : outcome ≡ shown_by path versions latest reading
+
+-- the listed versions: all of them if all are asked for or there are none, otherwise according to the latest one's
+-- go.mod
+abbrev pub IsListedOutcome : List ℕ → Bool → Answers → List (List ℕ) → Outcome → Type 0
+IsListedOutcome path all answers versions outcome =
+    (((all ≡ true) ⊎ (versions ≡ [])) × (outcome ≡ printed (versions_line path versions)))
+    ⊎ ((latest : List ℕ) × (reply : Reply) × (all ≡ false)
+    × IsLatest versions latest
+    × (answers (mod_file path latest) ≡ Some reply)
+    × IsShownOutcome path versions latest reply outcome)
+
+-- the outcome given the answer for the list
+abbrev pub IsOutcomeByList : List ℕ → Bool → Answers → Reply → Outcome → Type 0
+IsOutcomeByList path all answers absent outcome = outcome ≡ refused (list_line path (codes "Missing"))
+IsOutcomeByList path all answers too_long outcome = outcome ≡ refused (list_line path (codes "TooLong"))
+IsOutcomeByList path all answers (bytes list) outcome =
+    (versions : List (List ℕ))
+    × AreListed path list versions
+    × IsListedOutcome path all answers versions outcome
+
+-- `versions PATH`: the path is checked first, then the list, then the go.mod of the latest version
+abbrev pub IsVersionsOutcome : List ℕ → Bool → Answers → Outcome → Type 0
+IsVersionsOutcome path all answers outcome =
+    ((is_fetchable path ≡ false) × (outcome ≡ refused (list_line path (codes "NotFetchable"))))
+    ⊎ ((reply : Reply) × (is_fetchable path ≡ true)
+    × (answers (list_file path) ≡ Some reply)
+    × IsOutcomeByList path all answers reply outcome)
+
+-- the go.mod of the latest version is needed: not all versions are asked for, and the list has some
+abbrev pub NeedsFile : List ℕ → Bool → Answers → Name → Type 0
+NeedsFile path all answers name = (list : List ℕ) × (versions : List (List ℕ)) × (latest : List ℕ) × (all ≡ false)
+    × (answers (list_file path) ≡ Some (bytes list))
+    × AreListed path list versions
+    × IsLatest versions latest
+    × (name ≡ mod_file path latest)
+
+-- the files that `versions PATH` needs, given the answers so far: the list, then the go.mod of the latest version
+-- if that is needed
+abbrev pub VersionsNeed : List ℕ → Bool → Answers → Name → Type 0
+VersionsNeed path all answers name =
+    (is_fetchable path ≡ true)
+    × ((name ≡ list_file path) ⊎ NeedsFile path all answers name)

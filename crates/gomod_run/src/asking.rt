@@ -1,0 +1,43 @@
+//! Asking a store for one file. A separate step, because a failing device ends a run with a report of its own.
+
+ghost use Rattle.std.specs.Prelude.{◌≡◌, ◌<◌, ◌++◌, ◌∷◌, [], List, None, length};
+ghost use Rattle.gm_store.specs.Asked.{Name, Reply, answer_in, name_of, reply_of};
+ghost use Rattle.gomod_run.specs.Asking.{IsAsked};
+ghost use Rattle.gomod_run.specs.Runs.{store_state};
+
+use gm_graph_listing::{Output, device_report, failed};
+use gm_name::NoMemory;
+use gm_store::{Answer, AskFault, FileName, Files};
+use std::alloc::{AllocError, Global};
+
+/// Asks for a file that has not been asked for before. `None` where the store answered; if its device fails, the
+/// result is the output that reports it. The only refusal is running out of memory.
+pub(crate) fn ask_for<F: Files>(
+    alloc: Global,
+    files: &mut F,
+    name: &FileName,
+) -> Result<Option<Output>, NoMemory>
+    requires { answer_in (F.asked files.old) (name_of name.now) ≡ None }
+    ensures asked { IsAsked (name_of name.now) (F.may_answer files.old)
+        (store_state (F.asked files.old) (F.refused files.old))
+        (store_state (F.asked files.new) (F.refused files.new))
+        result }
+    ensures same_store { (name : Name) (reply : Reply)
+        → F.may_answer files.new name reply → F.may_answer files.old name reply }
+{
+    match files.ask(name) {
+        Ok(()) => Ok(None),
+        Err(AskFault::NoMemory) => Err(AllocError),
+        Err(AskFault::Device) => Ok(Some(failed(alloc, device_report(alloc, name)?))),
+    }
+}
+
+/// The answer to the last ask. The store must have been asked at least once.
+pub(crate) fn last_answer<F: Files>(files: &F) -> &Answer
+    requires { 0 < length (F.asked files.now) }
+    ensures { (before : List (Name × Reply)) (last : Name × Reply)
+        → F.asked files.now ≡ before ++ last ∷ [] → reply_of result.now ≡ last.1 }
+{
+    let count = files.count();
+    files.answer(count - 1)
+}

@@ -1,0 +1,87 @@
+//! The outcome of `edit`. It is built here and not in `gm_file_edit`, because its reports belong to the program and
+//! not to the library.
+
+ghost use Rattle.std.specs.Prelude.{◌≡◌, IfOk, map};
+ghost use Rattle.std.specs.List.{filter_map};
+ghost use Rattle.std.specs.Option.{option_map};
+ghost use Rattle.std.specs.String.{string_bytes};
+ghost use Rattle.gm_file_edit.specs.Edits.{edit_in};
+ghost use Rattle.gm_graph_listing.specs.Outcomes.{outcome_of};
+ghost use Rattle.gomod_run.specs.Edited.{IsApplied, IsFirstRefusal};
+ghost use Rattle.gomod_run.specs.Editing.{IsEditOutcome, edited_in_turn, edits_outcome, refusals_from};
+
+use crate::report_lines::edit_line;
+use gm_file::MainFile;
+use gm_file_edit::{EditFault, Op, OpFault, apply};
+use gm_graph_listing::{Output, main_file, printed, refused};
+use gm_name::NoMemory;
+use std::alloc::{AllocError, Global};
+
+/// Parses one operation and applies it. If it is refused, the result is the name of the reason.
+fn apply_text<'a>(
+    alloc: Global,
+    file: &mut MainFile<'a>,
+    text: &str,
+) -> Result<Option<&'static str>, NoMemory>
+    ensures { IfOk result (λ kind. IsApplied text.now file.old file.new (option_map (λ kind. kind.now) kind)) }
+{
+    let op = match Op::parse(alloc, text) {
+        Ok(op) => op,
+        Err(OpFault::Spelling) => return Ok(Some("Spelling")),
+        Err(OpFault::NoMemory) => return Err(AllocError),
+    };
+    match apply(alloc, file, &op) {
+        Ok(()) => Ok(None),
+        Err(EditFault::Misfit) => Ok(Some("Misfit")),
+        Err(EditFault::NoMemory) => Err(AllocError),
+    }
+}
+
+/// Applies operations in turn, up to the first that is refused. The result is that one's number, counted from 1,
+/// and the name of the reason.
+fn apply_all<'a>(
+    alloc: Global,
+    file: &mut MainFile<'a>,
+    texts: &[String],
+) -> Result<Option<(usize, &'static str)>, NoMemory>
+    ensures { IfOk result (λ stop. IsFirstRefusal (map string_bytes texts.now) file.old file.new
+        (option_map (λ refusal. (refusal.0, refusal.1.now)) stop)) }
+{
+    for (n, text) in texts.iter().enumerate() {
+        if let Some(kind) = apply_text(alloc, file, text.as_str())? {
+            return Ok(Some((n + 1, kind)));
+        }
+    }
+    Ok(None)
+}
+
+/// The outcome of operations on a main module's file: the layout after all of them, or the report of the first that
+/// is refused.
+fn edits_outcome(
+    alloc: Global,
+    file: &mut MainFile<'_>,
+    operations: &[String],
+) -> Result<Output, NoMemory>
+    ensures { IfOk result (λ output. outcome_of output
+        ≡ edits_outcome (refusals_from 1 (map string_bytes operations.now))
+        (edited_in_turn (filter_map edit_in (map string_bytes operations.now)) file.old)) }
+{
+    match apply_all(alloc, file, operations)? {
+        None => Ok(printed(alloc, file.doc().format(alloc)?)),
+        Some((number, kind)) => Ok(refused(alloc, edit_line(alloc, number, kind)?)),
+    }
+}
+
+/// The outcome of `edit` over the bytes of a main module's file. The only refusal is running out of memory.
+pub(crate) fn edit_outcome(
+    alloc: Global,
+    operations: &[String],
+    file: &[u8],
+) -> Result<Output, NoMemory>
+    ensures { IfOk result (λ output. IsEditOutcome (map string_bytes operations.now) file.now (outcome_of output)) }
+{
+    match main_file(alloc, file)? {
+        Ok(mut main) => edits_outcome(alloc, &mut main, operations),
+        Err(output) => Ok(output),
+    }
+}

@@ -1,0 +1,27 @@
+//! What the gomod program does between its command line and its exit status.
+//!
+//! `exit_code` is the whole program: it reads the words of the command line and the files that they name, runs the
+//! command, and writes to standard output and standard error. `status_of` and `status_of_words` do the same over
+//! any runtime and any two sinks, so that whole runs can be checked inside one process. `run` takes bytes that have
+//! been read already.
+//!
+//! For example, `gomod versions example.com/p` with the lines `v1.10.0` and `v1.9.0` on standard input prints
+//! `example.com/p v1.9.0 v1.10.0` and ends with status 0.
+#![tactic(auto)]
+
+mod asking;
+mod edit;
+mod fmt;
+pub mod laws;
+mod outcome;
+mod program;
+mod queries;
+mod query_serving;
+mod report_lines;
+mod running;
+mod versions;
+mod writing;
+
+pub use crate::program::{exit_code, status_of, status_of_words};
+pub use crate::running::run;
+pub use gm_graph_listing::Status;

@@ -1,0 +1,59 @@
+//! The outcome of a command. It is complete before anything is written, since a fault that is found late must leave
+//! standard output empty.
+
+ghost use Rattle.std.specs.Prelude.{◌≡◌, [], Contains, IfOk};
+ghost use Rattle.std.specs.Option.{option_map};
+ghost use Rattle.gm_store.specs.Asked.{Name, Reply};
+ghost use Rattle.gm_graph_listing.specs.Outcomes.{outcome_of};
+ghost use Rattle.gomod_run.specs.Runs.{AskedInTurn, FailsInTurn, Needs, store_state};
+ghost use Rattle.gomod_run.specs.Queries.{RunsTo};
+
+use crate::edit::edit_outcome;
+use crate::fmt::fmt_outcome;
+use crate::queries::query_outcome;
+use crate::versions::versions_outcome;
+use gm_graph_listing::{Output, Query};
+use gm_name::NoMemory;
+use gm_store::Files;
+use gomod_words::Command;
+use std::alloc::Global;
+
+/// The outcome of a command over the main file, a go.sum where one is given, and a store that has not been asked
+/// yet. The only refusal is running out of memory.
+pub(crate) fn outcome<F: Files>(
+    alloc: Global,
+    command: &Command,
+    main: &[u8],
+    sums: Option<&[u8]>,
+    files: &mut F,
+) -> Result<Output, NoMemory>
+    requires { F.asked files.old ≡ [] }
+    ensures comes { IfOk result (λ output. RunsTo command.now main.now (option_map (λ sums. sums.now) sums.entry)
+        (store_state (F.asked files.old) (F.refused files.old))
+        (store_state (F.asked files.new) (F.refused files.new))
+        (outcome_of output)) }
+    ensures in_turn { AskedInTurn (Needs command.now main.now (option_map (λ sums. sums.now) sums.entry))
+        (F.asked files.new) }
+    ensures fails { FailsInTurn (Needs command.now main.now (option_map (λ sums. sums.now) sums.entry))
+        (store_state (F.asked files.old) (F.refused files.old))
+        (store_state (F.asked files.new) (F.refused files.new)) }
+    ensures answers { (name : Name) (reply : Reply)
+        → Contains (F.asked files.new) (name, reply) → F.may_answer files.old name reply }
+{
+    match command {
+        Command::Versions { path, all } => versions_outcome(alloc, path, *all, files),
+        Command::Fmt => fmt_outcome(alloc, main),
+        Command::Edit(operations) => edit_outcome(alloc, operations.as_slice(), main),
+        Command::Graph => query_outcome(alloc, Query::Graph, main, sums, files),
+        Command::List { after, limit } => {
+            query_outcome(
+                alloc,
+                Query::List(after.as_ref(), *limit),
+                main,
+                sums,
+                files,
+            )
+        }
+        Command::Chain(path) => query_outcome(alloc, Query::Chain(path), main, sums, files),
+    }
+}

@@ -1,0 +1,40 @@
+//! The outcome of `graph`, `list` and `chain`: `gm_graph_listing` finds it, and this file states which files are
+//! asked for in the terms of all commands.
+
+ghost use Rattle.std.specs.Prelude.{◌≡◌, ◌++◌, [], Contains, IfOk, List};
+ghost use Rattle.std.specs.Option.{option_map};
+ghost use Rattle.gm_store.specs.Asked.{Name, Reply};
+ghost use Rattle.gm_graph_listing.specs.Outcomes.{IsAnswer, answers, given, outcome_of};
+ghost use Rattle.gomod_run.specs.Needs.{GraphNeeds};
+ghost use Rattle.gomod_run.specs.Runs.{AskedInTurn, FailsInTurn, store_state};
+
+use gm_graph_listing::{Output, Query, answer};
+use gm_name::NoMemory;
+use gm_store::Files;
+use std::alloc::Global;
+
+/// The outcome of a query on a module graph, over the main file, a go.sum where one is given, and a store that has
+/// not been asked yet. The only refusal is running out of memory.
+pub(crate) fn query_outcome<F: Files>(
+    alloc: Global,
+    query: Query<'_>,
+    main: &[u8],
+    sums: Option<&[u8]>,
+    files: &mut F,
+) -> Result<Output, NoMemory>
+    requires { F.asked files.old ≡ [] }
+    ensures comes { IfOk result (λ output. (failed : List Name)
+        × (F.refused files.new ≡ F.refused files.old ++ failed)
+        × IsAnswer query.entry
+        (given main.now (option_map (λ sums. sums.now) sums.entry) (answers (F.asked files.new) failed))
+        (outcome_of output)) }
+    ensures in_turn { AskedInTurn (GraphNeeds main.now (option_map (λ sums. sums.now) sums.entry)) (F.asked files.new) }
+    ensures fails { FailsInTurn (GraphNeeds main.now (option_map (λ sums. sums.now) sums.entry))
+        (store_state (F.asked files.old) (F.refused files.old))
+        (store_state (F.asked files.new) (F.refused files.new)) }
+    ensures answers { (name : Name) (reply : Reply)
+        → Contains (F.asked files.new) (name, reply) → F.may_answer files.old name reply }
+{
+    let output = answer(alloc, query, main, sums, files)?;
+    Ok(output)
+}

@@ -1,0 +1,105 @@
+//! Running one command, from bytes that have been read to bytes that are written.
+
+ghost use Rattle.std.specs.Prelude.{◌≡◌, [], Contains, None, false};
+ghost use Rattle.std.specs.Option.{option_map};
+ghost use Rattle.gm_store.specs.Asked.{Name, Reply, answer_in};
+ghost use Rattle.gm_graph_listing.specs.Outcomes.{code_of};
+ghost use Rattle.gomod_run.specs.Runs.{AnsweredAll, AskedInTurn, FailsInTurn, Needs, store_state, takes_sums};
+ghost use Rattle.gomod_run.specs.Queries.{RunsTo};
+ghost use Rattle.gomod_run.specs.Written.{Ends, sink_state};
+
+use crate::outcome::outcome;
+use crate::writing::{NO_MEMORY, end};
+use gm_graph_listing::Status;
+use gm_store::{Files, Sink};
+use gomod_words::Command;
+use std::alloc::Global;
+
+/// Runs a command over the bytes of a main file, those of a go.sum where one is given, and a store that has not
+/// been asked yet, and writes its outcome: either a text to `out`, with the status `Done`, or a report to `report`,
+/// with another status. `sums` must be `None` for `fmt`, `edit` and `versions`, which check no hashes.
+///
+/// | Command | Reads, in this order | Text |
+/// |---|---|---|
+/// | `fmt` | the syntax of the main file, nothing else | the layout of the file |
+/// | `edit` | the main file, strictly, then each operation | the layout after all operations |
+/// | `versions` | the module's list, then the go.mod of the latest version | the path and its versions on one line |
+/// | `graph` | the main file, the go.sum, the go.mod files of the opened modules | the edges of the module graph |
+/// | `list` | as `graph` | rows of the build list |
+/// | `chain` | as `graph` | a shortest chain of requirements |
+///
+/// | Report | Status | When |
+/// |---|---|---|
+/// | `go.mod:LINE: KIND` | `Fault` | `fmt`, `edit`: the main file has a fault; line 0 is the whole file |
+/// | `edit N: Spelling` | `Fault` | `edit`: the N-th operation, counted from 1, is invalid |
+/// | `edit N: Misfit` | `Fault` | `edit`: a version in the N-th operation does not fit its path |
+/// | `PATH: NotFetchable` | `Fault` | `versions`: a proxy can't have this module |
+/// | `PATH: Missing`, `PATH: TooLong` | `Fault` | `versions`: the store has no list, or one that is too long |
+/// | `PATH@VERSION: Missing`, `PATH@VERSION: TooLong` | `Fault` | `versions`: likewise the latest version's go.mod |
+/// | `PATH@VERSION: Malformed LINE KIND` | `Fault` | `versions`: that go.mod has a fault |
+/// | as `gm_graph_listing::answer` says | `Fault` | `graph`, `list`, `chain`: no answer can be given |
+/// | `gomod: device at NAME` | `Device` | the store's device fails at a needed file |
+/// | `gomod: no memory` | `Device` | memory runs out |
+///
+/// `edit`: each operation applies to what those before it left, and the first that is refused is reported. A version
+/// must fit its path where the operation requires or excludes it, or has it on the left of its replace (go help mod
+/// edit; that a refusal prints nothing is this program's own rule). With no operation the text is the layout of the
+/// file.
+///
+/// `versions`: the path is checked first, and the main file is not read. The go.mod of the latest version is read
+/// for its retractions, and the versions that they contain are left out. If all versions are asked for, or the list
+/// has none, it is not read, and every listed version is printed. The order is ascending.
+///
+/// `graph`, `list` and `chain`: text and report are those of `gm_graph_listing::answer`.
+///
+/// The store is asked only for files that are needed, each at most once. If a sink fails, the status is `Device`:
+/// the sink holds a prefix of what was meant for it, and nothing more is written.
+pub fn run<F: Files, O: Sink, R: Sink>(
+    alloc: Global,
+    command: &Command,
+    main: &[u8],
+    sums: Option<&[u8]>,
+    files: &mut F,
+    out: &mut O,
+    report: &mut R,
+) -> Status
+    // Otherwise the outcome could depend on answers of an earlier run.
+    requires unasked { F.asked files.old ≡ [] }
+    // A go.sum that such a command ignored would pass for one that was checked.
+    requires no_sums { takes_sums command.now ≡ false → option_map (λ sums. sums.now) sums ≡ None }
+    // All asks and all allocations come before the first byte is written, so a report never follows part of a text.
+    ensures ends { Ends (RunsTo command.now main.now (option_map (λ sums. sums.now) sums.entry)
+        (store_state (F.asked files.old) (F.refused files.old))
+        (store_state (F.asked files.new) (F.refused files.new)))
+        (sink_state (O.taken out.old) (O.room out.old) (O.fault_count out.old))
+        (sink_state (O.taken out.new) (O.room out.new) (O.fault_count out.new))
+        (sink_state (R.taken report.old) (R.room report.old) (R.fault_count report.old))
+        (sink_state (R.taken report.new) (R.room report.new) (R.fault_count report.new))
+        (code_of result) }
+    // Each file is asked for once, and is needed by the answers before it. `fmt` and `edit` need none. `graph`,
+    // `list` and `chain` need the go.mod files of the opened modules, and none if the main file or the go.sum can't
+    // be parsed (Go Modules Reference, "Minimal version selection" and "Module graph pruning"). This clause and
+    // the clauses `fails` and `answers` hold however the run ends.
+    ensures in_turn { AskedInTurn (Needs command.now main.now (option_map (λ sums. sums.now) sums.entry))
+        (F.asked files.new) }
+    // A run that is done has an answer for every file that it needs.
+    ensures all_answered { result ≡ Status.Done
+        → AnsweredAll (Needs command.now main.now (option_map (λ sums. sums.now) sums.entry))
+        (answer_in (F.asked files.new)) }
+    // The device fails at one file at most, which is needed by the answers and is not among them.
+    ensures fails { FailsInTurn (Needs command.now main.now (option_map (λ sums. sums.now) sums.entry))
+        (store_state (F.asked files.old) (F.refused files.old))
+        (store_state (F.asked files.new) (F.refused files.new)) }
+    // Each answer is one that the store may give.
+    ensures answers { (name : Name) (reply : Reply)
+        → Contains (F.asked files.new) (name, reply) → F.may_answer files.old name reply }
+{
+    match outcome(alloc, command, main, sums, files) {
+        Ok(output) => {
+            let text = output.text.as_str().as_bytes();
+            let line = output.report.as_str().as_bytes();
+            end(out, text, report, line, output.status)
+        }
+        Err(_) => end(out, b"", report, NO_MEMORY, Status::Device),
+    }
+}

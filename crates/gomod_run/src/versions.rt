@@ -1,0 +1,246 @@
+//! The outcome of `versions`: it needs a module's list and then perhaps one go.mod, so the asks of the store are
+//! ordered here.
+
+ghost use Rattle.std.specs.Prelude.{◌≡◌, ◌⊎◌, ℕ, [], Bool, Contains, IfErr, IfOk, List, MatchOption, None, Some, false, map, true};
+ghost use Rattle.std.specs.String.{string_bytes};
+ghost use Rattle.std.specs.List.Sorted.{IsStrictlySortedBy};
+ghost use Rattle.gm_name.specs.Version.{version_cmp};
+ghost use Rattle.gm_file.specs.Views.{interval_views};
+ghost use Rattle.gm_file_retract.specs.Shown.{shown_of};
+ghost use Rattle.gm_store.specs.Asked.{Name, Reply, answer_in, mod_file, reply_of};
+ghost use Rattle.gm_graph_cache.specs.Reading.{IsContentReading, IsFileReading};
+ghost use Rattle.gm_graph_listing.specs.Outcomes.{outcome_of, printed};
+ghost use Rattle.gm_store.specs.Latest.{IsLatest};
+ghost use Rattle.gomod_run.specs.Asking.{IsLatestAsked};
+ghost use Rattle.gomod_run.specs.Listing.{IsListState};
+ghost use Rattle.gomod_run.specs.Reading.{IsListRead, class_at};
+ghost use Rattle.gomod_run.specs.Runs.{AskedInTurn, IsRunOutcome, FailsInTurn, store_state};
+ghost use Rattle.gomod_run.specs.Versions.{IsShownOutcome, IsVersionsOutcome, VersionsNeed, versions_line};
+
+use crate::asking::{ask_for, last_answer};
+use crate::report_lines::list_line;
+use gm_file::{DepFile, Interval};
+use gm_file_retract::shown_versions;
+use gm_graph_cache::{Class, Misreading};
+use gm_graph_listing::{Output, directive_place, fault_report, printed, refused, syntax_place};
+use gm_name::{KnownNames, ModPath, ModVersion, NoMemory};
+use gm_store::{Answer, FileName, Files, latest, versions_of};
+use gm_syntax::Doc;
+use std::alloc::{AllocError, Global};
+
+/// The path and the versions on one line, separated by single spaces.
+fn versions_line(
+    alloc: Global,
+    path: &ModPath,
+    versions: &[&ModVersion],
+) -> Result<String, NoMemory>
+    ensures { IfOk result (λ line. string_bytes line
+        ≡ versions_line path.now (map (λ version. version.now) versions.now)) }
+{
+    let mut line = String::from_str(alloc, path.as_str())?;
+    'versions: for version in versions {
+        line.push_str(" ")?;
+        line.push_str(version.as_str())?;
+    }
+    line.push_str("\n")?;
+    Ok(line)
+}
+
+/// The path and the versions that no interval contains, on one line. `versions` must be in ascending order, each
+/// once.
+fn shown_line(
+    alloc: Global,
+    path: &ModPath,
+    versions: &[ModVersion],
+    intervals: &[Interval],
+) -> Result<String, NoMemory>
+    requires { IsStrictlySortedBy version_cmp versions.now }
+    ensures { IfOk result (λ line. string_bytes line
+        ≡ versions_line path.now (shown_of (interval_views intervals.now) versions.now)) }
+{
+    let shown = shown_versions(alloc, versions, intervals)?;
+    versions_line(alloc, path, shown.as_slice())
+}
+
+/// The versions in a module's list, or the output that reports that there is no list or that it is too long.
+fn read_list(
+    alloc: Global,
+    path: &ModPath,
+    answer: &Answer,
+) -> Result<Result<Vec<ModVersion>, Output>, NoMemory>
+    ensures { IfOk result (IsListRead path.now (reply_of answer.now)) }
+{
+    match answer {
+        Answer::Bytes(list) => Ok(Ok(versions_of(alloc, path, list.as_slice())?)),
+        Answer::Absent => Ok(Err(refused(alloc, list_line(alloc, path, "Missing")?))),
+        Answer::TooLong => Ok(Err(refused(alloc, list_line(alloc, path, "TooLong")?))),
+    }
+}
+
+/// The class of a file with a fault at this place. Where there is no place, memory ran out.
+fn malformed(place: Option<(usize, Misreading)>) -> Result<Class, NoMemory>
+    ensures { IfOk result (λ class. class_at place ≡ Some class) }
+{
+    match place {
+        Some((line, kind)) => Ok(Class::Malformed { line, kind }),
+        None => Err(AllocError),
+    }
+}
+
+/// What the bytes of a dependency's go.mod say, or what is wrong with them.
+fn read_file(alloc: Global, file: &[u8]) -> Result<Result<DepFile, Class>, NoMemory>
+    ensures { IfOk result (IsContentReading file.now) }
+{
+    let doc = match Doc::parse(alloc, file) {
+        Ok(doc) => doc,
+        Err(fault) => return Ok(Err(malformed(syntax_place(fault))?)),
+    };
+    match DepFile::read(alloc, &mut KnownNames::new(alloc, 0), &doc) {
+        Ok(dependency) => Ok(Ok(dependency)),
+        Err(fault) => Ok(Err(malformed(directive_place(fault))?)),
+    }
+}
+
+/// What the answer for a go.mod says, or what is wrong with it. No hash is checked.
+fn read_answer(alloc: Global, answer: &Answer) -> Result<Result<DepFile, Class>, NoMemory>
+    ensures { (name : Name) → IfOk result (IsFileReading None name (reply_of answer.now)) }
+{
+    match answer {
+        Answer::Bytes(file) => read_file(alloc, file.as_slice()),
+        Answer::Absent => Ok(Err(Class::Missing)),
+        Answer::TooLong => Ok(Err(Class::TooLong)),
+    }
+}
+
+/// The outcome for listed versions, given the store's answer for the go.mod of the latest one.
+fn shown_outcome(
+    alloc: Global,
+    path: &ModPath,
+    versions: &[ModVersion],
+    latest: &ModVersion,
+    answer: &Answer,
+) -> Result<Output, NoMemory>
+    requires { IsStrictlySortedBy version_cmp versions.now }
+    ensures { IfOk result (λ output.
+        IsShownOutcome path.now versions.now latest.now (reply_of answer.now) (outcome_of output)) }
+{
+    match read_answer(alloc, answer)? {
+        Ok(dependency) => {
+            let line = shown_line(alloc, path, versions, dependency.retracts())?;
+            Ok(printed(alloc, line))
+        }
+        Err(class) => Ok(refused(alloc, fault_report(alloc, path, latest, class)?)),
+    }
+}
+
+/// Asks for the go.mod of the latest version. The result is the outcome for the listed versions, or the report that
+/// the device failed.
+fn latest_outcome<F: Files>(
+    alloc: Global,
+    path: &ModPath,
+    versions: &[ModVersion],
+    latest: &ModVersion,
+    files: &mut F,
+) -> Result<Output, NoMemory>
+    requires ascending { IsStrictlySortedBy version_cmp versions.now }
+    requires unasked { answer_in (F.asked files.old) (mod_file path.now latest.now) ≡ None }
+    ensures asked { IsLatestAsked path.now versions.now latest.now (F.may_answer files.old)
+        (store_state (F.asked files.old) (F.refused files.old))
+        (store_state (F.asked files.new) (F.refused files.new))
+        result }
+{
+    let file = FileName::Mod(path.copy(alloc)?, latest.copy(alloc)?);
+    match ask_for(alloc, files, &file)? {
+        Some(output) => Ok(output),
+        None => shown_outcome(alloc, path, versions, latest, last_answer(files)),
+    }
+}
+
+/// Asks for the list of a module. The result is the versions in it, or the output that reports why there is no list
+/// to read.
+fn listed<F: Files>(
+    alloc: Global,
+    path: &ModPath,
+    files: &mut F,
+) -> Result<Result<Vec<ModVersion>, Output>, NoMemory>
+    requires { F.asked files.old ≡ [] }
+    ensures listed { IfOk result (λ read. IfOk read (λ versions. IsListState path.now (F.may_answer files.old)
+        (store_state (F.asked files.old) (F.refused files.old))
+        (store_state (F.asked files.new) (F.refused files.new))
+        versions.items)) }
+    ensures comes { (all : Bool)
+        → IfOk result (λ read. IfErr read (λ output. IsRunOutcome
+        (VersionsNeed path.now all) (IsVersionsOutcome path.now all)
+        (store_state (F.asked files.old) (F.refused files.old))
+        (store_state (F.asked files.new) (F.refused files.new))
+        (outcome_of output))) }
+    ensures in_turn { (all : Bool) → AskedInTurn (VersionsNeed path.now all) (F.asked files.new) }
+    ensures fails { (all : Bool)
+        → FailsInTurn (VersionsNeed path.now all)
+        (store_state (F.asked files.old) (F.refused files.old))
+        (store_state (F.asked files.new) (F.refused files.new)) }
+    ensures answers { (name : Name) (reply : Reply)
+        → Contains (F.asked files.new) (name, reply) → F.may_answer files.old name reply }
+    ensures same_store { (name : Name) (reply : Reply)
+        → F.may_answer files.new name reply → F.may_answer files.old name reply }
+{
+    if !path.is_fetchable() {
+        return Ok(Err(refused(alloc, list_line(alloc, path, "NotFetchable")?)));
+    }
+    let list = FileName::List(path.copy(alloc)?);
+    match ask_for(alloc, files, &list)? {
+        Some(output) => Ok(Err(output)),
+        None => read_list(alloc, path, last_answer(files)),
+    }
+}
+
+/// The version whose go.mod is needed for its retractions: the latest, unless all versions are to be printed or
+/// there are none.
+fn asked_latest(versions: &[ModVersion], all: bool) -> Option<&ModVersion>
+    ensures { MatchOption result ((all ≡ true) ⊎ (versions.now ≡ []))
+        (λ latest. (all ≡ false) × IsLatest versions.now latest.now) }
+{
+    if all {
+        return None;
+    }
+    latest(versions)
+}
+
+/// The output that prints all listed versions.
+fn all_outcome(alloc: Global, path: &ModPath, versions: &[ModVersion]) -> Result<Output, NoMemory>
+    requires { IsStrictlySortedBy version_cmp versions.now }
+    ensures { IfOk result (λ output. outcome_of output ≡ printed (versions_line path.now versions.now)) }
+{
+    let line = shown_line(alloc, path, versions, &[])?;
+    Ok(printed(alloc, line))
+}
+
+/// The outcome of `versions` over a store that has not been asked yet. With `all`, retracted versions are printed
+/// too. The only refusal is running out of memory.
+pub(crate) fn versions_outcome<F: Files>(
+    alloc: Global,
+    path: &ModPath,
+    all: bool,
+    files: &mut F,
+) -> Result<Output, NoMemory>
+    requires { F.asked files.old ≡ [] }
+    ensures comes { IfOk result (λ output. IsRunOutcome (VersionsNeed path.now all) (IsVersionsOutcome path.now all)
+        (store_state (F.asked files.old) (F.refused files.old))
+        (store_state (F.asked files.new) (F.refused files.new))
+        (outcome_of output)) }
+    ensures in_turn { AskedInTurn (VersionsNeed path.now all) (F.asked files.new) }
+    ensures fails { FailsInTurn (VersionsNeed path.now all)
+        (store_state (F.asked files.old) (F.refused files.old))
+        (store_state (F.asked files.new) (F.refused files.new)) }
+    ensures answers { (name : Name) (reply : Reply)
+        → Contains (F.asked files.new) (name, reply) → F.may_answer files.old name reply }
+{
+    let versions = match listed(alloc, path, files)? {
+        Ok(versions) => versions,
+        Err(output) => return Ok(output),
+    };
+    match asked_latest(versions.as_slice(), all) {
+        Some(latest) => latest_outcome(alloc, path, versions.as_slice(), latest, files),
+        None => all_outcome(alloc, path, versions.as_slice()),
+    }
+}

@@ -1,0 +1,269 @@
+-- What the words of a command line mean: the table of commands that the parser is given, the command that its
+-- entries stand for, and the faults of words that have no meaning.
+use Rattle.std.specs.Prelude.{◌≡◌, ◌≢◌, ◌⊎◌, ◌||◌, not, ℕ, Bool, List, [], Option, Some, None, true, false, codes, is_some, map, option_map, unwrap_or, String}
+use Rattle.std.specs.List.{list_all}
+use Rattle.std.specs.Option.{option_map_or}
+use Rattle.std.specs.Str.{bytes_eq}
+use Rattle.std.specs.Global.{Global, Vec}
+use Rattle.std.specs.String.{string_bytes}
+use Rattle.clap.specs.Lexer.{usize_max}
+use Rattle.clap.specs.Walk.{Row, Rule, Text, all_of, first_of}
+use Rattle.clap.specs.Simple.{App, new_app, new_rule, subcommand_of, with_rule, with_subcommand}
+use Rattle.clap.specs.Faults.{fault_of}
+use Rattle.clap.specs.Kinds.{IsAmong}
+use Rattle.clap.specs.Takes.{takes}
+use Rattle.clap.specs.declared.builder.action.ArgAction.TheVariants.{SetTrue}
+use Rattle.clap.specs.declared.error.Error.{Error}
+use Rattle.clap.specs.Values.{kind_of}
+use Rattle.clap.specs.declared.error.kind.ErrorKind.{ErrorKind}
+use Rattle.clap.specs.declared.error.kind.ErrorKind.TheVariants.{DisplayHelp, OutOfMemory}
+use Rattle.gm_name.specs.Path.{IsPath}
+use Rattle.gm_store.specs.Proxies.{folders_in, folders_of, is_folder, marks_in, marks_of}
+use Rattle.gm_store.specs.declared.proxy_list.ProxyList.{ProxyList}
+use Rattle.gomod_words.specs.Limits.{limit_of}
+use Rattle.gomod_words.specs.declared.usage.Command.{Command}
+use Rattle.gomod_words.specs.declared.usage.Command.TheVariants.{Versions, Fmt, Edit, Graph, List as Rows, Chain}
+use Rattle.gomod_words.specs.declared.usage.Places.{Places}
+use Rattle.gomod_words.specs.declared.usage.UsageFault.{UsageFault}
+use Rattle.gomod_words.specs.declared.usage.UsageFault.TheVariants.{NoMemory, Help, Line, BadPath, BadProxy}
+
+-- a positional argument of this name, which must be given
+abbrev pub positional_rule : Text → Rule
+positional_rule name = record (new_rule name) { required = true; value_names = 1 }
+
+-- `fmt FILE`
+abbrev pub fmt_app : App
+fmt_app = with_rule (new_app (codes "fmt")) (positional_rule (codes "file"))
+
+-- a positional argument of this name, which must be given once or more
+abbrev pub repeated_positional_rule : Text → Rule
+repeated_positional_rule name =
+    record (positional_rule name) { range = Some (record { start_inclusive = 1; end_inclusive = usize_max }) }
+
+-- `edit FILE OP..`
+abbrev pub edit_app : App
+edit_app =
+    with_rule (with_rule (new_app (codes "edit")) (positional_rule (codes "file")))
+    (repeated_positional_rule (codes "op"))
+
+-- an option `--NAME VALUE`, which may be left out
+abbrev pub option_rule : Text → Rule
+option_rule name = record (new_rule name) { long = Some name; value_names = 1 }
+
+-- a flag `--NAME`
+abbrev pub flag_rule : Text → Rule
+flag_rule name = record (new_rule name) { long = Some name; action = Some SetTrue }
+
+-- `versions PATH --proxy DIR --retracted`
+abbrev pub versions_app : App
+versions_app =
+    with_rule (with_rule (with_rule (new_app (codes "versions")) (positional_rule (codes "path")))
+    (option_rule (codes "proxy"))) (flag_rule (codes "retracted"))
+
+-- an option `--NAME VALUE`, which must be given
+abbrev pub required_option_rule : Text → Rule
+required_option_rule name = record (new_rule name) { long = Some name; required = true; value_names = 1 }
+
+-- a command over a module graph: `NAME --proxy DIR --mod FILE --sum FILE`
+abbrev pub query_app : Text → App
+query_app name =
+    with_rule (with_rule (with_rule (new_app name) (required_option_rule (codes "proxy")))
+    (option_rule (codes "mod"))) (option_rule (codes "sum"))
+
+-- `graph`
+abbrev pub graph_app : App
+graph_app = query_app (codes "graph")
+
+-- `list --after PATH --limit N`
+abbrev pub list_app : App
+list_app = with_rule (with_rule (query_app (codes "list")) (option_rule (codes "after"))) (option_rule (codes "limit"))
+
+-- `chain PATH`
+abbrev pub chain_app : App
+chain_app = with_rule (query_app (codes "chain")) (positional_rule (codes "path"))
+
+-- `gomod`, which requires a command, before its commands are added
+abbrev pub bare_gomod : App
+bare_gomod = let app = new_app (codes "gomod") in record app { top = record app.top { subcommand_required = true } }
+
+-- `gomod` with its commands
+abbrev pub gomod_app : App
+gomod_app =
+    with_subcommand (with_subcommand (with_subcommand (with_subcommand
+    (with_subcommand (with_subcommand bare_gomod fmt_app.top) edit_app.top)
+    graph_app.top) list_app.top) chain_app.top) versions_app.top
+
+-- whether a flag is given
+abbrev pub is_given : Text → List Row → Bool
+is_given flag rows = option_map_or (λ value. bytes_eq value (codes "true")) (first_of flag rows) false
+
+-- the text is a valid list of proxy folders
+abbrev pub is_proxy : Text → Bool
+is_proxy value = list_all is_folder (folders_of value)
+
+-- the folders and marks that the value of `--proxy` names, or `None` if it is not given
+abbrev pub IsProxy : Option Text → Option ProxyList → Type 0
+IsProxy None None = Unit {0}
+IsProxy None (Some list) = ⊥
+IsProxy (Some value) None = ⊥
+IsProxy (Some value) (Some list) =
+    (is_proxy value ≡ true) × (folders_in list ≡ folders_of value) × (marks_in list ≡ marks_of value)
+
+-- The places of a command over a module graph: the proxy folders, which must be given; the main file, which
+-- is `go.mod` if `--mod` is not given; and the go.sum, which is `None` if `--sum` is not given.
+abbrev pub ArePlaces : List Row → Places → Type 0
+ArePlaces rows places =
+    IsProxy (first_of (codes "proxy") rows) places.proxy × (is_some places.proxy ≡ true)
+    × (string_bytes places.main ≡ unwrap_or (first_of (codes "mod") rows) (codes "go.mod"))
+    × (option_map string_bytes places.sums ≡ first_of (codes "sum") rows)
+
+-- the number of rows that the value of `--limit` stands for, or `None` if it is not given
+abbrev pub IsLimit : Option Text → Option ℕ → Type 0
+IsLimit None limit = limit ≡ None
+IsLimit (Some text) limit = (limit_of text ≡ limit) × (is_some limit ≡ true)
+
+-- the value of `--limit` is a valid number of rows, or is not given
+abbrev pub has_limit : Option Text → Bool
+has_limit value = option_map_or (λ text. is_some (limit_of text)) value true
+
+-- the texts of a list of strings, in order
+abbrev pub texts_in : Vec (String Global) → List Text
+texts_in texts = map string_bytes texts.items
+
+-- The command and the places that a command's name and its entries stand for. All versions are asked for if
+-- `--retracted` is given or if there is no proxy.
+abbrev pub Means : Text → List Row → Command → Places → Type 0
+Means name rows (Versions path all) places =
+    (name ≡ codes "versions") × (first_of (codes "path") rows ≡ Some path)
+    × IsProxy (first_of (codes "proxy") rows) places.proxy
+    × (all ≡ (is_given (codes "retracted") rows || not (is_some places.proxy)))
+    × (string_bytes places.main ≡ codes "go.mod") × (places.sums ≡ None)
+Means name rows Fmt places =
+    (name ≡ codes "fmt") × (first_of (codes "file") rows ≡ Some (string_bytes places.main))
+    × (places.proxy ≡ None) × (places.sums ≡ None)
+Means name rows (Edit operations) places =
+    (name ≡ codes "edit") × (first_of (codes "file") rows ≡ Some (string_bytes places.main))
+    × (all_of (codes "op") rows ≡ Some (texts_in operations)) × (places.proxy ≡ None) × (places.sums ≡ None)
+Means name rows Graph places = (name ≡ codes "graph") × ArePlaces rows places
+Means name rows (Rows after limit) places =
+    (name ≡ codes "list") × (first_of (codes "after") rows ≡ after)
+    × IsLimit (first_of (codes "limit") rows) limit × ArePlaces rows places
+Means name rows (Chain path) places =
+    (name ≡ codes "chain") × (first_of (codes "path") rows ≡ Some path) × ArePlaces rows places
+
+-- what the parser's entries stand for, if there is a command
+abbrev pub IsMeant : Option (Text × List Row) → Command → Places → Type 0
+IsMeant None command places = ⊥
+IsMeant (Some entered) command places = Means entered.0 entered.1 command places
+
+-- the parser finds nothing wrong with the words
+abbrev pub AreAccepted : List Text → Type 0
+AreAccepted words = fault_of gomod_app words ≡ []
+
+-- the parser finds something wrong with the words, other than that help is asked for
+abbrev pub AreRefused : List Text → Type 0
+AreRefused words =
+    (takes gomod_app words ≡ true → ⊥)
+    × (kind : ErrorKind) × (kind ≢ DisplayHelp) × IsAmong kind (fault_of gomod_app words)
+
+-- The words ask for this command with these places: the parser accepts them, and its entries for them have
+-- this meaning.
+pub record AskFor (words : List Text) (command : Command) (places : Places) : Type 0 where
+  pub taken : AreAccepted words
+  pub meant : IsMeant (subcommand_of gomod_app words) command places
+
+-- The text in a position that requires a path: PATH of `versions` and of `chain`, and the value of `--after`
+-- of `list`, whose `--limit` is checked first.
+abbrev pub IsPathText : Text → List Row → Text → Type 0
+IsPathText name rows text =
+    (((name ≡ codes "versions") ⊎ (name ≡ codes "chain")) × (first_of (codes "path") rows ≡ Some text))
+    ⊎ ((name ≡ codes "list") × (has_limit (first_of (codes "limit") rows) ≡ true)
+    × (first_of (codes "after") rows ≡ Some text))
+
+-- everything that is checked before the value of `--proxy` is valid
+abbrev pub IsValidBeforeProxy : Text → List Row → Type 0
+IsValidBeforeProxy name rows =
+    ((path : Text) × IsPathText name rows path × IsPath path)
+    ⊎ (name ≡ codes "graph")
+    ⊎ ((name ≡ codes "list") × (has_limit (first_of (codes "limit") rows) ≡ true)
+    × (first_of (codes "after") rows ≡ None))
+
+-- the text in a position that requires a path is not a path
+abbrev pub HasBadPath : Option (Text × List Row) → Text → Type 0
+HasBadPath None text = ⊥
+HasBadPath (Some entered) text = IsPathText entered.0 entered.1 text × ¬ (IsPath text)
+
+-- everything that is checked before it is valid, but the value of `--proxy` is not a valid list of folders
+abbrev pub HasBadProxy : Option (Text × List Row) → Text → Type 0
+HasBadProxy None text = ⊥
+HasBadProxy (Some entered) text = IsValidBeforeProxy entered.0 entered.1
+    × (first_of (codes "proxy") entered.1 ≡ Some text) × (is_proxy text ≡ false)
+
+-- The entries stand for a command and its places, or they have an invalid path or an invalid value of
+-- `--proxy`.
+abbrev pub AreRecognized : Option (Text × List Row) → Type 0
+AreRecognized entered = ((command : Command) × (places : Places) × IsMeant entered command places)
+    ⊎ ((text : Text) × HasBadPath entered text) ⊎ ((text : Text) × HasBadProxy entered text)
+
+-- what a fault says about the entries
+abbrev pub IsEntriesFault : Option (Text × List Row) → UsageFault → Type 0
+IsEntriesFault entered NoMemory = Unit {0}
+IsEntriesFault entered (Help text) = ⊥
+IsEntriesFault entered (Line text) = ¬ (AreRecognized entered)
+IsEntriesFault entered (BadPath text) = HasBadPath entered (string_bytes text)
+IsEntriesFault entered (BadProxy text) = HasBadProxy entered (string_bytes text)
+
+-- What a fault says about the words: help is asked for; or the parser refuses them for another reason; or it
+-- accepts them, but its entries stand for no command, the path is invalid, or the value of `--proxy` is
+-- invalid.
+abbrev pub IsFaultOf : List Text → UsageFault → Type 0
+IsFaultOf words NoMemory = Unit {0}
+IsFaultOf words (Help text) = IsAmong DisplayHelp (fault_of gomod_app words) × (takes gomod_app words ≡ true → ⊥)
+IsFaultOf words (Line text) =
+    AreRefused words ⊎ (AreAccepted words × ¬ (AreRecognized (subcommand_of gomod_app words)))
+IsFaultOf words (BadPath text) = AreAccepted words × HasBadPath (subcommand_of gomod_app words) (string_bytes text)
+IsFaultOf words (BadProxy text) = AreAccepted words × HasBadProxy (subcommand_of gomod_app words) (string_bytes text)
+
+-- the fault that a parser's error stands for
+abbrev pub IsParserFault : Error → UsageFault → Type 0
+IsParserFault error NoMemory = Unit {0}
+IsParserFault error (Help text) = kind_of error ≡ DisplayHelp
+IsParserFault error (Line text) = (kind_of error ≢ DisplayHelp) × (kind_of error ≢ OutOfMemory)
+IsParserFault error (BadPath text) = ⊥
+IsParserFault error (BadProxy text) = ⊥
+
+-- the text is not a path, or memory ran out
+abbrev pub IsPathFault : Text → UsageFault → Type 0
+IsPathFault path NoMemory = Unit {0}
+IsPathFault path (BadPath text) = (string_bytes text ≡ path) × ¬ (IsPath path)
+IsPathFault path _ = ⊥
+
+-- the value is not a valid list of folders, or memory ran out
+abbrev pub IsProxyFault : Option Text → UsageFault → Type 0
+IsProxyFault value NoMemory = Unit {0}
+IsProxyFault value (BadProxy text) = (value ≡ Some (string_bytes text)) × (is_proxy (string_bytes text) ≡ false)
+IsProxyFault value _ = ⊥
+
+-- the value is missing although it must be given, or it is not a valid list of folders, or memory ran out
+abbrev pub IsPlacesFault : Option Text → UsageFault → Type 0
+IsPlacesFault value NoMemory = Unit {0}
+IsPlacesFault value (Line text) = value ≡ None
+IsPlacesFault value (BadProxy text) = (value ≡ Some (string_bytes text)) × (is_proxy (string_bytes text) ≡ false)
+IsPlacesFault value _ = ⊥
+
+-- the value is given and is not a path, or memory ran out
+abbrev pub IsAfterFault : Option Text → UsageFault → Type 0
+IsAfterFault None fault = fault ≡ NoMemory
+IsAfterFault (Some text) fault = IsPathFault text fault
+
+-- the value is not a valid number of rows, or memory ran out
+abbrev pub IsLimitFault : Option Text → UsageFault → Type 0
+IsLimitFault value NoMemory = Unit {0}
+IsLimitFault value (Line text) = has_limit value ≡ false
+IsLimitFault value _ = ⊥
+
+-- the fault is `Line` or `NoMemory`
+abbrev pub is_line_or_memory : UsageFault → Bool
+is_line_or_memory (Line text) = true
+is_line_or_memory NoMemory = true
+is_line_or_memory fault = false

@@ -1,0 +1,173 @@
+//! The meaning of the words of `graph`, `list` and `chain`. The three share the options that say where the
+//! module graph comes from, so these are read in one place.
+
+ghost use Rattle.std.specs.Prelude.{◌≡◌, IfErr, IfOk, IfSome, Some, codes, option_map, true, unwrap_or};
+ghost use Rattle.std.specs.Char.{is_ascii_digit};
+ghost use Rattle.std.specs.List.{list_all};
+ghost use Rattle.std.specs.String.{string_bytes};
+ghost use Rattle.clap.specs.Words.{first_of, found_of, rows_of};
+ghost use Rattle.gm_name.specs.Path.{IsPath};
+ghost use Rattle.gomod_words.specs.Limits.{limit_of};
+ghost use Rattle.gomod_words.specs.Usage.{ArePlaces, IsAfterFault, IsEntriesFault, IsLimit, IsLimitFault, IsPlacesFault, IsProxy, Means, is_line_or_memory};
+
+use crate::usage::{Command, Places, UsageFault, line, read_path, read_proxy, value_of};
+use clap::ArgMatches;
+use gm_name::ModPath;
+use gm_store::ProxyList;
+use std::alloc::{AllocError, Global};
+
+/// Whether a text consists of ASCII digits. True of the empty text.
+fn has_only_digits(text: &[u8]) -> bool
+    ensures { result ≡ list_all is_ascii_digit text.now }
+{
+    text.iter().all(|b| b.is_ascii_digit())
+}
+
+/// The number of rows that a text stands for, or `None` if it is not one or more ASCII digits that form a
+/// number from 1 to 4,294,967,295.
+fn limit_in(text: &str) -> Option<u32>
+    ensures { result ≡ limit_of text.now }
+{
+    // `parse` also accepts a sign, which a limit must not have.
+    if !has_only_digits(text.as_bytes()) {
+        return None;
+    }
+    match text.parse::<u32>() {
+        Ok(number) => { if number > 0 { Some(number) } else { None } }
+        Err(_) => None,
+    }
+}
+
+/// The fault for a value of `--limit` that is not a valid number of rows.
+fn bad_limit(alloc: Global, text: &str) -> UsageFault
+    ensures { is_line_or_memory result ≡ true }
+{
+    match format!(in alloc;
+        "error: invalid value '{text}' for '--limit <N>': not a number from 1 to 4294967295\n\nFor more information, try '--help'.\n"
+    ) {
+        Ok(text) => UsageFault::Line(text),
+        Err(_) => UsageFault::NoMemory,
+    }
+}
+
+/// The number of rows that `--limit` asks for, or `None` if the option is not given. An invalid number is
+/// refused with `Line`.
+fn limit_given<'a>(alloc: Global, found: &ArgMatches<'a>) -> Result<Option<u32>, UsageFault>
+    ensures limit { IfOk result (IsLimit (first_of (codes "limit") (rows_of (found_of found.now)))) }
+    ensures fault { IfErr result (IsLimitFault (first_of (codes "limit") (rows_of (found_of found.now)))) }
+{
+    let Some(text) = value_of(found, "limit") else {
+        return Ok(None);
+    };
+    match limit_in(text) {
+        Some(limit) => Ok(Some(limit)),
+        None => Err(bad_limit(alloc, text)),
+    }
+}
+
+/// The path that `--after` names, or `None` if the option is not given. An invalid path is refused with
+/// `BadPath`.
+fn after_given<'a>(alloc: Global, found: &ArgMatches<'a>) -> Result<Option<ModPath>, UsageFault>
+    ensures after { IfOk result (λ after. (first_of (codes "after") (rows_of (found_of found.now)) ≡ after)
+        × IfSome after IsPath) }
+    ensures fault { IfErr result (IsAfterFault (first_of (codes "after") (rows_of (found_of found.now)))) }
+{
+    match value_of(found, "after") {
+        Some(text) => Ok(Some(read_path(alloc, text)?)),
+        None => Ok(None),
+    }
+}
+
+/// The proxy folders, which must be given. Their absence is refused with `Line`, an invalid value with
+/// `BadProxy`.
+fn proxy_given<'a>(alloc: Global, found: &ArgMatches<'a>) -> Result<ProxyList, UsageFault>
+    ensures proxy { IfOk result (λ list.
+        IsProxy (first_of (codes "proxy") (rows_of (found_of found.now))) (Some list)) }
+    ensures fault { IfErr result (IsPlacesFault (first_of (codes "proxy") (rows_of (found_of found.now)))) }
+{
+    match value_of(found, "proxy") {
+        Some(value) => read_proxy(alloc, value),
+        None => Err(line(alloc, "no DIR")),
+    }
+}
+
+/// The name of the main file: that of `--mod`, or `go.mod`.
+fn main_given<'a>(alloc: Global, found: &ArgMatches<'a>) -> Result<String, AllocError>
+    ensures { IfOk result (λ main. string_bytes main
+        ≡ unwrap_or (first_of (codes "mod") (rows_of (found_of found.now))) (codes "go.mod")) }
+{
+    match value_of(found, "mod") {
+        Some(name) => String::from_str(alloc, name),
+        None => String::from_str(alloc, "go.mod"),
+    }
+}
+
+/// The name of the go.sum, or `None` if `--sum` is not given.
+fn sums_given<'a>(alloc: Global, found: &ArgMatches<'a>) -> Result<Option<String>, AllocError>
+    ensures { IfOk result (λ sums. option_map string_bytes sums
+        ≡ first_of (codes "sum") (rows_of (found_of found.now))) }
+{
+    match value_of(found, "sum") {
+        Some(name) => Ok(Some(String::from_str(alloc, name)?)),
+        None => Ok(None),
+    }
+}
+
+/// The files and folders of a command over a module graph.
+fn read_places<'a>(alloc: Global, found: &ArgMatches<'a>) -> Result<Places, UsageFault>
+    ensures places { IfOk result (ArePlaces (rows_of (found_of found.now))) }
+    ensures fault { IfErr result (IsPlacesFault (first_of (codes "proxy") (rows_of (found_of found.now)))) }
+{
+    let proxy = proxy_given(alloc, found)?;
+    let main = main_given(alloc, found)?;
+    let sums = sums_given(alloc, found)?;
+    Ok(Places {
+        main,
+        proxy: Some(proxy),
+        sums,
+    })
+}
+
+/// The command and the places that the words of `graph` stand for.
+pub(crate) fn read_graph<'a>(
+    alloc: Global,
+    found: &ArgMatches<'a>,
+) -> Result<(Command, Places), UsageFault>
+    ensures read { IfOk result (λ read. Means (codes "graph") (rows_of (found_of found.now)) read.0 read.1) }
+    ensures fault { IfErr result (IsEntriesFault (Some (codes "graph", rows_of (found_of found.now)))) }
+{
+    let places = read_places(alloc, found)?;
+    Ok((Command::Graph, places))
+}
+
+/// The command and the places that the words of `list` stand for. `--limit` is checked first, then `--after`,
+/// then `--proxy`.
+#[tactic(auto, using(crate::proofs::Queries::list_places_fault))]
+pub(crate) fn read_list<'a>(
+    alloc: Global,
+    found: &ArgMatches<'a>,
+) -> Result<(Command, Places), UsageFault>
+    ensures read { IfOk result (λ read. Means (codes "list") (rows_of (found_of found.now)) read.0 read.1) }
+    ensures fault { IfErr result (IsEntriesFault (Some (codes "list", rows_of (found_of found.now)))) }
+{
+    let limit = limit_given(alloc, found)?;
+    let after = after_given(alloc, found)?;
+    let places = read_places(alloc, found)?;
+    Ok((Command::List { after, limit }, places))
+}
+
+/// The command and the places that the words of `chain` stand for. PATH is checked first, then `--proxy`.
+pub(crate) fn read_chain<'a>(
+    alloc: Global,
+    found: &ArgMatches<'a>,
+) -> Result<(Command, Places), UsageFault>
+    ensures read { IfOk result (λ read. Means (codes "chain") (rows_of (found_of found.now)) read.0 read.1) }
+    ensures fault { IfErr result (IsEntriesFault (Some (codes "chain", rows_of (found_of found.now)))) }
+{
+    let Some(text) = value_of(found, "path") else {
+        return Err(line(alloc, "no PATH"));
+    };
+    let path = read_path(alloc, text)?;
+    let places = read_places(alloc, found)?;
+    Ok((Command::Chain(path), places))
+}

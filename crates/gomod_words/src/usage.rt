@@ -1,0 +1,295 @@
+//! The meaning of the words of a command line, and the faults of words that have none.
+
+ghost use Rattle.std.specs.Prelude.{◌≡◌, IfErr, IfOk, Some, codes, map, true};
+ghost use Rattle.std.specs.Option.{option_map};
+ghost use Rattle.clap.specs.Words.{all_of, first_of, found_of, rows_of, subcommand_rows_of};
+ghost use Rattle.gomod_words.specs.Usage.{AskFor, IsEntriesFault, IsFaultOf, IsMeant, IsParserFault, IsPathFault, IsProxy, IsProxyFault, Means, is_given, is_line_or_memory, texts_in};
+ghost use Rattle.gm_name.specs.Path.{IsPath};
+ghost use Rattle.gomod_words.specs.declared.usage.UsageFault.TheVariants.{NoMemory};
+
+use crate::command::gomod_command;
+use crate::query::{read_chain, read_graph, read_list};
+use clap::ArgMatches;
+use clap::error::ErrorKind;
+use gm_name::{ModPath, PathFault};
+use gm_store::{ProxyFault, ProxyList};
+use std::alloc::{AllocError, Global};
+use thiserror::Error;
+
+/// What the program is asked to do.
+#[derive(Debug, Drop)]
+pub enum Command {
+    /// `fmt FILE`: print the layout of a go.mod file.
+    Fmt,
+    /// `edit FILE OP..`: apply the operations that these texts describe to a go.mod file, in their order, and
+    /// print the layout of the result. When the command comes from a command line, there is at least one.
+    Edit(Vec<String>),
+    /// `versions PATH`: print the versions of a module in ascending order.
+    Versions {
+        /// The path of the module.
+        path: ModPath,
+        /// Whether to print also the versions that the go.mod file of the latest version retracts.
+        all: bool,
+    },
+    /// `graph`: print the edges of the module graph.
+    Graph,
+    /// `list`: print the build list.
+    List {
+        /// Print only the rows after the row of this path, or all rows if `None`.
+        after: Option<ModPath>,
+        /// Print at most this many rows, or all if `None`. At least 1 when the command comes from a command
+        /// line.
+        limit: Option<u32>,
+    },
+    /// `chain PATH`: print a shortest chain of requirements to the build list's entry for a path.
+    Chain(ModPath),
+}
+
+/// The files and folders that the words name.
+#[derive(Debug, Drop)]
+pub struct Places {
+    /// The name of the main file: `go.mod` unless the words name another.
+    pub main: String,
+    /// The proxy folders, or `None` if the words name none.
+    pub proxy: Option<ProxyList>,
+    /// The name of the go.sum, or `None` if the words name none.
+    pub sums: Option<String>,
+}
+
+/// Why words don't ask for anything that the program does.
+#[derive(Debug, Drop, Error)]
+pub enum UsageFault {
+    /// Memory ran out.
+    #[error("no memory")]
+    NoMemory,
+    /// Help was asked for. This is its text.
+    #[error("{0}")]
+    Help(String),
+    /// The words are not a valid command line. This text says what is wrong with them.
+    #[error("{0}")]
+    Line(String),
+    /// This word is not a module path, and one is required in its position.
+    #[error("bad path {0}")]
+    BadPath(String),
+    /// This value of `--proxy` is not a valid list of folders.
+    #[error("bad proxy {0}")]
+    BadProxy(String),
+}
+
+/// The refusal to allocate, as a fault, so that `?` can pass it on.
+impl From<AllocError> for UsageFault {
+    ghost from_gives = { λ _ fault. fault ≡ NoMemory };
+
+    /// `NoMemory`, the only thing that the error can mean.
+    fn from(_error: AllocError) -> UsageFault {
+        UsageFault::NoMemory
+    }
+}
+
+/// Reads the words of a command line, the first of which is the program's name. Gives the command and the
+/// files and folders that it works on.
+///
+/// The refusals:
+///
+/// - `Help` if help is asked for, by `help` as the first word, or by `-h` or `--help`, including after a
+///   command. It holds the help text.
+/// - `Line` if the words do not match any command, or a command has too few or too many words. It holds the
+///   parser's message. It also comes if the value of `--limit` is not one or more ASCII digits that form a
+///   number from 1 to 4,294,967,295.
+/// - `BadPath` if all of that is valid, but PATH of `versions` or `chain`, or the value of `--after` of
+///   `list`, is not a module path. It holds that text.
+/// - `BadProxy` if all of that is valid, but the value of `--proxy` has an empty piece between its `,` and
+///   `|`, or a piece that is `direct` or `off`. It holds that value.
+/// - `NoMemory` if memory runs out, which can happen in place of any result.
+///
+/// `versions` prints all versions if `--retracted` is given or `--proxy` is not. `graph`, `list` and `chain`
+/// require `--proxy`. Their main file is that of `--mod`, or `go.mod` by default, and their go.sum is that of
+/// `--sum`, or none.
+pub fn read_words<'a>(alloc: Global, words: &'a [&'a str]) -> Result<(Command, Places), UsageFault>
+    ensures read { IfOk result (λ read. AskFor (map (λ word. word.now) words.entry.now) read.0 read.1) }
+    ensures fault { IfErr result (IsFaultOf (map (λ word. word.now) words.entry.now)) }
+{
+    let command = gomod_command(alloc)?;
+    match command.try_get_matches_from(words) {
+        Ok(matches) => read_matches(alloc, &matches),
+        Err(error) => Err(fault_of(alloc, &error)),
+    }
+}
+
+/// The fault that a parser's error stands for. The error must be turned into text here, so memory can run
+/// out.
+fn fault_of(alloc: Global, error: &clap::Error) -> UsageFault
+    ensures { IsParserFault error.now result }
+{
+    let kind = error.kind();
+    if matches!(kind, ErrorKind::OutOfMemory) {
+        return UsageFault::NoMemory;
+    }
+    let Ok(text) = error.to_string(alloc) else {
+        return UsageFault::NoMemory;
+    };
+    if matches!(kind, ErrorKind::DisplayHelp) {
+        UsageFault::Help(text)
+    } else {
+        UsageFault::Line(text)
+    }
+}
+
+/// What the matches of a parse mean, by the name of the command. The parser accepts no other command, but its
+/// types can't say so, and therefore an unknown one is refused with `Line`.
+fn read_matches<'a>(
+    alloc: Global,
+    matches: &ArgMatches<'a>,
+) -> Result<(Command, Places), UsageFault>
+    ensures read { IfOk result (λ read. IsMeant (subcommand_rows_of matches.now) read.0 read.1) }
+    ensures fault { IfErr result (IsEntriesFault (subcommand_rows_of matches.now)) }
+{
+    match matches.subcommand() {
+        Some(("fmt", found)) => read_fmt(alloc, found),
+        Some(("edit", found)) => read_edit(alloc, found),
+        Some(("versions", found)) => read_versions(alloc, found),
+        Some(("graph", found)) => read_graph(alloc, found),
+        Some(("list", found)) => read_list(alloc, found),
+        Some(("chain", found)) => read_chain(alloc, found),
+        _ => Err(line(alloc, "no command")),
+    }
+}
+
+/// The first value of an argument, or `None` if the argument is not given.
+pub(crate) fn value_of<'a>(found: &ArgMatches<'a>, id: &str) -> Option<&'a str>
+    ensures { option_map (λ text. text.now) result ≡ first_of id.now (rows_of (found_of found.now)) }
+{
+    found.get_str(id)
+}
+
+/// All values of an argument, or `None` if the argument is not given.
+fn values_of<'a, 'f>(found: &'f ArgMatches<'a>, id: &str) -> Option<&'f [&'a str]>
+    ensures { option_map (λ words. map (λ word. word.now) words.now) result
+        ≡ all_of id.now (rows_of (found_of found.now)) }
+{
+    found.get_strs(id)
+}
+
+/// Whether a flag is given. The parser represents a flag by the value `true` or `false`.
+fn is_given<'a>(found: &ArgMatches<'a>, flag: &str) -> bool
+    ensures { result ≡ is_given flag.now (rows_of (found_of found.now)) }
+{
+    match value_of(found, flag) {
+        Some(value) => value == "true",
+        None => false,
+    }
+}
+
+/// The module path that a word is. An invalid path is refused with `BadPath`.
+pub(crate) fn read_path(alloc: Global, text: &str) -> Result<ModPath, UsageFault>
+    ensures path { IfOk result (λ path. (path ≡ text.now) × IsPath text.now) }
+    ensures fault { IfErr result (IsPathFault text.now) }
+{
+    match ModPath::parse(alloc, text) {
+        Ok(path) => Ok(path),
+        Err(PathFault::BadPath) => Err(UsageFault::BadPath(String::from_str(alloc, text)?)),
+        Err(PathFault::NoMemory) => Err(UsageFault::NoMemory),
+    }
+}
+
+/// The proxy folders that a value names. An invalid value is refused with `BadProxy`.
+pub(crate) fn read_proxy(alloc: Global, value: &str) -> Result<ProxyList, UsageFault>
+    ensures proxy { IfOk result (λ list. IsProxy (Some value.now) (Some list)) }
+    ensures fault { IfErr result (IsProxyFault (Some value.now)) }
+{
+    match ProxyList::read(alloc, value) {
+        Ok(list) => Ok(list),
+        Err(ProxyFault::BadProxy) => Err(UsageFault::BadProxy(String::from_str(alloc, value)?)),
+        Err(ProxyFault::NoMemory) => Err(UsageFault::NoMemory),
+    }
+}
+
+/// The proxy folders that `--proxy` names, or `None` if the option is not given. An invalid value is refused
+/// with `BadProxy`.
+fn proxy_of<'a>(alloc: Global, found: &ArgMatches<'a>) -> Result<Option<ProxyList>, UsageFault>
+    ensures proxy { IfOk result (IsProxy (first_of (codes "proxy") (rows_of (found_of found.now)))) }
+    ensures fault { IfErr result (IsProxyFault (first_of (codes "proxy") (rows_of (found_of found.now)))) }
+{
+    match value_of(found, "proxy") {
+        Some(value) => Ok(Some(read_proxy(alloc, value)?)),
+        None => Ok(None),
+    }
+}
+
+/// The command and the places that the words of `fmt` stand for.
+fn read_fmt<'a>(alloc: Global, found: &ArgMatches<'a>) -> Result<(Command, Places), UsageFault>
+    ensures read { IfOk result (λ read. Means (codes "fmt") (rows_of (found_of found.now)) read.0 read.1) }
+    ensures fault { IfErr result (IsEntriesFault (Some (codes "fmt", rows_of (found_of found.now)))) }
+{
+    let Some(file) = value_of(found, "file") else {
+        return Err(line(alloc, "no FILE"));
+    };
+    let places = Places {
+        main: String::from_str(alloc, file)?,
+        proxy: None,
+        sums: None,
+    };
+    Ok((Command::Fmt, places))
+}
+
+/// Copies the words into texts that outlive the command line.
+fn copied(alloc: Global, words: &[&str]) -> Result<Vec<String>, AllocError>
+    ensures { IfOk result (λ texts. texts_in texts ≡ map (λ word. word.now) words.now) }
+{
+    let mut texts = Vec::new(alloc);
+    for word in words {
+        texts.push(String::from_str(alloc, word)?)?;
+    }
+    Ok(texts)
+}
+
+/// The command and the places that the words of `edit` stand for. The operations are not parsed here.
+fn read_edit<'a>(alloc: Global, found: &ArgMatches<'a>) -> Result<(Command, Places), UsageFault>
+    ensures read { IfOk result (λ read. Means (codes "edit") (rows_of (found_of found.now)) read.0 read.1) }
+    ensures fault { IfErr result (IsEntriesFault (Some (codes "edit", rows_of (found_of found.now)))) }
+{
+    let Some(file) = value_of(found, "file") else {
+        return Err(line(alloc, "no FILE"));
+    };
+    let Some(operations) = values_of(found, "op") else {
+        return Err(line(alloc, "no OP"));
+    };
+    let operations = copied(alloc, operations)?;
+    let main = String::from_str(alloc, file)?;
+    let places = Places {
+        main,
+        proxy: None,
+        sums: None,
+    };
+    Ok((Command::Edit(operations), places))
+}
+
+/// The command and the places that the words of `versions` stand for. Without `--proxy` all versions are
+/// asked for: there is no file that could retract any.
+fn read_versions<'a>(alloc: Global, found: &ArgMatches<'a>) -> Result<(Command, Places), UsageFault>
+    ensures read { IfOk result (λ read. Means (codes "versions") (rows_of (found_of found.now)) read.0 read.1) }
+    ensures fault { IfErr result (IsEntriesFault (Some (codes "versions", rows_of (found_of found.now)))) }
+{
+    let Some(text) = value_of(found, "path") else {
+        return Err(line(alloc, "no PATH"));
+    };
+    let path = read_path(alloc, text)?;
+    let proxy = proxy_of(alloc, found)?;
+    let all = is_given(found, "retracted") || proxy.is_none();
+    let places = Places {
+        main: String::from_str(alloc, "go.mod")?,
+        proxy,
+        sums: None,
+    };
+    Ok((Command::Versions { path, all }, places))
+}
+
+/// The fault for words that lack something. `lack` names it, such as `no PATH`.
+pub(crate) fn line(alloc: Global, lack: &str) -> UsageFault
+    ensures { is_line_or_memory result ≡ true }
+{
+    match format!(in alloc; "error: {lack} given\n\nFor more information, try '--help'.\n") {
+        Ok(text) => UsageFault::Line(text),
+        Err(_) => UsageFault::NoMemory,
+    }
+}
