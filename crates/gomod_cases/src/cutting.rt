@@ -21,9 +21,11 @@ const AMPLE: Room = Room {
 pub(crate) struct Cut<'a> {
     pub(crate) name: &'a str,
     pub(crate) bytes: &'a [u8],
+    /// Whether the real file is cut off too, and not only the file in memory.
+    pub(crate) is_real: bool,
 }
 
-/// Runs the commands of a case over real files of which one is cut off, and over the same files in memory. Both must
+/// Runs the commands of a case in memory over files of which one is cut off, and over the same real files. Both must
 /// have the same result, a command that fails writes nothing but its report, and where `fmt` refuses a main file each
 /// command over it reports the same.
 pub(crate) fn check_cut(
@@ -42,26 +44,55 @@ pub(crate) fn check_cut(
         if !run.is_command_line() {
             continue;
         }
-        let real = workspace.outcome(run, AMPLE)?;
-        // an invalid go.sum is reported before an invalid main file
-        let fault = match &layout {
-            Some(layout) if run.status != DEVICE && reads_main(run, cut.name) => {
-                differs(layout, &real.outcome)
+        let found = found_in_memory(alloc, &view, run)?;
+        if let Some(found) = &found {
+            if let Some(fault) = unsound(run, cut, &layout, found) {
+                return report_cut(run, cut, fault, found, differences);
             }
-            _ => None,
-        };
-        let fault = match fault {
-            Some(fault) => Some(fault),
-            None => unsound(alloc, &view, run, &real.outcome)?,
+        }
+        if !cut.is_real {
+            continue;
+        }
+        let real = workspace.outcome(run, AMPLE)?.outcome;
+        let fault = match &found {
+            Some(found) if found.is_same(&real) => None,
+            Some(_) => Some("otherwise than in memory"),
+            None => unsound(run, cut, &layout, &real),
         };
         if let Some(fault) = fault {
-            differences.command(run, fault)?;
-            differences.line(cut.name)?;
-            differences.number("  cut off after so many bytes", cut.bytes.len())?;
-            return Ok(differences.outcome(&real.outcome)?);
+            return report_cut(run, cut, fault, &real, differences);
         }
     }
     Ok(())
+}
+
+fn report_cut(
+    run: &Run<'_>,
+    cut: &Cut<'_>,
+    fault: &str,
+    outcome: &Outcome,
+    differences: &mut Differences,
+) -> io::Result<()> {
+    differences.command(run, fault)?;
+    differences.line(cut.name)?;
+    differences.number("  cut off after so many bytes", cut.bytes.len())?;
+    Ok(differences.outcome(outcome)?)
+}
+
+/// The result of a command in memory, if it runs there.
+fn found_in_memory(
+    alloc: Global,
+    view: &View<'_>,
+    run: &Run<'_>,
+) -> Result<Option<Outcome>, AllocError> {
+    let Some(parsed) = &run.parsed else {
+        return Ok(None);
+    };
+    if run.is_over_files_only {
+        return Ok(None);
+    }
+    let found = outcome_in_memory(alloc, view, parsed, Form::Named, AMPLE)?;
+    Ok(found.map(|found| found.outcome))
 }
 
 /// Whether a command reads this file as a main file.
@@ -91,23 +122,20 @@ fn differs(layout: &Outcome, outcome: &Outcome) -> Option<&'static str> {
 
 /// What is wrong with the result of a command over files of which one is cut off.
 fn unsound(
-    alloc: Global,
-    view: &View<'_>,
     run: &Run<'_>,
+    cut: &Cut<'_>,
+    layout: &Option<Outcome>,
     outcome: &Outcome,
-) -> Result<Option<&'static str>, AllocError> {
+) -> Option<&'static str> {
     if !is_sound(run, outcome) {
-        return Ok(Some("over a file that is cut off"));
+        return Some("over a file that is cut off");
     }
-    let Some(parsed) = &run.parsed else {
-        return Ok(None);
-    };
-    if run.is_over_files_only {
-        return Ok(None);
-    }
-    match outcome_in_memory(alloc, view, parsed, Form::Named, AMPLE)? {
-        Some(found) if !found.outcome.is_same(outcome) => Ok(Some("otherwise than in memory")),
-        _ => Ok(None),
+    match layout {
+        // an invalid go.sum is reported before an invalid main file
+        Some(layout) if run.status != DEVICE && reads_main(run, cut.name) => {
+            differs(layout, outcome)
+        }
+        _ => None,
     }
 }
 

@@ -17,9 +17,14 @@ use std::{fs, io};
 /// says that it is cut at every byte.
 const MOST: usize = 600;
 
+/// Whether a line of a text begins at this place.
+fn begins_line(text: &[u8], at: usize) -> bool {
+    at == 0 || text.get(at.saturating_sub(1)) == Some(&b'\n')
+}
+
 /// Whether a text is cut at this place.
 fn is_cut(text: &[u8], at: usize, is_cut_everywhere: bool) -> bool {
-    is_cut_everywhere || at == 0 || text.get(at.saturating_sub(1)) == Some(&b'\n')
+    is_cut_everywhere || begins_line(text, at)
 }
 
 /// Runs the commands of a case, all of which pass, over outputs, files and stores that fail and over files that are cut
@@ -48,7 +53,7 @@ fn sweep_run(
     run: &Run<'_>,
     differences: &mut Differences,
 ) -> io::Result<()> {
-    sweep_outputs(workspace, run, case.is_cut_everywhere, differences)?;
+    sweep_outputs(workspace, case, run, differences)?;
     if run.is_over_files_only || !differences.is_empty() {
         return Ok(());
     }
@@ -100,13 +105,13 @@ fn sweep_asks(
 /// and end with status 3.
 fn sweep_outputs(
     workspace: &Workspace<'_>,
+    case: &Case<'_>,
     run: &Run<'_>,
-    is_cut_everywhere: bool,
     differences: &mut Differences,
 ) -> io::Result<()> {
     let out = run.out.as_slice();
     let report = run.report.as_slice();
-    let is_cut_everywhere = is_cut_everywhere || out.len().max(report.len()) <= MOST;
+    let is_cut_everywhere = case.is_cut_everywhere || out.len().max(report.len()) <= MOST;
     for length in 0..out.len() {
         if !is_cut(out, length, is_cut_everywhere) {
             continue;
@@ -115,9 +120,9 @@ fn sweep_outputs(
             out: length,
             report: report.len(),
         };
-        let real = workspace.outcome(run, room)?;
-        if real.outcome.status != DEVICE || real.outcome.out.bytes() != &out[..length] {
-            return report_full(run, &real.outcome, length, differences);
+        let outcome = outcome_within(workspace, case, run, room, begins_line(out, length))?;
+        if outcome.status != DEVICE || outcome.out.bytes() != &out[..length] {
+            return report_full(run, &outcome, length, differences);
         }
     }
     for length in 0..report.len() {
@@ -128,12 +133,33 @@ fn sweep_outputs(
             out: out.len(),
             report: length,
         };
-        let real = workspace.outcome(run, room)?;
-        if real.outcome.status != DEVICE || real.outcome.report.bytes() != &report[..length] {
-            return report_full(run, &real.outcome, length, differences);
+        let outcome = outcome_within(workspace, case, run, room, begins_line(report, length))?;
+        if outcome.status != DEVICE || outcome.report.bytes() != &report[..length] {
+            return report_full(run, &outcome, length, differences);
         }
     }
     Ok(())
+}
+
+/// The result of a command over outputs with this room, in memory or, where that is wanted or it can't be run in memory,
+/// over real files.
+fn outcome_within(
+    workspace: &Workspace<'_>,
+    case: &Case<'_>,
+    run: &Run<'_>,
+    room: Room,
+    is_real: bool,
+) -> io::Result<Outcome> {
+    if let Some(parsed) = &run.parsed {
+        if !is_real && !run.is_over_files_only {
+            let alloc = workspace.system.alloc();
+            let view = View::whole(case);
+            if let Some(found) = outcome_in_memory(alloc, &view, parsed, Form::Named, room)? {
+                return Ok(found.outcome);
+            }
+        }
+    }
+    Ok(workspace.outcome(run, room)?.outcome)
 }
 
 fn report_full(
@@ -198,7 +224,8 @@ fn report_failing(
     Ok(())
 }
 
-/// Runs the commands of a case over one of its files, cut off. The file is whole again at the end.
+/// Runs the commands of a case over one of its files, cut off: in memory wherever it is cut, and over real files where a
+/// line ends there, or a command runs over real files alone. The real file is whole again at the end.
 fn sweep_cuts(
     workspace: &Workspace<'_>,
     case: &Case<'_>,
@@ -213,6 +240,7 @@ fn sweep_cuts(
     let place = format!(in workspace.system.alloc(); "{folder}/{name}")?;
     let runs = bytes.len().saturating_mul(case.runs.len());
     let is_cut_everywhere = case.is_cut_everywhere || runs <= MOST;
+    let needs_files = case.runs.iter().any(|run| run.is_over_files_only);
     for end in 0..bytes.len() {
         if !is_cut(bytes.as_slice(), end, is_cut_everywhere) {
             continue;
@@ -220,6 +248,7 @@ fn sweep_cuts(
         let cut = Cut {
             name,
             bytes: &bytes[..end],
+            is_real: needs_files || begins_line(bytes.as_slice(), end),
         };
         let input = if name == STDIN {
             cut.bytes
@@ -231,7 +260,7 @@ fn sweep_cuts(
             folder: workspace.folder,
             input,
         };
-        if name != STDIN {
+        if cut.is_real && name != STDIN {
             // unlike a file that is overwritten, a new one isn't flushed to the disk
             fs::remove_file(&workspace.system, place.as_str())?;
             fs::write(&workspace.system, place.as_str(), cut.bytes)?;
