@@ -18,7 +18,7 @@ use Rattle.gm_name.proofs.Versions.{parts-read, version-parts}
 
 -- ---- the identifiers before and after a dot
 
-identifiers-append : (xs ys : List ℕ) → parts (xs ++ 46 ∷ ys) ≡ parts xs ++ parts ys
+pub identifiers-append : (xs ys : List ℕ) → parts (xs ++ 46 ∷ ys) ≡ parts xs ++ parts ys
 identifiers-append [] ys = refl
 identifiers-append (b ∷ xs) ys = elim (cases_Bool (b == 46)) [
   | inl dot ↦ rw dot (ap (λ (l : List (List ℕ)). [] ∷ l) (identifiers-append xs ys))
@@ -41,11 +41,11 @@ front-identifiers pre before time revision stamp =
         ∙ ap (λ (l : List ℕ). l ++ r) (append_assoc b (codes ".0." ++ t) (codes "-"))
         ∙ append_assoc b (codes ".0." ++ t ++ codes "-") r
 
-pre-identifiers : (pre : List ℕ) → is_pre_release pre ≡ true → 0 < length pre → list_all is_pre_identifier (parts pre) ≡ true
+pub pre-identifiers : (pre : List ℕ) → is_pre_release pre ≡ true → 0 < length pre → list_all is_pre_identifier (parts pre) ≡ true
 pre-identifiers [] h some = absurd (omega arith)
 pre-identifiers (b ∷ rest) h some = h
 
-pre-from : (pre : List ℕ) → list_all is_pre_identifier (parts pre) ≡ true → is_pre_release pre ≡ true
+pub pre-from : (pre : List ℕ) → list_all is_pre_identifier (parts pre) ≡ true → is_pre_release pre ≡ true
 pre-from [] h = refl
 pre-from (b ∷ rest) h = h
 
@@ -136,7 +136,7 @@ base-version version base is_version is =
     let v = version-parts version is_version in
     (b.0, b.1, rw b.2 v.1, b.3)
 
-parts-spelled : (text : List ℕ) (parts : Parts) → IsValid parts → text ≡ version_text parts → parts_in text ≡ parts
+pub parts-spelled : (text : List ℕ) (parts : Parts) → IsValid parts → text ≡ version_text parts → parts_in text ≡ parts
 parts-spelled text parts valid spelled = parts-read text parts (rw spelled (version_parts-complete parts valid))
 
 -- a base has lower precedence

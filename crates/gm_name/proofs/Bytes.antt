@@ -21,7 +21,7 @@ use Rattle.gm_name.proofs.Paths.{element-bytes}
 -- ---- lists
 
 -- a list that passes a test passes every weaker one
-weaker : {X : Type 0} (p q : X → Bool) → ((x : X) → p x ≡ true → q x ≡ true) → (xs : List X) → list_all p xs ≡ true → list_all q xs ≡ true
+pub weaker : {X : Type 0} (p q : X → Bool) → ((x : X) → p x ≡ true → q x ≡ true) → (xs : List X) → list_all p xs ≡ true → list_all q xs ≡ true
 weaker p q gives [] all = refl
 weaker p q gives (x ∷ xs) all = and_from _ _ (gives x (first_so _ _ all)) (weaker p q gives xs (second_so _ _ all))
 

@@ -14,3 +14,4 @@ pub mod Precedence
 pub mod Bytes
 pub mod Refusals
 pub mod BaseVersions
+pub mod PseudoTexts

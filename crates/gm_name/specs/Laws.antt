@@ -13,6 +13,7 @@ use Rattle.gm_name.specs.Path.{HasMajor, IsPath, is_byte_of_path}
 use Rattle.gm_name.specs.Version.{HasPlainBuild, IsVersion, is_byte_of_version, parts_in, precedence, version_text}
 use Rattle.gm_name.specs.Precedence.{HasLowerPrecedence, HasSamePrecedence, number_of}
 use Rattle.gm_name.specs.Pseudo.{IsBase, IsPseudo}
+use Rattle.gm_name.specs.PseudoText.{IsBaseText, IsPseudoText}
 use Rattle.semver.specs.Parse.{Parts}
 use Rattle.gm_name.specs.declared.major.Major.{Major}
 
@@ -115,3 +116,12 @@ PathEscapingIsInjective = (p q : List ℕ) → IsPath p → IsPath q → escaped
 
 abbrev pub VersionEscapingIsInjective : Type 0
 VersionEscapingIsInjective = (v w : List ℕ) → IsVersion v → IsVersion w → escaped v ≡ escaped w → v ≡ w
+
+-- the pseudo-versions are exactly the texts of the three forms
+abbrev pub PseudoIsSpelled : Type 0
+PseudoIsSpelled = (version : List ℕ) (form : ℕ) (time revision : List ℕ)
+    → (IsVersion version × IsPseudo version form time revision) ↔ IsPseudoText version form time revision
+
+-- their base versions are exactly the texts that the forms name
+abbrev pub BaseIsSpelled : Type 0
+BaseIsSpelled = (version base : List ℕ) → (IsVersion version × IsBase version base) ↔ IsBaseText version base

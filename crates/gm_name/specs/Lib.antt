@@ -9,6 +9,7 @@ pub mod PairFaults
 pub mod Path
 pub mod Precedence
 pub mod Pseudo
+pub mod PseudoText
 pub mod Tail
 pub mod Version
 pub mod VersionOrder

@@ -6,7 +6,7 @@
 ghost use Rattle.std.specs.Prelude.{◌≡◌, ◌↔◌, ℕ, List, true};
 ghost use Rattle.std.specs.Cmp.Lexicographic.{slice_cmp};
 ghost use Rattle.std.specs.Ordering.{nat_cmp, ordering_then};
-ghost use Rattle.gm_name.specs.Laws.{BaseForms, BaseIsLower, BaseIsVersion, BytesOfPath, BytesOfVersion, UnescapeInvertsEscape, EscapedTextsAreTested, EscapedIsLowerCase, FitsAreTested, HigherPrecedence, LowerPrecedence, NumericIdentifiersByNumber, OneBase, OneMajor, OnePseudo, OneVersionForPrecedence, PathHasNoBang, PathsAreTested, PathEscapingIsInjective, SamePrecedence, VersionHasNoBang, VersionIsSpelled, VersionsAreTested, VersionEscapingIsInjective};
+ghost use Rattle.gm_name.specs.Laws.{BaseForms, BaseIsLower, BaseIsSpelled, BaseIsVersion, BytesOfPath, BytesOfVersion, UnescapeInvertsEscape, EscapedTextsAreTested, EscapedIsLowerCase, FitsAreTested, HigherPrecedence, LowerPrecedence, NumericIdentifiersByNumber, OneBase, OneMajor, OnePseudo, OneVersionForPrecedence, PathHasNoBang, PathsAreTested, PathEscapingIsInjective, PseudoIsSpelled, SamePrecedence, VersionHasNoBang, VersionIsSpelled, VersionsAreTested, VersionEscapingIsInjective};
 ghost use Rattle.gm_name.specs.Version.{parts_in, precedence, version_cmp};
 
 use crate::fit::ModVer;
@@ -103,6 +103,14 @@ pub fn one_base()
     ensures version { BaseIsVersion }
     ensures lower { BaseIsLower }
     ensures forms { BaseForms }
+{}
+
+/// A text is a version and a pseudo-version exactly when it is `vX.0.0-TIME-REVISION`,
+/// `vX.Y.Z-BEFORE.0.TIME-REVISION` or `vX.Y.(Z+1)-0.TIME-REVISION`, each with or without `+incompatible` at its
+/// end; the base of the second is `vX.Y.Z-BEFORE`, and that of the third `vX.Y.Z`, each with the same build.
+pub fn pseudo_is_spelled()
+    ensures pseudo { PseudoIsSpelled }
+    ensures base { BaseIsSpelled }
 {}
 
 // ---- escaping
