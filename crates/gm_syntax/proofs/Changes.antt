@@ -28,11 +28,11 @@ standing_lines at [] s e = e
 standing_lines at (l ∷ ls) s e =
     (s.0, standing_lines (after at l) ls (subst (λ (b : Bool). AreValidFrom b ls) (sym (after_inside at l)) s.1) (subst (λ (b : Bool). inside_after_all b ls ≡ false) (sym (after_inside at l)) e))
 
-stand_parts : (b : Bool) (xs ys : List (Line Word)) → AreValidFrom b (xs ++ ys) → AreValidFrom b xs × AreValidFrom (inside_after_all b xs) ys
+pub stand_parts : (b : Bool) (xs ys : List (Line Word)) → AreValidFrom b (xs ++ ys) → AreValidFrom b xs × AreValidFrom (inside_after_all b xs) ys
 stand_parts b [] ys s = (tt, s)
 stand_parts b (x ∷ xs) ys s = let r = stand_parts (inside_after b x) xs ys s.1 in ((s.0, r.0), r.1)
 
-stand_together : (b : Bool) (xs ys : List (Line Word)) → AreValidFrom b xs → AreValidFrom (inside_after_all b xs) ys → AreValidFrom b (xs ++ ys)
+pub stand_together : (b : Bool) (xs ys : List (Line Word)) → AreValidFrom b xs → AreValidFrom (inside_after_all b xs) ys → AreValidFrom b (xs ++ ys)
 stand_together b [] ys s t = t
 stand_together b (x ∷ xs) ys s t = (s.0, stand_together (inside_after b x) xs ys s.1 t)
 
@@ -68,7 +68,7 @@ lines_go_out front middle back d e =
 pub level_lines_go_out : (front middle back : List (Line Word)) → IsDocument (front ++ (middle ++ back)) → list_all is_level middle ≡ true → IsDocument (front ++ back)
 level_lines_go_out front middle back d e = lines_go_out front middle back d (inside_after_all-level (inside_after_all false front) middle e)
 
-no_open : (words : List Word) (comment : Option (List ℕ)) (verb : Word) (suffix : Option (List ℕ)) → class_of true words comment ≡ Ok (Open verb suffix) → ⊥
+pub no_open : (words : List Word) (comment : Option (List ℕ)) (verb : Word) (suffix : Option (List ℕ)) → class_of true words comment ≡ Ok (Open verb suffix) → ⊥
 unfolding class_of
 no_open [] None verb suffix e = cc
 no_open [] (Some text) verb suffix e = cc
@@ -84,7 +84,7 @@ no_open (w ∷ ws) comment verb suffix e =
       ]
     ]
 
-open_outside : (b : Bool) (verb : Word) (suffix : Option (List ℕ)) → IsValidLine b (Open verb suffix) → b ≡ false
+pub open_outside : (b : Bool) (verb : Word) (suffix : Option (List ℕ)) → IsValidLine b (Open verb suffix) → b ≡ false
 open_outside false verb suffix s = refl
 open_outside true verb suffix (text, plain, at) = absurd (no_open at.words at.comment verb suffix at.classed)
 

@@ -2,21 +2,24 @@
 //!
 //! A proof uses a law by calling its function: it then knows what the contract says.
 
-ghost use Rattle.std.specs.Prelude.{◌≡◌, ◌↔◌, ◌⊎◌, ◌++◌, ◌∷◌, ◌≤◌, ℕ, Bool, true, false, List, Option, Some, Result, take, insert, slice_range};
+ghost use Rattle.std.specs.Prelude.{◌≡◌, ◌↔◌, ◌⊎◌, ◌++◌, ◌∷◌, ◌≤◌, ℕ, Bool, true, false, List, Option, Some, Result, Ok, take, insert, slice_range};
 ghost use Rattle.std.specs.List.{AllByRecursion, list_all};
 ghost use Rattle.gm_syntax.specs.declared.fault.SyntaxKind.{SyntaxKind};
+ghost use Rattle.gm_syntax.specs.declared.fault.SyntaxKind.TheVariants.{OpenBlock};
 ghost use Rattle.gm_syntax.specs.declared.fault.SyntaxFault.{SyntaxFault};
 ghost use Rattle.gm_syntax.specs.declared.word.Punct.{Punct};
 ghost use Rattle.gm_syntax.specs.declared.word.Kind.TheVariants.{Mark};
-ghost use Rattle.gm_syntax.specs.Lines.{HasNoLineFeed};
+ghost use Rattle.gm_syntax.specs.Lines.{HasNoLineFeed, lines_of};
 ghost use Rattle.gm_syntax.specs.Words.{Word, IsBare, HasValue, mark_text};
 ghost use Rattle.gm_syntax.specs.Bare.{can_be_bare};
 ghost use Rattle.gm_syntax.specs.Values.{value_of};
 ghost use Rattle.gm_syntax.specs.Tokens.{Placed, IsNewWord};
 ghost use Rattle.gm_syntax.specs.Spelling.{IsSpelledBy, HasLexicalFault, IsSpelled, IsFaulty, IsWord, IsSuffix};
-ghost use Rattle.gm_syntax.specs.Document.{Line, Blank, Comment, Open, Close, Entry, inside_after_all, is_level, IsValidLine, IsEntry, IsDocument, without};
+ghost use Rattle.gm_syntax.specs.Document.{Line, Blank, Comment, Open, Close, Entry, inside_after_all, is_level, IsLineAt, HasLineFault, IsValidLine, IsEntry, IsDocument, Finish, Faulty, ReadsLines, start, without};
 ghost use Rattle.gm_syntax.specs.Layout.{layout, IsLayout, IsStable};
 ghost use Rattle.gm_syntax.specs.Parsed.{IsParsedAs, IsReadBack};
+ghost use Rattle.gm_syntax.specs.Placing.{IsPlacedIn};
+ghost use Rattle.gm_syntax.specs.Documents.{ConsistOfParts, AreInTurn, AreValidInPlace, ArePieces, HaveNoFault, IsNeverClosed, IsReading, IsReadingResult};
 
 /// A line has at most one spelling.
 pub fn lines_have_one_spelling()
@@ -56,6 +59,14 @@ pub fn layout_is_stable()
 pub fn layout_is_read_back()
     ensures { (lines : List (Line Word)) (answer : Result (List (Line Placed)) SyntaxFault)
         → IsDocument lines → IsParsedAs (layout lines) answer → IsReadBack lines answer }
+{}
+
+/// A document has one placing: two results of reading the same bytes, each placed in them, have the same words
+/// with the same spans and line numbers. So what `Doc::parse` says of an `Ok` determines the whole document.
+pub fn documents_have_one_placing()
+    ensures { (source : List ℕ) (doc other : List (Line Placed))
+        → IsParsedAs source (Ok doc) → IsParsedAs source (Ok other)
+        → IsPlacedIn source doc → IsPlacedIn source other → doc ≡ other }
 {}
 
 /// Words and a comment that are valid on a line are the spelling of some line. With this, an edit shows that
@@ -137,4 +148,65 @@ pub fn balanced_lines_may_be_removed()
     ensures { (lines : List (Line Word)) (from to : ℕ) → from ≤ to → IsDocument lines
         → inside_after_all false (take to lines) ≡ inside_after_all false (take from lines)
         → IsDocument (without lines from to) }
+{}
+
+/// The documents are the lists of lines that consist of single lines and blocks. A block is an opening, lines
+/// that open and close nothing, and a closing.
+pub fn documents_consist_of_parts()
+    ensures { (lines : List (Line Word)) → IsDocument lines ↔ ConsistOfParts lines }
+{}
+
+/// The documents are the lists of lines in which openings and closings alternate, the last block is closed, and
+/// each line is valid after the lines before it: as a line in a block exactly if more of them open a block than
+/// close one.
+pub fn documents_alternate()
+    ensures { (lines : List (Line Word)) → IsDocument lines ↔ (AreInTurn lines × AreValidInPlace lines) }
+{}
+
+/// The lines of a text are its pieces between line feeds, without an empty last one.
+pub fn lines_are_pieces()
+    ensures { (text : List ℕ) (pieces : List (List ℕ)) → ArePieces text pieces ↔ (pieces ≡ lines_of text) }
+{}
+
+/// A piece of a text is one line or has one fault, inside a block and outside, and never both. `OpenBlock` is the
+/// fault of no piece: it is a fault of the whole text.
+pub fn pieces_are_lines_or_faulty()
+    ensures either { (inside : Bool) (piece : List ℕ) → ((line : Line Word) × IsLineAt inside piece line)
+        ⊎ ((kind : SyntaxKind) × HasLineFault inside piece kind) }
+    ensures never_both { (inside : Bool) (piece : List ℕ) (line : Line Word) (kind : SyntaxKind)
+        → IsLineAt inside piece line → ¬ HasLineFault inside piece kind }
+    ensures one_line { (inside : Bool) (piece : List ℕ) (line other : Line Word)
+        → IsLineAt inside piece line → IsLineAt inside piece other → line ≡ other }
+    ensures one_fault { (inside : Bool) (piece : List ℕ) (kind other : SyntaxKind)
+        → HasLineFault inside piece kind → HasLineFault inside piece other → kind ≡ other }
+    ensures never_open_block { (inside : Bool) (piece : List ℕ) → ¬ HasLineFault inside piece OpenBlock }
+{}
+
+/// Reading a text from its start, line by line, gives the lines that its pieces are, one for one. A fault is that
+/// of the first piece that is no line; or if every piece is one, it is the last opening, whose block is not closed.
+pub fn texts_are_read_in_order()
+    ensures { (text : List ℕ) (lines : List (Line Word)) (finish : Finish)
+        → ReadsLines start (lines_of text) lines finish ↔ IsReading text lines finish }
+{}
+
+/// The reported fault is that of the first line that has one: no line before it has a fault. `OpenBlock` is
+/// reported only if every line is without fault, at the last opening, after which there is no closing.
+pub fn faults_are_the_first()
+    ensures none_before { (text : List ℕ) (lines : List (Line Word)) (finish : Finish)
+        → IsReading text lines finish → HaveNoFault (lines_of text) lines }
+    ensures open_block { (text : List ℕ) (lines : List (Line Word)) (number : ℕ)
+        → IsReading text lines (Faulty number OpenBlock) → IsNeverClosed (lines_of text) lines number }
+{}
+
+/// Every text has one reading.
+pub fn texts_have_one_reading()
+    ensures some { (text : List ℕ) → (lines : List (Line Word)) × (finish : Finish) × IsReading text lines finish }
+    ensures one { (text : List ℕ) (lines others : List (Line Word)) (finish other : Finish)
+        → IsReading text lines finish → IsReading text others other → (others ≡ lines) × (other ≡ finish) }
+{}
+
+/// The result of `Doc::parse` is the reading of the bytes: the document that their pieces are, or the first fault.
+pub fn results_are_readings()
+    ensures { (bytes : List ℕ) (answer : Result (List (Line Placed)) SyntaxFault)
+        → IsParsedAs bytes answer ↔ IsReadingResult bytes answer }
 {}

@@ -1,0 +1,158 @@
+-- The words of a line, the blanks around them and the comment make up its text.
+use Rattle.std.proofs.Common.{◌≡◌, ℕ, ◌+◌, ◌-◌, ◌<◌, ◌≤◌, Bool, true, List, [], ◌∷◌, ◌++◌, length, take, drop, Option, Some, None, Ok, refl, sym, ap, subst, ◌∙◌, append_assoc, arith}
+use Rattle.std.proofs.lemmas.List.{append-nil, take-append-drop, length-drop, length-map, take_all}
+use Rattle.gm_syntax.specs.Bytes.{is_blank}
+use Rattle.gm_syntax.specs.Words.{Word, AllBlank}
+use Rattle.gm_syntax.specs.Lines.{lines_of}
+use Rattle.gm_syntax.specs.Tokens.{Placed, words_of}
+use Rattle.gm_syntax.specs.Spelling.{Comment as CommentEnd, IsComment, Reads}
+use Rattle.gm_syntax.specs.Scan.{trim_end}
+use Rattle.gm_syntax.specs.Document.{Line, Blank, Comment, Open, Close, Entry, class_of}
+use Rattle.gm_syntax.specs.LineViews.{tokens_of, plain}
+use Rattle.gm_syntax.specs.Placing.{IsTail, FillText, FillsLine, FillLines}
+use Rattle.gm_syntax.proofs.Reading.{trim_parts}
+use Rattle.gm_syntax.proofs.Lines.{lines_nil}
+use Rattle.gm_syntax.proofs.Stable.{mark, FromWords, from_words}
+
+-- ---- one line
+
+-- one more blank before the words
+fill_blank : (at : ℕ) (b : ℕ) (rest : List ℕ) (ts : List Placed) (comment : Option (List ℕ)) → is_blank b ≡ true → FillText (at + 1) rest ts comment → FillText at (b ∷ rest) ts comment
+fill_blank at b rest [] None blank f = (blank, f)
+fill_blank at b rest [] (Some comment) blank f = (f.0, b ∷ f.1, f.2, (blank, f.3), f.4, ap (λ (l : List ℕ). b ∷ l) f.5)
+fill_blank at b rest (t ∷ ts) comment blank f =
+    let n = f.2 in (
+      f.0,
+      f.1,
+      record {
+        blanks = b ∷ n.blanks;
+        are_blank = (blank, n.are_blank);
+        parts = ap (λ (l : List ℕ). b ∷ l) n.parts;
+        placed = n.placed;
+        first = omega (arith, n.first);
+        after = n.after;
+      },
+      f.3,
+    )
+
+-- one more word
+fill_word : (at n : ℕ) (rest : List ℕ) (t : Placed) (ts : List Placed) (comment : Option (List ℕ)) → t.span ≡ Some (record { first = at; after = at + n }) → t.word.spelling ≡ take n rest → n ≡ length t.word.spelling
+    → FillText (at + n) (drop n rest) ts comment → FillText at rest (t ∷ ts) comment
+fill_word at n rest t ts comment is text len f = (
+  record { first = at; after = at + n },
+  drop n rest,
+  record {
+    blanks = [];
+    are_blank = tt;
+    parts = sym (ap (λ (l : List ℕ). l ++ drop n rest) text ∙ take-append-drop n rest);
+    placed = is;
+    first = omega arith;
+    after = omega (arith, len);
+  },
+  f,
+)
+
+-- the words so far take the line up to its rest, which begins at the offset `at`: whatever the rest is made of, the
+-- line is made of these words and that
+abbrev pub FillsUpTo : ℕ → List ℕ → List Placed → ℕ → List ℕ → Type 0
+FillsUpTo first line words at rest = (more : List Placed) (comment : Option (List ℕ)) → FillText at rest more comment → FillText first line (words ++ more) comment
+
+module _ (first : ℕ) (line : List ℕ) (words : List Placed) (rest : List ℕ) (le : length rest ≤ length line) (p : FillsUpTo first line words (first + (length line - length rest)) rest) where
+  pub fills_blank : ((b : ℕ) × (bytes : List ℕ) × (rest ≡ b ∷ bytes) × (is_blank b ≡ true)) → FillsUpTo first line words (first + (length line - length (drop 1 rest))) (drop 1 rest)
+  fills_blank (b, bytes, e, blank) more comment f =
+      let past : drop 1 rest ≡ bytes = ap (drop 1) e in
+      let at : first + (length line - length (drop 1 rest)) ≡ first + (length line - length rest) + 1 = omega (arith, le, ap length e, ap length past) in
+      let g : FillText (first + (length line - length rest) + 1) bytes more comment = subst (λ (l : List ℕ). FillText (first + (length line - length rest) + 1) l more comment) past (subst (λ (n : ℕ). FillText n (drop 1 rest) more comment) at f) in
+      p more comment (subst (λ (l : List ℕ). FillText (first + (length line - length rest)) l more comment) (sym e) (fill_blank (first + (length line - length rest)) b bytes more comment blank g))
+
+  pub fills_word : (n : ℕ) (t : Placed) → n ≤ length rest → t.span ≡ Some (record { first = first + (length line - length rest); after = first + (length line - length rest) + n }) → t.word.spelling ≡ take n rest → n ≡ length t.word.spelling
+      → FillsUpTo first line (words ++ t ∷ []) (first + (length line - length (drop n rest))) (drop n rest)
+  fills_word n t fits is text len more comment f =
+      let at : first + (length line - length (drop n rest)) ≡ first + (length line - length rest) + n = omega (arith, le, fits, length-drop n rest) in
+      let g = fill_word (first + (length line - length rest)) n rest t more comment is text len (subst (λ (k : ℕ). FillText k (drop n rest) more comment) at f) in
+      subst (λ (ts : List Placed). FillText first line ts comment) (sym (append_assoc words (t ∷ []) more)) (p (t ∷ more) comment g)
+
+  whole : (comment : Option (List ℕ)) → IsTail rest comment → FillText first line words comment
+  whole comment tail = subst (λ (ts : List Placed). FillText first line ts comment) (append-nil words) (p [] comment tail)
+
+  pub fills_end : rest ≡ [] → FillText first line words None
+  fills_end e = whole None (subst AllBlank (sym e) tt)
+
+  pub fills_comment : (text : List ℕ) → IsComment text → text ≡ trim_end rest → FillText first line words (Some text)
+  fills_comment text is e =
+      let t = trim_parts rest in
+      whole (Some text) (is, [], t.blanks, tt, t.are_blank, t.parts ∙ ap (λ (l : List ℕ). l ++ t.blanks) (sym e))
+
+-- what is read as a comment is one
+pub read_comment : (before : Option Word) (text : List ℕ) (words : List Word) (comment : List ℕ) → Reads before text words (CommentEnd comment) → IsComment comment
+read_comment before text [] comment r = r.ends.1
+read_comment before text (w ∷ words) comment (rest, b, others) = read_comment (Some w) rest words comment others
+
+-- ---- the line that the words are
+
+-- the words of a line that stores its first words
+one_word : (v : Placed) (ts : List Placed) (w : Word) (ws : List Word) → v ∷ [] ≡ take 1 ts → words_of ts ≡ w ∷ ws → (rest : List Placed) × (ts ≡ v ∷ rest) × (words_of rest ≡ ws)
+one_word v [] w ws same e = absurd cc
+one_word v (t ∷ ts) w ws same e =
+    let here : v ≡ t = cc in
+    (ts, ap (λ (x : Placed). x ∷ ts) (sym here), ap (drop 1) e)
+
+one_left : (ts : List Placed) (w : Word) → words_of ts ≡ w ∷ [] → (t : Placed) × (ts ≡ t ∷ []) × (t.word ≡ w)
+one_left [] w e = absurd cc
+one_left (t ∷ []) w e = (t, refl, cc)
+one_left (t ∷ u ∷ ts) w e = absurd (omega (arith, ap length e))
+
+pub line_filled : (inside : Bool) (first : ℕ) (text : List ℕ) (ts : List Placed) (comment : Option (List ℕ)) (l : Line Placed) → class_of inside (words_of ts) comment ≡ Ok (plain l) → tokens_of l ≡ take (length (tokens_of l)) ts
+    → FillText first text ts comment → FillsLine first text l
+line_filled inside first text ts comment l classed same f = by_line l (from_words inside (words_of ts) comment (plain l) classed) same
+  where
+    fill_as : (us : List Placed) (c : Option (List ℕ)) → ts ≡ us → comment ≡ c → FillText first text us c
+    fill_as us c e d = subst (λ (x : Option (List ℕ)). FillText first text us x) d (subst (λ (x : List Placed). FillText first text x comment) e f)
+
+    none : (us : List Placed) → words_of us ≡ [] → us ≡ []
+    none [] e = refl
+    none (u ∷ us) e = absurd cc
+
+    by_line : (l : Line Placed) → FromWords (plain l) (words_of ts) comment → tokens_of l ≡ take (length (tokens_of l)) ts → FillsLine first text l
+    by_line Blank w same = fill_as [] None (none ts w.0) w.1
+    by_line (Comment c) w same = fill_as [] (Some c) (none ts w.0) w.1
+    by_line (Open verb suffix) w same =
+        let o = one_word verb ts verb.word (mark 40 ∷ []) same w.0 in
+        let k = one_left o.0 (mark 40) o.2 in
+        (k.0, ap (λ (x : Word). x.spelling) k.2, fill_as (verb ∷ k.0 ∷ []) suffix (o.1 ∙ ap (λ (x : List Placed). verb ∷ x) k.1) w.1)
+    by_line (Close suffix) w same =
+        let k = one_left ts (mark 41) w.0 in
+        (k.0, ap (λ (x : Word). x.spelling) k.2, fill_as (k.0 ∷ []) suffix k.1 w.1)
+    by_line (Entry words suffix) w same =
+        let len : length ts ≡ length words = sym (length-map ts (λ (t : Placed). t.word)) ∙ ap length w.0 ∙ length-map words (λ (t : Placed). t.word) in
+        fill_as words suffix (sym (same ∙ take_all (length words) ts (omega (arith, len)))) w.1
+
+-- ---- the lines of a text
+
+-- the lines so far take the text up to its rest
+abbrev pub LinesFillUpTo : List ℕ → List (Line Placed) → List ℕ → Type 0
+LinesFillUpTo text lines rest = (more : List (Line Placed)) → FillLines (length text - length rest) (lines_of rest) more → FillLines 0 (lines_of text) (lines ++ more)
+
+-- without lines the offset is nothing to them
+no_lines : (m n : ℕ) (more : List (Line Placed)) → FillLines m [] more → FillLines n [] more
+no_lines m n [] f = tt
+no_lines m n (l ∷ more) f = absurd f
+
+pub lines_fill_more : (text rest front next : List ℕ) (lines : List (Line Placed)) (l : Line Placed) → length rest ≤ length text → LinesFillUpTo text lines rest → lines_of rest ≡ front ∷ lines_of next
+    → (0 < length next → length rest ≡ length front + 1 + length next) → FillsLine (length text - length rest) front l → LinesFillUpTo text (lines ++ l ∷ []) next
+lines_fill_more text rest front next lines l le p cut feed filled more f =
+    let at : ℕ = length text - length rest in
+    let here : FillLines (at + length front + 1) (lines_of next) more = next_lines next cut feed f in
+    subst (λ (ls : List (Line Placed)). FillLines 0 (lines_of text) ls) (sym (append_assoc lines (l ∷ []) more))
+    (p (l ∷ more) (subst (λ (ts : List (List ℕ)). FillLines at ts (l ∷ more)) (sym cut) (filled, here)))
+  where
+    next_lines : (next : List ℕ) → lines_of rest ≡ front ∷ lines_of next → (0 < length next → length rest ≡ length front + 1 + length next) → FillLines (length text - length next) (lines_of next) more → FillLines (length text - length rest + length front + 1) (lines_of next) more
+    next_lines [] cut feed f = subst (λ (ts : List (List ℕ)). FillLines (length text - length rest + length front + 1) ts more) (sym lines_nil)
+        (no_lines (length text - 0) (length text - length rest + length front + 1) more (subst (λ (ts : List (List ℕ)). FillLines (length text - 0) ts more) lines_nil f))
+    next_lines (b ∷ next) cut feed f =
+        let same : length text - length (b ∷ next) ≡ length text - length rest + length front + 1 = omega (arith, le, feed (omega arith)) in
+        subst (λ (n : ℕ). FillLines n (lines_of (b ∷ next)) more) same f
+
+pub lines_fill_end : (text rest : List ℕ) (lines : List (Line Placed)) → LinesFillUpTo text lines rest → lines_of rest ≡ [] → FillLines 0 (lines_of text) lines
+lines_fill_end text rest lines p none = subst (λ (ls : List (Line Placed)). FillLines 0 (lines_of text) ls) (append-nil lines)
+    (p [] (subst (λ (ts : List (List ℕ)). FillLines (length text - length rest) ts []) (sym none) tt))

@@ -1,0 +1,207 @@
+-- A text has one reading: each piece is one line or has one fault.
+use Rattle.std.proofs.Common.{◌≡◌, ℕ, Bool, true, false, List, [], ◌∷◌, length, Option, Some, None, Result, Ok, Err, refl, sym, ap, subst, ◌∙◌, inl, inr}
+use Rattle.std.specs.Prelude.{◌⊎◌, slice_get}
+use Rattle.std.proofs.lemmas.Bool.{cases_Bool, true≢false}
+use Rattle.gm_syntax.specs.declared.fault.SyntaxKind.{SyntaxKind}
+use Rattle.gm_syntax.specs.declared.fault.SyntaxKind.TheVariants.{StrayClose, NestedOpen, OpenBlock}
+use Rattle.gm_syntax.specs.declared.fault.SyntaxFault.{SyntaxFault}
+use Rattle.gm_syntax.specs.declared.fault.SyntaxFault.TheVariants as faults
+use Rattle.gm_syntax.specs.declared.place.Place.{Place}
+use Rattle.gm_syntax.specs.Words.{Word}
+use Rattle.gm_syntax.specs.Tokens.{Placed}
+use Rattle.gm_syntax.specs.Lines.{lines_of}
+use Rattle.gm_syntax.specs.Spelling.{Fault, Reads, IsSpelledBy}
+use Rattle.gm_syntax.specs.Document.{Line, Open, Close, Entry, ends_open, opens_block, begins_close, is_alone, Finish, Whole, Faulty, class_of, IsLineAt, HasLineFault, ReadsLines, start, after}
+use Rattle.gm_syntax.specs.LineViews.{plain_lines}
+use Rattle.gm_syntax.specs.Parsed.{IsParsedAs}
+use Rattle.gm_syntax.specs.Reader.{IsOnlyText}
+use Rattle.gm_syntax.specs.Documents.{is_open_after, HaveNoFault, IsNeverClosed, IsReading, IsReadingResult}
+use Rattle.gm_syntax.proofs.Stable.{line_ok, line_err, same_ok, not_ok}
+use Rattle.gm_syntax.proofs.OneReading.{one_spelling, one_fault, never_both, either}
+use Rattle.gm_syntax.proofs.TextPieces.{pieces_lines}
+use Rattle.gm_syntax.proofs.Readings.{reading_of, reads_as}
+
+-- ---- one piece
+
+err_not_ok : (k : SyntaxKind) (l : Line Word) → line_ok l ≡ line_err k → ⊥
+err_not_ok k l e = cc
+
+same_err : (k j : SyntaxKind) → line_err k ≡ line_err j → k ≡ j
+same_err k j e = cc
+
+class_same : (inside : Bool) (text : List ℕ) (words others : List Word) (comment other : Option (List ℕ))
+    → IsSpelledBy text words comment → IsSpelledBy text others other
+    → class_of inside words comment ≡ class_of inside others other
+class_same inside text words others comment other s t =
+    let e = one_spelling text words others comment other s t in
+    ap (λ (ws : List Word). class_of inside ws comment) e.0 ∙ ap (class_of inside others) e.1
+
+pub one_line_at : (inside : Bool) (text : List ℕ) (line other : Line Word) → IsLineAt inside text line
+    → IsLineAt inside text other → line ≡ other
+one_line_at inside text line other a b =
+    same_ok line other (sym a.classed ∙ class_same inside text a.words b.words a.comment b.comment a.spelled b.spelled ∙ b.classed)
+
+pub one_fault_at : (inside : Bool) (text : List ℕ) (kind other : SyntaxKind) → HasLineFault inside text kind
+    → HasLineFault inside text other → kind ≡ other
+one_fault_at inside text kind other a b =
+    elim a [
+      | inl f ↦ elim b [
+        | inl g ↦ one_fault text kind other f g
+        | inr t ↦ absurd (never_both text (t.0, t.1, t.2) (kind, f))
+      ]
+      | inr s ↦ elim b [
+        | inl g ↦ absurd (never_both text (s.0, s.1, s.2) (other, g))
+        | inr t ↦ same_err kind other (sym s.3 ∙ class_same inside text s.0 t.0 s.1 t.1 s.2 t.2 ∙ t.3)
+      ]
+    ]
+
+pub not_both_at : (inside : Bool) (text : List ℕ) (line : Line Word) (kind : SyntaxKind) → IsLineAt inside text line
+    → ¬ HasLineFault inside text kind
+not_both_at inside text line kind a f =
+    elim f [
+      | inl g ↦ never_both text (a.words, a.comment, a.spelled) (kind, g)
+      | inr s ↦ not_ok kind line (sym s.3 ∙ class_same inside text s.0 a.words s.1 a.comment s.2 a.spelled ∙ a.classed)
+    ]
+
+pub either_at : (inside : Bool) (text : List ℕ)
+    → ((line : Line Word) × IsLineAt inside text line) ⊎ ((kind : SyntaxKind) × HasLineFault inside text kind)
+either_at inside text =
+    elim (either text) [
+      | inl s ↦ by_class s.0 s.1 s.2 (class_of inside s.0 s.1) refl
+      | inr f ↦ inr (f.0, inl f.1)
+    ]
+  where
+    by_class : (words : List Word) (comment : Option (List ℕ)) → IsSpelledBy text words comment
+        → (c : Result (Line Word) SyntaxKind) → class_of inside words comment ≡ c
+        → ((line : Line Word) × IsLineAt inside text line) ⊎ ((kind : SyntaxKind) × HasLineFault inside text kind)
+    by_class words comment s (Ok line) e = inl (line, record { words = words; comment = comment; spelled = s; classed = e })
+    by_class words comment s (Err kind) e = inr (kind, inr (words, comment, s, e))
+
+-- an open block is the fault of no single line
+
+no_open_block_lexical : (before : Option Word) (text : List ℕ) (words : List Word)
+    → Reads before text words (Fault OpenBlock) → ⊥
+no_open_block_lexical before text [] r = r.ends
+no_open_block_lexical before text (w ∷ words) r = no_open_block_lexical (Some w) r.0 words r.2
+
+no_open_block_class : (inside : Bool) (words : List Word) (comment : Option (List ℕ))
+    → class_of inside words comment ≡ Err OpenBlock → ⊥
+unfolding class_of
+no_open_block_class inside [] None e = cc
+no_open_block_class inside [] (Some text) e = cc
+no_open_block_class false (w ∷ ws) comment e =
+    elim (cases_Bool (opens_block (w ∷ ws))) [
+      | inl o ↦ err_not_ok OpenBlock (Open w comment) (sym (rw o refl) ∙ e)
+      | inr o ↦ elim (cases_Bool (ends_open (w ∷ ws))) [
+        | inl n ↦ let f : line_err NestedOpen ≡ line_err OpenBlock = sym (rw (o, n) refl) ∙ e in cc
+        | inr n ↦ elim (cases_Bool (begins_close (w ∷ ws))) [
+          | inl c ↦ let f : line_err StrayClose ≡ line_err OpenBlock = sym (rw (o, n, c) refl) ∙ e in cc
+          | inr c ↦ err_not_ok OpenBlock (Entry (w ∷ ws) comment) (sym (rw (o, n, c) refl) ∙ e)
+        ]
+      ]
+    ]
+no_open_block_class true (w ∷ ws) comment e =
+    elim (cases_Bool (begins_close (w ∷ ws))) [
+      | inl c ↦ elim (cases_Bool (is_alone ws)) [
+        | inl a ↦ err_not_ok OpenBlock (Close comment) (sym (rw (c, a) refl) ∙ e)
+        | inr a ↦ let f : line_err StrayClose ≡ line_err OpenBlock = sym (rw (c, a) refl) ∙ e in cc
+      ]
+      | inr c ↦ elim (cases_Bool (ends_open (w ∷ ws))) [
+        | inl n ↦ let f : line_err NestedOpen ≡ line_err OpenBlock = sym (rw (c, n) refl) ∙ e in cc
+        | inr n ↦ err_not_ok OpenBlock (Entry (w ∷ ws) comment) (sym (rw (c, n) refl) ∙ e)
+      ]
+    ]
+
+pub no_open_block_at : (inside : Bool) (text : List ℕ) → ¬ HasLineFault inside text OpenBlock
+no_open_block_at inside text f =
+    elim f [
+      | inl g ↦ no_open_block_lexical None text g.0 g.1
+      | inr s ↦ no_open_block_class inside s.0 s.1 s.3
+    ]
+
+-- ---- all pieces
+
+some_walk : (at : Place) (texts : List (List ℕ))
+    → (lines : List (Line Word)) × (f : Finish) × ReadsLines at texts lines f
+some_walk at [] =
+    elim (cases_Bool at.inside) [
+      | inl i ↦ ([], Faulty at.opened OpenBlock, (i, refl, refl))
+      | inr o ↦ ([], Whole, o)
+    ]
+some_walk at (t ∷ ts) =
+    elim (either_at at.inside t) [
+      | inl l ↦ let more = some_walk (after at l.0) ts in (l.0 ∷ more.0, more.1, (l.1, more.2))
+      | inr k ↦ ([], Faulty at.number k.0, (refl, k.1))
+    ]
+
+one_walk : (at : Place) (texts : List (List ℕ)) (lines others : List (Line Word)) (f g : Finish)
+    → ReadsLines at texts lines f → ReadsLines at texts others g → (others ≡ lines) × (g ≡ f)
+one_walk at [] [] [] Whole Whole r s = (refl, refl)
+one_walk at [] [] [] Whole (Faulty n k) r s = absurd (true≢false (sym s.0 ∙ r))
+one_walk at [] [] [] (Faulty n k) Whole r s = absurd (true≢false (sym r.0 ∙ s))
+one_walk at [] [] [] (Faulty n k) (Faulty m j) r s =
+    (refl, ap (λ (x : ℕ). Faulty x j) (s.1 ∙ sym r.1) ∙ ap (Faulty n) (s.2 ∙ sym r.2))
+one_walk at [] [] (m ∷ others) f g r s = absurd s
+one_walk at [] (l ∷ lines) others f g r s = absurd r
+one_walk at (t ∷ ts) [] others Whole g r s = absurd r
+one_walk at (t ∷ ts) lines [] f Whole r s = absurd s
+one_walk at (t ∷ ts) [] [] (Faulty n k) (Faulty m j) r s =
+    (refl, ap (λ (x : ℕ). Faulty x j) (s.0 ∙ sym r.0) ∙ ap (Faulty n) (one_fault_at at.inside t j k s.1 r.1))
+one_walk at (t ∷ ts) [] (m ∷ others) (Faulty n k) g r s = absurd (not_both_at at.inside t m k s.0 r.1)
+one_walk at (t ∷ ts) (l ∷ lines) [] f (Faulty m j) r s = absurd (not_both_at at.inside t l j r.0 s.1)
+one_walk at (t ∷ ts) (l ∷ lines) (m ∷ others) f g r s =
+    let same : m ≡ l = one_line_at at.inside t m l s.0 r.0 in
+    let more = one_walk (after at l) ts lines others f g r.1 (subst (λ (x : Line Word). ReadsLines (after at x) ts others g) same s.1) in
+    (ap (λ (x : Line Word). x ∷ others) same ∙ ap (λ (xs : List (Line Word)). l ∷ xs) more.0, more.1)
+
+pub some_reading : (text : List ℕ) → (lines : List (Line Word)) × (f : Finish) × IsReading text lines f
+some_reading text = let w = some_walk start (lines_of text) in (w.0, w.1, reading_of text w.0 w.1 w.2)
+
+pub one_reading_of : (text : List ℕ) (lines others : List (Line Word)) (f g : Finish) → IsReading text lines f
+    → IsReading text others g → (others ≡ lines) × (g ≡ f)
+one_reading_of text lines others f g r s =
+    one_walk start (lines_of text) lines others f g (reads_as text lines f r) (reads_as text others g s)
+
+-- ---- which fault is reported
+
+some_same : (t u : List ℕ) → Some t ≡ Some u → t ≡ u
+some_same t u e = cc
+
+pub no_fault_before : (text : List ℕ) (lines : List (Line Word)) (f : Finish) → IsReading text lines f
+    → HaveNoFault (lines_of text) lines
+no_fault_before text lines f r front back line piece kind e at =
+    let h = r.are_lines front back line e in
+    let here : slice_get (lines_of text) (length front) ≡ Some h.0 = ap (λ (ts : List (List ℕ)). slice_get ts (length front)) (sym (pieces_lines text r.pieces r.are_pieces)) ∙ h.1 in
+    not_both_at (is_open_after front) piece line kind
+    (subst (λ (t : List ℕ). IsLineAt (is_open_after front) t line) (some_same h.0 piece (sym here ∙ at)) h.2)
+
+pub never_closed : (text : List ℕ) (lines : List (Line Word)) (number : ℕ)
+    → IsReading text lines (Faulty number OpenBlock) → IsNeverClosed (lines_of text) lines number
+never_closed text lines number r =
+    elim r.ends [
+      | inl s ↦ absurd (no_open_block_at (is_open_after lines) s.piece s.has_fault)
+      | inr s ↦ (s.0.0 ∙ ap length (pieces_lines text r.pieces r.are_pieces), s.0.1)
+    ]
+
+-- ---- the results of reading bytes
+
+only_text : (text : List ℕ) (lines : List (Line Word)) (f : Finish) → IsReading text lines f → IsOnlyText text lines f
+only_text text lines f r =
+    record { reads = reads_as text lines f r; only = λ others g s. one_walk start (lines_of text) lines others f g (reads_as text lines f r) s }
+
+pub parsed_reading : (bytes : List ℕ) (answer : Result (List (Line Placed)) SyntaxFault) → IsParsedAs bytes answer
+    → IsReadingResult bytes answer
+parsed_reading bytes (Ok doc) h = (h.0, reading_of bytes (plain_lines doc) Whole h.1.reads)
+parsed_reading bytes (Err faults.NoMemory) h = h
+parsed_reading bytes (Err faults.TooMany) h = h
+parsed_reading bytes (Err faults.NotUtf8) h = h
+parsed_reading bytes (Err (faults.Syntax number kind)) h =
+    (h.0, h.1, reading_of bytes h.1 (Faulty number kind) h.2.reads)
+
+pub reading_parsed : (bytes : List ℕ) (answer : Result (List (Line Placed)) SyntaxFault)
+    → IsReadingResult bytes answer → IsParsedAs bytes answer
+reading_parsed bytes (Ok doc) h = (h.0, only_text bytes (plain_lines doc) Whole h.1)
+reading_parsed bytes (Err faults.NoMemory) h = h
+reading_parsed bytes (Err faults.TooMany) h = h
+reading_parsed bytes (Err faults.NotUtf8) h = h
+reading_parsed bytes (Err (faults.Syntax number kind)) h = (h.0, h.1, only_text bytes h.1 (Faulty number kind) h.2)
