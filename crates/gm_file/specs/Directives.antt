@@ -7,7 +7,7 @@ use Rattle.gm_syntax.specs.Words.{Word}
 use Rattle.gm_syntax.specs.Document.{Line, Blank, Comment, Open, Close, Entry, is_mark}
 use Rattle.gm_syntax.specs.declared.word.Kind.{Kind}
 use Rattle.gm_syntax.specs.declared.word.Kind.TheVariants.{Mark}
-use Rattle.gm_file.specs.Values.{argument, both, is_folder}
+use Rattle.gm_file.specs.Values.{argument, both, is_folder_path}
 
 -- ---- the verbs
 
@@ -124,11 +124,11 @@ left_of _ = None
 
 -- the right side that is a folder alone
 abbrev pub folder_right : List ℕ → Option Right
-folder_right text = if is_folder text then Some (Folder text) else None
+folder_right text = if is_folder_path text then Some (Folder text) else None
 
 -- the right side that is a path and a version; a folder has no version
 abbrev pub module_right : List ℕ → List ℕ → Option Right
-module_right path version = if is_folder path then None else Some (Module path version)
+module_right path version = if is_folder_path path then None else Some (Module path version)
 
 -- the right side, from the words after the arrow: a folder alone, or a path that is not a folder and a version
 abbrev pub right_of : List Word → Option Right

@@ -23,6 +23,6 @@ abbrev pub argument : Word → Option (List ℕ)
 argument w = argument_of_kind w.kind w.spelling
 
 -- a text is a folder: `.`, `..`, or one that begins with `./`, `../` or `/`
-unfoldable pub is_folder : List ℕ → Bool
-is_folder text = bytes_eq text (codes ".") || bytes_eq text (codes "..") || starts_with nat_eq text (codes "./")
+unfoldable pub is_folder_path : List ℕ → Bool
+is_folder_path text = bytes_eq text (codes ".") || bytes_eq text (codes "..") || starts_with nat_eq text (codes "./")
     || starts_with nat_eq text (codes "../") || starts_with nat_eq text (codes "/")

@@ -81,7 +81,7 @@ fn left_text(alloc: Global, words: &[Token]) -> Result<LeftText, LineFault>
 
 /// The texts of the right side: a folder alone, or a module path with a version. Other words are refused with
 /// `WrongArguments`, and so are a folder with a version and a module path without one.
-#[tactic(auto, unfolding(crate::specs::Values::is_folder))]
+#[tactic(auto, unfolding(crate::specs::Values::is_folder_path))]
 fn right_text(alloc: Global, words: &[Token]) -> Result<RightText, LineFault>
     ensures { IsRead right_text_view DirectiveKind.WrongArguments no_kinds (right_of (words_of words.now)) result }
 {

@@ -3,7 +3,7 @@
 
 ghost use Rattle.std.specs.Prelude.{◌≡◌};
 ghost use Rattle.gm_file.specs.Directives.{dependency_verb, is_arrow, main_verb, verb_in};
-ghost use Rattle.gm_file.specs.Values.{is_folder};
+ghost use Rattle.gm_file.specs.Values.{is_folder_path};
 ghost use Rattle.gm_file.specs.VerbViews.{mode_view, verb_view};
 
 use gm_syntax::{Kind, Token};
@@ -84,9 +84,9 @@ pub(crate) fn verb_in(mode: Mode, text: &str) -> Verb
 
 /// Whether the right side of a `replace` is a folder rather than a module path (Go Modules Reference, "replace
 /// directive"): `.`, `..`, or a text that begins with `./`, `../` or `/`.
-#[tactic(auto, unfolding(crate::specs::Values::is_folder))]
+#[tactic(auto, unfolding(crate::specs::Values::is_folder_path))]
 pub fn is_folder(text: &str) -> bool
-    ensures { result ≡ is_folder text.now }
+    ensures { result ≡ is_folder_path text.now }
 {
     text == "."
         || text == ".."

@@ -11,7 +11,7 @@ use Rattle.gm_syntax.specs.LineViews.{line_of, line_views}
 use Rattle.gm_file.specs.Directives.{Directive, block_after_line}
 use Rattle.gm_file_edit.specs.declared.adding.Spot.{Spot}
 use Rattle.gm_file_edit.specs.Adding.{added, added_at, after_first_that, spot_after_first, spot_after_last, spot_after_line, close_len, entry_at, further, past_block, insert_at_spot, single}
-use Rattle.gm_file_edit.specs.Fates.{IsValidAt, held_at, passes}
+use Rattle.gm_file_edit.specs.Fates.{IsValidAt, directive_at, passes}
 use Rattle.gm_file_edit.proofs.Sound.{SoundFrom}
 
 -- the same position with `n` more lines before it
@@ -59,13 +59,13 @@ place-more n block true best None = refl
 place-more n block false best None = refl
 
 pub seek-more : (test : Directive → Bool) (whole rest more : List (Line Placed)) (block next_block : Option Placed) (n : ℕ) (best next : Option Spot) (line : Line Placed) → rest ≡ line ∷ more → next_block ≡ block_after_line block line
-    → next ≡ better n block (passes test (held_at block line)) best → IsSoughtTo test whole rest block n best → IsSoughtTo test whole more next_block (n + 1) next
+    → next ≡ better n block (passes test (directive_at block line)) best → IsSoughtTo test whole rest block n best → IsSoughtTo test whole more next_block (n + 1) next
 seek-more test whole rest more block next_block n best next line is behind found so =
     let s = subst (SoundFrom so.sound.0 block) is so.sound.1 in
     rw (behind, found) (record {
-      sound = (so.sound.0 ++ option_to_list (held_at block line), s.2);
+      sound = (so.sound.0 ++ option_to_list (directive_at block line), s.2);
       place =
-          place-more n block (passes test (held_at block line)) best (spot_after_last test (block_after_line block line) more)
+          place-more n block (passes test (directive_at block line)) best (spot_after_last test (block_after_line block line) more)
           ∙ ap (λ (lines : List (Line Placed)). option_or (option_map (shifted n) (spot_after_last test block lines)) best) (sym is) ∙ so.place;
     })
 
@@ -87,25 +87,25 @@ further-all n None = refl
 further-all n (Some spot) = ap Some (shifted-further n spot)
 
 -- the position found in the lines, if the first line passes the test and if it doesn't
-met : (test : Directive → Bool) (block : Option Placed) (line : Line Placed) (lines : List (Line Placed)) (n : ℕ) → passes test (held_at block line) ≡ true
+met : (test : Directive → Bool) (block : Option Placed) (line : Line Placed) (lines : List (Line Placed)) (n : ℕ) → passes test (directive_at block line) ≡ true
     → Some (record { before = n + 1; inside = is_some block }) ≡ option_map (shifted n) (spot_after_first test block (line ∷ lines))
 met test block line lines n e = rw e refl
 
-unmet : (test : Directive → Bool) (block : Option Placed) (line : Line Placed) (lines : List (Line Placed)) (n : ℕ) → passes test (held_at block line) ≡ false
+unmet : (test : Directive → Bool) (block : Option Placed) (line : Line Placed) (lines : List (Line Placed)) (n : ℕ) → passes test (directive_at block line) ≡ false
     → option_map (shifted (n + 1)) (spot_after_first test (block_after_line block line) lines) ≡ option_map (shifted n) (spot_after_first test block (line ∷ lines))
 unmet test block line lines n e = rw e (further-all n (spot_after_first test (block_after_line block line) lines))
 
 pub meet-more : (test : Directive → Bool) (whole rest more : List (Line Placed)) (block next_block : Option Placed) (n : ℕ) (line : Line Placed) → rest ≡ line ∷ more → next_block ≡ block_after_line block line
-    → passes test (held_at block line) ≡ false → IsUnmet test whole rest block n → IsUnmet test whole more next_block (n + 1)
+    → passes test (directive_at block line) ≡ false → IsUnmet test whole rest block n → IsUnmet test whole more next_block (n + 1)
 meet-more test whole rest more block next_block n line is behind fails so =
     let s = subst (SoundFrom so.sound.0 block) is so.sound.1 in
     rw behind (record {
-      sound = (so.sound.0 ++ option_to_list (held_at block line), s.2);
+      sound = (so.sound.0 ++ option_to_list (directive_at block line), s.2);
       place = unmet test block line more n fails ∙ ap (λ (lines : List (Line Placed)). option_map (shifted n) (spot_after_first test block lines)) (sym is) ∙ so.place;
     })
 
 pub meet-found : (test : Directive → Bool) (whole rest more : List (Line Placed)) (block : Option Placed) (n : ℕ) (line : Line Placed) → rest ≡ line ∷ more
-    → passes test (held_at block line) ≡ true → IsUnmet test whole rest block n → Some (record { before = n + 1; inside = is_some block }) ≡ spot_after_first test None whole
+    → passes test (directive_at block line) ≡ true → IsUnmet test whole rest block n → Some (record { before = n + 1; inside = is_some block }) ≡ spot_after_first test None whole
 meet-found test whole rest more block n line is holds so =
     met test block line more n holds ∙ ap (λ (lines : List (Line Placed)). option_map (shifted n) (spot_after_first test block lines)) (sym is) ∙ so.place
 

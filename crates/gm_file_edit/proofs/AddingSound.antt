@@ -23,7 +23,7 @@ use Rattle.gm_file_edit.specs.declared.adding.AddedVerb.{AddedVerb}
 use Rattle.gm_file_edit.specs.declared.adding.AddedVerb.TheVariants as verb
 use Rattle.gm_file_edit.specs.declared.adding.Spot.{Spot}
 use Rattle.gm_file_edit.specs.Adding.{added, added_at, after_first_that, spot_after_first, spot_after_last, spot_after_line, close_len, entry_at, further, is_of, past_block, insert_at_spot, single, verb_text}
-use Rattle.gm_file_edit.specs.Fates.{held_at, item_of, passes, word_of}
+use Rattle.gm_file_edit.specs.Fates.{directive_at, item_of, passes, word_of}
 use Rattle.gm_file_edit.proofs.Sound.{SoundFrom, both-nil, file-sound, nil-parts, sound-file}
 use Rattle.gm_file_edit.proofs.Leaving.{AreMild, Near, clashes, kinds-near}
 
@@ -32,7 +32,8 @@ use Rattle.gm_file_edit.proofs.Leaving.{AreMild, Near, clashes, kinds-near}
 -- the directives that lines hold, given the verb of the open block, if any
 abbrev pub held_from : Option Placed → List (Line Placed) → List Directive
 held_from block [] = []
-held_from block (line ∷ lines) = option_to_list (held_at block line) ++ held_from (block_after_line block line) lines
+held_from block (line ∷ lines) =
+    option_to_list (directive_at block line) ++ held_from (block_after_line block line) lines
 
 to-option : (o : Option Directive) (rest : List Directive) → cons_option o rest ≡ option_to_list o ++ rest
 to-option None rest = refl
@@ -48,9 +49,9 @@ block-plain block (Entry words suffix) = refl
 said-held : (block : Option Placed) (lines : List (Line Placed)) → filter_map (said Strict) (with_blocks_from (option_map word_of block) (plain_lines lines)) ≡ held_from block lines
 said-held block [] = refl
 said-held block (line ∷ lines) =
-    to-option (held_at block line) (filter_map (said Strict) (with_blocks_from (block_after_line (option_map word_of block) (plain line)) (plain_lines lines)))
-    ∙ ap (λ (b : Option Word). option_to_list (held_at block line) ++ filter_map (said Strict) (with_blocks_from b (plain_lines lines))) (block-plain block line)
-    ∙ ap (λ (ds : List Directive). option_to_list (held_at block line) ++ ds) (said-held (block_after_line block line) lines)
+    to-option (directive_at block line) (filter_map (said Strict) (with_blocks_from (block_after_line (option_map word_of block) (plain line)) (plain_lines lines)))
+    ∙ ap (λ (b : Option Word). option_to_list (directive_at block line) ++ filter_map (said Strict) (with_blocks_from b (plain_lines lines))) (block-plain block line)
+    ∙ ap (λ (ds : List Directive). option_to_list (directive_at block line) ++ ds) (said-held (block_after_line block line) lines)
 
 -- the directives of a file
 pub file-held : (lines : List (Line Placed)) → directives Strict (plain_lines lines) ≡ held_from None lines
@@ -59,7 +60,7 @@ file-held lines = said-held None lines
 pub held-append : (block : Option Placed) (front back : List (Line Placed)) → held_from block (front ++ back) ≡ held_from block front ++ held_from (block_after_lines block front) back
 held-append block [] back = refl
 held-append block (line ∷ front) back =
-    let held : List Directive = option_to_list (held_at block line) in
+    let held : List Directive = option_to_list (directive_at block line) in
     ap (λ (ds : List Directive). held ++ ds) (held-append (block_after_line block line) front back)
     ∙ sym (append_assoc held (held_from (block_after_line block line) front) (held_from (block_after_lines (block_after_line block line) front) back))
 
@@ -68,7 +69,7 @@ held-append block (line ∷ front) back =
 pub back-sound : (earlier : List Directive) (block : Option Placed) (front back : List (Line Placed)) → SoundFrom earlier block (front ++ back) → SoundFrom (earlier ++ held_from block front) (block_after_lines block front) back
 back-sound earlier block [] back sound = subst (λ (ds : List Directive). SoundFrom ds block back) (sym (append-nil earlier)) sound
 back-sound earlier block (line ∷ front) back sound =
-    let held : List Directive = option_to_list (held_at block line) in
+    let held : List Directive = option_to_list (directive_at block line) in
     subst (λ (ds : List Directive). SoundFrom ds (block_after_lines (block_after_line block line) front) back) (append_assoc earlier held (held_from (block_after_line block line) front))
     (back-sound (earlier ++ held) (block_after_line block line) front back sound.2)
 
@@ -76,7 +77,7 @@ other-back : (earlier : List Directive) (block : Option Placed) (front back othe
     → SoundFrom (earlier ++ held_from block front) (block_after_lines block front) others → SoundFrom earlier block (front ++ others)
 other-back earlier block [] back others sound next = subst (λ (ds : List Directive). SoundFrom ds block others) (append-nil earlier) next
 other-back earlier block (line ∷ front) back others sound next =
-    let held : List Directive = option_to_list (held_at block line) in (
+    let held : List Directive = option_to_list (directive_at block line) in (
       sound.0,
       sound.1,
       other-back (earlier ++ held) (block_after_line block line) front back others sound.2
@@ -182,10 +183,10 @@ mild-held new (Some d) e = let here : clashes new d ≡ false = (or-none (clashe
 rest-sound : (new : Directive) (xs ys : List Directive) (block : Option Placed) (lines : List (Line Placed)) → Near new true xs ys → list_any (clashes new) (held_from block lines) ≡ false → SoundFrom ys block lines → SoundFrom xs block lines
 rest-sound new xs ys block [] u mild sound = (sound.0, u.declared sound.1)
 rest-sound new xs ys block (line ∷ lines) u mild sound =
-    let held : List Directive = option_to_list (held_at block line) in
+    let held : List Directive = option_to_list (directive_at block line) in
     let parts = or-none (list_any (clashes new) held) (list_any (clashes new) (held_from (block_after_line block line) lines)) (sym (list_any-append (clashes new) held (held_from (block_after_line block line) lines)) ∙ mild) in (
       sound.0,
-      kinds-near new true xs ys (item_of block line) (mild-held new (held_at block line) parts.0) u sound.1,
+      kinds-near new true xs ys (item_of block line) (mild-held new (directive_at block line) parts.0) u sound.1,
       rest-sound new (xs ++ held) (ys ++ held) (block_after_line block line) lines (near-more new xs ys held u) parts.1 sound.2,
     )
 
@@ -243,7 +244,7 @@ held-kinds earlier (Saying text arguments) new e k = ap (entry_kinds Strict earl
 -- a line that can be in this block and holds the directive there
 pub record Fits (block : Option Placed) (new : Directive) (line : Line Placed) : Type 0 where
   pub stands : IsValidLine (is_some block) (plain line)
-  pub holds : held_at block line ≡ Some new
+  pub holds : directive_at block line ≡ Some new
   pub level : block_after_line block line ≡ block
 
 line-before : (new : Directive) (earlier : List Directive) (block : Option Placed) (line : Line Placed) (back : List (Line Placed)) → Fits block new line
@@ -336,7 +337,7 @@ abbrev pub IsOfVerb : AddedVerb → Option Placed → Type 0
 IsOfVerb v None = ⊤
 IsOfVerb v (Some t) = verb_in Strict t.word.spelling ≡ verb_of v
 
-passing-verb : (v : AddedVerb) (block : Option Placed) (line : Line Placed) (held : Option Directive) → held_at block line ≡ held → passes (is_of v) held ≡ true → IsOfVerb v block
+passing-verb : (v : AddedVerb) (block : Option Placed) (line : Line Placed) (held : Option Directive) → directive_at block line ≡ held → passes (is_of v) held ≡ true → IsOfVerb v block
 unfolding item_at
 passing-verb v None line held is e = tt
 passing-verb v (Some t) line None is e = absurd cc
@@ -346,7 +347,7 @@ passing-verb v (Some t) (Open opened suffix) (Some d) is e = absurd cc
 passing-verb v (Some t) (Close suffix) (Some d) is e = absurd cc
 passing-verb v (Some t) (Entry words suffix) (Some d) is e = sym (verb-said (verb_in Strict t.word.spelling) (words_of words) d is) ∙ verb-passed v d e
 
-pub passing-level : (test : Directive → Bool) (block : Option Placed) (line : Line Placed) → passes test (held_at block line) ≡ true → block_after_line block line ≡ block
+pub passing-level : (test : Directive → Bool) (block : Option Placed) (line : Line Placed) → passes test (directive_at block line) ≡ true → block_after_line block line ≡ block
 unfolding item_at
 passing-level test block Blank e = refl
 passing-level test block (Comment text) e = refl
@@ -360,7 +361,7 @@ pub record IsIn (block : Option Placed) (lines : List (Line Placed)) (spot : Spo
   pub in_range : spot.before ≤ length lines
 
 -- the position directly after a line that passes the test
-in-here : (test : Directive → Bool) (block : Option Placed) (line : Line Placed) (lines : List (Line Placed)) → passes test (held_at block line) ≡ true → IsIn block (line ∷ lines) (spot_after_line block)
+in-here : (test : Directive → Bool) (block : Option Placed) (line : Line Placed) (lines : List (Line Placed)) → passes test (directive_at block line) ≡ true → IsIn block (line ∷ lines) (spot_after_line block)
 in-here test block line lines e = record { inside = ap is_some (passing-level test block line e); in_range = omega arith }
 
 in-next : (block : Option Placed) (line : Line Placed) (lines : List (Line Placed)) (spot : Spot) → IsIn (block_after_line block line) lines spot → IsIn block (line ∷ lines) (further spot)
@@ -384,15 +385,15 @@ IsVerbSpot v block lines spot = IsIn block lines spot × IsOfVerb v (block_after
 
 last-step : (v : AddedVerb) (block : Option Placed) (line : Line Placed) (lines : List (Line Placed)) (later : Option Spot) (spot : Spot)
     → ((s : Spot) → later ≡ Some s → IsVerbSpot v (block_after_line block line) lines s)
-    → option_or (option_map further later) (if passes (is_of v) (held_at block line) then Some (spot_after_line block) else None) ≡ Some spot → IsVerbSpot v block (line ∷ lines) spot
+    → option_or (option_map further later) (if passes (is_of v) (directive_at block line) then Some (spot_after_line block) else None) ≡ Some spot → IsVerbSpot v block (line ∷ lines) spot
 last-step v block line lines (Some s) spot h e =
     let is = h s refl in
     let same : further s ≡ spot = cc in
     subst (IsVerbSpot v block (line ∷ lines)) same (in-next block line lines s is.0, is.1)
 last-step v block line lines None spot h e =
-    let here = if-here (passes (is_of v) (held_at block line)) (spot_after_line block) spot e in
+    let here = if-here (passes (is_of v) (directive_at block line)) (spot_after_line block) spot e in
     let level : block_after_line block line ≡ block = passing-level (is_of v) block line here.0 in
-    subst (IsVerbSpot v block (line ∷ lines)) here.1 (in-here (is_of v) block line lines here.0, subst (IsOfVerb v) (sym level) (passing-verb v block line (held_at block line) refl here.0))
+    subst (IsVerbSpot v block (line ∷ lines)) here.1 (in-here (is_of v) block line lines here.0, subst (IsOfVerb v) (sym level) (passing-verb v block line (directive_at block line) refl here.0))
 
 pub last-is : (v : AddedVerb) (block : Option Placed) (lines : List (Line Placed)) (spot : Spot) → spot_after_last (is_of v) block lines ≡ Some spot → IsVerbSpot v block lines spot
 last-is v block [] spot e = absurd cc
@@ -403,7 +404,7 @@ last-in-range v lines spot e = let is = last-is v None lines spot e in is.0.in_r
 
 pub first-is-in : (test : Directive → Bool) (block : Option Placed) (lines : List (Line Placed)) (spot : Spot) → spot_after_first test block lines ≡ Some spot → IsIn block lines spot
 first-is-in test block [] spot e = absurd cc
-first-is-in test block (line ∷ lines) spot e = elim (if-later (passes test (held_at block line)) (spot_after_line block) (option_map further (spot_after_first test (block_after_line block line) lines)) spot e) [
+first-is-in test block (line ∷ lines) spot e = elim (if-later (passes test (directive_at block line)) (spot_after_line block) (option_map further (spot_after_first test (block_after_line block line) lines)) spot e) [
   | inl here ↦ subst (IsIn block (line ∷ lines)) here.1 (in-here test block line lines here.0)
   | inr there ↦
       let s = mapped-further (spot_after_first test (block_after_line block line) lines) spot there in
@@ -421,11 +422,12 @@ block-append block (line ∷ front) back = block-append (block_after_line block 
 
 closed : (earlier : List Directive) (t : Placed) (lines : List (Line Placed)) → SoundFrom earlier (Some t) lines → block_after_lines (Some t) (take (close_len lines) lines) ≡ None
 closed earlier t [] sound = sound.0
-closed earlier t (Blank ∷ lines) sound = closed (earlier ++ option_to_list (held_at (Some t) Blank)) t lines sound.2
-closed earlier t (Comment text ∷ lines) sound = closed (earlier ++ option_to_list (held_at (Some t) (Comment text))) t lines sound.2
-closed earlier t (Open opened suffix ∷ lines) sound = closed (earlier ++ option_to_list (held_at (Some t) (Open opened suffix))) opened lines sound.2
+closed earlier t (Blank ∷ lines) sound =
+    closed (earlier ++ option_to_list (directive_at (Some t) Blank)) t lines sound.2
+closed earlier t (Comment text ∷ lines) sound = closed (earlier ++ option_to_list (directive_at (Some t) (Comment text))) t lines sound.2
+closed earlier t (Open opened suffix ∷ lines) sound = closed (earlier ++ option_to_list (directive_at (Some t) (Open opened suffix))) opened lines sound.2
 closed earlier t (Close suffix ∷ lines) sound = refl
-closed earlier t (Entry words suffix ∷ lines) sound = closed (earlier ++ option_to_list (held_at (Some t) (Entry words suffix))) t lines sound.2
+closed earlier t (Entry words suffix ∷ lines) sound = closed (earlier ++ option_to_list (directive_at (Some t) (Entry words suffix))) t lines sound.2
 
 closed-in : (earlier : List Directive) (block : Option Placed) (lines : List (Line Placed)) → is_some block ≡ true → SoundFrom earlier block lines → block_after_lines block (take (close_len lines) lines) ≡ None
 closed-in earlier None lines e sound = absurd cc
@@ -458,7 +460,7 @@ pub record IsAddition (v : AddedVerb) (arguments : List Placed) (new : Directive
   pub says : directive_of (verb_of v) (words_of arguments) ≡ Some new
 
 single-holds : (text : List ℕ) (v : Verb) (arguments : List Placed) (new : Directive) → verb_in Strict (new_word text).spelling ≡ v → is_empty_block (words_of arguments) ≡ false
-    → directive_of v (words_of arguments) ≡ Some new → held_at None (single text arguments) ≡ Some new
+    → directive_of v (words_of arguments) ≡ Some new → directive_at None (single text arguments) ≡ Some new
 unfolding item_at
 single-holds text v arguments new named filled says = rw (filled, named) says
 

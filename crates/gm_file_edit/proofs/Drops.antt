@@ -13,7 +13,7 @@ use Rattle.gm_file.specs.Directives.{Strict, Directive, DeclaresModule, Declares
 use Rattle.gm_file.specs.Faults.{item_kinds}
 use Rattle.gm_file.specs.Fields.{first}
 use Rattle.gm_file_edit.specs.declared.walk.Walk as declared_walk
-use Rattle.gm_file_edit.specs.Fates.{Fate, IsValidAt, dropped, dropping_from, fate_of, held_at, remaining_from, passes, word_of}
+use Rattle.gm_file_edit.specs.Fates.{Fate, IsValidAt, dropped, dropping_from, fate_of, directive_at, remaining_from, passes, word_of}
 use Rattle.gm_file_edit.specs.Walks.{remaining_by}
 use Rattle.gm_file_edit.proofs.Sound.{SoundFrom}
 use Rattle.gm_file_edit.proofs.Leaving.{AreMarked, AreMild, IsGone, Marked, Near, fates_in, left-sound, lines_in}
@@ -30,7 +30,7 @@ read-held item None h = sym h.0
 read-held item (Some d) h = sym h.0
 
 pub line-read : (block : Option (Bor Placed)) (line : Line Placed) (read : Option declared.Directive) → IsLineRead Strict (item_at (option_map (λ t. t.now.word) block, plain line)) (Ok read)
-    → option_map directive_view read ≡ held_at (option_map (λ t. t.now) block) line
+    → option_map directive_view read ≡ directive_at (option_map (λ t. t.now) block) line
 line-read block line read h = read-held (item_at (option_map (λ t. t.now.word) block, plain line)) read h ∙ ap (λ (b : Option Word). directive_in Strict (item_at (b, plain line))) (block-words block)
 
 pub never-wrong : (P : Type 0) (block : Option (Bor Placed)) (line : Line Placed) (kind : DirectiveKind) → IsValidAt (option_map (λ t. t.now) block) line
@@ -56,7 +56,7 @@ pub drop-more : (test : Directive → Bool) (whole rest more : List (Line Placed
 drop-more test whole rest more block next_block line old next fate is behind fated moved so =
     let s = subst (SoundFrom so.sound.0 block) is so.sound.1 in
     subst (λ (b : Option Placed). IsDroppedTo test whole more b next) (sym behind) (record {
-      sound = (so.sound.0 ++ option_to_list (held_at block line), s.2);
+      sound = (so.sound.0 ++ option_to_list (directive_at block line), s.2);
       left =
           moved (dropping_from test (block_after_line block line) more) ∙ ap (λ (f : Fate). remaining_by old (f ∷ dropping_from test (block_after_line block line) more)) fated
           ∙ ap (λ (lines : List (Line Placed)). remaining_by old (dropping_from test block lines)) (sym is) ∙ so.left;
@@ -87,15 +87,15 @@ mild-kept (Some (Replaces r)) = (refl, refl)
 mild-kept (Some (Retracts ends)) = (refl, refl)
 mild-kept (Some Kept) = (refl, refl)
 
-pub gone-line : (test : Directive → Bool) → ((d : Directive) → test d ≡ true → is_module d ≡ false) → (block : Option Placed) (line : Line Placed) (held : Option Directive) → held_at block line ≡ held → passes test held ≡ true → IsGone block line
+pub gone-line : (test : Directive → Bool) → ((d : Directive) → test d ≡ true → is_module d ≡ false) → (block : Option Placed) (line : Line Placed) (held : Option Directive) → directive_at block line ≡ held → passes test held ≡ true → IsGone block line
 gone-line test other block line None is e = absurd cc
 gone-line test other block line (Some d) is e = record { was = d; held = is; undeclared = other d e }
 
 dropping-marked : (test : Directive → Bool) → ((d : Directive) → test d ≡ true → is_module d ≡ false) → (block : Option Placed) (lines : List (Line Placed)) → AreMarked Kept true block (dropping test block lines)
 dropping-marked test other block [] = tt
-dropping-marked test other block (line ∷ lines) = elim (cases_Bool (passes test (held_at block line))) [
-  | inl holds ↦ rw holds (gone-line test other block line (held_at block line) refl holds, dropping-marked test other (block_after_line block line) lines)
-  | inr fails ↦ rw fails (inl (refl, mild-kept (held_at block line), dropping-marked test other (block_after_line block line) lines))
+dropping-marked test other block (line ∷ lines) = elim (cases_Bool (passes test (directive_at block line))) [
+  | inl holds ↦ rw holds (gone-line test other block line (directive_at block line) refl holds, dropping-marked test other (block_after_line block line) lines)
+  | inr fails ↦ rw fails (inl (refl, mild-kept (directive_at block line), dropping-marked test other (block_after_line block line) lines))
 ]
 
 near-same : (xs : List Directive) → Near Kept true xs xs

@@ -25,7 +25,7 @@ use Rattle.gm_file_edit.specs.Edits.{Edit, SetModule, SetGo, SetRequire, DropReq
 use Rattle.gm_file_edit.specs.About.{about, excludes_pair, is_replaced_by, replaces_left, requires_path, retracts_ends}
 use Rattle.gm_file_edit.specs.Adding.{single, verb_text}
 use Rattle.gm_file_edit.specs.Changes.{changed, edited, is_fit, put_in}
-use Rattle.gm_file_edit.specs.Fates.{held_at, passes, renewed}
+use Rattle.gm_file_edit.specs.Fates.{directive_at, passes, renewed}
 use Rattle.gm_file_edit.specs.NewWords.{interval_words, made_word, pair_words, replace_words}
 use Rattle.gm_file_edit.specs.Renewing.{made_new, with_arguments, with_last}
 use Rattle.gm_file_edit.specs.Searching.{is_there, is_there_from}
@@ -59,9 +59,10 @@ or-neither a b e f = rw (e, f) refl
 pub none-from : (test : Directive → Bool) (block : Option Placed) (lines : List (Line Placed)) → is_there_from test block lines ≡ false → list_any test (held_from block lines) ≡ false
 none-from test block [] e = refl
 none-from test block (line ∷ lines) e =
-    let parts = or-none (passes test (held_at block line)) (is_there_from test (block_after_line block line) lines) e in
-    list_any-append test (option_to_list (held_at block line)) (held_from (block_after_line block line) lines)
-    ∙ or-neither (list_any test (option_to_list (held_at block line))) (list_any test (held_from (block_after_line block line) lines)) (sym (passes-list test (held_at block line)) ∙ parts.0) (none-from test (block_after_line block line) lines parts.1)
+    let parts = or-none (passes test (directive_at block line))
+    (is_there_from test (block_after_line block line) lines) e in
+    list_any-append test (option_to_list (directive_at block line)) (held_from (block_after_line block line) lines)
+    ∙ or-neither (list_any test (option_to_list (directive_at block line))) (list_any test (held_from (block_after_line block line) lines)) (sym (passes-list test (directive_at block line)) ∙ parts.0) (none-from test (block_after_line block line) lines parts.1)
 
 none-there : (test : Directive → Bool) (lines : List (Line Placed)) → is_there test lines ≡ false → list_any test (directives Strict (plain_lines lines)) ≡ false
 none-there test lines e = ap (list_any test) (file-held lines) ∙ none-from test None lines e

@@ -7,7 +7,7 @@ use Rattle.std.proofs.lemmas.Bool.Decides.{nat_tests}
 use Rattle.gm_name.specs.Element.{has_outer_dot, is_dotted_name, is_element, is_path_byte, is_reserved, is_shortened, stem}
 use Rattle.gm_name.specs.Names.{is_path}
 use Rattle.gm_name.proofs.NameTests.{and_both, not_true, path-tested}
-use Rattle.gm_file.specs.Values.{is_folder}
+use Rattle.gm_file.specs.Values.{is_folder_path}
 
 -- the text starts with a byte that is neither a dot nor a slash
 record BeginsAside (text : List ℕ) : Type 0 where
@@ -47,15 +47,15 @@ joined-begins (e ∷ f ∷ es) some all =
     let first = element-begins e (and_both (is_element e) (list_all is_element (f ∷ es)) all).0 in
     record { byte = first.byte; rest = first.rest ++ 47 ∷ join_with_byte 47 (f ∷ es); is = ap (λ (t : List ℕ). t ++ 47 ∷ join_with_byte 47 (f ∷ es)) first.is; no_dot = first.no_dot; no_slash = first.no_slash }
 
-begins-no-folder : (b : ℕ) (rest : List ℕ) → (b == 46) ≡ false → (b == 47) ≡ false → is_folder (b ∷ rest) ≡ false
-unfolding is_folder
+begins-no-folder : (b : ℕ) (rest : List ℕ) → (b == 46) ≡ false → (b == 47) ≡ false → is_folder_path (b ∷ rest) ≡ false
+unfolding is_folder_path
 begins-no-folder b rest dot slash =
     let other_dot : (46 == b) ≡ false = grind (arith, nat_tests) in
     let other_slash : (47 == b) ≡ false = grind (arith, nat_tests) in
     rw (dot, other_dot, other_slash) refl
 
-pub path-no-folder : (text : List ℕ) → is_path text ≡ true → is_folder text ≡ false
+pub path-no-folder : (text : List ℕ) → is_path text ≡ true → is_folder_path text ≡ false
 path-no-folder text h =
     let path = (path-tested text).0 h in
     let b = joined-begins path.elements path.some path.each in
-    subst (λ (t : List ℕ). is_folder t ≡ false) (sym (path.joined ∙ b.is)) (begins-no-folder b.byte b.rest b.no_dot b.no_slash)
+    subst (λ (t : List ℕ). is_folder_path t ≡ false) (sym (path.joined ∙ b.is)) (begins-no-folder b.byte b.rest b.no_dot b.no_slash)

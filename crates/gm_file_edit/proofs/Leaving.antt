@@ -13,7 +13,7 @@ use Rattle.gm_file.specs.declared.fault.DirectiveKind.{DirectiveKind}
 use Rattle.gm_file.specs.declared.fault.DirectiveKind.TheVariants.{BadGo, Repeated, ConflictingReplace}
 use Rattle.gm_file.specs.Directives.{Strict, Directive, DeclaresModule, DeclaresGo, Requires, Excludes, Replaces, Retracts, Kept, Item, Silent, Opening, Saying, Verb, block_after_line, directive_in, directive_of, item_at, verb_in}
 use Rattle.gm_file.specs.Faults.{conflicts, directive_kinds, go_in, is_go, is_module, item_kinds, path_kinds, entry_kinds, sides_kinds, unless}
-use Rattle.gm_file_edit.specs.Fates.{Begun, Fate, held_at, is_blank, is_emptied, item_of, kept, leaves_nothing, remaining_from, with_line}
+use Rattle.gm_file_edit.specs.Fates.{Begun, Fate, directive_at, is_blank_source_line, is_emptied, item_of, kept, leaves_nothing, remaining_from, with_line}
 use Rattle.gm_file_edit.proofs.Sound.{SoundFrom, both-nil, nil-parts}
 use Rattle.gm_name.proofs.NameTests.{and_both}
 
@@ -143,19 +143,19 @@ fates_in ms = map (λ (m : Marked). m.1) ms
 -- an entry that is removed
 pub record IsGone (block : Option Placed) (line : Line Placed) : Type 0 where
   pub was : Directive
-  pub held : held_at block line ≡ Some was
+  pub held : directive_at block line ≡ Some was
   pub undeclared : is_module was ≡ false
 
 -- an entry that is rewritten
 pub record IsMadeNew (new : Directive) (block : Option Placed) (line next : Line Placed) : Type 0 where
   pub was : Directive
-  pub held : held_at block line ≡ Some was
+  pub held : directive_at block line ≡ Some was
   pub declared : is_module was ≡ true → is_module new ≡ true
   pub words : List Placed
   pub suffix : Option (List ℕ)
   pub is_entry : next ≡ Entry words suffix
   pub stands : IsValidLine (is_some block) (plain (Entry words suffix))
-  pub holds : held_at block (Entry words suffix) ≡ Some new
+  pub holds : directive_at block (Entry words suffix) ≡ Some new
   pub sound : (earlier : List Directive) → list_any (clashes new) earlier ≡ false → item_kinds Strict earlier (item_of block (Entry words suffix)) ≡ []
 
 -- Each line stays as is and doesn't clash with the new directive, or is removed, or is rewritten. At most one is
@@ -164,10 +164,10 @@ abbrev pub AreMarked : Directive → Bool → Option Placed → List Marked → 
 AreMarked new there block [] = ⊤
 AreMarked new there block ((line, None) ∷ ms) = IsGone block line × AreMarked new there (block_after_line block line) ms
 AreMarked new there block ((line, Some next) ∷ ms) =
-    ((next ≡ line) × AreMild new (held_at block line) × AreMarked new there (block_after_line block line) ms)
+    ((next ≡ line) × AreMild new (directive_at block line) × AreMarked new there (block_after_line block line) ms)
     ⊎ ((there ≡ false) × IsMadeNew new block line next × AreMarked new true (block_after_line block line) ms)
 
-entry-behind : (block : Option Placed) (line : Line Placed) (d : Directive) → held_at block line ≡ Some d → block_after_line block line ≡ block
+entry-behind : (block : Option Placed) (line : Line Placed) (d : Directive) → directive_at block line ≡ Some d → block_after_line block line ≡ block
 unfolding item_at
 entry-behind block Blank d e = refl
 entry-behind block (Comment text) d e = refl
@@ -191,12 +191,12 @@ gone-next new there xs ys block line ms lines gone u sound marked next =
 
 -- a line that stays as is
 stay-next : (new : Directive) (there : Bool) (xs ys : List Directive) (block : Option Placed) (line : Line Placed) (ms : List Marked) (lines : List (Line Placed))
-    → AreMild new (held_at block line) → Near new there xs ys → SoundFrom ys block (line ∷ lines_in ms) → AreMarked new there (block_after_line block line) ms → GoesOn new ms lines → SoundFrom xs block (line ∷ lines)
+    → AreMild new (directive_at block line) → Near new there xs ys → SoundFrom ys block (line ∷ lines_in ms) → AreMarked new there (block_after_line block line) ms → GoesOn new ms lines → SoundFrom xs block (line ∷ lines)
 stay-next new there xs ys block line ms lines mild u sound marked next = (
   sound.0,
   kinds-near new there xs ys (item_of block line) mild u sound.1,
-  next there (xs ++ option_to_list (held_at block line)) (ys ++ option_to_list (held_at block line)) (block_after_line block line)
-      (near-both new there xs ys (option_to_list (held_at block line)) (mild-list new (held_at block line) mild) u) sound.2 marked,
+  next there (xs ++ option_to_list (directive_at block line)) (ys ++ option_to_list (directive_at block line)) (block_after_line block line)
+      (near-both new there xs ys (option_to_list (directive_at block line)) (mild-list new (directive_at block line) mild) u) sound.2 marked,
 )
 
 -- a line that is rewritten
@@ -233,7 +233,7 @@ record Emptied (new : Directive) (xs : List Directive) (block : Option Placed) (
   pub marked : AreMarked new there block ms
 
 -- a line that stays blank was blank, so it held no directive
-blank-same : (line next : Line Placed) → next ≡ line → is_blank next ≡ true → line ≡ Blank
+blank-same : (line next : Line Placed) → next ≡ line → is_blank_source_line next ≡ true → line ≡ Blank
 blank-same line Blank e b = sym e
 blank-same line (Comment text) e b = absurd cc
 blank-same line (Open verb suffix) e b = absurd cc
@@ -258,13 +258,13 @@ empty-sound new ((line, None) ∷ inner) ms there xs ys block e u sound marked =
     (subst (λ (b : Option Placed). SoundFrom (ys ++ gone.was ∷ []) b (lines_in (inner ++ ms))) behind (subst (λ (o : Option Directive). SoundFrom (ys ++ option_to_list o) (block_after_line block line) (lines_in (inner ++ ms))) gone.held sound.2))
     (subst (λ (b : Option Placed). AreMarked new there b (inner ++ ms)) behind marked.1)
 empty-sound new ((line, Some l) ∷ inner) ms there xs ys block e u sound (inl same) =
-    let parts = and_both (is_blank l) (list_all leaves_nothing (fates_in inner)) e in
+    let parts = and_both (is_blank_source_line l) (list_all leaves_nothing (fates_in inner)) e in
     let blank = blank-same line l same.0 parts.0 in
     empty-sound new inner ms there xs ys block parts.1 u (blank-next ys block line (lines_in (inner ++ ms)) blank sound)
     (subst (λ (x : Line Placed). AreMarked new there (block_after_line block x) (inner ++ ms)) blank same.2)
 empty-sound new ((line, Some l) ∷ inner) ms there xs ys block e u sound (inr made) =
-    let parts = and_both (is_blank l) (list_all leaves_nothing (fates_in inner)) e in
-    let wrong : is_blank (Entry made.1.words made.1.suffix) ≡ true = subst (λ (x : Line Placed). is_blank x ≡ true) made.1.is_entry parts.0 in
+    let parts = and_both (is_blank_source_line l) (list_all leaves_nothing (fates_in inner)) e in
+    let wrong : is_blank_source_line (Entry made.1.words made.1.suffix) ≡ true = subst (λ (x : Line Placed). is_blank_source_line x ≡ true) made.1.is_entry parts.0 in
     absurd cc
 
 -- ---- the remaining lines of a file
@@ -308,7 +308,7 @@ closing-behind : (ys : List Directive) (block : Option Placed) (suffix : Option 
 unfolding item_at
 closing-behind ys block suffix lines sound = subst (λ (ds : List Directive). SoundFrom ds None lines) (append-nil ys) sound.2
 
-mild-closing : (new : Directive) (block : Option Placed) (suffix : Option (List ℕ)) → AreMild new (held_at block (Close suffix))
+mild-closing : (new : Directive) (block : Option Placed) (suffix : Option (List ℕ)) → AreMild new (directive_at block (Close suffix))
 unfolding item_at
 mild-closing new block suffix = tt
 
@@ -386,13 +386,13 @@ lone-sound : (new : Directive) (line next : Line Placed) (ms : List Marked) → 
     → Near new there xs ys → SoundFrom ys None (line ∷ lines_in ms) → AreMarked new there None ((line, Some next) ∷ ms) → SoundFrom xs None (next ∷ remaining_from false None (fates_in ms))
 lone-sound new line next ms level go there xs ys u sound (inl same) =
     let s : SoundFrom ys None (next ∷ lines_in ms) = subst (λ (x : Line Placed). SoundFrom ys None (x ∷ lines_in ms)) (sym same.0) sound in
-    let mild : AreMild new (held_at None next) = subst (λ (x : Line Placed). AreMild new (held_at None x)) (sym same.0) same.1 in
+    let mild : AreMild new (directive_at None next) = subst (λ (x : Line Placed). AreMild new (directive_at None x)) (sym same.0) same.1 in
     let marks : AreMarked new there None ms = subst (λ (b : Option Placed). AreMarked new there b ms) (ap (block_after_line None) (sym same.0) ∙ level) same.2 in
-    let behind : SoundFrom (ys ++ option_to_list (held_at None next)) None (lines_in ms) = subst (λ (b : Option Placed). SoundFrom (ys ++ option_to_list (held_at None next)) b (lines_in ms)) level s.2 in (
+    let behind : SoundFrom (ys ++ option_to_list (directive_at None next)) None (lines_in ms) = subst (λ (b : Option Placed). SoundFrom (ys ++ option_to_list (directive_at None next)) b (lines_in ms)) level s.2 in (
       s.0,
       kinds-near new there xs ys (item_of None next) mild u s.1,
-      subst (λ (b : Option Placed). SoundFrom (xs ++ option_to_list (held_at None next)) b (remaining_from false None (fates_in ms))) (sym level)
-          (go false there (xs ++ option_to_list (held_at None next)) (ys ++ option_to_list (held_at None next)) (near-both new there xs ys (option_to_list (held_at None next)) (mild-list new (held_at None next) mild) u) behind marks),
+      subst (λ (b : Option Placed). SoundFrom (xs ++ option_to_list (directive_at None next)) b (remaining_from false None (fates_in ms))) (sym level)
+          (go false there (xs ++ option_to_list (directive_at None next)) (ys ++ option_to_list (directive_at None next)) (near-both new there xs ys (option_to_list (directive_at None next)) (mild-list new (directive_at None next) mild) u) behind marks),
     )
 lone-sound new line next ms level go there xs ys u sound (inr made) =
     let m = made.1 in

@@ -18,7 +18,7 @@ use Rattle.gm_syntax.proofs.Changes.{entry_stands, standing_entry}
 use Rattle.gm_file.specs.Values.{argument, argument_of_kind}
 use Rattle.gm_file.specs.Directives.{Strict, Pair, pair, Directive, DeclaresModule, DeclaresGo, Requires, Excludes, Replaces, Retracts, Kept, Saying, Verb, ForModule, ForGo, ForRequire, ForExclude, ForReplace, ForRetract, ForNothing, Unknown, directive_in, directive_of, ends_of, is_empty_block, item_at, main_verb, one_of, pair_of, replacing_of}
 use Rattle.gm_file.specs.Faults.{directive_kinds, is_module, item_kinds, entry_kinds}
-use Rattle.gm_file_edit.specs.Fates.{held_at, item_of}
+use Rattle.gm_file_edit.specs.Fates.{directive_at, item_of}
 use Rattle.gm_file_edit.specs.NewWords.{made_word}
 use Rattle.gm_file_edit.specs.Renewing.{with_arguments, with_last}
 use Rattle.gm_file_edit.proofs.Leaving.{IsMadeNew, clashes}
@@ -79,7 +79,7 @@ pub record IsHeldBy (block : Option Placed) (line : Line Placed) (d : Directive)
   pub at : IsFront block verb front
   pub says : directive_of (main_verb verb) (words_of arguments) ≡ Some d
 
-pub held-by : (block : Option Placed) (line : Line Placed) (d : Directive) → held_at block line ≡ Some d → IsHeldBy block line d
+pub held-by : (block : Option Placed) (line : Line Placed) (d : Directive) → directive_at block line ≡ Some d → IsHeldBy block line d
 unfolding item_at
 held-by block Blank d e = absurd cc
 held-by block (Comment text) d e = absurd cc
@@ -127,7 +127,7 @@ new-entry (Some v) verb front old arguments suffix at entry are =
 
 -- an entry whose arguments are replaced says what the new ones say
 pub entry-made : (new was : Directive) (block : Option Placed) (line next : Line Placed) (h : IsHeldBy block line was) (arguments : List Placed)
-    → held_at block line ≡ Some was → next ≡ Entry (h.front ++ arguments) h.suffix → IsValidLine (is_some block) (plain line) → AreArguments arguments
+    → directive_at block line ≡ Some was → next ≡ Entry (h.front ++ arguments) h.suffix → IsValidLine (is_some block) (plain line) → AreArguments arguments
     → directive_of (main_verb h.verb) (words_of arguments) ≡ Some new → (is_module was ≡ true → is_module new ≡ true)
     → ((earlier : List Directive) → list_any (clashes new) earlier ≡ false → directive_kinds Strict earlier new ≡ [])
     → IsMadeNew new block line next

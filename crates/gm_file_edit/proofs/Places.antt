@@ -15,7 +15,7 @@ use Rattle.gm_file.specs.Directives.{Strict, Directive, Pair, Right, Folder, Mod
 use Rattle.gm_file.specs.Faults.{is_go, is_module}
 use Rattle.gm_file_edit.specs.Edits.{Edit, SetModule, SetGo, SetRequire, DropRequire, AddExclude, DropExclude, SetReplace, DropReplace, AddRetract, DropRetract}
 use Rattle.gm_file_edit.specs.NewWords.{interval_words, left_words, left_words_of, made_mark, made_word, pair_words, replace_words, right_words, unplaced}
-use Rattle.gm_file_edit.specs.Fates.{Begun, Fate, begin, block_lines, dropped, dropping_from, held_at, is_emptied, kept, leaves_nothing, remaining_from, passes, renewed, renewing_from, with_line, word_of}
+use Rattle.gm_file_edit.specs.Fates.{Begun, Fate, begin, block_lines, dropped, dropping_from, directive_at, is_emptied, kept, leaves_nothing, remaining_from, passes, renewed, renewing_from, with_line, word_of}
 use Rattle.gm_file_edit.specs.Renewing.{before_arguments, with_arguments, with_last}
 use Rattle.gm_file_edit.specs.About.{about, excludes_pair, is_replaced_by, replaces_left, requires_path, retracts_ends}
 use Rattle.gm_file_edit.specs.Searching.{is_there, is_there_from}
@@ -91,12 +91,12 @@ block-word : (block : Option Placed) → option_map word_of (loose_block block) 
 block-word None = refl
 block-word (Some verb) = refl
 
-held-loose : (block : Option Placed) (line : Line Placed) → held_at (loose_block block) (loose_line line) ≡ held_at block line
+held-loose : (block : Option Placed) (line : Line Placed) → directive_at (loose_block block) (loose_line line) ≡ directive_at block line
 held-loose block line =
     ap (λ (b : Option Word). directive_in Strict (item_at (b, plain (loose_line line)))) (block-word block)
     ∙ ap (λ (l : Line Word). directive_in Strict (item_at (option_map word_of block, l))) (plain-loose line)
 
-passes-loose : (test : Directive → Bool) (block : Option Placed) (line : Line Placed) → passes test (held_at (loose_block block) (loose_line line)) ≡ passes test (held_at block line)
+passes-loose : (test : Directive → Bool) (block : Option Placed) (line : Line Placed) → passes test (directive_at (loose_block block) (loose_line line)) ≡ passes test (directive_at block line)
 passes-loose test block line = ap (passes test) (held-loose block line)
 
 behind-loose : (block : Option Placed) (line : Line Placed) → block_after_line (loose_block block) (loose_line line) ≡ loose_block (block_after_line block line)
@@ -110,8 +110,9 @@ there-loose : (test : Directive → Bool) (block : Option Placed) (lines : List 
 there-loose test block [] = refl
 there-loose test block (line ∷ lines) =
     ap (λ (c : Bool). c || is_there_from test (block_after_line (loose_block block) (loose_line line)) (loose_lines lines)) (passes-loose test block line)
-    ∙ ap (λ (b : Option Placed). passes test (held_at block line) || is_there_from test b (loose_lines lines)) (behind-loose block line)
-    ∙ ap (λ (c : Bool). passes test (held_at block line) || c) (there-loose test (block_after_line block line) lines)
+    ∙ ap (λ (b : Option Placed). passes test (directive_at block line) || is_there_from test b (loose_lines lines)) (behind-loose block line)
+    ∙ ap (λ (c : Bool). passes test (directive_at block line) || c)
+    (there-loose test (block_after_line block line) lines)
 
 -- ---- the fates of lines
 
@@ -119,9 +120,9 @@ dropping-loose : (test : Directive → Bool) (block : Option Placed) (lines : Li
 dropping-loose test block [] = refl
 dropping-loose test block (line ∷ lines) =
     ap (λ (f : Fate). f ∷ dropping_from test (block_after_line (loose_block block) (loose_line line)) (loose_lines lines))
-    (chosen loose_fate (passes test (held_at (loose_block block) (loose_line line))) (passes test (held_at block line)) None (Some (loose_line line)) None (Some line) (passes-loose test block line) refl refl)
-    ∙ ap (λ (b : Option Placed). loose_fate (if passes test (held_at block line) then None else Some line) ∷ dropping_from test b (loose_lines lines)) (behind-loose block line)
-    ∙ ap (λ (fs : List Fate). loose_fate (if passes test (held_at block line) then None else Some line) ∷ fs) (dropping-loose test (block_after_line block line) lines)
+    (chosen loose_fate (passes test (directive_at (loose_block block) (loose_line line))) (passes test (directive_at block line)) None (Some (loose_line line)) None (Some line) (passes-loose test block line) refl refl)
+    ∙ ap (λ (b : Option Placed). loose_fate (if passes test (directive_at block line) then None else Some line) ∷ dropping_from test b (loose_lines lines)) (behind-loose block line)
+    ∙ ap (λ (fs : List Fate). loose_fate (if passes test (directive_at block line) then None else Some line) ∷ fs) (dropping-loose test (block_after_line block line) lines)
 
 -- a rewrite doesn't depend on source positions
 abbrev IsBlind : (Option Placed → Line Placed → Line Placed) → Type 0
@@ -131,7 +132,8 @@ renewing-loose : (test : Directive → Bool) (new : Option Placed → Line Place
     → renewing_from test new (loose_block block) (loose_lines lines) ≡ loose_fates (renewing_from test new block lines)
 renewing-loose test new blind block [] = refl
 renewing-loose test new blind block (line ∷ lines) =
-    chosen loose_fates (passes test (held_at (loose_block block) (loose_line line))) (passes test (held_at block line))
+    chosen loose_fates (passes test (directive_at (loose_block block) (loose_line line)))
+    (passes test (directive_at block line))
     (Some (new (loose_block block) (loose_line line)) ∷ dropping_from test (block_after_line (loose_block block) (loose_line line)) (loose_lines lines))
     (Some (loose_line line) ∷ renewing_from test new (block_after_line (loose_block block) (loose_line line)) (loose_lines lines))
     (Some (new block line) ∷ dropping_from test (block_after_line block line) lines)
@@ -280,20 +282,20 @@ spot-loose (Some verb) = refl
 last-loose : (test : Directive → Bool) (block : Option Placed) (lines : List (Line Placed)) → spot_after_last test (loose_block block) (loose_lines lines) ≡ spot_after_last test block lines
 last-loose test block [] = refl
 last-loose test block (line ∷ lines) =
-    ap (λ (b : Option Placed). option_or (option_map further (spot_after_last test b (loose_lines lines))) (if passes test (held_at (loose_block block) (loose_line line)) then Some (spot_after_line (loose_block block)) else None))
+    ap (λ (b : Option Placed). option_or (option_map further (spot_after_last test b (loose_lines lines))) (if passes test (directive_at (loose_block block) (loose_line line)) then Some (spot_after_line (loose_block block)) else None))
     (behind-loose block line)
-    ∙ ap (λ s. option_or (option_map further s) (if passes test (held_at (loose_block block) (loose_line line)) then Some (spot_after_line (loose_block block)) else None)) (last-loose test (block_after_line block line) lines)
+    ∙ ap (λ s. option_or (option_map further s) (if passes test (directive_at (loose_block block) (loose_line line)) then Some (spot_after_line (loose_block block)) else None)) (last-loose test (block_after_line block line) lines)
     ∙ ap (λ (c : Bool). option_or (option_map further (spot_after_last test (block_after_line block line) lines)) (if c then Some (spot_after_line (loose_block block)) else None)) (passes-loose test block line)
-    ∙ ap (λ s. option_or (option_map further (spot_after_last test (block_after_line block line) lines)) (if passes test (held_at block line) then Some s else None)) (spot-loose block)
+    ∙ ap (λ s. option_or (option_map further (spot_after_last test (block_after_line block line) lines)) (if passes test (directive_at block line) then Some s else None)) (spot-loose block)
 
 first-loose : (test : Directive → Bool) (block : Option Placed) (lines : List (Line Placed)) → spot_after_first test (loose_block block) (loose_lines lines) ≡ spot_after_first test block lines
 first-loose test block [] = refl
 first-loose test block (line ∷ lines) =
-    ap (λ (b : Option Placed). if passes test (held_at (loose_block block) (loose_line line)) then Some (spot_after_line (loose_block block)) else option_map further (spot_after_first test b (loose_lines lines)))
+    ap (λ (b : Option Placed). if passes test (directive_at (loose_block block) (loose_line line)) then Some (spot_after_line (loose_block block)) else option_map further (spot_after_first test b (loose_lines lines)))
     (behind-loose block line)
-    ∙ ap (λ s. if passes test (held_at (loose_block block) (loose_line line)) then Some (spot_after_line (loose_block block)) else option_map further s) (first-loose test (block_after_line block line) lines)
+    ∙ ap (λ s. if passes test (directive_at (loose_block block) (loose_line line)) then Some (spot_after_line (loose_block block)) else option_map further s) (first-loose test (block_after_line block line) lines)
     ∙ ap (λ (c : Bool). if c then Some (spot_after_line (loose_block block)) else option_map further (spot_after_first test (block_after_line block line) lines)) (passes-loose test block line)
-    ∙ ap (λ s. if passes test (held_at block line) then Some s else option_map further (spot_after_first test (block_after_line block line) lines)) (spot-loose block)
+    ∙ ap (λ s. if passes test (directive_at block line) then Some s else option_map further (spot_after_first test (block_after_line block line) lines)) (spot-loose block)
 
 close-loose : (lines : List (Line Placed)) → close_len (loose_lines lines) ≡ close_len lines
 close-loose [] = refl

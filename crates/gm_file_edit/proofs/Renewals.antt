@@ -22,7 +22,7 @@ use Rattle.gm_file.specs.GoVersions.{strict_go}
 use Rattle.gm_file.specs.Directives.{Strict, Pair, Left, Right, Folder, Module, Replacing, Directive, DeclaresModule, DeclaresGo, Requires, Excludes, Replaces, Retracts, Kept, Verb, ForModule, ForGo, ForRequire, ForReplace, directive_of, is_arrow, main_verb, one_of, pair_of}
 use Rattle.gm_file.specs.Faults.{conflicts, directive_kinds, does_left_fit, is_go, is_module, is_same_left, is_same_right, is_same_version, left_version_kinds, path_kinds, pair_kinds, right_path_kinds, right_version_kinds, sides_kinds, unless}
 use Rattle.gm_file_edit.specs.About.{is_covered_by, is_replaced_by, requires_path}
-use Rattle.gm_file_edit.specs.Fates.{held_at}
+use Rattle.gm_file_edit.specs.Fates.{directive_at}
 use Rattle.gm_file_edit.specs.NewWords.{left_words_of, made_mark, made_word, replace_words, right_words}
 use Rattle.gm_file_edit.specs.Renewing.{with_arguments, with_last}
 use Rattle.gm_file_edit.specs.Sound.{IsPairOfNames, IsSoundLeft, IsSoundRight, IsSoundVersion}
@@ -57,7 +57,7 @@ held-one : (words : List Word) (path : List ℕ) → directive_of ForModule word
 unfolding directive_of
 held-one words path e = let m = map-some DeclaresModule (one_of words) (DeclaresModule path) e in (m.0, m.1)
 
-module-made : (path : List ℕ) → is_path path ≡ true → (block : Option Placed) (line : Line Placed) (d : Directive) → held_at block line ≡ Some d → is_module d ≡ true → IsValidLine (is_some block) (plain line)
+module-made : (path : List ℕ) → is_path path ≡ true → (block : Option Placed) (line : Line Placed) (d : Directive) → directive_at block line ≡ Some d → is_module d ≡ true → IsValidLine (is_some block) (plain line)
     → IsMadeNew (DeclaresModule path) block line (with_last path block line)
 module-made path h block line (DeclaresModule old) held e stands =
     let plain = path-feed path h in
@@ -110,7 +110,7 @@ held-go : (words : List Word) (text : List ℕ) → directive_of ForGo words ≡
 unfolding directive_of
 held-go words text e = let m = map-some DeclaresGo (one_of words) (DeclaresGo text) e in (m.0, m.1)
 
-go-made : (text : List ℕ) → is_some (strict_go text) ≡ true → (block : Option Placed) (line : Line Placed) (d : Directive) → held_at block line ≡ Some d → is_go d ≡ true → IsValidLine (is_some block) (plain line)
+go-made : (text : List ℕ) → is_some (strict_go text) ≡ true → (block : Option Placed) (line : Line Placed) (d : Directive) → directive_at block line ≡ Some d → is_go d ≡ true → IsValidLine (is_some block) (plain line)
     → IsMadeNew (DeclaresGo text) block line (with_last text block line)
 go-made text h block line (DeclaresGo old) held e stands =
     let plain = go-feed text h in
@@ -177,7 +177,7 @@ kept-word (Some v) verb front others suffix a line at is stands =
     let entry = standing_entry true (words_of (a ∷ others)) suffix (subst (λ (l : Line Placed). IsValidLine true (plain l)) whole stands) in
     entry.are_words.0
 
-require-made : (p : Pair) → IsPairOfNames p → does_fit p.0 p.1 ≡ true → (block : Option Placed) (line : Line Placed) (d : Directive) → held_at block line ≡ Some d → requires_path p.0 d ≡ true → IsValidLine (is_some block) (plain line)
+require-made : (p : Pair) → IsPairOfNames p → does_fit p.0 p.1 ≡ true → (block : Option Placed) (line : Line Placed) (d : Directive) → directive_at block line ≡ Some d → requires_path p.0 d ≡ true → IsValidLine (is_some block) (plain line)
     → IsMadeNew (Requires p) block line (with_last p.1 block line)
 require-made p names fit block line (Requires q) held e stands =
     let plain_version = version-feed p.1 names.1 in
@@ -334,7 +334,7 @@ pub replace-are : (r : Replacing) → IsSoundLeft r.0 → IsSoundRight r.1 → A
 replace-are r left right = replace-are-of r.0.path r.0.version r.1 left.0 left.1 right
 
 replace-made : (r : Replacing) → IsSoundLeft r.0 → IsSoundRight r.1 → does_left_fit r.0.path r.0.version ≡ true → (block : Option Placed) (line : Line Placed) (d : Directive)
-    → held_at block line ≡ Some d → is_replaced_by r.0 d ≡ true → IsValidLine (is_some block) (plain line) → IsMadeNew (Replaces r) block line (with_arguments (replace_words r) block line)
+    → directive_at block line ≡ Some d → is_replaced_by r.0 d ≡ true → IsValidLine (is_some block) (plain line) → IsMadeNew (Replaces r) block line (with_arguments (replace_words r) block line)
 replace-made r left right fit block line (Replaces q) held e stands =
     let by = held-by block line (Replaces q) held in
     let verb : main_verb by.verb ≡ ForReplace = says-verb (main_verb by.verb) (words_of by.arguments) (Replaces q) by.says in

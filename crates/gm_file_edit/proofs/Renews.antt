@@ -12,7 +12,7 @@ use Rattle.gm_file.specs.declared.fault.DirectiveKind.TheVariants.{Repeated}
 use Rattle.gm_file.specs.Directives.{Strict, Directive, DeclaresModule, DeclaresGo, Requires, Excludes, Replaces, Retracts, Kept, Item, Silent, Opening, Saying, Verb, block_after_line, directive_in, directive_of, verb_in}
 use Rattle.gm_file.specs.Faults.{directive_kinds, is_module, item_kinds, path_kinds, entry_kinds, unless}
 use Rattle.gm_file_edit.specs.declared.walk.Walk as declared_walk
-use Rattle.gm_file_edit.specs.Fates.{Fate, IsValidAt, held_at, item_of, remaining_from, passes, renewed, renewing_from}
+use Rattle.gm_file_edit.specs.Fates.{Fate, IsValidAt, directive_at, item_of, remaining_from, passes, renewed, renewing_from}
 use Rattle.gm_file_edit.specs.Renewing.{new_fate, renewing_rest}
 use Rattle.gm_file_edit.specs.Walks.{remaining_by}
 use Rattle.gm_file_edit.proofs.Sound.{SoundFrom, nil-parts}
@@ -23,9 +23,9 @@ use Rattle.gm_file_edit.proofs.Drops.{dropping, dropping-fates, dropping-lines, 
 
 next-fates : (done : Bool) (test : Directive → Bool) (new : Option Placed → Line Placed → Line Placed) (block : Option Placed) (line : Line Placed) (lines : List (Line Placed))
     → renewing_rest done test new block (line ∷ lines)
-    ≡ new_fate done (passes test (held_at block line)) new block line ∷ renewing_rest (done || passes test (held_at block line)) test new (block_after_line block line) lines
-next-fates true test new block line lines = elim (cases_Bool (passes test (held_at block line))) [ inl holds ↦ rw holds refl | inr fails ↦ rw fails refl ]
-next-fates false test new block line lines = elim (cases_Bool (passes test (held_at block line))) [ inl holds ↦ rw holds refl | inr fails ↦ rw fails refl ]
+    ≡ new_fate done (passes test (directive_at block line)) new block line ∷ renewing_rest (done || passes test (directive_at block line)) test new (block_after_line block line) lines
+next-fates true test new block line lines = elim (cases_Bool (passes test (directive_at block line))) [ inl holds ↦ rw holds refl | inr fails ↦ rw fails refl ]
+next-fates false test new block line lines = elim (cases_Bool (passes test (directive_at block line))) [ inl holds ↦ rw holds refl | inr fails ↦ rw fails refl ]
 
 -- Loop invariant: the walk followed by the fates of the rest gives the final result, and the rest is valid.
 pub record IsRenewedTo (test : Directive → Bool) (new : Option Placed → Line Placed → Line Placed) (whole rest : List (Line Placed)) (block : Option Placed) (done : Bool) (walk : declared_walk.Walk) : Type 0 where
@@ -41,19 +41,19 @@ pub renew-right : (test : Directive → Bool) (new : Option Placed → Line Plac
 renew-right test new whole rest more block line done walk is so = let s = subst (SoundFrom so.sound.0 block) is so.sound.1 in (so.sound.0, s.1)
 
 pub renew-more : (test : Directive → Bool) (new : Option Placed → Line Placed → Line Placed) (whole rest more : List (Line Placed)) (block next_block : Option Placed) (line : Line Placed) (done next_done : Bool) (old next : declared_walk.Walk) (fate : Fate)
-    → rest ≡ line ∷ more → next_block ≡ block_after_line block line → next_done ≡ (done || passes test (held_at block line))
-    → fate ≡ new_fate done (passes test (held_at block line)) new block line → ((fates : List Fate) → remaining_by next fates ≡ remaining_by old (fate ∷ fates)) → IsRenewedTo test new whole rest block done old
+    → rest ≡ line ∷ more → next_block ≡ block_after_line block line → next_done ≡ (done || passes test (directive_at block line))
+    → fate ≡ new_fate done (passes test (directive_at block line)) new block line → ((fates : List Fate) → remaining_by next fates ≡ remaining_by old (fate ∷ fates)) → IsRenewedTo test new whole rest block done old
     → IsRenewedTo test new whole more next_block next_done next
 renew-more test new whole rest more block next_block line done next_done old next fate is behind done_is fate_is moved so =
     let s = subst (SoundFrom so.sound.0 block) is so.sound.1 in
-    let held : Bool = passes test (held_at block line) in
+    let held : Bool = passes test (directive_at block line) in
     let later : List Fate = renewing_rest (done || held) test new (block_after_line block line) more in
     let left : remaining_by next later ≡ renewed test new whole =
     moved later ∙ ap (λ (f : Fate). remaining_by old (f ∷ later)) fate_is ∙ ap (remaining_by old) (sym (next-fates done test new block line more))
     ∙ ap (λ (lines : List (Line Placed)). remaining_by old (renewing_rest done test new block lines)) (sym is) ∙ so.left in
     subst (λ (b : Option Placed). IsRenewedTo test new whole more b next_done next) (sym behind)
     (subst (λ (d : Bool). IsRenewedTo test new whole more (block_after_line block line) d next) (sym done_is) (record {
-      sound = (so.sound.0 ++ option_to_list (held_at block line), s.2);
+      sound = (so.sound.0 ++ option_to_list (directive_at block line), s.2);
       left = left;
     }))
 
@@ -72,19 +72,19 @@ renew-end test new whole rest block done walk is so =
 abbrev pub renewing : (Directive → Bool) → (Option Placed → Line Placed → Line Placed) → Option Placed → List (Line Placed) → List Marked
 renewing test new block [] = []
 renewing test new block (line ∷ lines) =
-    if passes test (held_at block line) then (line, Some (new block line)) ∷ dropping test (block_after_line block line) lines
+    if passes test (directive_at block line) then (line, Some (new block line)) ∷ dropping test (block_after_line block line) lines
     else (line, Some line) ∷ renewing test new (block_after_line block line) lines
 
 renewing-lines : (test : Directive → Bool) (new : Option Placed → Line Placed → Line Placed) (block : Option Placed) (lines : List (Line Placed)) → lines_in (renewing test new block lines) ≡ lines
 renewing-lines test new block [] = refl
-renewing-lines test new block (line ∷ lines) = elim (cases_Bool (passes test (held_at block line))) [
+renewing-lines test new block (line ∷ lines) = elim (cases_Bool (passes test (directive_at block line))) [
   | inl holds ↦ rw holds (ap (λ (ls : List (Line Placed)). line ∷ ls) (dropping-lines test (block_after_line block line) lines))
   | inr fails ↦ rw fails (ap (λ (ls : List (Line Placed)). line ∷ ls) (renewing-lines test new (block_after_line block line) lines))
 ]
 
 renewing-fates : (test : Directive → Bool) (new : Option Placed → Line Placed → Line Placed) (block : Option Placed) (lines : List (Line Placed)) → fates_in (renewing test new block lines) ≡ renewing_from test new block lines
 renewing-fates test new block [] = refl
-renewing-fates test new block (line ∷ lines) = elim (cases_Bool (passes test (held_at block line))) [
+renewing-fates test new block (line ∷ lines) = elim (cases_Bool (passes test (directive_at block line))) [
   | inl holds ↦ rw holds (ap (λ (fs : List Fate). Some (new block line) ∷ fs) (dropping-fates test (block_after_line block line) lines))
   | inr fails ↦ rw fails (ap (λ (fs : List Fate). Some line ∷ fs) (renewing-fates test new (block_after_line block line) lines))
 ]
@@ -95,7 +95,7 @@ LaterMarked test said = (earlier : List Directive) (block : Option Placed) (line
 -- how an operation rewrites the entries that it targets
 pub record IsRenewal (test : Directive → Bool) (said : Directive) (make : Option Placed → Line Placed → Line Placed) : Type 0 where
   pub mild : (d : Directive) → test d ≡ false → AreMild said (Some d)
-  pub made : (block : Option Placed) (line : Line Placed) (d : Directive) → held_at block line ≡ Some d → test d ≡ true → IsValidLine (is_some block) (plain line) → IsMadeNew said block line (make block line)
+  pub made : (block : Option Placed) (line : Line Placed) (d : Directive) → directive_at block line ≡ Some d → test d ≡ true → IsValidLine (is_some block) (plain line) → IsMadeNew said block line (make block line)
   pub later : LaterMarked test said
 
 mild-held : (test : Directive → Bool) (said : Directive) → ((d : Directive) → test d ≡ false → AreMild said (Some d)) → (held : Option Directive) → passes test held ≡ false → AreMild said held
@@ -107,11 +107,11 @@ pub later-marked : (test : Directive → Bool) (said : Directive) → ((d : Dire
 later-marked test said mild other earlier block [] some sound = tt
 later-marked test said mild other earlier block (line ∷ lines) some sound =
     let rest : AreMarked said true (block_after_line block line) (dropping test (block_after_line block line) lines) =
-    later-marked test said mild other (earlier ++ option_to_list (held_at block line)) (block_after_line block line) lines
-    (list_any-append test earlier (option_to_list (held_at block line)) ∙ ap (λ (b : Bool). b || list_any test (option_to_list (held_at block line))) some) sound.2 in
-    elim (cases_Bool (passes test (held_at block line))) [
-      | inl holds ↦ rw holds (gone-line test other block line (held_at block line) refl holds, rest)
-      | inr fails ↦ rw fails (inl (refl, mild-held test said mild (held_at block line) fails, rest))
+    later-marked test said mild other (earlier ++ option_to_list (directive_at block line)) (block_after_line block line) lines
+    (list_any-append test earlier (option_to_list (directive_at block line)) ∙ ap (λ (b : Bool). b || list_any test (option_to_list (directive_at block line))) some) sound.2 in
+    elim (cases_Bool (passes test (directive_at block line))) [
+      | inl holds ↦ rw holds (gone-line test other block line (directive_at block line) refl holds, rest)
+      | inr fails ↦ rw fails (inl (refl, mild-held test said mild (directive_at block line) fails, rest))
     ]
 
 -- a second module line is a fault
@@ -139,11 +139,11 @@ pub module-later : (said : Directive) → ((d : Directive) → is_module d ≡ f
 module-later said mild earlier block [] some sound = tt
 module-later said mild earlier block (line ∷ lines) some sound =
     let rest : AreMarked said true (block_after_line block line) (dropping is_module (block_after_line block line) lines) =
-    module-later said mild (earlier ++ option_to_list (held_at block line)) (block_after_line block line) lines
-    (list_any-append is_module earlier (option_to_list (held_at block line)) ∙ ap (λ (b : Bool). b || list_any is_module (option_to_list (held_at block line))) some) sound.2 in
-    elim (cases_Bool (passes is_module (held_at block line))) [
+    module-later said mild (earlier ++ option_to_list (directive_at block line)) (block_after_line block line) lines
+    (list_any-append is_module earlier (option_to_list (directive_at block line)) ∙ ap (λ (b : Bool). b || list_any is_module (option_to_list (directive_at block line))) some) sound.2 in
+    elim (cases_Bool (passes is_module (directive_at block line))) [
       | inl holds ↦ absurd (module-twice earlier (item_of block line) some holds sound.1)
-      | inr fails ↦ rw fails (inl (refl, mild-held is_module said mild (held_at block line) fails, rest))
+      | inr fails ↦ rw fails (inl (refl, mild-held is_module said mild (directive_at block line) fails, rest))
     ]
 
 held-some : (test : Directive → Bool) (held : Option Directive) → passes test held ≡ true → (d : Directive) × (held ≡ Some d) × (test d ≡ true)
@@ -157,14 +157,14 @@ or-one false b e = rw e refl
 renewing-marked : (test : Directive → Bool) (said : Directive) (make : Option Placed → Line Placed → Line Placed) → IsRenewal test said make → (earlier : List Directive) (block : Option Placed) (lines : List (Line Placed))
     → SoundFrom earlier block lines → AreMarked said false block (renewing test make block lines)
 renewing-marked test said make by earlier block [] sound = tt
-renewing-marked test said make by earlier block (line ∷ lines) sound = elim (cases_Bool (passes test (held_at block line))) [
+renewing-marked test said make by earlier block (line ∷ lines) sound = elim (cases_Bool (passes test (directive_at block line))) [
   | inl holds ↦
-      let h = held-some test (held_at block line) holds in
-      let some : list_any test (earlier ++ option_to_list (held_at block line)) ≡ true =
+      let h = held-some test (directive_at block line) holds in
+      let some : list_any test (earlier ++ option_to_list (directive_at block line)) ≡ true =
       ap (λ (o : Option Directive). list_any test (earlier ++ option_to_list o)) h.1 ∙ list_any-append test earlier (h.0 ∷ []) ∙ or-one (list_any test earlier) (test h.0) h.2 in
-      rw holds (inr (refl, by.made block line h.0 h.1 h.2 sound.0, by.later (earlier ++ option_to_list (held_at block line)) (block_after_line block line) lines some sound.2))
+      rw holds (inr (refl, by.made block line h.0 h.1 h.2 sound.0, by.later (earlier ++ option_to_list (directive_at block line)) (block_after_line block line) lines some sound.2))
   | inr fails ↦
-      rw fails (inl (refl, mild-held test said by.mild (held_at block line) fails, renewing-marked test said make by (earlier ++ option_to_list (held_at block line)) (block_after_line block line) lines sound.2))
+      rw fails (inl (refl, mild-held test said by.mild (directive_at block line) fails, renewing-marked test said make by (earlier ++ option_to_list (directive_at block line)) (block_after_line block line) lines sound.2))
 ]
 
 pub renewed-sound : (test : Directive → Bool) (said : Directive) (make : Option Placed → Line Placed → Line Placed) → IsRenewal test said make → (lines : List (Line Placed)) → SoundFrom [] None lines → SoundFrom [] None (renewed test make lines)

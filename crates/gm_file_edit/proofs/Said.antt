@@ -13,7 +13,7 @@ use Rattle.gm_file.specs.Directives.{Directive, block_after_lines, block_after_l
 use Rattle.gm_file_edit.specs.declared.adding.AddedVerb.{AddedVerb}
 use Rattle.gm_file_edit.specs.declared.adding.Spot.{Spot}
 use Rattle.gm_file_edit.specs.Adding.{added, added_at, after_first_that, spot_after_first, spot_after_last, entry_at, is_of, past_block, insert_at_spot, single, verb_text}
-use Rattle.gm_file_edit.specs.Fates.{Begun, Fate, begin, dropped, dropping_from, held_at, is_emptied, itself, kept, leaves_nothing, remaining_from, opened_lines, passes, renewed, renewing_from, with_line}
+use Rattle.gm_file_edit.specs.Fates.{Begun, Fate, begin, dropped, dropping_from, directive_at, is_emptied, itself, kept, leaves_nothing, remaining_from, opened_lines, passes, renewed, renewing_from, with_line}
 use Rattle.gm_file_edit.specs.Searching.{is_there, is_there_from}
 use Rattle.gm_file_edit.proofs.AddingSound.{Fits, IsAddition, IsIn, IsVerbSpot, back-sound, entry-fits, first-is-in, held-append, held_from, last-is, passing-level, past-outside}
 use Rattle.gm_file_edit.proofs.Leaving.{IsMadeNew, emptied-inner}
@@ -113,7 +113,7 @@ opened-more b fate fates =
 
 same-behind : (block : Option Placed) (front xs ys : List (Line Placed)) → ((b : Option Placed) → held_from b xs ≡ held_from b ys) → held_from block (front ++ xs) ≡ held_from block (front ++ ys)
 same-behind block [] xs ys h = h block
-same-behind block (line ∷ front) xs ys h = ap (λ (ds : List Directive). option_to_list (held_at block line) ++ ds) (same-behind (block_after_line block line) front xs ys h)
+same-behind block (line ∷ front) xs ys h = ap (λ (ds : List Directive). option_to_list (directive_at block line) ++ ds) (same-behind (block_after_line block line) front xs ys h)
 
 closing-held : (after : Bool) (b : Begun) (suffix : Option (List ℕ)) (fates : List Fate) → ((f : Bool) → held_from None (remaining_from f None fates) ≡ held_from None (kept fates))
     → held_from None (remaining_from after (Some b) (Some (Close suffix) ∷ fates)) ≡ held_from None (opened_lines b ++ kept (Some (Close suffix) ∷ fates))
@@ -133,7 +133,7 @@ left-held false None (Some Blank ∷ fates) = left-held false None fates
 left-held after None (Some (Comment text) ∷ fates) = left-held false None fates
 left-held after None (Some (Open verb suffix) ∷ fates) = left-held false (Some (begin verb suffix)) fates
 left-held after None (Some (Close suffix) ∷ fates) = left-held false None fates
-left-held after None (Some (Entry words suffix) ∷ fates) = ap (λ (ds : List Directive). option_to_list (held_at None (Entry words suffix)) ++ ds) (left-held false None fates)
+left-held after None (Some (Entry words suffix) ∷ fates) = ap (λ (ds : List Directive). option_to_list (directive_at None (Entry words suffix)) ++ ds) (left-held false None fates)
 left-held after (Some b) (Some (Close suffix) ∷ fates) = closing-held after b suffix fates (λ f. left-held f None fates)
 left-held after (Some b) (None ∷ fates) = left-held after (Some (with_line b None)) fates ∙ ap (held_from None) (opened-more b None fates)
 left-held after (Some b) (Some Blank ∷ fates) = left-held after (Some (with_line b (Some Blank))) fates ∙ ap (held_from None) (opened-more b (Some Blank) fates)
@@ -148,10 +148,10 @@ dropping-held test block [] = refl
 dropping-held test block (line ∷ lines) =
     let behind : Option Placed = block_after_line block line in
     let rest : List Directive = held_from behind lines in
-    elim (cases_Bool (passes test (held_at block line))) [
+    elim (cases_Bool (passes test (directive_at block line))) [
       | inl holds ↦
-          rw holds (ap (λ (b : Option Placed). held_from b (kept (dropping_from test behind lines))) (sym (passing-level test block line holds)) ∙ dropping-held test behind lines ∙ sym (gone-held test (held_at block line) rest holds))
-      | inr fails ↦ rw fails (ap (λ (ds : List Directive). option_to_list (held_at block line) ++ ds) (dropping-held test behind lines) ∙ sym (stay-held test (held_at block line) rest fails))
+          rw holds (ap (λ (b : Option Placed). held_from b (kept (dropping_from test behind lines))) (sym (passing-level test block line holds)) ∙ dropping-held test behind lines ∙ sym (gone-held test (directive_at block line) rest holds))
+      | inr fails ↦ rw fails (ap (λ (ds : List Directive). option_to_list (directive_at block line) ++ ds) (dropping-held test behind lines) ∙ sym (stay-held test (directive_at block line) rest fails))
     ]
 
 -- a drop leaves exactly the other directives
@@ -161,7 +161,7 @@ dropped-held test lines = left-held false None (dropping_from test None lines) �
 -- ---- what is said after an entry is rewritten
 
 abbrev pub Makes : (Directive → Bool) → Directive → (Option Placed → Line Placed → Line Placed) → Type 0
-Makes test said make = (block : Option Placed) (line : Line Placed) (d : Directive) → held_at block line ≡ Some d → test d ≡ true → IsValidLine (is_some block) (plain line) → IsMadeNew said block line (make block line)
+Makes test said make = (block : Option Placed) (line : Line Placed) (d : Directive) → directive_at block line ≡ Some d → test d ≡ true → IsValidLine (is_some block) (plain line) → IsMadeNew said block line (make block line)
 
 held-some : (test : Directive → Bool) (held : Option Directive) → passes test held ≡ true → (d : Directive) × (held ≡ Some d) × (test d ≡ true)
 held-some test None e = absurd cc
@@ -173,10 +173,10 @@ made-held said block line next back made =
 
 -- the first matching entry is rewritten, and the later ones are removed
 first-held : (test : Directive → Bool) (said : Directive) (make : Option Placed → Line Placed → Line Placed) → Makes test said make → (block : Option Placed) (line : Line Placed) (lines : List (Line Placed))
-    → passes test (held_at block line) ≡ true → IsValidLine (is_some block) (plain line)
+    → passes test (directive_at block line) ≡ true → IsValidLine (is_some block) (plain line)
     → held_from block (make block line ∷ kept (dropping_from test (block_after_line block line) lines)) ≡ said ∷ filter (others test) (held_from (block_after_line block line) lines)
 first-held test said make makes block line lines holds stands =
-    let h = held-some test (held_at block line) holds in
+    let h = held-some test (directive_at block line) holds in
     let behind : Option Placed = block_after_line block line in
     made-held said block line (make block line) (kept (dropping_from test behind lines)) (makes block line h.0 h.1 h.2 stands)
     ∙ ap (λ (b : Option Placed). said ∷ held_from b (kept (dropping_from test behind lines))) (sym (passing-level test block line holds))
@@ -189,13 +189,13 @@ renewing-others test said make own makes earlier block [] sound = refl
 renewing-others test said make own makes earlier block (line ∷ lines) sound =
     let behind : Option Placed = block_after_line block line in
     let rest : List Directive = held_from behind lines in
-    elim (cases_Bool (passes test (held_at block line))) [
+    elim (cases_Bool (passes test (directive_at block line))) [
       | inl holds ↦
           rw holds (ap (filter (others test)) (first-held test said make makes block line lines holds sound.0) ∙ filter-none (others test) said (filter (others test) rest) (other-false test said own)
-          ∙ others-twice test rest ∙ sym (gone-held test (held_at block line) rest holds))
+          ∙ others-twice test rest ∙ sym (gone-held test (directive_at block line) rest holds))
       | inr fails ↦
-          rw fails (same-front (others test) (option_to_list (held_at block line)) (held_from behind (kept (renewing_from test make behind lines))) rest
-          (renewing-others test said make own makes (earlier ++ option_to_list (held_at block line)) behind lines sound.2))
+          rw fails (same-front (others test) (option_to_list (directive_at block line)) (held_from behind (kept (renewing_from test make behind lines))) rest
+          (renewing-others test said make own makes (earlier ++ option_to_list (directive_at block line)) behind lines sound.2))
     ]
 
 or-second : (a b : Bool) → a ≡ false → (a || b) ≡ true → b ≡ true
@@ -208,12 +208,12 @@ renewing-alone test said make own makes earlier block [] sound there = absurd cc
 renewing-alone test said make own makes earlier block (line ∷ lines) sound there =
     let behind : Option Placed = block_after_line block line in
     let rest : List Directive = held_from behind lines in
-    elim (cases_Bool (passes test (held_at block line))) [
+    elim (cases_Bool (passes test (directive_at block line))) [
       | inl holds ↦
           rw holds (ap (filter test) (first-held test said make makes block line lines holds sound.0) ∙ filter-one test said (filter (others test) rest) own ∙ ap (λ (ds : List Directive). said ∷ ds) (none-of-others test rest))
       | inr fails ↦
-          rw fails (past-held test (held_at block line) (held_from behind (kept (renewing_from test make behind lines))) fails
-          ∙ renewing-alone test said make own makes (earlier ++ option_to_list (held_at block line)) behind lines sound.2 (or-second (passes test (held_at block line)) (is_there_from test behind lines) fails there))
+          rw fails (past-held test (directive_at block line) (held_from behind (kept (renewing_from test make behind lines))) fails
+          ∙ renewing-alone test said make own makes (earlier ++ option_to_list (directive_at block line)) behind lines sound.2 (or-second (passes test (directive_at block line)) (is_there_from test behind lines) fails there))
     ]
 
 pub renewed-others : (test : Directive → Bool) (said : Directive) (make : Option Placed → Line Placed → Line Placed) → test said ≡ true → Makes test said make

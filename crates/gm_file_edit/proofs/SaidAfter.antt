@@ -16,7 +16,7 @@ use Rattle.gm_file_edit.specs.Edits.{Edit, SetModule, SetGo, SetRequire, DropReq
 use Rattle.gm_file_edit.specs.About.{about, excludes_pair, is_covered_by, is_replaced_by, is_same_pair, replaces_left, requires_path, retracts_ends}
 use Rattle.gm_file_edit.specs.Adding.{single}
 use Rattle.gm_file_edit.specs.Changes.{changed, edited, is_fit, put_in}
-use Rattle.gm_file_edit.specs.Fates.{held_at, passes}
+use Rattle.gm_file_edit.specs.Fates.{directive_at, passes}
 use Rattle.gm_file_edit.specs.Laws.{AddedIsThere, DroppedIsGone, IsEditOf, OthersStay, SetStandsAlone, added_by, is_drop, set_by}
 use Rattle.gm_file_edit.specs.NewWords.{interval_words, made_word, pair_words, replace_words}
 use Rattle.gm_file_edit.specs.Renewing.{with_arguments, with_last}
@@ -58,16 +58,16 @@ or-same a b c d e f = rw (e, f) refl
 there-is : (test : Directive → Bool) (block : Option Placed) (lines : List (Line Placed)) → is_there_from test block lines ≡ list_any test (held_from block lines)
 there-is test block [] = refl
 there-is test block (line ∷ lines) =
-    let held : List Directive = option_to_list (held_at block line) in
+    let held : List Directive = option_to_list (directive_at block line) in
     let rest : List Directive = held_from (block_after_line block line) lines in
-    or-same (passes test (held_at block line)) (is_there_from test (block_after_line block line) lines) (list_any test held) (list_any test rest) (passes-list test (held_at block line)) (there-is test (block_after_line block line) lines)
+    or-same (passes test (directive_at block line)) (is_there_from test (block_after_line block line) lines) (list_any test held) (list_any test rest) (passes-list test (directive_at block line)) (there-is test (block_after_line block line) lines)
     ∙ sym (list_any-append test held rest)
 
 -- a valid file declares a module
 declares : (earlier : List Directive) (block : Option Placed) (lines : List (Line Placed)) → SoundFrom earlier block lines → list_any is_module (earlier ++ held_from block lines) ≡ true
 declares earlier block [] sound = ap (list_any is_module) (append-nil earlier) ∙ sound.1
 declares earlier block (line ∷ lines) sound =
-    let held : List Directive = option_to_list (held_at block line) in
+    let held : List Directive = option_to_list (directive_at block line) in
     ap (list_any is_module) (sym (append_assoc earlier held (held_from (block_after_line block line) lines))) ∙ declares (earlier ++ held) (block_after_line block line) lines sound.2
 
 module-there : (P : Type 0) (lines : List (Line Placed)) → SoundFrom [] None lines → is_there is_module lines ≡ false → P

@@ -14,7 +14,7 @@ use Rattle.gm_file.specs.Directives.{Strict, Directive, LineInBlock, block_after
 use Rattle.gm_file.specs.Faults.{Fault, fault_of, faults, faults_after, first_of, is_module, item_kinds, missing_module, with_before_from}
 use Rattle.gm_syntax.proofs.Changes.{AreValidFrom, lines_stand, standing_lines}
 use Rattle.gm_file.proofs.First.{first-none}
-use Rattle.gm_file_edit.specs.Fates.{held_at, item_of, word_of}
+use Rattle.gm_file_edit.specs.Fates.{directive_at, item_of, word_of}
 
 -- Each line can be in its place and is valid after the earlier directives. At the end no block is open, and a module
 -- is declared.
@@ -22,7 +22,7 @@ abbrev pub SoundFrom : List Directive → Option Placed → List (Line Placed) �
 SoundFrom earlier block [] = (block ≡ None) × (list_any is_module earlier ≡ true)
 SoundFrom earlier block (line ∷ lines) =
     IsValidLine (is_some block) (plain line) × (item_kinds Strict earlier (item_of block line) ≡ [])
-    × SoundFrom (earlier ++ option_to_list (held_at block line)) (block_after_line block line) lines
+    × SoundFrom (earlier ++ option_to_list (directive_at block line)) (block_after_line block line) lines
 
 -- ---- empty lists
 
@@ -68,11 +68,11 @@ one-more before seat = filter_map-append (said Strict) before (seat ∷ []) ∙ 
 -- the declared directives, with those of the first line split off
 declared-next : (earlier : List Directive) (block : Option Placed) (line : Line Placed) (lines : List (Line Placed))
     → earlier ++ filter_map (said Strict) (with_blocks_from (option_map word_of block) (plain_lines (line ∷ lines)))
-    ≡ (earlier ++ option_to_list (held_at block line)) ++ filter_map (said Strict) (with_blocks_from (option_map word_of (block_after_line block line)) (plain_lines lines))
+    ≡ (earlier ++ option_to_list (directive_at block line)) ++ filter_map (said Strict) (with_blocks_from (option_map word_of (block_after_line block line)) (plain_lines lines))
 declared-next earlier block line lines =
     let rest : List Directive = filter_map (said Strict) (with_blocks_from (block_after_line (option_map word_of block) (plain line)) (plain_lines lines)) in
-    ap (λ ds. earlier ++ ds) (to-option (held_at block line) rest) ∙ sym (append_assoc earlier (option_to_list (held_at block line)) rest)
-    ∙ ap (λ (b : Option Word). (earlier ++ option_to_list (held_at block line)) ++ filter_map (said Strict) (with_blocks_from b (plain_lines lines))) (block-plain block line)
+    ap (λ ds. earlier ++ ds) (to-option (directive_at block line) rest) ∙ sym (append_assoc earlier (option_to_list (directive_at block line)) rest)
+    ∙ ap (λ (b : Option Word). (earlier ++ option_to_list (directive_at block line)) ++ filter_map (said Strict) (with_blocks_from b (plain_lines lines))) (block-plain block line)
 
 sound-lines : (before : List (LineInBlock Word)) (inside : Bool) (earlier : List Directive) (block : Option Placed) (lines : List (Line Placed))
     → filter_map (said Strict) before ≡ earlier → inside ≡ is_some block
@@ -87,7 +87,7 @@ sound-lines before inside earlier block (line ∷ lines) is at stand ends none d
     subst (λ (ds : List Directive). item_kinds Strict ds (item_at seat) ≡ []) is (nil-map (λ (kind : DirectiveKind). (length before + 1, kind)) (item_kinds Strict (filter_map (said Strict) before) (item_at seat)) parts.0) in (
       subst (λ (b : Bool). IsValidLine b (plain line)) at stand.0,
       kinds,
-      sound-lines (before ++ seat ∷ []) (inside_after inside (plain line)) (earlier ++ option_to_list (held_at block line)) (block_after_line block line) lines
+      sound-lines (before ++ seat ∷ []) (inside_after inside (plain line)) (earlier ++ option_to_list (directive_at block line)) (block_after_line block line) lines
           (one-more before seat ∙ ap (λ (ds : List Directive). ds ++ option_to_list (said Strict seat)) is)
           (inside-plain inside block line at) stand.1 ends
           (subst (λ (b : Option Word). FaultsFrom (before ++ seat ∷ []) b (plain_lines lines) ≡ []) (block-plain block line) parts.1)
@@ -120,7 +120,7 @@ lines-sound : (before : List (LineInBlock Word)) (inside : Bool) (earlier : List
 lines-sound before inside earlier block [] is at sound = (tt, at ∙ ap is_some sound.0, refl, ap (list_any is_module) (append-nil earlier) ∙ sound.1)
 lines-sound before inside earlier block (line ∷ lines) is at sound =
     let seat : LineInBlock Word = (option_map word_of block, plain line) in
-    let rest = lines-sound (before ++ seat ∷ []) (inside_after inside (plain line)) (earlier ++ option_to_list (held_at block line)) (block_after_line block line) lines
+    let rest = lines-sound (before ++ seat ∷ []) (inside_after inside (plain line)) (earlier ++ option_to_list (directive_at block line)) (block_after_line block line) lines
     (one-more before seat ∙ ap (λ (ds : List Directive). ds ++ option_to_list (said Strict seat)) is) (inside-plain inside block line at) sound.2 in
     let kinds : item_kinds Strict (filter_map (said Strict) before) (item_at seat) ≡ [] = subst (λ (ds : List Directive). item_kinds Strict ds (item_at seat) ≡ []) (sym is) sound.1 in (
       (subst (λ (b : Bool). IsValidLine b (plain line)) (sym at) sound.0, rest.0),

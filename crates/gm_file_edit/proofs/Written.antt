@@ -2,7 +2,7 @@
 use Rattle.std.proofs.Common.{◌≡◌, ℕ, true, List, Some, is_some, subst, inl, inr}
 use Rattle.std.proofs.lemmas.Bool.{cases_Bool}
 use Rattle.gm_name.specs.Names.{is_path, is_version}
-use Rattle.gm_file.specs.Values.{is_folder}
+use Rattle.gm_file.specs.Values.{is_folder_path}
 use Rattle.gm_file.specs.GoVersions.{strict_go}
 use Rattle.gm_file.specs.Directives.{Pair, pair, Left, left_without, Right, Folder, Replacing, replacing}
 use Rattle.gm_file_edit.specs.declared.name.Name.{Name}
@@ -50,7 +50,7 @@ left-sound text left e = elim (cases_Bool (has_byte 64 text)) [
 
 right-sound : (text : List ℕ) (right : Right) → right_in text ≡ Some right → IsSoundRight right
 unfolding right_in
-right-sound text right e = elim (cases_Bool (is_folder text)) [
+right-sound text right e = elim (cases_Bool (is_folder_path text)) [
   | inl folder ↦
       let t = if-other (has_byte 10 text) (Some (Folder text)) right (rw folder at e) in
       let same : Folder text ≡ right = cc in

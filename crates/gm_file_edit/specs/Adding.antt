@@ -8,7 +8,7 @@ use Rattle.gm_file.specs.Directives.{Directive, Requires, Excludes, Replaces, Re
 use Rattle.gm_file_edit.specs.declared.adding.AddedVerb.{AddedVerb}
 use Rattle.gm_file_edit.specs.declared.adding.AddedVerb.TheVariants as verb
 use Rattle.gm_file_edit.specs.declared.adding.Spot.{Spot}
-use Rattle.gm_file_edit.specs.Fates.{held_at, passes}
+use Rattle.gm_file_edit.specs.Fates.{directive_at, passes}
 
 -- ---- the verb of a directive
 
@@ -68,13 +68,13 @@ abbrev pub spot_after_last : (Directive → Bool) → Option Placed → List (Li
 spot_after_last test block [] = None
 spot_after_last test block (line ∷ lines) =
     option_or (option_map further (spot_after_last test (block_after_line block line) lines))
-    (if passes test (held_at block line) then Some (spot_after_line block) else None)
+    (if passes test (directive_at block line) then Some (spot_after_line block) else None)
 
 -- the position directly after the first such line
 abbrev pub spot_after_first : (Directive → Bool) → Option Placed → List (Line Placed) → Option Spot
 spot_after_first test block [] = None
 spot_after_first test block (line ∷ lines) =
-    if passes test (held_at block line) then Some (spot_after_line block)
+    if passes test (directive_at block line) then Some (spot_after_line block)
     else option_map further (spot_after_first test (block_after_line block line) lines)
 
 -- the number of lines that remain of an open block, including its closing bracket

@@ -6,7 +6,7 @@ use Rattle.std.specs.Str.{bytes_eq}
 use Rattle.gm_file_edit.specs.declared.name.Name.{Name}
 use Rattle.gm_file_edit.specs.declared.name.Name.TheVariants as name
 use Rattle.gm_name.specs.Names.{is_path, is_version}
-use Rattle.gm_file.specs.Values.{both, is_folder}
+use Rattle.gm_file.specs.Values.{both, is_folder_path}
 use Rattle.gm_file.specs.GoVersions.{strict_go}
 use Rattle.gm_file.specs.Directives.{Pair, pair, Left, left_with, left_without, Right, Folder, Module, Replacing, replacing}
 
@@ -73,7 +73,7 @@ folder_in text = if has_byte 10 text then None else Some (Folder text)
 
 -- a folder, or a path, `@` and a version
 unfoldable pub right_in : List ℕ → Option Right
-right_in text = if is_folder text then folder_in text else option_map module_of_pair (pair_in text)
+right_in text = if is_folder_path text then folder_in text else option_map module_of_pair (pair_in text)
 
 -- both parts of a split text, as a left side and a right side
 abbrev pub sides_in : Pair → Option Replacing

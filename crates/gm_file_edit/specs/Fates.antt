@@ -18,8 +18,8 @@ abbrev pub item_of : Option Placed → Line Placed → Item
 item_of block line = item_at (option_map word_of block, plain line)
 
 -- the directive that a line holds
-abbrev pub held_at : Option Placed → Line Placed → Option Directive
-held_at block line = directive_in Strict (item_of block line)
+abbrev pub directive_at : Option Placed → Line Placed → Option Directive
+directive_at block line = directive_in Strict (item_of block line)
 
 -- whether there is a directive that passes the test
 abbrev pub passes : (Directive → Bool) → Option Directive → Bool
@@ -38,7 +38,7 @@ Fate = Option (Line Placed)
 abbrev pub dropping_from : (Directive → Bool) → Option Placed → List (Line Placed) → List Fate
 dropping_from test block [] = []
 dropping_from test block (line ∷ lines) =
-    (if passes test (held_at block line) then None else Some line)
+    (if passes test (directive_at block line) then None else Some line)
     ∷ dropping_from test (block_after_line block line) lines
 
 -- the fates of lines if the first with a directive that passes the test is rewritten, and the later ones are removed
@@ -46,7 +46,7 @@ abbrev pub renewing_from : (Directive → Bool) → (Option Placed → Line Plac
     → List (Line Placed) → List Fate
 renewing_from test new block [] = []
 renewing_from test new block (line ∷ lines) =
-    if passes test (held_at block line) then Some (new block line) ∷ dropping_from test
+    if passes test (directive_at block line) then Some (new block line) ∷ dropping_from test
     (block_after_line block line) lines
     else Some line ∷ renewing_from test new (block_after_line block line) lines
 
@@ -57,17 +57,17 @@ itself fate = fate
 abbrev pub kept : List Fate → List (Line Placed)
 kept fates = filter_map itself fates
 
-abbrev pub is_blank : Line Placed → Bool
-is_blank Blank = true
-is_blank (Comment text) = false
-is_blank (Open verb suffix) = false
-is_blank (Close suffix) = false
-is_blank (Entry words suffix) = false
+abbrev pub is_blank_source_line : Line Placed → Bool
+is_blank_source_line Blank = true
+is_blank_source_line (Comment text) = false
+is_blank_source_line (Open verb suffix) = false
+is_blank_source_line (Close suffix) = false
+is_blank_source_line (Entry words suffix) = false
 
 -- whether nothing but a blank line stays
 abbrev pub leaves_nothing : Fate → Bool
 leaves_nothing None = true
-leaves_nothing (Some line) = is_blank line
+leaves_nothing (Some line) = is_blank_source_line line
 
 -- Whether a block is emptied: some entry in it is removed, and neither an entry nor a comment stays in it. A comment
 -- after either bracket keeps it too.
@@ -120,7 +120,7 @@ dropped test lines = remaining_from false None (dropping_from test None lines)
 
 -- the fate of a line that is removed if it holds a directive that passes the test
 abbrev pub fate_of : (Directive → Bool) → Option Placed → Line Placed → Fate
-fate_of test block line = if passes test (held_at block line) then None else Some line
+fate_of test block line = if passes test (directive_at block line) then None else Some line
 
 -- the lines with the first such entry rewritten, and without the later ones
 abbrev pub renewed : (Directive → Bool) → (Option Placed → Line Placed → Line Placed) → List (Line Placed)

@@ -1,7 +1,7 @@
 -- What is known of the arguments of a parsed operation. No public contract cites it.
 use Rattle.std.specs.Prelude.{◌≡◌, ℕ, true, false, List, Option, Some, None, is_some, ⊤}
 use Rattle.gm_name.specs.Names.{is_path, is_version}
-use Rattle.gm_file.specs.Values.{is_folder}
+use Rattle.gm_file.specs.Values.{is_folder_path}
 use Rattle.gm_file.specs.GoVersions.{strict_go}
 use Rattle.gm_file.specs.Directives.{Pair, Left, Right, Folder, Module}
 use Rattle.gm_file_edit.specs.Edits.{Edit, SetModule, SetGo, SetRequire, DropRequire, AddExclude, DropExclude, SetReplace, DropReplace, AddRetract, DropRetract, edit_in, has_byte}
@@ -25,7 +25,7 @@ IsSoundLeft left = (is_path left.path ≡ true) × IsSoundVersion left.version
 
 -- a right side; a folder has no line feed
 abbrev pub IsSoundRight : Right → Type 0
-IsSoundRight (Folder text) = (is_folder text ≡ true) × (has_byte 10 text ≡ false)
+IsSoundRight (Folder text) = (is_folder_path text ≡ true) × (has_byte 10 text ≡ false)
 IsSoundRight (Module path version) = (is_path path ≡ true) × (is_version version ≡ true)
 
 -- The arguments that an operation puts into a file are valid. Those of drops aren't put in, so nothing is said of
@@ -43,5 +43,5 @@ IsSoundEdit (AddRetract ends) = AreVersions ends
 IsSoundEdit (DropRetract ends) = ⊤
 
 -- some text spells the operation
-abbrev pub IsWritten : Edit → Type 0
-IsWritten edit = (text : List ℕ) × (edit_in text ≡ Some edit)
+abbrev pub HasSpelling : Edit → Type 0
+HasSpelling edit = (text : List ℕ) × (edit_in text ≡ Some edit)

@@ -33,10 +33,10 @@ edit_of (change.AddRetract ends) = AddRetract (interval_view ends)
 edit_of (change.DropRetract ends) = DropRetract (interval_view ends)
 
 -- the result is this part, or `Spelling` if there is none; nothing is known if memory runs out
-abbrev pub Reads : {X Y : Type 0} → (Y → X) → Option X → Result Y OpFault → Type 0
-Reads view part (Ok y) = part ≡ Some (view y)
-Reads view part (Err fault.NoMemory) = ⊤
-Reads view part (Err fault.Spelling) = part ≡ None
+abbrev pub IsParsedPart : {X Y : Type 0} → (Y → X) → Option X → Result Y OpFault → Type 0
+IsParsedPart view part (Ok y) = part ≡ Some (view y)
+IsParsedPart view part (Err fault.NoMemory) = ⊤
+IsParsedPart view part (Err fault.Spelling) = part ≡ None
 
 -- the left side with this path and this version
 abbrev pub left_of_parts : List ℕ → Option (List ℕ) → Left

@@ -11,7 +11,7 @@ ghost use Rattle.gm_file.specs.DirectiveViews.{directive_view};
 ghost use Rattle.gm_file.specs.Faults.{fault_of, is_module};
 ghost use Rattle.gm_file_edit.specs.Adding.{added, after_first_that, spot_after_first, spot_after_last, close_len, entry_at, is_of, past_block, single, verb_text};
 ghost use Rattle.gm_syntax.specs.Lines.{HasNoLineFeed};
-ghost use Rattle.gm_file_edit.specs.Fates.{held_at, passes, IsValidAt};
+ghost use Rattle.gm_file_edit.specs.Fates.{directive_at, passes, IsValidAt};
 
 use crate::dropping::{block_after_line, held_at};
 use gm_file::Directive;
@@ -68,7 +68,7 @@ fn holds(
 ) -> Result<bool, AllocError>
     requires { IsValidAt (option_map (λ t. t.now) block) (line_of line.now) }
     ensures { IfOk result (λ b. b
-        ≡ passes (is_of verb) (held_at (option_map (λ t. t.now) block.entry) (line_of line.now))) }
+        ≡ passes (is_of verb) (directive_at (option_map (λ t. t.now) block.entry) (line_of line.now))) }
 {
     match held_at(alloc, block, line)? {
         None => Ok(false),
@@ -80,7 +80,7 @@ fn holds(
 fn declares_module(alloc: Global, block: Option<&Token>, line: &Line) -> Result<bool, AllocError>
     requires { IsValidAt (option_map (λ t. t.now) block) (line_of line.now) }
     ensures { IfOk result (λ b. b
-        ≡ passes is_module (held_at (option_map (λ t. t.now) block.entry) (line_of line.now))) }
+        ≡ passes is_module (directive_at (option_map (λ t. t.now) block.entry) (line_of line.now))) }
 {
     match held_at(alloc, block, line)? {
         None => Ok(false),

@@ -10,7 +10,7 @@ ghost use Rattle.gm_file.specs.Directives.{Strict, block_after_line};
 ghost use Rattle.gm_file.specs.DirectiveViews.{directive_view};
 ghost use Rattle.gm_file.specs.Faults.{fault_of};
 ghost use Rattle.gm_file_edit.specs.About.{about};
-ghost use Rattle.gm_file_edit.specs.Fates.{dropped, fate_of, held_at, passes, IsValidAt};
+ghost use Rattle.gm_file_edit.specs.Fates.{dropped, fate_of, directive_at, passes, IsValidAt};
 ghost use Rattle.gm_file_edit.specs.Views.{edit_of};
 ghost use Rattle.gm_file_edit.specs.Walks.{fate_seen};
 
@@ -56,7 +56,7 @@ pub(crate) fn held_at(
 ) -> Result<Option<Directive>, AllocError>
     requires { IsValidAt (option_map (λ t. t.now) block) (line_of line.now) }
     ensures { IfOk result (λ d. option_map directive_view d
-        ≡ held_at (option_map (λ t. t.now) block.entry) (line_of line.now)) }
+        ≡ directive_at (option_map (λ t. t.now) block.entry) (line_of line.now)) }
 {
     match read_line(alloc, Mode::Strict, block, line) {
         Ok(directive) => Ok(directive),

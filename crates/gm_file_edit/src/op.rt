@@ -4,7 +4,7 @@
 
 ghost use Rattle.std.specs.Prelude.{◌≡◌, IfOk, IsErrOf, None, Some};
 ghost use Rattle.gm_file_edit.specs.Edits.{edit_in, named};
-ghost use Rattle.gm_file_edit.specs.Views.{Reads, edit_of};
+ghost use Rattle.gm_file_edit.specs.Views.{IsParsedPart, edit_of};
 
 use crate::fault::OpFault;
 use crate::name::{Name, name_in};
@@ -66,7 +66,7 @@ impl Model for Op {
 /// Parses the argument of the operation `name`.
 #[tactic(auto, unfolding(crate::specs::Edits::named))]
 fn read_named(alloc: Global, name: Name, text: &str) -> Result<Change, OpFault>
-    ensures { Reads edit_of (named text.now name) result }
+    ensures { IsParsedPart edit_of (named text.now name) result }
 {
     match name {
         Name::Module => Ok(Change::SetModule(read_path(alloc, text)?)),

@@ -9,7 +9,7 @@ ghost use Rattle.std.specs.List.{suffix_len};
 ghost use Rattle.std.specs.String.{string_bytes};
 ghost use Rattle.gm_file.specs.Views.{interval_view, replace_view, right_view};
 ghost use Rattle.gm_file_edit.specs.Edits.{split_at_byte, has_byte, inside_brackets, interval_in, is_bracketed, is_space_or_tab, go_text_in, left_in, pair_in, path_in, replacing_in, right_in, trimmed, two_versions_in, version_in, without_trailing, without_leading};
-ghost use Rattle.gm_file_edit.specs.Views.{Reads, split_seen, left_seen};
+ghost use Rattle.gm_file_edit.specs.Views.{IsParsedPart, split_seen, left_seen};
 
 use crate::fault::OpFault;
 use gm_file::{Interval, Replace, Right, is_folder, strict_go};
@@ -55,7 +55,7 @@ fn has_line_feed(text: &[u8]) -> bool
 
 /// Parses a module path.
 pub(crate) fn read_path(alloc: Global, text: &str) -> Result<ModPath, OpFault>
-    ensures { Reads (λ path. path) (path_in text.now) result }
+    ensures { IsParsedPart (λ path. path) (path_in text.now) result }
 {
     match ModPath::parse(alloc, text) {
         Ok(path) => Ok(path),
@@ -68,7 +68,7 @@ pub(crate) fn read_path(alloc: Global, text: &str) -> Result<ModPath, OpFault>
 
 /// Parses a canonical version.
 fn read_version(alloc: Global, text: &str) -> Result<ModVersion, OpFault>
-    ensures { Reads (λ version. version) (version_in text.now) result }
+    ensures { IsParsedPart (λ version. version) (version_in text.now) result }
 {
     match ModVersion::parse(alloc, text) {
         Ok(version) => Ok(version),
@@ -82,7 +82,7 @@ fn read_version(alloc: Global, text: &str) -> Result<ModVersion, OpFault>
 
 /// Copies a go version that strict reading of a main file accepts.
 pub(crate) fn read_go(alloc: Global, text: &str) -> Result<String, OpFault>
-    ensures { Reads string_bytes (go_text_in text.now) result }
+    ensures { IsParsedPart string_bytes (go_text_in text.now) result }
 {
     match strict_go(text) {
         Some(_) => Ok(String::from_str(alloc, text)?),
@@ -93,7 +93,7 @@ pub(crate) fn read_go(alloc: Global, text: &str) -> Result<String, OpFault>
 /// Parses a path, `@` and a version.
 #[tactic(auto, unfolding(crate::specs::Edits::pair_in))]
 pub(crate) fn read_pair(alloc: Global, text: &str) -> Result<(ModPath, ModVersion), OpFault>
-    ensures { Reads (λ pair. pair) (pair_in text.now) result }
+    ensures { IsParsedPart (λ pair. pair) (pair_in text.now) result }
 {
     let Some((path, version)) = split_at_sign(text) else {
         return Err(OpFault::Spelling);
@@ -113,7 +113,7 @@ fn has_at_sign(text: &[u8]) -> bool
 /// Parses the left side of a `replace`: a path, optionally with `@` and a version.
 #[tactic(auto, unfolding(crate::specs::Edits::left_in))]
 pub(crate) fn read_left(alloc: Global, text: &str) -> Result<LeftSide, OpFault>
-    ensures { Reads left_seen (left_in text.now) result }
+    ensures { IsParsedPart left_seen (left_in text.now) result }
 {
     if has_at_sign(text.as_bytes()) {
         let (path, version) = read_pair(alloc, text)?;
@@ -133,7 +133,7 @@ pub(crate) fn read_left(alloc: Global, text: &str) -> Result<LeftSide, OpFault>
 /// feed is refused, since a word that an edit makes can't hold one.
 #[tactic(auto, unfolding(crate::specs::Edits::right_in))]
 fn read_right(alloc: Global, text: &str) -> Result<Right, OpFault>
-    ensures { Reads right_view (right_in text.now) result }
+    ensures { IsParsedPart right_view (right_in text.now) result }
 {
     if is_folder(text) {
         if has_line_feed(text.as_bytes()) {
@@ -148,7 +148,7 @@ fn read_right(alloc: Global, text: &str) -> Result<Right, OpFault>
 /// Parses a left side, `=` and a right side. The first `=` separates them.
 #[tactic(auto, unfolding(crate::specs::Edits::replacing_in))]
 pub(crate) fn read_replace(alloc: Global, text: &str) -> Result<Replace, OpFault>
-    ensures { Reads replace_view (replacing_in text.now) result }
+    ensures { IsParsedPart replace_view (replacing_in text.now) result }
 {
     let Some((left, right)) = split_at_equals(text) else {
         return Err(OpFault::Spelling);
@@ -229,7 +229,7 @@ fn inside_brackets(text: &str) -> &str
 
 /// Parses two versions separated by a comma, with spaces and tabs allowed around each.
 fn read_two_versions(alloc: Global, text: &str) -> Result<Interval, OpFault>
-    ensures { Reads interval_view (two_versions_in text.now) result }
+    ensures { IsParsedPart interval_view (two_versions_in text.now) result }
 {
     let Some((low, high)) = split_at_comma(text) else {
         return Err(OpFault::Spelling);
@@ -242,7 +242,7 @@ fn read_two_versions(alloc: Global, text: &str) -> Result<Interval, OpFault>
 /// Parses an interval: two versions in brackets, or one version that is both ends.
 #[tactic(auto, unfolding(crate::specs::Edits::interval_in))]
 pub(crate) fn read_interval(alloc: Global, text: &str) -> Result<Interval, OpFault>
-    ensures { Reads interval_view (interval_in text.now) result }
+    ensures { IsParsedPart interval_view (interval_in text.now) result }
 {
     if is_bracketed(text.as_bytes()) {
         return read_two_versions(alloc, inside_brackets(text));

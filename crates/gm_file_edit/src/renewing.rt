@@ -11,7 +11,7 @@ ghost use Rattle.gm_file.specs.Directives.{Strict};
 ghost use Rattle.gm_file.specs.Faults.{fault_of};
 ghost use Rattle.gm_file.specs.Views.{replace_view};
 ghost use Rattle.gm_file_edit.specs.About.{about};
-ghost use Rattle.gm_file_edit.specs.Fates.{held_at, passes, renewed, IsValidAt};
+ghost use Rattle.gm_file_edit.specs.Fates.{directive_at, passes, renewed, IsValidAt};
 ghost use Rattle.gm_file_edit.specs.Renewing.{before_arguments, made_new, new_fate, with_arguments, with_last};
 ghost use Rattle.gm_file_edit.specs.NewWords.{replace_words};
 ghost use Rattle.gm_file_edit.specs.Sound.{IsSoundEdit, IsSoundRight};
@@ -139,7 +139,7 @@ pub(crate) fn is_about_at(
 ) -> Result<bool, AllocError>
     requires { IsValidAt (option_map (λ t. t.now) block) (line_of line.now) }
     ensures { IfOk result (λ b. b
-        ≡ passes (about (edit_of change.now)) (held_at (option_map (λ t. t.now) block.entry) (line_of line.now))) }
+        ≡ passes (about (edit_of change.now)) (directive_at (option_map (λ t. t.now) block.entry) (line_of line.now))) }
 {
     let held = held_at(alloc, block, line)?;
     Ok(passes(change, &held))
@@ -157,11 +157,12 @@ fn renew_line<'a>(
     requires right { IsValidAt (option_map (λ t. t.now) block) (line_of line.now) }
     ensures fate { IfOk result (λ r. fate_seen r.0
         ≡ new_fate is_done
-        (passes (about (edit_of change.now)) (held_at (option_map (λ t. t.now) block.entry) (line_of line.now)))
+        (passes (about (edit_of change.now)) (directive_at (option_map (λ t. t.now) block.entry) (line_of line.now)))
         (made_new (edit_of change.now)) (option_map (λ t. t.now) block.entry) (line_of line.now)) }
     ensures done { IfOk result (λ r. r.1
         ≡ (is_done
-        || passes (about (edit_of change.now)) (held_at (option_map (λ t. t.now) block.entry) (line_of line.now)))) }
+        || passes (about (edit_of change.now))
+        (directive_at (option_map (λ t. t.now) block.entry) (line_of line.now)))) }
 {
     let is_about = is_about_at(alloc, change, block, line)?;
     let fate = new_fate(alloc, change, is_done, is_about, block, line)?;

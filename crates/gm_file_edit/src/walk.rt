@@ -9,7 +9,7 @@ ghost use Rattle.std.specs.List.{list_all, list_any};
 ghost use Rattle.gm_syntax.specs.LineViews.{line_of, line_views};
 ghost use Rattle.gm_syntax.specs.Tokens.{comment_of};
 ghost use Rattle.gm_syntax.specs.Document.{Close};
-ghost use Rattle.gm_file_edit.specs.Fates.{Fate, is_blank, is_emptied, kept, leaves_nothing, remaining_from, opened_lines, with_line};
+ghost use Rattle.gm_file_edit.specs.Fates.{Fate, is_blank_source_line, is_emptied, kept, leaves_nothing, remaining_from, opened_lines, with_line};
 ghost use Rattle.gm_file_edit.specs.Walks.{begun_seen, fate_seen, fates_seen, remaining_by};
 
 use gm_syntax::{Line, Text, Token};
@@ -28,7 +28,7 @@ pub(crate) struct Block<'a> {
 
 /// Whether a line is blank.
 fn is_blank(line: &Line) -> bool
-    ensures { result ≡ is_blank (line_of line.now) }
+    ensures { result ≡ is_blank_source_line (line_of line.now) }
 {
     match line {
         Line::Blank => true,

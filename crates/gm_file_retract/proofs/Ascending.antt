@@ -12,7 +12,7 @@ use Rattle.gm_name.specs.Version.{parts_in, precedence, version_cmp}
 use Rattle.gm_name.specs.VersionOrder.{precedence_total, version_total}
 use Rattle.gm_file.specs.Directives.{Pair}
 use Rattle.gm_file_retract.specs.Shown.{holds, is_retracted, is_at_most}
-use Rattle.gm_file_retract.specs.Swept.{AreSorted, Ascend, is_reached, pair_of, pairs_of}
+use Rattle.gm_file_retract.specs.Swept.{AreSorted, Ascend, is_reached, ends_view, ends_views}
 use Rattle.gm_file_retract.specs.declared.sweep.Ends.{Ends}
 
 by_parts : IsTotalOrder (on parts_in precedence)
@@ -63,13 +63,13 @@ not_below a b e = reversed (precedence (parts_in b.low.now) (parts_in a.low.now)
     (by_parts.antisymm a.low.now b.low.now) (first_not_less _ _ _ e)
 
 all_above : (low : List ℕ) (xs : List Ends) → ((j : ℕ) (d : Ends) → j < length xs → is_at_most low (slice_index_or xs j d).low.now ≡ true)
-    → AllByRecursion (λ other. is_at_most low other.0 ≡ true) (map pair_of xs)
+    → AllByRecursion (λ other. is_at_most low other.0 ≡ true) (map ends_view xs)
 all_above low [] above = tt
 all_above low (x ∷ xs) above = (above 0 x (omega arith), all_above low xs (λ j d within. above (suc j) d (omega arith)))
 
 ascend_from : (xs : List Ends)
     → ((i j : ℕ) (d : Ends) → i ≤ j → j < length xs → is_at_most (slice_index_or xs i d).low.now (slice_index_or xs j d).low.now ≡ true)
-    → Ascend (map pair_of xs)
+    → Ascend (map ends_view xs)
 ascend_from [] above = tt
 ascend_from (x ∷ xs) above = (
   all_above x.low.now xs (λ j d within. above 0 (suc j) d (omega arith) (omega arith)),
@@ -77,13 +77,13 @@ ascend_from (x ∷ xs) above = (
 )
 
 -- the result of sorting ends
-pub sorted_from : (intervals : List Pair) (found sorted : List Ends) → pairs_of found ≡ intervals → IsPermutation found sorted
-    → IsSorted ends_cmp sorted → AreSorted (pairs_of sorted) intervals
+pub sorted_from : (intervals : List Pair) (found sorted : List Ends) → ends_views found ≡ intervals → IsPermutation found sorted
+    → IsSorted ends_cmp sorted → AreSorted (ends_views sorted) intervals
 sorted_from intervals found sorted same moved ordered = record {
   ascend = ascend_from sorted (λ i j d order within. not_below (slice_index_or sorted i d) (slice_index_or sorted j d)
       (sorted_far (λ x y. is_lt (ends_cmp x y)) (ranks_by ends_total (λ (e : Ends). e)) sorted ordered i j d order within));
-  same = λ version. sym (subst (λ ps. list_any (holds version) ps ≡ list_any (holds version) (pairs_of sorted)) same
-      (list_any-IsPermutation (holds version) _ _ (IsPermutation-map pair_of found sorted moved)));
+  same = λ version. sym (subst (λ ps. list_any (holds version) ps ≡ list_any (holds version) (ends_views sorted)) same
+      (list_any-IsPermutation (holds version) _ _ (IsPermutation-map ends_view found sorted moved)));
 }
 
 -- the higher of two ends

@@ -6,11 +6,11 @@ use Rattle.gm_file_retract.specs.Shown.{is_retracted, is_at_most}
 use Rattle.gm_file_retract.specs.declared.sweep.Ends.{Ends}
 
 -- the ends of an interval as texts
-abbrev pub pair_of : Ends → Pair
-pair_of ends = (ends.low.now, ends.high.now)
+abbrev pub ends_view : Ends → Pair
+ends_view ends = (ends.low.now, ends.high.now)
 
-abbrev pub pairs_of : List Ends → List Pair
-pairs_of = map pair_of
+abbrev pub ends_views : List Ends → List Pair
+ends_views = map ends_view
 
 -- each low end precedes those after it, or has the same precedence
 abbrev pub Ascend : List Pair → Type 0

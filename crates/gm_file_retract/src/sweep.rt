@@ -5,7 +5,7 @@
 ghost use Rattle.std.specs.Prelude.{◌≡◌, ◌||◌, ℕ, List, IfOk, option_map};
 ghost use Rattle.gm_file.specs.Views.{interval_views};
 ghost use Rattle.gm_file_retract.specs.Shown.{is_at_most};
-ghost use Rattle.gm_file_retract.specs.Swept.{AreAllSwept, AreSorted, AreSwept, is_reached, pairs_of};
+ghost use Rattle.gm_file_retract.specs.Swept.{AreAllSwept, AreSorted, AreSwept, is_reached, ends_views};
 
 use gm_file::Interval;
 use gm_name::{ModVersion, NoMemory};
@@ -63,7 +63,7 @@ pub(crate) fn sorted_ends<'a>(
     alloc: Global,
     intervals: &'a [Interval],
 ) -> Result<Vec<Ends<'a>>, NoMemory>
-    ensures { IfOk result (λ ends. AreSorted (pairs_of ends.items) (interval_views intervals.entry.now)) }
+    ensures { IfOk result (λ ends. AreSorted (ends_views ends.items) (interval_views intervals.entry.now)) }
 {
     let mut ends = Vec::new(alloc);
     for interval in intervals {
@@ -77,8 +77,8 @@ pub(crate) fn sorted_ends<'a>(
 /// Continues a sweep past each interval that begins at this version or before. The version must not precede the one
 /// that the sweep has reached.
 pub(crate) fn advance<'a>(ends: &[Ends<'a>], from: Sweep<'a>, version: &ModVersion) -> Sweep<'a>
-    requires { AreSwept (pairs_of ends.now) version.now from.next (option_map (λ reach. reach.now) from.reach) }
-    ensures { AreAllSwept (pairs_of ends.now) version.now result.next (option_map (λ reach. reach.now) result.reach) }
+    requires { AreSwept (ends_views ends.now) version.now from.next (option_map (λ reach. reach.now) from.reach) }
+    ensures { AreAllSwept (ends_views ends.now) version.now result.next (option_map (λ reach. reach.now) result.reach) }
 {
     let mut next = from.next;
     let mut reach = from.reach;

@@ -4,7 +4,7 @@ use Rattle.std.specs.List.{list_any, IsDistinct}
 use Rattle.std.proofs.lemmas.Map.Keys.{IsDistinct-push}
 use Rattle.std.proofs.lemmas.Map.Views.{Contains-from_any}
 use Rattle.std.proofs.lemmas.List.Elements.{Contains-append_left, Contains-push, Contains-push_cases}
-use Rattle.gm_graph_cache.specs.Main.{Vertex}
+use Rattle.gm_graph_cache.specs.Main.{ModuleVersion}
 use Rattle.gm_graph.specs.Graph.{same_vertex}
 use Rattle.gm_graph_cache.specs.declared.depth.Turn.{Turn}
 use Rattle.gm_graph_cache.specs.declared.depth.Depth.{Depth}
@@ -22,7 +22,7 @@ no_turns = record {
   has_vertex = λ one h. absurd (omega (arith, h.1));
 }
 
-module _ (vertices : List Vertex) (turns : List Turn) (x : Vertex) (d : Depth) (old : AreTurnsOf vertices turns) (fresh : list_any (same_turn (turn x d)) turns ≡ false) where
+module _ (vertices : List ModuleVersion) (turns : List Turn) (x : ModuleVersion) (d : Depth) (old : AreTurnsOf vertices turns) (fresh : list_any (same_turn (turn x d)) turns ≡ false) where
   -- a turn of a known vertex
   pub more_turn : list_any (same_vertex x) vertices ≡ true → AreTurnsOf vertices (turns ++ turn x d ∷ [])
   more_turn known = record {
@@ -44,7 +44,7 @@ module _ (vertices : List Vertex) (turns : List Turn) (x : Vertex) (d : Depth) (
     turns_once = IsDistinct-push turns_equivalence turns (turn x d) old.turns_once fresh;
     has_turn = λ y h. elim (Contains-push_cases vertices x y h) [
       | inl there ↦ (let one = old.has_turn y there in (one.0, Contains-append_left turns (turn x d ∷ []) (turn y one.0) one.1))
-      | inr e ↦ (d, subst (λ (z : Vertex). Contains (turns ++ turn x d ∷ []) (turn z d)) e (Contains-push turns (turn x d)))
+      | inr e ↦ (d, subst (λ (z : ModuleVersion). Contains (turns ++ turn x d ∷ []) (turn z d)) e (Contains-push turns (turn x d)))
     ];
     has_vertex = λ one h. elim (Contains-push_cases turns (turn x d) one h) [
       | inl there ↦ Contains-append_left vertices (x ∷ []) one.vertex (old.has_vertex one there)
@@ -52,11 +52,12 @@ module _ (vertices : List Vertex) (turns : List Turn) (x : Vertex) (d : Depth) (
     ];
   }
 
-pub same_lists : (vs ws : List Vertex) (ts us : List Turn) → vs ≡ ws → ts ≡ us → AreTurnsOf ws us → AreTurnsOf vs ts
-same_lists vs ws ts us e f h = subst (λ (v : List Vertex). AreTurnsOf v ts) (sym e) (subst (λ (t : List Turn). AreTurnsOf ws t) (sym f) h)
+pub same_lists : (vs ws : List ModuleVersion) (ts us : List Turn) → vs ≡ ws → ts ≡ us → AreTurnsOf ws us
+    → AreTurnsOf vs ts
+same_lists vs ws ts us e f h = subst (λ (v : List ModuleVersion). AreTurnsOf v ts) (sym e) (subst (λ (t : List Turn). AreTurnsOf ws t) (sym f) h)
 
 -- a full list, and a vertex that it doesn't have
-pub overflow_one : (vertices : List Vertex) (turns : List Turn) (x : Vertex) → AreTurnsOf vertices turns → 65536 ≤ length vertices → list_any (same_vertex x) vertices ≡ false → OverflowsWith vertices (x ∷ [])
+pub overflow_one : (vertices : List ModuleVersion) (turns : List Turn) (x : ModuleVersion) → AreTurnsOf vertices turns → 65536 ≤ length vertices → list_any (same_vertex x) vertices ≡ false → OverflowsWith vertices (x ∷ [])
 overflow_one vertices turns x are full unknown = (
   vertices ++ x ∷ [],
   omega (arith, length-append vertices (x ∷ [])),
@@ -65,7 +66,7 @@ overflow_one vertices turns x are full unknown = (
 )
 
 -- the same after some were added
-pub overflow_later : (vertices mid : List Vertex) (turns more : List Turn) (d : Depth) (xs ys zs : List Vertex) → AreTurnsOf vertices turns → AreTurnsOf mid more → AddsAll turns more xs d → ((y : Vertex) → Contains xs y → Contains zs y) → ((y : Vertex) → Contains ys y → Contains zs y) → OverflowsWith mid ys → OverflowsWith vertices zs
+pub overflow_later : (vertices mid : List ModuleVersion) (turns more : List Turn) (d : Depth) (xs ys zs : List ModuleVersion) → AreTurnsOf vertices turns → AreTurnsOf mid more → AddsAll turns more xs d → ((y : ModuleVersion) → Contains xs y → Contains zs y) → ((y : ModuleVersion) → Contains ys y → Contains zs y) → OverflowsWith mid ys → OverflowsWith vertices zs
 overflow_later vertices mid turns more d xs ys zs are are' adds in_xs in_ys over = (
   over.0,
   over.1,
@@ -73,14 +74,14 @@ overflow_later vertices mid turns more d xs ys zs are are' adds in_xs in_ys over
   (λ y h. elim (over.3 y h) [
     | inl there ↦ (let one = are'.has_turn y there in elim (adds.only (turn y one.0) one.1) [
       | inl old ↦ inl (are.has_vertex (turn y one.0) old)
-      | inr found ↦ inr (subst (λ (m : Vertex). Contains zs m) (sym (ap (λ (t : Turn). t.vertex) found.2)) (in_xs found.0 found.1))
+      | inr found ↦ inr (subst (λ (m : ModuleVersion). Contains zs m) (sym (ap (λ (t : Turn). t.vertex) found.2)) (in_xs found.0 found.1))
     ])
     | inr new ↦ inr (in_ys y new)
   ]),
 )
 
-pub overflow_same : (vertices : List Vertex) {xs ys : List Vertex} → xs ≡ ys → OverflowsWith vertices xs → OverflowsWith vertices ys
-overflow_same vertices e over = subst (λ (zs : List Vertex). OverflowsWith vertices zs) e over
+pub overflow_same : (vertices : List ModuleVersion) {xs ys : List ModuleVersion} → xs ≡ ys → OverflowsWith vertices xs → OverflowsWith vertices ys
+overflow_same vertices e over = subst (λ (zs : List ModuleVersion). OverflowsWith vertices zs) e over
 
-pub overflow_of : (xs : List Vertex) {vertices others : List Vertex} → vertices ≡ others → OverflowsWith vertices xs → OverflowsWith others xs
-overflow_of xs e over = subst (λ (zs : List Vertex). OverflowsWith zs xs) e over
+pub overflow_of : (xs : List ModuleVersion) {vertices others : List ModuleVersion} → vertices ≡ others → OverflowsWith vertices xs → OverflowsWith others xs
+overflow_of xs e over = subst (λ (zs : List ModuleVersion). OverflowsWith zs xs) e over

@@ -5,7 +5,7 @@ use Rattle.gm_store.specs.Asked.{Name, Reply}
 use Rattle.gm_store_sums.specs.declared.sum_table.SumTable.{SumTable}
 use Rattle.gm_graph_cache.specs.declared.cache.Cache.{Cache}
 use Rattle.gm_graph_cache.specs.Cached.{HoldsSame, Knows, LentSame, held_of, main_in}
-use Rattle.gm_graph_cache.specs.Main.{Main, Vertex, main_of}
+use Rattle.gm_graph_cache.specs.Main.{Main, ModuleVersion, main_of}
 use Rattle.gm_graph_cache.specs.Reading.{Held, KeepsHeld, Readings, Tells, readings_by}
 use Rattle.gm_graph_cache.specs.declared.depth.Depth.{Depth}
 use Rattle.gm_graph.specs.declared.worklist.Worklist.{Worklist}
@@ -31,7 +31,7 @@ on_ok_two (Ok x) f p q = f p q
 on_ok_two (Err e) f p q = tt
 
 -- too many vertices, according to a cache that knows the vertex's file
-pub overflows_at : (old mid : Cache) (pairs : List (Name × Reply)) (worklist : Worklist) (x : Vertex) (d : Depth) → LentSame old mid → KeepsHeld (held_of old) (held_of mid) → Knows mid pairs
+pub overflows_at : (old mid : Cache) (pairs : List (Name × Reply)) (worklist : Worklist) (x : ModuleVersion) (d : Depth) → LentSame old mid → KeepsHeld (held_of old) (held_of mid) → Knows mid pairs
     → VisitOverflows (main_in mid) (readings_in mid) worklist.vertices.items x d → OverflowsAt old pairs worklist x d
 overflows_at old mid pairs worklist x d lent grows knows over = (
   held_of mid,

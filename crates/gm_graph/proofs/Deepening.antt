@@ -2,8 +2,8 @@
 use Rattle.std.proofs.Common.{◌≡◌, true, false, List, [], Option, Some, None, IsSome, Result, Contains, ap, ◌∙◌, sym, refl, subst, inl, inr, arith, append-nil}
 use Rattle.std.proofs.lemmas.Bool.{cases_Bool, false≢true}
 use Rattle.gm_file.specs.Fields.{Dependency}
-use Rattle.gm_graph_cache.specs.Main.{Main, Vertex, is_pruned_by}
-use Rattle.gm_graph_cache.specs.Reading.{Keeps, Readings, is_unpruned_in, requirements_in, requirements_of, said_in}
+use Rattle.gm_graph_cache.specs.Main.{Main, ModuleVersion, is_pruned_by}
+use Rattle.gm_graph_cache.specs.Reading.{Keeps, Readings, is_unpruned_in, requirements_in, vertex_requirements, said_in}
 use Rattle.gm_graph_cache.specs.declared.depth.Turn.{Turn}
 use Rattle.gm_graph_cache.specs.declared.depth.Depth.{Depth}
 use Rattle.gm_graph_cache.specs.declared.depth.Depth.TheVariants.{Top, Deep}
@@ -12,7 +12,7 @@ use Rattle.gm_graph.specs.Graph.{IsTop, IsDeep, from_main, from_top, from_deep, 
 use Rattle.gm_graph.specs.Turns.{leads_on, leads_on_in, IsDone, AddsAll, Visits}
 use Rattle.gm_graph_cache.specs.Turns.{turn}
 
-requirement_in-kept : (main : Main) (a b : Option (Result Dependency Class)) → ((s : Result Dependency Class) → a ≡ Some s → b ≡ Some s) → (y : Vertex) → Contains (requirements_in main (said_in a)) y → Contains (requirements_in main (said_in b)) y
+requirement_in-kept : (main : Main) (a b : Option (Result Dependency Class)) → ((s : Result Dependency Class) → a ≡ Some s → b ≡ Some s) → (y : ModuleVersion) → Contains (requirements_in main (said_in a)) y → Contains (requirements_in main (said_in b)) y
 requirement_in-kept main None b keeps y (k, below, at) = absurd (omega arith)
 requirement_in-kept main (Some s) b keeps y h = subst (λ (o : Option (Result Dependency Class)). Contains (requirements_in main (said_in o)) y) (sym (keeps s refl)) h
 
@@ -21,21 +21,22 @@ unpruned_in-kept None b keeps h = cc
 unpruned_in-kept (Some s) b keeps h = ap (λ (o : Option (Result Dependency Class)). is_unpruned_in (said_in o)) (keeps s refl) ∙ h
 
 module _ (main : Main) (a b : Readings) (keeps : Keeps a b) where
-  pub requirement-kept : (x y : Vertex) → Contains (requirements_of main a x) y → Contains (requirements_of main b x) y
+  pub requirement-kept : (x y : ModuleVersion) → Contains (vertex_requirements main a x) y
+      → Contains (vertex_requirements main b x) y
   requirement-kept x y h = requirement_in-kept main (a x) (b x) (keeps x) y h
 
   -- What was opened stays opened.
-  pub IsDeep-kept : {x : Vertex} → IsDeep main a x → IsDeep main b x
+  pub IsDeep-kept : {x : ModuleVersion} → IsDeep main a x → IsDeep main b x
   IsDeep-kept (from_main p t) = from_main p t
   IsDeep-kept (from_top {x} {y} t u r) = from_top t (unpruned_in-kept (a x) (b x) (keeps x) u) (requirement-kept x y r)
   IsDeep-kept (from_deep {x} {y} d r) = from_deep (IsDeep-kept d) (requirement-kept x y r)
 
 -- If each turn is done, and they begin as the main file says, they have every vertex that is opened at full depth.
 pub IsDeep-among : (main : Main) (answers : Readings) (turns : List Turn)
-    → (is_pruned_by main.go ≡ true → (x : Vertex) → IsTop main x → Contains turns (turn x Top))
-    → (is_pruned_by main.go ≡ false → (x : Vertex) → IsTop main x → Contains turns (turn x Deep))
+    → (is_pruned_by main.go ≡ true → (x : ModuleVersion) → IsTop main x → Contains turns (turn x Top))
+    → (is_pruned_by main.go ≡ false → (x : ModuleVersion) → IsTop main x → Contains turns (turn x Deep))
     → ((one : Turn) → Contains turns one → IsDone main answers turns one)
-    → {x : Vertex} → IsDeep main answers x → Contains turns (turn x Deep)
+    → {x : ModuleVersion} → IsDeep main answers x → Contains turns (turn x Deep)
 IsDeep-among main answers turns tops deeps done (from_main p t) = deeps p _ t
 IsDeep-among main answers turns tops deeps done (from_top {x} {y} t u r) = elim (cases_Bool (is_pruned_by main.go)) [
   | inl pruned ↦ (done (turn x Top) (tops pruned x t)).followed u y r
@@ -44,7 +45,7 @@ IsDeep-among main answers turns tops deeps done (from_top {x} {y} t u r) = elim 
 IsDeep-among main answers turns tops deeps done (from_deep {x} {y} d r) = (done (turn x Deep) (IsDeep-among main answers turns tops deeps done d)).followed refl y r
 
 -- What a turn leads to was added.
-pub follows_adds : (main : Main) (readings : Readings) (old new : List Turn) (x : Vertex) (d : Depth) → IsSome (readings x) → leads_on readings x d ≡ true → AddsAll old new (requirements_of main readings x) Deep → Visits main readings old new (turn x d)
+pub follows_adds : (main : Main) (readings : Readings) (old new : List Turn) (x : ModuleVersion) (d : Depth) → IsSome (readings x) → leads_on readings x d ≡ true → AddsAll old new (vertex_requirements main readings x) Deep → Visits main readings old new (turn x d)
 follows_adds main readings old new x d known leads adds = record {
   extends = adds.extends;
   done = record { answered = known; followed = λ _ y h. adds.each y h };
@@ -52,7 +53,7 @@ follows_adds main readings old new x d known leads adds = record {
 }
 
 -- a turn that leads no further
-pub follows_nothing : (main : Main) (readings : Readings) (turns : List Turn) (x : Vertex) (d : Depth) → IsSome (readings x) → leads_on readings x d ≡ false → Visits main readings turns turns (turn x d)
+pub follows_nothing : (main : Main) (readings : Readings) (turns : List Turn) (x : ModuleVersion) (d : Depth) → IsSome (readings x) → leads_on readings x d ≡ false → Visits main readings turns turns (turn x d)
 follows_nothing main readings turns x d known nothing = record {
   extends = ([], sym (append-nil turns));
   done = record { answered = known; followed = λ leads y h. absurd (false≢true (sym nothing ∙ leads)) };
@@ -77,11 +78,11 @@ module _ (main : Main) (a b : Readings) (keeps : Keeps a b) where
         followed = λ leads y h. done.followed (subst (λ (o : Option (Result Dependency Class)). leads_on_in (said_in o) one.depth ≡ true) same leads) y (subst (λ (o : Option (Result Dependency Class)). Contains (requirements_in main (said_in o)) y) same h);
       }
 
-  pub IsValidTurn-kept : (x : Vertex) (d : Depth) → TakesTurn main a x d → TakesTurn main b x d
+  pub IsValidTurn-kept : (x : ModuleVersion) (d : Depth) → TakesTurn main a x d → TakesTurn main b x d
   IsValidTurn-kept x Top h = h
   IsValidTurn-kept x Deep h = IsDeep-kept main a b keeps h
 
 -- What a valid turn leads to is opened at full depth.
-pub leads_to_deep : (main : Main) (answers : Readings) (x : Vertex) (d : Depth) (y : Vertex) → TakesTurn main answers x d → leads_on answers x d ≡ true → Contains (requirements_of main answers x) y → IsDeep main answers y
+pub leads_to_deep : (main : Main) (answers : Readings) (x : ModuleVersion) (d : Depth) (y : ModuleVersion) → TakesTurn main answers x d → leads_on answers x d ≡ true → Contains (vertex_requirements main answers x) y → IsDeep main answers y
 leads_to_deep main answers x Top y taken leads h = from_top taken.1 leads h
 leads_to_deep main answers x Deep y taken leads h = from_deep taken h

@@ -11,9 +11,9 @@ use Rattle.gm_graph_cache.specs.declared.depth.Turn.{Turn}
 use Rattle.gm_graph_cache.specs.declared.load_fault.LoadFault.{LoadFault}
 use Rattle.gm_graph_cache.specs.Cached.{Knows, held_of, main_in, sums_in}
 use Rattle.gm_graph_cache.specs.Turns.{turn}
-use Rattle.gm_graph_cache.specs.Main.{Main, Vertex}
+use Rattle.gm_graph_cache.specs.Main.{Main, ModuleVersion}
 use Rattle.gm_graph_cache.specs.Reading.{Tells, file_of, is_askable, readings_by}
-use Rattle.gm_graph_cache.specs.Refusals.{refused_by, refused_in}
+use Rattle.gm_graph_cache.specs.Refusals.{refused_names, refused_in}
 use Rattle.gm_graph_cache.proofs.Keeping.{readings_stay}
 use Rattle.gm_graph.specs.declared.worklist.Worklist.{Worklist}
 use Rattle.gm_graph.specs.Visiting.{OverflowsAt}
@@ -30,7 +30,7 @@ knows_nothing cache pairs e knows = subst (λ (ps : List (Name × Reply)). Knows
 
 -- The vertex of a turn in the worklist is opened, so its file may be asked for.
 module _ (main : Main) (sums : Option SumTable) (cache : Cache) (main_is : main_in cache ≡ main) (sums_are : sums_in cache ≡ sums) (old : List (Name × Reply)) (knows : Knows cache old)
-    (turns : List Turn) (at : ℕ) (x : Vertex) (depth : Depth) (sound : AllValidTurns main (readings_by main (held_of cache)) turns) (below : at < length turns) (here : get_or turns at (turn x depth) ≡ turn x depth) where
+    (turns : List Turn) (at : ℕ) (x : ModuleVersion) (depth : Depth) (sound : AllValidTurns main (readings_by main (held_of cache)) turns) (below : at < length turns) (here : get_or turns at (turn x depth) ≡ turn x depth) where
   due : (name : Name) → file_of main x ≡ name → is_askable name ≡ true → answer_in old name ≡ None → IsDue main sums old name
   due name is askable fresh = (
     (held_of cache, subst (λ (s : Option SumTable). Tells s old (held_of cache)) sums_are knows.tells, (x, opened_from main (readings_by main (held_of cache)) x depth (sound (turn x depth) (at, below, here)), is, askable)),
@@ -71,9 +71,9 @@ may_all may old new e grow n r h = elim (grow n r h) [
 
 -- ---- the refused names of a refusal that is passed on
 
-pub refused_same : {T : Type 0} (r : Result T LoadFault) (f : LoadFault) → ((h : LoadFault) → r ≡ Err h → h ≡ f) → IsErr r → refused_in r ≡ refused_by f
+pub refused_same : {T : Type 0} (r : Result T LoadFault) (f : LoadFault) → ((h : LoadFault) → r ≡ Err h → h ≡ f) → IsErr r → refused_in r ≡ refused_names f
 refused_same (Ok x) f h e = cc
-refused_same (Err k) f h e = ap refused_by (h k refl)
+refused_same (Err k) f h e = ap refused_names (h k refl)
 
 -- ---- the cache's turns are a prefix of the worklist
 

@@ -12,7 +12,7 @@ use Rattle.gm_file.proofs.Sets.{pair-ties}
 use Rattle.gm_graph_cache.specs.declared.class.Class.{Class}
 use Rattle.gm_graph_cache.specs.declared.finding.Finding.{Finding}
 use Rattle.gm_graph_cache.specs.declared.finding.Finding.TheVariants.{Fault}
-use Rattle.gm_graph_cache.specs.Main.{Main, Vertex, kept}
+use Rattle.gm_graph_cache.specs.Main.{Main, ModuleVersion, without_excluded}
 use Rattle.gm_graph_cache.specs.Reading.{Readings}
 use Rattle.gm_graph_select.specs.declared.step.Edge.{Edge}
 use Rattle.gm_graph_select.specs.declared.step.Step.{Step}
@@ -21,49 +21,51 @@ use Rattle.gm_graph_select.specs.Graph.{edge, vertex_cmp}
 use Rattle.gm_graph_select.specs.Order.{HaveSame}
 use Rattle.gm_graph.specs.declared.graph_builder.GraphBuilder.{GraphBuilder}
 use Rattle.gm_graph.specs.declared.adjacency.Adjacency.{Adjacency}
-use Rattle.gm_graph.specs.Building.{AddsEdges, AreGathered, edges_in, faults_in, found_fault, noted}
+use Rattle.gm_graph.specs.Building.{AddsEdges, AreGathered, edges_in, faults_by_vertex, found_fault, noted}
 use Rattle.gm_graph.specs.Graph.{IsEdge, same_vertex}
 use Rattle.gm_graph.specs.Adjacency.{edges_from, edges_of}
 use Rattle.gm_graph.proofs.Mapped.{from_mapped, in_mapped}
 
 -- A fault was put into the map.
-pub fault_put : (old new : map.BTreeMap Vertex Class) (x v : Vertex) (class : Class) (found : Finding) → found ≡ Fault class → v ≡ x
-    → ((q : Vertex) → map.get vertex_cmp new q ≡ cond (is_eq (vertex_cmp v q)) (Some class) (map.get vertex_cmp old q))
-    → (q : Vertex) → map.get vertex_cmp new q ≡ noted (found_fault found) x (λ y. map.get vertex_cmp old y) q
+pub fault_put : (old new : map.BTreeMap ModuleVersion Class) (x v : ModuleVersion) (class : Class) (found : Finding) → found ≡ Fault class → v ≡ x
+    → ((q : ModuleVersion) → map.get vertex_cmp new q
+    ≡ cond (is_eq (vertex_cmp v q)) (Some class) (map.get vertex_cmp old q))
+    → (q : ModuleVersion) → map.get vertex_cmp new q ≡ noted (found_fault found) x (λ y. map.get vertex_cmp old y) q
 fault_put old new x v class found e f puts q =
     puts q
     ∙ ap (λ (b : Bool). cond b (Some class) (map.get vertex_cmp old q)) (pair-ties v q)
-    ∙ ap (λ (w : Vertex). if same_vertex w q then Some class else map.get vertex_cmp old q) f
+    ∙ ap (λ (w : ModuleVersion). if same_vertex w q then Some class else map.get vertex_cmp old q) f
     ∙ ap (λ (n : Finding). noted (found_fault n) x (λ y. map.get vertex_cmp old y) q) (sym e)
 
 -- a vertex without a fault
-pub no_fault_put : (old new : map.BTreeMap Vertex Class) (x : Vertex) (found : Finding) → found_fault found ≡ None → new ≡ old → (q : Vertex) → map.get vertex_cmp new q ≡ noted (found_fault found) x (λ y. map.get vertex_cmp old y) q
+pub no_fault_put : (old new : map.BTreeMap ModuleVersion Class) (x : ModuleVersion) (found : Finding) → found_fault found ≡ None → new ≡ old → (q : ModuleVersion) → map.get vertex_cmp new q ≡ noted (found_fault found) x (λ y. map.get vertex_cmp old y) q
 no_fault_put old new x found e same q =
-    ap (λ (m : map.BTreeMap Vertex Class). map.get vertex_cmp m q) same
+    ap (λ (m : map.BTreeMap ModuleVersion Class). map.get vertex_cmp m q) same
     ∙ ap (λ (o : Option Class). noted o x (λ y. map.get vertex_cmp old y) q) (sym e)
 
 -- ---- the edges of adjacency lists
 
-from_each : (one : Adjacency) (y : Vertex) → Contains one.to.items y → Contains (edges_from one) (edge one.from y)
-from_each one y h = in_mapped (λ (z : Vertex). edge one.from z) one.to.items y h
+from_each : (one : Adjacency) (y : ModuleVersion) → Contains one.to.items y
+    → Contains (edges_from one) (edge one.from y)
+from_each one y h = in_mapped (λ (z : ModuleVersion). edge one.from z) one.to.items y h
 
-pub from_only : (one : Adjacency) (e : Edge) → Contains (edges_from one) e → (y : Vertex) × Contains one.to.items y × (e ≡ edge one.from y)
-from_only one e h = let found = from_mapped (λ (z : Vertex). edge one.from z) one.to.items e h in (found.0, found.1, sym found.2)
+pub from_only : (one : Adjacency) (e : Edge) → Contains (edges_from one) e → (y : ModuleVersion) × Contains one.to.items y × (e ≡ edge one.from y)
+from_only one e h = let found = from_mapped (λ (z : ModuleVersion). edge one.from z) one.to.items e h in (found.0, found.1, sym found.2)
 
 pub edges_push : (all : List Adjacency) (one : Adjacency) → edges_of (all ++ one ∷ []) ≡ edges_of all ++ edges_from one
 edges_push [] one = append-nil (edges_from one)
 edges_push (first ∷ all) one = ap (λ (es : List Edge). edges_from first ++ es) (edges_push all one) ∙ sym (append_assoc (edges_from first) (edges_of all) (edges_from one))
 
 -- A vertex without requirements has no edges.
-pub edges_none : (old : List Edge) (x : Vertex) (ys : List Vertex) → ys ≡ [] → AddsEdges old old x ys
+pub edges_none : (old : List Edge) (x : ModuleVersion) (ys : List ModuleVersion) → ys ≡ [] → AddsEdges old old x ys
 edges_none old x ys none = record {
   extends = ([], sym (append-nil old));
-  each = λ y h. absurd (let there : Contains [] y = subst (λ (l : List Vertex). Contains l y) none h in omega (arith, there.1));
+  each = λ y h. absurd (let there : Contains [] y = subst (λ (l : List ModuleVersion). Contains l y) none h in omega (arith, there.1));
   only = λ e h. inl h;
 }
 
 -- the edges of one more vertex
-pub edges_more : (old new : List Adjacency) (one : Adjacency) (x : Vertex) (ys : List Vertex) → new ≡ old ++ one ∷ [] → one.from ≡ Of x → HaveSame ys one.to.items → AddsEdges (edges_of old) (edges_of new) x ys
+pub edges_more : (old new : List Adjacency) (one : Adjacency) (x : ModuleVersion) (ys : List ModuleVersion) → new ≡ old ++ one ∷ [] → one.from ≡ Of x → HaveSame ys one.to.items → AddsEdges (edges_of old) (edges_of new) x ys
 edges_more old new one x ys more from same =
     let whole : edges_of new ≡ edges_of old ++ edges_from one = ap edges_of more ∙ edges_push old one in
     record {
@@ -76,17 +78,18 @@ edges_more old new one x ys more from same =
       ];
     }
 
-pub main_gathered : (g : GraphBuilder) (one : Adjacency) (ys : List Vertex) → g.leaving.items ≡ one ∷ [] → one.from ≡ FromMain → HaveSame ys one.to.items → g.faults.entries ≡ [] → (main : Main) (readings : Readings) → ys ≡ kept main main.requirements → AreGathered main readings (edges_in g) (faults_in g)
+pub main_gathered : (g : GraphBuilder) (one : Adjacency) (ys : List ModuleVersion) → g.leaving.items ≡ one ∷ [] → one.from ≡ FromMain → HaveSame ys one.to.items → g.faults.entries ≡ [] → (main : Main) (readings : Readings) → ys ≡ without_excluded main main.requirements → AreGathered main readings (edges_in g) (faults_by_vertex g)
 main_gathered g one ys are from same none main readings is =
     let whole : edges_in g ≡ edges_from one = ap edges_of are ∙ append-nil (edges_from one) in
     record {
       from_main = λ y t. subst (λ (es : List Edge). Contains es (edge FromMain y)) (sym whole)
-          (subst (λ (s : Step). Contains (edges_from one) (edge s y)) from (from_each one y ((same y).0 (subst (λ (l : List Vertex). Contains l y) (sym is) t))));
+          (subst (λ (s : Step). Contains (edges_from one) (edge s y)) from (from_each one y ((same y).0 (subst (λ (l : List ModuleVersion). Contains l y) (sym is) t))));
       only = λ e h.
           let found = from_only one e (subst (λ (es : List Edge). Contains es e) whole h) in
           let edge_is : e ≡ edge FromMain found.0 = found.2 ∙ ap (λ (s : Step). edge s found.0) from in
-          subst (λ (a : Edge). IsEdge main readings a.from a.to) (sym edge_is) (subst (λ (l : List Vertex). Contains l found.0) is ((same found.0).1 found.1));
-      known = λ x class h. cc (sym h ∙ ap (λ (es : List (Vertex × Class)). lookup (is_at (vertex_cmp x)) es) none);
+          subst (λ (a : Edge). IsEdge main readings a.from a.to) (sym edge_is) (subst (λ (l : List ModuleVersion). Contains l found.0) is ((same found.0).1 found.1));
+      known = λ x class h. cc (sym h
+          ∙ ap (λ (es : List (ModuleVersion × Class)). lookup (is_at (vertex_cmp x)) es) none);
     }
 
 -- An edge of some adjacency lists is an edge of one of them.

@@ -17,7 +17,7 @@ use Rattle.gm_graph_cache.specs.declared.class.Class.{Class}
 use Rattle.gm_graph_cache.specs.declared.depth.Turn.{Turn}
 use Rattle.gm_graph_cache.specs.declared.depth.Depth.{Depth}
 use Rattle.gm_graph_cache.specs.declared.depth.Depth.TheVariants.{Top, Deep}
-use Rattle.gm_graph_cache.specs.Main.{Main, Vertex, is_pruned_by}
+use Rattle.gm_graph_cache.specs.Main.{Main, ModuleVersion, is_pruned_by}
 use Rattle.gm_graph_cache.specs.Reading.{Held, IsTold, Keeps, Readings, Tells, file_of, is_askable, reading_if, readings_by}
 use Rattle.gm_graph_cache.specs.Turns.{turn}
 use Rattle.gm_graph_cache.proofs.Keeping.{readings_stay, earlier_readings_stay}
@@ -89,7 +89,7 @@ asked_only main sums (more {pairs} {name} reply asks due) held tells n h =
       | inr same ↦ subst (λ (m : Name). IsNeeded main (readings_by main before) m) same due.0.2
     ])
 
-known_held : (t : Bool) (main : Main) (x : Vertex) (o : Option (Result Dependency Class)) → t ≡ true → IsSome (reading_if t main x o) → IsSome o
+known_held : (t : Bool) (main : Main) (x : ModuleVersion) (o : Option (Result Dependency Class)) → t ≡ true → IsSome (reading_if t main x o) → IsSome o
 known_held true main x None e h = absurd (false≢true h)
 known_held true main x (Some r) e h = refl
 known_held false main x o e h = absurd (false≢true e)
@@ -100,11 +100,11 @@ told_answered sums name None (Some r) told h = absurd told
 told_answered sums name (Some reply) o told h = refl
 
 -- A vertex about which something is known was answered.
-pub answered : (main : Main) (sums : Option SumTable) (pairs : List (Name × Reply)) (held : Held) → Tells sums pairs held → (x : Vertex) → IsSome (readings_by main held x) → IsAnswered main pairs x
+pub answered : (main : Main) (sums : Option SumTable) (pairs : List (Name × Reply)) (held : Held) → Tells sums pairs held → (x : ModuleVersion) → IsSome (readings_by main held x) → IsAnswered main pairs x
 answered main sums pairs held tells x known askable =
     told_answered sums (file_of main x) (answer_in pairs (file_of main x)) (held (file_of main x)) (tells (file_of main x)) (known_held (is_askable (file_of main x)) main x (held (file_of main x)) askable known)
 
-pub asked_exactly : (main : Main) (sums : Option SumTable) (pairs : List (Name × Reply)) (held : Held) → Tells sums pairs held → AsksInTurn main sums pairs → ((x : Vertex) → IsOpened main (readings_by main held) x → IsSome (readings_by main held x)) → AreAsked main (readings_by main held) (names_in pairs)
+pub asked_exactly : (main : Main) (sums : Option SumTable) (pairs : List (Name × Reply)) (held : Held) → Tells sums pairs held → AsksInTurn main sums pairs → ((x : ModuleVersion) → IsOpened main (readings_by main held) x → IsSome (readings_by main held x)) → AreAsked main (readings_by main held) (names_in pairs)
 asked_exactly main sums pairs held tells asks known = record {
   once = asked_once main sums asks;
   each = λ n. (
@@ -115,18 +115,18 @@ asked_exactly main sums pairs held tells asks known = record {
   );
 }
 
-same_vertex-Decides : (a b : Vertex) → Decides (same_vertex a b) (a ≡ b)
-same_vertex-Decides a b = (exact_vertex a b, λ e. subst (λ (t : Vertex). same_vertex a t ≡ true) e (vertices_equivalence.refl a))
+same_vertex-Decides : (a b : ModuleVersion) → Decides (same_vertex a b) (a ≡ b)
+same_vertex-Decides a b = (exact_vertex a b, λ e. subst (λ (t : ModuleVersion). same_vertex a t ≡ true) e (vertices_equivalence.refl a))
 
-module _ (main : Main) (readings : Readings) (vertices : List Vertex) (turns : List Turn) (are : AreTurnsOf vertices turns) (exact : AreTurns main readings turns) where
-  opened_turn : (x : Vertex) → IsOpened main readings x → (d : Depth) × Contains turns (turn x d)
+module _ (main : Main) (readings : Readings) (vertices : List ModuleVersion) (turns : List Turn) (are : AreTurnsOf vertices turns) (exact : AreTurns main readings turns) where
+  opened_turn : (x : ModuleVersion) → IsOpened main readings x → (d : Depth) × Contains turns (turn x d)
   opened_turn x (inl top) = elim (cases_Bool (is_pruned_by main.go)) [
     | inl pruned ↦ (Top, (exact.each x Top).1 (pruned, top))
     | inr unpruned ↦ (Deep, (exact.each x Deep).1 (from_main unpruned top))
   ]
   opened_turn x (inr deep) = (Deep, (exact.each x Deep).1 deep)
 
-  pub opened_exactly : (x : Vertex) → Contains vertices x ↔ IsOpened main readings x
+  pub opened_exactly : (x : ModuleVersion) → Contains vertices x ↔ IsOpened main readings x
   opened_exactly x = (
     (λ h. let one = are.has_turn x h in opened_from main readings x one.0 ((exact.each x one.0).0 one.1)),
     (λ h. let one = opened_turn x h in are.has_vertex (turn x one.0) one.1),

@@ -4,10 +4,10 @@ use Rattle.std.specs.Prelude.{All, AllPairs}
 use Rattle.std.specs.declared.cmp.Ordering.{Ordering}
 use Rattle.std.specs.declared.cmp.Ordering.TheVariants.{Less}
 use Rattle.std.specs.Ordering.{ordering_then}
-use Rattle.std.proofs.lemmas.List.{get_or-map, length-map, take_more}
+use Rattle.std.proofs.lemmas.List.{get_or-map, length-append, length-map, take_more}
 use Rattle.std.proofs.lemmas.List.Elements.{Contains-append_cases, Contains-get_or, Contains-push_cases}
 use Rattle.std.proofs.lemmas.List.Kept.{AllPairs-cons}
-use Rattle.gm_graph_cache.specs.Main.{Vertex}
+use Rattle.gm_graph_cache.specs.Main.{ModuleVersion}
 use Rattle.gm_graph_select.specs.declared.step.Edge.{Edge}
 use Rattle.gm_graph_select.specs.Graph.{edge, edge_cmp, step_cmp, vertex_cmp}
 use Rattle.gm_graph_select.specs.Order.{IsAscending}
@@ -15,7 +15,7 @@ use Rattle.gm_graph_select.proofs.Ascending.{member_head, member_tail, pairs_hea
 use Rattle.gm_graph_select.proofs.Ranges.{step_itself}
 use Rattle.gm_graph.specs.declared.adjacency.Adjacency.{Adjacency}
 use Rattle.gm_graph.specs.Adjacency.{edges_from, edges_of}
-use Rattle.gm_graph.proofs.EdgesAndFaults.{edges_only, from_only}
+use Rattle.gm_graph.proofs.EdgesAndFaults.{edges_only, edges_push, from_only}
 
 -- pairs within two lists and between them
 pairs_append : {T : Type 0} (R : T → T → Type 0) (xs ys : List T) → AllPairs R xs → AllPairs R ys → ((x y : T) → Contains xs x → Contains ys y → R x y) → AllPairs R (xs ++ ys)
@@ -33,8 +33,8 @@ pairs_append {T} R (x ∷ xs) ys a b between =
 from_ascends : (one : Adjacency) → IsAscending vertex_cmp one.to.items → IsAscending edge_cmp (edges_from one)
 from_ascends one up i j d lt below =
     let inside : j < length one.to.items = rw length-map at below in
-    let left = get_or-map (λ (y : Vertex). edge one.from y) one.to.items i d.to d (omega arith) in
-    let right = get_or-map (λ (y : Vertex). edge one.from y) one.to.items j d.to d inside in
+    let left = get_or-map (λ (y : ModuleVersion). edge one.from y) one.to.items i d.to d (omega arith) in
+    let right = get_or-map (λ (y : ModuleVersion). edge one.from y) one.to.items j d.to d inside in
     ap₂ edge_cmp left right
     ∙ ap (λ (o : Ordering). ordering_then o (vertex_cmp (get_or one.to.items i d.to) (get_or one.to.items j d.to))) (step_itself one.from)
     ∙ up i j d.to lt inside
@@ -63,3 +63,12 @@ each_more P all i x below is before now one h = elim (Contains-push_cases (take 
   | inl old ↦ before one old
   | inr same ↦ subst P same now
 ]
+
+-- how many edges one more adjacency list adds
+pub edges_counted : (all : List Adjacency) (i : ℕ) (x : Adjacency) → i < length all → x ≡ get_or all i x → length (edges_of (take (i + 1) all)) ≡ length (edges_of (take i all)) + length x.to.items
+edges_counted all i x below is =
+    let first = take_more all i x below ∙ ap (λ (o : Adjacency). take i all ++ o ∷ []) (sym is) in
+    ap (λ (ones : List Adjacency). length (edges_of ones)) first
+    ∙ ap (λ (es : List Edge). length es) (edges_push (take i all) x)
+    ∙ length-append (edges_of (take i all)) (edges_from x)
+    ∙ ap (λ (n : ℕ). length (edges_of (take i all)) + n) (length-map x.to.items (λ (y : ModuleVersion). edge x.from y))

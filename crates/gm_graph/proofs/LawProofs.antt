@@ -3,7 +3,7 @@ use Rattle.std.proofs.Common.{◌≡◌, ◌↔◌, false, sym, subst, inl, inr}
 use mathlib.Core.Path.{fun_ext}
 use Rattle.std.specs.Cmp.{IsTotalOrder, on_total}
 use Rattle.gm_store.specs.Asked.{Name}
-use Rattle.gm_graph_cache.specs.Main.{Main, Vertex, is_pruned_by}
+use Rattle.gm_graph_cache.specs.Main.{Main, ModuleVersion, is_pruned_by}
 use Rattle.gm_graph_cache.specs.Reading.{Held, Readings, readings_by}
 use Rattle.gm_graph_cache.proofs.Keeping.{one_told}
 use Rattle.gm_graph_select.specs.declared.step.Step.{Step}
@@ -17,37 +17,38 @@ use Rattle.gm_graph_select.proofs.Same.{same_back, same_build_list}
 use Rattle.gm_graph.specs.declared.fault.Fault.{Fault}
 use Rattle.gm_graph.specs.Graph.{IsDeep, from_main, from_top, from_deep, IsOpened, IsEdge, IsVertex}
 use Rattle.gm_graph.specs.Outcome.{IsLoaded}
-use Rattle.gm_graph.specs.Laws.{IsReached, required, further, OneAnswer, OneLoading, RowsAreRequired, RowsSatisfy, UnprunedIsPlain}
+use Rattle.gm_graph.specs.Laws.{IsTransitivelyRequired, required, further, OneAnswer, OneLoading, RowsAreRequired, RowsSatisfyRequirements, UnprunedIsPlain}
 use Rattle.gm_graph.proofs.Rooted.{same_edges}
 
 pub rows_are_required : RowsAreRequired
 rows_are_required main pairs loaded readings is x right there = (lawful.row_selected main.path main.replaces (IsEdge main readings) loaded.rows is.rows x right there).is_end
 
-pub rows_satisfy : RowsSatisfy
+pub rows_satisfy : RowsSatisfyRequirements
 rows_satisfy main pairs loaded readings is from y edge other =
     let same = same_edges main readings loaded.edges is.edges.each in
     let list : IsBuildList main.path main.replaces (among loaded.edges) loaded.rows = same_build_list main.path main.replaces (IsEdge main readings) (among loaded.edges) loaded.rows (same_back (among loaded.edges) (IsEdge main readings) same) is.rows in
     lawful.rows_satisfy main.path main.replaces loaded.edges loaded.rows list y (from, (same from y).1 edge) other
 
 module _ (main : Main) (readings : Readings) (unpruned : is_pruned_by main.go ≡ false) where
-  deep_reached : {x : Vertex} → IsDeep main readings x → IsReached main readings x
+  deep_reached : {x : ModuleVersion} → IsDeep main readings x → IsTransitivelyRequired main readings x
   deep_reached (from_main p t) = required t
   deep_reached (from_top t u r) = further (required t) r
   deep_reached (from_deep d r) = further (deep_reached d) r
 
-  reached_deep : {x : Vertex} → IsReached main readings x → IsDeep main readings x
+  reached_deep : {x : ModuleVersion} → IsTransitivelyRequired main readings x → IsDeep main readings x
   reached_deep (required t) = from_main unpruned t
   reached_deep (further h r) = from_deep (reached_deep h) r
 
-  opened_reached : (x : Vertex) → IsOpened main readings x → IsReached main readings x
+  opened_reached : (x : ModuleVersion) → IsOpened main readings x → IsTransitivelyRequired main readings x
   opened_reached x (inl t) = required t
   opened_reached x (inr d) = deep_reached d
 
-  vertex_reached : (x : Vertex) (from : Step) → IsEdge main readings from x → IsReached main readings x
+  vertex_reached : (x : ModuleVersion) (from : Step) → IsEdge main readings from x
+      → IsTransitivelyRequired main readings x
   vertex_reached x FromMain e = required e
   vertex_reached x (Of y) e = further (opened_reached y e.0) e.1
 
-  reached_vertex : {x : Vertex} → IsReached main readings x → IsVertex main readings x
+  reached_vertex : {x : ModuleVersion} → IsTransitivelyRequired main readings x → IsVertex main readings x
   reached_vertex (required t) = (FromMain, t)
   reached_vertex (further {x} h r) = (Of x, (inr (reached_deep h), r))
 

@@ -6,7 +6,7 @@ use Rattle.std.proofs.lemmas.Cmp.{nat_list_eq_equiv}
 use Rattle.std.proofs.lemmas.List.Elements.{Contains-append_right}
 use Rattle.gm_graph_select.specs.declared.step.Edge.{Edge}
 use Rattle.gm_graph_select.specs.declared.step.Step.{Step}
-use Rattle.gm_graph_select.specs.BuildList.{Entry, IsAt, IsEntryOf, IsListed, path_of}
+use Rattle.gm_graph_select.specs.BuildList.{Entry, IsAt, IsEntryOf, HasEntryFor, path_of}
 use Rattle.gm_graph_select.specs.Chains.{IsReached}
 use Rattle.gm_graph_select.specs.Graph.{among}
 use Rattle.gm_graph.specs.Outcome.{AreReached}
@@ -18,7 +18,7 @@ Found main entries path = (entry : Entry) × (rest : List Entry) × IsAt main en
 differs : (a b : List ℕ) → bytes_eq a b ≡ false → a ≢ b
 differs a b e is = false≢true (sym e ∙ subst (λ (t : List ℕ). bytes_eq a t ≡ true) is (nat_list_eq_equiv.refl a))
 
-behind : (main : List ℕ) (e : Entry) (es : List Entry) (path : List ℕ) → path_of main e.0 ≢ path → IsListed main (e ∷ es) path → IsListed main es path
+behind : (main : List ℕ) (e : Entry) (es : List Entry) (path : List ℕ) → path_of main e.0 ≢ path → HasEntryFor main (e ∷ es) path → HasEntryFor main es path
 behind main e es path other (entry, (zero, below, is), same) = absurd (other (ap (λ (x : Entry). path_of main x.0) is ∙ same))
 behind main e es path other (entry, (suc k, below, is), same) = (entry, (k, omega arith, is), same)
 
@@ -42,7 +42,7 @@ found_now : (main : List ℕ) (e : Entry) (es : List Entry) (path : List ℕ) �
 found_now main e es path is = (e, es, record { before = []; parts = refl; path_is = is; others = λ x h. absurd (omega (arith, h.1)) })
 
 -- A listed path has a first entry.
-pub first_at : (main : List ℕ) (entries : List Entry) (path : List ℕ) → IsListed main entries path → Found main entries path
+pub first_at : (main : List ℕ) (entries : List Entry) (path : List ℕ) → HasEntryFor main entries path → Found main entries path
 first_at main [] path (entry, there, same) = absurd (omega (arith, there.1))
 first_at main (e ∷ es) path listed = elim (cases_Bool (bytes_eq (path_of main e.0) path)) [
   | inl is ↦ found_now main e es path (same_bytes (path_of main e.0) path is)
@@ -50,7 +50,7 @@ first_at main (e ∷ es) path listed = elim (cases_Bool (bytes_eq (path_of main 
 ]
 
 -- Edges lead to that entry.
-pub reached_entry : (main : List ℕ) (edges : List Edge) (entries : List Entry) (path : List ℕ) → AreReached edges entries → ¬ ((s : Step) × IsEntryOf main entries path s × IsReached (among edges) s) → ¬ (IsListed main entries path)
+pub reached_entry : (main : List ℕ) (edges : List Edge) (entries : List Entry) (path : List ℕ) → AreReached edges entries → ¬ ((s : Step) × IsEntryOf main entries path s × IsReached (among edges) s) → ¬ (HasEntryFor main entries path)
 reached_entry main edges entries path are none listed =
     let found = first_at main entries path listed in
     let at = found.2 in

@@ -6,7 +6,7 @@ use Rattle.gm_store_sums.specs.declared.sum_table.SumTable.{SumTable}
 use Rattle.gm_graph_cache.specs.declared.cache.Cache.{Cache}
 use Rattle.gm_graph_cache.specs.declared.depth.Turn.{Turn}
 use Rattle.gm_graph_cache.specs.Cached.{held_of, main_in, sums_in, turns_in}
-use Rattle.gm_graph_cache.specs.Main.{Main, Vertex, kept}
+use Rattle.gm_graph_cache.specs.Main.{Main, ModuleVersion, without_excluded}
 use Rattle.gm_graph_cache.specs.Reading.{Readings, readings_by}
 use Rattle.gm_graph_select.specs.declared.step.Edge.{Edge}
 use Rattle.gm_graph_select.specs.BuildList.{IsBuildList}
@@ -23,7 +23,7 @@ use Rattle.gm_graph.specs.Graph.{IsEdge}
 use Rattle.gm_graph.specs.Loading.{AreTooMany, AreTurns, AsksInTurn, Told}
 use Rattle.gm_graph.specs.Turns.{OverflowsWith}
 use Rattle.gm_graph.proofs.Queueing.{many_first}
-use Rattle.gm_graph.specs.Outcome.{AreFaults, IsLoaded, Outcome}
+use Rattle.gm_graph.specs.Outcome.{AreFaults, IsLoaded, LoadedGraph}
 use Rattle.gm_graph.proofs.Exactly.{answered, asked_exactly, few_opened}
 use Rattle.gm_graph.proofs.Leaves.{ends_among}
 use Rattle.gm_graph.proofs.Mapped.{fault_listed, faults_ascend}
@@ -54,7 +54,7 @@ module _ (old new : Cache) (pairs : List (Name × Reply)) (worklist : Worklist) 
   edges_are : (edges : List Edge) → HaveSame (edges_in builder) edges → (e : Edge) → Contains edges e ↔ IsEdge main readings e.from e.to
   edges_are edges same e = ((λ h. (opened.edges e).0 ((same e).1 h)), (λ h. (same e).0 ((opened.edges e).1 h)))
 
-  pub loads : (loaded : Outcome) → AsksInTurn main (sums_in old) pairs → loaded.main ≡ main.path → loaded.faults ≡ map (λ e. fault e.0 e.1) builder.faults.entries → tree.IsOrdered vertex_cmp builder.faults
+  pub loads : (loaded : LoadedGraph) → AsksInTurn main (sums_in old) pairs → loaded.main ≡ main.path → loaded.faults ≡ map (λ e. fault e.0 e.1) builder.faults.entries → tree.IsOrdered vertex_cmp builder.faults
       → IsAscending edge_cmp loaded.edges → HaveSame (edges_in builder) loaded.edges → IsBuildList main.path main.replaces (among loaded.edges) loaded.rows → loaded.turns ≡ turns_in new
       → Told main (sums_in old) pairs (IsLoaded main pairs loaded)
   loads loaded asks path_is faults ordered ascending same rows turns = (
@@ -74,7 +74,7 @@ module _ (old new : Cache) (pairs : List (Name × Reply)) (worklist : Worklist) 
 
 -- the same for the main file and the go.sum that the cache was created with
 pub loads_of : (old new : Cache) (pairs : List (Name × Reply)) (worklist : Worklist) (builder : GraphBuilder) → IsOpenedIn old new pairs worklist builder → (main : Main) (sums : Option SumTable) → main_in old ≡ main → sums_in old ≡ sums
-    → (loaded : Outcome) → AsksInTurn (main_in old) (sums_in old) pairs → loaded.main ≡ main.path → loaded.faults ≡ map (λ e. fault e.0 e.1) builder.faults.entries → tree.IsOrdered vertex_cmp builder.faults
+    → (loaded : LoadedGraph) → AsksInTurn (main_in old) (sums_in old) pairs → loaded.main ≡ main.path → loaded.faults ≡ map (λ e. fault e.0 e.1) builder.faults.entries → tree.IsOrdered vertex_cmp builder.faults
     → IsAscending edge_cmp loaded.edges → HaveSame (edges_in builder) loaded.edges → IsBuildList main.path main.replaces (among loaded.edges) loaded.rows → loaded.turns ≡ turns_in new
     → Told main sums pairs (IsLoaded main pairs loaded)
 loads_of old new pairs worklist builder opened main sums main_is sums_are loaded asks path_is faults ordered ascending same rows turns =
@@ -83,7 +83,7 @@ loads_of old new pairs worklist builder opened main sums main_is sums_are loaded
     (subst (λ (m : Main). IsBuildList m.path m.replaces (among loaded.edges) loaded.rows) (sym main_is) rows) turns))
 
 -- Nothing was asked for, and the main file requires too many vertices.
-pub too_many_first : (main : Main) (sums : Option SumTable) (pairs : List (Name × Reply)) (xs : List Vertex) → pairs ≡ [] → xs ≡ kept main main.requirements → OverflowsWith [] xs → Told main sums pairs (AreTooMany main)
+pub too_many_first : (main : Main) (sums : Option SumTable) (pairs : List (Name × Reply)) (xs : List ModuleVersion) → pairs ≡ [] → xs ≡ without_excluded main main.requirements → OverflowsWith [] xs → Told main sums pairs (AreTooMany main)
 too_many_first main sums pairs xs none is over =
     subst (λ (ps : List (Name × Reply)). Told main sums ps (AreTooMany main)) (sym none)
-    ((λ n. None), (λ n. tt), many_first main (readings_by main (λ n. None)) (subst (λ (l : List Vertex). OverflowsWith [] l) is over))
+    ((λ n. None), (λ n. tt), many_first main (readings_by main (λ n. None)) (subst (λ (l : List ModuleVersion). OverflowsWith [] l) is over))

@@ -7,7 +7,7 @@ use Rattle.std.proofs.lemmas.List.{length-map, get_or-map}
 use Rattle.std.proofs.lemmas.Map.Keys.{Less-from_sorted}
 use Rattle.std.proofs.lemmas.Map.Views.{btree_map_get_iff}
 use Rattle.gm_graph_cache.specs.declared.class.Class.{Class}
-use Rattle.gm_graph_cache.specs.Main.{Vertex}
+use Rattle.gm_graph_cache.specs.Main.{ModuleVersion}
 use Rattle.gm_graph_select.specs.Graph.{vertex_cmp}
 use Rattle.gm_graph_select.specs.StepOrder.{vertex_total, vertex-anti}
 use Rattle.gm_graph.specs.declared.fault.Fault.{Fault}
@@ -21,13 +21,13 @@ from_mapped f [] y h = absurd (omega (arith, h.1))
 from_mapped f (x ∷ xs) y (zero, below, is) = (x, (0, omega arith, refl), is)
 from_mapped f (x ∷ xs) y (suc k, below, is) = let (z, (j, under, at), e) = from_mapped f xs y (k, omega arith, is) in (z, (suc j, omega arith, at), e)
 
-abbrev entry_fault : Vertex × Class → Fault
+abbrev entry_fault : ModuleVersion × Class → Fault
 entry_fault e = fault e.0 e.1
 
-abbrev entry_of_fault : Fault → Vertex × Class
+abbrev entry_of_fault : Fault → ModuleVersion × Class
 entry_of_fault one = (one.vertex, one.class)
 
-module _ (faults : tree.BTreeMap Vertex Class) (ordered : tree.IsOrdered vertex_cmp faults) where
+module _ (faults : tree.BTreeMap ModuleVersion Class) (ordered : tree.IsOrdered vertex_cmp faults) where
   -- A fault is in the list of a map's faults exactly if the map has it.
   pub fault_listed : (one : Fault) → Contains (map (λ e. fault e.0 e.1) faults.entries) one ↔ (tree.get vertex_cmp faults one.vertex ≡ Some one.class)
   fault_listed one = (
@@ -37,14 +37,14 @@ module _ (faults : tree.BTreeMap Vertex Class) (ordered : tree.IsOrdered vertex_
     (λ h. in_mapped entry_fault faults.entries (one.vertex, one.class) ((btree_map_get_iff vertex_total vertex-anti faults ordered one.vertex one.class).0 h)),
   )
 
-  vertex_at : (i : ℕ) (d : Fault) → i < length faults.entries → (get_or (map (λ e. fault e.0 e.1) faults.entries) i d).vertex ≡ get_or (map (λ (e : Vertex × Class). e.0) faults.entries) i d.vertex
+  vertex_at : (i : ℕ) (d : Fault) → i < length faults.entries → (get_or (map (λ e. fault e.0 e.1) faults.entries) i d).vertex ≡ get_or (map (λ (e : ModuleVersion × Class). e.0) faults.entries) i d.vertex
   vertex_at i d inside =
       ap (λ (f : Fault). f.vertex) (get_or-map entry_fault faults.entries i (entry_of_fault d) d inside)
-      ∙ sym (get_or-map (λ (e : Vertex × Class). e.0) faults.entries i (entry_of_fault d) d.vertex inside)
+      ∙ sym (get_or-map (λ (e : ModuleVersion × Class). e.0) faults.entries i (entry_of_fault d) d.vertex inside)
 
   pub faults_ascend : AllPairs (λ (a b : Fault). vertex_cmp a.vertex b.vertex ≡ Less) (map (λ e. fault e.0 e.1) faults.entries)
   faults_ascend i j d lt below =
       let inside : j < length faults.entries = rw length-map at below in
-      let in_keys : j < length (map (λ (e : Vertex × Class). e.0) faults.entries) = rw length-map inside in
-      let less = Less-from_sorted vertex_cmp (map (λ (e : Vertex × Class). e.0) faults.entries) i j d.vertex ordered lt in_keys in
+      let in_keys : j < length (map (λ (e : ModuleVersion × Class). e.0) faults.entries) = rw length-map inside in
+      let less = Less-from_sorted vertex_cmp (map (λ (e : ModuleVersion × Class). e.0) faults.entries) i j d.vertex ordered lt in_keys in
       ap₂ vertex_cmp (vertex_at i d (omega arith)) (vertex_at j d inside) ∙ less

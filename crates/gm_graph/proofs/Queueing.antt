@@ -3,7 +3,7 @@ use Rattle.std.proofs.Common.{◌≡◌, ◌+◌, ◌≤◌, ◌<◌, ℕ, true,
 use Rattle.std.proofs.lemmas.Grind.{common_steps}
 use Rattle.std.proofs.lemmas.List.{get_or_default}
 use Rattle.std.proofs.lemmas.Bool.{cases_eq}
-use Rattle.gm_graph_cache.specs.Main.{Main, Vertex, is_pruned_by, kept}
+use Rattle.gm_graph_cache.specs.Main.{Main, ModuleVersion, is_pruned_by, without_excluded}
 use Rattle.gm_graph_cache.specs.Reading.{Keeps, Readings}
 use Rattle.gm_graph_cache.specs.declared.depth.Turn.{Turn}
 use Rattle.gm_graph_cache.specs.declared.depth.Depth.{Depth}
@@ -17,8 +17,8 @@ use Rattle.gm_graph.proofs.Rounds.{AreVisited, along, opened_from}
 
 -- The first turns and more, each one that its vertex takes, with those up to this position done.
 pub record IsQueue (main : Main) (answers : Readings) (turns : List Turn) (at : ℕ) : Type 0 where
-  pub tops : is_pruned_by main.go ≡ true → (x : Vertex) → IsTop main x → Contains turns (turn x Top)
-  pub deeps : is_pruned_by main.go ≡ false → (x : Vertex) → IsTop main x → Contains turns (turn x Deep)
+  pub tops : is_pruned_by main.go ≡ true → (x : ModuleVersion) → IsTop main x → Contains turns (turn x Top)
+  pub deeps : is_pruned_by main.go ≡ false → (x : ModuleVersion) → IsTop main x → Contains turns (turn x Deep)
   pub sound : AllValidTurns main answers turns
   pub done : (k : ℕ) (d : Turn) → k < at → IsDone main answers turns (get_or turns k d)
 
@@ -39,7 +39,7 @@ done_along main answers old new one extends done = record {
 pub get_or-along : (old new rest : List Turn) (k : ℕ) (d : Turn) → new ≡ old ++ rest → k < length old → get_or new k d ≡ get_or old k d
 get_or-along old new rest k d e below = ap (λ (t : List Turn). get_or t k d) e ∙ grind (arith, common_steps)
 
-pub queue_more : (main : Main) (a b : Readings) (old new : List Turn) (at : ℕ) (x : Vertex) (depth : Depth) → IsQueue main a old at → Keeps a b → at < length old → get_or old at (turn x depth) ≡ turn x depth → Visits main b old new (turn x depth) → IsQueue main b new (at + 1)
+pub queue_more : (main : Main) (a b : Readings) (old new : List Turn) (at : ℕ) (x : ModuleVersion) (depth : Depth) → IsQueue main a old at → Keeps a b → at < length old → get_or old at (turn x depth) ≡ turn x depth → Visits main b old new (turn x depth) → IsQueue main b new (at + 1)
 queue_more main a b old new at x depth queue keeps below here follows = record {
   tops = λ p y t. along old new (turn y Top) follows.extends (queue.tops p y t);
   deeps = λ p y t. along old new (turn y Deep) follows.extends (queue.deeps p y t);
@@ -66,10 +66,10 @@ queue_all main answers turns at past queue = record {
   done = λ one (k, below, is). subst (λ (t : Turn). IsDone main answers turns t) is (queue.done k one (omega arith));
 }
 
-pub many_first : (main : Main) (answers : Readings) → OverflowsWith [] (kept main main.requirements) → AreTooMany main answers
+pub many_first : (main : Main) (answers : Readings) → OverflowsWith [] (without_excluded main main.requirements) → AreTooMany main answers
 many_first main answers over = (over.0, over.1, over.2, (λ x h. elim (over.3 x h) [ inl none ↦ absurd (omega (arith, none.1)) | inr top ↦ inl top ]))
 
-pub many_followed : (main : Main) (a b : Readings) (vertices : List Vertex) (turns : List Turn) (at : ℕ) (x : Vertex) (depth : Depth) → AreTurnsOf vertices turns → AllValidTurns main a turns → Keeps a b → at < length turns → get_or turns at (turn x depth) ≡ turn x depth → VisitOverflows main b vertices x depth → AreTooMany main b
+pub many_followed : (main : Main) (a b : Readings) (vertices : List ModuleVersion) (turns : List Turn) (at : ℕ) (x : ModuleVersion) (depth : Depth) → AreTurnsOf vertices turns → AllValidTurns main a turns → Keeps a b → at < length turns → get_or turns at (turn x depth) ≡ turn x depth → VisitOverflows main b vertices x depth → AreTooMany main b
 many_followed main a b vertices turns at x depth are sound keeps below here (leads, over) = (
   over.0,
   over.1,

@@ -1,7 +1,7 @@
 -- Edges lead from the main module to each step that has an edge, and so to each entry of the build list.
 use Rattle.std.proofs.Common.{◌↔◌, ℕ, zero, suc, List, ◌∷◌, map, Contains, subst, inl, inr, arith}
 use Rattle.gm_file.specs.Directives.{Replacing}
-use Rattle.gm_graph_cache.specs.Main.{Main, Vertex}
+use Rattle.gm_graph_cache.specs.Main.{Main, ModuleVersion}
 use Rattle.gm_graph_cache.specs.Reading.{Readings}
 use Rattle.gm_graph_select.specs.declared.step.Edge.{Edge}
 use Rattle.gm_graph_select.specs.declared.step.Step.TheVariants.{Main as FromMain, Of}
@@ -15,15 +15,15 @@ use Rattle.gm_graph.specs.Outcome.{AreReached}
 use Rattle.gm_graph.proofs.Mapped.{from_mapped}
 
 module _ (main : Main) (readings : Readings) where
-  top_reached : (x : Vertex) → IsTop main x → IsReached (IsEdge main readings) (Of x)
+  top_reached : (x : ModuleVersion) → IsTop main x → IsReached (IsEdge main readings) (Of x)
   top_reached x t = (1, along at_main t)
 
-  deep_reached : {x : Vertex} → IsDeep main readings x → IsReached (IsEdge main readings) (Of x)
+  deep_reached : {x : ModuleVersion} → IsDeep main readings x → IsReached (IsEdge main readings) (Of x)
   deep_reached (from_main {x} p t) = top_reached x t
   deep_reached (from_top {x} {y} t u r) = (2, along (along at_main t) (inl t, r))
   deep_reached (from_deep {x} {y} d r) = let (n, l) = deep_reached d in (suc n, along l (inr d, r))
 
-  opened_reached : (x : Vertex) → IsOpened main readings x → IsReached (IsEdge main readings) (Of x)
+  opened_reached : (x : ModuleVersion) → IsOpened main readings x → IsReached (IsEdge main readings) (Of x)
   opened_reached x (inl t) = top_reached x t
   opened_reached x (inr d) = deep_reached d
 
@@ -40,7 +40,7 @@ list_rooted main readings edges exact =
 
 -- The entries of a build list are reached.
 module _ (main : List ℕ) (replaces : List Replacing) (edges : List Edge) (entries : List Entry) (rooted : IsRooted (among edges)) (list : IsBuildList main replaces (among edges) entries) where
-  selected_reached : (x : Vertex) → IsSelected main (among edges) x → IsReached (among edges) (Of x)
+  selected_reached : (x : ModuleVersion) → IsSelected main (among edges) x → IsReached (among edges) (Of x)
   selected_reached x is = let (s, e) = is.is_end in let (n, l) = rooted s x e in (suc n, along l e)
 
   entry_reached : (entry : Entry) → Contains (main_entry ∷ map (entry_of replaces) list.selected) entry → IsReached (among edges) entry.0
@@ -62,7 +62,7 @@ pub sorted_rooted : (old new : List Edge) → HaveSame old new → IsRooted (amo
 sorted_rooted old new same rooted = same_rooted (among old) (among new) (λ s y. same (edge s y)) rooted
 
 -- Equal sets of edges lead to the same vertices.
-pub ends_along : (ends : List Vertex) (old new : List Edge) → HaveSame old new → AreEnds ends (among old) → AreEnds ends (among new)
+pub ends_along : (ends : List ModuleVersion) (old new : List Edge) → HaveSame old new → AreEnds ends (among old) → AreEnds ends (among new)
 ends_along ends old new same are y = (
   (λ h. let end = (are y).0 h in (end.0, (same (edge end.0 y)).0 end.1)),
   (λ end. (are y).1 (end.0, (same (edge end.0 y)).1 end.1)),

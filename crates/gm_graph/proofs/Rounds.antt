@@ -5,7 +5,7 @@ use Rattle.std.proofs.lemmas.Bool.{cases_Bool, false≢true}
 use Rattle.std.specs.Bool.{Decides}
 use Rattle.std.proofs.lemmas.Map.Made.{length-le_from_is_member, is_member-Decides}
 use Rattle.std.proofs.lemmas.List.Elements.{Contains-append_left, Contains-append_right}
-use Rattle.gm_graph_cache.specs.Main.{Main, Vertex, is_pruned_by, kept}
+use Rattle.gm_graph_cache.specs.Main.{Main, ModuleVersion, is_pruned_by, without_excluded}
 use Rattle.gm_graph_cache.specs.Reading.{Readings}
 use Rattle.gm_graph_cache.specs.declared.depth.Turn.{Turn}
 use Rattle.gm_graph_cache.specs.declared.depth.Depth.{Depth}
@@ -20,8 +20,8 @@ use Rattle.gm_graph.proofs.Deepening.{IsDeep-among}
 
 -- The first turns and more, each one that its vertex takes, and each of them done.
 pub record AreVisited (main : Main) (answers : Readings) (turns : List Turn) : Type 0 where
-  pub tops : is_pruned_by main.go ≡ true → (x : Vertex) → IsTop main x → Contains turns (turn x Top)
-  pub deeps : is_pruned_by main.go ≡ false → (x : Vertex) → IsTop main x → Contains turns (turn x Deep)
+  pub tops : is_pruned_by main.go ≡ true → (x : ModuleVersion) → IsTop main x → Contains turns (turn x Top)
+  pub deeps : is_pruned_by main.go ≡ false → (x : ModuleVersion) → IsTop main x → Contains turns (turn x Deep)
   pub sound : AllValidTurns main answers turns
   pub done : (one : Turn) → Contains turns one → IsDone main answers turns one
 
@@ -32,19 +32,20 @@ Contains-map : {X Y : Type 0} (f : X → Y) (xs : List X) (x : X) → Contains x
 Contains-map f xs x (k, below, at) = (k, rw length-map below, get_or-map f xs k x (f x) below ∙ ap f at)
 
 -- both turns of each vertex
-both_turns : List Vertex → List Turn
+both_turns : List ModuleVersion → List Turn
 both_turns vertices = map (λ x. turn x Top) vertices ++ map (λ x. turn x Deep) vertices
 
-among_both : (vertices : List Vertex) (x : Vertex) (d : Depth) → Contains vertices x → Contains (both_turns vertices) (turn x d)
+among_both : (vertices : List ModuleVersion) (x : ModuleVersion) (d : Depth) → Contains vertices x → Contains (both_turns vertices) (turn x d)
 unfolding both_turns
 among_both vertices x Top h = Contains-append_left (map (λ y. turn y Top) vertices) (map (λ y. turn y Deep) vertices) (turn x Top) (Contains-map (λ y. turn y Top) vertices x h)
 among_both vertices x Deep h = Contains-append_right (map (λ y. turn y Top) vertices) (map (λ y. turn y Deep) vertices) (turn x Deep) (Contains-map (λ y. turn y Deep) vertices x h)
 
-length-both_turns : (vertices : List Vertex) → length (both_turns vertices) ≡ length vertices + length vertices
+length-both_turns : (vertices : List ModuleVersion) → length (both_turns vertices) ≡ length vertices + length vertices
 unfolding both_turns
 length-both_turns vertices = simp (length-append, length-map)
 
-pub few_turns : (vertices : List Vertex) (turns : List Turn) → AreTurnsOf vertices turns → length turns ≤ 131072
+pub few_turns : (vertices : List ModuleVersion) (turns : List Turn) → AreTurnsOf vertices turns
+    → length turns ≤ 131072
 few_turns vertices turns are =
     let most : length turns ≤ length (both_turns vertices) = length-le_from_is_member turns_equivalence turns (both_turns vertices) are.turns_once
     (λ q h. let there = (is_member-Decides same_turn-Decides turns q).0 h in (is_member-Decides same_turn-Decides (both_turns vertices) q).1 (among_both vertices q.vertex q.depth (are.has_vertex q there))) in
@@ -55,27 +56,27 @@ few_turns vertices turns are =
 pub along : (old new : List Turn) (one : Turn) → Extends old new → Contains old one → Contains new one
 along old new one (more, e) h = subst (λ (t : List Turn). Contains t one) (sym e) (Contains-append_left old more one h)
 
-pub opened_from : (main : Main) (answers : Readings) (x : Vertex) (d : Depth) → TakesTurn main answers x d → IsOpened main answers x
+pub opened_from : (main : Main) (answers : Readings) (x : ModuleVersion) (d : Depth) → TakesTurn main answers x d → IsOpened main answers x
 opened_from main answers x Top h = inl h.1
 opened_from main answers x Deep h = inr h
 
 -- Every opened vertex has a turn.
-pub has_turn_of : (main : Main) (answers : Readings) (turns : List Turn) → AreVisited main answers turns → (x : Vertex) → IsOpened main answers x → (d : Depth) × Contains turns (turn x d)
+pub has_turn_of : (main : Main) (answers : Readings) (turns : List Turn) → AreVisited main answers turns → (x : ModuleVersion) → IsOpened main answers x → (d : Depth) × Contains turns (turn x d)
 has_turn_of main answers turns followed x (inl top) = elim (cases_Bool (is_pruned_by main.go)) [
   | inl pruned ↦ (Top, followed.tops pruned x top)
   | inr unpruned ↦ (Deep, followed.deeps unpruned x top)
 ]
 has_turn_of main answers turns followed x (inr deep) = (Deep, IsDeep-among main answers turns followed.tops followed.deeps followed.done deep)
 
-module _ (main : Main) (answers : Readings) (vertices : List Vertex) (turns : List Turn) (are : AreTurnsOf vertices turns) (followed : AreVisited main answers turns) where
-  pub turns_exactly : (x : Vertex) (d : Depth) → Contains turns (turn x d) ↔ TakesTurn main answers x d
+module _ (main : Main) (answers : Readings) (vertices : List ModuleVersion) (turns : List Turn) (are : AreTurnsOf vertices turns) (followed : AreVisited main answers turns) where
+  pub turns_exactly : (x : ModuleVersion) (d : Depth) → Contains turns (turn x d) ↔ TakesTurn main answers x d
   turns_exactly x Top = ((λ h. followed.sound (turn x Top) h), (λ h. followed.tops h.0 x h.1))
   turns_exactly x Deep = ((λ h. followed.sound (turn x Deep) h), (λ h. IsDeep-among main answers turns followed.tops followed.deeps followed.done h))
 
   pub are_turns : AreTurns main answers turns
   are_turns = record { once = are.turns_once; each = turns_exactly }
 
-  pub opened_known : (x : Vertex) → IsOpened main answers x → IsSome (answers x)
+  pub opened_known : (x : ModuleVersion) → IsOpened main answers x → IsSome (answers x)
   opened_known x h = let one = has_turn_of main answers turns followed x h in (followed.done (turn x one.0) one.1).answered
 
 not_in_none : (one : Turn) → Contains [] one → ⊥
@@ -83,7 +84,8 @@ not_in_none one h = absurd (omega (arith, h.1))
 
 module _ (main : Main) (old new : List Turn) (none : old ≡ []) where
   -- if the main file is pruned
-  first_tops : is_pruned_by main.go ≡ true → AddsAll old new (kept main main.requirements) Top → AreFirstTurns main new
+  first_tops : is_pruned_by main.go ≡ true → AddsAll old new (without_excluded main main.requirements) Top
+      → AreFirstTurns main new
   first_tops pruned adds = record {
     tops = λ _ x t. adds.each x t;
     deeps = λ p. absurd (false≢true (sym p ∙ pruned));
@@ -94,7 +96,7 @@ module _ (main : Main) (old new : List Turn) (none : old ≡ []) where
   }
 
   -- if it is unpruned
-  first_deeps : is_pruned_by main.go ≡ false → AddsAll old new (kept main main.requirements) Deep → AreFirstTurns main new
+  first_deeps : is_pruned_by main.go ≡ false → AddsAll old new (without_excluded main main.requirements) Deep → AreFirstTurns main new
   first_deeps unpruned adds = record {
     tops = λ p. absurd (false≢true (sym unpruned ∙ p));
     deeps = λ _ x t. adds.each x t;
@@ -104,9 +106,9 @@ module _ (main : Main) (old new : List Turn) (none : old ≡ []) where
     ];
   }
 
-  first_by : (pruned : Bool) → is_pruned_by main.go ≡ pruned → AddsAll old new (kept main main.requirements) (depth_by pruned) → AreFirstTurns main new
+  first_by : (pruned : Bool) → is_pruned_by main.go ≡ pruned → AddsAll old new (without_excluded main main.requirements) (depth_by pruned) → AreFirstTurns main new
   first_by true is adds = first_tops is adds
   first_by false is adds = first_deeps is adds
 
-  pub first_turns_are : AddsAll old new (kept main main.requirements) (depth_by (is_pruned_by main.go)) → AreFirstTurns main new
+  pub first_turns_are : AddsAll old new (without_excluded main main.requirements) (depth_by (is_pruned_by main.go)) → AreFirstTurns main new
   first_turns_are adds = first_by (is_pruned_by main.go) refl adds

@@ -5,7 +5,7 @@ use Rattle.std.specs.Cmp.{IsEquivalence, both_ways}
 use Rattle.std.proofs.lemmas.Slice.Eq.{bytes_eq-Decides}
 use Rattle.std.proofs.lemmas.Cmp.{nat_list_eq_equiv}
 use Rattle.std.specs.Cmp.Derive.{both_true}
-use Rattle.gm_graph_cache.specs.Main.{Vertex}
+use Rattle.gm_graph_cache.specs.Main.{ModuleVersion}
 use Rattle.gm_graph.specs.Graph.{same_vertex}
 use Rattle.gm_graph_cache.specs.declared.depth.Turn.{Turn}
 use Rattle.gm_graph_cache.specs.declared.depth.Depth.{Depth}
@@ -34,13 +34,14 @@ equivalence_from_exact E r e = record {
   congr = λ x y z h. ap (λ w. E w z) (e x y h);
 }
 
-pub exact_vertex : (a b : Vertex) → same_vertex a b ≡ true → a ≡ b
+pub exact_vertex : (a b : ModuleVersion) → same_vertex a b ≡ true → a ≡ b
 exact_vertex a b h =
     let p : a.0 ≡ b.0 = same_bytes _ _ (first_true _ _ h) in
     let v : a.1 ≡ b.1 = same_bytes _ _ (second_true (bytes_eq a.0 b.0) _ h) in
-    ap (λ (t : List ℕ). let m : Vertex = (t, a.1) in m) p ∙ ap (λ (t : List ℕ). let m : Vertex = (b.0, t) in m) v
+    ap (λ (t : List ℕ). let m : ModuleVersion = (t, a.1) in m) p
+    ∙ ap (λ (t : List ℕ). let m : ModuleVersion = (b.0, t) in m) v
 
-pub same_vertex-refl : (a : Vertex) → same_vertex a a ≡ true
+pub same_vertex-refl : (a : ModuleVersion) → same_vertex a a ≡ true
 same_vertex-refl a = both_true (bytes_eq-refl a.0) (bytes_eq-refl a.1)
 
 exact_depth : (a b : Depth) → same_depth a b ≡ true → a ≡ b
@@ -57,7 +58,7 @@ pub exact_turn : (a b : Turn) → same_turn a b ≡ true → a ≡ b
 exact_turn a b h =
     let v : a.vertex ≡ b.vertex = exact_vertex _ _ (first_true _ _ h) in
     let d : a.depth ≡ b.depth = exact_depth _ _ (second_true (same_vertex a.vertex b.vertex) _ h) in
-    ap (λ (t : Vertex). turn t a.depth) v ∙ ap (λ (t : Depth). turn b.vertex t) d
+    ap (λ (t : ModuleVersion). turn t a.depth) v ∙ ap (λ (t : Depth). turn b.vertex t) d
 
 pub same_turn-refl : (a : Turn) → same_turn a a ≡ true
 same_turn-refl a = both_true (same_vertex-refl a.vertex) (same_depth-refl a.depth)

@@ -8,13 +8,13 @@ use Rattle.gm_graph_cache.specs.declared.cache.Cache.{Cache}
 use Rattle.gm_graph_cache.specs.declared.depth.Depth.{Depth}
 use Rattle.gm_graph_cache.specs.Cached.{Knows, held_of, main_in, sums_in, turns_in}
 use Rattle.gm_graph_cache.specs.Turns.{turn}
-use Rattle.gm_graph_cache.specs.Main.{Main, Vertex}
+use Rattle.gm_graph_cache.specs.Main.{Main, ModuleVersion}
 use Rattle.gm_graph_cache.specs.Reading.{Keeps, Readings, Tells, readings_by}
 use Rattle.gm_graph_cache.proofs.Keeping.{readings_stay}
 use Rattle.gm_graph.specs.declared.graph_builder.GraphBuilder.{GraphBuilder}
 use Rattle.gm_graph.specs.declared.worklist.Worklist.{Worklist}
 use Rattle.gm_graph.specs.Visiting.{Continues, IsVisited, IsOpenedIn, readings_in}
-use Rattle.gm_graph.specs.Building.{AreGathered, edges_in, faults_in}
+use Rattle.gm_graph.specs.Building.{AreGathered, edges_in, faults_by_vertex}
 use Rattle.gm_graph.specs.Loading.{AsksInTurn}
 use Rattle.gm_graph.specs.Marks.{IsWorklist}
 use Rattle.gm_graph.specs.Turns.{AreFirstTurns}
@@ -36,11 +36,11 @@ pub record IsAt (main : Main) (sums : Option SumTable) (cache : Cache) (pairs : 
   pub lent : turns_in cache ≡ take at worklist.turns.items
   pub queue : IsQueue main (readings_by main (held_of cache)) worklist.turns.items at
   pub leaves : AreLeaves main (readings_by main (held_of cache)) worklist.turns.items worklist.leaves.items at
-  pub harvest : IsGatheredTo main (readings_by main (held_of cache)) worklist.turns.items (edges_in builder) (faults_in builder) at
+  pub harvest : IsGatheredTo main (readings_by main (held_of cache)) worklist.turns.items (edges_in builder) (faults_by_vertex builder) at
   pub asks : AsksInTurn main sums pairs
 
 pub first_step : (cache : Cache) (pairs : List (Name × Reply)) (worklist : Worklist) (builder : GraphBuilder) → pairs ≡ [] → Knows cache [] → turns_in cache ≡ [] → IsWorklist worklist → worklist.leaves.items ≡ [] → AreFirstTurns (main_in cache) worklist.turns.items
-    → ((readings : Readings) → AreGathered (main_in cache) readings (edges_in builder) (faults_in builder)) → IsAt (main_in cache) (sums_in cache) cache pairs worklist builder 0
+    → ((readings : Readings) → AreGathered (main_in cache) readings (edges_in builder) (faults_by_vertex builder)) → IsAt (main_in cache) (sums_in cache) cache pairs worklist builder 0
 first_step cache pairs worklist builder none knows lent is bare first are = record {
   place = omega arith;
   is_opening = is;
@@ -54,7 +54,7 @@ first_step cache pairs worklist builder none knows lent is bare first are = reco
   asks = asks_nothing _ _ _ none;
 }
 
-pub step : (main : Main) (sums : Option SumTable) (old new : Cache) (pairs longer : List (Name × Reply)) (worklist opened : Worklist) (before after : GraphBuilder) (at : ℕ) (x : Vertex) (depth : Depth)
+pub step : (main : Main) (sums : Option SumTable) (old new : Cache) (pairs longer : List (Name × Reply)) (worklist opened : Worklist) (before after : GraphBuilder) (at : ℕ) (x : ModuleVersion) (depth : Depth)
     → IsAt main sums old pairs worklist before at → at < length worklist.turns.items → get_or worklist.turns.items at (turn x depth) ≡ turn x depth
     → Knows new longer → Continues old new → turns_in new ≡ turns_in old ++ turn x depth ∷ [] → IsVisited (main_in new) (readings_in new) worklist opened before after x depth → AsksFor (main_in old) pairs longer x
     → IsAt main sums new longer opened after (at + 1)
@@ -76,7 +76,7 @@ step main sums old new pairs longer worklist opened before after at x depth is b
       leaves = leaves_more main a b keeps worklist.turns.items opened.turns.items worklist.leaves.items opened.leaves.items at x depth extends
           (IsValidTurn-kept main a b keeps x depth (is.queue.sound (turn x depth) (at, below, here))) below here (λ k d lt. (is.queue.done k d lt).answered) done.leaves is.leaves;
       queue = queue_more main a b worklist.turns.items opened.turns.items at x depth is.queue keeps below here done.follows;
-      harvest = gathered_more main a b worklist.turns.items opened.turns.items (edges_in before) (edges_in after) (faults_in before) (faults_in after) at x depth keeps extends
+      harvest = gathered_more main a b worklist.turns.items opened.turns.items (edges_in before) (edges_in after) (faults_by_vertex before) (faults_by_vertex after) at x depth keeps extends
           (IsValidTurn-kept main a b keeps x depth (is.queue.sound (turn x depth) (at, below, here))) below here (λ k d lt. (is.queue.done k d lt).answered) is.harvest done.gathers;
       asks = asks_more main sums old is.main_is is.sums_are pairs is.knows worklist.turns.items at x depth is.queue.sound below here longer is.asks for;
     }
@@ -96,6 +96,6 @@ last_step old new pairs worklist builder at is past =
       turns = are_turns main r worklist.vertices.items turns is.is_opening.turns all;
       known = opened_known main r worklist.vertices.items turns is.is_opening.turns all;
       ends = ends_exactly main r worklist.vertices.items turns worklist.leaves.items at is.is_opening.turns past all is.leaves;
-      edges = edges_exactly main r turns (edges_in builder) (faults_in builder) at past all is.harvest;
-      faults = faults_exactly main r turns (edges_in builder) (faults_in builder) at past all is.harvest;
+      edges = edges_exactly main r turns (edges_in builder) (faults_by_vertex builder) at past all is.harvest;
+      faults = faults_exactly main r turns (edges_in builder) (faults_by_vertex builder) at past all is.harvest;
     }

@@ -8,30 +8,32 @@ use Rattle.gm_graph_cache.specs.declared.finding.Finding.TheVariants.{Fault, Sou
 use Rattle.gm_graph_cache.specs.declared.depth.Turn.{Turn}
 use Rattle.gm_graph_cache.specs.Cached.{IsFinding}
 use Rattle.gm_graph_cache.specs.Turns.{turn}
-use Rattle.gm_graph_cache.specs.Main.{Main, Vertex}
-use Rattle.gm_graph_cache.specs.Reading.{Held, fault_in, fault_of, readings_by, requirements_of}
+use Rattle.gm_graph_cache.specs.Main.{Main, ModuleVersion}
+use Rattle.gm_graph_cache.specs.Reading.{Held, fault_in, vertex_fault, readings_by, vertex_requirements}
 use Rattle.gm_graph_select.specs.declared.step.Edge.{Edge}
 use Rattle.gm_graph.specs.declared.graph_builder.GraphBuilder.{GraphBuilder}
-use Rattle.gm_graph.specs.Building.{AddsEdges, Gathers, edges_in, faults_in, found_fault, gathers, noted}
+use Rattle.gm_graph.specs.Building.{AddsEdges, Gathers, edges_in, faults_by_vertex, found_fault, gathers, noted}
 
-finding_fault : (main : Main) (held : Held) (x : Vertex) (f : Finding) → IsFinding main held x f → found_fault f ≡ fault_of (readings_by main held) x
+finding_fault : (main : Main) (held : Held) (x : ModuleVersion) (f : Finding) → IsFinding main held x f → found_fault f ≡ vertex_fault (readings_by main held) x
 finding_fault main held x (Fault class) e = sym (ap fault_in e)
 finding_fault main held x (Sound name) e = sym (ap fault_in e.2)
 
 -- What is found of a vertex is known.
-pub finding_known : (main : Main) (held : Held) (x : Vertex) (f : Finding) → IsFinding main held x f → IsSome (readings_by main held x)
+pub finding_known : (main : Main) (held : Held) (x : ModuleVersion) (f : Finding) → IsFinding main held x f → IsSome (readings_by main held x)
 finding_known main held x (Fault class) e = subst (λ o. IsSome o) (sym e) refl
 finding_known main held x (Sound name) e = subst (λ o. IsSome o) (sym e.2) refl
 
-module _ (main : Main) (held : Held) (turns : List Turn) (x : Vertex) (d : Depth) (f : Finding) (found : IsFinding main held x f) (old mid new : GraphBuilder)
-    (noting : (q : Vertex) → faults_in mid q ≡ noted (found_fault f) x (faults_in old) q) (same : edges_in mid ≡ edges_in old) where
-  noting_fault : (q : Vertex) → faults_in mid q ≡ noted (fault_of (readings_by main held) x) x (faults_in old) q
-  noting_fault q = noting q ∙ ap (λ (o : Option Class). noted o x (faults_in old) q) (finding_fault main held x f found)
+module _ (main : Main) (held : Held) (turns : List Turn) (x : ModuleVersion) (d : Depth) (f : Finding) (found : IsFinding main held x f) (old mid new : GraphBuilder)
+    (noting : (q : ModuleVersion) → faults_by_vertex mid q ≡ noted (found_fault f) x (faults_by_vertex old) q) (same : edges_in mid ≡ edges_in old) where
+  noting_fault : (q : ModuleVersion) → faults_by_vertex mid q
+      ≡ noted (vertex_fault (readings_by main held) x) x (faults_by_vertex old) q
+  noting_fault q = noting q ∙ ap (λ (o : Option Class). noted o x (faults_by_vertex old) q)
+      (finding_fault main held x f found)
 
   -- a visit that adds edges
-  pub gathers_edges : AddsEdges (edges_in mid) (edges_in new) x (requirements_of main (readings_by main held) x) → ((q : Vertex) → faults_in new q ≡ faults_in mid q) → Gathers main (readings_by main held) turns (edges_in old) (edges_in new) (faults_in old) (faults_in new) (turn x d)
+  pub gathers_edges : AddsEdges (edges_in mid) (edges_in new) x (vertex_requirements main (readings_by main held) x) → ((q : ModuleVersion) → faults_by_vertex new q ≡ faults_by_vertex mid q) → Gathers main (readings_by main held) turns (edges_in old) (edges_in new) (faults_by_vertex old) (faults_by_vertex new) (turn x d)
   gathers_edges adds kept =
-      let adds' = subst (λ (es : List Edge). AddsEdges es (edges_in new) x (requirements_of main (readings_by main held) x)) same adds in
+      let adds' = subst (λ (es : List Edge). AddsEdges es (edges_in new) x (vertex_requirements main (readings_by main held) x)) same adds in
       record {
         extends = adds'.extends;
         each = λ _ y h. adds'.each y h;
@@ -40,10 +42,10 @@ module _ (main : Main) (held : Held) (turns : List Turn) (x : Vertex) (d : Depth
       }
 
   -- a visit that adds none
-  pub gathers_no_edges : gathers turns (turn x d) ≡ false → new ≡ mid → Gathers main (readings_by main held) turns (edges_in old) (edges_in new) (faults_in old) (faults_in new) (turn x d)
+  pub gathers_no_edges : gathers turns (turn x d) ≡ false → new ≡ mid → Gathers main (readings_by main held) turns (edges_in old) (edges_in new) (faults_by_vertex old) (faults_by_vertex new) (turn x d)
   gathers_no_edges no_edges e = record {
     extends = ([], ap edges_in e ∙ same ∙ sym (append-nil (edges_in old)));
     each = λ is y h. absurd (false≢true (sym no_edges ∙ is));
     only = λ one h. inl (subst (λ (es : List Edge). Contains es one) (ap edges_in e ∙ same) h);
-    faults = λ q. ap (λ (g : GraphBuilder). faults_in g q) e ∙ noting_fault q;
+    faults = λ q. ap (λ (g : GraphBuilder). faults_by_vertex g q) e ∙ noting_fault q;
   }

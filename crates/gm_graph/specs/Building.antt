@@ -9,8 +9,8 @@ use Rattle.gm_graph_cache.specs.declared.depth.Turn.{Turn}
 use Rattle.gm_graph_cache.specs.declared.finding.Finding.{Finding}
 use Rattle.gm_graph_cache.specs.declared.finding.Finding.TheVariants.{Fault, Sound}
 use Rattle.gm_graph_cache.specs.Turns.{turn}
-use Rattle.gm_graph_cache.specs.Main.{Main, Vertex}
-use Rattle.gm_graph_cache.specs.Reading.{Readings, fault_of, requirements_of}
+use Rattle.gm_graph_cache.specs.Main.{Main, ModuleVersion}
+use Rattle.gm_graph_cache.specs.Reading.{Readings, vertex_fault, vertex_requirements}
 use Rattle.gm_graph_select.specs.declared.step.Edge.{Edge}
 use Rattle.gm_graph_select.specs.declared.step.Step.TheVariants.{Main as FromMain, Of}
 use Rattle.gm_graph_select.specs.Graph.{edge, vertex_cmp}
@@ -21,7 +21,7 @@ use Rattle.gm_graph.specs.Adjacency.{edges_of}
 use Rattle.gm_graph.specs.Turns.{Extends, same_turn}
 
 -- a vertex and its fault
-abbrev pub fault : Vertex → Class → HeldFault
+abbrev pub fault : ModuleVersion → Class → HeldFault
 fault x class = record { vertex = x; class = class }
 
 -- the edges of a graph builder
@@ -30,13 +30,13 @@ edges_in builder = edges_of builder.leaving.items
 
 -- the fault of each vertex that has one
 abbrev pub Faults : Type 0
-Faults = Vertex → Option Class
+Faults = ModuleVersion → Option Class
 
-abbrev pub faults_in : GraphBuilder → Faults
-faults_in builder x = map.get vertex_cmp builder.faults x
+abbrev pub faults_by_vertex : GraphBuilder → Faults
+faults_by_vertex builder x = map.get vertex_cmp builder.faults x
 
 -- the faults, and that of one more vertex if it has one
-abbrev pub noted : Option Class → Vertex → Faults → Faults
+abbrev pub noted : Option Class → ModuleVersion → Faults → Faults
 noted None x faults y = faults y
 noted (Some class) x faults y = if same_vertex x y then Some class else faults y
 
@@ -54,32 +54,33 @@ abbrev pub gathers : List Turn → Turn → Bool
 gathers turns one = gathers_at one.depth (list_any (same_turn (turn one.vertex Top)) turns)
 
 -- Edges from a vertex to each of these were added, and no others.
-pub record AddsEdges (old new : List Edge) (x : Vertex) (ys : List Vertex) : Type 0 where
+pub record AddsEdges (old new : List Edge) (x : ModuleVersion) (ys : List ModuleVersion) : Type 0 where
   pub extends : Extends old new
-  pub each : (y : Vertex) → Contains ys y → Contains new (edge (Of x) y)
-  pub only : (one : Edge) → Contains new one → Contains old one ⊎ ((y : Vertex) × Contains ys y × (one ≡ edge (Of x) y))
+  pub each : (y : ModuleVersion) → Contains ys y → Contains new (edge (Of x) y)
+  pub only : (one : Edge) → Contains new one
+      → Contains old one ⊎ ((y : ModuleVersion) × Contains ys y × (one ≡ edge (Of x) y))
 
 -- The edges and the fault of a turn were added, and nothing else.
 pub record Gathers (main : Main) (readings : Readings) (turns : List Turn) (old new : List Edge) (before after : Faults)
     (one : Turn) : Type 0 where
   pub extends : Extends old new
-  pub each : gathers turns one ≡ true → (y : Vertex) → Contains (requirements_of main readings one.vertex) y
-      → Contains new (edge (Of one.vertex) y)
+  pub each : gathers turns one ≡ true → (y : ModuleVersion)
+      → Contains (vertex_requirements main readings one.vertex) y → Contains new (edge (Of one.vertex) y)
   pub only : (e : Edge) → Contains new e
-      → Contains old e ⊎ ((y : Vertex) × Contains (requirements_of main readings one.vertex) y
+      → Contains old e ⊎ ((y : ModuleVersion) × Contains (vertex_requirements main readings one.vertex) y
       × (e ≡ edge (Of one.vertex) y))
-  pub faults : (x : Vertex) → after x ≡ noted (fault_of readings one.vertex) one.vertex before x
+  pub faults : (x : ModuleVersion) → after x ≡ noted (vertex_fault readings one.vertex) one.vertex before x
 
 -- A turn's edges and its fault are in the graph builder.
 pub record IsGathered (main : Main) (readings : Readings) (turns : List Turn) (edges : List Edge) (faults : Faults)
     (one : Turn) : Type 0 where
-  pub each : gathers turns one ≡ true → (y : Vertex) → Contains (requirements_of main readings one.vertex) y
-      → Contains edges (edge (Of one.vertex) y)
+  pub each : gathers turns one ≡ true → (y : ModuleVersion)
+      → Contains (vertex_requirements main readings one.vertex) y → Contains edges (edge (Of one.vertex) y)
   pub fault : (class : Class) → readings one.vertex ≡ Some (Err class) → faults one.vertex ≡ Some class
 
 -- The edges from the main module are in the graph builder, and everything in it belongs to the graph.
 pub record AreGathered (main : Main) (readings : Readings) (edges : List Edge) (faults : Faults) : Type 0 where
-  pub from_main : (y : Vertex) → IsTop main y → Contains edges (edge FromMain y)
+  pub from_main : (y : ModuleVersion) → IsTop main y → Contains edges (edge FromMain y)
   pub only : (one : Edge) → Contains edges one → IsEdge main readings one.from one.to
-  pub known : (x : Vertex) (class : Class) → faults x ≡ Some class
+  pub known : (x : ModuleVersion) (class : Class) → faults x ≡ Some class
       → IsOpened main readings x × (readings x ≡ Some (Err class))

@@ -4,43 +4,43 @@ use Rattle.std.specs.Prelude.{◌≡◌, ◌⊎◌, Bool, true, false, Contains}
 use Rattle.gm_file.specs.Pairs.{pair_eq}
 use Rattle.gm_graph_cache.specs.declared.depth.Depth.{Depth}
 use Rattle.gm_graph_cache.specs.declared.depth.Depth.TheVariants.{Top, Deep}
-use Rattle.gm_graph_cache.specs.Main.{Main, Vertex, is_pruned_by, kept}
-use Rattle.gm_graph_cache.specs.Reading.{Readings, is_unpruned, requirements_of}
+use Rattle.gm_graph_cache.specs.Main.{Main, ModuleVersion, is_pruned_by, without_excluded}
+use Rattle.gm_graph_cache.specs.Reading.{Readings, is_unpruned, vertex_requirements}
 use Rattle.gm_graph_select.specs.declared.step.Step.{Step}
 use Rattle.gm_graph_select.specs.declared.step.Step.TheVariants.{Main as FromMain, Of}
 
-abbrev pub same_vertex : Vertex → Vertex → Bool
+abbrev pub same_vertex : ModuleVersion → ModuleVersion → Bool
 same_vertex = pair_eq
 
 -- The requirements of the main file are opened at the top.
-abbrev pub IsTop : Main → Vertex → Type 0
-IsTop main x = Contains (kept main main.requirements) x
+abbrev pub IsTop : Main → ModuleVersion → Type 0
+IsTop main x = Contains (without_excluded main main.requirements) x
 
 -- The vertices that are opened at full depth: the least relation with these three rules.
-pub data IsDeep (main : Main) (readings : Readings) : Vertex → Type 0 where
+pub data IsDeep (main : Main) (readings : Readings) : ModuleVersion → Type 0 where
   -- every top vertex, if the main file is unpruned
-  from_main : {x : Vertex} → is_pruned_by main.go ≡ false → IsTop main x → IsDeep main readings x
+  from_main : {x : ModuleVersion} → is_pruned_by main.go ≡ false → IsTop main x → IsDeep main readings x
   -- every requirement of a top vertex whose file is unpruned
-  from_top : {x y : Vertex} → IsTop main x → is_unpruned readings x ≡ true
-      → Contains (requirements_of main readings x) y → IsDeep main readings y
+  from_top : {x y : ModuleVersion} → IsTop main x → is_unpruned readings x ≡ true
+      → Contains (vertex_requirements main readings x) y → IsDeep main readings y
   -- every requirement of a deep vertex
-  from_deep : {x y : Vertex} → IsDeep main readings x → Contains (requirements_of main readings x) y
+  from_deep : {x y : ModuleVersion} → IsDeep main readings x → Contains (vertex_requirements main readings x) y
       → IsDeep main readings y
 
-abbrev pub IsOpened : Main → Readings → Vertex → Type 0
+abbrev pub IsOpened : Main → Readings → ModuleVersion → Type 0
 IsOpened main readings x = IsTop main x ⊎ IsDeep main readings x
 
 -- The requirements of the vertex are read at this depth. Every deep vertex is read at full depth. A top vertex is
 -- read at the top only if the main file is pruned, since it is a deep one otherwise.
-abbrev pub TakesTurn : Main → Readings → Vertex → Depth → Type 0
+abbrev pub TakesTurn : Main → Readings → ModuleVersion → Depth → Type 0
 TakesTurn main readings x Top = (is_pruned_by main.go ≡ true) × IsTop main x
 TakesTurn main readings x Deep = IsDeep main readings x
 
 -- An edge leads from the main module, or from an opened vertex, to each of its requirements.
-abbrev pub IsEdge : Main → Readings → Step → Vertex → Type 0
+abbrev pub IsEdge : Main → Readings → Step → ModuleVersion → Type 0
 IsEdge main readings FromMain y = IsTop main y
-IsEdge main readings (Of x) y = IsOpened main readings x × Contains (requirements_of main readings x) y
+IsEdge main readings (Of x) y = IsOpened main readings x × Contains (vertex_requirements main readings x) y
 
 -- An edge leads to the vertex.
-abbrev pub IsVertex : Main → Readings → Vertex → Type 0
+abbrev pub IsVertex : Main → Readings → ModuleVersion → Type 0
 IsVertex main readings y = (from : Step) × IsEdge main readings from y

@@ -5,7 +5,7 @@ use Rattle.gm_store.specs.Asked.{Name, Reply, answer_in, same_name}
 use Rattle.gm_store_sums.specs.declared.sum_table.SumTable.{SumTable}
 use Rattle.gm_graph_cache.specs.declared.depth.Depth.{Depth}
 use Rattle.gm_graph_cache.specs.declared.depth.Turn.{Turn}
-use Rattle.gm_graph_cache.specs.Main.{Main, Vertex}
+use Rattle.gm_graph_cache.specs.Main.{Main, ModuleVersion}
 use Rattle.gm_graph_cache.specs.Reading.{Held, Readings, file_of, is_askable, readings_by}
 use Rattle.gm_graph.specs.Graph.{same_vertex}
 use Rattle.gm_graph_cache.specs.Reading.{Tells}
@@ -18,12 +18,12 @@ abbrev pub Told : Main → Option SumTable → List (Name × Reply) → (Reading
 Told main sums pairs P = (held : Held) × Tells sums pairs held × P (readings_by main held)
 
 -- The file of a vertex was answered, unless it is not asked for.
-abbrev pub IsAnswered : Main → List (Name × Reply) → Vertex → Type 0
+abbrev pub IsAnswered : Main → List (Name × Reply) → ModuleVersion → Type 0
 IsAnswered main pairs x = is_askable (file_of main x) ≡ true → IsSome (answer_in pairs (file_of main x))
 
 -- The name is that of the file of an opened vertex, and may be asked for.
 abbrev pub IsNeeded : Main → Readings → Name → Type 0
-IsNeeded main readings name = (x : Vertex) × IsOpened main readings x × (file_of main x ≡ name)
+IsNeeded main readings name = (x : ModuleVersion) × IsOpened main readings x × (file_of main x ≡ name)
     × (is_askable name ≡ true)
 
 -- By these answers the name is needed, and it is not among them.
@@ -45,14 +45,14 @@ pub record AreAsked (main : Main) (readings : Readings) (names : List Name) : Ty
 -- One turn for each vertex that is opened at full depth, and, if the main file is pruned, one for each at the top.
 pub record AreTurns (main : Main) (readings : Readings) (turns : List Turn) : Type 0 where
   pub once : IsDistinct same_turn turns
-  pub each : (x : Vertex) (d : Depth) → Contains turns (turn x d) ↔ TakesTurn main readings x d
+  pub each : (x : ModuleVersion) (d : Depth) → Contains turns (turn x d) ↔ TakesTurn main readings x d
 
 -- More than 65,536 vertices are opened.
 abbrev pub AreTooMany : Main → Readings → Type 0
-AreTooMany main readings = (all : List Vertex) × (65536 < length all) × IsDistinct same_vertex all
-    × ((x : Vertex) → Contains all x → IsOpened main readings x)
+AreTooMany main readings = (all : List ModuleVersion) × (65536 < length all) × IsDistinct same_vertex all
+    × ((x : ModuleVersion) → Contains all x → IsOpened main readings x)
 
 -- At most 65,536 vertices are opened.
 abbrev pub AreFew : Main → Readings → Type 0
-AreFew main readings = (all : List Vertex) → IsDistinct same_vertex all
-    → ((x : Vertex) → Contains all x → IsOpened main readings x) → length all ≤ 65536
+AreFew main readings = (all : List ModuleVersion) → IsDistinct same_vertex all
+    → ((x : ModuleVersion) → Contains all x → IsOpened main readings x) → length all ≤ 65536

@@ -3,8 +3,8 @@ use Rattle.std.specs.Prelude.{◌≡◌, ◌↔◌, ℕ, List, Some, Contains, A
 use Rattle.std.specs.declared.cmp.Ordering.TheVariants.{Less}
 use Rattle.gm_store.specs.Asked.{Name, Reply, names_in}
 use Rattle.gm_graph_cache.specs.declared.depth.Turn.{Turn}
-use Rattle.gm_graph_cache.specs.Main.{Main, Vertex}
-use Rattle.gm_graph_cache.specs.Reading.{Readings, fault_of}
+use Rattle.gm_graph_cache.specs.Main.{Main, ModuleVersion}
+use Rattle.gm_graph_cache.specs.Reading.{Readings, vertex_fault}
 use Rattle.gm_graph_select.specs.declared.step.Edge.{Edge}
 use Rattle.gm_graph_select.specs.BuildList.{Entry, IsBuildList}
 use Rattle.gm_graph_select.specs.Chains.{IsReached}
@@ -15,7 +15,7 @@ use Rattle.gm_graph.specs.Graph.{IsEdge, IsOpened}
 use Rattle.gm_graph.specs.Loading.{AreAsked, AreFew, AreTurns, IsAnswered}
 
 -- the main module's path, the faults, the edges, the build list and the turns
-pub record Outcome : Type 0 where
+pub record LoadedGraph : Type 0 where
   pub main : List ℕ
   pub faults : List Fault
   pub edges : List Edge
@@ -26,7 +26,7 @@ pub record Outcome : Type 0 where
 pub record AreFaults (main : Main) (readings : Readings) (faults : List Fault) : Type 0 where
   pub ascending : AllPairs (λ (a b : Fault). vertex_cmp a.vertex b.vertex ≡ Less) faults
   pub each : (one : Fault) → Contains faults one
-      ↔ (IsOpened main readings one.vertex × (fault_of readings one.vertex ≡ Some one.class))
+      ↔ (IsOpened main readings one.vertex × (vertex_fault readings one.vertex ≡ Some one.class))
 
 -- Each edge, in strictly ascending order.
 pub record AreEdges (main : Main) (readings : Readings) (edges : List Edge) : Type 0 where
@@ -35,13 +35,14 @@ pub record AreEdges (main : Main) (readings : Readings) (edges : List Edge) : Ty
 
 -- The result of loading. Each part is what the definitions state for the contents of the files, the file of each
 -- opened vertex is known, no other file was asked for, and at most 65,536 vertices are opened.
-pub record IsLoaded (main : Main) (pairs : List (Name × Reply)) (loaded : Outcome) (readings : Readings) : Type 0 where
+pub record IsLoaded (main : Main) (pairs : List (Name × Reply)) (loaded : LoadedGraph)
+    (readings : Readings) : Type 0 where
   pub main_is : loaded.main ≡ main.path
   pub faults : AreFaults main readings loaded.faults
   pub edges : AreEdges main readings loaded.edges
   pub rows : IsBuildList main.path main.replaces (IsEdge main readings) loaded.rows
   pub turns : AreTurns main readings loaded.turns
-  pub answered : (x : Vertex) → IsOpened main readings x → IsAnswered main pairs x
+  pub answered : (x : ModuleVersion) → IsOpened main readings x → IsAnswered main pairs x
   pub asked : AreAsked main readings (names_in pairs)
   pub few : AreFew main readings
 

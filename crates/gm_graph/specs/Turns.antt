@@ -5,8 +5,8 @@ use Rattle.gm_file.specs.Fields.{Dependency}
 use Rattle.gm_graph_cache.specs.declared.depth.Turn.{Turn}
 use Rattle.gm_graph_cache.specs.declared.depth.Depth.{Depth}
 use Rattle.gm_graph_cache.specs.declared.depth.Depth.TheVariants.{Top, Deep}
-use Rattle.gm_graph_cache.specs.Main.{Main, Vertex, is_pruned_by}
-use Rattle.gm_graph_cache.specs.Reading.{Readings, is_unpruned_in, requirements_of, said_in}
+use Rattle.gm_graph_cache.specs.Main.{Main, ModuleVersion, is_pruned_by}
+use Rattle.gm_graph_cache.specs.Reading.{Readings, is_unpruned_in, vertex_requirements, said_in}
 use Rattle.gm_graph.specs.Graph.{same_vertex}
 use Rattle.gm_graph_cache.specs.Turns.{turn}
 use Rattle.gm_graph.specs.Graph.{IsTop, TakesTurn}
@@ -20,19 +20,19 @@ abbrev pub leads_on_in : Option Dependency → Depth → Bool
 leads_on_in summary Top = is_unpruned_in summary
 leads_on_in summary Deep = true
 
-abbrev pub leads_on : Readings → Vertex → Depth → Bool
+abbrev pub leads_on : Readings → ModuleVersion → Depth → Bool
 leads_on readings x = leads_on_in (said_in (readings x))
 
 -- the leaves, together with the requirements of a turn that leads no further
-abbrev pub leaves_with : Bool → List Vertex → List Vertex → List Vertex
+abbrev pub leaves_with : Bool → List ModuleVersion → List ModuleVersion → List ModuleVersion
 leaves_with true leaves xs = leaves
 leaves_with false leaves xs = leaves ++ xs
 
 -- What the turn's vertex says is known, and what the turn leads to is among the turns.
 pub record IsDone (main : Main) (readings : Readings) (turns : List Turn) (one : Turn) : Type 0 where
   pub answered : IsSome (readings one.vertex)
-  pub followed : leads_on readings one.vertex one.depth ≡ true → (y : Vertex)
-      → Contains (requirements_of main readings one.vertex) y → Contains turns (turn y Deep)
+  pub followed : leads_on readings one.vertex one.depth ≡ true → (y : ModuleVersion)
+      → Contains (vertex_requirements main readings one.vertex) y → Contains turns (turn y Deep)
 
 -- The new list begins with the old one.
 abbrev pub Extends : {X : Type 0} → List X → List X → Type 0
@@ -49,22 +49,23 @@ abbrev pub same_turn : Turn → Turn → Bool
 same_turn a b = same_vertex a.vertex b.vertex && same_depth a.depth b.depth
 
 -- The turns and the vertices are consistent: neither has duplicates, and there are at most 65,536 vertices.
-pub record AreTurnsOf (vertices : List Vertex) (turns : List Turn) : Type 0 where
+pub record AreTurnsOf (vertices : List ModuleVersion) (turns : List Turn) : Type 0 where
   pub few : length vertices ≤ 65536
   pub vertices_once : IsDistinct same_vertex vertices
   pub turns_once : IsDistinct same_turn turns
-  pub has_turn : (x : Vertex) → Contains vertices x → (d : Depth) × Contains turns (turn x d)
+  pub has_turn : (x : ModuleVersion) → Contains vertices x → (d : Depth) × Contains turns (turn x d)
   pub has_vertex : (one : Turn) → Contains turns one → Contains vertices one.vertex
 
 -- The new list is the old one, with this turn appended unless it was there.
-abbrev pub AddsTurn : List Turn → List Turn → Turn → Type 0
-AddsTurn old new one = (new ≡ old ++ one ∷ []) ⊎ ((new ≡ old) × Contains old one)
+abbrev pub AppendsTurnIfNew : List Turn → List Turn → Turn → Type 0
+AppendsTurnIfNew old new one = (new ≡ old ++ one ∷ []) ⊎ ((new ≡ old) × Contains old one)
 
 -- Turns of these vertices at this depth were added, and no others.
-pub record AddsAll (old new : List Turn) (xs : List Vertex) (d : Depth) : Type 0 where
+pub record AddsAll (old new : List Turn) (xs : List ModuleVersion) (d : Depth) : Type 0 where
   pub extends : Extends old new
-  pub each : (y : Vertex) → Contains xs y → Contains new (turn y d)
-  pub only : (one : Turn) → Contains new one → Contains old one ⊎ ((y : Vertex) × Contains xs y × (one ≡ turn y d))
+  pub each : (y : ModuleVersion) → Contains xs y → Contains new (turn y d)
+  pub only : (one : Turn) → Contains new one
+      → Contains old one ⊎ ((y : ModuleVersion) × Contains xs y × (one ≡ turn y d))
 
 -- What a turn leads to was added, and nothing else.
 pub record Visits (main : Main) (readings : Readings) (old new : List Turn) (one : Turn) : Type 0 where
@@ -72,7 +73,7 @@ pub record Visits (main : Main) (readings : Readings) (old new : List Turn) (one
   pub done : IsDone main readings new one
   pub only : (next : Turn) → Contains new next
       → Contains old next ⊎ ((leads_on readings one.vertex one.depth ≡ true)
-      × ((y : Vertex) × Contains (requirements_of main readings one.vertex) y × (next ≡ turn y Deep)))
+      × ((y : ModuleVersion) × Contains (vertex_requirements main readings one.vertex) y × (next ≡ turn y Deep)))
 
 -- Each turn is one that its vertex takes.
 abbrev pub AllValidTurns : Main → Readings → List Turn → Type 0
@@ -80,8 +81,8 @@ AllValidTurns main readings turns = (one : Turn) → Contains turns one → IsVa
 
 -- The turns are exactly those of the main file's requirements.
 pub record AreFirstTurns (main : Main) (turns : List Turn) : Type 0 where
-  pub tops : is_pruned_by main.go ≡ true → (x : Vertex) → IsTop main x → Contains turns (turn x Top)
-  pub deeps : is_pruned_by main.go ≡ false → (x : Vertex) → IsTop main x → Contains turns (turn x Deep)
+  pub tops : is_pruned_by main.go ≡ true → (x : ModuleVersion) → IsTop main x → Contains turns (turn x Top)
+  pub deeps : is_pruned_by main.go ≡ false → (x : ModuleVersion) → IsTop main x → Contains turns (turn x Deep)
   pub sound : (readings : Readings) → AllValidTurns main readings turns
 
 -- the depth of the first turns
@@ -90,11 +91,11 @@ depth_by true = Top
 depth_by false = Deep
 
 -- More than 65,536 distinct vertices were there or are among these.
-abbrev pub OverflowsWith : List Vertex → List Vertex → Type 0
-OverflowsWith vertices xs = (all : List Vertex) × (65536 < length all) × IsDistinct same_vertex all
-    × ((x : Vertex) → Contains all x → Contains vertices x ⊎ Contains xs x)
+abbrev pub OverflowsWith : List ModuleVersion → List ModuleVersion → Type 0
+OverflowsWith vertices xs = (all : List ModuleVersion) × (65536 < length all) × IsDistinct same_vertex all
+    × ((x : ModuleVersion) → Contains all x → Contains vertices x ⊎ Contains xs x)
 
 -- The vertices that were there, together with what the turn leads to, are too many.
-abbrev pub VisitOverflows : Main → Readings → List Vertex → Vertex → Depth → Type 0
+abbrev pub VisitOverflows : Main → Readings → List ModuleVersion → ModuleVersion → Depth → Type 0
 VisitOverflows main readings vertices x d = (leads_on readings x d ≡ true)
-    × OverflowsWith vertices (requirements_of main readings x)
+    × OverflowsWith vertices (vertex_requirements main readings x)

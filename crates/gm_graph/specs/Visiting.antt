@@ -7,13 +7,13 @@ use Rattle.gm_graph_cache.specs.declared.finding.Finding.{Finding}
 use Rattle.gm_graph_cache.specs.declared.finding.Finding.TheVariants.{Fault, Sound}
 use Rattle.gm_graph_cache.specs.Cached.{held_of, main_in, sums_in, turns_in}
 use Rattle.gm_graph_cache.specs.Turns.{turn}
-use Rattle.gm_graph_cache.specs.Main.{Main, Vertex}
-use Rattle.gm_graph_cache.specs.Reading.{Held, KeepsHeld, Readings, Tells, fault_of, readings_by, requirements_of}
+use Rattle.gm_graph_cache.specs.Main.{Main, ModuleVersion}
+use Rattle.gm_graph_cache.specs.Reading.{Held, KeepsHeld, Readings, Tells, vertex_fault, readings_by, vertex_requirements}
 use Rattle.gm_graph_cache.specs.declared.class.Class.{Class}
 use Rattle.gm_graph_select.specs.declared.step.Edge.{Edge}
 use Rattle.gm_graph.specs.declared.graph_builder.GraphBuilder.{GraphBuilder}
 use Rattle.gm_graph.specs.declared.worklist.Worklist.{Worklist}
-use Rattle.gm_graph.specs.Building.{Gathers, edges_in, faults_in}
+use Rattle.gm_graph.specs.Building.{Gathers, edges_in, faults_by_vertex}
 use Rattle.gm_graph.specs.Graph.{IsEdge, IsOpened, IsVertex}
 use Rattle.gm_graph.specs.Loading.{AreTurns}
 use Rattle.gm_graph.specs.Marks.{IsWorklist}
@@ -30,13 +30,14 @@ lender_of (Sound name) = Some (name_of name)
 
 -- A vertex was visited under these readings: what it leads to was added to the worklist, and its edges and its
 -- fault to the graph builder.
-pub record IsVisited (main : Main) (readings : Readings) (old new : Worklist) (before after : GraphBuilder) (x : Vertex)
-    (d : Depth) : Type 0 where
+pub record IsVisited (main : Main) (readings : Readings) (old new : Worklist) (before after : GraphBuilder)
+    (x : ModuleVersion) (d : Depth) : Type 0 where
   pub worklist : IsWorklist new
   pub follows : Visits main readings old.turns.items new.turns.items (turn x d)
-  pub leaves : new.leaves.items ≡ leaves_with (leads_on readings x d) old.leaves.items (requirements_of main readings x)
-  pub gathers : Gathers main readings old.turns.items (edges_in before) (edges_in after) (faults_in before)
-      (faults_in after) (turn x d)
+  pub leaves : new.leaves.items
+      ≡ leaves_with (leads_on readings x d) old.leaves.items (vertex_requirements main readings x)
+  pub gathers : Gathers main readings old.turns.items (edges_in before) (edges_in after) (faults_by_vertex before)
+      (faults_by_vertex after) (turn x d)
 
 -- The main file and the go.sum are the same, and each file that was known is still known.
 pub record Continues (old new : Cache) : Type 0 where
@@ -45,7 +46,7 @@ pub record Continues (old new : Cache) : Type 0 where
   pub held : KeepsHeld (held_of old) (held_of new)
 
 -- By the readings of the answers, the visit would open too many vertices.
-abbrev pub OverflowsAt : Cache → List (Name × Reply) → Worklist → Vertex → Depth → Type 0
+abbrev pub OverflowsAt : Cache → List (Name × Reply) → Worklist → ModuleVersion → Depth → Type 0
 OverflowsAt cache pairs worklist x d = (held : Held) × Tells (sums_in cache) pairs held × KeepsHeld (held_of cache) held
     × VisitOverflows (main_in cache) (readings_by (main_in cache) held) worklist.vertices.items x d
 
@@ -59,13 +60,13 @@ pub record IsOpenedIn (old new : Cache) (pairs : List (Name × Reply))
   pub lent : turns_in new ≡ opened.turns.items
   pub worklist : IsWorklist opened
   pub turns : AreTurns (main_in old) (readings_by (main_in old) (held_of new)) opened.turns.items
-  pub known : (x : Vertex) → IsOpened (main_in old) (readings_by (main_in old) (held_of new)) x
+  pub known : (x : ModuleVersion) → IsOpened (main_in old) (readings_by (main_in old) (held_of new)) x
       → IsSome (readings_by (main_in old) (held_of new) x)
   pub edges : (one : Edge) → Contains (edges_in builder) one
       ↔ IsEdge (main_in old) (readings_by (main_in old) (held_of new)) one.from one.to
-  pub ends : (x : Vertex) → Contains (opened.vertices.items ++ opened.leaves.items) x
+  pub ends : (x : ModuleVersion) → Contains (opened.vertices.items ++ opened.leaves.items) x
       ↔ IsVertex (main_in old) (readings_by (main_in old) (held_of new)) x
-  pub faults : (x : Vertex) (class : Class)
-      → (faults_in builder x ≡ Some class)
+  pub faults : (x : ModuleVersion) (class : Class)
+      → (faults_by_vertex builder x ≡ Some class)
       ↔ (IsOpened (main_in old) (readings_by (main_in old) (held_of new)) x
-      × (fault_of (readings_by (main_in old) (held_of new)) x ≡ Some class))
+      × (vertex_fault (readings_by (main_in old) (held_of new)) x ≡ Some class))

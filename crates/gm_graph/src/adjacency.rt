@@ -3,7 +3,7 @@
 //! A step's path may be as long as a file, and so may the list of its requirements. Groups hold and compare the
 //! path once instead of once per edge, and there are far fewer groups to sort than edges.
 
-ghost use Rattle.std.specs.Prelude.{◌≡◌, ◌++◌, [], true, AllPairs, Contains, IfOk, OnOk};
+ghost use Rattle.std.specs.Prelude.{◌≡◌, ◌++◌, ◌≤◌, [], true, AllPairs, Contains, IfOk, OnOk, length};
 ghost use Rattle.std.specs.declared.cmp.Ordering.TheVariants.{Less};
 ghost use Rattle.gm_graph_select.specs.Graph.{edge_cmp, step_cmp, vertex_cmp};
 ghost use Rattle.gm_graph_select.specs.Order.{HaveSame, IsAscending};
@@ -74,8 +74,11 @@ impl Adjacency {
     }
 }
 
-/// How many edges these groups have. It is only used to reserve memory, so it may stop at the greatest `usize`.
-fn count(all: &[Adjacency]) -> usize {
+/// How many edges these groups have. It is only used to reserve memory, so it may stop at the greatest `usize`; it is
+/// never more than there are.
+fn count(all: &[Adjacency]) -> usize
+    ensures { result ≤ length (edges_of all.now) }
+{
     let mut edges: usize = 0;
     for one in all {
         edges = edges.saturating_add(one.to.len());

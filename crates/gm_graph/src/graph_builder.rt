@@ -2,10 +2,10 @@
 
 ghost use Rattle.std.specs.Prelude.{◌≡◌, IfOk, OnOk, map};
 ghost use Rattle.std.specs.BTreeMap as tree;
-ghost use Rattle.gm_graph_cache.specs.Main.{Main, Vertex, kept};
+ghost use Rattle.gm_graph_cache.specs.Main.{Main, ModuleVersion, without_excluded};
 ghost use Rattle.gm_graph_cache.specs.Reading.{Readings};
 ghost use Rattle.gm_graph_select.specs.Graph.{vertex_cmp};
-ghost use Rattle.gm_graph.specs.Building.{AddsEdges, AreGathered, edges_in, fault, faults_in, found_fault, noted};
+ghost use Rattle.gm_graph.specs.Building.{AddsEdges, AreGathered, edges_in, fault, faults_by_vertex, found_fault, noted};
 
 use crate::adjacency::Adjacency;
 use crate::fault::Fault;
@@ -32,8 +32,8 @@ impl GraphBuilder {
         vertex: &ModVer,
         finding: &Finding,
     ) -> Result<(), AllocError>
-        ensures faults { OnOk result ((x : Vertex)
-            → faults_in self.new x ≡ noted (found_fault finding.now) vertex.now (faults_in self.old) x) }
+        ensures faults { OnOk result ((x : ModuleVersion)
+            → faults_by_vertex self.new x ≡ noted (found_fault finding.now) vertex.now (faults_by_vertex self.old) x) }
         ensures edges { edges_in self.new ≡ edges_in self.old }
     {
         if let Finding::Fault(class) = finding {
@@ -50,7 +50,7 @@ impl GraphBuilder {
         required: &[ModVer],
     ) -> Result<(), AllocError>
         ensures edges { OnOk result (AddsEdges (edges_in self.old) (edges_in self.new) vertex.now required.now) }
-        ensures faults { (x : Vertex) → faults_in self.new x ≡ faults_in self.old x }
+        ensures faults { (x : ModuleVersion) → faults_by_vertex self.new x ≡ faults_by_vertex self.old x }
     {
         if required.is_empty() {
             return Ok(());
@@ -63,8 +63,9 @@ impl GraphBuilder {
 
 /// A graph with edges from the main module to each of these, and without faults.
 pub(crate) fn main_edges(alloc: Global, required: &[ModVer]) -> Result<GraphBuilder, AllocError>
-    ensures { IfOk result (λ builder. (main : Main) (readings : Readings) → required.now ≡ kept main main.requirements
-        → AreGathered main readings (edges_in builder) (faults_in builder)) }
+    ensures { IfOk result (λ builder. (main : Main) (readings : Readings)
+        → required.now ≡ without_excluded main main.requirements
+        → AreGathered main readings (edges_in builder) (faults_by_vertex builder)) }
 {
     let one = Adjacency::new(alloc, Step::Main, required)?;
     let mut leaving = Vec::new(alloc);

@@ -3,7 +3,7 @@
 //!
 //! They show that the definitions mean what the Go Modules Reference says, independently of any code.
 
-ghost use Rattle.gm_graph.specs.Laws.{OneAnswer, OneLoading, RowsAreRequired, RowsSatisfy, UnprunedIsPlain};
+ghost use Rattle.gm_graph.specs.Laws.{OneAnswer, OneLoading, RowsAreRequired, RowsSatisfyRequirements, UnprunedIsPlain};
 
 /// Each row's version is required by the main module or by an opened vertex (Go Modules Reference, "Minimal version
 /// selection").
@@ -14,7 +14,7 @@ pub fn rows_are_required()
 /// Each requirement of the main module or of an opened vertex has a row, whose version is not below the required
 /// one. Requirements on the main module's path are excepted (Go Modules Reference, "Minimal version selection").
 pub fn rows_satisfy()
-    ensures { RowsSatisfy }
+    ensures { RowsSatisfyRequirements }
 {}
 
 /// If the main file is unpruned, exactly the vertices that requirements reach are opened: plain minimal version

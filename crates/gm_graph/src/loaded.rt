@@ -1,7 +1,7 @@
 //! The loaded module graph, and what can be asked of it.
 
 ghost use Rattle.std.specs.Prelude.{◌≡◌, [], IfOk, OnErr, IsErrOf};
-ghost use Rattle.gm_graph_select.specs.BuildList.{IsEntryOf, IsListed, IsRestAfter, entries_of_rows};
+ghost use Rattle.gm_graph_select.specs.BuildList.{IsEntryOf, HasEntryFor, IsRestAfter, entries_of_rows};
 ghost use Rattle.gm_graph_select.specs.Chains.{IsChain};
 ghost use Rattle.gm_graph_select.specs.Graph.{among};
 ghost use Rattle.gm_graph_select.specs.declared.step.Step.{Step};
@@ -32,9 +32,9 @@ pub struct Loaded {
 
 impl Model for Loaded {
     ghost use Rattle.gm_graph_select.specs.BuildList.{entries_of_rows};
-    ghost use Rattle.gm_graph.specs.Outcome.{AreReached, Outcome};
+    ghost use Rattle.gm_graph.specs.Outcome.{AreReached, LoadedGraph};
 
-    ghost Value = { Outcome };
+    ghost Value = { LoadedGraph };
 
     ghost view = { λ l. record { main = l.main; faults = l.faults.items; edges = l.edges.items; rows = entries_of_rows l.rows.items; turns = l.turns.items } };
 
@@ -104,7 +104,7 @@ impl Loaded {
         requires { self.now.faults ≡ [] }
         ensures rest { IfOk result (λ left.
             IsRestAfter self.now.main self.now.rows path.now (entries_of_rows left.rest.now)) }
-        ensures not_listed { OnErr result (¬ (IsListed self.now.main self.now.rows path.now)) }
+        ensures not_listed { OnErr result (¬ (HasEntryFor self.now.main self.now.rows path.now)) }
     {
         gm_graph_select::rest_after(&self.main, &self.rows, path)
     }
@@ -118,7 +118,8 @@ impl Loaded {
         requires { self.now.faults ≡ [] }
         ensures chain { IfOk result (λ steps. (s : Step) × IsEntryOf self.now.main self.now.rows path.now s
             × IsChain (among self.now.edges) s steps.items) }
-        ensures not_listed { IsErrOf result ChainFault.NotListed → ¬ (IsListed self.now.main self.now.rows path.now) }
+        ensures not_listed { IsErrOf result ChainFault.NotListed
+            → ¬ (HasEntryFor self.now.main self.now.rows path.now) }
     {
         gm_graph_select::chain(alloc, &self.main, &self.edges, &self.rows, path)
     }

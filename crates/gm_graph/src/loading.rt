@@ -15,7 +15,7 @@ ghost use Rattle.gm_graph_select.specs.Graph.{AreEnds, among, edge_cmp, vertex_c
 ghost use Rattle.gm_graph_select.specs.Order.{HaveSame, IsAscending};
 ghost use Rattle.std.specs.BTreeMap as tree;
 ghost use Rattle.gm_graph.specs.Visiting.{IsOpenedIn, readings_in};
-ghost use Rattle.gm_graph.specs.Building.{AreGathered, edges_in, fault, faults_in};
+ghost use Rattle.gm_graph.specs.Building.{AreGathered, edges_in, fault, faults_by_vertex};
 ghost use Rattle.gm_graph.specs.Loading.{AreTooMany, AsksInTurn, IsDue, Told};
 ghost use Rattle.gm_graph.specs.Marks.{IsWorklist};
 ghost use Rattle.gm_graph.specs.Outcome.{IsLoaded};
@@ -49,7 +49,7 @@ fn visit_all<F: Files>(
     requires leaves { worklist.old.leaves.items ≡ [] }
     requires first { AreFirstTurns (main_in cache.old) worklist.old.turns.items }
     requires builder { (readings : Readings)
-        → AreGathered (main_in cache.old) readings (edges_in builder.old) (faults_in builder.old) }
+        → AreGathered (main_in cache.old) readings (edges_in builder.old) (faults_by_vertex builder.old) }
     ensures opened { OnOk result (IsOpenedIn cache.old cache.new (F.asked files.new) worklist.new builder.new) }
     ensures too_many { result ≡ Err LoadFault.TooMany
         → Told (main_in cache.old) (sums_in cache.old) (F.asked files.new) (AreTooMany (main_in cache.old)) }

@@ -1,7 +1,7 @@
 //! The main module's requirements, and the worklist that loading starts with.
 
 ghost use Rattle.std.specs.Prelude.{◌≡◌, [], IfOk, Err};
-ghost use Rattle.gm_graph_cache.specs.Main.{is_pruned_by, kept, main_of};
+ghost use Rattle.gm_graph_cache.specs.Main.{is_pruned_by, without_excluded, main_of};
 ghost use Rattle.gm_graph_cache.specs.Refusals.{refused_in};
 ghost use Rattle.gm_graph.specs.Marks.{IsWorklist};
 ghost use Rattle.gm_graph.specs.Turns.{AreFirstTurns, OverflowsWith, depth_by};
@@ -14,7 +14,7 @@ use std::alloc::{AllocError, Global};
 
 /// The requirements of the main module's file, without the excluded ones.
 pub(crate) fn kept_requirements(alloc: Global, main: &MainFile) -> Result<Vec<ModVer>, AllocError>
-    ensures { IfOk result (λ list. list.items ≡ kept (main_of main.now) (main_of main.now).requirements) }
+    ensures { IfOk result (λ list. list.items ≡ without_excluded (main_of main.now) (main_of main.now).requirements) }
 {
     let mut list = Vec::new(alloc);
     for y in main_view::requirements(main) {
@@ -42,7 +42,7 @@ pub(crate) fn first_turns(
     main: &MainFile,
     required: &[ModVer],
 ) -> Result<Worklist, AddFault>
-    requires { required.now ≡ kept (main_of main.now) (main_of main.now).requirements }
+    requires { required.now ≡ without_excluded (main_of main.now) (main_of main.now).requirements }
     ensures worklist { IfOk result IsWorklist }
     ensures first { IfOk result (λ worklist. AreFirstTurns (main_of main.now) worklist.turns.items) }
     ensures leaves { IfOk result (λ worklist. worklist.leaves.items ≡ []) }
@@ -60,7 +60,7 @@ pub(crate) fn begin(
     main: &MainFile,
     required: &[ModVer],
 ) -> Result<Worklist, LoadFault>
-    requires { required.now ≡ kept (main_of main.now) (main_of main.now).requirements }
+    requires { required.now ≡ without_excluded (main_of main.now) (main_of main.now).requirements }
     ensures worklist { IfOk result IsWorklist }
     ensures first { IfOk result (λ worklist. AreFirstTurns (main_of main.now) worklist.turns.items) }
     ensures leaves { IfOk result (λ worklist. worklist.leaves.items ≡ []) }

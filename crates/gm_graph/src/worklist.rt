@@ -6,11 +6,11 @@
 
 ghost use Rattle.std.specs.Prelude.{◌≡◌, ◌≤◌, ◌⊎◌, if◌then◌else◌, ◌∷◌, [], ◌++◌, ℕ, List, length, Contains, IfOk, OnOk, Some, None, Ok, Err, true, false, not};
 ghost use Rattle.std.specs.Bool.{MatchBool};
-ghost use Rattle.gm_graph_cache.specs.Main.{Vertex, is_pruned_by, kept, main_of};
+ghost use Rattle.gm_graph_cache.specs.Main.{ModuleVersion, is_pruned_by, without_excluded, main_of};
 ghost use Rattle.gm_graph.specs.Graph.{same_vertex};
 ghost use Rattle.gm_graph.specs.Turns.{AddsAll, AreTurnsOf, OverflowsWith};
 ghost use Rattle.gm_graph_cache.specs.Turns.{turn};
-ghost use Rattle.gm_graph.specs.Marks.{IsWorklist, marked, other_depth};
+ghost use Rattle.gm_graph.specs.Marks.{IsWorklist, is_marked_at, other_depth};
 ghost use Rattle.gm_graph.specs.declared.worklist.AddFault.TheVariants as add;
 
 use crate::adjacency::push_copies;
@@ -58,7 +58,7 @@ impl From<AllocError> for AddFault {
 
 impl Worklist {
     ghost use Rattle.std.specs.List.{list_any};
-    ghost use Rattle.gm_graph.specs.Turns.{AddsTurn, same_turn};
+    ghost use Rattle.gm_graph.specs.Turns.{AppendsTurnIfNew, same_turn};
 
     /// The empty worklist.
     pub(crate) fn new(alloc: Global) -> Worklist
@@ -96,10 +96,10 @@ impl Worklist {
     /// Marks a vertex at a depth, and reports whether the mark is new. The only refusal is `AllocError`, if memory
     /// runs out.
     fn mark(&mut self, alloc: Global, vertex: &ModVer, depth: Depth) -> Result<bool, AllocError>
-        ensures is_new { IfOk result (λ is_new. is_new ≡ not (marked self.old depth vertex.now)) }
-        ensures marked { OnOk result ((q : Vertex) (d : Depth)
-            → marked self.new d q ≡ (if same_turn (turn q d) (turn vertex.now depth) then true
-            else marked self.old d q)) }
+        ensures is_new { IfOk result (λ is_new. is_new ≡ not (is_marked_at self.old depth vertex.now)) }
+        ensures marked { OnOk result ((q : ModuleVersion) (d : Depth)
+            → is_marked_at self.new d q ≡ (if same_turn (turn q d) (turn vertex.now depth) then true
+            else is_marked_at self.old d q)) }
         ensures turns { self.new.turns.items ≡ self.old.turns.items }
         ensures vertices { self.new.vertices.items ≡ self.old.vertices.items }
         ensures leaves { self.new.leaves.items ≡ self.old.leaves.items }
@@ -118,7 +118,7 @@ impl Worklist {
         vertex: &ModVer,
         depth: Depth,
     ) -> Result<bool, AllocError>
-        ensures { IfOk result (λ is_marked. is_marked ≡ marked self.now (other_depth depth) vertex.now) }
+        ensures { IfOk result (λ is_marked. is_marked ≡ is_marked_at self.now (other_depth depth) vertex.now) }
     {
         match depth {
             Depth::Top => self.deeps.contains(alloc, vertex),
@@ -131,7 +131,8 @@ impl Worklist {
     fn add(&mut self, alloc: Global, vertex: &ModVer, depth: Depth) -> Result<(), AddFault>
         requires { IsWorklist self.old }
         ensures worklist { OnOk result (IsWorklist self.new) }
-        ensures adds { OnOk result (AddsTurn self.old.turns.items self.new.turns.items (turn vertex.now depth)) }
+        ensures adds { OnOk result (AppendsTurnIfNew self.old.turns.items self.new.turns.items
+            (turn vertex.now depth)) }
         ensures leaves { OnOk result (self.new.leaves.items ≡ self.old.leaves.items) }
         ensures too_many { result ≡ Err AddFault.TooMany
             → (MOST ≤ length self.old.vertices.items)

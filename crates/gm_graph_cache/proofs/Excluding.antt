@@ -3,14 +3,14 @@ use Rattle.std.proofs.Common.{◌≡◌, ◌↔◌, ◌||◌, not, Bool, true, f
 use Rattle.std.specs.List.{Contains, filter, list_any}
 use Rattle.gm_file.specs.Pairs.{pair_eq}
 use Rattle.gm_file.proofs.SamePairs.{contains-tells}
-use Rattle.gm_graph_cache.specs.Main.{Vertex}
+use Rattle.gm_graph_cache.specs.Main.{ModuleVersion}
 
 same_when : (a b : Bool) → (a ≡ true → b ≡ true) → (b ≡ true → a ≡ true) → a ≡ b
 same_when true b to from = sym (to refl)
 same_when false true to from = from refl
 same_when false false to from = refl
 
-pub excluded_where : (x : Vertex) (xs : List Vertex) (b : Bool) → IsTrue b ↔ Contains xs x → b ≡ list_any (λ y. pair_eq y x) xs
+pub excluded_where : (x : ModuleVersion) (xs : List ModuleVersion) (b : Bool) → IsTrue b ↔ Contains xs x → b ≡ list_any (λ y. pair_eq y x) xs
 excluded_where x xs b tells =
     let found = contains-tells x xs (list_any (λ y. pair_eq y x) xs) refl in
     same_when b (list_any (λ y. pair_eq y x) xs) (λ t. found.1 (tells.0 t)) (λ t. tells.1 (found.0 t))

@@ -9,10 +9,10 @@ use Rattle.gm_graph_cache.specs.declared.class.Class.{Class}
 use Rattle.gm_graph_cache.specs.declared.name_key.NameKey.{NameKey}
 use Rattle.gm_graph_cache.specs.declared.summary.Summary.{Summary}
 use Rattle.gm_graph_cache.specs.declared.cache.Cache.{Cache}
-use Rattle.gm_graph_cache.specs.Main.{Main, Vertex, main_of, replacement_of}
+use Rattle.gm_graph_cache.specs.Main.{Main, ModuleVersion, main_of, replacement_in}
 use Rattle.gm_graph_cache.specs.Marks.{is_key_of}
 use Rattle.gm_graph_cache.specs.Reading.{Held, IsTold, Keeps, KeepsHeld, Tells, file_of, is_askable, reading_if, readings_by, with_right_path}
-use Rattle.gm_graph_cache.specs.Summaries.{IsKept, said}
+use Rattle.gm_graph_cache.specs.Summaries.{IsKept, summary_reading}
 use Rattle.gm_graph_cache.specs.Cached.{HoldsSame, Knows, held_of, main_in, sums_in}
 use Rattle.gm_graph_cache.proofs.OneReading.{one_reading}
 
@@ -80,8 +80,8 @@ map_stays : {A B : Type 0} (f : A → B) (a b : Option A) → ((r : A) → a ≡
 map_stays f None b stays s e = absurd cc
 map_stays f (Some r) b stays s e = ap (option_map f) (stays r refl) ∙ e
 
-reading_stays : (t : Bool) (main : Main) (x : Vertex) (a b : Option (Result Dependency Class)) → ((r : Result Dependency Class) → a ≡ Some r → b ≡ Some r) → (s : Result Dependency Class) → reading_if t main x a ≡ Some s → reading_if t main x b ≡ Some s
-reading_stays true main x a b stays s e = map_stays (with_right_path x (replacement_of main x)) a b stays s e
+reading_stays : (t : Bool) (main : Main) (x : ModuleVersion) (a b : Option (Result Dependency Class)) → ((r : Result Dependency Class) → a ≡ Some r → b ≡ Some r) → (s : Result Dependency Class) → reading_if t main x a ≡ Some s → reading_if t main x b ≡ Some s
+reading_stays true main x a b stays s e = map_stays (with_right_path x (replacement_in main x)) a b stays s e
 reading_stays false main x a b stays s e = e
 
 pub readings_stay : (main : Main) (old new : Held) → KeepsHeld old new → Keeps (readings_by main old) (readings_by main new)
@@ -91,7 +91,7 @@ readings_stay main old new keeps x reading e = reading_stays (is_askable (file_o
 
 -- what a map holds of the file of each name
 abbrev held_among : List (NameKey × Result Summary Class) → Held
-held_among entries name = option_map said (lookup (is_key_of name) entries)
+held_among entries name = option_map summary_reading (lookup (is_key_of name) entries)
 
 pub main_same : (old new : Cache) → HoldsSame old new → main_in new ≡ main_in old
 main_same old new same = ap main_of same.main

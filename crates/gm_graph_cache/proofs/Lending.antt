@@ -7,9 +7,9 @@ use Rattle.gm_graph_cache.specs.declared.class.Class.{Class}
 use Rattle.gm_graph_cache.specs.declared.class.Class.TheVariants.{WrongPath}
 use Rattle.gm_graph_cache.specs.declared.summary.Summary.{Summary}
 use Rattle.gm_graph_cache.specs.declared.cache.Cache.{Cache}
-use Rattle.gm_graph_cache.specs.Main.{Main, Vertex, kept, replacement_of}
-use Rattle.gm_graph_cache.specs.Reading.{Held, file_of, is_askable, is_right_path, reading_if, readings_by, requirements_in, requirements_of, said_in, with_right_path}
-use Rattle.gm_graph_cache.specs.Summaries.{IsKept, lent_found, lent_in, said}
+use Rattle.gm_graph_cache.specs.Main.{Main, ModuleVersion, without_excluded, replacement_in}
+use Rattle.gm_graph_cache.specs.Reading.{Held, file_of, is_askable, is_right_path, reading_if, readings_by, requirements_in, vertex_requirements, said_in, with_right_path}
+use Rattle.gm_graph_cache.specs.Summaries.{IsKept, lent_found, lent_in, summary_reading}
 use Rattle.gm_graph_cache.specs.Cached.{IsLender, LendsKept, held_of, main_in, summary_at}
 use Rattle.gm_graph_cache.proofs.Holding.{held_sound}
 
@@ -17,22 +17,22 @@ abbrev or_wrong : Bool → Dependency → Result Dependency Class
 or_wrong b file = cond b (Ok file) (Err WrongPath)
 
 -- A file that declares a right path has the reading that is held of it.
-pub finds_right : (main : Main) (held : Held) (x : Vertex) (name : Name) (file : Dependency) → name ≡ file_of main x → is_askable name ≡ true → held name ≡ Some (Ok file)
-    → is_right_path x (replacement_of main x) file.declared ≡ true → readings_by main held x ≡ Some (Ok file)
+pub finds_right : (main : Main) (held : Held) (x : ModuleVersion) (name : Name) (file : Dependency) → name ≡ file_of main x → is_askable name ≡ true → held name ≡ Some (Ok file)
+    → is_right_path x (replacement_in main x) file.declared ≡ true → readings_by main held x ≡ Some (Ok file)
 finds_right main held x name file is askable there right =
     ap (λ (b : Bool). reading_if b main x (held (file_of main x))) (subst (λ (n : Name). is_askable n ≡ true) is askable)
-    ∙ ap (λ (o : Option (Result Dependency Class)). option_map (with_right_path x (replacement_of main x)) o) (subst (λ (n : Name). held n ≡ Some (Ok file)) is there)
+    ∙ ap (λ (o : Option (Result Dependency Class)). option_map (with_right_path x (replacement_in main x)) o) (subst (λ (n : Name). held n ≡ Some (Ok file)) is there)
     ∙ ap (λ (b : Bool). Some (or_wrong b file)) right
 
-lent_one : (main : Main) (o : Option (Result Summary Class)) (file : Dependency) → ((one : Result Summary Class) → o ≡ Some one → IsKept main one) → option_map said o ≡ Some (Ok file) → lent_found o ≡ kept main file.requirements
+lent_one : (main : Main) (o : Option (Result Summary Class)) (file : Dependency) → ((one : Result Summary Class) → o ≡ Some one → IsKept main one) → option_map summary_reading o ≡ Some (Ok file) → lent_found o ≡ without_excluded main file.requirements
 lent_one main None file is e = absurd cc
 lent_one main (Some (Err class)) file is e = absurd cc
-lent_one main (Some (Ok summary)) file is e = let same : summary.file ≡ file = cc in is (Ok summary) refl ∙ ap (λ (f : Dependency). kept main f.requirements) same
+lent_one main (Some (Ok summary)) file is e = let same : summary.file ≡ file = cc in is (Ok summary) refl ∙ ap (λ (f : Dependency). without_excluded main f.requirements) same
 
 -- The requirements returned under the name of a vertex's file, or without a name if the vertex has a fault, are its
 -- requirements.
-pub lent_kept : (cache : Cache) (x : Vertex) (name : Option Name) → LendsKept cache → IsLender (main_in cache) (held_of cache) x name
-    → lent_in cache.summaries name ≡ requirements_of (main_in cache) (readings_by (main_in cache) (held_of cache)) x
+pub lent_kept : (cache : Cache) (x : ModuleVersion) (name : Option Name) → LendsKept cache → IsLender (main_in cache) (held_of cache) x name
+    → lent_in cache.summaries name ≡ vertex_requirements (main_in cache) (readings_by (main_in cache) (held_of cache)) x
 lent_kept cache x None lends lender = sym (ap (λ (r : Option (Result Dependency Class)). requirements_in (main_in cache) (said_in r)) lender.1)
 lent_kept cache x (Some name) lends lender =
     lent_one (main_in cache) (summary_at cache name) lender.1 (λ one e. lends name one e) (ap (held_of cache) lender.0 ∙ held_sound (main_in cache) (held_of cache) x lender.1 lender.2)

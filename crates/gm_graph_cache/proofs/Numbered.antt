@@ -11,7 +11,7 @@ use Rattle.gm_store.specs.Asked.{Name, name_of, same_name}
 use Rattle.gm_store.proofs.NameOrder.{lookup-agree, lookup_inserted, names_equal, same_from_equal, same_name_from_cmp}
 use Rattle.gm_graph_cache.specs.declared.name_key.NameKey.{NameKey}
 use Rattle.gm_graph_cache.specs.contracts.name_key.NameKeyOrd.TheImpl.{cmp-value}
-use Rattle.gm_graph_cache.specs.Marks.{IsNameKey, is_key_of, number_of}
+use Rattle.gm_graph_cache.specs.Marks.{IsNameKey, is_key_of, name_fingerprint}
 
 is_eq_then : (a b : Ordering) → is_eq (ordering_then a b) ≡ (is_eq a && is_eq b)
 is_eq_then Less b = refl
@@ -39,9 +39,9 @@ ties : (a b : NameKey) → is_eq (cmp-value.it a b) ≡ same_key a.number (name_
 ties a b = is_eq_then _ _ ∙ ap₂ (λ (s t : Bool). s && t) (is_eq_numbers a.number b.number) (same_name_from_cmp a.name b.name)
 
 -- A key with the fingerprint of one name is under another name exactly if the names are the same.
-under_by : (b : Bool) (other name : Name) (number : ℕ) → b ≡ same_name other name → number ≡ number_of name → (nat_eq (number_of other) number && b) ≡ b
-under_by true other name number is e = both_made _ true (ap (nat_eq (number_of other)) (e ∙ sym (ap number_of (names_equal other name (sym is)))) ∙ number_itself (number_of other)) refl
-under_by false other name number is e = none_both (nat_eq (number_of other) number)
+under_by : (b : Bool) (other name : Name) (number : ℕ) → b ≡ same_name other name → number ≡ name_fingerprint name → (nat_eq (name_fingerprint other) number && b) ≡ b
+under_by true other name number is e = both_made _ true (ap (nat_eq (name_fingerprint other)) (e ∙ sym (ap name_fingerprint (names_equal other name (sym is)))) ∙ number_itself (name_fingerprint other)) refl
+under_by false other name number is e = none_both (nat_eq (name_fingerprint other) number)
   where
     none_both : (a : Bool) → (a && false) ≡ false
     none_both true = refl
@@ -53,13 +53,13 @@ under_marked key other marked = under_by (same_name other (name_of key.name)) ot
 under_alike : (other : Name) (k e : NameKey) → is_eq (cmp-value.it k e) ≡ true → is_key_of other e ≡ is_key_of other k
 under_alike other k e eq =
     let both = sym (ties k e) ∙ eq in
-    ap (λ (n : ℕ). same_key (number_of other) other n (name_of e.name)) (sym (numbers_equal k.number e.number (first_so _ _ both)))
-    ∙ ap (λ (n : Name). same_key (number_of other) other k.number n) (sym (names_equal (name_of k.name) (name_of e.name) (second_so _ _ both)))
+    ap (λ (n : ℕ). same_key (name_fingerprint other) other n (name_of e.name)) (sym (numbers_equal k.number e.number (first_so _ _ both)))
+    ∙ ap (λ (n : Name). same_key (name_fingerprint other) other k.number n) (sym (names_equal (name_of k.name) (name_of e.name) (second_so _ _ both)))
 
 under_ties : (other : Name) (k e : NameKey) → is_key_of other k ≡ true → is_key_of other e ≡ true → is_eq (cmp-value.it k e) ≡ true
 under_ties other k e one two =
-    let first = numbers_equal (number_of other) k.number (first_so _ _ one) in
-    let second = numbers_equal (number_of other) e.number (first_so _ _ two) in
+    let first = numbers_equal (name_fingerprint other) k.number (first_so _ _ one) in
+    let second = numbers_equal (name_fingerprint other) e.number (first_so _ _ two) in
     let name = names_equal other (name_of k.name) (second_so _ _ one) in
     let again = names_equal other (name_of e.name) (second_so _ _ two) in
     ties k e ∙ both_made _ _ (ap (nat_eq k.number) (sym second ∙ first) ∙ number_itself k.number) (same_from_equal (name_of k.name) (name_of e.name) (sym name ∙ again))
@@ -77,4 +77,4 @@ found_under key es marked = lookup-agree _ _ (λ e. ties key e ∙ ap (λ (n : �
 
 -- An equal key is marked, too.
 pub marked_copy : (key copy : NameKey) → IsNameKey key → copy.number ≡ key.number → name_of copy.name ≡ name_of key.name → IsNameKey copy
-marked_copy key copy marked number name = number ∙ marked ∙ sym (ap number_of name)
+marked_copy key copy marked number name = number ∙ marked ∙ sym (ap name_fingerprint name)

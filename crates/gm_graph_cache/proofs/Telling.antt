@@ -10,7 +10,7 @@ use Rattle.gm_graph_cache.specs.declared.summary.Summary.{Summary}
 use Rattle.gm_graph_cache.specs.declared.cache.Cache.{Cache}
 use Rattle.gm_graph_cache.specs.Main.{Main, main_of}
 use Rattle.gm_graph_cache.specs.Reading.{Held, IsFileReading, IsTold, Tells}
-use Rattle.gm_graph_cache.specs.Summaries.{IsKept, AddsSummary, said}
+use Rattle.gm_graph_cache.specs.Summaries.{IsKept, AddsSummary, summary_reading}
 use Rattle.gm_graph_cache.specs.Cached.{Knows, held_of, main_in, summary_at, sums_in}
 
 -- If no reading is held, the name was not answered.
@@ -19,8 +19,8 @@ none_told sums name None h told e = refl
 none_told sums name (Some reply) None told e = absurd told
 none_told sums name (Some reply) (Some reading) told e = absurd cc
 
-said_none : (o : Option (Result Summary Class)) → o ≡ None → option_map said o ≡ None
-said_none o e = ap (option_map said) e
+said_none : (o : Option (Result Summary Class)) → o ≡ None → option_map summary_reading o ≡ None
+said_none o e = ap (option_map summary_reading) e
 
 -- A name without an entry was not asked for.
 pub not_asked : (cache : Cache) (pairs : List (Name × Reply)) (name : Name) → Knows cache pairs → summary_at cache name ≡ None → answer_in pairs name ≡ None
@@ -68,8 +68,8 @@ map_cond f false v r = refl
 
 -- ---- a cache with one more entry
 
-held_with : (old new : Cache) (name : Name) (one : Result Summary Class) → AddsSummary old.summaries new.summaries name one → (other : Name) → held_of new other ≡ cond (same_name other name) (Some (said one)) (held_of old other)
-held_with old new name one keeps other = ap (option_map said) (keeps other) ∙ map_cond said (same_name other name) one (summary_at old other)
+held_with : (old new : Cache) (name : Name) (one : Result Summary Class) → AddsSummary old.summaries new.summaries name one → (other : Name) → held_of new other ≡ cond (same_name other name) (Some (summary_reading one)) (held_of old other)
+held_with old new name one keeps other = ap (option_map summary_reading) (keeps other) ∙ map_cond summary_reading (same_name other name) one (summary_at old other)
 
 kept_with : (b : Bool) (main : Main) (o : Option (Result Summary Class)) (one some : Result Summary Class) → ((any : Result Summary Class) → o ≡ Some any → IsKept main any) → IsKept main one → cond b (Some one) o ≡ Some some → IsKept main some
 kept_with true main o one some were is e = let same : one ≡ some = cc in subst (λ (x : Result Summary Class). IsKept main x) same is
@@ -78,10 +78,10 @@ kept_with false main o one some were is e = were some e
 -- The cache knows the pairs and one more.
 pub knows_more : (old new : Cache) (pairs : List (Name × Reply)) (name : Name) (reply : Reply) (one : Result Summary Class)
     → Knows old pairs → summary_at old name ≡ None → new.main.now ≡ old.main.now → sums_in new ≡ sums_in old → AddsSummary old.summaries new.summaries name one
-    → IsFileReading (sums_in old) name reply (said one) → IsKept (main_in old) one → Knows new (pairs ++ (name, reply) ∷ [])
+    → IsFileReading (sums_in old) name reply (summary_reading one) → IsKept (main_in old) one → Knows new (pairs ++ (name, reply) ∷ [])
 knows_more old new pairs name reply one knows none same_main same_sums keeps reads is = record {
   tells = subst (λ (s : Option SumTable). Tells s (pairs ++ (name, reply) ∷ []) (held_of new)) (sym same_sums)
-      (tells_more (sums_in old) pairs (held_of old) (held_of new) name reply (said one) knows.tells (not_asked old pairs name knows none) reads (held_with old new name one keeps));
+      (tells_more (sums_in old) pairs (held_of old) (held_of new) name reply (summary_reading one) knows.tells (not_asked old pairs name knows none) reads (held_with old new name one keeps));
   lends = λ other some e. subst (λ (m : Main). IsKept m some) (ap main_of (sym same_main))
       (kept_with (same_name other name) (main_in old) (summary_at old other) one some (λ any f. knows.lends other any f) is (sym (keeps other) ∙ e));
 }
@@ -89,10 +89,10 @@ knows_more old new pairs name reply one knows none same_main same_sums keeps rea
 -- A cache that adds the reading of the last answer knows all answers.
 pub knows_last : (old new : Cache) (pairs all : List (Name × Reply)) (name : Name) (reply found : Reply) (one : Result Summary Class)
     → Knows old pairs → summary_at old name ≡ None → new.main.now ≡ old.main.now → sums_in new ≡ sums_in old → AddsSummary old.summaries new.summaries name one
-    → all ≡ pairs ++ (name, reply) ∷ [] → found ≡ reply → IsFileReading (sums_in old) name found (said one) → IsKept (main_in old) one → Knows new all
+    → all ≡ pairs ++ (name, reply) ∷ [] → found ≡ reply → IsFileReading (sums_in old) name found (summary_reading one) → IsKept (main_in old) one → Knows new all
 knows_last old new pairs all name reply found one knows none same_main same_sums keeps e f reads is =
     subst (λ (ps : List (Name × Reply)). Knows new ps) (sym e)
-    (knows_more old new pairs name reply one knows none same_main same_sums keeps (subst (λ (r : Reply). IsFileReading (sums_in old) name r (said one)) f reads) is)
+    (knows_more old new pairs name reply one knows none same_main same_sums keeps (subst (λ (r : Reply). IsFileReading (sums_in old) name r (summary_reading one)) f reads) is)
 
 pub none_copied : {X : Type 0} (o : Option (Bor X)) (b : Bool) (r : Option X) → option_copied o ≡ r → b ≡ is_some o → b ≡ false → r ≡ None
 none_copied None b r e i f = sym e

@@ -12,8 +12,8 @@ use Rattle.gm_graph_cache.specs.declared.finding.Finding.{Finding}
 use Rattle.gm_graph_cache.specs.declared.finding.Finding.TheVariants.{Fault, Sound}
 use Rattle.gm_graph_cache.specs.declared.summary.Summary.{Summary}
 use Rattle.gm_graph_cache.specs.declared.cache.Cache.{Cache}
-use Rattle.gm_graph_cache.specs.Main.{Main, Vertex, main_of}
-use Rattle.gm_graph_cache.specs.Summaries.{IsKept, found_in, said}
+use Rattle.gm_graph_cache.specs.Main.{Main, ModuleVersion, main_of}
+use Rattle.gm_graph_cache.specs.Summaries.{IsKept, found_in, summary_reading}
 use Rattle.gm_graph_cache.specs.Reading.{Held, Tells, readings_by, file_of}
 use mir.Syntax.{named}
 use Rattle.gm_graph_cache.specs.contracts.cache.Cache.{the_row}
@@ -36,7 +36,7 @@ summary_at cache name = found_in cache.summaries name
 
 -- what a cache holds of the file of each name
 abbrev pub held_of : Cache → Held
-held_of cache name = option_map said (summary_at cache name)
+held_of cache name = option_map summary_reading (summary_at cache name)
 
 -- Each summary has the requirements of its file, without the excluded ones.
 abbrev pub LendsKept : Cache → Type 0
@@ -61,14 +61,14 @@ pub record LentSame (old new : Cache) : Type 0 where
   pub turns : turns_in new ≡ turns_in old
 
 -- What is found of a vertex: its fault, or the name of its file if that has no fault.
-abbrev pub IsFinding : Main → Held → Vertex → Finding → Type 0
+abbrev pub IsFinding : Main → Held → ModuleVersion → Finding → Type 0
 IsFinding main held x (Fault class) = readings_by main held x ≡ Some (Err class)
 IsFinding main held x (Sound name) = (name_of name ≡ file_of main x) × (file : Dependency)
     × (readings_by main held x ≡ Some (Ok file))
 
 -- The name under which a vertex's requirements are found: none if the vertex has a fault, otherwise the name of its
 -- file.
-abbrev pub IsLender : Main → Held → Vertex → Option Name → Type 0
+abbrev pub IsLender : Main → Held → ModuleVersion → Option Name → Type 0
 IsLender main held x None = (class : Class) × (readings_by main held x ≡ Some (Err class))
 IsLender main held x (Some name) = (name ≡ file_of main x) × (file : Dependency)
     × (readings_by main held x ≡ Some (Ok file))

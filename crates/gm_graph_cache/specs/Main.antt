@@ -8,16 +8,16 @@ use Rattle.gm_file.specs.Directives.{Strict, Replacing, Right}
 use Rattle.gm_file.specs.Fields.{module_of, go_of, requirements_of, excludes_of, replaces_of, replacement_of as right_among}
 use Rattle.gm_file.specs.Pairs.{pair_eq}
 
--- a module at a version: its path and its version
-abbrev pub Vertex : Type 0
-Vertex = List ℕ × List ℕ
+-- a module at a version: its path and its version. The vertices of the module graph are of this type.
+abbrev pub ModuleVersion : Type 0
+ModuleVersion = List ℕ × List ℕ
 
 -- what the main module's file says (Go Modules Reference, "go.mod files")
 pub record Main : Type 0 where
   pub path : List ℕ
   pub go : ℕ × ℕ
-  pub requirements : List Vertex
-  pub excludes : List Vertex
+  pub requirements : List ModuleVersion
+  pub excludes : List ModuleVersion
   pub replaces : List Replacing
 
 -- What these lines say as a main module's file. A valid file declares its path.
@@ -31,17 +31,17 @@ main_of lines = record {
 }
 
 -- The main file excludes that version of that path (Go Modules Reference, "exclude directive").
-abbrev pub is_excluded : Main → Vertex → Bool
+abbrev pub is_excluded : Main → ModuleVersion → Bool
 is_excluded main x = list_any (λ y. pair_eq y x) main.excludes
 
 -- the modules that the main file does not exclude
-abbrev pub kept : Main → List Vertex → List Vertex
-kept main = filter (λ x. not (is_excluded main x))
+abbrev pub without_excluded : Main → List ModuleVersion → List ModuleVersion
+without_excluded main = filter (λ x. not (is_excluded main x))
 
 -- What replaces a module at a version (Go Modules Reference, "replace directive"): the right-hand side of the
 -- `replace` of that version, or otherwise of the whole path.
-abbrev pub replacement_of : Main → Vertex → Option Right
-replacement_of main x = right_among main.replaces x
+abbrev pub replacement_in : Main → ModuleVersion → Option Right
+replacement_in main x = right_among main.replaces x
 
 -- go 1.17 and later, by the first two numbers (Go Modules Reference, "Module graph pruning")
 abbrev pub is_pruned_by : ℕ × ℕ → Bool

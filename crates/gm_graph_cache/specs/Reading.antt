@@ -21,18 +21,18 @@ use Rattle.gm_graph_cache.specs.declared.class.Class.{Class}
 use Rattle.gm_graph_cache.specs.declared.class.Class.TheVariants.{NotFetchable, Missing, TooLong, NoSum, SumDiffers, Malformed, WrongPath}
 use Rattle.gm_graph_cache.specs.declared.class.Misreading.{Misreading}
 use Rattle.gm_graph_cache.specs.declared.class.Misreading.TheVariants as misreading
-use Rattle.gm_graph_cache.specs.Main.{Main, Vertex, kept, is_pruned_by, replacement_of}
+use Rattle.gm_graph_cache.specs.Main.{Main, ModuleVersion, without_excluded, is_pruned_by, replacement_in}
 
 -- ---- which file is read
 
 -- the file of a vertex: that of its replacement, or its own
-abbrev pub file_named : Vertex → Option Right → Name
+abbrev pub file_named : ModuleVersion → Option Right → Name
 file_named x None = mod_file x.0 x.1
 file_named x (Some (Folder text)) = folder_file text
 file_named x (Some (Module path version)) = mod_file path version
 
-abbrev pub file_of : Main → Vertex → Name
-file_of main x = file_named x (replacement_of main x)
+abbrev pub file_of : Main → ModuleVersion → Name
+file_of main x = file_named x (replacement_in main x)
 
 -- A file is asked for, unless it comes from a proxy and its path is not fetchable.
 abbrev pub is_askable : Name → Bool
@@ -66,13 +66,13 @@ IsMisread content line (misreading.Directive kind) = (doc : List (Line Placed)) 
     × (directive_fault Lax (plain_lines doc) ≡ Some (line, kind))
 
 -- The bytes can be read as a dependency's file with these contents.
-abbrev pub IsReadAs : List ℕ → Dependency → Type 0
-IsReadAs content file = (doc : List (Line Placed)) × IsParsedAs content (Ok doc)
+abbrev pub IsReadAsDependency : List ℕ → Dependency → Type 0
+IsReadAsDependency content file = (doc : List (Line Placed)) × IsParsedAs content (Ok doc)
     × (directive_fault Lax (plain_lines doc) ≡ None) × (dependency_of (plain_lines doc) ≡ file)
 
 -- the contents of the bytes as a dependency's file, or why they can't be read
 abbrev pub IsContentReading : List ℕ → Result Dependency Class → Type 0
-IsContentReading content (Ok file) = IsReadAs content file
+IsContentReading content (Ok file) = IsReadAsDependency content file
 IsContentReading content (Err (Malformed line kind)) = IsMisread content line kind
 IsContentReading content (Err class) = ⊥
 
@@ -116,22 +116,23 @@ declares path (Some declared) = bytes_eq declared path
 
 -- The declared path is the vertex's own. If another module replaces the vertex, it may be that module's path as
 -- well; in a replacing folder it may be any path or none.
-abbrev pub is_right_path : Vertex → Option Right → Option (List ℕ) → Bool
+abbrev pub is_right_path : ModuleVersion → Option Right → Option (List ℕ) → Bool
 is_right_path x None declared = declares x.0 declared
 is_right_path x (Some (Folder text)) declared = true
 is_right_path x (Some (Module path version)) declared = declares x.0 declared || declares path declared
 
 -- the same reading, unless the declared path is wrong
-abbrev pub with_right_path : Vertex → Option Right → Result Dependency Class → Result Dependency Class
+abbrev pub with_right_path : ModuleVersion → Option Right → Result Dependency Class → Result Dependency Class
 with_right_path x right (Err class) = Err class
 with_right_path x right (Ok file) = if is_right_path x right file.declared then Ok file else Err WrongPath
 
 -- For each vertex, what its file says or its fault, where that is known.
 abbrev pub Readings : Type 0
-Readings = Vertex → Option (Result Dependency Class)
+Readings = ModuleVersion → Option (Result Dependency Class)
 
-abbrev pub reading_if : Bool → Main → Vertex → Option (Result Dependency Class) → Option (Result Dependency Class)
-reading_if true main x held = option_map (with_right_path x (replacement_of main x)) held
+abbrev pub reading_if : Bool → Main → ModuleVersion
+    → Option (Result Dependency Class) → Option (Result Dependency Class)
+reading_if true main x held = option_map (with_right_path x (replacement_in main x)) held
 reading_if false main x held = Some (Err NotFetchable)
 
 -- the readings of vertices, by what is held of the files
@@ -151,25 +152,25 @@ said_in (Some (Ok file)) = Some file
 said_in (Some (Err class)) = None
 
 -- the fault of a vertex
-abbrev pub fault_of : Readings → Vertex → Option Class
-fault_of readings x = fault_in (readings x)
+abbrev pub vertex_fault : Readings → ModuleVersion → Option Class
+vertex_fault readings x = fault_in (readings x)
 
-abbrev pub requirements_in : Main → Option Dependency → List Vertex
+abbrev pub requirements_in : Main → Option Dependency → List ModuleVersion
 requirements_in main None = []
-requirements_in main (Some file) = kept main file.requirements
+requirements_in main (Some file) = without_excluded main file.requirements
 
 -- The requirements of a vertex, without the excluded ones: none if it has a fault or is not known.
-abbrev pub requirements_of : Main → Readings → Vertex → List Vertex
-requirements_of main readings x = requirements_in main (said_in (readings x))
+abbrev pub vertex_requirements : Main → Readings → ModuleVersion → List ModuleVersion
+vertex_requirements main readings x = requirements_in main (said_in (readings x))
 
 abbrev pub is_unpruned_in : Option Dependency → Bool
 is_unpruned_in None = false
 is_unpruned_in (Some file) = not (is_pruned_by file.go)
 
 -- The vertex has no fault, and its file is unpruned.
-abbrev pub is_unpruned : Readings → Vertex → Bool
+abbrev pub is_unpruned : Readings → ModuleVersion → Bool
 is_unpruned readings x = is_unpruned_in (said_in (readings x))
 
 -- Each reading stays.
 abbrev pub Keeps : Readings → Readings → Type 0
-Keeps old new = (x : Vertex) (reading : Result Dependency Class) → old x ≡ Some reading → new x ≡ Some reading
+Keeps old new = (x : ModuleVersion) (reading : Result Dependency Class) → old x ≡ Some reading → new x ≡ Some reading

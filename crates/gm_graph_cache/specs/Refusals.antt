@@ -4,12 +4,12 @@ use Rattle.gm_store.specs.Asked.{Name, name_of}
 use Rattle.gm_graph_cache.specs.declared.load_fault.LoadFault.{LoadFault}
 use Rattle.gm_graph_cache.specs.declared.load_fault.LoadFault.TheVariants.{NoMemory, Device, TooMany}
 
-abbrev pub refused_by : LoadFault → List Name
-refused_by NoMemory = []
-refused_by (Device name) = name_of name ∷ []
-refused_by TooMany = []
+abbrev pub refused_names : LoadFault → List Name
+refused_names NoMemory = []
+refused_names (Device name) = name_of name ∷ []
+refused_names TooMany = []
 
 -- the name on which the device failed, if that is the refusal
 abbrev pub refused_in : {T : Type 0} → Result T LoadFault → List Name
 refused_in (Ok value) = []
-refused_in (Err fault) = refused_by fault
+refused_in (Err fault) = refused_names fault

@@ -8,7 +8,7 @@ use Rattle.gm_store.specs.Asked.{Name, same_name}
 use Rattle.gm_graph_cache.specs.declared.class.Class.{Class}
 use Rattle.gm_graph_cache.specs.declared.name_key.NameKey.{NameKey}
 use Rattle.gm_graph_cache.specs.declared.summary.Summary.{Summary}
-use Rattle.gm_graph_cache.specs.Main.{Main, Vertex, kept}
+use Rattle.gm_graph_cache.specs.Main.{Main, ModuleVersion, without_excluded}
 use Rattle.gm_graph_cache.specs.Marks.{is_key_of}
 
 -- the entry of a name
@@ -16,31 +16,31 @@ abbrev pub found_in : BTreeMap NameKey (Result Summary Class) → Name → Optio
 found_in summaries name = lookup (is_key_of name) summaries.entries
 
 -- what a summary says of a file
-abbrev pub said : Result Summary Class → Result Dependency Class
-said (Ok summary) = Ok summary.file
-said (Err class) = Err class
+abbrev pub summary_reading : Result Summary Class → Result Dependency Class
+summary_reading (Ok summary) = Ok summary.file
+summary_reading (Err class) = Err class
 
-abbrev pub lent_if : List Vertex → Option (List Vertex) → List Vertex
+abbrev pub lent_if : List ModuleVersion → Option (List ModuleVersion) → List ModuleVersion
 lent_if all None = all
 lent_if all (Some some) = some
 
 -- the requirements of a summary: its own list if it has one, otherwise all of its file's
-abbrev pub lent_by : Summary → List Vertex
+abbrev pub lent_by : Summary → List ModuleVersion
 lent_by summary = lent_if summary.file.requirements (option_map (λ some. some.items) summary.kept)
 
-abbrev pub lent_found : Option (Result Summary Class) → List Vertex
+abbrev pub lent_found : Option (Result Summary Class) → List ModuleVersion
 lent_found None = []
 lent_found (Some (Ok summary)) = lent_by summary
 lent_found (Some (Err class)) = []
 
 -- the requirements of the entry of a name, or none if there is no name
-abbrev pub lent_in : BTreeMap NameKey (Result Summary Class) → Option Name → List Vertex
+abbrev pub lent_in : BTreeMap NameKey (Result Summary Class) → Option Name → List ModuleVersion
 lent_in summaries None = []
 lent_in summaries (Some name) = lent_found (found_in summaries name)
 
 -- A summary has the requirements of its file, without the excluded ones.
 abbrev pub IsKept : Main → Result Summary Class → Type 0
-IsKept main (Ok summary) = lent_by summary ≡ kept main summary.file.requirements
+IsKept main (Ok summary) = lent_by summary ≡ without_excluded main summary.file.requirements
 IsKept main (Err class) = ⊤
 
 -- One more file is kept, and the entries of the others stay.

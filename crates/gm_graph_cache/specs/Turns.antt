@@ -1,7 +1,7 @@
 -- Turns: a vertex and a depth.
 use Rattle.gm_graph_cache.specs.declared.depth.Depth.{Depth}
 use Rattle.gm_graph_cache.specs.declared.depth.Turn.{Turn}
-use Rattle.gm_graph_cache.specs.Main.{Vertex}
+use Rattle.gm_graph_cache.specs.Main.{ModuleVersion}
 
-abbrev pub turn : Vertex → Depth → Turn
+abbrev pub turn : ModuleVersion → Depth → Turn
 turn x d = record { vertex = x; depth = d }

@@ -7,12 +7,12 @@ ghost use Rattle.std.specs.Prelude.{◌≡◌, ◌<◌, ◌⊎◌, ◌^◌, ◌-
 ghost use Rattle.std.specs.Option.{option_copied, option_map};
 ghost use Rattle.gm_store.specs.Asked.{Name, Reply, answer_in, name_of, reply_of};
 ghost use Rattle.gm_store.specs.declared.files.FileName.{FileName};
-ghost use Rattle.gm_graph_cache.specs.Main.{Vertex, main_of};
+ghost use Rattle.gm_graph_cache.specs.Main.{ModuleVersion, main_of};
 ghost use Rattle.gm_graph_cache.specs.Marks.{IsNameKey};
 ghost use Rattle.gm_graph_cache.specs.Asking.{AsksAtMost, AsksFor, MayGrow, MayLess};
-ghost use Rattle.gm_graph_cache.specs.Reading.{IsFileReading, KeepsHeld, file_of, is_askable as may_be_asked, is_unpruned, is_unpruned_in, readings_by, requirements_of, said_in};
+ghost use Rattle.gm_graph_cache.specs.Reading.{IsFileReading, KeepsHeld, file_of, is_askable as may_be_asked, is_unpruned, is_unpruned_in, readings_by, vertex_requirements, said_in};
 ghost use Rattle.gm_graph_cache.specs.Refusals.{refused_in};
-ghost use Rattle.gm_graph_cache.specs.Summaries.{IsKept, said};
+ghost use Rattle.gm_graph_cache.specs.Summaries.{IsKept, summary_reading};
 ghost use Rattle.gm_graph_cache.specs.Turns.{turn};
 
 use crate::class::Class;
@@ -75,7 +75,7 @@ fn summarize(
     answer: &Answer,
 ) -> Result<Result<Summary, Class>, NoMemory>
     ensures reading { IfOk result (λ one.
-        IsFileReading (option_copied sums.entry) (name_of name.now) (reply_of answer.now) (said one)) }
+        IsFileReading (option_copied sums.entry) (name_of name.now) (reply_of answer.now) (summary_reading one)) }
     ensures kept { IfOk result (IsKept (main_of main.now)) }
 {
     match read_answer(alloc, names, sums, name, answer)? {
@@ -228,7 +228,7 @@ impl<'a> Cache<'a> {
         requires lender { IsLender (main_in self.old) (held_of self.old) vertex.now
             (option_map (λ n. name_of n.now) name) }
         ensures lent { IfOk result (λ lent. lent.now
-            ≡ requirements_of (main_in self.old) (readings_by (main_in self.old) (held_of self.old)) vertex.now) }
+            ≡ vertex_requirements (main_in self.old) (readings_by (main_in self.old) (held_of self.old)) vertex.now) }
         ensures* after { sem 𝓛 (Lends self.entry (turn vertex.now depth) result) }
     {
         let key = mark_any(self.alloc, name)?;
@@ -241,7 +241,8 @@ impl<'a> Cache<'a> {
     /// `NoMemory`.
     pub fn is_unpruned(&self, name: &FileName) -> Result<bool, NoMemory>
         ensures held { IfOk result (λ is. is ≡ is_unpruned_in (said_in (held_of self.now (name_of name.now)))) }
-        ensures vertex { (x : Vertex) → IsLender (main_in self.now) (held_of self.now) x (Some (name_of name.now))
+        ensures vertex { (x : ModuleVersion) → IsLender (main_in self.now) (held_of self.now)
+            x (Some (name_of name.now))
             → IfOk result (λ is. is ≡ is_unpruned (readings_by (main_in self.now) (held_of self.now)) x) }
     {
         let key = mark_copy(self.alloc, name)?;

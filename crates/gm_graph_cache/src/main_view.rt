@@ -6,7 +6,7 @@
 ghost use Rattle.std.specs.Prelude.{◌≡◌};
 ghost use Rattle.std.specs.Option.{option_map};
 ghost use Rattle.gm_file.specs.Views.{right_view};
-ghost use Rattle.gm_graph_cache.specs.Main.{is_excluded, is_pruned_by, main_of, replacement_of};
+ghost use Rattle.gm_graph_cache.specs.Main.{is_excluded, is_pruned_by, main_of, replacement_in};
 
 use gm_file::{MainFile, Right};
 use gm_name::{ModPath, ModVer};
@@ -27,7 +27,7 @@ pub fn requirements<'m>(main: &'m MainFile) -> &'m [ModVer]
 
 /// What replaces a vertex, if anything does (Go Modules Reference, "replace directive").
 pub fn replacement<'m>(main: &'m MainFile, x: &ModVer) -> Option<&'m Right>
-    ensures { option_map (λ right. right_view right.now) result ≡ replacement_of (main_of main.now) x.now }
+    ensures { option_map (λ right. right_view right.now) result ≡ replacement_in (main_of main.now) x.now }
 {
     main.replacement(x)
 }

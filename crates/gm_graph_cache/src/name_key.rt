@@ -6,7 +6,7 @@
 ghost use Rattle.std.specs.Prelude.{◌≡◌, IfOk, IfSome};
 ghost use Rattle.std.specs.Option.{option_map};
 ghost use Rattle.gm_store.specs.Asked.{name_of};
-ghost use Rattle.gm_graph_cache.specs.Marks.{IsNameKey, number_of};
+ghost use Rattle.gm_graph_cache.specs.Marks.{IsNameKey, name_fingerprint};
 
 use gm_name::{NoMemory, fingerprint};
 use gm_store::{FileName, copy_name};
@@ -25,7 +25,7 @@ pub(crate) struct NameKey {
 
 /// The fingerprint of a name.
 fn number_of(name: &FileName) -> u64
-    ensures { result ≡ number_of (name_of name.now) }
+    ensures { result ≡ name_fingerprint (name_of name.now) }
 {
     match name {
         FileName::Mod(path, version) => fingerprint(path.fingerprint(), version.as_str()),

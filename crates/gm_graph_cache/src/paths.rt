@@ -4,7 +4,7 @@
 
 ghost use Rattle.std.specs.Prelude.{◌≡◌, Some};
 ghost use Rattle.gm_file.specs.Views.{right_view};
-ghost use Rattle.gm_graph_cache.specs.Main.{main_of, replacement_of};
+ghost use Rattle.gm_graph_cache.specs.Main.{main_of, replacement_in};
 ghost use Rattle.gm_graph_cache.specs.Reading.{declares, is_right_path};
 
 use crate::main_view::replacement;
@@ -23,7 +23,7 @@ fn declares(path: &ModPath, file: &DepFile) -> bool
 
 /// Whether a file declares a right path for a vertex.
 pub(crate) fn is_right_path(main: &MainFile, x: &ModVer, file: &DepFile) -> bool
-    ensures { result ≡ is_right_path x.now (replacement_of (main_of main.now) x.now) file.now.declared }
+    ensures { result ≡ is_right_path x.now (replacement_in (main_of main.now) x.now) file.now.declared }
 {
     match replacement(main, x) {
         None => declares(x.path(), file),

@@ -2,7 +2,7 @@
 
 ghost use Rattle.std.specs.Prelude.{◌≡◌, IfOk};
 ghost use Rattle.std.specs.List.{list_any};
-ghost use Rattle.gm_graph_cache.specs.Main.{is_excluded, kept, main_of};
+ghost use Rattle.gm_graph_cache.specs.Main.{is_excluded, without_excluded, main_of};
 ghost use Rattle.gm_graph_cache.specs.Summaries.{lent_by};
 
 use crate::main_view::is_excluded;
@@ -29,7 +29,7 @@ fn has_excluded(main: &MainFile, list: &[ModVer]) -> bool
 
 /// Copies of those that are not excluded.
 fn copy_kept(alloc: Global, main: &MainFile, list: &[ModVer]) -> Result<Vec<ModVer>, NoMemory>
-    ensures { IfOk result (λ some. some.items ≡ kept (main_of main.now) list.now) }
+    ensures { IfOk result (λ some. some.items ≡ without_excluded (main_of main.now) list.now) }
 {
     let mut some = Vec::new(alloc);
     for x in list {
@@ -43,7 +43,7 @@ fn copy_kept(alloc: Global, main: &MainFile, list: &[ModVer]) -> Result<Vec<ModV
 /// The summary of a file.
 pub(crate) fn summary_of(alloc: Global, main: &MainFile, file: DepFile) -> Result<Summary, NoMemory>
     ensures file { IfOk result (λ summary. summary.file ≡ file) }
-    ensures kept { IfOk result (λ summary. lent_by summary ≡ kept (main_of main.now) file.requirements) }
+    ensures kept { IfOk result (λ summary. lent_by summary ≡ without_excluded (main_of main.now) file.requirements) }
 {
     if !has_excluded(main, file.requirements()) {
         return Ok(Summary { file, kept: None });

@@ -6,7 +6,7 @@ ghost use Rattle.std.specs.BTreeMap.{IsUnchanged};
 ghost use Rattle.gm_store.specs.Asked.{name_of};
 ghost use Rattle.gm_graph_cache.specs.Marks.{IsNameKey};
 ghost use Rattle.gm_graph_cache.specs.Reading.{is_unpruned_in, said_in};
-ghost use Rattle.gm_graph_cache.specs.Summaries.{AddsSummary, found_in, lent_found, lent_in, said};
+ghost use Rattle.gm_graph_cache.specs.Summaries.{AddsSummary, found_in, lent_found, lent_in, summary_reading};
 
 use crate::class::Class;
 use crate::main_view::is_pruned;
@@ -45,7 +45,7 @@ pub(crate) fn insert_summary(
 
 /// Whether an entry is the summary of an unpruned file.
 pub(crate) fn is_unpruned_in(kept: Option<&Result<Summary, Class>>) -> bool
-    ensures { result ≡ is_unpruned_in (said_in (option_map said (option_copied kept.entry))) }
+    ensures { result ≡ is_unpruned_in (said_in (option_map summary_reading (option_copied kept.entry))) }
 {
     match kept {
         None => false,

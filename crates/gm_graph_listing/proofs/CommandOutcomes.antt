@@ -7,7 +7,7 @@ use Rattle.gm_store.specs.declared.files.FileName.{FileName}
 use Rattle.gm_store_sums.specs.declared.sum_table.SumTable.{SumTable}
 use Rattle.gm_graph_cache.specs.Main.{Main, main_of}
 use Rattle.gm_graph_cache.specs.Reading.{Held, Readings, Tells, readings_by}
-use Rattle.gm_graph_cache.specs.Refusals.{refused_by, refused_in}
+use Rattle.gm_graph_cache.specs.Refusals.{refused_names, refused_in}
 use Rattle.gm_graph_cache.specs.declared.load_fault.LoadFault.{LoadFault}
 use Rattle.gm_graph_cache.specs.declared.load_fault.LoadFault.TheVariants as load
 use Rattle.gm_graph_select.specs.BuildList.{Entry, IsRestAfter}
@@ -16,20 +16,20 @@ use Rattle.gm_graph_select.proofs.Same.{same_chain}
 use Rattle.gm_graph.specs.declared.fault.Fault.{Fault}
 use Rattle.gm_graph.specs.Graph.{IsEdge}
 use Rattle.gm_graph.specs.Loading.{AreTooMany, IsDue, Told}
-use Rattle.gm_graph.specs.Outcome.{AreFaults, IsLoaded, Outcome as Loaded}
+use Rattle.gm_graph.specs.Outcome.{AreFaults, IsLoaded, LoadedGraph as Loaded}
 use Rattle.gm_graph_listing.specs.declared.answering.Read.{Read}
 use Rattle.gm_graph_listing.specs.declared.output.Output.{Output}
 use Rattle.gm_graph_listing.specs.declared.query.Query.{Query}
 use Rattle.gm_graph_listing.specs.declared.query.Query.TheVariants.{Graph, List as Rows, Chain}
 use Rattle.gm_graph_listing.specs.Texts.{limited, list_text}
 use Rattle.gm_graph_listing.specs.Reports.{Place, main_line}
-use Rattle.gm_graph_listing.specs.Outcomes.{AreKnown, AreInvalidSums, AreSums, FailsInOrder, IsAnswer, IsMainFile, IsMainOf, IsMalformedMain, IsRefusedRead, Outcome, PrintsFor, PrintsRows, answers, device, faulty, given, outcome_of, printed, refused, too_many}
+use Rattle.gm_graph_listing.specs.Outcomes.{AreKnown, AreInvalidSums, AreSums, FailsInOrder, IsAnswer, IsMainFile, IsMainOf, IsMalformedMain, IsRefusedRead, Outcome, PrintsFor, PrintsRows, answers, device, faulty, given, outcome_view, printed, refused, too_many}
 use Rattle.gm_graph_listing.specs.Found.{FailsOver, IsAnswerOver, IsLoadReport, ReportsFaultsOr, PrintsFound, FilesReadAs}
 
 -- the case where the rows after a path are printed
 pub rest_printed : {E : Type 0} (main : Main) (rows rest : List Entry) (path : List ℕ) (limit : Option ℕ) (result : Result Output E) → IsRestAfter main.path rows path rest
-    → IfOk result (λ output. outcome_of output ≡ printed (list_text main.path (limited limit rest)))
-    → IfOk result (λ output. PrintsRows main rows (Some path) limit (outcome_of output))
+    → IfOk result (λ output. outcome_view output ≡ printed (list_text main.path (limited limit rest)))
+    → IfOk result (λ output. PrintsRows main rows (Some path) limit (outcome_view output))
 rest_printed main rows rest path limit (Ok output) is says = inl (rest, is, says)
 rest_printed main rows rest path limit (Err e) is says = tt
 
@@ -41,7 +41,7 @@ Answered query main table asked before after outcome =
 pub not_loaded : (query : Query) (main : Main) (table : Option SumTable) (asked : List (Name × Reply)) (before after : List Name) (fault : LoadFault) (outcome : Outcome)
     → (fault ≡ load.TooMany → Told main table asked (AreTooMany main))
     → ((name : FileName) → fault ≡ load.Device name → IsDue main table asked (name_of name))
-    → after ≡ before ++ refused_by fault → IsLoadReport fault outcome
+    → after ≡ before ++ refused_names fault → IsLoadReport fault outcome
     → Answered query main table asked before after outcome
 not_loaded query main table asked before after load.NoMemory outcome many due failed report = absurd report
 not_loaded query main table asked before after load.TooMany outcome many due failed report = ([], failed, inl (too_many (many refl) refl report))
@@ -93,21 +93,21 @@ by_faults query main table asked before after loaded (first ∷ others) outcome 
 -- ---- what was read
 
 abbrev pub IsMainRead : List ℕ → Result (List (Line Placed)) Output → Type 0
-IsMainRead file r = MatchResult r (λ lines. IsMainOf file lines) (λ output. (place : Place) × IsMalformedMain file place × (outcome_of output ≡ refused (main_line place)))
+IsMainRead file r = MatchResult r (λ lines. IsMainOf file lines) (λ output. (place : Place) × IsMalformedMain file place × (outcome_view output ≡ refused (main_line place)))
 
 -- the report of a main module's file that was not read
 pub main_err : (file : List ℕ) (r : Result (List (Line Placed)) Output) (output : Output) → r ≡ Err output → IsMainRead file r
-    → (place : Place) × IsMalformedMain file place × (outcome_of output ≡ refused (main_line place))
+    → (place : Place) × IsMalformedMain file place × (outcome_view output ≡ refused (main_line place))
 main_err file r output is match = subst (IsMainRead file) is match
 
 pub main_ok : (file : List ℕ) (r : Result (List (Line Placed)) Output) (lines : List (Line Placed)) → r ≡ Ok lines → IsMainRead file r → IsMainFile file (main_of lines)
 main_ok file r lines is match = (lines, subst (IsMainRead file) is match, refl)
 
 abbrev pub AreSumsRead : Option (List ℕ) → Result (Option SumTable) Output → Type 0
-AreSumsRead sums r = MatchResult r (λ table. AreSums sums table) (λ output. (report : List ℕ) × AreInvalidSums sums report × (outcome_of output ≡ refused report))
+AreSumsRead sums r = MatchResult r (λ table. AreSums sums table) (λ output. (report : List ℕ) × AreInvalidSums sums report × (outcome_view output ≡ refused report))
 
 pub sums_err : (sums : Option (List ℕ)) (r : Result (Option SumTable) Output) (x : Output) → r ≡ Err x → AreSumsRead sums r
-    → (report : List ℕ) × AreInvalidSums sums report × (outcome_of x ≡ refused report)
+    → (report : List ℕ) × AreInvalidSums sums report × (outcome_view x ≡ refused report)
 sums_err sums r x is match = subst (AreSumsRead sums) is match
 
 pub sums_ok : (sums : Option (List ℕ)) (r : Result (Option SumTable) Output) (table : Option SumTable) → r ≡ Ok table → AreSumsRead sums r → AreSums sums table
@@ -118,12 +118,12 @@ pub both_read : (file : List ℕ) (sums : Option (List ℕ)) (r : Result (List (
 both_read file sums r s lines table is main are read = (main_ok file r lines is main, sums_ok sums s table are read)
 
 abbrev pub IsBothRead : List ℕ → Option (List ℕ) → Result Read Output → Type 0
-IsBothRead file sums r = MatchResult r (λ both. FilesReadAs file sums (main_of both.main) both.table) (λ output. IsRefusedRead file sums (outcome_of output))
+IsBothRead file sums r = MatchResult r (λ both. FilesReadAs file sums (main_of both.main) both.table) (λ output. IsRefusedRead file sums (outcome_view output))
 
 pub both_ok : (file : List ℕ) (sums : Option (List ℕ)) (r : Result Read Output) (x : Read) → r ≡ Ok x → IsBothRead file sums r → FilesReadAs file sums (main_of x.main) x.table
 both_ok file sums r x is match = subst (IsBothRead file sums) is match
 
-pub both_err : (file : List ℕ) (sums : Option (List ℕ)) (r : Result Read Output) (x : Output) → r ≡ Err x → IsBothRead file sums r → IsRefusedRead file sums (outcome_of x)
+pub both_err : (file : List ℕ) (sums : Option (List ℕ)) (r : Result Read Output) (x : Output) → r ≡ Err x → IsBothRead file sums r → IsRefusedRead file sums (outcome_view x)
 both_err file sums r x is match = subst (IsBothRead file sums) is match
 
 pub sums_refused : (file : List ℕ) (sums : Option (List ℕ)) (main : Main) (outcome : Outcome) → IsMainFile file main

@@ -3,8 +3,8 @@ use Rattle.std.proofs.Common.{◌≡◌, ◌∙◌, ◌⊎◌, ◌≤◌, ◌+�
 use Rattle.std.specs.List.{IsDistinct, flat_map, list_any}
 use Rattle.std.proofs.lemmas.List.Elements.{Contains-append_cases, Contains-append_left, Contains-append_right, Contains-push_cases}
 use Rattle.std.proofs.lemmas.Map.Keys.{IsDistinct-push}
-use Rattle.gm_graph_cache.specs.Main.{Main, Vertex, kept}
-use Rattle.gm_graph_cache.specs.Reading.{Readings, requirements_of}
+use Rattle.gm_graph_cache.specs.Main.{Main, ModuleVersion, without_excluded}
+use Rattle.gm_graph_cache.specs.Reading.{Readings, vertex_requirements}
 use Rattle.gm_graph_select.specs.declared.step.Edge.{Edge}
 use Rattle.gm_graph_select.specs.declared.step.Step.{Step}
 use Rattle.gm_graph_select.specs.declared.step.Step.TheVariants.{Main as FromMain, Of}
@@ -34,12 +34,12 @@ from_joined f (first ∷ xs) y there = elim (Contains-append_cases (f first) (fl
 
 -- ---- the opened modules are those of a list
 
-in_or_out : (x : Vertex) (all : List Vertex) → Contains all x ⊎ (list_any (same_vertex x) all ≡ false)
+in_or_out : (x : ModuleVersion) (all : List ModuleVersion) → Contains all x ⊎ (list_any (same_vertex x) all ≡ false)
 in_or_out x [] = inr refl
 in_or_out x (first ∷ all) = by_test (same_vertex x first) refl (in_or_out x all)
   where
     by_test : (b : Bool) → same_vertex x first ≡ b → Contains all x ⊎ (list_any (same_vertex x) all ≡ false) → Contains (first ∷ all) x ⊎ (list_any (same_vertex x) (first ∷ all) ≡ false)
-    by_test true e rest = inl (subst (λ (z : Vertex). Contains (z ∷ all) x) (exact_vertex x first e) (member_head x all))
+    by_test true e rest = inl (subst (λ (z : ModuleVersion). Contains (z ∷ all) x) (exact_vertex x first e) (member_head x all))
     by_test false e (inl there) = inl (member_tail first x all there)
     by_test false e (inr out) = inr (ap (λ (b : Bool). b || list_any (same_vertex x) all) e ∙ out)
 
@@ -49,25 +49,25 @@ nothing_twice = tt
 
 module _ (main : Main) (readings : Readings) (few : AreFew main readings) where
   -- the vertices of the list are opened, and no others
-  abbrev AreOpened : List Vertex → Type 0
-  AreOpened all = (x : Vertex) → IsOpened main readings x ↔ Contains all x
+  abbrev AreOpened : List ModuleVersion → Type 0
+  AreOpened all = (x : ModuleVersion) → IsOpened main readings x ↔ Contains all x
 
-  each_more : (all : List Vertex) (x : Vertex) → ((y : Vertex) → Contains all y → IsOpened main readings y) → IsOpened main readings x → (y : Vertex) → Contains (all ++ x ∷ []) y → IsOpened main readings y
+  each_more : (all : List ModuleVersion) (x : ModuleVersion) → ((y : ModuleVersion) → Contains all y → IsOpened main readings y) → IsOpened main readings x → (y : ModuleVersion) → Contains (all ++ x ∷ []) y → IsOpened main readings y
   each_more all x each is y there = elim (Contains-push_cases all x y there) [ inl before ↦ each y before | inr same ↦ subst (IsOpened main readings) same is ]
 
-  in_full : (all : List Vertex) (x : Vertex) → (list_any (same_vertex x) all ≡ false → ⊥) → Contains all x ⊎ (list_any (same_vertex x) all ≡ false) → Contains all x
+  in_full : (all : List ModuleVersion) (x : ModuleVersion) → (list_any (same_vertex x) all ≡ false → ⊥) → Contains all x ⊎ (list_any (same_vertex x) all ≡ false) → Contains all x
   in_full all x full (inl there) = there
   in_full all x full (inr out) = absurd (full out)
 
-  are_opened : (all : List Vertex) → ((y : Vertex) → Contains all y → IsOpened main readings y) → ((x : Vertex) → IsOpened main readings x → list_any (same_vertex x) all ≡ false → ⊥) → AreOpened all
+  are_opened : (all : List ModuleVersion) → ((y : ModuleVersion) → Contains all y → IsOpened main readings y) → ((x : ModuleVersion) → IsOpened main readings x → list_any (same_vertex x) all ≡ false → ⊥) → AreOpened all
   are_opened all each full x = ((λ is. in_full all x (full x is) (in_or_out x all)), each x)
 
-  pushed : (all : List Vertex) (x : Vertex) → IsDistinct same_vertex all → list_any (same_vertex x) all ≡ false → IsDistinct same_vertex (all ++ x ∷ [])
+  pushed : (all : List ModuleVersion) (x : ModuleVersion) → IsDistinct same_vertex all → list_any (same_vertex x) all ≡ false → IsDistinct same_vertex (all ++ x ∷ [])
   pushed all x distinct out = IsDistinct-push vertices_equivalence all x distinct out
 
   -- Starting from a list of opened vertices with room for `n` more: it can't be refuted that some list has exactly
   -- the opened vertices.
-  opened_from : (n : ℕ) (all : List Vertex) → IsDistinct same_vertex all → ((y : Vertex) → Contains all y → IsOpened main readings y) → 65536 ≤ length all + n → ((whole : List Vertex) → AreOpened whole → ⊥) → ⊥
+  opened_from : (n : ℕ) (all : List ModuleVersion) → IsDistinct same_vertex all → ((y : ModuleVersion) → Contains all y → IsOpened main readings y) → 65536 ≤ length all + n → ((whole : List ModuleVersion) → AreOpened whole → ⊥) → ⊥
   opened_from zero all distinct each long none =
       none all (are_opened all each (λ x is out.
       let more = few (all ++ x ∷ []) (pushed all x distinct out) (each_more all x each is) in
@@ -77,27 +77,29 @@ module _ (main : Main) (readings : Readings) (few : AreFew main readings) where
       opened_from n (all ++ x ∷ []) (pushed all x distinct out) (each_more all x each is) (omega (arith, length-append all (x ∷ []), long)) none))
 
   -- the edges that leave these vertices, and those of the main module
-  abbrev leaving : Vertex → List Edge
-  leaving x = map (edge (Of x)) (requirements_of main readings x)
+  abbrev leaving : ModuleVersion → List Edge
+  leaving x = map (edge (Of x)) (vertex_requirements main readings x)
 
-  abbrev edges_of : List Vertex → List Edge
-  edges_of all = map (edge FromMain) (kept main main.requirements) ++ flat_map leaving all
+  abbrev edges_of : List ModuleVersion → List Edge
+  edges_of all = map (edge FromMain) (without_excluded main main.requirements) ++ flat_map leaving all
 
-  edge_in : (all : List Vertex) → AreOpened all → (s : Step) (y : Vertex) → IsEdge main readings s y → Contains (edges_of all) (edge s y)
-  edge_in all are FromMain y top = Contains-append_left (map (edge FromMain) (kept main main.requirements)) (flat_map leaving all) (edge FromMain y) (in_mapped (edge FromMain) (kept main main.requirements) y top)
+  edge_in : (all : List ModuleVersion) → AreOpened all → (s : Step) (y : ModuleVersion) → IsEdge main readings s y → Contains (edges_of all) (edge s y)
+  edge_in all are FromMain y top = Contains-append_left (map (edge FromMain) (without_excluded main main.requirements)) (flat_map leaving all) (edge FromMain y) (in_mapped (edge FromMain) (without_excluded main main.requirements) y top)
   edge_in all are (Of x) y (is, there) =
-      Contains-append_right (map (edge FromMain) (kept main main.requirements)) (flat_map leaving all) (edge (Of x) y)
-      (in_joined leaving all x (edge (Of x) y) ((are x).0 is) (in_mapped (edge (Of x)) (requirements_of main readings x) y there))
+      Contains-append_right (map (edge FromMain) (without_excluded main main.requirements)) (flat_map leaving all)
+      (edge (Of x) y)
+      (in_joined leaving all x (edge (Of x) y) ((are x).0 is) (in_mapped (edge (Of x)) (vertex_requirements main readings x) y there))
 
-  edge_by : (s t : Step) (y z : Vertex) → edge s y ≡ edge t z → IsEdge main readings s y → IsEdge main readings t z
+  edge_by : (s t : Step) (y z : ModuleVersion) → edge s y ≡ edge t z → IsEdge main readings s y
+      → IsEdge main readings t z
   edge_by s t y z same is = subst (λ (e : Edge). IsEdge main readings e.from e.to) same is
 
-  edge_from : (all : List Vertex) → AreOpened all → (s : Step) (y : Vertex) → Contains (edges_of all) (edge s y) → IsEdge main readings s y
-  edge_from all are s y there = elim (Contains-append_cases (map (edge FromMain) (kept main main.requirements)) (flat_map leaving all) (edge s y) there) [
-    | inl top ↦ (let (z, inside, same) = from_mapped (edge FromMain) (kept main main.requirements) (edge s y) top in edge_by FromMain s z y same inside)
+  edge_from : (all : List ModuleVersion) → AreOpened all → (s : Step) (y : ModuleVersion) → Contains (edges_of all) (edge s y) → IsEdge main readings s y
+  edge_from all are s y there = elim (Contains-append_cases (map (edge FromMain) (without_excluded main main.requirements)) (flat_map leaving all) (edge s y) there) [
+    | inl top ↦ (let (z, inside, same) = from_mapped (edge FromMain) (without_excluded main main.requirements) (edge s y) top in edge_by FromMain s z y same inside)
     | inr other ↦
         (let (x, among, leaves) = from_joined leaving all (edge s y) other in
-        let (z, inside, same) = from_mapped (edge (Of x)) (requirements_of main readings x) (edge s y) leaves in
+        let (z, inside, same) = from_mapped (edge (Of x)) (vertex_requirements main readings x) (edge s y) leaves in
         edge_by (Of x) s z y same ((are x).1 among, inside))
   ]
 

@@ -6,8 +6,8 @@ use Rattle.gm_file.specs.Fields.{Dependency}
 use Rattle.gm_store.specs.Asked.{Name, Reply, answer_in}
 use Rattle.gm_store_sums.specs.declared.sum_table.SumTable.{SumTable}
 use Rattle.gm_graph_cache.specs.declared.class.Class.{Class}
-use Rattle.gm_graph_cache.specs.Main.{Main, Vertex, replacement_of}
-use Rattle.gm_graph_cache.specs.Reading.{Held, IsTold, Readings, Tells, fault_in, fault_of, file_of, is_askable, is_unpruned_in, reading_if, readings_by, requirements_in, requirements_of, said_in, with_right_path}
+use Rattle.gm_graph_cache.specs.Main.{Main, ModuleVersion, replacement_in}
+use Rattle.gm_graph_cache.specs.Reading.{Held, IsTold, Readings, Tells, fault_in, vertex_fault, file_of, is_askable, is_unpruned_in, reading_if, readings_by, requirements_in, vertex_requirements, said_in, with_right_path}
 use Rattle.gm_graph_cache.proofs.OneReading.{one_reading}
 use Rattle.gm_graph_select.specs.declared.step.Step.{Step}
 use Rattle.gm_graph_select.specs.declared.step.Step.TheVariants.{Main as FromMain, Of}
@@ -33,17 +33,17 @@ mapped : {A B : Type 0} (f : A → B) (a b : Option A) → ((x : A) → a ≡ So
 mapped f None b same y e = cc e
 mapped f (Some x) b same y e = ap (option_map f) (same x refl) ∙ e
 
-same_reading : (askable : Bool) (main : Main) (x : Vertex) (a b : Option (Result Dependency Class)) → (askable ≡ true → (r : Result Dependency Class) → a ≡ Some r → b ≡ Some r)
+same_reading : (askable : Bool) (main : Main) (x : ModuleVersion) (a b : Option (Result Dependency Class)) → (askable ≡ true → (r : Result Dependency Class) → a ≡ Some r → b ≡ Some r)
     → (reading : Result Dependency Class) → reading_if askable main x a ≡ Some reading → reading_if askable main x b ≡ Some reading
-same_reading true main x a b same reading e = mapped (with_right_path x (replacement_of main x)) a b (same refl) reading e
+same_reading true main x a b same reading e = mapped (with_right_path x (replacement_in main x)) a b (same refl) reading e
 same_reading false main x a b same reading e = e
 
 -- for each vertex that is opened by the second readings, they say what the first readings say
 abbrev pub Agrees : Main → Readings → Readings → Type 0
-Agrees main a b = (x : Vertex) → IsOpened main b x → (reading : Result Dependency Class) → a x ≡ Some reading → b x ≡ Some reading
+Agrees main a b = (x : ModuleVersion) → IsOpened main b x → (reading : Result Dependency Class) → a x ≡ Some reading → b x ≡ Some reading
 
 pub stores_agree : (main : Main) (table : Option SumTable) (one other : List (Name × Reply)) (a b : Held) → AnswerAlike one other → Tells table one a → Tells table other b
-    → ((x : Vertex) → IsOpened main (readings_by main b) x → IsAnswered main other x) → Agrees main (readings_by main a) (readings_by main b)
+    → ((x : ModuleVersion) → IsOpened main (readings_by main b) x → IsAnswered main other x) → Agrees main (readings_by main a) (readings_by main b)
 stores_agree main table one other a b alike tells told answered x opened =
     let name = file_of main x in
     same_reading (is_askable name) main x (a name) (b name)
@@ -54,7 +54,7 @@ alike_back one other alike name x y e f = sym (alike name y x f e)
 
 -- ---- readings that agree open the same modules
 
-required_in : (main : Main) (a b : Option (Result Dependency Class)) → ((r : Result Dependency Class) → a ≡ Some r → b ≡ Some r) → (y : Vertex)
+required_in : (main : Main) (a b : Option (Result Dependency Class)) → ((r : Result Dependency Class) → a ≡ Some r → b ≡ Some r) → (y : ModuleVersion)
     → Contains (requirements_in main (said_in a)) y → Contains (requirements_in main (said_in b)) y
 required_in main None b same y there = absurd (omega (arith, there.1))
 required_in main (Some r) b same y there = subst (λ (o : Option (Result Dependency Class)). Contains (requirements_in main (said_in o)) y) (sym (same r refl)) there
@@ -64,26 +64,26 @@ unpruned_in None b same e = absurd (false≢true e)
 unpruned_in (Some r) b same e = ap (λ (o : Option (Result Dependency Class)). is_unpruned_in (said_in o)) (same r refl) ∙ e
 
 module _ (main : Main) (a b : Readings) (agrees : Agrees main a b) where
-  required : (x y : Vertex) → IsOpened main b x → Contains (requirements_of main a x) y → Contains (requirements_of main b x) y
+  required : (x y : ModuleVersion) → IsOpened main b x → Contains (vertex_requirements main a x) y → Contains (vertex_requirements main b x) y
   required x y opened there = required_in main (a x) (b x) (agrees x opened) y there
 
-  deep : {x : Vertex} → IsDeep main a x → IsDeep main b x
+  deep : {x : ModuleVersion} → IsDeep main a x → IsDeep main b x
   deep (from_main pruned top) = from_main pruned top
   deep (from_top {x} {y} top unpruned there) = from_top top (unpruned_in (a x) (b x) (agrees x (inl top)) unpruned) (required x y (inl top) there)
   deep (from_deep {x} {y} below there) = let far = deep below in from_deep far (required x y (inr far) there)
 
-  pub opened : (x : Vertex) → IsOpened main a x → IsOpened main b x
+  pub opened : (x : ModuleVersion) → IsOpened main a x → IsOpened main b x
   opened x (inl top) = inl top
   opened x (inr below) = inr (deep below)
 
-  pub edge : (s : Step) (y : Vertex) → IsEdge main a s y → IsEdge main b s y
+  pub edge : (s : Step) (y : ModuleVersion) → IsEdge main a s y → IsEdge main b s y
   edge FromMain y top = top
   edge (Of x) y (is, there) = let too = opened x is in (too, required x y too there)
 
   pub too_many : AreTooMany main a → AreTooMany main b
   too_many (all, long, once, each) = (all, long, once, λ x there. opened x (each x there))
 
-  pub fault : (x : Vertex) (class : Class) → IsOpened main a x × (fault_of a x ≡ Some class) → IsOpened main b x × (fault_of b x ≡ Some class)
+  pub fault : (x : ModuleVersion) (class : Class) → IsOpened main a x × (vertex_fault a x ≡ Some class) → IsOpened main b x × (vertex_fault b x ≡ Some class)
   fault x class (is, has) =
       let too = opened x is in
       (too, ap fault_in (agrees x too (Err class) (fault_reading (a x) class has)))

@@ -6,7 +6,7 @@ use Rattle.std.specs.Str.{bytes_eq}
 use Rattle.std.proofs.lemmas.Grind.{flat_map-append}
 use Rattle.gm_name.specs.Version.{version_cmp}
 use Rattle.gm_file.specs.Directives.{Replacing}
-use Rattle.gm_graph_cache.specs.Main.{Main, Vertex}
+use Rattle.gm_graph_cache.specs.Main.{Main, ModuleVersion}
 use Rattle.gm_graph_cache.specs.Reading.{Held, Readings, readings_by}
 use Rattle.gm_graph_select.specs.declared.step.Edge.{Edge}
 use Rattle.gm_graph_select.specs.declared.step.Step.TheVariants.{Main as FromMain}
@@ -20,7 +20,7 @@ use Rattle.gm_graph_select.proofs.Same.{AreSame, same_back, same_build_list}
 use Rattle.gm_graph.specs.Graph.{IsEdge, IsVertex}
 use Rattle.gm_graph.specs.Loading.{AreFew}
 use Rattle.gm_graph.proofs.Mapped.{from_mapped, in_mapped}
-use Rattle.gm_graph_listing.specs.Laws.{AreFound, AreGreatest, ArePages, ListIsBuildList, PagesJoin, no_row, one_page}
+use Rattle.gm_graph_listing.specs.Laws.{AllFilesAreValid, AreGreatest, ArePrintedPages, ListIsBuildList, PrintedPagesJoin, no_row, one_page}
 use Rattle.gm_graph_listing.specs.Outcomes.{AreRows, Given, IsListOutcome, IsOutcome, Outcome, Prints, PrintsList, device, failed, faulty, printed, refused, too_many}
 use Rattle.gm_graph_listing.specs.Texts.{list_text}
 use Rattle.gm_graph_listing.proofs.FewOpened.{edges_listed}
@@ -28,7 +28,7 @@ use Rattle.gm_graph_listing.proofs.FewOpened.{edges_listed}
 -- ---- a run that prints
 
 abbrev pub Printed : Prints → Given → Outcome → Type 0
-Printed prints run outcome = (main : Main) × (held : Held) × AreFound run main held × prints main (readings_by main held) outcome
+Printed prints run outcome = (main : Main) × (held : Held) × AllFilesAreValid run main held × prints main (readings_by main held) outcome
 
 pub not_refused : (report : List ℕ) (outcome : Outcome) → outcome ≡ refused report → outcome.status ≡ 0 → ⊥
 not_refused report outcome same is = let code = ap (λ (o : Outcome). o.status) same in omega (arith, code, is)
@@ -47,33 +47,33 @@ printed_run prints run outcome (inr (main, table, are, inr (held, known, faults,
 -- ---- the build list of edges that are given as a relation
 
 module _ (main : Main) (readings : Readings) (few : AreFew main readings) (rows : List Entry) (list : AreRows main readings rows) where
-  with_path : (path : List ℕ) (xs : List Vertex) → ((x : Vertex) × Contains xs x × (x.0 ≡ path)) ⊎ ((x : Vertex) → Contains xs x → x.0 ≢ path)
+  with_path : (path : List ℕ) (xs : List ModuleVersion) → ((x : ModuleVersion) × Contains xs x × (x.0 ≡ path)) ⊎ ((x : ModuleVersion) → Contains xs x → x.0 ≢ path)
   with_path path [] = inr (λ x there. absurd (no_member x there))
   with_path path (first ∷ xs) = by_test (bytes_eq first.0 path) refl (with_path path xs)
     where
-      by_test : (b : Bool) → bytes_eq first.0 path ≡ b → ((x : Vertex) × Contains xs x × (x.0 ≡ path)) ⊎ ((x : Vertex) → Contains xs x → x.0 ≢ path)
-          → ((x : Vertex) × Contains (first ∷ xs) x × (x.0 ≡ path)) ⊎ ((x : Vertex) → Contains (first ∷ xs) x → x.0 ≢ path)
+      by_test : (b : Bool) → bytes_eq first.0 path ≡ b → ((x : ModuleVersion) × Contains xs x × (x.0 ≡ path)) ⊎ ((x : ModuleVersion) → Contains xs x → x.0 ≢ path)
+          → ((x : ModuleVersion) × Contains (first ∷ xs) x × (x.0 ≡ path)) ⊎ ((x : ModuleVersion) → Contains (first ∷ xs) x → x.0 ≢ path)
       by_test true e rest = inl (first, member_head first xs, texts_same first.0 path e)
       by_test false e (inl (x, there, is)) = inl (x, member_tail first x xs there, is)
       by_test false e (inr none) = inr (λ x there. elim (member_cases first x xs there) [
-        | inl same ↦ subst (λ (z : Vertex). z.0 ≢ path) same (texts_differ first.0 path e)
+        | inl same ↦ subst (λ (z : ModuleVersion). z.0 ≢ path) same (texts_differ first.0 path e)
         | inr behind ↦ none x behind
       ])
 
-  abbrev Satisfied : Vertex → Type 0
-  Satisfied y = (x : Vertex) × Contains list.selected x × (x.0 ≡ y.0) × (is_gt (version_cmp y.1 x.1) ≡ false)
+  abbrev Satisfied : ModuleVersion → Type 0
+  Satisfied y = (x : ModuleVersion) × Contains list.selected x × (x.0 ≡ y.0) × (is_gt (version_cmp y.1 x.1) ≡ false)
 
-  satisfied : (y : Vertex) → IsVertex main readings y → y.0 ≢ main.path → Satisfied y
+  satisfied : (y : ModuleVersion) → IsVertex main readings y → y.0 ≢ main.path → Satisfied y
   satisfied y (from, is) apart = go (with_path y.0 list.selected)
     where
-      listed : ((x : Vertex) → Contains list.selected x → x.0 ≢ y.0) → (edges : List Edge) → AreSame (among edges) (IsEdge main readings) → ⊥
+      listed : ((x : ModuleVersion) → Contains list.selected x → x.0 ≢ y.0) → (edges : List Edge) → AreSame (among edges) (IsEdge main readings) → ⊥
       listed none edges same =
           let among_list : IsBuildList main.path main.replaces (among edges) rows =
           same_build_list main.path main.replaces (IsEdge main readings) (among edges) rows (same_back (among edges) (IsEdge main readings) same) list in
           let (x, right, row, path, high) = rows_satisfy main.path main.replaces edges rows among_list y (from, (same from y).1 is) apart in
           none x ((list.each x).1 (row_selected main.path main.replaces (IsEdge main readings) rows list x right row)) path
 
-      go : ((x : Vertex) × Contains list.selected x × (x.0 ≡ y.0)) ⊎ ((x : Vertex) → Contains list.selected x → x.0 ≢ y.0) → Satisfied y
+      go : ((x : ModuleVersion) × Contains list.selected x × (x.0 ≡ y.0)) ⊎ ((x : ModuleVersion) → Contains list.selected x → x.0 ≢ y.0) → Satisfied y
       go (inl (x, there, same)) = (x, there, same, ((list.each x).0 there).greatest y (from, is) (sym same))
       go (inr none) = absurd (edges_listed main readings few (listed none))
 
@@ -103,12 +103,12 @@ module _ (main : List ℕ) (replaces : List Replacing) (E : Edges) (rows : List 
   abbrev own_edges : List Edge
   own_edges = map (edge FromMain) list.selected
 
-  own_end : (x : Vertex) → IsEnd (among own_edges) x → Contains list.selected x
+  own_end : (x : ModuleVersion) → IsEnd (among own_edges) x → Contains list.selected x
   own_end x (s, there) =
       let (z, inside, same) = from_mapped (edge FromMain) list.selected (edge s x) there in
-      subst (λ (w : Vertex). Contains list.selected w) (ap (λ (e : Edge). e.to) same) inside
+      subst (λ (w : ModuleVersion). Contains list.selected w) (ap (λ (e : Edge). e.to) same) inside
 
-  own_selected : (x : Vertex) → Contains list.selected x → IsSelected main (among own_edges) x
+  own_selected : (x : ModuleVersion) → Contains list.selected x → IsSelected main (among own_edges) x
   own_selected x there =
       let is = (list.each x).0 there in record {
         not_main = is.not_main;
@@ -137,7 +137,7 @@ texts_join : (main : List ℕ) (pages : List (List Entry)) → list_text main (j
 texts_join main [] = refl
 texts_join main (page ∷ pages) = flat_map-append _ page (joined pages) ∙ ap (λ (t : List ℕ). list_text main page ++ t) (texts_join main pages)
 
-module _ (run : Given) (main : Main) (held : Held) (found : AreFound run main held) (rows : List Entry) (list : AreRows main (readings_by main held) rows) (n : ℕ) where
+module _ (run : Given) (main : Main) (held : Held) (found : AllFilesAreValid run main held) (rows : List Entry) (list : AreRows main (readings_by main held) rows) (n : ℕ) where
   -- the rows that remain after a path, or all rows
   abbrev AreLeft : Option (List ℕ) → List Entry → Type 0
   AreLeft None left = left ≡ rows
@@ -147,15 +147,15 @@ module _ (run : Given) (main : Main) (held : Held) (found : AreFound run main he
   page_printed None left is = inr (main, found.table, found.read, inr (held, found.known, found.sound, (rows, list, ap (λ (es : List Entry). printed (list_text main.path (take n es))) is)))
   page_printed (Some path) left is = inr (main, found.table, found.read, inr (held, found.known, found.sound, (rows, list, inl (left, is, refl))))
 
-  paged : {left : List Entry} {pages : List (List Entry)} (after : Option (List ℕ)) → AreLeft after left → AreRowPages main.path rows n left pages → ArePages run main.path n after pages
+  paged : {left : List Entry} {pages : List (List Entry)} (after : Option (List ℕ)) → AreLeft after left → AreRowPages main.path rows n left pages → ArePrintedPages run main.path n after pages
   paged after is no_more = no_row (subst (λ (es : List Entry). IsListOutcome after (Some n) run (printed (list_text main.path es))) (take_none n) (page_printed after [] is))
   paged after is (one_more {left} {rest} {pages} front last page behind more) =
-      subst (λ (es : List Entry). ArePages run main.path n after (es ∷ pages)) (sym page)
+      subst (λ (es : List Entry). ArePrintedPages run main.path n after (es ∷ pages)) (sym page)
       (one_page front last
       (subst (λ (es : List Entry). IsListOutcome after (Some n) run (printed (list_text main.path es))) page (page_printed after left is))
       (paged (Some (path_of main.path last.0)) behind more))
 
-pub pages_join : PagesJoin
+pub pages_join : PrintedPagesJoin
 pages_join run n whole some is ends =
     let (main, held, found, (rows, list, says)) = printed_run (PrintsList None None) run whole is ends in
     let readings : Readings = readings_by main held in

@@ -6,7 +6,7 @@ use Rattle.gm_graph_select.specs.declared.step.Step.TheVariants.{Of}
 use Rattle.gm_graph_select.specs.Chains.{IsChain, IsLevel, Leads, along, at_main, begins, goes_on}
 use Rattle.gm_graph_select.specs.Graph.{Edges}
 use Rattle.gm_graph.specs.Graph.{IsEdge}
-use Rattle.gm_graph_listing.specs.Laws.{ChainIsShortest, IsWalk, further, here}
+use Rattle.gm_graph_listing.specs.Laws.{PrintedChainIsShortest, IsWalk, further, here}
 use Rattle.gm_graph_listing.specs.Outcomes.{PrintsChain}
 use Rattle.gm_graph_listing.proofs.PrintedList.{not_refused, printed_run}
 
@@ -37,7 +37,7 @@ no_shorter E s steps others chain walk =
     let least = level.least m leads in
     omega (arith, long, far, least)
 
-pub chain_is_shortest : ChainIsShortest
+pub chain_is_shortest : PrintedChainIsShortest
 chain_is_shortest path run outcome is ends =
     let (main, held, found, (rows, list, shows)) = printed_run (PrintsChain path) run outcome is ends in
     let edges : Edges = IsEdge main (readings_by main held) in

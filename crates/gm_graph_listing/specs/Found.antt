@@ -12,7 +12,7 @@ use Rattle.gm_graph_select.specs.Chains.{IsChain}
 use Rattle.gm_graph_select.specs.Graph.{among}
 use Rattle.gm_graph.specs.declared.fault.Fault.{Fault}
 use Rattle.gm_graph.specs.Loading.{IsDue}
-use Rattle.gm_graph.specs.Outcome.{Outcome as Found}
+use Rattle.gm_graph.specs.Outcome.{LoadedGraph as Found}
 use Rattle.gm_graph_listing.specs.declared.query.Query.{Query}
 use Rattle.gm_graph_listing.specs.declared.query.Query.TheVariants.{Graph, List as Rows, Chain}
 use Rattle.gm_graph_listing.specs.Texts.{chain_text, graph_text}

@@ -7,7 +7,7 @@ use Rattle.std.specs.Ordering.{is_gt}
 use Rattle.gm_name.specs.Version.{version_cmp}
 use Rattle.gm_store.specs.Asked.{Name, Reply, answer_in}
 use Rattle.gm_store_sums.specs.declared.sum_table.SumTable.{SumTable}
-use Rattle.gm_graph_cache.specs.Main.{Main, Vertex}
+use Rattle.gm_graph_cache.specs.Main.{Main, ModuleVersion}
 use Rattle.gm_graph_cache.specs.Reading.{Held, Readings, readings_by}
 use Rattle.gm_graph_select.specs.declared.step.Edge.{Edge}
 use Rattle.gm_graph_select.specs.declared.step.Step.{Step}
@@ -21,7 +21,7 @@ use Rattle.gm_graph.specs.Graph.{IsEdge, IsVertex}
 use Rattle.gm_graph.specs.Outcome.{AreEdges, AreFaults}
 use Rattle.gm_graph_listing.specs.declared.output.Status.TheVariants.{Done}
 use Rattle.gm_graph_listing.specs.Texts.{chain_text, graph_text, list_text}
-use Rattle.gm_graph_listing.specs.Outcomes.{AreKnown, AreRead, AreRows, Given, IsChainOutcome, IsGraphOutcome, IsListOutcome, IsUnlisted, Outcome, PrintsRows, code_of, printed}
+use Rattle.gm_graph_listing.specs.Outcomes.{AreKnown, GivenFilesReadAs, AreRows, Given, IsChainOutcome, IsGraphOutcome, IsListOutcome, IsUnlisted, Outcome, PrintsRows, code_of, printed}
 
 -- ---- one outcome
 
@@ -73,9 +73,9 @@ AlikeChains = (path : List ℕ) (one other : Given) (a b : Outcome) → AreAlike
 
 -- Both files are valid, and the files of the opened modules were asked for, each once, are known, and have no
 -- faults.
-pub record AreFound (run : Given) (main : Main) (held : Held) : Type 0 where
+pub record AllFilesAreValid (run : Given) (main : Main) (held : Held) : Type 0 where
   pub table : Option SumTable
-  pub read : AreRead run main table
+  pub read : GivenFilesReadAs run main table
   pub known : AreKnown main table run.told held
   pub sound : AreFaults main (readings_by main held) []
 
@@ -83,29 +83,29 @@ pub record AreFound (run : Given) (main : Main) (held : Held) : Type 0 where
 
 -- The modules other than the main module: for each path except the main module's, the greatest version that
 -- is required.
-pub record AreGreatest (main : Main) (readings : Readings) (selected : List Vertex) : Type 0 where
+pub record AreGreatest (main : Main) (readings : Readings) (selected : List ModuleVersion) : Type 0 where
   -- in the order of path bytes, each path once
   pub ascending : IsAscending path_cmp selected
-  pub not_main : (x : Vertex) → Contains selected x → x.0 ≢ main.path
+  pub not_main : (x : ModuleVersion) → Contains selected x → x.0 ≢ main.path
   -- each is required by the main module or by an opened module
-  pub required : (x : Vertex) → Contains selected x → IsVertex main readings x
+  pub required : (x : ModuleVersion) → Contains selected x → IsVertex main readings x
   -- whatever these require, except at the main module's path, has an entry whose version is not lower
-  pub satisfied : (y : Vertex) → IsVertex main readings y → y.0 ≢ main.path
-      → (x : Vertex) × Contains selected x × (x.0 ≡ y.0) × (is_gt (version_cmp y.1 x.1) ≡ false)
+  pub satisfied : (y : ModuleVersion) → IsVertex main readings y → y.0 ≢ main.path
+      → (x : ModuleVersion) × Contains selected x × (x.0 ≡ y.0) × (is_gt (version_cmp y.1 x.1) ≡ false)
 
 -- When `list` prints, it prints the main module, followed by those modules, each with its replacement, if
 -- any. The files of the opened modules are known, and none has a fault.
 abbrev pub ListIsBuildList : Type 0
 ListIsBuildList = (run : Given) (outcome : Outcome) → IsListOutcome None None run outcome
     → outcome.status ≡ code_of Done
-    → (main : Main) × (held : Held) × (selected : List Vertex) × AreFound run main held
+    → (main : Main) × (held : Held) × (selected : List ModuleVersion) × AllFilesAreValid run main held
     × AreGreatest main (readings_by main held) selected
     × (outcome ≡ printed (list_text main.path (main_entry ∷ map (entry_of main.replaces) selected)))
 
 -- Conversely, `list` prints any modules that meet this description.
 abbrev pub BuildListIsListed : Type 0
-BuildListIsListed = (run : Given) (main : Main) (held : Held) (selected : List Vertex)
-    → AreFound run main held → AreGreatest main (readings_by main held) selected
+BuildListIsListed = (run : Given) (main : Main) (held : Held) (selected : List ModuleVersion)
+    → AllFilesAreValid run main held → AreGreatest main (readings_by main held) selected
     → IsListOutcome None None run
     (printed (list_text main.path (main_entry ∷ map (entry_of main.replaces) selected)))
 
@@ -116,7 +116,7 @@ BuildListIsListed = (run : Given) (main : Main) (held : Held) (selected : List V
 abbrev pub PartsOfOneList : Type 0
 PartsOfOneList = (after : Option (List ℕ)) (limit : Option ℕ) (run : Given) (whole part : Outcome)
     → IsListOutcome None None run whole → IsListOutcome after limit run part → whole.status ≡ code_of Done
-    → (main : Main) × (held : Held) × (rows : List Entry) × AreFound run main held
+    → (main : Main) × (held : Held) × (rows : List Entry) × AllFilesAreValid run main held
     × AreRows main (readings_by main held) rows
     × (whole ≡ printed (list_text main.path rows)) × PrintsRows main rows after limit part
 
@@ -124,20 +124,20 @@ PartsOfOneList = (after : Option (List ℕ)) (limit : Option ℕ) (run : Given) 
 
 -- The pages of n rows: `list` prints the first from the beginning, and each further one after the last row of
 -- the page before it. After the last page it prints nothing.
-pub data ArePages (run : Given) (main : List ℕ) (n : ℕ) : Option (List ℕ) → List (List Entry) → Type 0 where
+pub data ArePrintedPages (run : Given) (main : List ℕ) (n : ℕ) : Option (List ℕ) → List (List Entry) → Type 0 where
   no_row : {after : Option (List ℕ)} → IsListOutcome after (Some n) run (printed [])
-      → ArePages run main n after []
+      → ArePrintedPages run main n after []
   one_page : {after : Option (List ℕ)} {pages : List (List Entry)} (front : List Entry) (last : Entry)
       → IsListOutcome after (Some n) run (printed (list_text main (front ++ last ∷ [])))
-      → ArePages run main n (Some (path_of main last.0)) pages
-      → ArePages run main n after ((front ++ last ∷ []) ∷ pages)
+      → ArePrintedPages run main n (Some (path_of main last.0)) pages
+      → ArePrintedPages run main n after ((front ++ last ∷ []) ∷ pages)
 
 -- The pages concatenate to the build list, and their texts to what `list` prints without a limit.
-abbrev pub PagesJoin : Type 0
-PagesJoin = (run : Given) (n : ℕ) (whole : Outcome) → 0 < n → IsListOutcome None None run whole
+abbrev pub PrintedPagesJoin : Type 0
+PrintedPagesJoin = (run : Given) (n : ℕ) (whole : Outcome) → 0 < n → IsListOutcome None None run whole
     → whole.status ≡ code_of Done
-    → (main : Main) × (held : Held) × (pages : List (List Entry)) × AreFound run main held
-    × AreRows main (readings_by main held) (joined pages) × ArePages run main.path n None pages
+    → (main : Main) × (held : Held) × (pages : List (List Entry)) × AllFilesAreValid run main held
+    × AreRows main (readings_by main held) (joined pages) × ArePrintedPages run main.path n None pages
     × (whole.text ≡ flat_map (list_text main.path) pages)
 
 -- ---- `chain` prints a shortest walk in the module graph (Go Modules Reference, "Minimal version selection")
@@ -145,16 +145,16 @@ PagesJoin = (run : Given) (n : ℕ) (whole : Outcome) → 0 < n → IsListOutcom
 -- the main module, followed by steps that each have an edge from the step before
 pub data IsWalk (edges : Edges) : Step → List Step → Type 0 where
   here : IsWalk edges FromMain (FromMain ∷ [])
-  further : {s : Step} {y : Vertex} {steps : List Step} → IsWalk edges s steps → edges s y
+  further : {s : Step} {y : ModuleVersion} {steps : List Step} → IsWalk edges s steps → edges s y
       → IsWalk edges (Of y) (steps ++ Of y ∷ [])
 
 -- When `chain` prints steps, they are a walk to the build list's entry for the path, and no walk to it is
 -- shorter.
-abbrev pub ChainIsShortest : Type 0
-ChainIsShortest = (path : List ℕ) (run : Given) (outcome : Outcome) → IsChainOutcome path run outcome
+abbrev pub PrintedChainIsShortest : Type 0
+PrintedChainIsShortest = (path : List ℕ) (run : Given) (outcome : Outcome) → IsChainOutcome path run outcome
     → outcome.status ≡ code_of Done
     → (main : Main) × (held : Held) × (rows : List Entry) × (s : Step) × (steps : List Step)
-    × AreFound run main held × AreRows main (readings_by main held) rows × IsEntryOf main.path rows path s
+    × AllFilesAreValid run main held × AreRows main (readings_by main held) rows × IsEntryOf main.path rows path s
     × (outcome ≡ printed (chain_text main.path steps))
     × IsWalk (IsEdge main (readings_by main held)) s steps
     × ((others : List Step) → IsWalk (IsEdge main (readings_by main held)) s others
@@ -183,7 +183,7 @@ abbrev pub OneGraph : Type 0
 OneGraph = (after : Option (List ℕ)) (limit : Option ℕ) (path : List ℕ) (run : Given) (graph list chain : Outcome)
     → IsGraphOutcome run graph → IsListOutcome after limit run list → IsChainOutcome path run chain
     → graph.status ≡ code_of Done
-    → (main : Main) × (held : Held) × (edges : List Edge) × (rows : List Entry) × AreFound run main held
+    → (main : Main) × (held : Held) × (edges : List Edge) × (rows : List Entry) × AllFilesAreValid run main held
     × AreEdges main (readings_by main held) edges
     × AreOfOneGraph main edges rows after limit path graph list chain
 

@@ -11,12 +11,12 @@ use Rattle.gm_file.specs.Faults.{fault_of as directive_fault}
 use Rattle.gm_store.specs.Asked.{Name, Reply, names_in}
 use Rattle.gm_store_sums.specs.Sums.{HasValidLines, IsFirstInvalid, ReadsAs}
 use Rattle.gm_store_sums.specs.declared.sum_table.SumTable.{SumTable}
-use Rattle.gm_graph_cache.specs.Main.{Main, Vertex, main_of}
+use Rattle.gm_graph_cache.specs.Main.{Main, ModuleVersion, main_of}
 use Rattle.gm_graph_cache.specs.Reading.{Held, IsMisread, Readings, Tells, readings_by}
 use Rattle.gm_graph_cache.specs.declared.class.Misreading.TheVariants as misreading
 use Rattle.gm_graph_select.specs.declared.step.Step.{Step}
 use Rattle.gm_graph_select.specs.declared.step.Edge.{Edge}
-use Rattle.gm_graph_select.specs.BuildList.{Entry, IsBuildList, IsEntryOf, IsListed, IsRestAfter}
+use Rattle.gm_graph_select.specs.BuildList.{Entry, IsBuildList, IsEntryOf, HasEntryFor, IsRestAfter}
 use Rattle.gm_graph_select.specs.Chains.{IsChain}
 use Rattle.gm_graph.specs.declared.fault.Fault.{Fault}
 use Rattle.gm_graph.specs.Graph.{IsEdge, IsOpened}
@@ -45,8 +45,8 @@ pub record Outcome : Type 0 where
   pub status : ℕ
 
 -- the outcome that an `Output` of the library stands for
-abbrev pub outcome_of : Output → Outcome
-outcome_of output =
+abbrev pub outcome_view : Output → Outcome
+outcome_view output =
     record { text = string_bytes output.text; report = string_bytes output.report; status = code_of output.status }
 
 -- a text, and nothing to report
@@ -122,7 +122,7 @@ AreInvalidSums (Some text) report =
     ⊎ ((length text ≤ longest) × (number : ℕ) × IsFirstInvalid text number × (report ≡ bad_sum_line number))
 
 -- both are valid, and this is what they say
-pub record AreRead (run : Given) (main : Main) (table : Option SumTable) : Type 0 where
+pub record GivenFilesReadAs (run : Given) (main : Main) (table : Option SumTable) : Type 0 where
   pub main_file : IsMainFile run.file main
   pub sums : AreSums run.sums table
 
@@ -136,7 +136,7 @@ IsUnasked told = (told.asked ≡ []) × (told.failed ≡ [])
 -- file was. This is what the files say.
 pub record AreKnown (main : Main) (table : Option SumTable) (told : Answers) (held : Held) : Type 0 where
   pub tells : Tells table told.asked held
-  pub answered : (x : Vertex) → IsOpened main (readings_by main held) x → IsAnswered main told.asked x
+  pub answered : (x : ModuleVersion) → IsOpened main (readings_by main held) x → IsAnswered main told.asked x
   pub asked : AreAsked main (readings_by main held) (names_in told.asked)
   pub few : AreFew main (readings_by main held)
   pub none_failed : told.failed ≡ []
@@ -179,7 +179,7 @@ IsRefusedRead file sums outcome =
 abbrev pub IsOutcome : Prints → Given → Outcome → Type 0
 IsOutcome prints run outcome =
     (IsRefusedRead run.file run.sums outcome × IsUnasked run.told)
-    ⊎ ((main : Main) × (table : Option SumTable) × AreRead run main table
+    ⊎ ((main : Main) × (table : Option SumTable) × GivenFilesReadAs run main table
     × IsOutcomeOver prints main table run.told outcome)
 
 -- ---- graph
@@ -202,7 +202,7 @@ AreRows main readings rows = IsBuildList main.path main.replaces (IsEdge main re
 
 -- the path is not in the build list, and this is reported
 abbrev pub IsUnlisted : Main → List Entry → List ℕ → Outcome → Type 0
-IsUnlisted main rows path outcome = ¬ (IsListed main.path rows path) × (outcome ≡ refused (not_listed_line path))
+IsUnlisted main rows path outcome = ¬ (HasEntryFor main.path rows path) × (outcome ≡ refused (not_listed_line path))
 
 -- all rows, or only those after the row of a path; and of these the first `limit`, if there is a limit
 abbrev pub PrintsRows : Main → List Entry → Option (List ℕ) → Option ℕ → Outcome → Type 0

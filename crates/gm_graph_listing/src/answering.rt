@@ -6,7 +6,7 @@ ghost use Rattle.std.specs.Option.{option_copied};
 ghost use Rattle.gm_store.specs.Asked.{Name, Reply};
 ghost use Rattle.gm_graph_cache.specs.Main.{main_of};
 ghost use Rattle.gm_graph.specs.Loading.{AsksInTurn};
-ghost use Rattle.gm_graph_listing.specs.Outcomes.{AsksInOrder, FailsInOrder, IsAnswer, IsRefusedRead, answers, given, outcome_of};
+ghost use Rattle.gm_graph_listing.specs.Outcomes.{AsksInOrder, FailsInOrder, IsAnswer, IsRefusedRead, answers, given, outcome_view};
 ghost use Rattle.gm_graph_listing.specs.Found.{FailsOver, IsAnswerOver, IsLoadReport, FilesReadAs};
 
 use crate::output::{Output, failed, refused};
@@ -24,7 +24,7 @@ use std::alloc::{AllocError, Global};
 
 /// The outcome when loading stops early. Memory running out has no report: it is this function's refusal.
 fn not_loaded(alloc: Global, fault: LoadFault) -> Result<Output, NoMemory>
-    ensures { IfOk result (λ output. IsLoadReport fault (outcome_of output)) }
+    ensures { IfOk result (λ output. IsLoadReport fault (outcome_view output)) }
 {
     match &fault {
         LoadFault::NoMemory => Err(AllocError),
@@ -50,7 +50,7 @@ fn read_files<'a>(
 ) -> Result<Result<Read<'a>, Output>, NoMemory>
     ensures { IfOk result (λ read. MatchResult read
         (λ both. FilesReadAs file.now (option_copied sums.entry) (main_of both.main) both.table)
-        (λ output. IsRefusedRead file.now (option_copied sums.entry) (outcome_of output))) }
+        (λ output. IsRefusedRead file.now (option_copied sums.entry) (outcome_view output))) }
 {
     let main = match main_file(alloc, file)? {
         Ok(main) => main,
@@ -74,7 +74,7 @@ fn answer_over<F: Files>(
     ensures comes { IfOk result (λ output.
         (failed : List Name) × (F.refused files.new ≡ F.refused files.old ++ failed)
         × IsAnswerOver query.entry (main_of main.now) (option_copied table.entry) (answers (F.asked files.new) failed)
-        (outcome_of output)) }
+        (outcome_view output)) }
     ensures asks { AsksInTurn (main_of main.now) (option_copied table.entry) (F.asked files.new) }
     ensures fails { FailsOver (main_of main.now) (option_copied table.entry) (F.asked files.new)
         (F.refused files.old) (F.refused files.new) }
@@ -125,7 +125,7 @@ pub fn answer<F: Files>(
     ensures comes { IfOk result (λ output.
         (failed : List Name) × (F.refused files.new ≡ F.refused files.old ++ failed)
         × IsAnswer query.entry (given file.now (option_copied sums.entry) (answers (F.asked files.new) failed))
-        (outcome_of output)) }
+        (outcome_view output)) }
     ensures asks { AsksInOrder file.now (option_copied sums.entry) (F.asked files.new) }
     ensures fails { FailsInOrder file.now (option_copied sums.entry) (F.asked files.new)
         (F.refused files.old) (F.refused files.new) }

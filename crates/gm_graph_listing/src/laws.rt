@@ -2,7 +2,7 @@
 //! contract is a law. A law that names no section of the Go Modules Reference is about a choice of this
 //! program.
 
-ghost use Rattle.gm_graph_listing.specs.Laws.{AlikeChains, AlikeGraphs, AlikeLists, BuildListIsListed, ChainIsShortest, ListIsBuildList, OneChainOutcome, OneGraph, OneGraphOutcome, OneListOutcome, OneRefusal, PagesJoin, PartsOfOneList};
+ghost use Rattle.gm_graph_listing.specs.Laws.{AlikeChains, AlikeGraphs, AlikeLists, BuildListIsListed, PrintedChainIsShortest, ListIsBuildList, OneChainOutcome, OneGraph, OneGraphOutcome, OneListOutcome, OneRefusal, PrintedPagesJoin, PartsOfOneList};
 
 /// The bytes of the main module's file, those of the go.sum, and the answers of the store determine the
 /// outcome of `graph`, of `list` and of `chain`: text, report and status are a function of these.
@@ -39,13 +39,13 @@ pub fn parts_of_one_list()
 /// Pages of n rows, each starting after the last row of the previous page, concatenate to what `list` prints
 /// at once, for every n from 1.
 pub fn pages_join()
-    ensures { PagesJoin }
+    ensures { PrintedPagesJoin }
 {}
 
 /// When `chain` prints steps, they begin with the main module, an edge leads from each step to the next, and
 /// the last step is the entry of the build list for the path. No sequence of this kind has fewer steps.
 pub fn chain_is_shortest()
-    ensures { ChainIsShortest }
+    ensures { PrintedChainIsShortest }
 {}
 
 /// When `graph` prints edges, the rows of `list` are the build list of exactly these edges, and `chain`

@@ -3,7 +3,7 @@
 
 ghost use Rattle.std.specs.Prelude.{◌≡◌};
 ghost use Rattle.std.specs.String.{string_bytes};
-ghost use Rattle.gm_graph_listing.specs.Outcomes.{code_of, failed, outcome_of, printed, refused};
+ghost use Rattle.gm_graph_listing.specs.Outcomes.{code_of, failed, outcome_view, printed, refused};
 
 use std::alloc::Global;
 
@@ -46,7 +46,7 @@ pub struct Output {
 
 /// A text to print, with nothing to report.
 pub fn printed(alloc: Global, text: String) -> Output
-    ensures { outcome_of result ≡ printed (string_bytes text) }
+    ensures { outcome_view result ≡ printed (string_bytes text) }
 {
     Output {
         text,
@@ -57,7 +57,7 @@ pub fn printed(alloc: Global, text: String) -> Output
 
 /// A report of what is wrong with what was read, with nothing to print. Each of its lines ends with a line feed.
 pub fn refused(alloc: Global, report: String) -> Output
-    ensures { outcome_of result ≡ refused (string_bytes report) }
+    ensures { outcome_view result ≡ refused (string_bytes report) }
 {
     Output {
         text: String::new(alloc),
@@ -68,7 +68,7 @@ pub fn refused(alloc: Global, report: String) -> Output
 
 /// A report of the file on which the device failed, with nothing to print. It ends with a line feed.
 pub fn failed(alloc: Global, report: String) -> Output
-    ensures { outcome_of result ≡ failed (string_bytes report) }
+    ensures { outcome_view result ≡ failed (string_bytes report) }
 {
     Output {
         text: String::new(alloc),

@@ -8,7 +8,7 @@ ghost use Rattle.gm_graph_select.specs.BuildList.{entries_of_rows};
 ghost use Rattle.gm_graph_listing.specs.Texts.{limited, list_text};
 ghost use Rattle.gm_graph_listing.specs.Reports.{not_listed_line};
 ghost use Rattle.gm_graph_listing.specs.Found.{IsOutcomeOfFound, PrintsEdges, PrintsFound, PrintsSteps};
-ghost use Rattle.gm_graph_listing.specs.Outcomes.{PrintsRows, outcome_of, printed, refused};
+ghost use Rattle.gm_graph_listing.specs.Outcomes.{PrintsRows, outcome_view, printed, refused};
 
 use crate::graph_lines::{chain_text, graph_text};
 use crate::output::{Output, printed, refused};
@@ -24,7 +24,7 @@ use std::alloc::{AllocError, Global};
 
 /// The outcome of `graph`: all edges.
 fn print_graph(alloc: Global, main: &MainFile<'_>, loaded: &Loaded) -> Result<Output, NoMemory>
-    ensures { IfOk result (λ output. PrintsEdges (main_of main.now) loaded.now (outcome_of output)) }
+    ensures { IfOk result (λ output. PrintsEdges (main_of main.now) loaded.now (outcome_view output)) }
 {
     let text = graph_text(alloc, main_view::path(main), loaded.edges())?;
     Ok(printed(alloc, text))
@@ -32,7 +32,7 @@ fn print_graph(alloc: Global, main: &MainFile<'_>, loaded: &Loaded) -> Result<Ou
 
 /// The outcome when a path is not in the build list: a report.
 fn unlisted(alloc: Global, path: &ModPath) -> Result<Output, NoMemory>
-    ensures { IfOk result (λ output. outcome_of output ≡ refused (not_listed_line path.now)) }
+    ensures { IfOk result (λ output. outcome_view output ≡ refused (not_listed_line path.now)) }
 {
     Ok(refused(alloc, not_listed_report(alloc, path)?))
 }
@@ -44,7 +44,7 @@ fn print_rows(
     rows: Rows<'_>,
     limit: Option<u32>,
 ) -> Result<Output, NoMemory>
-    ensures { IfOk result (λ output. outcome_of output
+    ensures { IfOk result (λ output. outcome_view output
         ≡ printed (list_text (main_of main.now).path (limited limit (entries_of_rows rows.entry.rest.now)))) }
 {
     let text = list_text(alloc, main_view::path(main), rows, limit)?;
@@ -63,7 +63,7 @@ fn print_list(
     requires no_fault { loaded.now.faults ≡ [] }
     requires main { loaded.now.main ≡ (main_of main.now).path }
     ensures { IfOk result (λ output. PrintsRows (main_of main.now) loaded.now.rows (option_copied after.entry) limit
-        (outcome_of output)) }
+        (outcome_view output)) }
 {
     let Some(path) = after else {
         return print_rows(alloc, main, Rows::all(loaded.build_list()), limit);
@@ -83,7 +83,7 @@ fn print_chain(
 ) -> Result<Output, NoMemory>
     requires no_fault { loaded.now.faults ≡ [] }
     requires main { loaded.now.main ≡ (main_of main.now).path }
-    ensures { IfOk result (λ output. PrintsSteps path.now (main_of main.now) loaded.now (outcome_of output)) }
+    ensures { IfOk result (λ output. PrintsSteps path.now (main_of main.now) loaded.now (outcome_view output)) }
 {
     match loaded.chain(alloc, path) {
         Ok(steps) => {
@@ -104,7 +104,7 @@ fn print(
 ) -> Result<Output, NoMemory>
     requires no_fault { loaded.now.faults ≡ [] }
     requires main { loaded.now.main ≡ (main_of main.now).path }
-    ensures { IfOk result (λ output. PrintsFound query.entry (main_of main.now) loaded.now (outcome_of output)) }
+    ensures { IfOk result (λ output. PrintsFound query.entry (main_of main.now) loaded.now (outcome_view output)) }
 {
     match query {
         Query::Graph => print_graph(alloc, main, loaded),
@@ -122,7 +122,7 @@ pub(crate) fn tell(
     loaded: Loaded,
 ) -> Result<Output, NoMemory>
     requires { loaded.main ≡ (main_of main.now).path }
-    ensures { IfOk result (λ output. IsOutcomeOfFound query.entry (main_of main.now) loaded (outcome_of output)) }
+    ensures { IfOk result (λ output. IsOutcomeOfFound query.entry (main_of main.now) loaded (outcome_view output)) }
 {
     let faults = loaded.faults();
     if faults.is_empty() {

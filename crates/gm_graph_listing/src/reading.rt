@@ -3,7 +3,7 @@
 
 ghost use Rattle.std.specs.Prelude.{◌≡◌, IfOk, MatchResult, List, ℕ};
 ghost use Rattle.std.specs.Option.{option_copied};
-ghost use Rattle.gm_graph_listing.specs.Outcomes.{AreInvalidSums, AreSums, IsMainOf, IsMalformedMain, outcome_of, refused};
+ghost use Rattle.gm_graph_listing.specs.Outcomes.{AreInvalidSums, AreSums, IsMainOf, IsMalformedMain, outcome_view, refused};
 ghost use Rattle.gm_graph_listing.specs.Reports.{Place, main_line};
 
 use crate::output::{Output, refused};
@@ -22,7 +22,7 @@ pub fn main_file<'a>(
     ensures { IfOk result (λ read. MatchResult read
         (λ file. IsMainOf bytes.now file)
         (λ output. (place : Place) × IsMalformedMain bytes.now place
-        × (outcome_of output ≡ refused (main_line place)))) }
+        × (outcome_view output ≡ refused (main_line place)))) }
 {
     let doc = match Doc::parse(alloc, bytes) {
         Ok(doc) => doc,
@@ -43,7 +43,7 @@ pub(crate) fn sum_table(
     ensures { IfOk result (λ read. MatchResult read
         (λ table. AreSums (option_copied sums.entry) table)
         (λ output. (report : List ℕ) × AreInvalidSums (option_copied sums.entry) report
-        × (outcome_of output ≡ refused report))) }
+        × (outcome_view output ≡ refused report))) }
 {
     let Some(text) = sums else {
         return Ok(Ok(None));

@@ -5,7 +5,7 @@ use Rattle.std.proofs.lemmas.Bool.{false≢true}
 use Rattle.std.proofs.lemmas.Cmp.{nat_list_eq_equiv}
 use Rattle.std.specs.Str.{bytes_eq}
 use Rattle.std.proofs.lemmas.Slice.Eq.{bytes_eq-Decides}
-use Rattle.gm_graph_select.specs.BuildList.{Entry, IsAt, IsEntryOf, IsListed, path_of}
+use Rattle.gm_graph_select.specs.BuildList.{Entry, IsAt, IsEntryOf, HasEntryFor, path_of}
 use Rattle.gm_graph_select.specs.declared.step.Step.{Step}
 
 -- The entries are some of other paths, followed by what is left.
@@ -26,7 +26,7 @@ at_found main entries path entry old left e is (before, parts, none) =
     record { before = before; parts = parts ∙ ap (λ (t : List Entry). before ++ t) e; path_is = is; others = none }
 
 -- An entry of the path is listed.
-pub entry_listed : (main : List ℕ) (entries : List Entry) (path : List ℕ) (s : Step) → IsEntryOf main entries path s → IsListed main entries path
+pub entry_listed : (main : List ℕ) (entries : List Entry) (path : List ℕ) (s : Step) → IsEntryOf main entries path s → HasEntryFor main entries path
 entry_listed main entries path s (entry, rest, at, is) =
     (entry, subst (λ (es : List Entry). Contains es entry) (sym at.parts) (Contains-append_right at.before (entry ∷ rest) entry (0, omega arith, refl)), at.path_is)
 
@@ -49,7 +49,7 @@ pub one_entry : (main : List ℕ) (entries : List Entry) (path : List ℕ) (s t 
 one_entry main entries path s t (a, rest, h, is) (b, more, g, other) = sym is ∙ ap (λ (x : Entry). x.0) (one_at main entries path a b rest more h g).0 ∙ other
 
 -- No entry has the path.
-pub not_found : (main : List ℕ) (entries : List Entry) (path : List ℕ) (left : List Entry) → left ≡ [] → IsRemainder main entries path left → IsListed main entries path → ⊥
+pub not_found : (main : List ℕ) (entries : List Entry) (path : List ℕ) (left : List Entry) → left ≡ [] → IsRemainder main entries path left → HasEntryFor main entries path → ⊥
 not_found main entries path left e (before, parts, none) (entry, there, is) =
     none entry (subst (λ (t : List Entry). Contains t entry) (parts ∙ ap (λ (t : List Entry). before ++ t) e ∙ append-nil before) there) is
 

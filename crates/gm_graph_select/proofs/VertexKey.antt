@@ -8,7 +8,7 @@ use Rattle.std.specs.declared.cmp.Ordering.TheVariants.{Less, Equal, Greater}
 use Rattle.gm_graph_select.specs.declared.vertex_set.VertexKey.{VertexKey}
 use Rattle.gm_graph_select.specs.Graph.{Vertex, vertex_cmp}
 use Rattle.gm_graph_select.specs.StepOrder.{vertex-anti}
-use Rattle.gm_graph_select.specs.VertexSet.{marked, vertex_key_cmp, number_of}
+use Rattle.gm_graph_select.specs.VertexSet.{marked, vertex_key_cmp, vertex_fingerprint}
 
 tie : (r : Ordering) → is_eq r ≡ true → r ≡ Equal
 tie Less h = absurd (cc h)
@@ -26,8 +26,8 @@ then-ties Greater Greater h = refl
 
 marked-ties : (x y : Vertex) → is_eq (vertex_key_cmp (marked x) (marked y)) ≡ is_eq (vertex_cmp x y)
 marked-ties x y =
-    then-ties (nat_cmp (number_of x) (number_of y)) (vertex_cmp x y)
-    (λ is. subst (λ (z : Vertex). nat_cmp (number_of x) (number_of z) ≡ Equal) (vertex-anti x y (tie _ is)) (sym (nat_cmp_is (number_of x) (number_of x) Equal refl)))
+    then-ties (nat_cmp (vertex_fingerprint x) (vertex_fingerprint y)) (vertex_cmp x y)
+    (λ is. subst (λ (z : Vertex). nat_cmp (vertex_fingerprint x) (vertex_fingerprint z) ≡ Equal) (vertex-anti x y (tie _ is)) (sym (nat_cmp_is (vertex_fingerprint x) (vertex_fingerprint x) Equal refl)))
 
 -- what one more key changes in a set
 pub put : (old new : set.BTreeSet VertexKey) (one : VertexKey) (x : Vertex) → one ≡ marked x → set.Updates vertex_key_cmp old new one true → (y : Vertex) → set.contains vertex_key_cmp new (marked y) ≡ cond (is_eq (vertex_cmp x y)) true (set.contains vertex_key_cmp old (marked y))

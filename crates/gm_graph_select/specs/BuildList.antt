@@ -69,8 +69,8 @@ path_of main Main = main
 path_of main (Of x) = x.0
 
 -- An entry has the path.
-abbrev pub IsListed : List ℕ → List Entry → List ℕ → Type 0
-IsListed main entries path = (entry : Entry) × Contains entries entry × (path_of main entry.0 ≡ path)
+abbrev pub HasEntryFor : List ℕ → List Entry → List ℕ → Type 0
+HasEntryFor main entries path = (entry : Entry) × Contains entries entry × (path_of main entry.0 ≡ path)
 
 -- the first entry of the path, and what follows it
 pub record IsAt (main : List ℕ) (entries : List Entry) (path : List ℕ) (entry : Entry)

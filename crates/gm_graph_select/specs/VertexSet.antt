@@ -9,11 +9,11 @@ use Rattle.gm_graph_select.specs.declared.vertex_set.VertexSet.{VertexSet}
 use Rattle.gm_graph_select.specs.Graph.{Vertex, vertex_cmp}
 
 -- the fingerprint of the path, continued over the version
-abbrev pub number_of : Vertex → ℕ
-number_of x = fingerprint (fingerprint 0 x.0) x.1
+abbrev pub vertex_fingerprint : Vertex → ℕ
+vertex_fingerprint x = fingerprint (fingerprint 0 x.0) x.1
 
 abbrev pub marked : Vertex → VertexKey
-marked x = record { number = number_of x; vertex = x }
+marked x = record { number = vertex_fingerprint x; vertex = x }
 
 -- by the number, then by the vertex
 abbrev pub vertex_key_cmp : VertexKey → VertexKey → Ordering

@@ -10,7 +10,7 @@ ghost use Rattle.std.specs.BTreeMap as tree;
 ghost use Rattle.std.specs.BTreeMap.{get};
 ghost use Rattle.gm_graph_select.specs.Graph.{Vertex, among, edge_cmp, step_cmp, vertex_cmp};
 ghost use Rattle.gm_graph_select.specs.Order.{IsAscending};
-ghost use Rattle.gm_graph_select.specs.BuildList.{IsEntryOf, IsListed, entries_of_rows};
+ghost use Rattle.gm_graph_select.specs.BuildList.{IsEntryOf, HasEntryFor, entries_of_rows};
 ghost use Rattle.gm_graph_select.specs.Chains.{IsChain, IsReached};
 ghost use Rattle.gm_graph_select.specs.Levels.{AreLevels, IsBest, LeaveUpTo, Numbers, predecessor_in, is_one_less, level_in};
 ghost use Rattle.gm_graph_select.specs.declared.step.Edge.{Edge};
@@ -50,7 +50,7 @@ impl From<AllocError> for ChainFault {
 /// The step that the rows have for a path: the main module or a vertex.
 fn entry_of<'a>(main: &ModPath, rows: &'a [Row], path: &ModPath) -> Option<&'a Step>
     ensures some { IfSome result (λ step. IsEntryOf main.now (entries_of_rows rows.now) path.now step.now) }
-    ensures none { IfNone result (¬ (IsListed main.now (entries_of_rows rows.now) path.now)) }
+    ensures none { IfNone result (¬ (HasEntryFor main.now (entries_of_rows rows.now) path.now)) }
 {
     match row_at(main, rows, path) {
         Some((row, _)) => Some(&row.step),

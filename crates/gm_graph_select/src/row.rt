@@ -5,7 +5,7 @@
 
 ghost use Rattle.std.specs.Prelude.{◌≡◌, IfNone, IfOk, IfSome, OnErr};
 ghost use Rattle.std.specs.Iterator.{YieldsFirstRef, item_count};
-ghost use Rattle.gm_graph_select.specs.BuildList.{IsAt, IsListed, IsRestAfter, entries_of_rows, entry_of_row, path_of};
+ghost use Rattle.gm_graph_select.specs.BuildList.{IsAt, HasEntryFor, IsRestAfter, entries_of_rows, entry_of_row, path_of};
 
 use crate::step::Step;
 use gm_file::Right;
@@ -75,7 +75,7 @@ pub(crate) fn row_at<'a>(
     ensures some { IfSome result (λ found.
         IsAt main.now (entries_of_rows rows.now) path.now
         (entry_of_row found.0.now) (entries_of_rows found.1.rest.now)) }
-    ensures none { IfNone result (¬ (IsListed main.now (entries_of_rows rows.now) path.now)) }
+    ensures none { IfNone result (¬ (HasEntryFor main.now (entries_of_rows rows.now) path.now)) }
 {
     let mut rest = Rows::all(rows);
     'rows: while let Some(row) = rest.next() {
@@ -98,7 +98,7 @@ pub fn rest_after<'a>(
 ) -> Result<Rows<'a>, NotListed>
     ensures rest { IfOk result (λ left.
         IsRestAfter main.now (entries_of_rows rows.now) path.now (entries_of_rows left.rest.now)) }
-    ensures not_listed { OnErr result (¬ (IsListed main.now (entries_of_rows rows.now) path.now)) }
+    ensures not_listed { OnErr result (¬ (HasEntryFor main.now (entries_of_rows rows.now) path.now)) }
 {
     match row_at(main, rows, path) {
         Some((_, rest)) => Ok(rest),

@@ -9,7 +9,7 @@ use Rattle.gm_store.specs.declared.proxy_list.Mark.TheVariants.{Comma, Bar}
 use Rattle.gm_store.specs.declared.fallback_step.Next.{Next}
 use Rattle.gm_store.specs.declared.fallback_step.Next.TheVariants.{Take, Go, Fail}
 use Rattle.gm_store.specs.Asked.{Reply}
-use Rattle.gm_store.specs.Steps.{HasCounted, MayStop, Seen, absent, counted_up, failed, found, has_failed, outcome_of, step_of, too_long}
+use Rattle.gm_store.specs.Steps.{HasCounted, HasFallenBack, MayStop, Seen, absent, counted_up, failed, found, has_failed, outcome_of, step_of, too_long}
 
 -- the request fell back from the first `at` folders; `passed` has the results there, and their failures are
 -- counted
@@ -120,8 +120,24 @@ fail_counts too_long mark old new newer at so_far fails grown small = cc fails
 fail_counts absent None old new newer at so_far fails grown small = cc fails
 fail_counts absent (Some mark) old new newer at so_far fails grown small = cc fails
 
-pub passed_counts : {may_find : ℕ → Seen → Type 0} {marks : List Mark} {at old new : ℕ} → HasPassed may_find marks at old new → HasCounted may_find old new
-passed_counts so_far = (so_far.passed, so_far.seen, so_far.counted)
+pub passed_counts : {may_find : ℕ → Seen → Type 0} {marks : List Mark} {at old new : ℕ} → HasPassed may_find marks at old new → HasCounted may_find marks old new
+passed_counts so_far = (
+  so_far.passed,
+  record {
+    possible = so_far.seen;
+    fell_back = λ k look e more. so_far.goes k look e;
+  },
+  so_far.counted,
+)
+
+pub passed_falls : {may_find : ℕ → Seen → Type 0} {marks : List Mark} {at old new : ℕ} → HasPassed may_find marks at old new → HasFallenBack may_find marks at old new
+passed_falls so_far = record {
+  looks = so_far.passed;
+  one_each = so_far.many;
+  possible = so_far.seen;
+  goes = so_far.goes;
+  counted = so_far.counted;
+}
 
 -- the elements of a prefix of a list
 get_front : (p : List Seen) (x : Seen) (r : List Seen) (k : ℕ) (look : Seen) → slice_get (p ++ x ∷ []) k ≡ Some look → slice_get (p ++ x ∷ r) k ≡ Some look
@@ -130,12 +146,29 @@ get_front [] x r (suc k) look e = cc e
 get_front (a ∷ p) x r zero look e = e
 get_front (a ∷ p) x r (suc k) look e = get_front p x r k look e
 
-pub stop_counts : (may_find : ℕ → Seen → Type 0) (marks : List Mark) (outcome : Option Reply) (failures old new : ℕ) → MayStop may_find marks outcome failures → new ≡ counted_up old failures → HasCounted may_find old new
+-- an element before the last one
+get_before : (p : List Seen) (x : Seen) (k : ℕ) (look : Seen) → slice_get (p ++ x ∷ []) k ≡ Some look → k + 1 < length (p ++ x ∷ []) → slice_get p k ≡ Some look
+get_before [] x k look e more = let less : k + 1 < 1 = more in absurd (omega arith)
+get_before (a ∷ p) x zero look e more = e
+get_before (a ∷ p) x (suc k) look e more = let less : suc k + 1 < suc (length (p ++ x ∷ [])) = more in get_before p x k look e (omega arith)
+
+pub stop_counts : (may_find : ℕ → Seen → Type 0) (marks : List Mark) (outcome : Option Reply) (failures old new : ℕ) → MayStop may_find marks outcome failures → new ≡ counted_up old failures
+    → HasCounted may_find marks old new
 stop_counts may_find marks outcome failures old new (looks, seen, stop) grown = (
   stop.passed ++ stop.last ∷ [],
-  λ k look e. seen k look (ap (λ looks. slice_get looks k) stop.in_order ∙ get_front stop.passed stop.last stop.rest k look e),
+  record {
+    possible = λ k look e. seen k look (ap (λ looks. slice_get looks k) stop.in_order ∙ get_front stop.passed stop.last stop.rest k look e);
+    fell_back = λ k look e more. stop.goes k look (get_before stop.passed stop.last k look e more);
+  },
   grown ∙ ap (counted_up old) stop.counted,
 )
 
-pub none_counted : (may_find : ℕ → Seen → Type 0) (old : ℕ) → old < 2 ^ 64 → HasCounted may_find old old
-none_counted may_find old small = ([], λ k look e. cc e, omega arith)
+pub none_counted : (may_find : ℕ → Seen → Type 0) (marks : List Mark) (old : ℕ) → old < 2 ^ 64 → HasCounted may_find marks old old
+none_counted may_find marks old small = (
+  [],
+  record {
+    possible = λ k look e. cc e;
+    fell_back = λ k look e more. cc e;
+  },
+  omega arith,
+)

@@ -1,6 +1,7 @@
 -- Views of a sink in memory.
-use Rattle.std.specs.Prelude.{ℕ, ◌-◌, List, length}
+use Rattle.std.specs.Prelude.{ℕ, ◌-◌, List, length, Some}
 use Rattle.gm_store.specs.declared.memory_sink.MemorySink.{MemorySink}
+use Rattle.gm_store.specs.Taken.{SinkState}
 
 -- the bytes taken so far
 abbrev pub held_in : MemorySink → List ℕ
@@ -13,3 +14,7 @@ room_in sink = sink.room - length sink.bytes.items
 -- how often it has failed
 abbrev pub faults_in : MemorySink → ℕ
 faults_in sink = sink.faults
+
+-- what is known of it
+abbrev pub memory_sink_state : MemorySink → SinkState
+memory_sink_state sink = record { taken = Some (held_in sink); room = Some (room_in sink); faults = faults_in sink }

@@ -1,6 +1,6 @@
 -- The GOPROXY fallback: which of several folders answers (Go Modules Reference, GOPROXY). "A comma indicates" that
 -- the next is tried if a file isn't found, "a pipe indicates" that it is tried "regardless of the error".
-use Rattle.std.specs.Prelude.{◌≡◌, ◌≢◌, ◌-◌, ◌^◌, ◌+◌, ℕ, min, Bool, true, false, List, [], ◌∷◌, ◌++◌, length, Option, Some, None, slice_get}
+use Rattle.std.specs.Prelude.{◌≡◌, ◌≢◌, ◌-◌, ◌^◌, ◌+◌, ◌<◌, ℕ, min, Bool, true, false, List, [], ◌∷◌, ◌++◌, length, Option, Some, None, slice_get}
 use Rattle.std.specs.List.{count_by}
 use Rattle.gm_store.specs.declared.proxy_list.Mark.{Mark}
 use Rattle.gm_store.specs.declared.proxy_list.Mark.TheVariants.{Comma, Bar}
@@ -79,8 +79,23 @@ MayStop may_find marks outcome failures = (looks : List Seen)
     × ((k : ℕ) (seen : Seen) → slice_get looks k ≡ Some seen → may_find k seen)
     × StopsAt looks marks outcome failures
 
--- zero or more lookups were made, in the folders from the first on, and each failure in them was counted
-abbrev pub HasCounted : (ℕ → Seen → Type 0) → ℕ → ℕ → Type 0
-HasCounted may_find before after = (looks : List Seen)
-    × ((k : ℕ) (seen : Seen) → slice_get looks k ≡ Some seen → may_find k seen)
+-- The results of the lookups that a request has made so far, one in each folder from the first on: each is possible
+-- in its folder, and the request fell back from each folder but the last. So none was made after the folder at which
+-- `step` stops.
+pub record AreLookups (may_find : ℕ → Seen → Type 0) (marks : List Mark) (looks : List Seen) : Type 0 where
+  pub possible : (k : ℕ) (seen : Seen) → slice_get looks k ≡ Some seen → may_find k seen
+  pub fell_back : (k : ℕ) (seen : Seen) → slice_get looks k ≡ Some seen → k + 1 < length looks
+      → step_of seen (slice_get marks k) ≡ Go
+
+-- zero or more lookups were made, and those of them that failed were counted, and nothing else
+abbrev pub HasCounted : (ℕ → Seen → Type 0) → List Mark → ℕ → ℕ → Type 0
+HasCounted may_find marks before after = (looks : List Seen) × AreLookups may_find marks looks
     × (after ≡ counted_up before (count_by has_failed looks))
+
+-- the request fell back from the first `many` folders, and those of the lookups in them that failed were counted
+pub record HasFallenBack (may_find : ℕ → Seen → Type 0) (marks : List Mark) (many before after : ℕ) : Type 0 where
+  pub looks : List Seen
+  pub one_each : length looks ≡ many
+  pub possible : (k : ℕ) (seen : Seen) → slice_get looks k ≡ Some seen → may_find k seen
+  pub goes : (k : ℕ) (seen : Seen) → slice_get looks k ≡ Some seen → step_of seen (slice_get marks k) ≡ Go
+  pub counted : after ≡ counted_up before (count_by has_failed looks)

@@ -1,6 +1,13 @@
--- The effects of writing a piece to a sink.
+-- What is known of a sink, and the effects of writing a piece to it.
 use Rattle.std.specs.Prelude.{◌≡◌, ◌<◌, ◌≤◌, ◌⊎◌, ◌-◌, ◌^◌, ℕ, List, length, take, Option, Some, None, Result, MatchResult, IsErr, min}
 use Rattle.std.specs.Io.KnownBytes.{Appends}
+
+-- what is known of a sink: the bytes that it took and how many more it can take, where it reports them, and how
+-- often it failed
+pub record SinkState : Type 0 where
+  pub taken : Option (List ℕ)
+  pub room : Option ℕ
+  pub faults : ℕ
 
 -- the first `count` bytes of the piece were appended to the known bytes, at least one unless the piece is empty
 pub record TakesPrefix (old new : Option (List ℕ)) (piece : List ℕ) (count : ℕ) : Type 0 where

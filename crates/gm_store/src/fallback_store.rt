@@ -107,7 +107,7 @@ impl<F: Folders> Files for FallbackStore<F> {
             × (faults_of self.new ≡ counted_up (faults_of self.old) failures) }
         ensures no_memory { result ≡ Err AskFault.NoMemory
             → HasCounted (λ k seen. F.may_find (folders_under self.old) k (name_of name.now) seen)
-            (faults_of self.old) (faults_of self.new) }
+            (marks_for (name_of name.now) (marks_between self.old)) (faults_of self.old) (faults_of self.new) }
     {
         // This read puts the count's range into the proof, also for the early return when memory runs out.
         let _faults = self.faults;

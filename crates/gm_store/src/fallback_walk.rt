@@ -2,17 +2,17 @@
 //!
 //! The loop works over the trait `Folders`, so folders in memory and on a device share it.
 
-ghost use Rattle.std.specs.Prelude.{◌≡◌, ◌-◌, ◌^◌, ◌<◌, ◌⊎◌, ℕ, [], ◌∷◌, length, slice_get, Some, IfNone, IfOk, OnErr, false};
+ghost use Rattle.std.specs.Prelude.{◌≡◌, ◌-◌, ◌^◌, ◌<◌, ◌⊎◌, ℕ, [], ◌∷◌, length, slice_get, Some, IfErr, IfNone, IfOk, OnErr, false};
 ghost use Rattle.std.specs.List.{count_by};
 ghost use Rattle.std.specs.Option.{option_map};
 ghost use Rattle.gm_store.specs.Asked.{name_of, reply_of};
-ghost use Rattle.gm_store.specs.Steps.{HasCounted, MayStop, counted_up, has_failed, outcome_of, result_of, step_of};
+ghost use Rattle.gm_store.specs.Steps.{HasCounted, HasFallenBack, MayStop, counted_up, has_failed, outcome_of, result_of, step_of};
+ghost use Rattle.gm_store.specs.declared.files.AskFault.TheVariants as ask_fault;
 
 use crate::fallback_step::{Looked, Next, step};
-use crate::files::{Answer, FileName};
+use crate::files::{Answer, AskFault, FileName};
 use crate::proxy_list::Mark;
 use gm_name::NoMemory;
-use std::alloc::AllocError;
 
 /// A list of folders that can be looked into.
 pub trait Folders {
@@ -35,17 +35,32 @@ pub trait Folders {
         ensures { IfOk result (λ looked. may_find self.now folder (name_of name.now) (result_of looked)) };
 }
 
+/// Memory ran out during a walk.
+#[derive(Clone, Copy)]
+pub(crate) struct OutOfMemory {
+    /// The number of the folder whose lookup ran out of memory. The lookups in the folders before it were made.
+    pub(crate) folder: usize,
+}
+
+impl From<OutOfMemory> for AskFault {
+    ghost from_gives = { λ _ fault. fault ≡ ask_fault.NoMemory };
+
+    fn from(_fault: OutOfMemory) -> AskFault {
+        AskFault::NoMemory
+    }
+}
+
 /// Looks into the folders in turn, and returns the answer of the one at which `step` stops, or `None` if the
 /// device failed there. `marks` has the marks between the folders.
 ///
-/// Each failure of the device is added to `faults`, which saturates. The only refusal is `NoMemory`, and the
-/// failures until then are added too.
+/// Each failure of the device is added to `faults`, which saturates. The only refusal is `OutOfMemory`, and the
+/// failures in the folders before it are added too.
 pub(crate) fn walk<F: Folders>(
     folders: &F,
     marks: &[Mark],
     name: &FileName,
     faults: &mut u64,
-) -> Result<Option<Answer>, NoMemory>
+) -> Result<Option<Answer>, OutOfMemory>
     requires { length marks.now < F.count_for folders.now (name_of name.now) }
     ensures cause { IfOk result (λ answer. IfNone answer ((faults.old < faults.new) ⊎ (faults.old ≡ 2 ^ 64 - 1))) }
     ensures stop { IfOk result (λ answer. (failures : ℕ)
@@ -53,14 +68,17 @@ pub(crate) fn walk<F: Folders>(
         (option_map reply_of answer) failures
         × (faults.new ≡ counted_up faults.old failures)) }
     ensures no_memory { OnErr result
-        (HasCounted (λ k seen. F.may_find folders.now k (name_of name.now) seen) faults.old faults.new) }
+        (HasCounted (λ k seen. F.may_find folders.now k (name_of name.now) seen) marks.now faults.old faults.new) }
+    ensures fell_back { IfErr result (λ fault.
+        HasFallenBack (λ k seen. F.may_find folders.now k (name_of name.now) seen) marks.now
+        fault.folder faults.old faults.new) }
 {
     let mut at = 0;
     let mut count = *faults;
     'folders: loop {
         let Ok(looked) = folders.look(at, name) else {
             *faults = count;
-            return Err(AllocError);
+            return Err(OutOfMemory { folder: at });
         };
         count = counted(count, &looked);
         *faults = count;

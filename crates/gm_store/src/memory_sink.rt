@@ -48,14 +48,9 @@ impl MemorySink {
 }
 
 impl Sink for MemorySink {
-    ghost use Rattle.std.specs.Prelude.{Some};
-    ghost use Rattle.gm_store.specs.Held.{faults_in, held_in, room_in};
+    ghost use Rattle.gm_store.specs.Held.{memory_sink_state};
 
-    ghost taken = { λ sink. Some (held_in sink) };
-
-    ghost room = { λ sink. Some (room_in sink) };
-
-    ghost fault_count = { faults_in };
+    ghost state = { memory_sink_state };
 
     fn write(&mut self, piece: &[u8]) -> Result<usize, WriteFault> {
         let count = (self.room - self.bytes.len()).min(piece.len());

@@ -5,7 +5,7 @@
 
 ghost use Rattle.gm_store.specs.Pieces.{AddsPiece};
 ghost use Rattle.gm_store.specs.declared.reading.ReadFault.TheVariants as read_fault;
-ghost use Rattle.std.specs.Prelude.{◌≡◌, ◌+◌, ◌≤◌, length, take, IfOk, IfSome, vec_len};
+ghost use Rattle.std.specs.Prelude.{◌≡◌, ◌+◌, ◌≤◌, length, take, drop, Some, IfOk, IfSome, OnOk, vec_len};
 
 use std::alloc::{AllocError, Global};
 use std::io::Read;
@@ -70,13 +70,15 @@ fn read_piece<R: Read>(
 }
 
 /// Reads all bytes of a reader, or the first `LIMIT + 1` if there are more. A result longer than `LIMIT` tells the
-/// caller that the input is too long.
+/// caller that the input is too long. The bytes after the first `LIMIT + 1` are left in the reader.
 ///
 /// `Device` is returned if a read fails or is interrupted; the bytes read before are lost. `NoMemory` is returned
 /// if memory runs out. Each read but the last yields at least one byte, so the loop ends.
 pub fn read_limited<R: Read>(alloc: Global, reader: &mut R) -> Result<Vec<u8>, ReadFault>
     ensures bytes { IfOk result (λ bytes. IfSome (R.remaining reader.old) (λ all. bytes.items ≡ take (LIMIT + 1) all)) }
     ensures short { IfOk result (λ bytes. length bytes.items ≤ LIMIT + 1) }
+    ensures rest { OnOk result (IfSome (R.remaining reader.old)
+        (λ all. R.remaining reader.new ≡ Some (drop (LIMIT + 1) all))) }
 {
     let mut bytes = Vec::new(alloc);
     let mut piece = piece_of(alloc, FIRST)?;

@@ -16,41 +16,36 @@ pub struct WriteFault;
 
 /// A sink takes bytes, in order. It may take them in pieces, and it may have limited room.
 pub trait Sink {
-    ghost use Rattle.std.specs.Prelude.{List, ℕ, Option};
+    ghost use Rattle.gm_store.specs.Taken.{SinkState};
 
-    /// The bytes taken so far, if they are known.
-    ghost taken: { Self → Option (List ℕ) };
-
-    /// How many more bytes it takes, if that is known.
-    ghost room: { Self → Option ℕ };
-
-    /// How often it has failed. The count saturates at the greatest `u64`.
-    ghost fault_count: { Self → ℕ };
+    /// The bytes taken so far and how many more it takes, if these are known, and how often it has failed. The count
+    /// saturates at the greatest `u64`.
+    ghost state: { Self → SinkState };
 
     /// Takes a prefix of a piece, and returns its length in bytes. That is at least one, unless the piece is
     /// empty.
     ///
     /// `WriteFault` is returned if the sink fails or is full. It leaves the bytes taken unchanged and is counted.
     fn write(&mut self, piece: &[u8]) -> Result<usize, WriteFault>
-        ensures takes { MatchResult result (TakesPrefix (taken self.old) (taken self.new) piece.now)
-            (λ _. Keeps (taken self.old) (taken self.new)) }
-        ensures fits { TakesWhatFits (room self.old) (room self.new) piece.now result }
-        ensures cause { HasCause (fault_count self.old) (fault_count self.new) result };
+        ensures takes { MatchResult result (TakesPrefix (state self.old).taken (state self.new).taken piece.now)
+            (λ _. Keeps (state self.old).taken (state self.new).taken) }
+        ensures fits { TakesWhatFits (state self.old).room (state self.new).room piece.now result }
+        ensures cause { HasCause (state self.old).faults (state self.new).faults result };
 
     /// How often it has failed. The count saturates at the greatest `u64`.
     fn faults(&self) -> u64
-        ensures { result ≡ fault_count self.now };
+        ensures { result ≡ (state self.now).faults };
 }
 
 /// Writes a whole piece, with as many writes as needed.
 ///
 /// `WriteFault` is returned at the first write that fails; the sink has then taken a prefix of the piece.
 pub fn write_all<S: Sink>(sink: &mut S, piece: &[u8]) -> Result<(), WriteFault>
-    ensures whole { OnOk result (Appends (S.taken sink.old) (S.taken sink.new) piece.now) }
-    ensures part { OnErr result (AppendsSome (S.taken sink.old) (S.taken sink.new) piece.now) }
-    ensures fits { WritesWhatFits (S.room sink.old) (S.room sink.new)
-        (S.taken sink.old) (S.taken sink.new) piece.now result }
-    ensures cause { HasCause (S.fault_count sink.old) (S.fault_count sink.new) result }
+    ensures whole { OnOk result (Appends (S.state sink.old).taken (S.state sink.new).taken piece.now) }
+    ensures part { OnErr result (AppendsSome (S.state sink.old).taken (S.state sink.new).taken piece.now) }
+    ensures fits { WritesWhatFits (S.state sink.old).room (S.state sink.new).room
+        (S.state sink.old).taken (S.state sink.new).taken piece.now result }
+    ensures cause { HasCause (S.state sink.old).faults (S.state sink.new).faults result }
 {
     let mut at = 0;
     'pieces: while at < piece.len() {

@@ -31,11 +31,11 @@ impl<W: Write> Sink for StdSink<W> {
     ghost use Rattle.std.specs.Prelude.{None};
     ghost use Rattle.gm_store.specs.Written.{failures_of, writer_of};
 
-    ghost taken = { λ sink. W.contents (writer_of sink) };
-
-    ghost room = { λ _. None };
-
-    ghost fault_count = { failures_of };
+    ghost state = { λ sink. record {
+      taken = W.contents (writer_of sink);
+      room = None;
+      faults = failures_of sink;
+    } };
 
     // A write that takes no byte of a non-empty piece is a failure, so `write_all` can't loop forever. An
     // interrupted write is a failure too.

@@ -6,7 +6,7 @@ use Rattle.gm_store.specs.Asked.{Name, Reply, absent, answer_in, bytes, too_long
 use Rattle.gm_store_sums.specs.declared.sum_table.SumTable.{SumTable}
 use Rattle.gm_graph_cache.proofs.OneReading.{one_reading}
 use Rattle.gm_graph_cache.specs.declared.class.Class.{Class}
-use Rattle.gm_graph_cache.specs.Main.{Main, Vertex}
+use Rattle.gm_graph_cache.specs.Main.{Main, ModuleVersion}
 use Rattle.gm_graph_cache.specs.Reading.{Held, IsFileReading, IsReadUnless, IsTold, Tells, is_askable, readings_by}
 use Rattle.gm_graph.specs.Graph.{IsOpened}
 use Rattle.gm_graph.specs.Loading.{IsAnswered, IsNeeded}
@@ -17,8 +17,9 @@ use Rattle.gomod_words.specs.declared.usage.Command.TheVariants.{Fmt, Edit, Vers
 use Rattle.gomod_run.specs.Needs.{GraphNeeds}
 use Rattle.gomod_run.specs.Queries.{RunsTo}
 use Rattle.gomod_run.specs.Runs.{AnsweredAll, IsRunOutcome, Needs, StatesOutcome, StoreState}
-use Rattle.gomod_run.specs.Versions.{Answers}
-use Rattle.gomod_run.specs.Written.{IsWritten, SinkState}
+use Rattle.gomod_run.specs.Versions.{AnswersByName}
+use Rattle.gomod_run.specs.Written.{IsWritten}
+use Rattle.gm_store.specs.Taken.{SinkState}
 
 -- ---- what was read is unique
 
@@ -45,7 +46,7 @@ some_reply (Some reply) is = (reply, refl)
 
 module _ (file : List ℕ) (sums : Option (List ℕ)) (asked : List (Name × Reply)) (main : Main) (table : Option SumTable) (held : Held)
     (main_reads : IsMainFile file main) (sums_read : AreSums sums table) (tells : Tells table asked held)
-    (answered : (x : Vertex) → IsOpened main (readings_by main held) x → IsAnswered main asked x) where
+    (answered : (x : ModuleVersion) → IsOpened main (readings_by main held) x → IsAnswered main asked x) where
   needed_answered : (name : Name) → IsNeeded main (readings_by main held) name → (reply : Reply) × (answer_in asked name ≡ Some reply)
   needed_answered name (x, opened, is, askable) =
       let has = answered x opened (subst (λ (n : Name). is_askable n ≡ true) (sym is) askable) in
@@ -76,7 +77,7 @@ query_done prints file sums asked failed outcome (inr (main, table, read, inl (f
 query_done prints file sums asked failed outcome (inr (main, table, read, inr (held, known, faults, printed))) done =
     all_answered file sums asked main table held read.main_file read.sums known.tells known.answered
 
-plain_done : (needs : Answers → Name → Type 0) (states : Answers → Outcome → Type 0) (old new : StoreState) (outcome : Outcome) → IsRunOutcome needs states old new outcome
+plain_done : (needs : AnswersByName → Name → Type 0) (states : AnswersByName → Outcome → Type 0) (old new : StoreState) (outcome : Outcome) → IsRunOutcome needs states old new outcome
     → outcome.status ≡ 0 → AnsweredAll needs (answer_in new.asked)
 plain_done needs states old new outcome (inl stated) done = stated.1
 plain_done needs states old new outcome (inr refused) done = let code = ap (λ (o : Outcome). o.status) refused.1 in absurd (omega (arith, code, done))

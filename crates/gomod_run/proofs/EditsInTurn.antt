@@ -5,7 +5,7 @@ use Rattle.gm_syntax.specs.Document.{Line}
 use Rattle.gm_syntax.specs.Tokens.{Placed}
 use Rattle.gm_file_edit.specs.Edits.{edit_in}
 use Rattle.gm_graph_listing.specs.declared.output.Output.{Output}
-use Rattle.gm_graph_listing.specs.Outcomes.{Outcome, outcome_of}
+use Rattle.gm_graph_listing.specs.Outcomes.{Outcome, outcome_view}
 use Rattle.gm_graph_listing.proofs.CommandOutcomes.{IsMainRead, main_err}
 use Rattle.gomod_run.specs.Editing.{IsEditOutcome, edited_in_turn, edits_outcome, refusals_from}
 
@@ -27,5 +27,5 @@ main-edited texts file read lines main is outcome says = inr (lines, subst (IsMa
 
 -- the report of a file that was not read is the outcome of `edit` over its bytes
 pub main-refused : (texts : List (List ℕ)) (file : List ℕ) (read : Result (List (Line Placed)) Output) (output : Output)
-    → IsMainRead file read → read ≡ Err output → IsEditOutcome texts file (outcome_of output)
+    → IsMainRead file read → read ≡ Err output → IsEditOutcome texts file (outcome_view output)
 main-refused texts file read output main is = inl (main_err file read output is main)

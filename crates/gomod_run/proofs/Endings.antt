@@ -16,11 +16,12 @@ use Rattle.gomod_run.specs.Program.{AreOfOneFile, IsFolderOutcome, IsInputOutcom
 use Rattle.gomod_run.specs.Runs.{IsRunOutcome, Needs, StatesOutcome, StoreState, is_over_file, is_query}
 use Rattle.gomod_run.specs.Queries.{RunsTo}
 use Rattle.gomod_run.proofs.Answering.{answered_in}
-use Rattle.gomod_run.specs.Written.{Ends, SinkState}
+use Rattle.gomod_run.specs.Written.{EndsAsStated}
+use Rattle.gm_store.specs.Taken.{SinkState}
 
 -- an end may be stated more widely: if each outcome of the one kind is of the other, so is the end
 pub ends_weaken : (one other : Outcome → Type 0) (out out' report report' : SinkState) (status : ℕ)
-    → ((outcome : Outcome) → one outcome → other outcome) → Ends one out out' report report' status → Ends other out out' report report' status
+    → ((outcome : Outcome) → one outcome → other outcome) → EndsAsStated one out out' report report' status → EndsAsStated other out out' report report' status
 ends_weaken one other out out' report report' status wider ends = record {
   outcome = ends.outcome;
   as_stated = elim ends.as_stated [ inl stated ↦ inl (wider ends.outcome stated) | inr memory ↦ inr memory ];
@@ -29,38 +30,38 @@ ends_weaken one other out out' report report' status wider ends = record {
 
 -- the end of the command that the words ask for is an end of these words
 pub words_end : (words : List (List ℕ)) (command : Command) (places : Places) (out out' report report' : SinkState) (status code : ℕ) → code ≡ status
-    → AskFor words command places → Ends (IsServed command places) out out' report report' status
-    → Ends (IsWordsOutcome words) out out' report report' code
+    → AskFor words command places → EndsAsStated (IsServed command places) out out' report report' status
+    → EndsAsStated (IsWordsOutcome words) out out' report report' code
 words_end words command places out out' report report' status code same asked ends =
-    let P : ℕ → Type 0 = λ n. Ends (IsWordsOutcome words) out out' report report' n in
+    let P : ℕ → Type 0 = λ n. EndsAsStated (IsWordsOutcome words) out out' report report' n in
     subst P (sym same) (ends_weaken (IsServed command places) (IsWordsOutcome words) out out' report report' status
     (λ outcome stated. inr (command, places, asked, stated)) ends)
 
 -- an end that reports the words' usage error is an end of these words
 pub fault_ends : (words : List (List ℕ)) (fault : UsageFault) (out out' report report' : SinkState) (status : ℕ) → IsFaultOf words fault
-    → Ends (λ outcome. outcome ≡ usage_outcome fault) out out' report report' status → Ends (IsWordsOutcome words) out out' report report' status
+    → EndsAsStated (λ outcome. outcome ≡ usage_outcome fault) out out' report report' status → EndsAsStated (IsWordsOutcome words) out out' report report' status
 fault_ends words fault out out' report report' status is ends =
     ends_weaken (λ outcome. outcome ≡ usage_outcome fault) (IsWordsOutcome words) out out' report report' status (λ outcome same. inl (fault, is, same)) ends
 
 -- an end of some words is an end of the program
-pub program_ends : (words : List (List ℕ)) (out out' report report' : SinkState) (status : ℕ) → Ends (IsWordsOutcome words) out out' report report' status
-    → Ends IsProgramOutcome out out' report report' status
+pub program_ends : (words : List (List ℕ)) (out out' report report' : SinkState) (status : ℕ) → EndsAsStated (IsWordsOutcome words) out out' report report' status
+    → EndsAsStated IsProgramOutcome out out' report report' status
 program_ends words out out' report report' status ends =
     ends_weaken (IsWordsOutcome words) IsProgramOutcome out out' report report' status (λ outcome stated. inl (words, stated)) ends
 
 -- an end that reports a word which is not UTF-8 is an end of the program
 pub unreadable_ends : (fault : UsageFault) (out out' report report' : SinkState) (status : ℕ) → IsUnreadableWords fault
-    → Ends (λ outcome. outcome ≡ usage_outcome fault) out out' report report' status → Ends IsProgramOutcome out out' report report' status
+    → EndsAsStated (λ outcome. outcome ≡ usage_outcome fault) out out' report report' status → EndsAsStated IsProgramOutcome out out' report report' status
 unreadable_ends fault out out' report report' status is ends =
     ends_weaken (λ outcome. outcome ≡ usage_outcome fault) IsProgramOutcome out out' report report' status (λ outcome same. inr (fault, is, same)) ends
 
 -- an end with an equal status is the same end
-pub same_status : (out out' report report' : SinkState) (status code : ℕ) → code ≡ status → Ends IsProgramOutcome out out' report report' status
-    → Ends IsProgramOutcome out out' report report' code
-same_status out out' report report' status code same ends = subst (λ (n : ℕ). Ends IsProgramOutcome out out' report report' n) (sym same) ends
+pub same_status : (out out' report report' : SinkState) (status code : ℕ) → code ≡ status → EndsAsStated IsProgramOutcome out out' report report' status
+    → EndsAsStated IsProgramOutcome out out' report report' code
+same_status out out' report report' status code same ends = subst (λ (n : ℕ). EndsAsStated IsProgramOutcome out out' report report' n) (sym same) ends
 
 -- the exit status is that of the program's end
-pub program_status : (out out' report report' : SinkState) (status : ℕ) → Ends IsProgramOutcome out out' report report' status → IsProgramStatus status
+pub program_status : (out out' report report' : SinkState) (status : ℕ) → EndsAsStated IsProgramOutcome out out' report report' status → IsProgramStatus status
 program_status out out' report report' status ends = elim ends.written [
   | inl whole ↦ elim ends.as_stated [
     | inl stated ↦ inl (ends.outcome, stated, whole.1)

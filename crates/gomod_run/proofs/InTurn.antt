@@ -7,17 +7,17 @@ use Rattle.gm_graph.specs.Loading.{AsksInTurn, IsDue, nothing, more}
 use Rattle.gm_graph_listing.specs.Outcomes.{AreSums, AsksInOrder, FailsInOrder, IsMainFile}
 use Rattle.gomod_run.specs.Needs.{GraphNeeds}
 use Rattle.gomod_run.specs.Runs.{AskedAfter, AskedInTurn, FailsInTurn, StoreState}
-use Rattle.gomod_run.specs.Versions.{Answers}
+use Rattle.gomod_run.specs.Versions.{AnswersByName}
 
 abbrev Pairs : Type 0
 Pairs = List (Name × Reply)
 
 -- given these answers the file is needed, and is not among them
-abbrev IsWanted : (Answers → Name → Type 0) → Name → Pairs → Type 0
+abbrev IsWanted : (AnswersByName → Name → Type 0) → Name → Pairs → Type 0
 IsWanted needs name asked = needs (answer_in asked) name × (answer_in asked name ≡ None)
 
 -- one more file is asked for after the others
-asked_after_more : (needs : Answers → Name → Type 0) (before later : Pairs) (pair : Name × Reply) → AskedAfter needs before later
+asked_after_more : (needs : AnswersByName → Name → Type 0) (before later : Pairs) (pair : Name × Reply) → AskedAfter needs before later
     → IsWanted needs pair.0 (before ++ later) → AskedAfter needs before (later ++ pair ∷ [])
 asked_after_more needs before [] pair behind wanted =
     let here : IsWanted needs pair.0 before = subst (IsWanted needs pair.0) (append-nil before) wanted in

@@ -10,7 +10,7 @@ use Rattle.gomod_words.specs.declared.usage.Command.TheVariants.{Fmt, Edit, Vers
 use Rattle.gomod_run.specs.Laws.{OneRun}
 use Rattle.gomod_run.specs.Queries.{AnswersQuery, IsQueryOutcome}
 use Rattle.gomod_run.specs.Runs.{IsRunOutcome, Needs, StatesOutcome, StoreState}
-use Rattle.gomod_run.specs.Versions.{Answers}
+use Rattle.gomod_run.specs.Versions.{AnswersByName}
 use Rattle.gomod_run.proofs.Sameness.{one_outcome}
 
 same_failed : (old new one other : List Name) → new ≡ old ++ one → new ≡ old ++ other → one ≡ other
@@ -20,8 +20,8 @@ same_name : (old new : List Name) (one other : Name) → new ≡ old ++ one ∷ 
 same_name old new one other a b = let same : one ∷ [] ≡ other ∷ [] = same_failed old new (one ∷ []) (other ∷ []) a b in cc same
 
 -- `fmt`, `edit` and `versions`
-comes_once : (needs : Answers → Name → Type 0) (states : Answers → Outcome → Type 0)
-    → ((answers : Answers) (a b : Outcome) → states answers a → states answers b → a ≡ b)
+comes_once : (needs : AnswersByName → Name → Type 0) (states : AnswersByName → Outcome → Type 0)
+    → ((answers : AnswersByName) (a b : Outcome) → states answers a → states answers b → a ≡ b)
     → (old new : StoreState) (a b : Outcome) → IsRunOutcome needs states old new a → IsRunOutcome needs states old new b → a ≡ b
 comes_once needs states once old new a b (inl (is, all, none)) (inl (be, every, nothing)) = once (answer_in new.asked) a b is be
 comes_once needs states once old new a b (inl (is, all, none)) (inr (name, says, need, unanswered, grown)) =

@@ -10,20 +10,20 @@ use Rattle.gomod_words.specs.declared.usage.Command.TheVariants.{Fmt, Edit, Vers
 use Rattle.gomod_run.specs.Laws.{OneForStores}
 use Rattle.gomod_run.specs.Queries.{AnswersQuery, IsQueryOutcome}
 use Rattle.gomod_run.specs.Runs.{IsRunOutcome, Needs, StatesOutcome, StoreState}
-use Rattle.gomod_run.specs.Versions.{Answers, IsOutcomeByList, IsListedOutcome, IsVersionsOutcome}
+use Rattle.gomod_run.specs.Versions.{AnswersByName, IsOutcomeByList, IsListedOutcome, IsVersionsOutcome}
 use Rattle.gomod_run.proofs.Sameness.{one_outcome}
 
 -- ---- the answers of both stores
 
 -- each answer of the one is also an answer of the other
-abbrev Keeps : Answers → Answers → Type 0
+abbrev Keeps : AnswersByName → AnswersByName → Type 0
 Keeps one other = (name : Name) (reply : Reply) → one name ≡ Some reply → other name ≡ Some reply
 
 abbrev first_of : Option Reply → Option Reply → Option Reply
 first_of (Some reply) other = Some reply
 first_of None other = other
 
-abbrev both_of : Answers → Answers → Answers
+abbrev both_of : AnswersByName → AnswersByName → AnswersByName
 both_of one other name = first_of (one name) (other name)
 
 first_kept : (a b : Option Reply) (reply : Reply) → a ≡ Some reply → first_of a b ≡ Some reply
@@ -36,22 +36,23 @@ second_kept None b reply alike e = e
 
 -- ---- `versions` with more answers
 
-listed_kept : (path : List ℕ) (all : Bool) (one other : Answers) (versions : List (List ℕ)) (outcome : Outcome) → Keeps one other
+listed_kept : (path : List ℕ) (all : Bool) (one other : AnswersByName) (versions : List (List ℕ)) (outcome : Outcome) → Keeps one other
     → IsListedOutcome path all one versions outcome → IsListedOutcome path all other versions outcome
 listed_kept path all one other versions outcome keeps (inl is) = inl is
 listed_kept path all one other versions outcome keeps (inr (latest, reply, some, is, answered, shows)) = inr (latest, reply, some, is, keeps _ reply answered, shows)
 
-list_kept : (path : List ℕ) (all : Bool) (one other : Answers) (reply : Reply) (outcome : Outcome) → Keeps one other
+list_kept : (path : List ℕ) (all : Bool) (one other : AnswersByName) (reply : Reply) (outcome : Outcome)
+    → Keeps one other
     → IsOutcomeByList path all one reply outcome → IsOutcomeByList path all other reply outcome
 list_kept path all one other absent outcome keeps is = is
 list_kept path all one other too_long outcome keeps is = is
 list_kept path all one other (bytes list) outcome keeps (versions, listed, is) = (versions, listed, listed_kept path all one other versions outcome keeps is)
 
-versions_kept : (path : List ℕ) (all : Bool) (one other : Answers) (outcome : Outcome) → Keeps one other → IsVersionsOutcome path all one outcome → IsVersionsOutcome path all other outcome
+versions_kept : (path : List ℕ) (all : Bool) (one other : AnswersByName) (outcome : Outcome) → Keeps one other → IsVersionsOutcome path all one outcome → IsVersionsOutcome path all other outcome
 versions_kept path all one other outcome keeps (inl is) = inl is
 versions_kept path all one other outcome keeps (inr (reply, fetchable, answered, is)) = inr (reply, fetchable, keeps _ reply answered, list_kept path all one other reply outcome keeps is)
 
-states_kept : (command : Command) (main : List ℕ) (sums : Option (List ℕ)) (one other : Answers) (outcome : Outcome) → Keeps one other
+states_kept : (command : Command) (main : List ℕ) (sums : Option (List ℕ)) (one other : AnswersByName) (outcome : Outcome) → Keeps one other
     → StatesOutcome command main sums one outcome → StatesOutcome command main sums other outcome
 states_kept (Versions path all) main sums one other outcome keeps is = versions_kept path all one other outcome keeps is
 states_kept Fmt main sums one other outcome keeps is = is
@@ -78,7 +79,7 @@ module _ (command : Command) (main : List ℕ) (sums : Option (List ℕ)) (old n
       (states_kept command main sums one (both_of one other) a (λ name reply e. first_kept (one name) (other name) reply e) is)
       (states_kept command main sums other (both_of one other) b (λ name reply e. second_kept (one name) (other name) reply (alike name) e) be)
 
-  comes_alike : (needs : Answers → Name → Type 0) → IsRunOutcome needs (StatesOutcome command main sums) old new a → IsRunOutcome needs (StatesOutcome command main sums) before after b → a ≡ b
+  comes_alike : (needs : AnswersByName → Name → Type 0) → IsRunOutcome needs (StatesOutcome command main sums) old new a → IsRunOutcome needs (StatesOutcome command main sums) before after b → a ≡ b
   comes_alike needs (inl (is, all, none)) (inl (be, every, nothing)) = stated_alike is be
   comes_alike needs (inr (name, says, need, unanswered, grown)) ends = absurd (one_more old.refused new.refused name grown sound)
   comes_alike needs (inl (is, all, none)) (inr (name, says, need, unanswered, grown)) = absurd (one_more before.refused after.refused name grown whole)

@@ -23,7 +23,7 @@ use Rattle.gm_graph_listing.specs.Reports.{Place, main_line, syntax_place}
 use Rattle.gm_graph_listing.proofs.OneRead.{misread_or_lines, one_place, same_lines}
 use Rattle.gomod_run.specs.Editing.{IsEditOutcome, edited_in_turn, edits_outcome, refusals_from}
 use Rattle.gomod_run.specs.Runs.{IsFmtOutcome, StatesOutcome}
-use Rattle.gomod_run.specs.Versions.{Answers, IsOutcomeByList, IsListedOutcome, IsShownOutcome, IsVersionsOutcome, shown_by}
+use Rattle.gomod_run.specs.Versions.{AnswersByName, IsOutcomeByList, IsListedOutcome, IsShownOutcome, IsVersionsOutcome, shown_by}
 use Rattle.gomod_run.proofs.Uniqueness.{latest_once, listed_once, none_latest}
 
 -- ---- fmt
@@ -94,7 +94,8 @@ not_all : (all : Bool) (versions : List (List ℕ)) (latest : List ℕ) → (all
 not_all all versions latest (inl every) some is = let e = sym every ∙ some in cc
 not_all all versions latest (inr none) some is = none_latest latest (subst (λ (vs : List (List ℕ)). IsLatest vs latest) none is)
 
-listed_outcome_once : (path : List ℕ) (all : Bool) (answers : Answers) (versions : List (List ℕ)) (one other : Outcome)
+listed_outcome_once : (path : List ℕ) (all : Bool) (answers : AnswersByName) (versions : List (List ℕ))
+    (one other : Outcome)
     → IsListedOutcome path all answers versions one → IsListedOutcome path all answers versions other → one ≡ other
 listed_outcome_once path all answers versions one other (inl a) (inl b) = a.1 ∙ sym b.1
 listed_outcome_once path all answers versions one other (inl a) (inr b) = absurd (not_all all versions b.0 a.0 b.2 b.3)
@@ -107,7 +108,7 @@ listed_outcome_once path all answers versions one other (inr a) (inr b) =
     let Q : Reply → Type 0 = λ r. IsShownOutcome path versions b.0 r one in
     shown_once path versions b.0 b.1 one other (subst Q reply (subst P latest a.5)) b.5
 
-list_once : (path : List ℕ) (all : Bool) (answers : Answers) (reply : Reply) (one other : Outcome)
+list_once : (path : List ℕ) (all : Bool) (answers : AnswersByName) (reply : Reply) (one other : Outcome)
     → IsOutcomeByList path all answers reply one → IsOutcomeByList path all answers reply other → one ≡ other
 list_once path all answers absent one other a b = a ∙ sym b
 list_once path all answers too_long one other a b = a ∙ sym b
@@ -115,7 +116,7 @@ list_once path all answers (bytes list) one other a b =
     let P : List (List ℕ) → Type 0 = λ vs. IsListedOutcome path all answers vs one in
     listed_outcome_once path all answers b.0 one other (subst P (listed_once path list a.0 b.0 a.1 b.1) a.2) b.2
 
-versions_once : (path : List ℕ) (all : Bool) (answers : Answers) (one other : Outcome)
+versions_once : (path : List ℕ) (all : Bool) (answers : AnswersByName) (one other : Outcome)
     → IsVersionsOutcome path all answers one → IsVersionsOutcome path all answers other → one ≡ other
 versions_once path all answers one other (inl a) (inl b) = a.1 ∙ sym b.1
 versions_once path all answers one other (inl a) (inr b) = let e = sym a.0 ∙ b.1 in absurd (cc)
@@ -125,7 +126,8 @@ versions_once path all answers one other (inr a) (inr b) =
     list_once path all answers b.0 one other (subst P (same_answer (answers (list_file path)) a.0 b.0 a.2 b.2) a.3) b.3
 
 -- a command over what was read and answered has one outcome
-pub one_outcome : (command : Command) (main : List ℕ) (sums : Option (List ℕ)) (answers : Answers) (one other : Outcome)
+pub one_outcome : (command : Command) (main : List ℕ) (sums : Option (List ℕ)) (answers : AnswersByName)
+    (one other : Outcome)
     → StatesOutcome command main sums answers one → StatesOutcome command main sums answers other → one ≡ other
 one_outcome (Versions path all) main sums answers one other a b = versions_once path all answers one other a b
 one_outcome Fmt main sums answers one other a b = fmt_once main one other a b

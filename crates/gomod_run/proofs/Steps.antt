@@ -9,15 +9,15 @@ use Rattle.gm_file.specs.Fields.{Dependency}
 use Rattle.gm_graph_cache.specs.declared.class.Class.{Class}
 use Rattle.gm_graph_cache.specs.Reading.{IsContentReading, IsFileReading}
 use Rattle.gm_graph_listing.specs.declared.output.Output.{Output}
-use Rattle.gm_graph_listing.specs.Outcomes.{Outcome, failed, outcome_of, printed, refused}
+use Rattle.gm_graph_listing.specs.Outcomes.{Outcome, failed, outcome_view, printed, refused}
 use Rattle.gm_graph_listing.specs.Reports.{device_line}
-use Rattle.gomod_run.specs.Asking.{IsAnswered, IsLatestAsked}
+use Rattle.gomod_run.specs.Asking.{IsAnsweredWith, IsLatestAsked}
 use Rattle.gomod_run.specs.Listing.{IsListState}
 use Rattle.gomod_run.specs.Kinds.{list_line}
 use Rattle.gomod_run.specs.Reading.{IsListRead}
 use Rattle.gm_file_retract.specs.Shown.{shown_of}
 use Rattle.gomod_run.specs.Runs.{AnsweredAll, AskedInTurn, IsRunOutcome, FailsInTurn, StoreState}
-use Rattle.gomod_run.specs.Versions.{Answers, IsShownOutcome, IsVersionsOutcome, NeedsFile, VersionsNeed, shown_by, versions_line}
+use Rattle.gomod_run.specs.Versions.{AnswersByName, IsShownOutcome, IsVersionsOutcome, NeedsFile, VersionsNeed, shown_by, versions_line}
 use Rattle.gomod_run.specs.Written.{out_of_memory}
 use Rattle.gomod_run.proofs.Answering.{file_answer, list_answer}
 use Rattle.gomod_run.proofs.Uniqueness.{latest_once, listed_once, none_latest}
@@ -27,7 +27,7 @@ abbrev pub Pairs : Type 0
 Pairs = List (Name × Reply)
 
 -- given these answers the file is needed, and is not among them
-abbrev IsWanted : (Answers → Name → Type 0) → Pairs → Name → Type 0
+abbrev IsWanted : (AnswersByName → Name → Type 0) → Pairs → Name → Type 0
 IsWanted needs asked name = needs (answer_in asked) name × (answer_in asked name ≡ None)
 
 module _ (path : List ℕ) (all : Bool) where
@@ -197,9 +197,9 @@ pub record ListAnswered (path : List ℕ) (may : Name → Reply → Type 0) (old
   pub unrefused : new.refused ≡ old.refused
 
 pub list_answered : (path p : List ℕ) (may : Name → Reply → Type 0) (old new : StoreState) (reply : Reply) → p ≡ path → old.asked ≡ []
-    → IsAnswered (list_file p) may old new reply → ListAnswered path may old new reply
+    → IsAnsweredWith (list_file p) may old new reply → ListAnswered path may old new reply
 list_answered path p may old new reply same none answered =
-    let here = subst (λ (q : List ℕ). IsAnswered (list_file q) may old new reply) same answered in
+    let here = subst (λ (q : List ℕ). IsAnsweredWith (list_file q) may old new reply) same answered in
     record {
       allowed = here.0;
       asked = here.1 ∙ ap (λ (a : Pairs). a ++ (list_file path, reply) ∷ []) none;
@@ -224,22 +224,22 @@ read_state path may old new answer reply (Ok (Ok versions)) fetchable answered s
 
 pub read_comes : {E : Type 0} (path : List ℕ) (all : Bool) (may : Name → Reply → Type 0) (old new : StoreState) (answer reply : Reply) (result : Result (Result (Vec (List ℕ)) Output) E)
     → is_fetchable path ≡ true → ListAnswered path may old new reply → answer ≡ reply → IfOk result (IsListRead path answer)
-    → IfOk result (λ read. IfErr read (λ output. IsRunOutcome (VersionsNeed path all) (IsVersionsOutcome path all) old new (outcome_of output)))
+    → IfOk result (λ read. IfErr read (λ output. IsRunOutcome (VersionsNeed path all) (IsVersionsOutcome path all) old new (outcome_view output)))
 read_comes path all may old new answer reply (Err e) fetchable answered same known = tt
 read_comes path all may old new answer reply (Ok (Ok versions)) fetchable answered same known = tt
 read_comes path all may old new answer reply (Ok (Err output)) fetchable answered same known = by_reply reply answered (subst (λ (r : Reply). IsListRead path r (Err output)) same known)
   where
-    by_reply : (r : Reply) → ListAnswered path may old new r → IsListRead path r (Err output) → IsRunOutcome (VersionsNeed path all) (IsVersionsOutcome path all) old new (outcome_of output)
+    by_reply : (r : Reply) → ListAnswered path may old new r → IsListRead path r (Err output) → IsRunOutcome (VersionsNeed path all) (IsVersionsOutcome path all) old new (outcome_view output)
     by_reply (bytes list) a k = absurd k
-    by_reply absent a k = ends_missing path all old new (outcome_of output) fetchable a.asked a.unrefused k
-    by_reply too_long a k = ends_too_long path all old new (outcome_of output) fetchable a.asked a.unrefused k
+    by_reply absent a k = ends_missing path all old new (outcome_view output) fetchable a.asked a.unrefused k
+    by_reply too_long a k = ends_too_long path all old new (outcome_view output) fetchable a.asked a.unrefused k
 
 -- the output follows from the latest version's go.mod
 pub shown_asked : {E : Type 0} (path : List ℕ) (versions : List (List ℕ)) (latest : List ℕ) (may : Name → Reply → Type 0) (old new : StoreState) (answer reply : Reply)
-    (result : Result Output E) → IsAnswered (mod_file path latest) may old new reply → answer ≡ reply
-    → IfOk result (λ output. IsShownOutcome path versions latest answer (outcome_of output)) → IsLatestAsked path versions latest may old new result
+    (result : Result Output E) → IsAnsweredWith (mod_file path latest) may old new reply → answer ≡ reply
+    → IfOk result (λ output. IsShownOutcome path versions latest answer (outcome_view output)) → IsLatestAsked path versions latest may old new result
 shown_asked path versions latest may old new answer reply (Ok output) answered same known =
-    inl (reply, answered, subst (λ (r : Reply). IsShownOutcome path versions latest r (outcome_of output)) same known)
+    inl (reply, answered, subst (λ (r : Reply). IsShownOutcome path versions latest r (outcome_view output)) same known)
 shown_asked path versions latest may old new answer reply (Err e) answered same known = inr (reply, answered)
 
 module _ (path : List ℕ) (mid new : StoreState) (latest : List ℕ) where
@@ -259,13 +259,13 @@ file_fails path all may old mid new versions latest state some is same more =
 module _ {E : Type 0} (path : List ℕ) (all : Bool) (may later : Name → Reply → Type 0) (old mid new : StoreState) (versions : List (List ℕ)) (latest : List ℕ) where
   pub latest_comes : (result : Result Output E) → IsListState path may old mid versions → all ≡ false → IsLatest versions latest
       → IsLatestAsked path versions latest later mid new result
-      → IfOk result (λ output. IsRunOutcome (VersionsNeed path all) (IsVersionsOutcome path all) old new (outcome_of output))
+      → IfOk result (λ output. IsRunOutcome (VersionsNeed path all) (IsVersionsOutcome path all) old new (outcome_view output))
   latest_comes (Err e) state some is asked = tt
   latest_comes (Ok output) state some is (inl a) =
-      ends_shown path all old new (outcome_of output) state.list versions latest a.0 state.fetchable some state.listed is
+      ends_shown path all old new (outcome_view output) state.list versions latest a.0 state.fetchable some state.listed is
       (grown path mid new latest state.list a.0 state.asked a.1.1) (a.1.2 ∙ state.unrefused) a.2
   latest_comes (Ok output) state some is (inr a) =
-      ends_device_file path all old new (outcome_of output) state.list versions latest state.fetchable some state.listed is
+      ends_device_file path all old new (outcome_view output) state.list versions latest state.fetchable some state.listed is
       (a.1 ∙ state.asked) a.0 (a.2 ∙ ap (λ (r : List Name). r ++ mod_file path latest ∷ []) state.unrefused)
 
   pub latest_in_turn : (result : Result Output E) → IsListState path may old mid versions → all ≡ false → IsLatest versions latest
@@ -313,11 +313,11 @@ shown_all [] = refl
 shown_all (v ∷ versions) = ap (λ (vs : List (List ℕ)). v ∷ vs) (shown_all versions)
 
 pub all_comes : {E : Type 0} (path : List ℕ) (all : Bool) (may : Name → Reply → Type 0) (old new : StoreState) (versions : List (List ℕ)) (result : Result Output E)
-    → IsListState path may old new versions → (all ≡ true) ⊎ (versions ≡ []) → IfOk result (λ output. outcome_of output ≡ printed (versions_line path versions))
-    → IfOk result (λ output. IsRunOutcome (VersionsNeed path all) (IsVersionsOutcome path all) old new (outcome_of output))
+    → IsListState path may old new versions → (all ≡ true) ⊎ (versions ≡ []) → IfOk result (λ output. outcome_view output ≡ printed (versions_line path versions))
+    → IfOk result (λ output. IsRunOutcome (VersionsNeed path all) (IsVersionsOutcome path all) old new (outcome_view output))
 all_comes path all may old new versions (Err e) state every known = tt
 all_comes path all may old new versions (Ok output) state every known =
-    ends_all path all old new (outcome_of output) state.list versions state.fetchable state.listed every state.asked state.unrefused known
+    ends_all path all old new (outcome_view output) state.list versions state.fetchable state.listed every state.asked state.unrefused known
 
 -- no go.mod has been answered yet
 pub file_unasked : (path latest : List ℕ) (may : Name → Reply → Type 0) (old new : StoreState) (versions : List (List ℕ)) → IsListState path may old new versions

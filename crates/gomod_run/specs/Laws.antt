@@ -5,11 +5,11 @@ use Rattle.gm_graph_listing.specs.Outcomes.{Outcome}
 use Rattle.gomod_words.specs.declared.usage.Command.{Command}
 use Rattle.gomod_run.specs.Queries.{RunsTo}
 use Rattle.gomod_run.specs.Runs.{StatesOutcome, StoreState}
-use Rattle.gomod_run.specs.Versions.{Answers}
+use Rattle.gomod_run.specs.Versions.{AnswersByName}
 
 -- `fmt`, `edit` and `versions`: the outcome is a function of what is read and of what a store answers
 abbrev pub OneStated : Type 0
-OneStated = (command : Command) (main : List ℕ) (sums : Option (List ℕ)) (answers : Answers) (one other : Outcome)
+OneStated = (command : Command) (main : List ℕ) (sums : Option (List ℕ)) (answers : AnswersByName) (one other : Outcome)
     → StatesOutcome command main sums answers one → StatesOutcome command main sums answers other → one ≡ other
 
 -- each command: the outcome is a function of what is read, of what a store was asked and answered in the run, and

@@ -17,7 +17,7 @@ use Rattle.gm_graph_listing.specs.Reports.{device_line}
 use Rattle.gm_graph_listing.specs.Texts.{line}
 use Rattle.gomod_run.specs.Runs.{Needs, StatesOutcome}
 use Rattle.gomod_run.specs.Queries.{IsQueryOutcome}
-use Rattle.gomod_run.specs.Versions.{Answers}
+use Rattle.gomod_run.specs.Versions.{AnswersByName}
 use Rattle.gomod_run.specs.Written.{out_of_memory}
 
 -- the report of a usage error, which no run ends with
@@ -47,22 +47,23 @@ IsReadOutcome name states (Ok content) outcome = states content.items outcome
 IsReadOutcome name states (Err fault) outcome = outcome ≡ unread_outcome name fault
 
 -- the answers are those of a store that has one file and no other
-abbrev pub AreOfOneFile : Name → List ℕ → Answers → Type 0
+abbrev pub AreOfOneFile : Name → List ℕ → AnswersByName → Type 0
 AreOfOneFile file content answers = (name : Name) (reply : Reply) → answers name ≡ Some reply
     → reply ≡ reply_for longest (if same_name name file then Some content else None)
 
 -- `versions PATH` without proxy folders: over the list that was read from standard input
 abbrev pub IsInputOutcome : Command → List ℕ → List ℕ → Outcome → Type 0
 IsInputOutcome command path list outcome =
-    (answers : Answers)
+    (answers : AnswersByName)
     × AreOfOneFile (list_file path) list answers
     × StatesOutcome command [] None answers outcome
 
 -- a command over the answers of proxy folders, or the report of a needed file at which their device failed
 abbrev pub IsFolderOutcome : Command → Outcome → Type 0
 IsFolderOutcome command outcome =
-    ((answers : Answers) × StatesOutcome command [] None answers outcome)
-    ⊎ ((answers : Answers) × (name : Name) × Needs command [] None answers name × (outcome ≡ failed (device_line name)))
+    ((answers : AnswersByName) × StatesOutcome command [] None answers outcome)
+    ⊎ ((answers : AnswersByName) × (name : Name) × Needs command [] None answers name
+    × (outcome ≡ failed (device_line name)))
 
 -- `versions PATH`: over standard input, or over proxy folders if there are any
 abbrev pub IsVersionsServed : Command → List ℕ → Option ProxyList → Outcome → Type 0

@@ -6,15 +6,15 @@ use Rattle.gm_store.specs.Listed.{AreListed}
 use Rattle.gm_graph_cache.specs.declared.class.Class.{Class}
 use Rattle.gm_graph_cache.specs.declared.class.Class.TheVariants.{Malformed}
 use Rattle.gm_graph_listing.specs.declared.output.Output.{Output}
-use Rattle.gm_graph_listing.specs.Outcomes.{outcome_of, refused}
+use Rattle.gm_graph_listing.specs.Outcomes.{outcome_view, refused}
 use Rattle.gm_graph_listing.specs.Reports.{Place}
 use Rattle.gomod_run.specs.Kinds.{list_line}
 
 -- the answer is a list with these versions, or the output reports that it is no list that can be read
 abbrev pub IsListRead : List ℕ → Reply → Result (Vec (List ℕ)) Output → Type 0
 IsListRead path (bytes list) (Ok versions) = AreListed path list versions.items
-IsListRead path absent (Err output) = outcome_of output ≡ refused (list_line path (codes "Missing"))
-IsListRead path too_long (Err output) = outcome_of output ≡ refused (list_line path (codes "TooLong"))
+IsListRead path absent (Err output) = outcome_view output ≡ refused (list_line path (codes "Missing"))
+IsListRead path too_long (Err output) = outcome_view output ≡ refused (list_line path (codes "TooLong"))
 IsListRead path (bytes list) (Err output) = ⊥
 IsListRead path absent (Ok versions) = ⊥
 IsListRead path too_long (Ok versions) = ⊥

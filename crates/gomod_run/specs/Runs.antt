@@ -14,7 +14,7 @@ use Rattle.gomod_words.specs.declared.usage.Command.{Command}
 use Rattle.gomod_words.specs.declared.usage.Command.TheVariants.{Fmt, Edit, Versions, Graph, List as Rows, Chain}
 use Rattle.gomod_run.specs.Editing.{IsEditOutcome}
 use Rattle.gomod_run.specs.Needs.{GraphNeeds}
-use Rattle.gomod_run.specs.Versions.{Answers, IsVersionsOutcome, VersionsNeed}
+use Rattle.gomod_run.specs.Versions.{AnswersByName, IsVersionsOutcome, VersionsNeed}
 
 -- `fmt FILE` over the bytes of the file: the layout of the document, or the report of its syntax fault
 abbrev pub IsFmtOutcome : List ℕ → Outcome → Type 0
@@ -40,14 +40,14 @@ is_over_file _ = false
 
 -- `fmt`, `edit` or `versions` over the main file's bytes, those of a go.sum where one is given, and the answers of
 -- a store. Queries on a module graph have their own definition.
-abbrev pub StatesOutcome : Command → List ℕ → Option (List ℕ) → Answers → Outcome → Type 0
+abbrev pub StatesOutcome : Command → List ℕ → Option (List ℕ) → AnswersByName → Outcome → Type 0
 StatesOutcome Fmt main sums answers outcome = IsFmtOutcome main outcome
 StatesOutcome (Edit operations) main sums answers outcome = IsEditOutcome (texts_in operations) main outcome
 StatesOutcome (Versions path all) main sums answers outcome = IsVersionsOutcome path all answers outcome
 StatesOutcome _ main sums answers outcome = ⊥
 
 -- the files that a command needs, given the answers so far
-abbrev pub Needs : Command → List ℕ → Option (List ℕ) → Answers → Name → Type 0
+abbrev pub Needs : Command → List ℕ → Option (List ℕ) → AnswersByName → Name → Type 0
 Needs Fmt main sums answers name = ⊥
 Needs (Edit operations) main sums answers name = ⊥
 Needs (Versions path all) main sums answers name = VersionsNeed path all answers name
@@ -71,21 +71,21 @@ abbrev pub store_state : List (Name × Reply) → List Name → StoreState
 store_state asked refused = record { asked = asked; refused = refused }
 
 -- each of the later files was needed by the answers before it, and had not been asked for before
-abbrev pub AskedAfter : (Answers → Name → Type 0) → List (Name × Reply) → List (Name × Reply) → Type 0
+abbrev pub AskedAfter : (AnswersByName → Name → Type 0) → List (Name × Reply) → List (Name × Reply) → Type 0
 AskedAfter needs before [] = Unit {0}
 AskedAfter needs before (pair ∷ later) =
     needs (answer_in before) pair.0 × (answer_in before pair.0 ≡ None) × AskedAfter needs (before ++ pair ∷ []) later
 
 -- each file was needed by the answers before it, and asked for once
-abbrev pub AskedInTurn : (Answers → Name → Type 0) → List (Name × Reply) → Type 0
+abbrev pub AskedInTurn : (AnswersByName → Name → Type 0) → List (Name × Reply) → Type 0
 AskedInTurn needs asked = AskedAfter needs [] asked
 
 -- each file that the answers call for is answered
-abbrev pub AnsweredAll : (Answers → Name → Type 0) → Answers → Type 0
+abbrev pub AnsweredAll : (AnswersByName → Name → Type 0) → AnswersByName → Type 0
 AnsweredAll needs answers = (name : Name) → needs answers name → (reply : Reply) × (answers name ≡ Some reply)
 
 -- the device failed at no file, or at one that the answers need and that is not among them
-abbrev pub FailsInTurn : (Answers → Name → Type 0) → StoreState → StoreState → Type 0
+abbrev pub FailsInTurn : (AnswersByName → Name → Type 0) → StoreState → StoreState → Type 0
 FailsInTurn needs old new =
     (new.refused ≡ old.refused)
     ⊎ ((name : Name)
@@ -95,7 +95,7 @@ FailsInTurn needs old new =
 
 -- a run over a store that had not been asked before: the outcome that its answers give, if all that is needed was
 -- answered; or the report that the device failed at a file that was needed and not answered
-abbrev pub IsRunOutcome : (Answers → Name → Type 0) → (Answers → Outcome → Type 0)
+abbrev pub IsRunOutcome : (AnswersByName → Name → Type 0) → (AnswersByName → Outcome → Type 0)
     → StoreState → StoreState → Outcome → Type 0
 IsRunOutcome needs states old new outcome =
     (states (answer_in new.asked) outcome × AnsweredAll needs (answer_in new.asked) × (new.refused ≡ old.refused))

@@ -15,8 +15,8 @@ use Rattle.gm_graph_listing.specs.Reports.{fault_line}
 use Rattle.gomod_run.specs.Kinds.{list_line}
 
 -- what a store answered
-abbrev pub Answers : Type 0
-Answers = Name → Option Reply
+abbrev pub AnswersByName : Type 0
+AnswersByName = Name → Option Reply
 
 -- the path and the versions, separated by single spaces
 abbrev pub versions_line : List ℕ → List (List ℕ) → List ℕ
@@ -38,7 +38,7 @@ pub record IsShownOutcome (path : List ℕ) (versions : List (List ℕ)) (latest
 
 -- the listed versions: all of them if all are asked for or there are none, otherwise according to the latest one's
 -- go.mod
-abbrev pub IsListedOutcome : List ℕ → Bool → Answers → List (List ℕ) → Outcome → Type 0
+abbrev pub IsListedOutcome : List ℕ → Bool → AnswersByName → List (List ℕ) → Outcome → Type 0
 IsListedOutcome path all answers versions outcome =
     (((all ≡ true) ⊎ (versions ≡ [])) × (outcome ≡ printed (versions_line path versions)))
     ⊎ ((latest : List ℕ) × (reply : Reply) × (all ≡ false)
@@ -47,7 +47,7 @@ IsListedOutcome path all answers versions outcome =
     × IsShownOutcome path versions latest reply outcome)
 
 -- the outcome given the answer for the list
-abbrev pub IsOutcomeByList : List ℕ → Bool → Answers → Reply → Outcome → Type 0
+abbrev pub IsOutcomeByList : List ℕ → Bool → AnswersByName → Reply → Outcome → Type 0
 IsOutcomeByList path all answers absent outcome = outcome ≡ refused (list_line path (codes "Missing"))
 IsOutcomeByList path all answers too_long outcome = outcome ≡ refused (list_line path (codes "TooLong"))
 IsOutcomeByList path all answers (bytes list) outcome =
@@ -56,7 +56,7 @@ IsOutcomeByList path all answers (bytes list) outcome =
     × IsListedOutcome path all answers versions outcome
 
 -- `versions PATH`: the path is checked first, then the list, then the go.mod of the latest version
-abbrev pub IsVersionsOutcome : List ℕ → Bool → Answers → Outcome → Type 0
+abbrev pub IsVersionsOutcome : List ℕ → Bool → AnswersByName → Outcome → Type 0
 IsVersionsOutcome path all answers outcome =
     ((is_fetchable path ≡ false) × (outcome ≡ refused (list_line path (codes "NotFetchable"))))
     ⊎ ((reply : Reply) × (is_fetchable path ≡ true)
@@ -64,7 +64,7 @@ IsVersionsOutcome path all answers outcome =
     × IsOutcomeByList path all answers reply outcome)
 
 -- the go.mod of the latest version is needed: not all versions are asked for, and the list has some
-abbrev pub NeedsFile : List ℕ → Bool → Answers → Name → Type 0
+abbrev pub NeedsFile : List ℕ → Bool → AnswersByName → Name → Type 0
 NeedsFile path all answers name = (list : List ℕ) × (versions : List (List ℕ)) × (latest : List ℕ) × (all ≡ false)
     × (answers (list_file path) ≡ Some (bytes list))
     × AreListed path list versions
@@ -73,7 +73,7 @@ NeedsFile path all answers name = (list : List ℕ) × (versions : List (List �
 
 -- the files that `versions PATH` needs, given the answers so far: the list, then the go.mod of the latest version
 -- if that is needed
-abbrev pub VersionsNeed : List ℕ → Bool → Answers → Name → Type 0
+abbrev pub VersionsNeed : List ℕ → Bool → AnswersByName → Name → Type 0
 VersionsNeed path all answers name =
     (is_fetchable path ≡ true)
     × ((name ≡ list_file path) ⊎ NeedsFile path all answers name)

@@ -1,19 +1,9 @@
 -- What sinks hold after texts were written to them.
 use Rattle.std.specs.Prelude.{◌≡◌, ◌<◌, ◌≤◌, ◌-◌, ◌^◌, ◌⊎◌, ℕ, List, Option, Some, None, codes, length, take}
 use Rattle.std.specs.Io.KnownBytes.{Appends}
-use Rattle.gm_store.specs.Taken.{AppendsSome}
+use Rattle.gm_store.specs.Taken.{AppendsSome, SinkState}
 use Rattle.gm_graph_listing.specs.Outcomes.{Outcome, failed}
 use Rattle.gm_graph_listing.specs.Texts.{line as line_of}
-
--- what is known of a sink: the bytes that it took and how many more it can take, where it reports them, and how
--- often it failed
-pub record SinkState : Type 0 where
-  pub taken : Option (List ℕ)
-  pub room : Option ℕ
-  pub faults : ℕ
-
-abbrev pub sink_state : Option (List ℕ) → Option ℕ → ℕ → SinkState
-sink_state taken room faults = record { taken = taken; room = room; faults = faults }
 
 -- a text of this length leaves this room, where room is known
 abbrev pub FitsIn : Option ℕ → Option ℕ → ℕ → Type 0
@@ -57,7 +47,7 @@ abbrev pub out_of_memory : Outcome
 out_of_memory = failed (line_of (codes "gomod: no memory"))
 
 -- one of the stated outcomes was written in this way, or the report that memory ran out
-pub record Ends (stated : Outcome → Type 0) (out out' report report' : SinkState) (status : ℕ) : Type 0 where
+pub record EndsAsStated (stated : Outcome → Type 0) (out out' report report' : SinkState) (status : ℕ) : Type 0 where
   pub outcome : Outcome
   pub as_stated : stated outcome ⊎ (outcome ≡ out_of_memory)
   pub written : IsWritten outcome out out' report report' status

@@ -6,7 +6,7 @@ ghost use Rattle.std.specs.List.{filter_map};
 ghost use Rattle.std.specs.Option.{option_map};
 ghost use Rattle.std.specs.String.{string_bytes};
 ghost use Rattle.gm_file_edit.specs.Edits.{edit_in};
-ghost use Rattle.gm_graph_listing.specs.Outcomes.{outcome_of};
+ghost use Rattle.gm_graph_listing.specs.Outcomes.{outcome_view};
 ghost use Rattle.gomod_run.specs.Edited.{IsApplied, IsFirstRefusal};
 ghost use Rattle.gomod_run.specs.Editing.{IsEditOutcome, edited_in_turn, edits_outcome, refusals_from};
 
@@ -62,7 +62,7 @@ fn edits_outcome(
     file: &mut MainFile<'_>,
     operations: &[String],
 ) -> Result<Output, NoMemory>
-    ensures { IfOk result (λ output. outcome_of output
+    ensures { IfOk result (λ output. outcome_view output
         ≡ edits_outcome (refusals_from 1 (map string_bytes operations.now))
         (edited_in_turn (filter_map edit_in (map string_bytes operations.now)) file.old)) }
 {
@@ -78,7 +78,7 @@ pub(crate) fn edit_outcome(
     operations: &[String],
     file: &[u8],
 ) -> Result<Output, NoMemory>
-    ensures { IfOk result (λ output. IsEditOutcome (map string_bytes operations.now) file.now (outcome_of output)) }
+    ensures { IfOk result (λ output. IsEditOutcome (map string_bytes operations.now) file.now (outcome_view output)) }
 {
     match main_file(alloc, file)? {
         Ok(mut main) => edits_outcome(alloc, &mut main, operations),

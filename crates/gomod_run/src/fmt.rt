@@ -1,7 +1,7 @@
 //! The outcome of `fmt`: `gm_syntax` parses and lays out, and this file makes the outcome of the result.
 
 ghost use Rattle.std.specs.Prelude.{IfOk};
-ghost use Rattle.gm_graph_listing.specs.Outcomes.{outcome_of};
+ghost use Rattle.gm_graph_listing.specs.Outcomes.{outcome_view};
 ghost use Rattle.gomod_run.specs.Runs.{IsFmtOutcome};
 
 use gm_graph_listing::{Output, printed, refused, syntax_report};
@@ -11,7 +11,7 @@ use std::alloc::Global;
 
 /// The outcome of `fmt` over the bytes of a file. The only refusal is running out of memory.
 pub(crate) fn fmt_outcome(alloc: Global, file: &[u8]) -> Result<Output, NoMemory>
-    ensures { IfOk result (λ output. IsFmtOutcome file.now (outcome_of output)) }
+    ensures { IfOk result (λ output. IsFmtOutcome file.now (outcome_view output)) }
 {
     match Doc::parse(alloc, file) {
         Ok(doc) => Ok(printed(alloc, doc.format(alloc)?)),

@@ -4,7 +4,7 @@
 ghost use Rattle.std.specs.Prelude.{◌≡◌, [], Contains, IfOk};
 ghost use Rattle.std.specs.Option.{option_map};
 ghost use Rattle.gm_store.specs.Asked.{Name, Reply};
-ghost use Rattle.gm_graph_listing.specs.Outcomes.{outcome_of};
+ghost use Rattle.gm_graph_listing.specs.Outcomes.{outcome_view};
 ghost use Rattle.gomod_run.specs.Runs.{AskedInTurn, FailsInTurn, Needs, store_state};
 ghost use Rattle.gomod_run.specs.Queries.{RunsTo};
 
@@ -31,7 +31,7 @@ pub(crate) fn outcome<F: Files>(
     ensures comes { IfOk result (λ output. RunsTo command.now main.now (option_map (λ sums. sums.now) sums.entry)
         (store_state (F.asked files.old) (F.refused files.old))
         (store_state (F.asked files.new) (F.refused files.new))
-        (outcome_of output)) }
+        (outcome_view output)) }
     ensures in_turn { AskedInTurn (Needs command.now main.now (option_map (λ sums. sums.now) sums.entry))
         (F.asked files.new) }
     ensures fails { FailsInTurn (Needs command.now main.now (option_map (λ sums. sums.now) sums.entry))

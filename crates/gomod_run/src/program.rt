@@ -12,7 +12,7 @@ ghost use Rattle.gm_graph_listing.specs.Outcomes.{code_of};
 ghost use Rattle.gomod_run.specs.Held.{HoldsOne};
 ghost use Rattle.gomod_run.specs.Program.{IsFolderOutcome, IsInputOutcome, IsUnreadableWords, IsProgramOutcome, IsProgramStatus, IsReadOutcome, IsServed, IsVersionsServed, IsWordsOutcome, cannot_read_line, unread_outcome, usage_error, usage_outcome};
 ghost use Rattle.gomod_run.specs.Runs.{StatesOutcome, is_over_file, is_query};
-ghost use Rattle.gomod_run.specs.Written.{Ends, IsWritten, sink_state};
+ghost use Rattle.gomod_run.specs.Written.{EndsAsStated, IsWritten};
 
 use crate::query_serving::serve_query;
 use crate::running::run;
@@ -51,11 +51,8 @@ fn ended<S: Env + Input + Files + Clone + Drop + Alloc<A = Global>, O: Sink, R: 
     out: &mut O,
     report: &mut R,
 ) -> ExitCode
-    ensures { Ends IsProgramOutcome
-        (sink_state (O.taken out.old) (O.room out.old) (O.fault_count out.old))
-        (sink_state (O.taken out.new) (O.room out.new) (O.fault_count out.new))
-        (sink_state (R.taken report.old) (R.room report.old) (R.fault_count report.old))
-        (sink_state (R.taken report.new) (R.room report.new) (R.fault_count report.new))
+    ensures { EndsAsStated IsProgramOutcome
+        (O.state out.old) (O.state out.new) (R.state report.old) (R.state report.new)
         (exit_status result) }
 {
     ExitCode::from(status_of(rt, out, report))
@@ -68,11 +65,8 @@ pub fn status_of<S: Env + Input + Files + Clone + Drop + Alloc<A = Global>, O: S
     out: &mut O,
     report: &mut R,
 ) -> u8
-    ensures { Ends IsProgramOutcome
-        (sink_state (O.taken out.old) (O.room out.old) (O.fault_count out.old))
-        (sink_state (O.taken out.new) (O.room out.new) (O.fault_count out.new))
-        (sink_state (R.taken report.old) (R.room report.old) (R.fault_count report.old))
-        (sink_state (R.taken report.new) (R.room report.new) (R.fault_count report.new))
+    ensures { EndsAsStated IsProgramOutcome
+        (O.state out.old) (O.state out.new) (R.state report.old) (R.state report.new)
         result }
 {
     let words = match words_of(rt) {
@@ -112,11 +106,8 @@ pub fn status_of_words<S: Input + Files + Clone + Drop + Alloc<A = Global>, O: S
     out: &mut O,
     report: &mut R,
 ) -> u8
-    ensures { Ends (IsWordsOutcome (map (λ word. word.now) words.now))
-        (sink_state (O.taken out.old) (O.room out.old) (O.fault_count out.old))
-        (sink_state (O.taken out.new) (O.room out.new) (O.fault_count out.new))
-        (sink_state (R.taken report.old) (R.room report.old) (R.fault_count report.old))
-        (sink_state (R.taken report.new) (R.room report.new) (R.fault_count report.new))
+    ensures { EndsAsStated (IsWordsOutcome (map (λ word. word.now) words.now))
+        (O.state out.old) (O.state out.new) (R.state report.old) (R.state report.new)
         result }
 {
     match read_words(rt.alloc(), words) {
@@ -133,11 +124,8 @@ fn serve<S: Input + Files + Clone + Drop + Alloc<A = Global>, O: Sink, R: Sink>(
     out: &mut O,
     report: &mut R,
 ) -> Status
-    ensures { Ends (IsServed command.now places)
-        (sink_state (O.taken out.old) (O.room out.old) (O.fault_count out.old))
-        (sink_state (O.taken out.new) (O.room out.new) (O.fault_count out.new))
-        (sink_state (R.taken report.old) (R.room report.old) (R.fault_count report.old))
-        (sink_state (R.taken report.new) (R.room report.new) (R.fault_count report.new))
+    ensures { EndsAsStated (IsServed command.now places)
+        (O.state out.old) (O.state out.new) (R.state report.old) (R.state report.new)
         (code_of result) }
 {
     match command {
@@ -161,11 +149,8 @@ fn serve_file<S: Files + Clone + Drop + Alloc<A = Global>, O: Sink, R: Sink>(
     report: &mut R,
 ) -> Status
     requires { is_over_file command.now ≡ true }
-    ensures { Ends (IsServed command.now places)
-        (sink_state (O.taken out.old) (O.room out.old) (O.fault_count out.old))
-        (sink_state (O.taken out.new) (O.room out.new) (O.fault_count out.new))
-        (sink_state (R.taken report.old) (R.room report.old) (R.fault_count report.old))
-        (sink_state (R.taken report.new) (R.room report.new) (R.fault_count report.new))
+    ensures { EndsAsStated (IsServed command.now places)
+        (O.state out.old) (O.state out.new) (R.state report.old) (R.state report.new)
         (code_of result) }
 {
     let name = places.main.as_str();
@@ -183,12 +168,9 @@ fn file_read<O: Sink, R: Sink>(
     report: &mut R,
 ) -> Status
     requires { is_over_file command.now ≡ true }
-    ensures { Ends (IsReadOutcome name.now
+    ensures { EndsAsStated (IsReadOutcome name.now
         (λ main outcome. StatesOutcome command.now main None (λ name. None) outcome) read)
-        (sink_state (O.taken out.old) (O.room out.old) (O.fault_count out.old))
-        (sink_state (O.taken out.new) (O.room out.new) (O.fault_count out.new))
-        (sink_state (R.taken report.old) (R.room report.old) (R.fault_count report.old))
-        (sink_state (R.taken report.new) (R.room report.new) (R.fault_count report.new))
+        (O.state out.old) (O.state out.new) (R.state report.old) (R.state report.new)
         (code_of result) }
 {
     match read {
@@ -218,11 +200,8 @@ fn serve_versions<S: Input + Files + Clone + Drop + Alloc<A = Global>, O: Sink, 
     report: &mut R,
 ) -> Status
     requires { is_query command.now ≡ false }
-    ensures { Ends (IsVersionsServed command.now path.now proxy)
-        (sink_state (O.taken out.old) (O.room out.old) (O.fault_count out.old))
-        (sink_state (O.taken out.new) (O.room out.new) (O.fault_count out.new))
-        (sink_state (R.taken report.old) (R.room report.old) (R.fault_count report.old))
-        (sink_state (R.taken report.new) (R.room report.new) (R.fault_count report.new))
+    ensures { EndsAsStated (IsVersionsServed command.now path.now proxy)
+        (O.state out.old) (O.state out.new) (R.state report.old) (R.state report.new)
         (code_of result) }
 {
     match proxy {
@@ -244,11 +223,8 @@ fn list_read<O: Sink, R: Sink>(
     report: &mut R,
 ) -> Status
     requires { is_query command.now ≡ false }
-    ensures { Ends (IsReadOutcome (codes "-") (IsInputOutcome command.now path.now) read)
-        (sink_state (O.taken out.old) (O.room out.old) (O.fault_count out.old))
-        (sink_state (O.taken out.new) (O.room out.new) (O.fault_count out.new))
-        (sink_state (R.taken report.old) (R.room report.old) (R.fault_count report.old))
-        (sink_state (R.taken report.new) (R.room report.new) (R.fault_count report.new))
+    ensures { EndsAsStated (IsReadOutcome (codes "-") (IsInputOutcome command.now path.now) read)
+        (O.state out.old) (O.state out.new) (R.state report.old) (R.state report.new)
         (code_of result) }
 {
     match read {
@@ -277,11 +253,8 @@ fn over_list<O: Sink, R: Sink>(
     report: &mut R,
 ) -> Status
     requires { is_query command.now ≡ false }
-    ensures { Ends (IsInputOutcome command.now path.now list.items)
-        (sink_state (O.taken out.old) (O.room out.old) (O.fault_count out.old))
-        (sink_state (O.taken out.new) (O.room out.new) (O.fault_count out.new))
-        (sink_state (R.taken report.old) (R.room report.old) (R.fault_count report.old))
-        (sink_state (R.taken report.new) (R.room report.new) (R.fault_count report.new))
+    ensures { EndsAsStated (IsInputOutcome command.now path.now list.items)
+        (O.state out.old) (O.state out.new) (R.state report.old) (R.state report.new)
         (code_of result) }
 {
     match store_of(alloc, path, list) {
@@ -299,11 +272,8 @@ fn over_folders<S: Files + Clone + Drop + Alloc<A = Global>, O: Sink, R: Sink>(
     report: &mut R,
 ) -> Status
     requires { is_query command.now ≡ false }
-    ensures { Ends (IsFolderOutcome command.now)
-        (sink_state (O.taken out.old) (O.room out.old) (O.fault_count out.old))
-        (sink_state (O.taken out.new) (O.room out.new) (O.fault_count out.new))
-        (sink_state (R.taken report.old) (R.room report.old) (R.fault_count report.old))
-        (sink_state (R.taken report.new) (R.room report.new) (R.fault_count report.new))
+    ensures { EndsAsStated (IsFolderOutcome command.now)
+        (O.state out.old) (O.state out.new) (R.state report.old) (R.state report.new)
         (code_of result) }
 {
     let Ok(main) = String::from_str(rt.alloc(), ".") else {
@@ -372,11 +342,8 @@ pub(crate) fn unread<O: Sink, R: Sink>(
     out: &mut O,
     report: &mut R,
 ) -> Status
-    ensures { Ends (λ outcome. outcome ≡ unread_outcome name.now fault)
-        (sink_state (O.taken out.old) (O.room out.old) (O.fault_count out.old))
-        (sink_state (O.taken out.new) (O.room out.new) (O.fault_count out.new))
-        (sink_state (R.taken report.old) (R.room report.old) (R.fault_count report.old))
-        (sink_state (R.taken report.new) (R.room report.new) (R.fault_count report.new))
+    ensures { EndsAsStated (λ outcome. outcome ≡ unread_outcome name.now fault)
+        (O.state out.old) (O.state out.new) (R.state report.old) (R.state report.new)
         (code_of result) }
 {
     match fault {
@@ -414,11 +381,8 @@ fn bad_proxy(alloc: Global, value: &str) -> Result<String, NoMemory>
 
 /// Shows help or reports a usage error, and returns the exit status.
 fn tell<O: Sink, R: Sink>(alloc: Global, fault: &UsageFault, out: &mut O, report: &mut R) -> u8
-    ensures { Ends (λ outcome. outcome ≡ usage_outcome fault.now)
-        (sink_state (O.taken out.old) (O.room out.old) (O.fault_count out.old))
-        (sink_state (O.taken out.new) (O.room out.new) (O.fault_count out.new))
-        (sink_state (R.taken report.old) (R.room report.old) (R.fault_count report.old))
-        (sink_state (R.taken report.new) (R.room report.new) (R.fault_count report.new))
+    ensures { EndsAsStated (λ outcome. outcome ≡ usage_outcome fault.now)
+        (O.state out.old) (O.state out.new) (R.state report.old) (R.state report.new)
         result }
 {
     match fault {
@@ -445,10 +409,7 @@ fn tell<O: Sink, R: Sink>(alloc: Global, fault: &UsageFault, out: &mut O, report
 /// Reports a usage error and returns the exit status: 2, or 3 if a sink fails.
 fn report_usage<O: Sink, R: Sink>(out: &mut O, report: &mut R, text: &str) -> u8
     ensures { IsWritten (usage_error text.now)
-        (sink_state (O.taken out.old) (O.room out.old) (O.fault_count out.old))
-        (sink_state (O.taken out.new) (O.room out.new) (O.fault_count out.new))
-        (sink_state (R.taken report.old) (R.room report.old) (R.fault_count report.old))
-        (sink_state (R.taken report.new) (R.room report.new) (R.fault_count report.new))
+        (O.state out.old) (O.state out.new) (R.state report.old) (R.state report.new)
         result }
 {
     match write_both(out, b"", report, text.as_bytes()) {

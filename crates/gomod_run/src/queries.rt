@@ -4,7 +4,7 @@
 ghost use Rattle.std.specs.Prelude.{◌≡◌, ◌++◌, [], Contains, IfOk, List};
 ghost use Rattle.std.specs.Option.{option_map};
 ghost use Rattle.gm_store.specs.Asked.{Name, Reply};
-ghost use Rattle.gm_graph_listing.specs.Outcomes.{IsAnswer, answers, given, outcome_of};
+ghost use Rattle.gm_graph_listing.specs.Outcomes.{IsAnswer, answers, given, outcome_view};
 ghost use Rattle.gomod_run.specs.Needs.{GraphNeeds};
 ghost use Rattle.gomod_run.specs.Runs.{AskedInTurn, FailsInTurn, store_state};
 
@@ -27,7 +27,7 @@ pub(crate) fn query_outcome<F: Files>(
         × (F.refused files.new ≡ F.refused files.old ++ failed)
         × IsAnswer query.entry
         (given main.now (option_map (λ sums. sums.now) sums.entry) (answers (F.asked files.new) failed))
-        (outcome_of output)) }
+        (outcome_view output)) }
     ensures in_turn { AskedInTurn (GraphNeeds main.now (option_map (λ sums. sums.now) sums.entry)) (F.asked files.new) }
     ensures fails { FailsInTurn (GraphNeeds main.now (option_map (λ sums. sums.now) sums.entry))
         (store_state (F.asked files.old) (F.refused files.old))

@@ -8,7 +8,7 @@ ghost use Rattle.gm_store.specs.Relative.{IsFolderOf};
 ghost use Rattle.gm_graph_listing.specs.Outcomes.{code_of};
 ghost use Rattle.gomod_run.specs.Program.{IsQueryRun, IsReadOutcome, IsServed, IsSumsServed};
 ghost use Rattle.gomod_run.specs.Runs.{is_query};
-ghost use Rattle.gomod_run.specs.Written.{Ends, sink_state};
+ghost use Rattle.gomod_run.specs.Written.{EndsAsStated};
 
 use crate::program::{folders_of, read_file, unread};
 use crate::running::run;
@@ -32,11 +32,8 @@ fn run_query<F: Store, O: Sink, R: Sink>(
 ) -> Status
     requires unasked { F.asked files.old ≡ [] }
     requires query { is_query command.now ≡ true }
-    ensures { Ends (IsQueryRun command.now main.now (option_map (λ sums. sums.now) sums.entry))
-        (sink_state (O.taken out.old) (O.room out.old) (O.fault_count out.old))
-        (sink_state (O.taken out.new) (O.room out.new) (O.fault_count out.new))
-        (sink_state (R.taken report.old) (R.room report.old) (R.fault_count report.old))
-        (sink_state (R.taken report.new) (R.room report.new) (R.fault_count report.new))
+    ensures { EndsAsStated (IsQueryRun command.now main.now (option_map (λ sums. sums.now) sums.entry))
+        (O.state out.old) (O.state out.new) (R.state report.old) (R.state report.new)
         (code_of result) }
 {
     run(alloc, command, main, sums, files, out, report)
@@ -62,11 +59,8 @@ fn over_places<S: Files + Clone + Drop + Alloc<A = Global>, O: Sink, R: Sink>(
     report: &mut R,
 ) -> Status
     requires { is_query command.now ≡ true }
-    ensures { Ends (IsQueryRun command.now main.now (option_map (λ sums. sums.now) sums.entry))
-        (sink_state (O.taken out.old) (O.room out.old) (O.fault_count out.old))
-        (sink_state (O.taken out.new) (O.room out.new) (O.fault_count out.new))
-        (sink_state (R.taken report.old) (R.room report.old) (R.fault_count report.old))
-        (sink_state (R.taken report.new) (R.room report.new) (R.fault_count report.new))
+    ensures { EndsAsStated (IsQueryRun command.now main.now (option_map (λ sums. sums.now) sums.entry))
+        (O.state out.old) (O.state out.new) (R.state report.old) (R.state report.new)
         (code_of result) }
 {
     let Places { folder, proxy } = places;
@@ -92,13 +86,10 @@ fn sums_read<S: Files + Clone + Drop + Alloc<A = Global>, O: Sink, R: Sink>(
     report: &mut R,
 ) -> Status
     requires { is_query command.now ≡ true }
-    ensures { Ends (IsReadOutcome named.entry.0.now
+    ensures { EndsAsStated (IsReadOutcome named.entry.0.now
         (λ sums outcome. IsQueryRun command.now main.now (Some sums) outcome)
         named.entry.1)
-        (sink_state (O.taken out.old) (O.room out.old) (O.fault_count out.old))
-        (sink_state (O.taken out.new) (O.room out.new) (O.fault_count out.new))
-        (sink_state (R.taken report.old) (R.room report.old) (R.fault_count report.old))
-        (sink_state (R.taken report.new) (R.room report.new) (R.fault_count report.new))
+        (O.state out.old) (O.state out.new) (R.state report.old) (R.state report.new)
         (code_of result) }
 {
     let (name, read) = named;
@@ -127,11 +118,8 @@ fn with_sums<S: Files + Clone + Drop + Alloc<A = Global>, O: Sink, R: Sink>(
     report: &mut R,
 ) -> Status
     requires { is_query command.now ≡ true }
-    ensures { Ends (IsSumsServed command.now (option_map (λ name. name.now) sums.entry) main.now)
-        (sink_state (O.taken out.old) (O.room out.old) (O.fault_count out.old))
-        (sink_state (O.taken out.new) (O.room out.new) (O.fault_count out.new))
-        (sink_state (R.taken report.old) (R.room report.old) (R.fault_count report.old))
-        (sink_state (R.taken report.new) (R.room report.new) (R.fault_count report.new))
+    ensures { EndsAsStated (IsSumsServed command.now (option_map (λ name. name.now) sums.entry) main.now)
+        (O.state out.old) (O.state out.new) (R.state report.old) (R.state report.new)
         (code_of result) }
 {
     match sums {
@@ -155,13 +143,10 @@ fn main_read<S: Files + Clone + Drop + Alloc<A = Global>, O: Sink, R: Sink>(
     report: &mut R,
 ) -> Status
     requires { is_query command.now ≡ true }
-    ensures { Ends (IsReadOutcome named.entry.0.now
+    ensures { EndsAsStated (IsReadOutcome named.entry.0.now
         (λ main outcome. IsSumsServed command.now (option_map (λ name. name.now) sums.entry) main outcome)
         named.entry.1)
-        (sink_state (O.taken out.old) (O.room out.old) (O.fault_count out.old))
-        (sink_state (O.taken out.new) (O.room out.new) (O.fault_count out.new))
-        (sink_state (R.taken report.old) (R.room report.old) (R.fault_count report.old))
-        (sink_state (R.taken report.new) (R.room report.new) (R.fault_count report.new))
+        (O.state out.old) (O.state out.new) (R.state report.old) (R.state report.new)
         (code_of result) }
 {
     let (name, read) = named;
@@ -187,11 +172,8 @@ pub(crate) fn serve_query<S: Files + Clone + Drop + Alloc<A = Global>, O: Sink, 
     report: &mut R,
 ) -> Status
     requires { is_query command.now ≡ true }
-    ensures { Ends (IsServed command.now places)
-        (sink_state (O.taken out.old) (O.room out.old) (O.fault_count out.old))
-        (sink_state (O.taken out.new) (O.room out.new) (O.fault_count out.new))
-        (sink_state (R.taken report.old) (R.room report.old) (R.fault_count report.old))
-        (sink_state (R.taken report.new) (R.room report.new) (R.fault_count report.new))
+    ensures { EndsAsStated (IsServed command.now places)
+        (O.state out.old) (O.state out.new) (R.state report.old) (R.state report.new)
         (code_of result) }
 {
     let gomod_words::Places { main, proxy, sums } = places;

@@ -6,7 +6,7 @@ ghost use Rattle.gm_store.specs.Asked.{Name, Reply, answer_in};
 ghost use Rattle.gm_graph_listing.specs.Outcomes.{code_of};
 ghost use Rattle.gomod_run.specs.Runs.{AnsweredAll, AskedInTurn, FailsInTurn, Needs, store_state, takes_sums};
 ghost use Rattle.gomod_run.specs.Queries.{RunsTo};
-ghost use Rattle.gomod_run.specs.Written.{Ends, sink_state};
+ghost use Rattle.gomod_run.specs.Written.{EndsAsStated};
 
 use crate::outcome::outcome;
 use crate::writing::{NO_MEMORY, end};
@@ -68,13 +68,10 @@ pub fn run<F: Files, O: Sink, R: Sink>(
     // A go.sum that such a command ignored would pass for one that was checked.
     requires no_sums { takes_sums command.now ≡ false → option_map (λ sums. sums.now) sums ≡ None }
     // All asks and all allocations come before the first byte is written, so a report never follows part of a text.
-    ensures ends { Ends (RunsTo command.now main.now (option_map (λ sums. sums.now) sums.entry)
+    ensures ends { EndsAsStated (RunsTo command.now main.now (option_map (λ sums. sums.now) sums.entry)
         (store_state (F.asked files.old) (F.refused files.old))
         (store_state (F.asked files.new) (F.refused files.new)))
-        (sink_state (O.taken out.old) (O.room out.old) (O.fault_count out.old))
-        (sink_state (O.taken out.new) (O.room out.new) (O.fault_count out.new))
-        (sink_state (R.taken report.old) (R.room report.old) (R.fault_count report.old))
-        (sink_state (R.taken report.new) (R.room report.new) (R.fault_count report.new))
+        (O.state out.old) (O.state out.new) (R.state report.old) (R.state report.new)
         (code_of result) }
     // Each file is asked for once, and is needed by the answers before it. `fmt` and `edit` need none. `graph`,
     // `list` and `chain` need the go.mod files of the opened modules, and none if the main file or the go.sum can't

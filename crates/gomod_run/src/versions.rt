@@ -9,7 +9,7 @@ ghost use Rattle.gm_file.specs.Views.{interval_views};
 ghost use Rattle.gm_file_retract.specs.Shown.{shown_of};
 ghost use Rattle.gm_store.specs.Asked.{Name, Reply, answer_in, mod_file, reply_of};
 ghost use Rattle.gm_graph_cache.specs.Reading.{IsContentReading, IsFileReading};
-ghost use Rattle.gm_graph_listing.specs.Outcomes.{outcome_of, printed};
+ghost use Rattle.gm_graph_listing.specs.Outcomes.{outcome_view, printed};
 ghost use Rattle.gm_store.specs.Latest.{IsLatest};
 ghost use Rattle.gomod_run.specs.Asking.{IsLatestAsked};
 ghost use Rattle.gomod_run.specs.Listing.{IsListState};
@@ -122,7 +122,7 @@ fn shown_outcome(
 ) -> Result<Output, NoMemory>
     requires { IsStrictlySortedBy version_cmp versions.now }
     ensures { IfOk result (λ output.
-        IsShownOutcome path.now versions.now latest.now (reply_of answer.now) (outcome_of output)) }
+        IsShownOutcome path.now versions.now latest.now (reply_of answer.now) (outcome_view output)) }
 {
     match read_answer(alloc, answer)? {
         Ok(dependency) => {
@@ -173,7 +173,7 @@ fn listed<F: Files>(
         (VersionsNeed path.now all) (IsVersionsOutcome path.now all)
         (store_state (F.asked files.old) (F.refused files.old))
         (store_state (F.asked files.new) (F.refused files.new))
-        (outcome_of output))) }
+        (outcome_view output))) }
     ensures in_turn { (all : Bool) → AskedInTurn (VersionsNeed path.now all) (F.asked files.new) }
     ensures fails { (all : Bool)
         → FailsInTurn (VersionsNeed path.now all)
@@ -209,7 +209,7 @@ fn asked_latest(versions: &[ModVersion], all: bool) -> Option<&ModVersion>
 /// The output that prints all listed versions.
 fn all_outcome(alloc: Global, path: &ModPath, versions: &[ModVersion]) -> Result<Output, NoMemory>
     requires { IsStrictlySortedBy version_cmp versions.now }
-    ensures { IfOk result (λ output. outcome_of output ≡ printed (versions_line path.now versions.now)) }
+    ensures { IfOk result (λ output. outcome_view output ≡ printed (versions_line path.now versions.now)) }
 {
     let line = shown_line(alloc, path, versions, &[])?;
     Ok(printed(alloc, line))
@@ -227,7 +227,7 @@ pub(crate) fn versions_outcome<F: Files>(
     ensures comes { IfOk result (λ output. IsRunOutcome (VersionsNeed path.now all) (IsVersionsOutcome path.now all)
         (store_state (F.asked files.old) (F.refused files.old))
         (store_state (F.asked files.new) (F.refused files.new))
-        (outcome_of output)) }
+        (outcome_view output)) }
     ensures in_turn { AskedInTurn (VersionsNeed path.now all) (F.asked files.new) }
     ensures fails { FailsInTurn (VersionsNeed path.now all)
         (store_state (F.asked files.old) (F.refused files.old))

@@ -3,7 +3,7 @@
 
 ghost use Rattle.std.specs.Prelude.{◌≡◌, MatchResult};
 ghost use Rattle.gm_graph_listing.specs.Outcomes.{code_of};
-ghost use Rattle.gomod_run.specs.Written.{IsWritten, WroteBoth, WrotePrefix, sink_state};
+ghost use Rattle.gomod_run.specs.Written.{IsWritten, WroteBoth, WrotePrefix};
 
 use gm_graph_listing::Status;
 use gm_store::{Sink, WriteFault, write_all};
@@ -20,15 +20,9 @@ pub(crate) fn write_both<O: Sink, R: Sink>(
 ) -> Result<(), WriteFault>
     ensures { MatchResult result
         (λ _. WroteBoth text.now line.now
-        (sink_state (O.taken out.old) (O.room out.old) (O.fault_count out.old))
-        (sink_state (O.taken out.new) (O.room out.new) (O.fault_count out.new))
-        (sink_state (R.taken report.old) (R.room report.old) (R.fault_count report.old))
-        (sink_state (R.taken report.new) (R.room report.new) (R.fault_count report.new)))
+        (O.state out.old) (O.state out.new) (R.state report.old) (R.state report.new))
         (λ _. WrotePrefix text.now line.now
-        (sink_state (O.taken out.old) (O.room out.old) (O.fault_count out.old))
-        (sink_state (O.taken out.new) (O.room out.new) (O.fault_count out.new))
-        (sink_state (R.taken report.old) (R.room report.old) (R.fault_count report.old))
-        (sink_state (R.taken report.new) (R.room report.new) (R.fault_count report.new))) }
+        (O.state out.old) (O.state out.new) (R.state report.old) (R.state report.new)) }
 {
     write_all(out, text)?;
     write_all(report, line)
@@ -43,10 +37,7 @@ pub(crate) fn end<O: Sink, R: Sink>(
     status: Status,
 ) -> Status
     ensures { IsWritten (record { text = text.now; report = line.now; status = code_of status })
-        (sink_state (O.taken out.old) (O.room out.old) (O.fault_count out.old))
-        (sink_state (O.taken out.new) (O.room out.new) (O.fault_count out.new))
-        (sink_state (R.taken report.old) (R.room report.old) (R.fault_count report.old))
-        (sink_state (R.taken report.new) (R.room report.new) (R.fault_count report.new))
+        (O.state out.old) (O.state out.new) (R.state report.old) (R.state report.new)
         (code_of result) }
 {
     match write_both(out, text, report, line) {

@@ -4,7 +4,7 @@ use Rattle.gm_syntax.specs.LineViews.{line_of, plain}
 use Rattle.gm_file.specs.declared.fault.LineFault.{LineFault}
 use Rattle.gm_file.specs.DirectiveViews.{IsLineRead}
 use Rattle.gm_file.specs.Directives.{Strict, item_at}
-use Rattle.gm_file_edit.specs.Fates.{held_at}
+use Rattle.gm_file_edit.specs.Fates.{directive_at}
 use Rattle.gm_file_edit.proofs.Drops.{line-read, never-wrong}
 use Rattle.gm_file_edit.proofs.dropping.held_at.Goals as goal
 
@@ -13,5 +13,5 @@ returns-in-Ok c = line-read c.args.block (line_of c.args.line.now) c.in-Ok.direc
 
 pub returns-in-Kind : goal.returns-in-Kind
 returns-in-Kind c =
-    never-wrong (None ≡ held_at (option_map (λ t. t.now) c.args.block) (line_of c.args.line.now)) c.args.block (line_of c.args.line.now) c.in-Kind.field-0 c.requires
+    never-wrong (None ≡ directive_at (option_map (λ t. t.now) c.args.block) (line_of c.args.line.now)) c.args.block (line_of c.args.line.now) c.in-Kind.field-0 c.requires
     (subst (λ (f : LineFault). IsLineRead Strict (item_at (option_map (λ t. t.now.word) c.args.block, plain (line_of c.args.line.now))) (Err f)) c.in-Kind.is c.in-Err.ensures)

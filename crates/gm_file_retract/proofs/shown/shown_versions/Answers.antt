@@ -1,7 +1,7 @@
 use Rattle.std.proofs.Common.{◌≡◌, ◌∙◌, ◌++◌, ◌∷◌, [], Bor, List, Option, ap, map, option_map, subst, sym, ℕ}
 use Rattle.std.proofs.lemmas.List.{map-append}
 use Rattle.gm_file.specs.Views.{interval_views}
-use Rattle.gm_file_retract.specs.Swept.{AreAllSwept, AreSwept, pairs_of}
+use Rattle.gm_file_retract.specs.Swept.{AreAllSwept, AreSwept, ends_views}
 use Rattle.gm_file_retract.proofs.Sweeping.{ready_here, ready_rest, shown_more, shown_same, sorted_rest}
 use Rattle.gm_file_retract.proofs.shown.shown_versions.Goals as goal
 use Rattle.gm_file_retract.proofs.shown.shown_versions.Goals.{then-not-is_reached+in_ok-push, else-not-is_reached}
@@ -9,12 +9,12 @@ use Rattle.gm_file_retract.proofs.shown.shown_versions.Goals.{then-not-is_reache
 pub advance-sweep-requires : goal.advance-sweep-requires
 advance-sweep-requires c =
     rw c.as_slice.ensures.value
-    (ready_here (pairs_of c.in_ok-ends.ends.items) c.args.versions.now c.loop-version.version-index c.version-item.result c.loop-version.sweep.next _
+    (ready_here (ends_views c.in_ok-ends.ends.items) c.args.versions.now c.loop-version.version-index c.version-item.result c.loop-version.sweep.next _
     c.loop-version-test.true c.version-item.is c.loop-version.invariant.ready)
 
 pub loop-version-preserved : goal.loop-version-preserved
 loop-version-preserved c =
-    let ps = pairs_of c.in_ok-ends.ends.items in
+    let ps = ends_views c.in_ok-ends.ends.items in
     let is = interval_views c.args.intervals.now in
     let vs = c.args.versions.now in
     let i = c.loop-version.version-index in

@@ -1,5 +1,5 @@
 use Rattle.std.proofs.Common.{List, sym, subst}
-use Rattle.gm_graph_cache.specs.Main.{Vertex}
+use Rattle.gm_graph_cache.specs.Main.{ModuleVersion}
 use Rattle.gm_graph_select.specs.declared.step.Edge.{Edge}
 use Rattle.gm_graph_select.specs.BuildList.{Entry, IsBuildList, entries_of_rows, main_path, main_replaces}
 use Rattle.gm_graph_select.specs.Graph.{AreEnds, among}
@@ -14,7 +14,7 @@ new-requires c =
     let edges = c.in_ok-edges.edges.items in
     let same : HaveSame found edges = c.in_ok-edges.ensures.members in
     are_reached (main_path c.args.main.now) (main_replaces c.args.main.now) edges (entries_of_rows c.in_ok-rows.rows.items) (sorted_rooted found edges same c.requires.rooted)
-    (c.in_ok-rows.ensures edges (subst (λ (ends : List Vertex). AreEnds ends (among edges)) (sym c.in_ok-ends.ensures) (ends_along _ found edges same c.requires.ends)))
+    (c.in_ok-rows.ensures edges (subst (λ (ends : List ModuleVersion). AreEnds ends (among edges)) (sym c.in_ok-ends.ensures) (ends_along _ found edges same c.requires.ends)))
     c.in_ok-edges.ensures.ascending
 
 pub returns-clause-edges : goal.returns-clause-edges
@@ -30,4 +30,4 @@ returns-clause-rows c =
     let entries = entries_of_rows c.in_ok-rows.rows.items in
     subst (λ (es : List Edge). IsBuildList path replaces (among es) c.new.result.rows) (sym c.new.ensures.edges)
     (subst (λ (rows : List Entry). IsBuildList path replaces (among edges) rows) (sym c.new.ensures.rows)
-    (c.in_ok-rows.ensures edges (subst (λ (ends : List Vertex). AreEnds ends (among edges)) (sym c.in_ok-ends.ensures) (ends_along _ found edges same c.requires.ends))))
+    (c.in_ok-rows.ensures edges (subst (λ (ends : List ModuleVersion). AreEnds ends (among edges)) (sym c.in_ok-ends.ensures) (ends_along _ found edges same c.requires.ends))))

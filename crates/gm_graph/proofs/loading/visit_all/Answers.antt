@@ -2,7 +2,7 @@ use Rattle.std.proofs.Common.{◌≡◌, ◌∙◌, ◌++◌, get_or, subst, sym
 use Rattle.gm_store.specs.Asked.{Name}
 use Rattle.gm_graph_cache.specs.declared.depth.Turn.{Turn}
 use Rattle.gm_graph_cache.specs.Cached.{main_in, sums_in}
-use Rattle.gm_graph_cache.specs.Refusals.{refused_by}
+use Rattle.gm_graph_cache.specs.Refusals.{refused_names}
 use Rattle.gm_graph_cache.proofs.Growing.{may_along, may_none}
 use Rattle.gm_graph.proofs.Dues.{asks_more, due_here, many_here, refused_same}
 use Rattle.gm_graph.proofs.Rounds.{few_turns}
@@ -69,5 +69,5 @@ pub returns-in_err-visit-clause-refused : goal.returns-in_err-visit-clause-refus
 returns-in_err-visit-clause-refused g c =
     let same = refused_same c.from_residual-in_err-visit.result c.in_err-visit.field-0.0 (λ f e. rw e at c.from_residual-in_err-visit.ensures.1) c.from_residual-in_err-visit.ensures.0 in
     c.in_err-visit.ensures.refused
-    ∙ ap (λ (ns : List Name). ns ++ refused_by c.in_err-visit.field-0.0) c.turns.invariant.refused
+    ∙ ap (λ (ns : List Name). ns ++ refused_names c.in_err-visit.field-0.0) c.turns.invariant.refused
     ∙ ap (λ (ns : List Name). g.F.Files.refused c.args.files.now ++ ns) (sym same)

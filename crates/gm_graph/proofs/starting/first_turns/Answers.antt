@@ -1,6 +1,6 @@
 use Rattle.std.proofs.Common.{List, Err, sym, ap, subst}
 use Rattle.gm_graph_cache.specs.declared.depth.Depth.{Depth}
-use Rattle.gm_graph_cache.specs.Main.{Vertex, kept, main_of}
+use Rattle.gm_graph_cache.specs.Main.{ModuleVersion, without_excluded, main_of}
 use Rattle.gm_graph.specs.Turns.{AddsAll}
 use Rattle.gm_graph.proofs.Adding.{overflow_of}
 use Rattle.gm_graph.proofs.Rounds.{first_turns_are}
@@ -15,4 +15,4 @@ returns-clause-first c =
     let old = c.new-worklist.result.turns.items in
     let new = c.add_all.new.self.turns.items in
     first_turns_are main old new c.new-worklist.ensures.empty
-    (subst (λ (d : Depth). AddsAll old new (kept main main.requirements) d) c.first_depth.ensures (subst (λ (xs : List Vertex). AddsAll old new xs c.first_depth.result) c.requires c.in_ok-add_all.ensures.adds))
+    (subst (λ (d : Depth). AddsAll old new (without_excluded main main.requirements) d) c.first_depth.ensures (subst (λ (xs : List ModuleVersion). AddsAll old new xs c.first_depth.result) c.requires c.in_ok-add_all.ensures.adds))

@@ -2,12 +2,12 @@ use Rattle.std.proofs.Common.{◌∙◌, ◌++◌, sym, ap, subst, Bool, List, E
 use Rattle.gm_graph_cache.specs.Cached.{held_of, main_in}
 use Rattle.gm_graph_cache.specs.declared.depth.Depth.TheVariants.{Deep}
 use Rattle.gm_graph_cache.specs.declared.depth.Turn.{Turn}
-use Rattle.gm_graph_cache.specs.Main.{Vertex}
-use Rattle.gm_graph_cache.specs.Reading.{requirements_of}
+use Rattle.gm_graph_cache.specs.Main.{ModuleVersion}
+use Rattle.gm_graph_cache.specs.Reading.{vertex_requirements}
 use Rattle.gm_graph_cache.specs.Turns.{turn}
 use Rattle.gm_graph.specs.declared.graph_builder.GraphBuilder.{GraphBuilder}
 use Rattle.gm_graph.specs.Visiting.{readings_in}
-use Rattle.gm_graph.specs.Building.{AddsEdges, edges_in, faults_in}
+use Rattle.gm_graph.specs.Building.{AddsEdges, edges_in, faults_by_vertex}
 use Rattle.gm_graph.specs.Turns.{AddsAll, Visits, OverflowsWith, leaves_with}
 use Rattle.gm_graph.proofs.Deepening.{follows_adds, follows_nothing}
 use Rattle.gm_graph.proofs.Turning.{finding_known, gathers_edges, gathers_no_edges}
@@ -28,14 +28,14 @@ returns-then-not-leads-clause-followed c =
       follows = subst (λ (ts : List Turn). Visits main (readings_in c.args.cache.now) turns ts (turn x d)) (sym c.in_ok-add_leaves.ensures.turns)
           (follows_nothing main (readings_in c.args.cache.now) turns x d (finding_known main held x found c.requires.finding) (sym c.in_ok-leads.ensures ∙ c.if-not-leads.true));
       leaves = c.in_ok-add_leaves.ensures.leaves
-          ∙ ap (λ (ys : List Vertex). leaves ++ ys) c.in_ok-lent.ensures.lent
-          ∙ ap (λ (b : Bool). leaves_with b leaves (requirements_of main (readings_in c.args.cache.now) x)) (sym (sym c.in_ok-leads.ensures ∙ c.if-not-leads.true));
+          ∙ ap (λ (ys : List ModuleVersion). leaves ++ ys) c.in_ok-lent.ensures.lent
+          ∙ ap (λ (b : Bool). leaves_with b leaves (vertex_requirements main (readings_in c.args.cache.now) x)) (sym (sym c.in_ok-leads.ensures ∙ c.if-not-leads.true));
       gathers = elim c.if-gathers.branch [
         | then-gathers+in_ok-add_edges w ↦
             gathers_edges main held turns x d found c.requires.finding c.args.builder.now c.note.new.self c.if-gathers.builder c.in_ok-note.ensures.faults c.in_ok-note.ensures.edges
-            (subst (λ (ys : List Vertex). AddsEdges (edges_in c.note.new.self) (edges_in c.if-gathers.builder) x ys) c.in_ok-lent.ensures.lent
+            (subst (λ (ys : List ModuleVersion). AddsEdges (edges_in c.note.new.self) (edges_in c.if-gathers.builder) x ys) c.in_ok-lent.ensures.lent
             (subst (λ (g : GraphBuilder). AddsEdges (edges_in c.note.new.self) (edges_in g) x c.in_ok-lent.lent.now) (sym w.builder-is) w.in_ok-add_edges.ensures.edges))
-            (λ q. ap (λ (g : GraphBuilder). faults_in g q) w.builder-is ∙ w.in_ok-add_edges.ensures.faults q)
+            (λ q. ap (λ (g : GraphBuilder). faults_by_vertex g q) w.builder-is ∙ w.in_ok-add_edges.ensures.faults q)
         | else-gathers w ↦
             gathers_no_edges main held turns x d found c.requires.finding c.args.builder.now c.note.new.self c.if-gathers.builder c.in_ok-note.ensures.faults c.in_ok-note.ensures.edges
             (sym c.in_ok-gathers.ensures ∙ w.if-gathers.false) w.builder-is
@@ -54,14 +54,14 @@ returns-in-Ok-clause-followed c =
     record {
       worklist = c.in-Ok.ensures.worklist;
       follows = follows_adds main (readings_in c.args.cache.now) turns c.add_all.new.self.turns.items x d (finding_known main held x found c.requires.finding) (sym c.in_ok-leads.ensures ∙ c.if-not-leads.false)
-          (subst (λ (ys : List Vertex). AddsAll turns c.add_all.new.self.turns.items ys Deep) c.in_ok-lent.ensures.lent c.in-Ok.ensures.adds);
-      leaves = c.in-Ok.ensures.leaves ∙ ap (λ (b : Bool). leaves_with b leaves (requirements_of main (readings_in c.args.cache.now) x)) (sym (sym c.in_ok-leads.ensures ∙ c.if-not-leads.false));
+          (subst (λ (ys : List ModuleVersion). AddsAll turns c.add_all.new.self.turns.items ys Deep) c.in_ok-lent.ensures.lent c.in-Ok.ensures.adds);
+      leaves = c.in-Ok.ensures.leaves ∙ ap (λ (b : Bool). leaves_with b leaves (vertex_requirements main (readings_in c.args.cache.now) x)) (sym (sym c.in_ok-leads.ensures ∙ c.if-not-leads.false));
       gathers = elim c.if-gathers.branch [
         | then-gathers+in_ok-add_edges w ↦
             gathers_edges main held turns x d found c.requires.finding c.args.builder.now c.note.new.self c.if-gathers.builder c.in_ok-note.ensures.faults c.in_ok-note.ensures.edges
-            (subst (λ (ys : List Vertex). AddsEdges (edges_in c.note.new.self) (edges_in c.if-gathers.builder) x ys) c.in_ok-lent.ensures.lent
+            (subst (λ (ys : List ModuleVersion). AddsEdges (edges_in c.note.new.self) (edges_in c.if-gathers.builder) x ys) c.in_ok-lent.ensures.lent
             (subst (λ (g : GraphBuilder). AddsEdges (edges_in c.note.new.self) (edges_in g) x c.in_ok-lent.lent.now) (sym w.builder-is) w.in_ok-add_edges.ensures.edges))
-            (λ q. ap (λ (g : GraphBuilder). faults_in g q) w.builder-is ∙ w.in_ok-add_edges.ensures.faults q)
+            (λ q. ap (λ (g : GraphBuilder). faults_by_vertex g q) w.builder-is ∙ w.in_ok-add_edges.ensures.faults q)
         | else-gathers w ↦
             gathers_no_edges main held turns x d found c.requires.finding c.args.builder.now c.note.new.self c.if-gathers.builder c.in_ok-note.ensures.faults c.in_ok-note.ensures.edges
             (sym c.in_ok-gathers.ensures ∙ w.if-gathers.false) w.builder-is
@@ -71,5 +71,5 @@ returns-in-Ok-clause-followed c =
 pub returns-in-Err-TooMany-clause-too_many : goal.returns-in-Err-TooMany-clause-too_many
 returns-in-Err-TooMany-clause-too_many c = λ _. (
   sym c.in_ok-leads.ensures ∙ c.if-not-leads.false,
-  subst (λ (ys : List Vertex). OverflowsWith c.args.worklist.now.vertices.items ys) c.in_ok-lent.ensures.lent (c.in-Err-TooMany.ensures.too_many (ap Err c.in-Err-TooMany.field-0-is)),
+  subst (λ (ys : List ModuleVersion). OverflowsWith c.args.worklist.now.vertices.items ys) c.in_ok-lent.ensures.lent (c.in-Err-TooMany.ensures.too_many (ap Err c.in-Err-TooMany.field-0-is)),
 )

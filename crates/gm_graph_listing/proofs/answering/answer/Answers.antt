@@ -1,12 +1,12 @@
 use Rattle.std.specs.Option.{option_copied}
 use Rattle.gm_graph_cache.specs.Main.{main_of}
-use Rattle.gm_graph_listing.specs.Outcomes.{outcome_of}
+use Rattle.gm_graph_listing.specs.Outcomes.{outcome_view}
 use Rattle.gm_graph_listing.proofs.CommandOutcomes.{both_err, both_ok, over_fails, refused_read}
 use Rattle.gm_graph_listing.proofs.answering.answer.Goals as goal
 
 pub returns-in-Err-clause-comes : goal.returns-in-Err-clause-comes
 returns-in-Err-clause-comes g c =
-    refused_read c.args.query c.args.file.now (option_copied c.args.sums) (g.F.Files.asked c.args.files.now) (g.F.Files.refused c.args.files.now) (outcome_of c.in-Err.output)
+    refused_read c.args.query c.args.file.now (option_copied c.args.sums) (g.F.Files.asked c.args.files.now) (g.F.Files.refused c.args.files.now) (outcome_view c.in-Err.output)
     c.requires (both_err c.args.file.now (option_copied c.args.sums) c.in_ok-read.field-0 c.in-Err.output c.in-Err.is c.in_ok-read.ensures)
 
 pub returns-in_err-output-clause-fails : goal.returns-in_err-output-clause-fails

@@ -7,9 +7,9 @@ use Rattle.gm_store.proofs.sinks.write_all.Given as goal
 abbrev pub invariant-pieces : goal.invariant-pieces
 invariant-pieces g l = record {
   place : l.at ≤ length l.piece;
-  appended : Appends (g.S.Sink.taken l.initial.sink) (g.S.Sink.taken l.sink) (take l.at l.piece);
-  left : RoomLeft (g.S.Sink.room l.initial.sink) (g.S.Sink.room l.sink) l.at;
-  later : g.S.Sink.fault_count l.initial.sink ≤ g.S.Sink.fault_count l.sink;
+  appended : Appends (g.S.Sink.state l.initial.sink).taken (g.S.Sink.state l.sink).taken (take l.at l.piece);
+  left : RoomLeft (g.S.Sink.state l.initial.sink).room (g.S.Sink.state l.sink).room l.at;
+  later : (g.S.Sink.state l.initial.sink).faults ≤ (g.S.Sink.state l.sink).faults;
 }
 
 abbrev pub decreases-pieces : goal.decreases-pieces

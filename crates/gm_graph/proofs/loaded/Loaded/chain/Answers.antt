@@ -2,10 +2,10 @@ use Rattle.std.proofs.Common.{List, sym, subst}
 use Rattle.gm_graph_select.specs.declared.row.Row.{Row}
 use Rattle.gm_graph_select.specs.declared.step.Edge.{Edge}
 use Rattle.gm_graph_select.specs.declared.step.Step.{Step}
-use Rattle.gm_graph_select.specs.BuildList.{IsEntryOf, IsListed, entries_of_rows}
+use Rattle.gm_graph_select.specs.BuildList.{IsEntryOf, HasEntryFor, entries_of_rows}
 use Rattle.gm_graph_select.specs.Chains.{IsReached}
 use Rattle.gm_graph_select.specs.Graph.{among}
-use Rattle.gm_graph.specs.Outcome.{Outcome}
+use Rattle.gm_graph.specs.Outcome.{LoadedGraph}
 use Rattle.gm_graph.proofs.Listing.{reached_entry}
 use Rattle.gm_graph.proofs.loaded.Loaded.chain.Goals as goal
 
@@ -16,4 +16,4 @@ returns-clause-not_listed c = λ err listed.
     reached_entry main c.self.inside.edges.items (entries_of_rows c.self.inside.rows.items) path c.self.invariant
     (subst (λ (es : List Edge). ¬ ((s : Step) × IsEntryOf main (entries_of_rows c.self.inside.rows.items) path s × IsReached (among es) s)) c.deref.ensures.value
     (subst (λ (rs : List Row). ¬ ((s : Step) × IsEntryOf main (entries_of_rows rs) path s × IsReached (among c.deref.result.now) s)) c.deref-2.ensures.value (c.chain.ensures.not_listed err)))
-    (subst (λ (o : Outcome). IsListed o.main o.rows path) (sym c.self.view_is) listed)
+    (subst (λ (o : LoadedGraph). HasEntryFor o.main o.rows path) (sym c.self.view_is) listed)

@@ -1,6 +1,6 @@
 use Rattle.std.proofs.Common.{◌∙◌, ◌++◌, ◌∷◌, [], List, length, sym, ap, arith, inl, inr}
 use Rattle.std.proofs.lemmas.Map.Views.{Contains-from_any}
-use Rattle.gm_graph_cache.specs.Main.{Vertex}
+use Rattle.gm_graph_cache.specs.Main.{ModuleVersion}
 use Rattle.gm_graph_cache.specs.Turns.{turn}
 use Rattle.gm_graph.specs.declared.worklist.Worklist.{Worklist}
 use Rattle.gm_graph.proofs.Sameness.{exact_turn}
@@ -28,7 +28,7 @@ pub returns-then-len-ge-MOST-clause-too_many : goal.returns-then-len-ge-MOST-cla
 returns-then-len-ge-MOST-clause-too_many c = λ _.
     let old = c.args.self.now in
     let fresh = was_not_marked _ _ c.in_ok-is_new.ensures.is_new c.if-not-is_new.false in
-    let same = ap (λ (vs : List Vertex). length vs) c.in_ok-is_new.ensures.vertices in
+    let same = ap (λ (vs : List ModuleVersion). length vs) c.in_ok-is_new.ensures.vertices in
     (omega (arith, same), sym (vertex_by_mark old c.mark.new.self c.args.vertex.now c.args.depth _ c.requires c.in_ok-is_new.ensures.marked fresh c.in_ok-has_vertex.ensures) ∙ c.if-not-has_vertex.true)
 
 pub returns-clause-adds : goal.returns-clause-adds
@@ -56,10 +56,10 @@ returns-clause-worklist c =
     elim c.if-not-has_vertex.branch [
       | then-not-has_vertex+else-len-ge-MOST+in_ok-push_vertex w ↦
           let more = c.in_ok-push_turn.ensures ∙ ap (λ (o : Worklist). o.turns.items ++ turn x d ∷ []) w.self-is ∙ ap (λ ts. ts ++ turn x d ∷ []) c.in_ok-is_new.ensures.turns in
-          let many = ap (λ (vs : List Vertex). length vs) c.in_ok-is_new.ensures.vertices in
+          let many = ap (λ (vs : List ModuleVersion). length vs) c.in_ok-is_new.ensures.vertices in
           record {
             turns = same_lists same.vertices.items (vertices ++ x ∷ []) c.push_turn.new.turns.items (turns ++ turn x d ∷ [])
-                (ap (λ (o : Worklist). o.vertices.items) w.self-is ∙ w.in_ok-push_vertex.ensures ∙ ap (λ (vs : List Vertex). vs ++ x ∷ []) c.in_ok-is_new.ensures.vertices) more
+                (ap (λ (o : Worklist). o.vertices.items) w.self-is ∙ w.in_ok-push_vertex.ensures ∙ ap (λ (vs : List ModuleVersion). vs ++ x ∷ []) c.in_ok-is_new.ensures.vertices) more
                 (new_turn vertices turns x d c.requires.turns fresh (sym there ∙ w.if-not-has_vertex.true) (omega (arith, many)));
             marks = marks_more old marked x d c.in_ok-is_new.ensures.marked new c.requires.marks (marked_same new marked (ap (λ (o : Worklist). o.tops) w.self-is) (ap (λ (o : Worklist). o.deeps) w.self-is)) more;
           }

@@ -1,0 +1,9 @@
+use Rattle.std.proofs.Common.{◌≡◌, arith, take}
+use Rattle.std.proofs.lemmas.Grind.{common_steps}
+use Rattle.gm_graph.proofs.InOrder.{edges_counted}
+use Rattle.gm_graph.proofs.adjacency.count.Goals as goal
+
+pub loop-one-preserved : goal.loop-one-preserved
+loop-one-preserved c =
+    let more = edges_counted c.args.all.now c.loop-one.one-index c.one-item.result (omega arith) c.one-item.is in
+    omega (arith, c.loop-one.invariant, more)
