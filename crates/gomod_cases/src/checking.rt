@@ -1,15 +1,15 @@
 //! Whether the commands of a case have the results that it states.
 
 use crate::calls::call;
-use crate::cases::{Case, Run};
 use crate::differences::Differences;
-use crate::folders::{lay_files, make_folder};
-use crate::memory::outcome_in_memory;
+use crate::memory::{InMemory, outcome_in_memory};
 use crate::outcomes::{Outcome, Room};
+use crate::parsing::{ParsedRun, parsed_runs};
 use crate::stores::Form;
 use crate::sweeping::sweep;
-use crate::views::View;
 use crate::workspace::{Workspace, are_opened, is_each_opened_once};
+use gomod_case_files::{Case, Run, View, lay_files, make_folder};
+use std::alloc::{AllocError, Global};
 use std::{fs, io};
 
 /// How many bytes beyond the expected ones an output takes.
@@ -50,11 +50,23 @@ fn check_in(
         folder,
         input: case.input(),
     };
-    for run in &case.runs {
-        check_run(&workspace, case, run, differences)?;
-    }
+    let runs = parsed_runs(rt.alloc(), case)?;
+    check_runs(&workspace, case, runs.as_slice(), differences)?;
     if differences.is_empty() && !case.is_large {
-        sweep(&workspace, case, differences)?;
+        sweep(&workspace, case, runs.as_slice(), differences)?;
+    }
+    Ok(())
+}
+
+/// Checks the commands of a case.
+fn check_runs(
+    workspace: &Workspace<'_>,
+    case: &Case<'_>,
+    runs: &[ParsedRun<'_>],
+    differences: &mut Differences,
+) -> io::Result<()> {
+    for run in runs {
+        check_run(workspace, case, run, differences)?;
     }
     Ok(())
 }
@@ -62,14 +74,17 @@ fn check_in(
 fn check_run(
     workspace: &Workspace<'_>,
     case: &Case<'_>,
-    run: &Run<'_>,
+    parsed_run: &ParsedRun<'_>,
     differences: &mut Differences,
 ) -> io::Result<()> {
+    let run = parsed_run.run;
     if !run.is_command_line() {
-        return check_call(workspace, case, run, differences);
+        check_call(workspace, case, run, differences)?;
+        return Ok(());
     }
     check_real(workspace, run, differences)?;
-    check_in_memory(workspace, case, run, differences)
+    check_in_memory(workspace, case, parsed_run, differences)?;
+    Ok(())
 }
 
 /// Checks a call of a library function.
@@ -105,14 +120,9 @@ fn check_real(
     let real = workspace.outcome(run, room_for(run))?;
     if !is_wanted(run, &real.outcome) {
         differences.command(run, "over real files")?;
-        differences.outcome(&real.outcome)?;
-        return Ok(differences.wanted(run)?);
+        return Ok(report_difference(run, &real.outcome, differences)?);
     }
-    let is_right = match &run.opened {
-        Some(names) => are_opened(alloc, real.opened.as_slice(), names.as_slice())?,
-        None => is_each_opened_once(alloc, real.opened.as_slice())?,
-    };
-    if !is_right {
+    if !opens_right(alloc, run, real.opened.as_slice())? {
         differences.command(run, "the files that it opens")?;
         differences.line("  got:")?;
         differences.opened(real.opened.as_slice())?;
@@ -120,44 +130,74 @@ fn check_real(
     Ok(())
 }
 
+/// Whether a command opened the files that the case lists, or, where it lists none, no file twice.
+fn opens_right(alloc: Global, run: &Run<'_>, opened: &[String]) -> Result<bool, AllocError> {
+    Ok(match &run.opened {
+        Some(names) => are_opened(alloc, opened, names.as_slice())?,
+        None => is_each_opened_once(alloc, opened)?,
+    })
+}
+
 /// Checks a command line over a store in memory. Where the result differs there, or the command can't be run in memory,
 /// the case has to say so.
 fn check_in_memory(
     workspace: &Workspace<'_>,
     case: &Case<'_>,
-    run: &Run<'_>,
+    parsed_run: &ParsedRun<'_>,
     differences: &mut Differences,
 ) -> io::Result<()> {
-    let found = match &run.parsed {
-        Some(parsed) => {
-            let view = View::whole(case);
-            outcome_in_memory(
-                workspace.system.alloc(),
-                &view,
-                parsed,
-                Form::Named,
-                room_for(run),
-            )?
-        }
-        None => None,
-    };
+    let run = parsed_run.run;
+    let found = found_in_memory(workspace.system.alloc(), case, parsed_run)?;
     let is_needless = match &found {
         Some(found) => is_wanted(run, &found.outcome),
         // a usage error, or a request for help
-        None => run.parsed.is_none(),
+        None => parsed_run.parsed.is_none(),
     };
-    if run.is_over_files_only == is_needless {
+    if run.is_over_files_only && is_needless {
         differences.command(run, "in memory")?;
-        match found {
-            _ if is_needless => differences.line("  its line % files is not needed")?,
-            Some(found) => {
-                differences.outcome(&found.outcome)?;
-                differences.wanted(run)?;
-            }
-            None => differences.line("  has no form in memory: say so by a line % files")?,
-        }
+        differences.line("  its line % files is not needed")?;
+    }
+    if !run.is_over_files_only && !is_needless {
+        differences.command(run, "in memory")?;
+        report_in_memory(run, &found, differences)?;
     }
     Ok(())
+}
+
+/// The result of a command over a store in memory, if it can be run there.
+fn found_in_memory(
+    alloc: Global,
+    case: &Case<'_>,
+    parsed_run: &ParsedRun<'_>,
+) -> Result<Option<InMemory>, AllocError> {
+    let Some(parsed) = &parsed_run.parsed else {
+        return Ok(None);
+    };
+    let view = View::whole(case);
+    outcome_in_memory(alloc, &view, parsed, Form::Named, room_for(parsed_run.run))
+}
+
+/// Reports that a command has another result in memory, or none.
+fn report_in_memory(
+    run: &Run<'_>,
+    found: &Option<InMemory>,
+    differences: &mut Differences,
+) -> Result<(), AllocError> {
+    match found {
+        Some(found) => report_difference(run, &found.outcome, differences)?,
+        None => differences.line("  has no form in memory: say so by a line % files")?,
+    }
+    Ok(())
+}
+
+/// Reports the result that a command had, and the one that it should have.
+fn report_difference(
+    run: &Run<'_>,
+    outcome: &Outcome,
+    differences: &mut Differences,
+) -> Result<(), AllocError> {
+    differences.outcome(outcome)?;
+    differences.wanted(run)
 }
 
 /// Whether a command had the result that the case states.

@@ -1,12 +1,12 @@
 //! Commands over files of which one is cut off.
 
-use crate::cases::{Case, Run};
 use crate::differences::Differences;
 use crate::memory::{layout, outcome_in_memory};
 use crate::outcomes::{DEVICE, Outcome, Room};
+use crate::parsing::ParsedRun;
 use crate::stores::Form;
-use crate::views::View;
 use crate::workspace::Workspace;
+use gomod_case_files::{Case, Run, View};
 use std::alloc::{AllocError, Global};
 use std::io;
 
@@ -31,111 +31,127 @@ pub(crate) struct Cut<'a> {
 pub(crate) fn check_cut(
     workspace: &Workspace<'_>,
     case: &Case<'_>,
+    runs: &[ParsedRun<'_>],
     cut: &Cut<'_>,
     differences: &mut Differences,
 ) -> io::Result<()> {
-    let alloc = workspace.system.alloc();
-    let view = View {
-        case,
-        cut: Some((cut.name, cut.bytes)),
-    };
-    let layout = layout_of(alloc, case, cut)?;
-    for run in &case.runs {
-        if !run.is_command_line() {
-            continue;
-        }
-        let found = found_in_memory(alloc, &view, run)?;
-        if let Some(found) = &found {
-            if let Some(fault) = unsound(run, cut, &layout, found) {
-                return report_cut(run, cut, fault, found, differences);
-            }
-        }
-        if !cut.is_real {
-            continue;
-        }
-        let real = workspace.outcome(run, AMPLE)?.outcome;
-        let fault = match &found {
-            Some(found) if found.is_same(&real) => None,
-            Some(_) => Some("otherwise than in memory"),
-            None => unsound(run, cut, &layout, &real),
-        };
-        if let Some(fault) = fault {
-            return report_cut(run, cut, fault, &real, differences);
+    let layout = layout_of(workspace.system.alloc(), runs, cut)?;
+    for parsed_run in runs {
+        if differences.is_empty() && parsed_run.run.is_command_line() {
+            check_run_over_cut(workspace, case, parsed_run, cut, &layout, differences)?;
         }
     }
     Ok(())
 }
 
-fn report_cut(
-    run: &Run<'_>,
+/// Runs a command in memory, if it runs there, and over real files where the real file is cut off.
+fn check_run_over_cut(
+    workspace: &Workspace<'_>,
+    case: &Case<'_>,
+    parsed_run: &ParsedRun<'_>,
     cut: &Cut<'_>,
-    fault: &str,
-    outcome: &Outcome,
+    layout: &Option<Outcome>,
     differences: &mut Differences,
 ) -> io::Result<()> {
-    differences.command(run, fault)?;
-    differences.line(cut.name)?;
-    differences.number("  cut off after so many bytes", cut.bytes.len())?;
-    Ok(differences.outcome(outcome)?)
+    let run = parsed_run.run;
+    let found = found_in_memory(workspace.system.alloc(), case, parsed_run, cut)?;
+    if let Some(found) = &found {
+        if let Some(fault) = unsound(layout, parsed_run, cut, found) {
+            return Ok(report_cut(run, fault, cut, found, differences)?);
+        }
+    }
+    if !cut.is_real {
+        return Ok(());
+    }
+    let real = workspace.outcome(run, AMPLE)?.outcome;
+    let fault = match &found {
+        Some(found) if found.is_same(&real) => None,
+        Some(_) => Some("otherwise than in memory"),
+        None => unsound(layout, parsed_run, cut, &real),
+    };
+    if let Some(fault) = fault {
+        report_cut(run, fault, cut, &real, differences)?;
+    }
+    Ok(())
 }
 
 /// The result of a command in memory, if it runs there.
 fn found_in_memory(
     alloc: Global,
-    view: &View<'_>,
-    run: &Run<'_>,
+    case: &Case<'_>,
+    parsed_run: &ParsedRun<'_>,
+    cut: &Cut<'_>,
 ) -> Result<Option<Outcome>, AllocError> {
-    let Some(parsed) = &run.parsed else {
+    let view = View {
+        case,
+        cut: Some((cut.name, cut.bytes)),
+    };
+    let Some(parsed) = &parsed_run.parsed else {
         return Ok(None);
     };
-    if run.is_over_files_only {
+    if parsed_run.run.is_over_files_only {
         return Ok(None);
     }
-    let found = outcome_in_memory(alloc, view, parsed, Form::Named, AMPLE)?;
+    let found = outcome_in_memory(alloc, &view, parsed, Form::Named, AMPLE)?;
     Ok(found.map(|found| found.outcome))
 }
 
-/// Whether a command reads this file as a main file.
-fn reads_main(run: &Run<'_>, name: &str) -> bool {
-    match &run.parsed {
-        Some(parsed) => parsed.reads_main(name),
-        None => false,
-    }
+/// Reports what is wrong with the result of a command over a file that is cut off.
+fn report_cut(
+    run: &Run<'_>,
+    fault: &str,
+    cut: &Cut<'_>,
+    outcome: &Outcome,
+    differences: &mut Differences,
+) -> Result<(), AllocError> {
+    differences.command(run, fault)?;
+    differences.line(cut.name)?;
+    differences.number("  cut off after so many bytes", cut.bytes.len())?;
+    differences.outcome(outcome)
 }
 
 /// The result of `fmt` over a file that is cut off, if a command of the case reads it as a main file.
-fn layout_of(alloc: Global, case: &Case<'_>, cut: &Cut<'_>) -> Result<Option<Outcome>, AllocError> {
-    if !case.runs.iter().any(|run| reads_main(run, cut.name)) {
+fn layout_of(
+    alloc: Global,
+    runs: &[ParsedRun<'_>],
+    cut: &Cut<'_>,
+) -> Result<Option<Outcome>, AllocError> {
+    if !runs.iter().any(|run| run.reads_main(cut.name)) {
         return Ok(None);
     }
     Ok(Some(layout(alloc, cut.bytes, AMPLE)?))
 }
 
-/// How a command over a main file differs from what `fmt` reports.
-fn differs(layout: &Outcome, outcome: &Outcome) -> Option<&'static str> {
-    if layout.status == 0 || layout.is_same(outcome) {
-        None
-    } else {
-        Some("over a main file that fmt refuses otherwise")
+/// How a command differs from what `fmt` reports of its main file, where `fmt` refuses that.
+fn differs(
+    layout: &Option<Outcome>,
+    parsed_run: &ParsedRun<'_>,
+    cut: &Cut<'_>,
+    outcome: &Outcome,
+) -> Option<&'static str> {
+    // an invalid go.sum is reported before an invalid main file
+    if parsed_run.run.status == DEVICE || !parsed_run.reads_main(cut.name) {
+        return None;
+    }
+    match layout {
+        Some(layout) if layout.status != 0 && !layout.is_same(outcome) => {
+            Some("over a main file that fmt refuses otherwise")
+        }
+        _ => None,
     }
 }
 
 /// What is wrong with the result of a command over files of which one is cut off.
 fn unsound(
-    run: &Run<'_>,
-    cut: &Cut<'_>,
     layout: &Option<Outcome>,
+    parsed_run: &ParsedRun<'_>,
+    cut: &Cut<'_>,
     outcome: &Outcome,
 ) -> Option<&'static str> {
-    if !is_sound(run, outcome) {
-        return Some("over a file that is cut off");
-    }
-    match layout {
-        // an invalid go.sum is reported before an invalid main file
-        Some(layout) if run.status != DEVICE && reads_main(run, cut.name) => {
-            differs(layout, outcome)
-        }
-        _ => None,
+    if is_sound(parsed_run.run, outcome) {
+        differs(layout, parsed_run, cut, outcome)
+    } else {
+        Some("over a file that is cut off")
     }
 }
 

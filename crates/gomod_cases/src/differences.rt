@@ -1,8 +1,7 @@
 //! Reports of cases that fail.
 
-use crate::cases::Run;
 use crate::outcomes::Outcome;
-use crate::pieces::NO_LINE_END;
+use gomod_case_files::{NO_LINE_END, Run};
 use std::alloc::{AllocError, Global};
 
 /// How many bytes of a text are shown.

@@ -132,9 +132,10 @@ fn push_retractions(text: &mut String, intervals: &[Interval]) -> Result<(), All
 /// Appends the right side of a replacement.
 fn push_right(text: &mut String, right: &Right) -> Result<(), AllocError> {
     match right {
-        Right::Folder(folder) => text.push_str(folder.as_str()),
-        Right::Module(path, version) => write!(text, "{path} {version}"),
+        Right::Folder(folder) => text.push_str(folder.as_str())?,
+        Right::Module(path, version) => write!(text, "{path} {version}")?,
     }
+    Ok(())
 }
 
 /// Appends a replacement.

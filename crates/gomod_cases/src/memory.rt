@@ -4,13 +4,12 @@ ghost use Rattle.std.specs.Prelude.{◌≡◌, [], None, false, true};
 ghost use Rattle.std.specs.Option.{option_map};
 ghost use Rattle.gomod_run.specs.Runs.{takes_sums};
 
-use crate::cases::STDIN;
 use crate::outcomes::{Outcome, Room};
 use crate::parsing::Parsed;
 use crate::stores::{Folders, Form};
-use crate::views::View;
 use gm_name::ModPath;
 use gm_store::{FileName, Files, Held, MemoryFiles, ProxyList, copy_name};
+use gomod_case_files::{STDIN, View};
 use gomod_run::run;
 use gomod_words::Command;
 use std::alloc::{AllocError, Global};
@@ -39,22 +38,22 @@ pub(crate) fn outcome_in_memory(
     room: Room,
 ) -> Result<Option<InMemory>, AllocError> {
     let command = &parsed.command;
-    match command {
+    Ok(match command {
         Command::Versions { path, .. } => {
             let folders = list_folders(alloc, view, path, &parsed.proxy, form)?;
-            over_folders(alloc, command, b"", folders, room)
+            over_folders(alloc, command, b"", folders, room)?
         }
         Command::Fmt | Command::Edit(_) => {
             let Some(main) = view.named(parsed.main.as_str()) else {
                 return Ok(None);
             };
             let mut files = MemoryFiles::new(alloc);
-            Ok(Some(run_over(alloc, command, main, None, &mut files, room)?))
+            Some(run_over(alloc, command, main, None, &mut files, room)?)
         }
         Command::Graph | Command::List { .. } | Command::Chain(_) => {
-            over_graph(alloc, view, parsed, form, room)
+            over_graph(alloc, view, parsed, form, room)?
         }
-    }
+    })
 }
 
 /// The result of `fmt` over a main file.
@@ -164,16 +163,16 @@ fn asked_of<F: Files>(alloc: Global, files: &F) -> Result<Vec<Asked>, AllocError
 
 /// The name of a file in a report.
 fn label_of(alloc: Global, name: &FileName) -> Result<String, AllocError> {
-    match name {
+    Ok(match name {
         FileName::Mod(path, version) => {
             let path = path.as_str();
             let version = version.as_str();
-            Ok(format!(in alloc; "{path}@{version}")?)
+            format!(in alloc; "{path}@{version}")?
         }
-        FileName::Folder(folder) => String::from_str(alloc, folder.as_str()),
+        FileName::Folder(folder) => String::from_str(alloc, folder.as_str())?,
         FileName::List(path) => {
             let path = path.as_str();
-            Ok(format!(in alloc; "{path} list")?)
+            format!(in alloc; "{path} list")?
         }
-    }
+    })
 }

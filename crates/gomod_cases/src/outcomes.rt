@@ -21,6 +21,13 @@ impl Outcome {
             && self.report.bytes() == other.report.bytes()
             && self.status == other.status
     }
+
+    /// Whether the command wrote nothing, reported this and ended with status 3.
+    pub(crate) fn is_failure(&self, report: &str) -> bool {
+        self.out.bytes().is_empty()
+            && self.report.bytes() == report.as_bytes()
+            && self.status == DEVICE
+    }
 }
 
 /// How many bytes the outputs of a command take.

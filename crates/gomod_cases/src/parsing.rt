@@ -1,7 +1,7 @@
 //! What command lines ask the program for.
 
-use crate::places::tidied;
 use gm_store::ProxyList;
+use gomod_case_files::{Case, Run, tidied};
 use gomod_words::{Command, Places, UsageFault, read_words};
 use std::alloc::{AllocError, Global};
 
@@ -16,24 +16,28 @@ pub(crate) struct Parsed {
 
 impl Parsed {
     /// What words ask for, or none where they are a usage error or a request for help.
-    pub(crate) fn of(alloc: Global, words: &[&str]) -> Result<Option<Parsed>, AllocError> {
-        let (command, places) = match read_words(alloc, words) {
-            Ok(read) => read,
-            Err(UsageFault::NoMemory) => return Err(AllocError),
-            Err(_) => return Ok(None),
-        };
+    fn of(alloc: Global, words: &[&str]) -> Result<Option<Parsed>, AllocError> {
+        match read_words(alloc, words) {
+            Ok((command, places)) => Ok(Some(Parsed::of_places(alloc, command, places)?)),
+            Err(UsageFault::NoMemory) => Err(AllocError),
+            Err(_) => Ok(None),
+        }
+    }
+
+    /// A command and the places of its files.
+    fn of_places(alloc: Global, command: Command, places: Places) -> Result<Parsed, AllocError> {
         let Places { main, proxy, sums } = places;
         let main = tidied(alloc, main.as_str())?;
         let sums = match sums {
             Some(sums) => Some(tidied(alloc, sums.as_str())?),
             None => None,
         };
-        Ok(Some(Parsed {
+        Ok(Parsed {
             command,
             main,
             sums,
             proxy,
-        }))
+        })
     }
 
     /// How many proxy folders it names.
@@ -45,7 +49,46 @@ impl Parsed {
     }
 
     /// Whether it reads the file in this place as a main file.
-    pub(crate) fn reads_main(&self, place: &str) -> bool {
+    fn reads_main(&self, place: &str) -> bool {
         !matches!(self.command, Command::Versions { .. }) && self.main.as_str() == place
     }
+}
+
+/// A command of a case, and what it asks the program for.
+#[derive(Drop)]
+pub(crate) struct ParsedRun<'a> {
+    pub(crate) run: &'a Run<'a>,
+    /// None where the command is a call, a usage error or a request for help.
+    pub(crate) parsed: Option<Parsed>,
+}
+
+impl<'a> ParsedRun<'a> {
+    fn of(alloc: Global, run: &'a Run<'a>) -> Result<ParsedRun<'a>, AllocError> {
+        if !run.is_command_line() {
+            return Ok(ParsedRun { run, parsed: None });
+        }
+        let words = run.texts(alloc)?;
+        let parsed = Parsed::of(alloc, words.as_slice())?;
+        Ok(ParsedRun { run, parsed })
+    }
+
+    /// Whether the command reads the file in this place as a main file.
+    pub(crate) fn reads_main(&self, place: &str) -> bool {
+        match &self.parsed {
+            Some(parsed) => parsed.reads_main(place),
+            None => false,
+        }
+    }
+}
+
+/// The commands of a case, and what each of them asks for.
+pub(crate) fn parsed_runs<'a>(
+    alloc: Global,
+    case: &'a Case<'a>,
+) -> Result<Vec<ParsedRun<'a>>, AllocError> {
+    let mut parsed_runs = Vec::new(alloc);
+    for run in &case.runs {
+        parsed_runs.push(ParsedRun::of(alloc, run)?)?;
+    }
+    Ok(parsed_runs)
 }

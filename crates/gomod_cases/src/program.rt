@@ -1,10 +1,8 @@
 //! The program over files of cases.
 
-use crate::cases::{Case, Content};
 use crate::checking::check_case;
 use crate::differences::Differences;
-use crate::faults::CaseFault;
-use crate::reading::read_cases;
+use gomod_case_files::{Case, CaseFault, CaseFile, Content, read_cases};
 use std::process::ExitCode;
 use std::{env, fs, io};
 
@@ -75,39 +73,65 @@ fn run_file(
     words: &[String],
     tally: &mut Tally,
 ) -> io::Result<()> {
-    let text = match fs::read_to_string(rt, name) {
-        Ok(text) => text,
+    match fs::read_to_string(rt, name) {
+        Ok(text) => run_text(rt, stream, name, text.as_str(), words, tally)?,
         Err(error) => {
             tally.count(false);
             let line = format!(in rt.alloc(); "{name}: {error}\n")?;
-            return report(rt, stream, line.as_str());
+            report(rt, stream, line.as_str())?;
         }
-    };
-    match read_cases(rt.alloc(), text.as_str()) {
-        Ok(mut cases) => {
-            for case in &mut cases {
-                read_copies(rt, case)?;
-            }
-            run_cases(rt, stream, name, cases.as_slice(), words, tally)
+    }
+    Ok(())
+}
+
+/// Runs the cases of a text.
+fn run_text(
+    rt: &HostRuntime,
+    stream: Stream,
+    name: &str,
+    text: &str,
+    words: &[String],
+    tally: &mut Tally,
+) -> io::Result<()> {
+    match read_cases(rt.alloc(), text) {
+        Ok(cases) => {
+            let cases = with_copies(rt, cases)?;
+            run_cases(rt, stream, name, cases.as_slice(), words, tally)?;
         }
         Err(CaseFault::Line(number, fault)) => {
             tally.count(false);
             let line = format!(in rt.alloc(); "{name}:{number}: {fault}\n")?;
-            report(rt, stream, line.as_str())
+            report(rt, stream, line.as_str())?;
         }
-        Err(CaseFault::NoMemory) => Err(io::Error::from(io::ErrorKind::OutOfMemory)),
+        Err(CaseFault::NoMemory) => return Err(io::Error::from(io::ErrorKind::OutOfMemory)),
     }
+    Ok(())
+}
+
+/// The same cases, with the files that they copy.
+fn with_copies<'a>(rt: &HostRuntime, cases: Vec<Case<'a>>) -> io::Result<Vec<Case<'a>>> {
+    let mut cases = cases;
+    for case in &mut cases {
+        read_copies(rt, case)?;
+    }
+    Ok(cases)
 }
 
 /// Reads the files that a case copies.
 fn read_copies(rt: &HostRuntime, case: &mut Case<'_>) -> io::Result<()> {
     for file in &mut case.files {
-        let bytes = match &file.content {
-            Content::Copy(name) => fs::read(rt, name.as_str())?,
-            _ => continue,
-        };
-        file.content = Content::Bytes(bytes);
+        read_copy(rt, file)?;
     }
+    Ok(())
+}
+
+/// Reads the file that a file of a case copies, if it is a copy.
+fn read_copy(rt: &HostRuntime, file: &mut CaseFile) -> io::Result<()> {
+    let bytes = match &file.content {
+        Content::Copy(name) => fs::read(rt, name.as_str())?,
+        _ => return Ok(()),
+    };
+    file.content = Content::Bytes(bytes);
     Ok(())
 }
 
@@ -127,14 +151,25 @@ fn run_cases(
         check_case(rt, number, case, &mut differences)?;
         tally.count(differences.is_empty());
         if !differences.is_empty() {
-            let line = case.line;
-            let title = case.title;
-            let head = format!(in rt.alloc(); "{name}:{line}: {title}\n")?;
-            report(rt, stream, head.as_str())?;
-            report(rt, stream, differences.as_str())?;
+            report_case(rt, stream, name, case, differences.as_str())?;
         }
     }
     Ok(())
+}
+
+/// Reports how a case of this file differs.
+fn report_case(
+    rt: &HostRuntime,
+    stream: Stream,
+    name: &str,
+    case: &Case<'_>,
+    differences: &str,
+) -> io::Result<()> {
+    let line = case.line;
+    let title = case.title;
+    let head = format!(in rt.alloc(); "{name}:{line}: {title}\n")?;
+    report(rt, stream, head.as_str())?;
+    report(rt, stream, differences)
 }
 
 /// Whether the words choose a case. Where no word chooses titles, all cases are chosen.
@@ -153,7 +188,8 @@ fn is_chosen(case: &Case<'_>, words: &[String]) -> bool {
 
 fn report(rt: &HostRuntime, stream: Stream, text: &str) -> io::Result<()> {
     match stream {
-        Stream::Stderr => eprint!(rt; "{text}"),
-        Stream::Stdout => print!(rt; "{text}"),
+        Stream::Stderr => eprint!(rt; "{text}")?,
+        Stream::Stdout => print!(rt; "{text}")?,
     }
+    Ok(())
 }

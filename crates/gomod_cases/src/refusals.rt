@@ -1,10 +1,10 @@
 //! Command lines over a store that fails at a file, and over a proxy folder whose files are divided between two.
 
 use crate::memory::{Asked, InMemory, outcome_in_memory};
-use crate::outcomes::{DEVICE, Room};
+use crate::outcomes::Room;
 use crate::parsing::Parsed;
 use crate::stores::Form;
-use crate::views::View;
+use gomod_case_files::View;
 use std::alloc::{AllocError, Global};
 
 /// The outputs of a command that writes a line.
@@ -30,26 +30,31 @@ pub(crate) fn unsound_refusal<'a>(
     parsed: &Parsed,
     wanted: &'a InMemory,
 ) -> Result<Option<&'a Asked>, AllocError> {
-    for (index, asked) in wanted.asked.iter().enumerate() {
-        let form = Form::Broken(&asked.name);
-        let Some(found) = outcome_in_memory(alloc, view, parsed, form, A_LINE)? else {
-            return Ok(Some(asked));
-        };
-        let before = wanted.asked.iter().take(index);
-        let label = asked.label.as_str();
-        let line = format!(in alloc; "gomod: device at {label}\n")?;
-        let is_sound = found.outcome.status == DEVICE
-            && found.outcome.out.bytes().is_empty()
-            && found.outcome.report.bytes() == line.as_str().as_bytes()
-            && found.asked.len() == index
-            && before
-                .zip(&found.asked)
-                .all(|(one, other)| one.label == other.label);
-        if !is_sound {
-            return Ok(Some(asked));
+    let asked = wanted.asked.as_slice();
+    for index in 0..asked.len() {
+        let refused = &asked[index];
+        if !is_refused(alloc, view, parsed, refused, &asked[..index])? {
+            return Ok(Some(refused));
         }
     }
     Ok(None)
+}
+
+/// Whether a command over a store that fails at a file reports that file, and asks for those before it and no other.
+fn is_refused(
+    alloc: Global,
+    view: &View<'_>,
+    parsed: &Parsed,
+    refused: &Asked,
+    before: &[Asked],
+) -> Result<bool, AllocError> {
+    let form = Form::Broken(&refused.name);
+    let Some(found) = outcome_in_memory(alloc, view, parsed, form, A_LINE)? else {
+        return Ok(false);
+    };
+    let label = refused.label.as_str();
+    let report = format!(in alloc; "gomod: device at {label}\n")?;
+    Ok(found.outcome.is_failure(report.as_str()) && are_asked(found.asked.as_slice(), before))
 }
 
 /// Whether a command has the same result over the files of one proxy folder when they are divided between two, and asks

@@ -3,8 +3,6 @@
 ghost use Rattle.std.specs.Prelude.{◌≡◌, [], IfSome};
 ghost use Rattle.gm_store.specs.Views.{asked_by};
 
-use crate::places::tidied;
-use crate::views::View;
 use gm_file::{MainFile, Right};
 use gm_name::{ModPath, ModVersion, unescape};
 use gm_store::{
@@ -12,6 +10,7 @@ use gm_store::{
     relative_name,
 };
 use gm_syntax::Doc;
+use gomod_case_files::{CaseFile, View, tidied};
 use std::alloc::{AllocError, Global};
 
 /// How stores in memory represent the proxy folders of a command.
@@ -80,18 +79,18 @@ impl Folders {
         if matches!(name, FileName::Folder(_)) {
             return self.beside.put(name, held);
         }
-        match self.proxies.first_mut() {
-            Some(shelf) => shelf.put(name, held),
-            None => Ok(()),
+        if let Some(shelf) = self.proxies.first_mut() {
+            shelf.put(name, held)?;
         }
+        Ok(())
     }
 
     /// Makes the device fail at a file.
     pub(crate) fn break_at(&mut self, alloc: Global, form: Form<'_>) -> Result<(), AllocError> {
-        match form {
-            Form::Broken(name) => self.put(copy_name(alloc, name)?, Held::Broken),
-            Form::Named | Form::Divided => Ok(()),
+        if let Form::Broken(name) = form {
+            self.put(copy_name(alloc, name)?, Held::Broken)?;
         }
+        Ok(())
     }
 
     /// Adds the go.mod files of the folders by which a main file replaces modules.
@@ -134,10 +133,10 @@ impl Folders {
             let joined = format!(in alloc; "{main}/{relative}")?;
             tidied(alloc, joined.as_str())?
         };
-        match bytes_at(alloc, view, place.as_str())? {
-            Some(bytes) => self.put(name, Held::Content(bytes)),
-            None => Ok(()),
+        if let Some(bytes) = view.named(place.as_str()) {
+            self.put(name, Held::Content(copied(alloc, bytes)?))?;
         }
+        Ok(())
     }
 
     /// The store over these folders, if there is one more folder than marks.
@@ -157,19 +156,6 @@ impl Folders {
     }
 }
 
-/// The bytes of the file of a case at a place.
-fn bytes_at(alloc: Global, view: &View<'_>, place: &str) -> Result<Option<Vec<u8>>, AllocError> {
-    for file in &view.case.files {
-        let Some(bytes) = view.bytes(file) else {
-            continue;
-        };
-        if file.name.as_str() == place {
-            return Ok(Some(copied(alloc, bytes)?));
-        }
-    }
-    Ok(None)
-}
-
 /// The files of a case in a proxy folder: all of them, or of each two the first or the second.
 fn filled(
     alloc: Global,
@@ -181,10 +167,7 @@ fn filled(
     let mut shelf = MemoryFolder::new(alloc);
     let mut count = 0usize;
     for file in &view.case.files {
-        let Some(bytes) = view.bytes(file) else {
-            continue;
-        };
-        let Some(name) = name_in(alloc, folder.as_str(), file.name.as_str()) else {
+        let Some((name, bytes)) = held_in(alloc, view, folder.as_str(), file) else {
             continue;
         };
         count = count.saturating_add(1);
@@ -193,6 +176,18 @@ fn filled(
         }
     }
     Ok(shelf)
+}
+
+/// The name that a proxy folder has for a file of a case, and its bytes, if it is in that folder.
+fn held_in<'a>(
+    alloc: Global,
+    view: &View<'a>,
+    folder: &str,
+    file: &'a CaseFile,
+) -> Option<(FileName, &'a [u8])> {
+    let bytes = view.bytes(file)?;
+    let name = name_in(alloc, folder, file.name.as_str())?;
+    Some((name, bytes))
 }
 
 /// A copy of bytes.

@@ -1,16 +1,16 @@
 //! Commands over an output that is full, a file that can't be opened, a store that fails, or a file that is cut off.
 
-use crate::cases::{Case, CaseFile, Content, Run, STDIN};
 use crate::checking::room_for;
 use crate::cutting::{Cut, check_cut};
 use crate::differences::Differences;
 use crate::memory::{Asked, outcome_in_memory};
 use crate::outcomes::{DEVICE, Outcome, Room};
-use crate::parsing::Parsed;
+use crate::parsing::{Parsed, ParsedRun};
 use crate::refusals::{stands_division, unsound_refusal};
 use crate::stores::Form;
-use crate::views::View;
 use crate::workspace::{Real, Workspace};
+use gomod_case_files::{Case, CaseFile, Content, Run, STDIN, View};
+use std::alloc::{AllocError, Global};
 use std::{fs, io};
 
 /// The greatest length of a text that is cut at every byte. A longer one is cut at its line ends alone, unless the case
@@ -32,16 +32,27 @@ fn is_cut(text: &[u8], at: usize, is_cut_everywhere: bool) -> bool {
 pub(crate) fn sweep(
     workspace: &Workspace<'_>,
     case: &Case<'_>,
+    runs: &[ParsedRun<'_>],
     differences: &mut Differences,
 ) -> io::Result<()> {
-    for run in &case.runs {
-        if differences.is_empty() && run.is_command_line() {
-            sweep_run(workspace, case, run, differences)?;
+    for parsed_run in runs {
+        if differences.is_empty() && parsed_run.run.is_command_line() {
+            sweep_run(workspace, case, parsed_run, differences)?;
         }
     }
+    sweep_files(workspace, case, runs, differences)
+}
+
+/// Runs the commands of a case over each of its files, cut off.
+fn sweep_files(
+    workspace: &Workspace<'_>,
+    case: &Case<'_>,
+    runs: &[ParsedRun<'_>],
+    differences: &mut Differences,
+) -> io::Result<()> {
     for file in &case.files {
         if differences.is_empty() && file.mode.is_none() {
-            sweep_cuts(workspace, case, file, differences)?;
+            sweep_cuts(workspace, case, runs, file, differences)?;
         }
     }
     Ok(())
@@ -50,24 +61,22 @@ pub(crate) fn sweep(
 fn sweep_run(
     workspace: &Workspace<'_>,
     case: &Case<'_>,
-    run: &Run<'_>,
+    parsed_run: &ParsedRun<'_>,
     differences: &mut Differences,
 ) -> io::Result<()> {
-    sweep_outputs(workspace, case, run, differences)?;
+    let run = parsed_run.run;
+    sweep_outputs(workspace, case, parsed_run, differences)?;
     if run.is_over_files_only || !differences.is_empty() {
         return Ok(());
     }
-    match &run.parsed {
-        // a file may be looked for in several folders
-        Some(parsed) if parsed.folder_count() <= 1 => sweep_asks(
-            workspace,
-            case,
-            run,
-            parsed,
-            differences,
-        ),
-        _ => Ok(()),
+    let Some(parsed) = &parsed_run.parsed else {
+        return Ok(());
+    };
+    // a file may be looked for in several folders
+    if parsed.folder_count() <= 1 {
+        sweep_asks(workspace, case, run, parsed, differences)?;
     }
+    Ok(())
 }
 
 /// Runs a command that looks into one proxy folder at most over files that can't be opened, and over a folder that is
@@ -106,36 +115,69 @@ fn sweep_asks(
 fn sweep_outputs(
     workspace: &Workspace<'_>,
     case: &Case<'_>,
-    run: &Run<'_>,
+    parsed_run: &ParsedRun<'_>,
     differences: &mut Differences,
 ) -> io::Result<()> {
+    let run = parsed_run.run;
+    let longer = run.out.len().max(run.report.len());
+    let is_cut_everywhere = case.is_cut_everywhere || longer <= MOST;
+    sweep_out(workspace, case, parsed_run, is_cut_everywhere, differences)?;
+    sweep_report(workspace, case, parsed_run, is_cut_everywhere, differences)
+}
+
+/// Runs a command with less room for standard output than it needs.
+fn sweep_out(
+    workspace: &Workspace<'_>,
+    case: &Case<'_>,
+    parsed_run: &ParsedRun<'_>,
+    is_cut_everywhere: bool,
+    differences: &mut Differences,
+) -> io::Result<()> {
+    let run = parsed_run.run;
     let out = run.out.as_slice();
-    let report = run.report.as_slice();
-    let is_cut_everywhere = case.is_cut_everywhere || out.len().max(report.len()) <= MOST;
     for length in 0..out.len() {
-        if !is_cut(out, length, is_cut_everywhere) {
+        if !differences.is_empty() || !is_cut(out, length, is_cut_everywhere) {
             continue;
         }
         let room = Room {
             out: length,
-            report: report.len(),
+            report: run.report.len(),
         };
-        let outcome = outcome_within(workspace, case, run, room, begins_line(out, length))?;
+        let outcome = outcome_within(workspace, case, parsed_run, room, begins_line(out, length))?;
         if outcome.status != DEVICE || outcome.out.bytes() != &out[..length] {
-            return report_full(run, &outcome, length, differences);
+            report_full(run, &outcome, length, differences)?;
         }
     }
+    Ok(())
+}
+
+/// Runs a command with less room for its report than it needs.
+fn sweep_report(
+    workspace: &Workspace<'_>,
+    case: &Case<'_>,
+    parsed_run: &ParsedRun<'_>,
+    is_cut_everywhere: bool,
+    differences: &mut Differences,
+) -> io::Result<()> {
+    let run = parsed_run.run;
+    let report = run.report.as_slice();
     for length in 0..report.len() {
-        if !is_cut(report, length, is_cut_everywhere) {
+        if !differences.is_empty() || !is_cut(report, length, is_cut_everywhere) {
             continue;
         }
         let room = Room {
-            out: out.len(),
+            out: run.out.len(),
             report: length,
         };
-        let outcome = outcome_within(workspace, case, run, room, begins_line(report, length))?;
+        let outcome = outcome_within(
+            workspace,
+            case,
+            parsed_run,
+            room,
+            begins_line(report, length),
+        )?;
         if outcome.status != DEVICE || outcome.report.bytes() != &report[..length] {
-            return report_full(run, &outcome, length, differences);
+            report_full(run, &outcome, length, differences)?;
         }
     }
     Ok(())
@@ -146,11 +188,12 @@ fn sweep_outputs(
 fn outcome_within(
     workspace: &Workspace<'_>,
     case: &Case<'_>,
-    run: &Run<'_>,
+    parsed_run: &ParsedRun<'_>,
     room: Room,
     is_real: bool,
 ) -> io::Result<Outcome> {
-    if let Some(parsed) = &run.parsed {
+    let run = parsed_run.run;
+    if let Some(parsed) = &parsed_run.parsed {
         if !is_real && !run.is_over_files_only {
             let alloc = workspace.system.alloc();
             let view = View::whole(case);
@@ -188,26 +231,22 @@ fn sweep_opens(
         return Ok(differences.opened(real.opened.as_slice())?);
     };
     for (left, name) in real.opened.iter().enumerate() {
-        let label = match left.checked_sub(named).and_then(|at| asked.get(at)) {
-            Some(asked) => format!(in workspace.system.alloc();
-                "gomod: device at {}\n",
-                asked.label
-            )?,
-            None => format!(in workspace.system.alloc(); "gomod: cannot read {name}\n")?,
-        };
+        let asked = left.checked_sub(named).and_then(|at| asked.get(at));
+        let wanted = report_of(workspace.system.alloc(), asked, name.as_str())?;
         let failing = workspace.failing_after(run, room_for(run), left)?;
-        if !is_failure(&failing.outcome, label.as_str()) {
-            return report_failing(run, &failing, label.as_str(), differences);
+        if !failing.outcome.is_failure(wanted.as_str()) {
+            return report_failing(run, &failing, wanted.as_str(), differences);
         }
     }
     Ok(())
 }
 
-/// Whether a command wrote nothing, reported this and ended with status 3.
-fn is_failure(outcome: &Outcome, report: &str) -> bool {
-    outcome.out.bytes().is_empty()
-        && outcome.report.bytes() == report.as_bytes()
-        && outcome.status == DEVICE
+/// The report of a command that can't open a file: one that the store was asked for, or one that its words name.
+fn report_of(alloc: Global, asked: Option<&Asked>, name: &str) -> Result<String, AllocError> {
+    Ok(match asked {
+        Some(asked) => format!(in alloc; "gomod: device at {}\n", asked.label)?,
+        None => format!(in alloc; "gomod: cannot read {name}\n")?,
+    })
 }
 
 fn report_failing(
@@ -229,6 +268,7 @@ fn report_failing(
 fn sweep_cuts(
     workspace: &Workspace<'_>,
     case: &Case<'_>,
+    runs: &[ParsedRun<'_>],
     file: &CaseFile,
     differences: &mut Differences,
 ) -> io::Result<()> {
@@ -236,42 +276,55 @@ fn sweep_cuts(
         return Ok(());
     };
     let name = file.name.as_str();
+    let bytes = bytes.as_slice();
+    let is_cut_everywhere = case.is_cut_everywhere
+        || bytes.len().saturating_mul(runs.len()) <= MOST;
+    let needs_files = runs.iter().any(|run| run.run.is_over_files_only);
+    for end in 0..bytes.len() {
+        if differences.is_empty() && is_cut(bytes, end, is_cut_everywhere) {
+            let cut = Cut {
+                name,
+                bytes: &bytes[..end],
+                is_real: needs_files || begins_line(bytes, end),
+            };
+            sweep_cut(workspace, case, runs, &cut, differences)?;
+        }
+    }
+    write_file(workspace, name, bytes)
+}
+
+/// Runs the commands of a case over a file that is cut off.
+fn sweep_cut(
+    workspace: &Workspace<'_>,
+    case: &Case<'_>,
+    runs: &[ParsedRun<'_>],
+    cut: &Cut<'_>,
+    differences: &mut Differences,
+) -> io::Result<()> {
+    if cut.is_real {
+        write_file(workspace, cut.name, cut.bytes)?;
+    }
+    let input = if cut.name == STDIN {
+        cut.bytes
+    } else {
+        workspace.input
+    };
+    let workspace = Workspace {
+        system: workspace.system,
+        folder: workspace.folder,
+        input,
+    };
+    check_cut(&workspace, case, runs, cut, differences)
+}
+
+/// Writes a file of a case anew, unless it is standard input, which is in no folder.
+fn write_file(workspace: &Workspace<'_>, name: &str, bytes: &[u8]) -> io::Result<()> {
+    if name == STDIN {
+        return Ok(());
+    }
     let folder = workspace.folder;
     let place = format!(in workspace.system.alloc(); "{folder}/{name}")?;
-    let runs = bytes.len().saturating_mul(case.runs.len());
-    let is_cut_everywhere = case.is_cut_everywhere || runs <= MOST;
-    let needs_files = case.runs.iter().any(|run| run.is_over_files_only);
-    for end in 0..bytes.len() {
-        if !is_cut(bytes.as_slice(), end, is_cut_everywhere) {
-            continue;
-        }
-        let cut = Cut {
-            name,
-            bytes: &bytes[..end],
-            is_real: needs_files || begins_line(bytes.as_slice(), end),
-        };
-        let input = if name == STDIN {
-            cut.bytes
-        } else {
-            workspace.input
-        };
-        let workspace = Workspace {
-            system: workspace.system,
-            folder: workspace.folder,
-            input,
-        };
-        if cut.is_real && name != STDIN {
-            // unlike a file that is overwritten, a new one isn't flushed to the disk
-            fs::remove_file(&workspace.system, place.as_str())?;
-            fs::write(&workspace.system, place.as_str(), cut.bytes)?;
-        }
-        check_cut(&workspace, case, &cut, differences)?;
-        if !differences.is_empty() {
-            return Ok(());
-        }
-    }
-    if name != STDIN {
-        fs::write(&workspace.system, place.as_str(), bytes.as_slice())?;
-    }
-    Ok(())
+    // unlike a file that is overwritten, a new one isn't flushed to the disk
+    fs::remove_file(&workspace.system, place.as_str())?;
+    fs::write(&workspace.system, place.as_str(), bytes)
 }

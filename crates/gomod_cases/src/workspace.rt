@@ -1,9 +1,7 @@
 //! Commands over real files.
 
-use crate::case_runtime::{CaseRuntime, Log};
-use crate::cases::Run;
 use crate::outcomes::{Outcome, Room};
-use crate::places::tidied;
+use gomod_case_files::{CaseRuntime, Log, Run, tidied};
 use gomod_run::status_of_words;
 use std::alloc::{AllocError, Global};
 

@@ -18,7 +18,7 @@ fn parts_of(alloc: Global, path: &str) -> Result<Vec<&str>, AllocError> {
 }
 
 /// A path without parts that lead nowhere. A leading `/` stays.
-pub(crate) fn tidied(alloc: Global, path: &str) -> Result<String, AllocError> {
+pub fn tidied(alloc: Global, path: &str) -> Result<String, AllocError> {
     let parts = parts_of(alloc, path)?;
     let mut tidied = String::new(alloc);
     if path.starts_with('/') {

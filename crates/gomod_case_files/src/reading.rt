@@ -25,8 +25,8 @@ struct Reader<'a> {
     piece: Option<Piece>,
 }
 
-/// The cases of a text.
-pub(crate) fn read_cases<'a>(alloc: Global, text: &'a str) -> Result<Vec<Case<'a>>, CaseFault> {
+/// The cases of a text, in the order of their titles' lines.
+pub fn read_cases<'a>(alloc: Global, text: &'a str) -> Result<Vec<Case<'a>>, CaseFault> {
     let mut reader = Reader {
         alloc,
         cases: Vec::new(alloc),
@@ -74,13 +74,10 @@ impl<'a> Reader<'a> {
 
     /// Ends the piece that the lines so far belong to.
     fn end_piece(&mut self, is_last: bool) -> Result<(), CaseFault> {
-        let Some(piece) = self.piece.take() else {
-            return Ok(());
-        };
-        match &mut self.case {
-            Some(case) => piece.end(self.alloc, case, is_last),
-            None => Ok(()),
+        if let (Some(piece), Some(case)) = (self.piece.take(), &mut self.case) {
+            piece.end(self.alloc, case, is_last)?;
         }
+        Ok(())
     }
 
     /// Ends the case that the lines so far belong to.
@@ -122,7 +119,7 @@ fn take_line_of_runs<'a>(
     if let Some(command) = line.strip_prefix("$ ") {
         return match words_of(alloc, command) {
             Ok(words) if words.is_empty() => Err(CaseFault::Line(number, LineFault::BadWords)),
-            Ok(words) => Ok(runs.push(Run::new(alloc, number, command, words)?)?),
+            Ok(words) => Ok(runs.push(Run::new(alloc, number, command, words))?),
             Err(fault) => Err(CaseFault::of_words(number, fault)),
         };
     }
@@ -181,13 +178,18 @@ fn take_written(
             Err(fault) => Err(CaseFault::of_escapes(number, fault)),
         };
     }
-    let Some((count, line)) = rest.strip_prefix('*').and_then(|rest| rest.split_once(' ')) else {
+    let Some((count, line)) = repetition(rest) else {
         return Err(CaseFault::Line(number, LineFault::NoMark));
     };
     match count_of(count) {
         Some(count) => Ok(push_repeated(alloc, text, line, count)?),
         None => Err(CaseFault::Line(number, LineFault::BadCount)),
     }
+}
+
+/// The count of lines and the line after a mark and a `*`.
+fn repetition(rest: &str) -> Option<(&str, &str)> {
+    rest.strip_prefix('*')?.split_once(' ')
 }
 
 /// Takes the text after the mark of a file that a command opens.

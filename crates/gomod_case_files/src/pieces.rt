@@ -9,7 +9,7 @@ use crate::words::words_of;
 use std::alloc::{AllocError, Global};
 
 /// The last line of a file that does not end in a line end.
-pub(crate) const NO_LINE_END: &str = "\\ No newline at end of file";
+pub const NO_LINE_END: &str = "\\ No newline at end of file";
 
 /// What the header of a piece says of its lines.
 #[derive(Drop)]

@@ -6,7 +6,7 @@ use std::os::unix::fs::PermissionsExt;
 use std::{env, fs, io, process};
 
 /// Makes a new, empty folder.
-pub(crate) fn make_folder(rt: &HostRuntime, number: usize) -> io::Result<String> {
+pub fn make_folder(rt: &HostRuntime, number: usize) -> io::Result<String> {
     let system = env::temp_dir(rt)?;
     let system = system.as_str();
     let id = process::id(rt.process());
@@ -19,7 +19,7 @@ pub(crate) fn make_folder(rt: &HostRuntime, number: usize) -> io::Result<String>
 }
 
 /// Writes the files of a case into a folder.
-pub(crate) fn lay_files(rt: &HostRuntime, folder: &str, case: &Case<'_>) -> io::Result<()> {
+pub fn lay_files(rt: &HostRuntime, folder: &str, case: &Case<'_>) -> io::Result<()> {
     fs::create_dir_all(rt, folder)?;
     for file in &case.files {
         if file.name.as_str() != STDIN {
@@ -37,15 +37,13 @@ fn lay_file(rt: &HostRuntime, folder: &str, file: &CaseFile) -> io::Result<()> {
         fs::create_dir_all(rt, parent)?;
     }
     match &file.content {
-        Content::Folder => fs::create_dir_all(rt, place),
-        Content::Copy(_) => Ok(()),
-        Content::Link(to) => std::os::unix::fs::symlink(rt, to.as_str(), place),
-        Content::Bytes(bytes) => {
-            fs::write(rt, place, bytes.as_slice())?;
-            match file.mode {
-                Some(mode) => fs::set_permissions(rt, place, Permissions::from_mode(mode)),
-                None => Ok(()),
-            }
-        }
+        Content::Bytes(bytes) => fs::write(rt, place, bytes.as_slice())?,
+        Content::Folder => fs::create_dir_all(rt, place)?,
+        Content::Link(to) => std::os::unix::fs::symlink(rt, to.as_str(), place)?,
+        Content::Copy(_) => {}
     }
+    if let Some(mode) = file.mode {
+        fs::set_permissions(rt, place, Permissions::from_mode(mode))?;
+    }
+    Ok(())
 }

@@ -10,7 +10,7 @@ use std::rt::Files;
 
 /// The files that were opened, and which of them can't be opened.
 #[derive(Drop)]
-pub(crate) struct Log {
+pub struct Log {
     opened: RefCell<Vec<String>>,
     /// How many files can be opened before the one that can't, if there is one.
     left: Cell<Option<usize>>,
@@ -18,7 +18,7 @@ pub(crate) struct Log {
 
 impl Log {
     /// An empty log. Where a number is given, the file after that many others can't be opened.
-    pub(crate) fn new(alloc: Global, left: Option<usize>) -> Log {
+    pub fn new(alloc: Global, left: Option<usize>) -> Log {
         Log {
             opened: RefCell::new(Vec::new(alloc)),
             left: Cell::new(left),
@@ -43,7 +43,7 @@ impl Log {
     }
 
     /// The names of the files, in the order in which they were opened.
-    pub(crate) fn take(&self, alloc: Global) -> Vec<String> {
+    pub fn take(&self, alloc: Global) -> Vec<String> {
         match self.opened.try_replace(Vec::new(alloc)) {
             Ok(opened) => opened,
             Err(_) => Vec::new(alloc),
@@ -53,11 +53,15 @@ impl Log {
 
 /// A runtime whose files are in one real folder, and whose standard input is some bytes. All it can do is open a file.
 #[derive(Clone, Copy)]
-pub(crate) struct CaseRuntime<'a> {
-    pub(crate) system: HostRuntime,
-    pub(crate) folder: &'a str,
-    pub(crate) input: &'a [u8],
-    pub(crate) log: &'a Log,
+pub struct CaseRuntime<'a> {
+    /// The runtime that opens the real files.
+    pub system: HostRuntime,
+    /// The real folder.
+    pub folder: &'a str,
+    /// What standard input holds.
+    pub input: &'a [u8],
+    /// Where each file that is opened is recorded.
+    pub log: &'a Log,
 }
 
 fn unsupported<T>() -> io::Result<T> {

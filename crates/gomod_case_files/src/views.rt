@@ -4,20 +4,21 @@ use crate::cases::{Case, CaseFile, Content};
 
 /// The files of a case, of which one may have other bytes.
 #[derive(Clone, Copy)]
-pub(crate) struct View<'a> {
-    pub(crate) case: &'a Case<'a>,
+pub struct View<'a> {
+    /// The case.
+    pub case: &'a Case<'a>,
     /// The name of the file with other bytes, and these bytes.
-    pub(crate) cut: Option<(&'a str, &'a [u8])>,
+    pub cut: Option<(&'a str, &'a [u8])>,
 }
 
 impl<'a> View<'a> {
     /// The files as the case has them.
-    pub(crate) fn whole(case: &'a Case<'a>) -> View<'a> {
+    pub fn whole(case: &'a Case<'a>) -> View<'a> {
         View { case, cut: None }
     }
 
     /// The bytes of a file, if it is one.
-    pub(crate) fn bytes(&self, file: &'a CaseFile) -> Option<&'a [u8]> {
+    pub fn bytes(&self, file: &'a CaseFile) -> Option<&'a [u8]> {
         if let Some((name, bytes)) = self.cut {
             if name == file.name.as_str() {
                 return Some(bytes);
@@ -30,7 +31,7 @@ impl<'a> View<'a> {
     }
 
     /// The bytes of the file of this name.
-    pub(crate) fn named(&self, name: &str) -> Option<&'a [u8]> {
+    pub fn named(&self, name: &str) -> Option<&'a [u8]> {
         self.bytes(self.case.file(name)?)
     }
 }

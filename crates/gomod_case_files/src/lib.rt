@@ -1,0 +1,44 @@
+//! Files of cases: worked examples of a command line as text, and the folder that one of them runs in.
+//!
+//! A case has a title, commands with the results that they must have, and the files that they run over.
+//! docs/CASES.md describes the whole form. For example, this text has one case:
+//!
+//! ```text
+//! === Several blanks between words are laid out as one
+//! $ gomod fmt a/go.mod
+//! > module example.com/a
+//! @ a/go.mod
+//! -- a/go.mod --
+//! module    example.com/a
+//! ```
+//!
+//! `read_cases` reads it as a `Case` with one `Run` and one `CaseFile`. The run has the three words of the command, the
+//! line after `> ` as its output, an empty report, the status 0, and `a/go.mod` as the one file that it opens. Where a
+//! line belongs to no case, the result is a `CaseFault` with its number.
+//!
+//! `lay_files` writes the files of a case into a real folder. A `CaseRuntime` opens files in that folder alone,
+//! and records each in a `Log`. A `View` is the same files as bytes in memory, one of which may be cut off.
+//!
+//! Nothing here depends on what the commands do.
+#![tactic(auto)]
+
+mod case_runtime;
+mod cases;
+mod escapes;
+mod faults;
+mod folders;
+mod numbering;
+mod pieces;
+mod places;
+mod reading;
+mod views;
+mod words;
+
+pub use crate::case_runtime::{CaseRuntime, Log};
+pub use crate::cases::{Case, CaseFile, Content, Run, STDIN};
+pub use crate::faults::{CaseFault, LineFault};
+pub use crate::folders::{lay_files, make_folder};
+pub use crate::pieces::NO_LINE_END;
+pub use crate::places::tidied;
+pub use crate::reading::read_cases;
+pub use crate::views::View;
