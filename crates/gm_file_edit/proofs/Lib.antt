@@ -18,3 +18,10 @@ pub mod EditedSound
 pub mod Places
 pub mod Said
 pub mod SaidAfter
+pub mod Idle
+pub mod Comments
+pub mod Untouched
+pub mod Sections
+pub mod SectionRenewals
+pub mod Additions
+pub mod GoPlace

@@ -55,7 +55,7 @@ or-same : (a b c d : Bool) → a ≡ c → b ≡ d → (a || b) ≡ (c || d)
 or-same a b c d e f = rw (e, f) refl
 
 -- an entry is found if and only if one of the directives that the lines hold passes the test
-there-is : (test : Directive → Bool) (block : Option Placed) (lines : List (Line Placed)) → is_there_from test block lines ≡ list_any test (held_from block lines)
+pub there-is : (test : Directive → Bool) (block : Option Placed) (lines : List (Line Placed)) → is_there_from test block lines ≡ list_any test (held_from block lines)
 there-is test block [] = refl
 there-is test block (line ∷ lines) =
     let held : List Directive = option_to_list (directive_at block line) in

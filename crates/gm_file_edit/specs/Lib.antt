@@ -10,3 +10,5 @@ pub mod Searching
 pub mod Adding
 pub mod Changes
 pub mod Laws
+pub mod EditLaws
+pub mod GoPlace

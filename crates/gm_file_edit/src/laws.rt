@@ -9,7 +9,9 @@ ghost use Rattle.gm_syntax.specs.LineViews.{plain_lines};
 ghost use Rattle.gm_file.specs.Directives.{Strict};
 ghost use Rattle.gm_file.specs.Faults.{fault_of};
 ghost use Rattle.gm_file_edit.specs.Changes.{edited, is_fit};
+ghost use Rattle.gm_file_edit.specs.EditLaws.{AdditionFollowsItsVerb, AdditionOfANewVerbIsLast, CommentLinesStay, DocumentsConsistOfSections, DropLeavesSections, IdleAdditionChangesNothing, IdleDropChangesNothing, SecondAdditionChangesNothing, SecondDropChangesNothing, SettingLeavesSections};
 ghost use Rattle.gm_file_edit.specs.Edits.{Edit, edit_in};
+ghost use Rattle.gm_file_edit.specs.GoPlace.{GoFollowsModule, GoFollowsModuleBlock};
 ghost use Rattle.gm_file_edit.specs.Laws.{AddedIsThere, DroppedIsGone, OthersStay, SetStandsAlone};
 
 /// A valid file stays valid. If the lines are a document that strict reading accepts without a fault, so are the
@@ -51,4 +53,67 @@ pub fn what_is_added_is_there()
 /// The directives that an operation doesn't target form the same list before and after it.
 pub fn other_directives_stay()
     ensures { OthersStay }
+{}
+
+/// An operation that drops directives leaves all lines as they are if there is no directive for it to drop.
+pub fn drops_of_nothing_change_nothing()
+    ensures { IdleDropChangesNothing }
+{}
+
+/// `exclude=P@V` leaves all lines as they are if a directive excludes P at V already. The same holds for `retract`.
+pub fn additions_of_what_is_there_change_nothing()
+    ensures { IdleAdditionChangesNothing }
+{}
+
+/// An operation that drops directives gives the same lines if it is applied twice.
+pub fn second_drops_change_nothing()
+    ensures { SecondDropChangesNothing }
+{}
+
+/// `exclude=P@V` gives the same lines if it is applied twice, and so does `retract`.
+pub fn second_additions_change_nothing()
+    ensures { SecondAdditionChangesNothing }
+{}
+
+/// The comment lines of a file are the same before and after any operation, and in the same order.
+pub fn comment_lines_stay()
+    ensures { CommentLinesStay }
+{}
+
+/// The lines of a file are those of single lines and blocks, one after another.
+pub fn documents_consist_of_sections()
+    ensures { DocumentsConsistOfSections }
+{}
+
+/// What an operation that drops directives leaves of the single lines and the blocks of a file. Each line that holds
+/// such a directive goes. A block that this empties goes as a whole, with one blank line directly after it, unless
+/// a comment stands in it or at one of its brackets. All else stays, in order.
+pub fn drops_leave_sections()
+    ensures { DropLeavesSections }
+{}
+
+/// What an operation that sets a directive leaves of the single lines and the blocks of a file that has one that it
+/// targets. The first such entry is rewritten in its place. Later ones go as in a drop.
+pub fn settings_leave_sections()
+    ensures { SettingLeavesSections }
+{}
+
+/// A new entry stands directly after the last directive of its verb, in the same block if that one is in a block.
+pub fn additions_follow_their_verb()
+    ensures { AdditionFollowsItsVerb }
+{}
+
+/// A new entry stands at the end, after a blank line, if the file has no directive of its verb.
+pub fn additions_of_new_verbs_are_last()
+    ensures { AdditionOfANewVerbIsLast }
+{}
+
+/// A new go directive stands after the module directive and a blank line, if the module directive is in no block.
+pub fn new_go_follows_the_module()
+    ensures { GoFollowsModule }
+{}
+
+/// A new go directive stands after the block of the module directive and a blank line, if that one is in a block.
+pub fn new_go_follows_the_block_of_the_module()
+    ensures { GoFollowsModuleBlock }
 {}

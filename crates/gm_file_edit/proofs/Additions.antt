@@ -1,0 +1,91 @@
+-- Where an operation puts a new entry.
+use Rattle.std.proofs.Common.{◌≡◌, ℕ, ◌||◌, Bool, true, false, List, [], ◌∷◌, ◌++◌, length, Option, Some, None, is_some, refl, sym, ap, subst, ◌∙◌}
+use Rattle.std.specs.Prelude.{suc, insert}
+use Rattle.std.specs.List.{list_any}
+use Rattle.gm_syntax.specs.Tokens.{Placed}
+use Rattle.gm_syntax.specs.Document.{Line, Blank}
+use Rattle.gm_file.specs.Directives.{Directive, block_after_line, block_after_lines}
+use Rattle.gm_file_edit.specs.declared.adding.AddedVerb.{AddedVerb}
+use Rattle.gm_file_edit.specs.declared.adding.AddedVerb.TheVariants as verb
+use Rattle.gm_file_edit.specs.declared.adding.Spot.{Spot}
+use Rattle.gm_file_edit.specs.Edits.{Edit, SetModule, SetGo, SetRequire, DropRequire, AddExclude, DropExclude, SetReplace, DropReplace, AddRetract, DropRetract}
+use Rattle.gm_file_edit.specs.About.{about}
+use Rattle.gm_file_edit.specs.Adding.{added, added_at, entry_at, is_of, single, spot_after_last, verb_text}
+use Rattle.gm_file_edit.specs.Changes.{edited, put_in}
+use Rattle.gm_file_edit.specs.EditLaws.{AdditionFollowsItsVerb, AdditionOfANewVerbIsLast, IsLastOfVerb, arguments_added, holds, verb_added}
+use Rattle.gm_file_edit.specs.Fates.{directive_at, passes}
+use Rattle.gm_file_edit.specs.Laws.{directives_of}
+use Rattle.gm_file_edit.specs.Searching.{is_there, is_there_from}
+use Rattle.gm_file_edit.proofs.Idle.{there-said}
+
+or-none : (a b : Bool) → (a || b) ≡ false → (a ≡ false) × (b ≡ false)
+or-none true b e = absurd cc
+or-none false b e = (refl, e)
+
+no-spot : (test : Directive → Bool) (block : Option Placed) (lines : List (Line Placed)) → is_there_from test block lines ≡ false → spot_after_last test block lines ≡ None
+no-spot test block [] e = refl
+no-spot test block (line ∷ lines) e =
+    let parts = or-none (passes test (directive_at block line)) (is_there_from test (block_after_line block line) lines) e in
+    rw (no-spot test (block_after_line block line) lines parts.1, parts.0) refl
+
+-- the position directly after these lines and one more
+abbrev past : Option Placed → List (Line Placed) → Spot
+past block front = record { before = suc (length front); inside = is_some (block_after_lines block front) }
+
+last-spot : (test : Directive → Bool) (block : Option Placed) (front back : List (Line Placed)) (line : Line Placed) → passes test (directive_at (block_after_lines block front) line) ≡ true
+    → is_there_from test (block_after_lines block (front ++ line ∷ [])) back ≡ false → spot_after_last test block (front ++ line ∷ back) ≡ Some (past block front)
+last-spot test block [] back line hit none =
+    let held : passes test (directive_at block line) ≡ true = hit in
+    rw (no-spot test (block_after_line block line) back none, held) refl
+last-spot test block (x ∷ front) back line hit none = rw (last-spot test (block_after_line block x) front back line hit none) refl
+
+inserted : (front back : List (Line Placed)) (line new : Line Placed) → insert (front ++ line ∷ back) (suc (length front)) new ≡ front ++ line ∷ new ∷ back
+inserted [] back line new = refl
+inserted (x ∷ front) back line new = ap (λ (ls : List (Line Placed)). x ∷ ls) (inserted front back line new)
+
+added-after-last : (test : Directive → Bool) (text : List ℕ) (arguments : List Placed) (front back : List (Line Placed)) (line : Line Placed) → passes test (directive_at (block_after_lines None front) line) ≡ true
+    → is_there_from test (block_after_lines None (front ++ line ∷ [])) back ≡ false
+    → added test text arguments (front ++ line ∷ back) ≡ front ++ line ∷ entry_at (is_some (block_after_lines None front)) text arguments ∷ back
+unfolding added
+added-after-last test text arguments front back line hit none =
+    ap (added_at text arguments (front ++ line ∷ back)) (last-spot test None front back line hit none)
+    ∙ inserted front back line (entry_at (is_some (block_after_lines None front)) text arguments)
+
+added-at-end : (test : Directive → Bool) (text : List ℕ) (arguments : List Placed) (lines : List (Line Placed)) → is_there test lines ≡ false → added test text arguments lines ≡ lines ++ Blank ∷ single text arguments ∷ []
+unfolding added
+added-at-end test text arguments lines none = ap (added_at text arguments lines) (no-spot test None lines none)
+
+abbrev verb_or_require : Option AddedVerb → AddedVerb
+verb_or_require None = verb.Require
+verb_or_require (Some v) = v
+
+abbrev AddsOf : Edit → List (Line Placed) → AddedVerb → Type 0
+AddsOf edit lines v = put_in edit lines ≡ added (is_of v) (verb_text v) (arguments_added edit) lines
+
+put-is : (edit : Edit) (v : AddedVerb) (lines : List (Line Placed)) → verb_added edit ≡ Some v → AddsOf edit lines v
+unfolding put_in
+put-is (SetModule path) v lines e = absurd cc
+put-is (SetGo text) v lines e = absurd cc
+put-is (SetRequire p) v lines e = subst (AddsOf (SetRequire p) lines) (ap verb_or_require e) refl
+put-is (DropRequire path) v lines e = absurd cc
+put-is (AddExclude p) v lines e = subst (AddsOf (AddExclude p) lines) (ap verb_or_require e) refl
+put-is (DropExclude p) v lines e = absurd cc
+put-is (SetReplace r) v lines e = subst (AddsOf (SetReplace r) lines) (ap verb_or_require e) refl
+put-is (DropReplace left) v lines e = absurd cc
+put-is (AddRetract ends) v lines e = subst (AddsOf (AddRetract ends) lines) (ap verb_or_require e) refl
+put-is (DropRetract ends) v lines e = absurd cc
+
+edited-added : (edit : Edit) (v : AddedVerb) (lines : List (Line Placed)) → verb_added edit ≡ Some v → list_any (about edit) (directives_of lines) ≡ false
+    → edited edit lines ≡ added (is_of v) (verb_text v) (arguments_added edit) lines
+unfolding edited
+edited-added edit v lines adds none =
+    let absent : is_there (about edit) lines ≡ false = there-said (about edit) lines ∙ none in
+    rw absent (put-is edit v lines adds)
+
+pub addition-follows : AdditionFollowsItsVerb
+addition-follows edit v front back line adds none is =
+    edited-added edit v (front ++ line ∷ back) adds none ∙ added-after-last (is_of v) (verb_text v) (arguments_added edit) front back line is.is_of_verb is.none_later
+
+pub addition-last : AdditionOfANewVerbIsLast
+addition-last edit v lines adds none new =
+    edited-added edit v lines adds none ∙ added-at-end (is_of v) (verb_text v) (arguments_added edit) lines (there-said (is_of v) lines ∙ new)

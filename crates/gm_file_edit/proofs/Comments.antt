@@ -1,0 +1,192 @@
+-- No operation removes, adds or moves a comment line.
+use Rattle.std.proofs.Common.{◌≡◌, ℕ, Bool, true, false, List, [], ◌∷◌, ◌++◌, Option, Some, None, refl, sym, ap, ◌∙◌, append-nil, append_assoc, inl, inr, take, drop}
+use Rattle.std.specs.Prelude.{filter, codes}
+use Rattle.std.specs.List.{list_all}
+use Rattle.std.proofs.lemmas.Bool.{cases_Bool}
+use Rattle.std.proofs.lemmas.List.{take-append-drop}
+use Rattle.std.proofs.lemmas.List.Elements.{filter-append, filter_map-append}
+use Rattle.gm_syntax.specs.Tokens.{Placed}
+use Rattle.gm_syntax.specs.Document.{Line, Blank, Comment, Open, Close, Entry}
+use Rattle.gm_file.specs.Directives.{Directive, block_after_line, item_at}
+use Rattle.gm_file_edit.specs.Edits.{Edit, SetModule, SetGo, SetRequire, DropRequire, AddExclude, DropExclude, SetReplace, DropReplace, AddRetract, DropRetract}
+use Rattle.gm_file_edit.specs.About.{about}
+use Rattle.gm_file_edit.specs.Adding.{added, added_at, after_first_that, entry_at, insert_at_spot, past_block, single, spot_after_first, spot_after_last}
+use Rattle.gm_file_edit.specs.declared.adding.Spot.{Spot}
+use Rattle.gm_file_edit.specs.Changes.{changed, edited, put_in}
+use Rattle.gm_file_edit.specs.EditLaws.{CommentLinesStay, is_comment_line}
+use Rattle.gm_file_edit.specs.Fates.{Begun, Fate, begin, directive_at, dropped, dropping_from, is_blank_source_line, is_emptied, itself, kept, leaves_nothing, passes, remaining_from, renewed, renewing_from, with_line}
+use Rattle.gm_file_edit.specs.NewWords.{made_word}
+use Rattle.gm_file_edit.specs.Renewing.{made_new}
+use Rattle.gm_file_edit.specs.Searching.{is_there}
+use Rattle.gm_file_edit.proofs.Leaving.{emptied-inner}
+
+abbrev comments : List (Line Placed) → List (Line Placed)
+comments lines = filter is_comment_line lines
+
+-- ---- the lines that remain
+
+kept-append : (xs ys : List Fate) → comments (kept (xs ++ ys)) ≡ comments (kept xs) ++ comments (kept ys)
+kept-append xs ys = ap comments (filter_map-append itself xs ys) ∙ filter-append is_comment_line (kept xs) (kept ys)
+
+-- the fate of one more line in an open block
+one-more : (inner : List Fate) (fate : Fate) (fates : List Fate) → comments (kept (inner ++ fate ∷ [])) ++ comments (kept fates) ≡ comments (kept inner) ++ comments (kept (fate ∷ fates))
+one-more inner fate fates = sym (kept-append (inner ++ fate ∷ []) fates) ∙ ap (λ (fs : List Fate). comments (kept fs)) (append_assoc inner (fate ∷ []) fates) ∙ kept-append inner (fate ∷ fates)
+
+-- a block in which nothing but blanks stays has no comment line
+no-comments : (inner : List Fate) → list_all leaves_nothing inner ≡ true → comments (kept inner) ≡ []
+no-comments [] e = refl
+no-comments (None ∷ inner) e = no-comments inner e
+no-comments (Some Blank ∷ inner) e = no-comments inner e
+no-comments (Some (Comment text) ∷ inner) e = absurd cc
+no-comments (Some (Open verb suffix) ∷ inner) e = absurd cc
+no-comments (Some (Close suffix) ∷ inner) e = absurd cc
+no-comments (Some (Entry words suffix) ∷ inner) e = absurd cc
+
+-- the comment lines of an open block so far
+abbrev begun_comments : Option Begun → List (Line Placed)
+begun_comments None = []
+begun_comments (Some b) = comments (kept b.inner)
+
+remaining-comments : (after : Bool) (begun : Option Begun) (fates : List Fate) → comments (remaining_from after begun fates) ≡ begun_comments begun ++ comments (kept fates)
+unfolding remaining_from
+remaining-comments after None [] = refl
+remaining-comments after (Some b) [] = sym (append-nil (comments (kept b.inner)))
+remaining-comments after None (None ∷ fates) = remaining-comments after None fates
+remaining-comments false None (Some Blank ∷ fates) = remaining-comments false None fates
+remaining-comments true None (Some Blank ∷ fates) = remaining-comments false None fates
+remaining-comments after None (Some (Comment text) ∷ fates) = ap (λ (ls : List (Line Placed)). Comment text ∷ ls) (remaining-comments false None fates)
+remaining-comments after None (Some (Open verb suffix) ∷ fates) = remaining-comments false (Some (begin verb suffix)) fates
+remaining-comments after None (Some (Close suffix) ∷ fates) = remaining-comments false None fates
+remaining-comments after None (Some (Entry words suffix) ∷ fates) = remaining-comments false None fates
+remaining-comments after (Some b) (Some (Close suffix) ∷ fates) = elim (cases_Bool (is_emptied b.suffix b.inner suffix)) [
+  | inl gone ↦ rw gone (remaining-comments true None fates ∙ sym (ap (λ (ls : List (Line Placed)). ls ++ comments (kept fates)) (no-comments b.inner (emptied-inner b.suffix b.inner suffix gone))))
+  | inr stays ↦ rw stays (filter-append is_comment_line (kept b.inner) (Close suffix ∷ remaining_from false None fates) ∙ ap (λ (ls : List (Line Placed)). comments (kept b.inner) ++ ls) (remaining-comments false None fates))
+]
+remaining-comments after (Some b) (None ∷ fates) = remaining-comments after (Some (with_line b None)) fates ∙ one-more b.inner None fates
+remaining-comments after (Some b) (Some Blank ∷ fates) = remaining-comments after (Some (with_line b (Some Blank))) fates ∙ one-more b.inner (Some Blank) fates
+remaining-comments after (Some b) (Some (Comment text) ∷ fates) = remaining-comments after (Some (with_line b (Some (Comment text)))) fates ∙ one-more b.inner (Some (Comment text)) fates
+remaining-comments after (Some b) (Some (Open verb suffix) ∷ fates) = remaining-comments after (Some (with_line b (Some (Open verb suffix)))) fates ∙ one-more b.inner (Some (Open verb suffix)) fates
+remaining-comments after (Some b) (Some (Entry words suffix) ∷ fates) = remaining-comments after (Some (with_line b (Some (Entry words suffix)))) fates ∙ one-more b.inner (Some (Entry words suffix)) fates
+
+-- ---- the lines without the targeted entries
+
+pub blank-holds : (block : Option Placed) → directive_at block Blank ≡ None
+unfolding item_at
+blank-holds None = refl
+blank-holds (Some verb) = refl
+
+pub comment-holds : (block : Option Placed) (text : List ℕ) → directive_at block (Comment text) ≡ None
+unfolding item_at
+comment-holds None text = refl
+comment-holds (Some verb) text = refl
+
+pub open-holds : (block : Option Placed) (verb : Placed) (suffix : Option (List ℕ)) → directive_at block (Open verb suffix) ≡ None
+unfolding item_at
+open-holds None verb suffix = refl
+open-holds (Some outer) verb suffix = refl
+
+pub close-holds : (block : Option Placed) (suffix : Option (List ℕ)) → directive_at block (Close suffix) ≡ None
+unfolding item_at
+close-holds None suffix = refl
+close-holds (Some verb) suffix = refl
+
+dropping-comments : (test : Directive → Bool) (block : Option Placed) (lines : List (Line Placed)) → comments (kept (dropping_from test block lines)) ≡ comments lines
+dropping-comments test block [] = refl
+dropping-comments test block (Blank ∷ lines) = rw (blank-holds block) (dropping-comments test block lines)
+dropping-comments test block (Comment text ∷ lines) = rw (comment-holds block text) (ap (λ (ls : List (Line Placed)). Comment text ∷ ls) (dropping-comments test block lines))
+dropping-comments test block (Open verb suffix ∷ lines) = rw (open-holds block verb suffix) (dropping-comments test (Some verb) lines)
+dropping-comments test block (Close suffix ∷ lines) = rw (close-holds block suffix) (dropping-comments test None lines)
+dropping-comments test block (Entry words suffix ∷ lines) = elim (cases_Bool (passes test (directive_at block (Entry words suffix)))) [
+  | inl holds ↦ rw holds (dropping-comments test block lines)
+  | inr fails ↦ rw fails (dropping-comments test block lines)
+]
+
+-- the rewritten form of an entry is no comment line
+abbrev RewritesEntries : (Option Placed → Line Placed → Line Placed) → Type 0
+RewritesEntries new = (block : Option Placed) (words : List Placed) (suffix : Option (List ℕ)) → is_comment_line (new block (Entry words suffix)) ≡ false
+
+renewing-comments : (test : Directive → Bool) (new : Option Placed → Line Placed → Line Placed) → RewritesEntries new → (block : Option Placed) (lines : List (Line Placed)) → comments (kept (renewing_from test new block lines)) ≡ comments lines
+renewing-comments test new rewrites block [] = refl
+renewing-comments test new rewrites block (Blank ∷ lines) = rw (blank-holds block) (renewing-comments test new rewrites block lines)
+renewing-comments test new rewrites block (Comment text ∷ lines) = rw (comment-holds block text) (ap (λ (ls : List (Line Placed)). Comment text ∷ ls) (renewing-comments test new rewrites block lines))
+renewing-comments test new rewrites block (Open verb suffix ∷ lines) = rw (open-holds block verb suffix) (renewing-comments test new rewrites (Some verb) lines)
+renewing-comments test new rewrites block (Close suffix ∷ lines) = rw (close-holds block suffix) (renewing-comments test new rewrites None lines)
+renewing-comments test new rewrites block (Entry words suffix ∷ lines) = elim (cases_Bool (passes test (directive_at block (Entry words suffix)))) [
+  | inl holds ↦ rw (holds, rewrites block words suffix) (dropping-comments test block lines)
+  | inr fails ↦ rw fails (renewing-comments test new rewrites block lines)
+]
+
+dropped-comments : (test : Directive → Bool) (lines : List (Line Placed)) → comments (dropped test lines) ≡ comments lines
+dropped-comments test lines = remaining-comments false None (dropping_from test None lines) ∙ dropping-comments test None lines
+
+renewed-comments : (test : Directive → Bool) (new : Option Placed → Line Placed → Line Placed) → RewritesEntries new → (lines : List (Line Placed)) → comments (renewed test new lines) ≡ comments lines
+renewed-comments test new rewrites lines = remaining-comments false None (renewing_from test new None lines) ∙ renewing-comments test new rewrites None lines
+
+-- ---- the lines with new entries
+
+parted : (n : ℕ) (lines : List (Line Placed)) → comments (take n lines) ++ comments (drop n lines) ≡ comments lines
+parted n lines = sym (filter-append is_comment_line (take n lines) (drop n lines)) ∙ ap comments (take-append-drop n lines)
+
+between : (new : List (Line Placed)) → comments new ≡ [] → (n : ℕ) (lines : List (Line Placed)) → comments (take n lines ++ (new ++ drop n lines)) ≡ comments lines
+between new none n lines =
+    filter-append is_comment_line (take n lines) (new ++ drop n lines)
+    ∙ ap (λ (ls : List (Line Placed)). comments (take n lines) ++ ls) (filter-append is_comment_line new (drop n lines) ∙ ap (λ (ls : List (Line Placed)). ls ++ comments (drop n lines)) none)
+    ∙ parted n lines
+
+at-end : (new : List (Line Placed)) → comments new ≡ [] → (lines : List (Line Placed)) → comments (lines ++ new) ≡ comments lines
+at-end new none lines = filter-append is_comment_line lines new ∙ ap (λ (ls : List (Line Placed)). comments lines ++ ls) none ∙ append-nil (comments lines)
+
+entry-is-none : (inside : Bool) (verb : List ℕ) (arguments : List Placed) → comments (entry_at inside verb arguments ∷ []) ≡ []
+entry-is-none true verb arguments = refl
+entry-is-none false verb arguments = refl
+
+added-at-comments : (verb : List ℕ) (arguments : List Placed) (lines : List (Line Placed)) (spot : Option Spot) → comments (added_at verb arguments lines spot) ≡ comments lines
+added-at-comments verb arguments lines None = at-end (Blank ∷ single verb arguments ∷ []) refl lines
+added-at-comments verb arguments lines (Some spot) = between (entry_at spot.inside verb arguments ∷ []) (entry-is-none spot.inside verb arguments) spot.before lines
+
+added-comments : (test : Directive → Bool) (verb : List ℕ) (arguments : List Placed) (lines : List (Line Placed)) → comments (added test verb arguments lines) ≡ comments lines
+unfolding added
+added-comments test verb arguments lines = added-at-comments verb arguments lines (spot_after_last test None lines)
+
+spot-comments : (new lines : List (Line Placed)) → comments new ≡ [] → (spot : Option Spot) → comments (insert_at_spot new lines spot) ≡ comments lines
+spot-comments new lines none None = at-end new none lines
+spot-comments new lines none (Some spot) = between new none (past_block lines spot) lines
+
+after-first-comments : (test : Directive → Bool) (new lines : List (Line Placed)) → comments new ≡ [] → comments (after_first_that test new lines) ≡ comments lines
+unfolding after_first_that
+after-first-comments test new lines none = spot-comments new lines none (spot_after_first test None lines)
+
+-- ---- the lines after an operation
+
+changed-comments : (edit : Edit) (lines : List (Line Placed)) → comments (changed edit lines) ≡ comments lines
+unfolding changed
+changed-comments (SetModule path) lines = renewed-comments _ (made_new (SetModule path)) (λ block words suffix. refl) lines
+changed-comments (SetGo text) lines = renewed-comments _ (made_new (SetGo text)) (λ block words suffix. refl) lines
+changed-comments (SetRequire p) lines = renewed-comments _ (made_new (SetRequire p)) (λ block words suffix. refl) lines
+changed-comments (DropRequire path) lines = dropped-comments _ lines
+changed-comments (AddExclude p) lines = refl
+changed-comments (DropExclude p) lines = dropped-comments _ lines
+changed-comments (SetReplace r) lines = renewed-comments _ (made_new (SetReplace r)) (λ block words suffix. refl) lines
+changed-comments (DropReplace left) lines = dropped-comments _ lines
+changed-comments (AddRetract ends) lines = refl
+changed-comments (DropRetract ends) lines = dropped-comments _ lines
+
+put-comments : (edit : Edit) (lines : List (Line Placed)) → comments (put_in edit lines) ≡ comments lines
+unfolding put_in
+put-comments (SetModule path) lines = refl
+put-comments (SetGo text) lines = after-first-comments _ (Blank ∷ single (codes "go") (made_word text ∷ []) ∷ []) lines refl
+put-comments (SetRequire p) lines = added-comments _ _ _ lines
+put-comments (DropRequire path) lines = refl
+put-comments (AddExclude p) lines = added-comments _ _ _ lines
+put-comments (DropExclude p) lines = refl
+put-comments (SetReplace r) lines = added-comments _ _ _ lines
+put-comments (DropReplace left) lines = refl
+put-comments (AddRetract ends) lines = added-comments _ _ _ lines
+put-comments (DropRetract ends) lines = refl
+
+pub edited-comments : CommentLinesStay
+unfolding edited
+edited-comments edit lines = elim (cases_Bool (is_there (about edit) lines)) [
+  | inl there ↦ rw there (changed-comments edit lines)
+  | inr none ↦ rw none (put-comments edit lines)
+]

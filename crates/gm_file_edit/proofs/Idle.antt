@@ -1,0 +1,79 @@
+-- Operations with nothing to do leave the lines as they are.
+use Rattle.std.proofs.Common.{◌≡◌, if◌then◌else◌, Bool, true, false, List, [], ◌∷◌, Option, Some, None, refl, sym, ap, ◌∙◌, inl, inr}
+use Rattle.std.specs.Prelude.{filter}
+use Rattle.std.specs.List.{list_any}
+use Rattle.std.proofs.lemmas.Bool.{cases_Bool}
+use Rattle.gm_syntax.specs.Tokens.{Placed}
+use Rattle.gm_syntax.specs.Document.{Line}
+use Rattle.gm_file.specs.Directives.{Directive}
+use Rattle.gm_file_edit.specs.Edits.{Edit, SetModule, SetGo, SetRequire, DropRequire, AddExclude, DropExclude, SetReplace, DropReplace, AddRetract, DropRetract}
+use Rattle.gm_file_edit.specs.About.{about}
+use Rattle.gm_file_edit.specs.Changes.{changed, edited, put_in}
+use Rattle.gm_file_edit.specs.EditLaws.{IdleAdditionChangesNothing, IdleDropChangesNothing, SecondAdditionChangesNothing, SecondDropChangesNothing}
+use Rattle.gm_file_edit.specs.Laws.{IsEditOf, added_by, directives_of, is_drop}
+use Rattle.gm_file_edit.specs.Searching.{is_there}
+use Rattle.gm_file_edit.proofs.AddingSound.{file-held}
+use Rattle.gm_file_edit.proofs.SaidAfter.{added-is-there, dropped-is-gone, there-is}
+
+pub there-said : (test : Directive → Bool) (lines : List (Line Placed)) → is_there test lines ≡ list_any test (directives_of lines)
+there-said test lines = there-is test None lines ∙ ap (list_any test) (sym (file-held lines))
+
+pub drop-puts-nothing : (edit : Edit) (lines : List (Line Placed)) → is_drop edit ≡ true → put_in edit lines ≡ lines
+unfolding put_in
+drop-puts-nothing (SetModule path) lines e = absurd cc
+drop-puts-nothing (SetGo text) lines e = absurd cc
+drop-puts-nothing (SetRequire p) lines e = absurd cc
+drop-puts-nothing (DropRequire path) lines e = refl
+drop-puts-nothing (AddExclude p) lines e = absurd cc
+drop-puts-nothing (DropExclude p) lines e = refl
+drop-puts-nothing (SetReplace r) lines e = absurd cc
+drop-puts-nothing (DropReplace left) lines e = refl
+drop-puts-nothing (AddRetract ends) lines e = absurd cc
+drop-puts-nothing (DropRetract ends) lines e = refl
+
+pub idle-drop : IdleDropChangesNothing
+unfolding edited
+idle-drop edit lines drop none =
+    let absent : is_there (about edit) lines ≡ false = there-said (about edit) lines ∙ none in
+    rw absent (drop-puts-nothing edit lines drop)
+
+addition-changes-nothing : (edit : Edit) (lines : List (Line Placed)) (d : Directive) → added_by edit ≡ Some d → changed edit lines ≡ lines
+unfolding changed
+addition-changes-nothing (SetModule path) lines d e = absurd cc
+addition-changes-nothing (SetGo text) lines d e = absurd cc
+addition-changes-nothing (SetRequire p) lines d e = absurd cc
+addition-changes-nothing (DropRequire path) lines d e = absurd cc
+addition-changes-nothing (AddExclude p) lines d e = refl
+addition-changes-nothing (DropExclude p) lines d e = absurd cc
+addition-changes-nothing (SetReplace r) lines d e = absurd cc
+addition-changes-nothing (DropReplace left) lines d e = absurd cc
+addition-changes-nothing (AddRetract ends) lines d e = refl
+addition-changes-nothing (DropRetract ends) lines d e = absurd cc
+
+pub idle-addition : IdleAdditionChangesNothing
+unfolding edited
+idle-addition edit lines d adds some =
+    let present : is_there (about edit) lines ≡ true = there-said (about edit) lines ∙ some in
+    rw present (addition-changes-nothing edit lines d adds)
+
+pub second-drop : SecondDropChangesNothing
+second-drop edit lines drop = idle-drop edit (edited edit lines) drop (dropped-is-gone edit lines drop)
+
+filter-miss : (test : Directive → Bool) (d : Directive) (ds : List Directive) → test d ≡ false → filter test (d ∷ ds) ≡ filter test ds
+filter-miss test d ds e = rw e refl
+
+-- a list of which a filter leaves an element has one that passes the test
+some-filtered : (test : Directive → Bool) (ds more : List Directive) (d : Directive) → filter test ds ≡ d ∷ more → list_any test ds ≡ true
+some-filtered test [] more d e = absurd cc
+some-filtered test (x ∷ ds) more d e = elim (cases_Bool (test x)) [
+  | inl hit ↦ rw hit refl
+  | inr miss ↦ rw miss (some-filtered test ds more d (sym (filter-miss test x ds miss) ∙ e))
+]
+
+pub second-addition : SecondAdditionChangesNothing
+second-addition edit lines d is adds =
+    idle-addition edit (edited edit lines) d adds
+    (elim (cases_Bool (list_any (about edit) (directives_of lines))) [
+      | inl some ↦ ap (λ (ls : List (Line Placed)). list_any (about edit) (directives_of ls)) (idle-addition edit lines d adds some) ∙ some
+      | inr none ↦ some-filtered (about edit) (directives_of (edited edit lines)) [] d (added-is-there edit lines d is adds ∙ ap (λ (b : Bool). if b then filter (about edit) (directives_of lines) else d ∷ []) none)
+    ])

@@ -1,0 +1,5 @@
+use Rattle.gm_file_edit.proofs.GoPlace.{go-follows-block}
+use Rattle.gm_file_edit.proofs.laws.new_go_follows_the_block_of_the_module.Goals as goal
+
+pub returns : goal.returns
+returns c = go-follows-block
