@@ -1,2 +1,2 @@
-mod Ascending
-mod Sweeping
+pub mod Ascending
+pub mod Sweeping

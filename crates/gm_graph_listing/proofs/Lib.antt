@@ -1,12 +1,12 @@
-mod Lines
+pub mod Lines
 pub mod Misreading
 pub mod CommandOutcomes
-mod FewOpened
+pub mod FewOpened
 pub mod OneRead
-mod OneStore
-mod OnePrinted
+pub mod OneStore
+pub mod OnePrinted
 pub mod OneOutcome
-mod PrintedList
-mod OneGraph
-mod GreatestRows
-mod ShortestChain
+pub mod PrintedList
+pub mod OneGraph
+pub mod GreatestRows
+pub mod ShortestChain

@@ -1,13 +1,13 @@
-mod AllAsked
-mod Answering
-mod EditsInTurn
-mod Endings
-mod InTurn
-mod Misread
-mod Joining
-mod Sameness
-mod Uniqueness
-mod Steps
-mod QueryRuns
-mod OneEnd
-mod OneStore
+pub mod AllAsked
+pub mod Answering
+pub mod EditsInTurn
+pub mod Endings
+pub mod InTurn
+pub mod Misread
+pub mod Joining
+pub mod Sameness
+pub mod Uniqueness
+pub mod Steps
+pub mod QueryRuns
+pub mod OneEnd
+pub mod OneStore

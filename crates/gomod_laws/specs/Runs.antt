@@ -1,0 +1,21 @@
+-- Runs of commands, as the laws speak of them.
+use Rattle.std.specs.Prelude.{◌≡◌, ℕ, List, Option}
+use Rattle.gm_store.specs.Asked.{Name, Reply}
+use Rattle.gm_graph_listing.specs.Outcomes.{Outcome}
+use Rattle.gomod_words.specs.declared.usage.Command.{Command}
+use Rattle.gomod_run.specs.Queries.{RunsTo}
+use Rattle.gomod_run.specs.Runs.{StoreState}
+
+-- The command, over the bytes of a main file, those of a go.sum where one is given, and a store that gave these
+-- answers and whose device did not fail, has this outcome.
+pub record HasOutcome (command : Command) (main : List ℕ) (sums : Option (List ℕ)) (asked : List (Name × Reply))
+    (outcome : Outcome) : Type 0 where
+  pub old : StoreState
+  pub new : StoreState
+  pub run : RunsTo command main sums old new outcome
+  pub asked_are : new.asked ≡ asked
+  pub none_failed : new.refused ≡ old.refused
+
+-- the command prints: its status is 0, and nothing is reported
+abbrev pub Prints : Outcome → Type 0
+Prints outcome = outcome.status ≡ 0

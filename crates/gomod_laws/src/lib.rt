@@ -1,0 +1,6 @@
+//! Laws of whole runs, in the words of those who use gomod.
+//!
+//! Each law is the contract of a function that does nothing, over the outcomes that `gomod_run::run` is proved to
+//! have: what is printed, what is reported, and the exit status. A run is a command over the bytes of a main file,
+//! those of a go.sum or none, and the answers of a store whose device did not fail.
+#![tactic(auto)]
