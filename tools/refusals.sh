@@ -1,0 +1,158 @@
+#!/usr/bin/env bash
+# Checks that each edit that must fail is refused for the reason that it names, and that a harmless change in the same
+# place is still proved.
+#
+#   tools/refusals.sh                   every edit of every crate
+#   tools/refusals.sh NAME.. NAME/EDIT..  those of these crates, or these edits alone
+#
+# An edit, crates/NAME/must-fail/EDIT.edit, has lines that the merge gate passes over:
+#
+#   # clause: FUNCTION CLAUSE   the function and the clause of its contract at which the prover refuses the edit: `returns`
+#                               for a clause without a name, and in place of a clause a goal by its whole name, as
+#                               `loop-step-preserved`
+#   # twin: TEXT                after a pair of `old:` and `new:`, a harmless text in place of that `new:`; a pair without
+#                               one stays as it is in the crate
+#
+# For each edit it prints a line: `refused`, `other` with the goals where it was refused instead, or `PROVED`; and for its
+# twin `twin proved` or `twin REFUSED`. The status is 1 if an edit was not refused at its clause, names none, or its twin was
+# not proved. The merge gate itself asks only whether an edit is refused.
+#
+# It needs rt and python3, and the crates as ./build or `rt all check` leaves them, and takes about half a minute a check.
+set -euo pipefail
+cd "$(dirname "$0")/.."
+exec python3 - "$@" <<'PROGRAM'
+import os
+import re
+import shutil
+import subprocess
+import sys
+import tempfile
+
+PARTS = ("src", "specs", "proofs")
+
+
+def crates_below(name, lines):
+    """All crates of the repository below one, each once."""
+    found = []
+    for lower in lines.get(name, []):
+        if os.path.isdir(f"crates/{lower}"):
+            found += [it for it in [*crates_below(lower, lines), lower] if it not in found]
+    return found
+
+
+def read_edit(file):
+    """Its pairs as (path, old, new, twin), and the clause that it names."""
+    path, old, pairs, clause = None, None, [], None
+    for line in open(file, encoding="utf-8").read().split("\n"):
+        if line.startswith("file: "):
+            path = line[len("file: "):].strip()
+        elif line.startswith("old: "):
+            old = line[len("old: "):]
+        elif line.startswith("new:"):
+            pairs.append([path, old, line[len("new:"):].removeprefix(" "), None])
+        elif line.startswith("# twin: "):
+            pairs[-1][3] = line[len("# twin: "):]
+        elif line.startswith("# clause: "):
+            clause = line[len("# clause: "):].split()
+    return pairs, clause
+
+
+def changed(room, pairs, is_twin):
+    """The crate's files with the edit, or with its twin."""
+    texts = {}
+    for path, old, new, twin in pairs:
+        text = texts.get(path) or open(f"{room}/{path}", encoding="utf-8").read()
+        if is_twin and twin is None:
+            texts.setdefault(path, text)
+            continue
+        if text.count(old) != 1:
+            sys.exit(f"refusals: {path} has `{old}` {text.count(old)} times")
+        texts[path] = text.replace(old, twin if is_twin else new)
+    return texts
+
+
+def check(room, texts):
+    """Whether the crate is proved with these texts, and where it is not: (function, goal)."""
+    kept = {path: open(f"{room}/{path}", encoding="utf-8").read() for path in texts}
+    for path, text in texts.items():
+        open(f"{room}/{path}", "w", encoding="utf-8").write(text)
+    ran = subprocess.run(["rt", "check", "--jobs", "1"], cwd=room, stdin=subprocess.DEVNULL, stdout=subprocess.PIPE,
+                         stderr=subprocess.STDOUT, errors="replace")
+    for path, text in kept.items():
+        open(f"{room}/{path}", "w", encoding="utf-8").write(text)
+    goals = []
+    for line in ran.stdout.splitlines():
+        answered = re.match(r"\./proofs/(\S+)/\w+\.antt:\d+:\d+: error: `([^`]*)`", line)
+        searched = re.match(r"fn \w+::(\S+): no proof: .*did not prove (.*)", line)
+        if answered:
+            goals.append((answered[1].replace("/", "::"), answered[2]))
+        elif searched:
+            goals += [(searched[1], goal) for goal in re.findall(r"`([^`]*)`", searched[2])]
+    return ran.returncode == 0, goals, ran.stdout
+
+
+def is_at(clause, goals):
+    """Whether one of the goals is that of the named function and clause."""
+    function, name = clause[0], clause[1]
+    at_function = [goal for at, goal in goals if at == function or at.endswith(f"::{function}")]
+    if name == "returns":
+        return any(goal.startswith("returns") and "-clause-" not in goal for goal in at_function)
+    return any(goal == name or goal.endswith(f"-clause-{name}") for goal in at_function)
+
+
+def told(goals):
+    return ", ".join(f"{at} {goal}" for at, goal in goals[:4]) or "no goal was named"
+
+
+def try_edit(room, name, edit):
+    pairs, clause = read_edit(f"crates/{name}/must-fail/{edit}.edit")
+    is_proved, goals, said = check(room, changed(room, pairs, False))
+    is_well = not is_proved and clause is not None and is_at(clause, goals)
+    found = "PROVED" if is_proved else "refused at " + " ".join(clause) if is_well else "other: " + told(goals)
+    if any(twin is not None for _, _, _, twin in pairs):
+        is_twin_proved, twin_goals, _ = check(room, changed(room, pairs, True))
+        found += "; twin proved" if is_twin_proved else "; twin REFUSED: " + told(twin_goals)
+        is_well = is_well and is_twin_proved
+    print(f"{name}/{edit}: {found}", flush=True)
+    return is_well
+
+
+def make_room(work, name, lines):
+    """A copy of the crate with what its last check kept, and the libraries below it."""
+    with open(f"{work}/crates.txt", "w") as out:
+        for it in [*crates_below(name, lines), name]:
+            out.write(f"{it}: {' '.join(lines[it])}\n")
+            os.makedirs(f"{work}/crates/{it}/out")
+            for part in PARTS:
+                if os.path.isdir(f"crates/{it}/{part}"):
+                    shutil.copytree(f"crates/{it}/{part}", f"{work}/crates/{it}/{part}")
+            kept = "incremental" if it == name else "rlib"
+            if os.path.isdir(f"crates/{it}/out/{kept}"):
+                # a check writes to what it kept, and only reads libraries
+                by = shutil.copy2 if it == name else os.link
+                shutil.copytree(f"crates/{it}/out/{kept}", f"{work}/crates/{it}/out/{kept}", copy_function=by)
+    subprocess.run(["git", "init", "-q", work], check=True)
+    return f"{work}/crates/{name}"
+
+
+def main():
+    rows = [line.split(":", 1) for line in open("crates.txt") if ":" in line and not line.startswith("#")]
+    lines = {name.strip(): below.split() for name, below in rows}
+    chosen = sys.argv[1:] or [name for name in lines if os.path.isdir(f"crates/{name}/must-fail")]
+    is_well = True
+    for name in dict.fromkeys(word.split("/")[0] for word in chosen):
+        edits = [word.split("/", 1)[1] for word in chosen if word.startswith(f"{name}/")]
+        if name in chosen:
+            edits = sorted(it[:-len(".edit")] for it in os.listdir(f"crates/{name}/must-fail") if it.endswith(".edit"))
+        with tempfile.TemporaryDirectory(prefix="refusals-") as work:
+            room = make_room(work, name, lines)
+            is_proved, goals, said = check(room, {})
+            if not is_proved:
+                sys.exit(f"refusals: {name} itself is not proved\n{said[-2000:]}")
+            for edit in edits:
+                is_well &= try_edit(room, name, edit)
+    return 0 if is_well else 1
+
+
+sys.exit(main())
+PROGRAM
