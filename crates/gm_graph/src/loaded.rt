@@ -103,7 +103,7 @@ impl Loaded {
     pub fn rest_after<'a>(&'a self, path: &ModPath) -> Result<Rows<'a>, NotListed>
         requires { self.now.faults ≡ [] }
         ensures rest { IfOk result (λ left.
-            IsRestAfter self.now.main self.now.rows path.now (entries_of_rows left.rest.now)) }
+            IsRestAfter self.now.main self.now.rows path.now (entries_of_rows left)) }
         ensures not_listed { OnErr result (¬ (HasEntryFor self.now.main self.now.rows path.now)) }
     {
         gm_graph_select::rest_after(&self.main, &self.rows, path)

@@ -45,7 +45,7 @@ fn print_rows(
     limit: Option<u32>,
 ) -> Result<Output, NoMemory>
     ensures { IfOk result (λ output. outcome_view output
-        ≡ printed (list_text (main_of main.now).path (limited limit (entries_of_rows rows.entry.rest.now)))) }
+        ≡ printed (list_text (main_of main.now).path (limited limit (entries_of_rows rows.entry)))) }
 {
     let text = list_text(alloc, main_view::path(main), rows, limit)?;
     Ok(printed(alloc, text))

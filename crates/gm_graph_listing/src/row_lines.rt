@@ -86,7 +86,7 @@ pub fn list_text(
     limit: Option<u32>,
 ) -> Result<String, NoMemory>
     ensures { IfOk result (λ text. string_bytes text
-        ≡ list_text main.now (limited limit (entries_of_rows rows.entry.rest.now))) }
+        ≡ list_text main.now (limited limit (entries_of_rows rows.entry))) }
 {
     let mut text = String::new(alloc);
     let mut rest = rows;

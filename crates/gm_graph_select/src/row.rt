@@ -10,6 +10,8 @@ ghost use Rattle.gm_graph_select.specs.BuildList.{IsAt, HasEntryFor, IsRestAfter
 use crate::step::Step;
 use gm_file::Right;
 use gm_name::ModPath;
+use std::marker::Model;
+use thiserror::Error;
 
 /// A row of the build list: the main module or the selected version of a path, with its replacement.
 #[derive(Drop)]
@@ -21,23 +23,33 @@ pub struct Row {
 }
 
 /// The path is not in the build list.
-#[derive(Debug, Drop)]
+#[derive(Clone, Copy, Debug, PartialEq, Eq, Error)]
+#[error("not in the build list")]
 pub struct NotListed;
 
-/// Rows in order. It takes no memory.
+/// Rows in order, which a clause sees as the list of the rows that are still to come. It takes no memory.
 #[derive(Drop)]
 pub struct Rows<'a> {
     /// The rows that are still to come.
     rest: &'a [Row],
 }
 
+impl<'a> Model for Rows<'a> {
+    ghost use Rattle.std.specs.Prelude.{List};
+    ghost use Rattle.gm_graph_select.specs.declared.row.Row.{Row};
+
+    ghost Value = { List Row };
+
+    ghost view = { λ rows. rows.rest.now };
+}
+
 impl<'a> Iterator for Rows<'a> {
     /// A row of the list.
     type Item = &'a Row;
 
-    ghost next_gives = { YieldsFirstRef (λ rows. rows.rest.now) };
+    ghost next_gives = { YieldsFirstRef (λ rows. rows) };
 
-    ghost remaining = { item_count (λ rows. rows.rest.now) };
+    ghost remaining = { item_count (λ rows. rows) };
 
     /// The next row, or `None` after the last one.
     fn next(&mut self) -> Option<&'a Row> {
@@ -50,7 +62,7 @@ impl<'a> Iterator for Rows<'a> {
 impl<'a> Rows<'a> {
     /// All rows of a list.
     pub fn all(rows: &'a [Row]) -> Rows<'a>
-        ensures { result.rest.now ≡ rows.now }
+        ensures { result ≡ rows.now }
     {
         Rows { rest: rows }
     }
@@ -74,7 +86,7 @@ pub(crate) fn row_at<'a>(
 ) -> Option<(&'a Row, Rows<'a>)>
     ensures some { IfSome result (λ found.
         IsAt main.now (entries_of_rows rows.now) path.now
-        (entry_of_row found.0.now) (entries_of_rows found.1.rest.now)) }
+        (entry_of_row found.0.now) (entries_of_rows found.1)) }
     ensures none { IfNone result (¬ (HasEntryFor main.now (entries_of_rows rows.now) path.now)) }
 {
     let mut rest = Rows::all(rows);
@@ -97,7 +109,7 @@ pub fn rest_after<'a>(
     path: &ModPath,
 ) -> Result<Rows<'a>, NotListed>
     ensures rest { IfOk result (λ left.
-        IsRestAfter main.now (entries_of_rows rows.now) path.now (entries_of_rows left.rest.now)) }
+        IsRestAfter main.now (entries_of_rows rows.now) path.now (entries_of_rows left)) }
     ensures not_listed { OnErr result (¬ (HasEntryFor main.now (entries_of_rows rows.now) path.now)) }
 {
     match row_at(main, rows, path) {

@@ -8,5 +8,5 @@ abbrev pub invariant-rows : goal.invariant-rows
 invariant-rows l = record {
   can : (goal.iterator-rows).can_next l.rest;
   finite : (goal.iterator-rows).is_finite l.rest;
-  text : string_bytes l.text ++ list_text l.main (limited l.left (entries_of_rows l.rest.rest.now)) ≡ list_text l.main (limited l.fn.limit (entries_of_rows l.fn.rows.rest.now));
+  text : string_bytes l.text ++ list_text l.main (limited l.left (entries_of_rows l.rest)) ≡ list_text l.main (limited l.fn.limit (entries_of_rows l.fn.rows));
 }

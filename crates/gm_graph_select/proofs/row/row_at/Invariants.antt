@@ -6,5 +6,5 @@ abbrev pub invariant-rows : goal.invariant-rows
 invariant-rows l = record {
   can : (goal.iterator-rows).can_next l.rest;
   finite : (goal.iterator-rows).is_finite l.rest;
-  behind : IsRemainder l.main (entries_of_rows l.rows) l.path (entries_of_rows l.rest.rest.now);
+  behind : IsRemainder l.main (entries_of_rows l.rows) l.path (entries_of_rows l.rest);
 }
