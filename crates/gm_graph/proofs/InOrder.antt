@@ -1,11 +1,11 @@
 -- The edges of ascending adjacency lists, one after another, are in ascending order.
-use Rattle.std.proofs.Common.{◌≡◌, ◌+◌, ◌<◌, ℕ, List, [], ◌∷◌, ◌++◌, length, take, get_or, Contains, ap, ap₂, ◌∙◌, sym, subst, inl, inr, arith}
+use Rattle.std.proofs.Common.{◌≡◌, ◌+◌, ◌<◌, ℕ, List, [], ◌∷◌, ◌++◌, length, take, get_or, Contains, ap, ap₂, ◌∙◌, sym, inl, inr, arith}
 use Rattle.std.specs.Prelude.{All, AllPairs}
 use Rattle.std.specs.declared.cmp.Ordering.{Ordering}
 use Rattle.std.specs.declared.cmp.Ordering.TheVariants.{Less}
 use Rattle.std.specs.Ordering.{ordering_then}
 use Rattle.std.proofs.lemmas.List.{get_or-map, length-append, length-map, take_more}
-use Rattle.std.proofs.lemmas.List.Elements.{Contains-append_cases, Contains-get_or, Contains-push_cases}
+use Rattle.std.proofs.lemmas.List.Elements.{Contains-append_cases, Contains-get_or}
 use Rattle.std.proofs.lemmas.List.Kept.{AllPairs-cons}
 use Rattle.gm_graph_cache.specs.Main.{ModuleVersion}
 use Rattle.gm_graph_select.specs.declared.step.Edge.{Edge}
@@ -29,25 +29,25 @@ pairs_append {T} R (x ∷ xs) ys a b between =
       | inr h ↦ between x (get_or (xs ++ ys) k d) (member_head x xs) h
     ]
 
--- the edges of an adjacency list whose vertices ascend
-from_ascends : (one : Adjacency) → IsAscending vertex_cmp one.to.items → IsAscending edge_cmp (edges_from one)
-from_ascends one up i j d lt below =
+-- the edges of an adjacency list
+from_ascends : (one : Adjacency) → IsAscending edge_cmp (edges_from one)
+from_ascends one i j d lt below =
     let inside : j < length one.to.items = rw length-map at below in
     let left = get_or-map (λ (y : ModuleVersion). edge one.from y) one.to.items i d.to d (omega arith) in
     let right = get_or-map (λ (y : ModuleVersion). edge one.from y) one.to.items j d.to d inside in
     ap₂ edge_cmp left right
     ∙ ap (λ (o : Ordering). ordering_then o (vertex_cmp (get_or one.to.items i d.to) (get_or one.to.items j d.to))) (step_itself one.from)
-    ∙ up i j d.to lt inside
+    ∙ one.ascending i j d.to lt inside
 
 abbrev LeavesLower : Adjacency → Adjacency → Type 0
 LeavesLower a b = step_cmp a.from b.from ≡ Less
 
-pub edges_ascend : (all : List Adjacency) → AllPairs (λ (a b : Adjacency). step_cmp a.from b.from ≡ Less) all → ((one : Adjacency) → Contains all one → IsAscending vertex_cmp one.to.items) → IsAscending edge_cmp (edges_of all)
-edges_ascend [] steps each = λ i j d lt below. absurd (omega (arith, below))
-edges_ascend (one ∷ all) steps each =
+pub edges_ascend : (all : List Adjacency) → AllPairs (λ (a b : Adjacency). step_cmp a.from b.from ≡ Less) all → IsAscending edge_cmp (edges_of all)
+edges_ascend [] steps = λ i j d lt below. absurd (omega (arith, below))
+edges_ascend (one ∷ all) steps =
     pairs_append (λ (a b : Edge). edge_cmp a b ≡ Less) (edges_from one) (edges_of all)
-    (from_ascends one (each one (member_head one all)))
-    (edges_ascend all (pairs_tail LeavesLower one all steps) (λ other h. each other (member_tail one other all h)))
+    (from_ascends one)
+    (edges_ascend all (pairs_tail LeavesLower one all steps))
     between
   where
     between : (a b : Edge) → Contains (edges_from one) a → Contains (edges_of all) b → edge_cmp a b ≡ Less
@@ -56,13 +56,6 @@ edges_ascend (one ∷ all) steps each =
         let (other, later, at) = edges_only all b k in
         let (z, found, same) = from_only other b at in
         ap₂ edge_cmp is same ∙ ap (λ (o : Ordering). ordering_then o (vertex_cmp y z)) (pairs_head LeavesLower one other all steps later)
-
--- one more adjacency list
-pub each_more : (P : Adjacency → Type 0) (all : List Adjacency) (i : ℕ) (x : Adjacency) → i < length all → x ≡ get_or all i x → ((one : Adjacency) → Contains (take i all) one → P one) → P x → (one : Adjacency) → Contains (take (i + 1) all) one → P one
-each_more P all i x below is before now one h = elim (Contains-push_cases (take i all) x one (subst (λ (ones : List Adjacency). Contains ones one) (take_more all i x below ∙ ap (λ (o : Adjacency). take i all ++ o ∷ []) (sym is)) h)) [
-  | inl old ↦ before one old
-  | inr same ↦ subst P same now
-]
 
 -- how many edges one more adjacency list adds
 pub edges_counted : (all : List Adjacency) (i : ℕ) (x : Adjacency) → i < length all → x ≡ get_or all i x → length (edges_of (take (i + 1) all)) ≡ length (edges_of (take i all)) + length x.to.items

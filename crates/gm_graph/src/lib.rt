@@ -16,6 +16,7 @@
 #![tactic(auto)]
 
 mod adjacency;
+mod edge_order;
 mod fault;
 mod graph_builder;
 pub mod laws;

@@ -21,7 +21,7 @@ ghost use Rattle.gm_graph.specs.Marks.{IsWorklist};
 ghost use Rattle.gm_graph.specs.Outcome.{IsLoaded};
 ghost use Rattle.gm_graph.specs.Turns.{AreFirstTurns};
 
-use crate::adjacency::ascending_edges;
+use crate::edge_order::ascending_edges;
 use crate::graph_builder::{GraphBuilder, fault_list, main_edges};
 use crate::loaded::Loaded;
 use crate::starting::{begin, kept_requirements};

@@ -1,7 +1,6 @@
-use Rattle.std.proofs.Common.{◌≡◌, arith, take}
-use Rattle.std.proofs.lemmas.Grind.{common_steps}
+use Rattle.std.proofs.Common.{arith}
 use Rattle.gm_graph.proofs.InOrder.{edges_counted}
-use Rattle.gm_graph.proofs.adjacency.count.Goals as goal
+use Rattle.gm_graph.proofs.edge_order.count.Goals as goal
 
 pub loop-one-preserved : goal.loop-one-preserved
 loop-one-preserved c =

@@ -6,7 +6,7 @@ use Rattle.gm_graph.specs.declared.adjacency.Adjacency.{Adjacency}
 use Rattle.gm_graph.specs.Adjacency.{edges_of}
 use Rattle.gm_graph.proofs.EdgesAndFaults.{edges_permuted}
 use Rattle.gm_graph.proofs.Rooted.{same_along}
-use Rattle.gm_graph.proofs.adjacency.ascending_edges.Goals as goal
+use Rattle.gm_graph.proofs.edge_order.ascending_edges.Goals as goal
 
 pub returns-then-is_done-clause-ascending : goal.returns-then-is_done-clause-ascending
 returns-then-is_done-clause-ascending c =
