@@ -1,6 +1,7 @@
 pub mod Sameness
 pub mod Adding
 pub mod AddingAll
+pub mod AddFaults
 pub mod Deepening
 pub mod Rounds
 pub mod Marking

@@ -1,6 +1,7 @@
 pub mod Graph
 pub mod Turns
 pub mod Marks
+pub mod WorklistFaults
 pub mod Loading
 pub mod Adjacency
 pub mod Building

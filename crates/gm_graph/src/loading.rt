@@ -24,7 +24,7 @@ ghost use Rattle.gm_graph.specs.Turns.{AreFirstTurns};
 use crate::edge_order::ascending_edges;
 use crate::graph_builder::{GraphBuilder, fault_list, main_edges};
 use crate::loaded::Loaded;
-use crate::starting::{begin, kept_requirements};
+use crate::starting::{first_turns, kept_requirements};
 use crate::visiting::visit;
 use crate::worklist::{Worklist, copy_turn};
 use gm_file::MainFile;
@@ -137,7 +137,7 @@ pub fn load<F: Files>(
         → F.may_answer files.old name reply }
 {
     let required = kept_requirements(alloc, main)?;
-    let mut worklist = begin(alloc, main, &required)?;
+    let mut worklist = first_turns(alloc, main, &required)?;
     let mut builder = main_edges(alloc, &required)?;
     let mut cache = Cache::new(alloc, main, sums);
     visit_all(alloc, &mut cache, files, &mut worklist, &mut builder)?;

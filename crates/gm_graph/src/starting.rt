@@ -6,7 +6,7 @@ ghost use Rattle.gm_graph_cache.specs.Refusals.{refused_in};
 ghost use Rattle.gm_graph.specs.Marks.{IsWorklist};
 ghost use Rattle.gm_graph.specs.Turns.{AreFirstTurns, OverflowsWith, depth_by};
 
-use crate::worklist::{AddFault, Worklist};
+use crate::worklist::Worklist;
 use gm_file::MainFile;
 use gm_graph_cache::{Depth, LoadFault, main_view};
 use gm_name::ModVer;
@@ -36,26 +36,9 @@ fn first_depth(main: &MainFile) -> Depth
     }
 }
 
-/// The turns of the main file's requirements: at the top, or at full depth if the main file is unpruned.
+/// The worklist that loading starts with: the turns of the main file's requirements, at the top, or at full depth if
+/// the main file is unpruned. `TooMany` is returned if the main file requires more than `MOST` vertices.
 pub(crate) fn first_turns(
-    alloc: Global,
-    main: &MainFile,
-    required: &[ModVer],
-) -> Result<Worklist, AddFault>
-    requires { required.now ≡ without_excluded (main_of main.now) (main_of main.now).requirements }
-    ensures worklist { IfOk result IsWorklist }
-    ensures first { IfOk result (λ worklist. AreFirstTurns (main_of main.now) worklist.turns.items) }
-    ensures leaves { IfOk result (λ worklist. worklist.leaves.items ≡ []) }
-    ensures too_many { result ≡ Err AddFault.TooMany → OverflowsWith [] required.now }
-{
-    let mut worklist = Worklist::new(alloc);
-    worklist.add_all(alloc, required, first_depth(main))?;
-    Ok(worklist)
-}
-
-/// The worklist that loading starts with. `TooMany` is returned if the main file requires more than `MOST`
-/// vertices.
-pub(crate) fn begin(
     alloc: Global,
     main: &MainFile,
     required: &[ModVer],
@@ -67,9 +50,7 @@ pub(crate) fn begin(
     ensures too_many { result ≡ Err LoadFault.TooMany → OverflowsWith [] required.now }
     ensures not_refused { refused_in result ≡ [] }
 {
-    match first_turns(alloc, main, required) {
-        Ok(worklist) => Ok(worklist),
-        Err(AddFault::NoMemory) => Err(LoadFault::NoMemory),
-        Err(AddFault::TooMany) => Err(LoadFault::TooMany),
-    }
+    let mut worklist = Worklist::new(alloc);
+    worklist.add_all(alloc, required, first_depth(main))?;
+    Ok(worklist)
 }

@@ -15,7 +15,7 @@ ghost use Rattle.gm_graph.specs.Marks.{IsWorklist};
 ghost use Rattle.gm_graph.specs.Turns.{VisitOverflows, leads_on};
 
 use crate::graph_builder::GraphBuilder;
-use crate::worklist::{AddFault, Worklist};
+use crate::worklist::Worklist;
 use gm_graph_cache::{Cache, Depth, Finding, LoadFault};
 use gm_name::{ModVer, NoMemory};
 use gm_store::{FileName, Files};
@@ -64,7 +64,7 @@ fn gathers(
     match depth {
         Depth::Top => Ok(true),
         Depth::Deep => {
-            let has_top = worklist.has_turn(alloc, vertex, Depth::Top)?;
+            let has_top = worklist.has_top(alloc, vertex)?;
             Ok(!has_top)
         }
     }
@@ -98,15 +98,12 @@ fn add_requirements(
     if gathers {
         builder.add_edges(alloc, vertex, lent)?;
     }
-    if !leads {
+    if leads {
+        worklist.add_all(alloc, lent, Depth::Deep)?;
+    } else {
         worklist.add_leaves(alloc, lent)?;
-        return Ok(());
     }
-    match worklist.add_all(alloc, lent, Depth::Deep) {
-        Ok(()) => Ok(()),
-        Err(AddFault::NoMemory) => Err(LoadFault::NoMemory),
-        Err(AddFault::TooMany) => Err(LoadFault::TooMany),
-    }
+    Ok(())
 }
 
 /// Visits a vertex: makes its file known, adds its edges or its fault to the graph, and puts what it requires on

@@ -11,10 +11,11 @@ ghost use Rattle.gm_graph.specs.Graph.{same_vertex};
 ghost use Rattle.gm_graph.specs.Turns.{AddsAll, AreTurnsOf, OverflowsWith};
 ghost use Rattle.gm_graph_cache.specs.Turns.{turn};
 ghost use Rattle.gm_graph.specs.Marks.{IsWorklist, is_marked_at, other_depth};
+ghost use Rattle.gm_graph.specs.WorklistFaults.{load_fault_of};
 ghost use Rattle.gm_graph.specs.declared.worklist.AddFault.TheVariants as add;
 
 use crate::adjacency::push_copies;
-use gm_graph_cache::{Depth, Turn};
+use gm_graph_cache::{Depth, LoadFault, Turn};
 use gm_graph_select::VertexSet;
 use gm_name::ModVer;
 use std::alloc::{AllocError, Global};
@@ -56,6 +57,18 @@ impl From<AllocError> for AddFault {
     }
 }
 
+impl From<AddFault> for LoadFault {
+    ghost from_gives = { λ add load. load ≡ load_fault_of add };
+
+    /// Why loading stops when a turn is not added.
+    fn from(fault: AddFault) -> LoadFault {
+        match fault {
+            AddFault::NoMemory => LoadFault::NoMemory,
+            AddFault::TooMany => LoadFault::TooMany,
+        }
+    }
+}
+
 impl Worklist {
     ghost use Rattle.std.specs.List.{list_any};
     ghost use Rattle.gm_graph.specs.Turns.{AppendsTurnIfNew, same_turn};
@@ -76,21 +89,13 @@ impl Worklist {
         }
     }
 
-    /// Whether the worklist has a turn. The only refusal is `AllocError`, if memory runs out.
-    pub(crate) fn has_turn(
-        &self,
-        alloc: Global,
-        vertex: &ModVer,
-        depth: Depth,
-    ) -> Result<bool, AllocError>
+    /// Whether the worklist has a turn of a vertex at the top. The only refusal is `AllocError`, if memory runs out.
+    pub(crate) fn has_top(&self, alloc: Global, vertex: &ModVer) -> Result<bool, AllocError>
         requires { IsWorklist self.now }
         ensures { IfOk result (λ is_there. is_there
-            ≡ list_any (same_turn (turn vertex.now depth)) self.now.turns.items) }
+            ≡ list_any (same_turn (turn vertex.now Depth.Top)) self.now.turns.items) }
     {
-        match depth {
-            Depth::Top => self.tops.contains(alloc, vertex),
-            Depth::Deep => self.deeps.contains(alloc, vertex),
-        }
+        self.tops.contains(alloc, vertex)
     }
 
     /// Marks a vertex at a depth, and reports whether the mark is new. The only refusal is `AllocError`, if memory
