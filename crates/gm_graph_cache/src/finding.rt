@@ -4,7 +4,7 @@ use crate::class::Class;
 use gm_store::FileName;
 
 /// What is found of a vertex.
-#[derive(Debug, Drop)]
+#[derive(Debug, Drop, PartialEq, Eq)]
 pub enum Finding {
     /// The vertex has this fault.
     Fault(Class),

@@ -5,15 +5,19 @@ ghost use Rattle.gm_graph_cache.specs.declared.load_fault.LoadFault.TheVariants 
 
 use gm_store::FileName;
 use std::alloc::{AllocError, AllocFailed};
+use thiserror::Error;
 
 /// Why loading stopped.
-#[derive(Debug, Drop)]
+#[derive(Debug, Drop, PartialEq, Eq, Error)]
 pub enum LoadFault {
     /// Memory ran out.
+    #[error("out of memory")]
     NoMemory,
     /// The store's device failed when it was asked for this file.
+    #[error("the store's device failed")]
     Device(FileName),
     /// More than 65,536 vertices would be opened.
+    #[error("more than 65,536 modules")]
     TooMany,
 }
 

@@ -33,7 +33,7 @@ impl Status {
 
 /// What to print, what to report, and how the run ends. When there is something to report, nothing is
 /// printed.
-#[derive(Drop)]
+#[derive(Debug, Drop, PartialEq, Eq)]
 pub struct Output {
     /// What to print, in UTF-8, each line ended by a line feed. Empty unless the status is `Done`. It can be
     /// empty then too.
