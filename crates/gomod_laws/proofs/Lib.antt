@@ -1,0 +1,3 @@
+pub mod LineOrderRuns
+pub mod LineOrderSame
+pub mod LineOrderProofs

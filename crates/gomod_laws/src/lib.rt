@@ -4,3 +4,5 @@
 //! have: what is printed, what is reported, and the exit status. A run is a command over the bytes of a main file,
 //! those of a go.sum or none, and the answers of a store whose device did not fail.
 #![tactic(auto)]
+
+pub mod line_order;
