@@ -1,3 +1,8 @@
 pub mod LineOrderRuns
 pub mod LineOrderSame
 pub mod LineOrderProofs
+pub mod FormattingUtf8
+pub mod FormattingBlanks
+pub mod FormattingRead
+pub mod FormattingEdits
+pub mod FormattingProofs

@@ -5,4 +5,5 @@
 //! those of a go.sum or none, and the answers of a store whose device did not fail.
 #![tactic(auto)]
 
+pub mod formatting;
 pub mod line_order;

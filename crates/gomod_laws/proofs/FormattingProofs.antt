@@ -1,0 +1,190 @@
+-- The proofs of the laws of formatting.
+use Rattle.std.proofs.Common.{◌≡◌, ◌≤◌, ℕ, List, [], ◌∷◌, length, Option, None, Some, Ok, refl, sym, ap, subst, ◌∙◌, ◌++◌, ◌+◌, Bool, true, false, IsUtf8, arith, inl, inr, map}
+use Rattle.std.specs.Global.{Global, Vec}
+use Rattle.std.specs.List.{AllByRecursion, cons_option, filter_map}
+use Rattle.std.specs.Option.{option_map, option_to_list}
+use Rattle.std.specs.String.{string_bytes}
+use Rattle.std.proofs.lemmas.Str.{IsUtf8-string_bytes}
+use Rattle.std.specs.Prelude.{String, codes, if◌then◌else◌, option_and_then, unwrap_or}
+use Rattle.gm_syntax.specs.Document.{IsDocument, Line, start}
+use Rattle.gm_syntax.specs.Layout.{layout}
+use Rattle.gm_syntax.specs.LineViews.{plain_lines}
+use Rattle.gm_syntax.specs.Parsed.{IsParsedAs}
+use Rattle.gm_syntax.specs.Tokens.{Placed}
+use Rattle.gm_syntax.specs.Words.{Word}
+use Rattle.gm_file.specs.Directives.{Strict, Directive, directives}
+use Rattle.gm_file.specs.Faults.{fault_of, go_in}
+use Rattle.gm_file.specs.Fields.{as_exclusion, as_go, as_module, as_replacing, as_requirement, first}
+use Rattle.gm_file_edit.specs.Changes.{edited, is_fit}
+use Rattle.gm_file_edit.specs.Edits.{Edit as Change, edit_in}
+use Rattle.gm_file_edit.proofs.EditedSound.{edited-document}
+use Rattle.gm_file_edit.proofs.Written.{written-sound}
+use Rattle.gm_graph_cache.specs.Main.{Main}
+use Rattle.gm_graph_listing.specs.Outcomes.{IsMainFile, Outcome, longest, printed, refused}
+use Rattle.gm_graph_listing.specs.Reports.{main_line}
+use Rattle.gm_graph_listing.proofs.OneRead.{misread_or_main, same_lines}
+use Rattle.gomod_words.specs.Usage.{texts_in}
+use Rattle.gomod_words.specs.declared.usage.Command.TheVariants.{Fmt, Edit}
+use Rattle.gomod_run.specs.Editing.{IsEditOutcome, edited_in_turn, edits_outcome, refusal_of, refusals_from}
+use Rattle.gomod_run.specs.Kinds.{edit_line}
+use Rattle.gomod_run.specs.Runs.{IsFmtOutcome}
+use Rattle.gomod_run.proofs.Sameness.{one_outcome}
+use Rattle.gomod_laws.specs.FormattingLaws.{EditOfNothingFormats, EditsAreFormatted, FormattingChangesNoBuild, IsFormatted, LayoutsAreFormatted}
+use Rattle.gomod_laws.specs.LineOrderLaws.{SayTheSame}
+use Rattle.gomod_laws.specs.Runs.{HasOutcome}
+use Rattle.gomod_laws.proofs.FormattingBlanks.{no_fault_again, same_said}
+use Rattle.gomod_laws.proofs.FormattingEdits.{AreGood, edited_good, good_lines, lines_good}
+use Rattle.gomod_laws.proofs.FormattingRead.{layout_read, parsed_layout, read_document}
+use Rattle.gomod_laws.proofs.FormattingUtf8.{read_utf8}
+use Rattle.gomod_laws.proofs.LineOrderProofs.{queries_move}
+use Rattle.gomod_laws.proofs.LineOrderRuns.{same_outcome}
+
+-- ---- what a main file says
+
+-- what these directives say as those of a main file
+abbrev main_said : List Directive → Main
+main_said ds = record {
+  path = unwrap_or (first (filter_map as_module ds)) [];
+  go = unwrap_or (option_and_then (go_in Strict) (first (filter_map as_go ds))) (1, 16);
+  requirements = filter_map as_requirement ds;
+  excludes = filter_map as_exclusion ds;
+  replaces = filter_map as_replacing ds;
+}
+
+-- a main file and its layout say the same
+pub layout_main : (file : List ℕ) (lines : List (Line Placed)) (main : Main) → IsParsedAs file (Ok lines) → length (layout (plain_lines lines)) ≤ longest → IsMainFile file main → IsMainFile (layout (plain_lines lines)) main
+layout_main file lines main parsed short (others, (read, sound), says) =
+    let layout_is = parsed_layout file lines parsed short in
+    let same : plain_lines others ≡ plain_lines lines = same_lines file others lines read parsed in
+    let none = subst (λ (ls : List (Line Word)). fault_of Strict ls ≡ None) same sound in
+    let said : directives Strict (plain_lines layout_is.doc) ≡ directives Strict (plain_lines others) =
+    same_said (plain_lines lines) (plain_lines layout_is.doc) layout_is.same_filled ∙ ap (directives Strict) (sym same) in
+    (layout_is.doc, (layout_is.parsed, no_fault_again (plain_lines lines) (plain_lines layout_is.doc) layout_is.same_filled none), ap main_said said ∙ says)
+
+-- ---- what `fmt` prints
+
+fmt_states : (file : List ℕ) (outcome : Outcome) → HasOutcome Fmt file None [] outcome → IsFmtOutcome file outcome
+fmt_states file outcome has = elim has.run [
+  | inl stated ↦ stated.0
+  | inr stopped ↦ absurd stopped.2
+]
+
+-- `fmt` prints the layout of the lines that were read
+pub record IsLayoutOf (file text : List ℕ) : Type 0 where
+  pub lines : List (Line Placed)
+  pub parsed : IsParsedAs file (Ok lines)
+  pub text_is : text ≡ layout (plain_lines lines)
+
+not_printed : (text report : List ℕ) → printed text ≡ refused report → ⊥
+not_printed text report same = let e : 0 ≡ 1 = ap (λ (o : Outcome). o.status) same in omega (arith, e)
+
+pub fmt_printed : (file text : List ℕ) → IsFormatted file text → IsLayoutOf file text
+fmt_printed file text has = elim (fmt_states file (printed text) has) [
+  | inl of_lines ↦ record { lines = of_lines.0; parsed = of_lines.1; text_is = ap (λ (o : Outcome). o.text) of_lines.2 }
+  | inr of_fault ↦ absurd (not_printed text (main_line of_fault.1) of_fault.4)
+]
+
+says_itself : (main : Main) → SayTheSame main main
+says_itself main = record { path = refl; pruned = refl; required = λ x. (λ is. is, λ is. is); excluded = λ x. (λ is. is, λ is. is); replaced = λ x. refl }
+
+pub formatting_changes_no_build : FormattingChangesNoBuild
+formatting_changes_no_build command file text main sums asked answered before after query is formatted short alike one two =
+    let found = fmt_printed file text formatted in
+    let low : length (layout (plain_lines found.lines)) ≤ longest = subst (λ (t : List ℕ). length t ≤ longest) found.text_is short in
+    let also : IsMainFile text main = subst (λ (t : List ℕ). IsMainFile t main) (sym found.text_is) (layout_main file found.lines main found.parsed low is) in
+    same_outcome command file text sums asked answered before after query (queries_move file text sums main main is also (says_itself main)) alike one two
+
+-- the only outcome of `fmt` is the layout of the lines
+fmt_is : (file : List ℕ) (lines : List (Line Placed)) (outcome : Outcome) → IsParsedAs file (Ok lines) → HasOutcome Fmt file None [] outcome → printed (layout (plain_lines lines)) ≡ outcome
+fmt_is file lines outcome parsed has = one_outcome Fmt file None (λ name. None) (printed (layout (plain_lines lines))) outcome (inl (lines, parsed, refl)) (fmt_states file outcome has)
+
+pub layouts_are_formatted : LayoutsAreFormatted
+layouts_are_formatted file text formatted first short again =
+    let found = fmt_printed file text first in
+    let low : length (layout (plain_lines found.lines)) ≤ longest = subst (λ (t : List ℕ). length t ≤ longest) found.text_is short in
+    let read = parsed_layout file found.lines found.parsed low in
+    let parsed : IsParsedAs text (Ok read.doc) = subst (λ (t : List ℕ). IsParsedAs t (Ok read.doc)) (sym found.text_is) read.parsed in
+    sym (fmt_is text read.doc formatted parsed again) ∙ ap printed (read.same_layout ∙ sym found.text_is)
+
+-- ---- `edit` without an operation
+
+edit_states : (operations : Vec (String Global)) (file : List ℕ) (outcome : Outcome) → HasOutcome (Edit operations) file None [] outcome → IsEditOutcome (texts_in operations) file outcome
+edit_states operations file outcome has = elim has.run [
+  | inl stated ↦ stated.0
+  | inr stopped ↦ absurd stopped.2
+]
+
+edit_of_nothing : (file : List ℕ) (main : Main) (edited formatted : Outcome) → IsMainFile file main → IsEditOutcome [] file edited → HasOutcome Fmt file None [] formatted
+    → (edited ≡ formatted) × (text : List ℕ) × (edited ≡ printed text)
+edit_of_nothing file main edited formatted is (inl (place, malformed, says)) has = absurd (misread_or_main file place main malformed is)
+edit_of_nothing file main edited formatted is (inr (lines, (parsed, sound), says)) has = (says ∙ fmt_is file lines formatted parsed has, layout (plain_lines lines), says)
+
+pub edit_of_nothing_formats : EditOfNothingFormats
+edit_of_nothing_formats operations file main edited formatted none is one other =
+    edit_of_nothing file main edited formatted is (subst (λ (texts : List (List ℕ)). IsEditOutcome texts file edited) none (edit_states operations file edited one)) other
+
+-- ---- what `edit` prints
+
+-- what is known of lines between two operations
+record AreSoundLines (lines : List (Line Placed)) : Type 0 where
+  pub document : IsDocument (plain_lines lines)
+  pub faultless : fault_of Strict (plain_lines lines) ≡ None
+  pub utf8 : AreGood lines
+
+edited_sound : (text : List ℕ) (edit : Change) (lines : List (Line Placed)) → IsUtf8 text → edit_in text ≡ Some edit → is_fit edit ≡ true → AreSoundLines lines → AreSoundLines (edited edit lines)
+edited_sound text edit lines utf8 written fit are =
+    let sound = written-sound text edit written in
+    let after = edited-document edit lines sound fit are.document are.faultless in
+    record { document = after.0; faultless = after.1; utf8 = edited_good text edit lines utf8 written sound are.utf8 }
+
+abbrev numbered : ℕ → List ℕ → ℕ × List ℕ
+numbered number kind = (number, kind)
+
+no_refusal : (number : ℕ) (edit : Change) (rest : List (ℕ × List ℕ)) → option_to_list (option_map (numbered number) (refusal_of (Some edit))) ++ rest ≡ [] → (is_fit edit ≡ true) × (rest ≡ [])
+no_refusal number edit rest none = by_fit (is_fit edit) refl none
+  where
+    by_fit : (fit : Bool) → is_fit edit ≡ fit → option_to_list (option_map (numbered number) (if fit then None else Some (codes "Misfit"))) ++ rest ≡ [] → (is_fit edit ≡ true) × (rest ≡ [])
+    by_fit true is e = (is, e)
+    by_fit false is e = absurd cc
+
+-- operations of which none is refused
+in_turn_sound : (number : ℕ) (texts : List (List ℕ)) (lines : List (Line Placed)) → AllByRecursion IsUtf8 texts → refusals_from number texts ≡ [] → AreSoundLines lines → AreSoundLines (edited_in_turn (filter_map edit_in texts) lines)
+in_turn_sound number [] lines utf8 none are = are
+in_turn_sound number (text ∷ texts) lines utf8 none are = by_edit (edit_in text) refl none (λ ls rest now. in_turn_sound (number + 1) texts ls utf8.1 rest now)
+  where
+    by_edit : (o : Option Change) → edit_in text ≡ o → option_to_list (option_map (numbered number) (refusal_of o)) ++ refusals_from (number + 1) texts ≡ []
+        → ((ls : List (Line Placed)) → refusals_from (number + 1) texts ≡ [] → AreSoundLines ls → AreSoundLines (edited_in_turn (filter_map edit_in texts) ls))
+        → AreSoundLines (edited_in_turn (cons_option o (filter_map edit_in texts)) lines)
+    by_edit None written refused rest = absurd cc
+    by_edit (Some edit) written refused rest =
+        let fit = no_refusal number edit (refusals_from (number + 1) texts) refused in
+        rest (edited edit lines) fit.1 (edited_sound text edit lines utf8.0 written fit.0 are)
+
+texts_utf8 : (texts : List (String Global)) → AllByRecursion IsUtf8 (map string_bytes texts)
+texts_utf8 [] = tt
+texts_utf8 (text ∷ texts) = (IsUtf8-string_bytes text, texts_utf8 texts)
+
+-- `edit` prints the layout of sound lines
+record IsEditLayout (text : List ℕ) : Type 0 where
+  pub lines : List (Line Placed)
+  pub sound : AreSoundLines lines
+  pub text_is : text ≡ layout (plain_lines lines)
+
+edit_printed : (texts : List (List ℕ)) (file text : List ℕ) → AllByRecursion IsUtf8 texts → IsEditOutcome texts file (printed text) → IsEditLayout text
+edit_printed texts file text utf8 (inl (place, malformed, says)) = absurd (not_printed text (main_line place) says)
+edit_printed texts file text utf8 (inr (lines, (parsed, faultless), says)) = by_refusals (refusals_from 1 texts) refl says
+  where
+    before : AreSoundLines lines
+    before = record { document = read_document file (plain_lines lines) parsed.1.reads; faultless = faultless; utf8 = good_lines lines (read_utf8 start file (plain_lines lines) parsed.0.1 parsed.1.reads) }
+
+    by_refusals : (found : List (ℕ × List ℕ)) → refusals_from 1 texts ≡ found → printed text ≡ edits_outcome found (edited_in_turn (filter_map edit_in texts) lines) → IsEditLayout text
+    by_refusals [] none is = record { lines = edited_in_turn (filter_map edit_in texts) lines; sound = in_turn_sound 1 texts lines utf8 none before; text_is = ap (λ (o : Outcome). o.text) is }
+    by_refusals (first ∷ others) some is = absurd (not_printed text (edit_line first) is)
+
+pub edits_are_formatted : EditsAreFormatted
+edits_are_formatted operations file text formatted first short again =
+    let found = edit_printed (texts_in operations) file text (texts_utf8 operations.items) (edit_states operations file (printed text) first) in
+    let low : length (layout (plain_lines found.lines)) ≤ longest = subst (λ (t : List ℕ). length t ≤ longest) found.text_is short in
+    let read = layout_read (plain_lines found.lines) found.sound.document (lines_good found.lines found.sound.utf8) low in
+    let parsed : IsParsedAs text (Ok read.doc) = subst (λ (t : List ℕ). IsParsedAs t (Ok read.doc)) (sym found.text_is) read.parsed in
+    sym (fmt_is text read.doc formatted parsed again) ∙ ap printed (read.same_layout ∙ sym found.text_is)

@@ -1,0 +1,76 @@
+-- The layout of a document that was read is a document that reads as the same lines, but for blank ones.
+use Rattle.std.proofs.Common.{◌≡◌, ◌≤◌, ℕ, List, [], ◌∷◌, length, map, Ok, IsUtf8, refl, sym, ap, subst, ◌∙◌}
+use Rattle.std.specs.List.{AllByRecursion}
+use Rattle.gm_syntax.specs.Document.{Line, Blank, Comment, Open, Close, Entry, AreLines, ReadsLines, Whole, after, map_line, start}
+use Rattle.gm_syntax.specs.Layout.{filled, initial_state, layout, layout_lines}
+use Rattle.gm_syntax.specs.LineViews.{plain, plain_lines}
+use Rattle.gm_syntax.specs.Lines.{HasNoLineFeed, lines_of}
+use Rattle.gm_syntax.specs.Parsed.{IsParsedAs}
+use Rattle.gm_syntax.specs.Tokens.{Placed}
+use Rattle.gm_syntax.specs.Words.{Word}
+use Rattle.gm_syntax.proofs.OneText.{reading_parsed}
+use Rattle.gm_syntax.proofs.Readings.{reading_of}
+use Rattle.gm_syntax.proofs.Stable.{is_stable}
+use Rattle.gm_syntax.proofs.TextPieces.{lines_pieces}
+use Rattle.gm_file_edit.specs.NewWords.{unplaced}
+use Rattle.gomod_laws.proofs.FormattingUtf8.{IsUtf8Line, PlaceOf, layout_utf8, read_utf8}
+
+-- ---- the lines that a text reads as are a document
+
+read_lines : (at : PlaceOf) (texts : List (List ℕ)) (lines : List (Line Word)) → AllByRecursion HasNoLineFeed texts → ReadsLines at texts lines Whole → AreLines at lines
+read_lines at [] [] are ends = ends
+read_lines at (text ∷ texts) [] are ends = absurd ends
+read_lines at [] (line ∷ lines) are reads = absurd reads
+read_lines at (text ∷ texts) (line ∷ lines) are (is, more) = ((text, are.0, is), read_lines (after at line) texts lines are.1 more)
+
+pub read_document : (file : List ℕ) (lines : List (Line Word)) → ReadsLines start (lines_of file) lines Whole → AreLines start lines
+read_document file lines reads = read_lines start (lines_of file) lines (lines_pieces file).no_line_feed reads
+
+-- ---- lines whose words have no places
+
+plain_words : (words : List Word) → map (λ (t : Placed). t.word) (map unplaced words) ≡ words
+plain_words [] = refl
+plain_words (w ∷ words) = ap (λ (ws : List Word). w ∷ ws) (plain_words words)
+
+plain_line : (line : Line Word) → plain (map_line unplaced line) ≡ line
+plain_line Blank = refl
+plain_line (Comment text) = refl
+plain_line (Open verb suffix) = refl
+plain_line (Close suffix) = refl
+plain_line (Entry words suffix) = ap (λ (ws : List Word). Entry ws suffix) (plain_words words)
+
+abbrev pub placeless : List (Line Word) → List (Line Placed)
+placeless lines = map (λ (line : Line Word). map_line unplaced line) lines
+
+pub plain_placeless : (lines : List (Line Word)) → plain_lines (placeless lines) ≡ lines
+plain_placeless [] = refl
+plain_placeless (line ∷ lines) =
+    ap (λ (l : Line Word). l ∷ plain_lines (placeless lines)) (plain_line line) ∙ ap (λ (ls : List (Line Word)). line ∷ ls) (plain_placeless lines)
+
+-- ---- the layout of a document
+
+-- what is known of the reading of a layout
+pub record IsLayoutRead (lines : List (Line Word)) : Type 0 where
+  pub doc : List (Line Placed)
+  pub parsed : IsParsedAs (layout lines) (Ok doc)
+  pub same_filled : filled (plain_lines doc) ≡ filled lines
+  pub same_layout : layout (plain_lines doc) ≡ layout lines
+
+pub layout_read : (lines : List (Line Word)) → AreLines start lines → AllByRecursion IsUtf8Line lines → length (layout lines) ≤ 16777216 → IsLayoutRead lines
+layout_read lines document utf8 short =
+    let laid : List (Line Word) = layout_lines initial_state lines in
+    let stable = is_stable lines document in
+    let doc : List (Line Placed) = placeless laid in
+    let back : plain_lines doc ≡ laid = plain_placeless laid in
+    let text : IsUtf8 (layout lines) = layout_utf8 lines utf8 in
+    let reads : ReadsLines start (lines_of (layout lines)) (plain_lines doc) Whole = subst (λ (ls : List (Line Word)). ReadsLines start (lines_of (layout lines)) ls Whole) (sym back) stable.reads in
+    record {
+      doc = doc;
+      parsed = reading_parsed (layout lines) (Ok doc) ((short, text), reading_of (layout lines) (plain_lines doc) Whole reads);
+      same_filled = ap filled back ∙ stable.same_lines;
+      same_layout = ap layout back ∙ stable.same_bytes;
+    }
+
+pub parsed_layout : (file : List ℕ) (doc : List (Line Placed)) → IsParsedAs file (Ok doc) → length (layout (plain_lines doc)) ≤ 16777216 → IsLayoutRead (plain_lines doc)
+parsed_layout file doc is short =
+    layout_read (plain_lines doc) (read_document file (plain_lines doc) is.1.reads) (read_utf8 start file (plain_lines doc) is.0.1 is.1.reads) short
