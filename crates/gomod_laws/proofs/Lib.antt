@@ -6,3 +6,6 @@ pub mod FormattingBlanks
 pub mod FormattingRead
 pub mod FormattingEdits
 pub mod FormattingProofs
+mod SumsGiven
+mod SumsChecked
+mod SumsOutcomes

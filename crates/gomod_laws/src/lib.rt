@@ -7,3 +7,4 @@
 
 pub mod formatting;
 pub mod line_order;
+pub mod sums;
