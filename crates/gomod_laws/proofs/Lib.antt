@@ -9,3 +9,5 @@ pub mod FormattingProofs
 mod SumsGiven
 mod SumsChecked
 mod SumsOutcomes
+mod ExplainedRuns
+mod ExplainedRows

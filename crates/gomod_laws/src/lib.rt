@@ -7,4 +7,5 @@
 
 pub mod formatting;
 pub mod line_order;
+pub mod explained;
 pub mod sums;

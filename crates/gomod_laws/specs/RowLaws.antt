@@ -1,0 +1,42 @@
+-- Laws of the rows of `list`: what `graph` and `chain` say of them.
+use Rattle.std.specs.Prelude.{◌≡◌, ◌++◌, ℕ, List, [], ◌∷◌, Option, None, Contains, codes}
+use Rattle.std.specs.List.{flat_map}
+use Rattle.gm_store.specs.Asked.{Name, Reply}
+use Rattle.gm_graph_cache.specs.Main.{Main}
+use Rattle.gm_graph_select.specs.BuildList.{Entry, HasEntryFor, path_of}
+use Rattle.gm_graph_listing.specs.Laws.{AnswerAlike}
+use Rattle.gm_graph_listing.specs.Outcomes.{IsMainFile, Outcome, printed, refused}
+use Rattle.gm_graph_listing.specs.Reports.{not_listed_line}
+use Rattle.gm_graph_listing.specs.Texts.{line, list_text, step_text}
+use Rattle.gomod_words.specs.declared.usage.Command.TheVariants.{Graph, List as Rows, Chain}
+use Rattle.gomod_laws.specs.Runs.{HasOutcome, Prints}
+
+-- these lines, each with the line feed that ends it
+abbrev pub text_of : List (List ℕ) → List ℕ
+text_of lines = flat_map line lines
+
+-- Lines from the first to the last, of which each two in turn, joined by a space, are among these edges.
+pub data LeadsTo (edges : List (List ℕ)) (first : List ℕ) : List ℕ → List (List ℕ) → Type 0 where
+  here : LeadsTo edges first first (first ∷ [])
+  further : {last : List ℕ} {lines : List (List ℕ)} (next : List ℕ) → LeadsTo edges first last lines
+      → Contains edges (last ++ codes " " ++ next) → LeadsTo edges first next (lines ++ next ∷ [])
+
+-- What `chain` prints for a path, by the rows of `list` and the lines of `graph`.
+pub record IsExplained (main : List ℕ) (rows : List Entry) (edges : List (List ℕ)) (path : List ℕ)
+    (chain : Outcome) : Type 0 where
+  -- for the path of a row: lines that lead from the main module to that row's module at its version
+  pub row : (entry : Entry) → Contains rows entry → path_of main entry.0 ≡ path
+      → (lines : List (List ℕ)) × LeadsTo edges main (step_text main entry.0) lines
+      × (chain ≡ printed (text_of lines))
+  -- for another path: nothing, and it is reported
+  pub unlisted : ¬ (HasEntryFor main rows path) → chain ≡ refused (not_listed_line path)
+
+-- Where `list` prints its rows, `graph` prints lines by which `chain` explains each row, and no other path.
+abbrev pub EachRowIsExplained : Type 0
+EachRowIsExplained = (file : List ℕ) (sums : Option (List ℕ)) (asked others : List (Name × Reply))
+    (list graph : Outcome) → AnswerAlike asked others
+    → HasOutcome (Rows None None) file sums asked list → HasOutcome Graph file sums others graph → Prints list
+    → (main : Main) × (rows : List Entry) × (edges : List (List ℕ)) × IsMainFile file main
+    × (list ≡ printed (list_text main.path rows)) × (graph ≡ printed (text_of edges))
+    × ((path : List ℕ) (third : List (Name × Reply)) (chain : Outcome) → AnswerAlike asked third
+    → HasOutcome (Chain path) file sums third chain → IsExplained main.path rows edges path chain)
