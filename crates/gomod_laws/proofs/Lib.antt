@@ -11,3 +11,4 @@ mod SumsChecked
 mod SumsOutcomes
 mod ExplainedRuns
 mod ExplainedRows
+pub mod VersionRuns

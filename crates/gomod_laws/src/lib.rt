@@ -9,3 +9,4 @@ pub mod formatting;
 pub mod line_order;
 pub mod explained;
 pub mod sums;
+pub mod listed_versions;

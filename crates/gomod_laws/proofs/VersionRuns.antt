@@ -1,0 +1,155 @@
+-- What `versions` prints, with all versions and without the retracted ones.
+use Rattle.std.proofs.Common.{◌≡◌, ◌⊎◌, ◌∙◌, ◌++◌, ◌∷◌, ℕ, Bool, List, [], Option, Some, None, Result, Ok, Err, Contains, ap, append-nil, false, inl, inr, not, refl, subst, sym, true}
+use Rattle.std.proofs.lemmas.Bool.{false≢true}
+use Rattle.std.proofs.lemmas.List.{append_cancel_left}
+use Rattle.std.proofs.lemmas.List.Elements.{All-contains, All-contains_itself, All-filter}
+use Rattle.std.proofs.lemmas.List.Kept.{IsStrictlySortedBy-filter}
+use Rattle.std.specs.List.{filter}
+use Rattle.gm_name.specs.Version.{version_cmp}
+use Rattle.gm_name.specs.Path.{is_fetchable}
+use Rattle.gm_file.specs.Directives.{Pair}
+use Rattle.gm_file.specs.Fields.{Dependency}
+use Rattle.gm_file_retract.specs.Shown.{is_retracted, shown_of}
+use Rattle.gm_store.specs.Asked.{Name, Reply, absent, answer_in, bytes, list_file, mod_file, too_long}
+use Rattle.gm_store.specs.Latest.{IsLatest}
+use Rattle.gm_store.specs.Listed.{AreListed}
+use Rattle.gm_graph_cache.specs.declared.class.Class.{Class}
+use Rattle.gm_graph_cache.specs.Reading.{IsFileReading}
+use Rattle.gm_graph_listing.specs.Laws.{AnswerAlike}
+use Rattle.gm_graph_listing.specs.Outcomes.{Outcome, printed, refused}
+use Rattle.gomod_words.specs.declared.usage.Command.TheVariants.{Versions}
+use Rattle.gomod_run.specs.Runs.{IsRunOutcome, Needs, StatesOutcome}
+use Rattle.gomod_run.specs.Versions.{AnswersByName, IsListedOutcome, IsOutcomeByList, IsShownOutcome, IsVersionsOutcome, shown_by, versions_line}
+use Rattle.gomod_run.proofs.Uniqueness.{listed_once}
+use Rattle.gomod_laws.specs.Runs.{HasOutcome, Prints}
+use Rattle.gomod_laws.specs.VersionLaws.{AreUnretracted, AreVersionsOf, PrintsVersionsOfPath, RetractedAreLeftOut, Retracts}
+
+abbrev Pairs : Type 0
+Pairs = List (Name × Reply)
+
+-- ---- a run
+
+-- a refusal prints nothing
+pub refusal_prints_nothing : (outcome : Outcome) (report : List ℕ) → outcome ≡ refused report → Prints outcome → ⊥
+refusal_prints_nothing outcome report is prints = let one : 1 ≡ 0 = sym (ap {B = ℕ} (λ (o : Outcome). o.status) is) ∙ prints in cc one
+
+one_more : (old new : List Name) (name : Name) → new ≡ old ++ name ∷ [] → new ≡ old → ⊥
+one_more old new name grown same =
+    let none : name ∷ [] ≡ [] = append_cancel_left old (name ∷ []) [] (sym grown ∙ same ∙ sym (append-nil old)) in cc none
+
+-- the outcome of `versions`, by the answers of the run
+pub by_answers : (path : List ℕ) (all : Bool) (main : List ℕ) (sums : Option (List ℕ)) (asked : Pairs) (outcome : Outcome)
+    → HasOutcome (Versions path all) main sums asked outcome → IsVersionsOutcome path all (answer_in asked) outcome
+by_answers path all main sums asked outcome run = by run.run
+  where
+    by : IsRunOutcome (Needs (Versions path all) main sums) (StatesOutcome (Versions path all) main sums) run.old run.new outcome
+        → IsVersionsOutcome path all (answer_in asked) outcome
+    by (inl (is, every, none)) = subst (λ (pairs : Pairs). IsVersionsOutcome path all (answer_in pairs) outcome) run.asked_are is
+    by (inr (name, says, need, unanswered, grown)) = absurd (one_more run.old.refused run.new.refused name grown run.none_failed)
+
+-- ---- what is printed
+
+-- the store answered with a list that names these versions
+pub record IsAnswered (path : List ℕ) (answers : AnswersByName) (versions : List (List ℕ)) : Type 0 where
+  pub fetchable : is_fetchable path ≡ true
+  pub list : List ℕ
+  pub answered : answers (list_file path) ≡ Some (bytes list)
+  pub listed : AreListed path list versions
+
+-- where `versions` prints, its list was answered
+pub list_answered : (path : List ℕ) (all : Bool) (answers : AnswersByName) (outcome : Outcome) → Prints outcome → IsVersionsOutcome path all answers outcome
+    → (versions : List (List ℕ)) × IsAnswered path answers versions × IsListedOutcome path all answers versions outcome
+list_answered path all answers outcome prints (inl (isnt, says)) = absurd (refusal_prints_nothing outcome _ says prints)
+list_answered path all answers outcome prints (inr (reply, fetchable, answered, is)) = by reply answered is
+  where
+    by : (reply : Reply) → answers (list_file path) ≡ Some reply → IsOutcomeByList path all answers reply outcome
+        → (versions : List (List ℕ)) × IsAnswered path answers versions × IsListedOutcome path all answers versions outcome
+    by absent answered says = absurd (refusal_prints_nothing outcome _ says prints)
+    by too_long answered says = absurd (refusal_prints_nothing outcome _ says prints)
+    by (bytes list) answered (versions, listed, is) = (versions, record { fetchable = fetchable; list = list; answered = answered; listed = listed }, is)
+
+-- of the versions, these are shown: all, or those that the latest one's file does not retract
+abbrev AreShown : List ℕ → Bool → Pairs → List (List ℕ) → List (List ℕ) → Type 0
+AreShown path all asked versions shown =
+    (((all ≡ true) ⊎ (versions ≡ [])) × (shown ≡ versions))
+    ⊎ ((all ≡ false) × (latest : List ℕ) × (intervals : List Pair)
+    × IsLatest versions latest
+    × Retracts asked path latest intervals
+    × (shown ≡ shown_of intervals versions))
+
+shown_printed : (path : List ℕ) (all : Bool) (asked : Pairs) (versions : List (List ℕ)) (outcome : Outcome) → Prints outcome → IsListedOutcome path all (answer_in asked) versions outcome
+    → (shown : List (List ℕ)) × AreShown path all asked versions shown × (outcome ≡ printed (versions_line path shown))
+shown_printed path all asked versions outcome prints (inl (every, says)) = (versions, inl (every, refl), says)
+shown_printed path all asked versions outcome prints (inr (latest, reply, some, is, answered, shows)) = by shows.reading shows.says shows.outcome_is
+  where
+    by : (reading : Result Dependency Class) → IsFileReading None (mod_file path latest) reply reading → outcome ≡ shown_by path versions latest reading
+        → (shown : List (List ℕ)) × AreShown path all asked versions shown × (outcome ≡ printed (versions_line path shown))
+    by (Ok file) says outcome_is =
+        (shown_of file.retracts versions, inr (some, latest, file.retracts, is, (reply, file, answered, says, refl), refl), outcome_is)
+    by (Err class) says outcome_is = absurd (refusal_prints_nothing outcome _ outcome_is prints)
+
+-- ---- each version fits the path
+
+listed_are_of : (path list : List ℕ) (versions : List (List ℕ)) → AreListed path list versions → AreVersionsOf path versions
+listed_are_of path list versions are = record {
+  ascending = are.ascending;
+  listable = λ version there. ((are.members version).0 there).listable;
+}
+
+kept_member : {X : Type 0} (p : X → Bool) (xs : List X) (x : X) → Contains (filter p xs) x → Contains xs x
+kept_member p xs x there = All-contains (Contains xs) (filter p xs) x (All-filter p (Contains xs) xs (All-contains_itself xs)) there
+
+shown_are_of : (path : List ℕ) (intervals : List Pair) (versions : List (List ℕ)) → AreVersionsOf path versions → AreVersionsOf path (shown_of intervals versions)
+shown_are_of path intervals versions are = record {
+  ascending = IsStrictlySortedBy-filter version_cmp (λ version. not (is_retracted intervals version)) versions are.ascending;
+  listable = λ version there. are.listable version (kept_member (λ one. not (is_retracted intervals one)) versions version there);
+}
+
+are_of : (path : List ℕ) (all : Bool) (asked : Pairs) (versions shown : List (List ℕ)) → AreVersionsOf path versions → AreShown path all asked versions shown → AreVersionsOf path shown
+are_of path all asked versions shown are (inl (every, is)) = subst (AreVersionsOf path) (sym is) are
+are_of path all asked versions shown are (inr (some, latest, intervals, greatest, says, is)) =
+    subst (AreVersionsOf path) (sym is) (shown_are_of path intervals versions are)
+
+pub prints_versions_of_path : PrintsVersionsOfPath
+prints_versions_of_path path all main sums asked outcome run prints =
+    let (versions, is, follows) = list_answered path all (answer_in asked) outcome prints (by_answers path all main sums asked outcome run) in
+    let (shown, are, says) = shown_printed path all asked versions outcome prints follows in
+    (shown, are_of path all asked versions shown (listed_are_of path is.list versions is.listed) are, says)
+
+-- ---- with `--retracted` and without
+
+-- with `--retracted`, each listed version is printed
+all_listed : (path : List ℕ) (answers : AnswersByName) (versions : List (List ℕ)) (outcome : Outcome) → IsListedOutcome path true answers versions outcome
+    → outcome ≡ printed (versions_line path versions)
+all_listed path answers versions outcome (inl (every, says)) = says
+all_listed path answers versions outcome (inr (latest, reply, some, is, answered, shows)) = absurd (false≢true (sym some))
+
+all_by_list : (path : List ℕ) (answers : AnswersByName) (list : List ℕ) (versions : List (List ℕ)) (reply : Reply) (outcome : Outcome) → AreListed path list versions → reply ≡ bytes list
+    → IsOutcomeByList path true answers reply outcome → outcome ≡ printed (versions_line path versions)
+all_by_list path answers list versions reply outcome listed same is =
+    let (others, named, follows) = subst (λ (r : Reply). IsOutcomeByList path true answers r outcome) same is in
+    all_listed path answers versions outcome (subst (λ (vs : List (List ℕ)). IsListedOutcome path true answers vs outcome) (listed_once path list others versions named listed) follows)
+
+all_printed : (path : List ℕ) (answers : AnswersByName) (list : List ℕ) (versions : List (List ℕ)) (outcome : Outcome) → is_fetchable path ≡ true → AreListed path list versions
+    → ((reply : Reply) → answers (list_file path) ≡ Some reply → reply ≡ bytes list) → IsVersionsOutcome path true answers outcome
+    → outcome ≡ printed (versions_line path versions)
+all_printed path answers list versions outcome fetchable listed same (inl (isnt, says)) = absurd (false≢true (sym isnt ∙ fetchable))
+all_printed path answers list versions outcome fetchable listed same (inr (reply, may, answered, is)) = all_by_list path answers list versions reply outcome listed (same reply answered) is
+
+-- without `--retracted`, those that are not retracted
+are_unretracted : (path : List ℕ) (asked : Pairs) (versions shown : List (List ℕ)) → AreShown path false asked versions shown → AreUnretracted asked path versions shown
+are_unretracted path asked versions shown (inl (inl every, is)) = absurd (false≢true every)
+are_unretracted path asked versions shown (inl (inr none, is)) = inl (none, is ∙ none)
+are_unretracted path asked versions shown (inr (some, latest, intervals, greatest, says, is)) = inr (latest, intervals, greatest, says, is)
+
+pub retracted_are_left_out : RetractedAreLeftOut
+retracted_are_left_out path main sums asked told one other run prints also alike =
+    let (versions, is, follows) = list_answered path false (answer_in asked) one prints (by_answers path false main sums asked one run) in
+    let (shown, are, says) = shown_printed path false asked versions one prints follows in
+    let same : (reply : Reply) → answer_in told (list_file path) ≡ Some reply → reply ≡ bytes is.list = λ reply answered. sym (alike (list_file path) (bytes is.list) reply is.answered answered) in (
+      versions,
+      shown,
+      says,
+      all_printed path (answer_in told) is.list versions other is.fetchable is.listed same (by_answers path true main sums told other also),
+      are_unretracted path asked versions shown are,
+    )
