@@ -12,3 +12,6 @@ mod SumsOutcomes
 mod ExplainedRuns
 mod ExplainedRows
 pub mod VersionRuns
+pub mod PrintedRuns
+pub mod FolderWalks
+pub mod FolderRuns

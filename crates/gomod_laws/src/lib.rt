@@ -10,3 +10,4 @@ pub mod line_order;
 pub mod explained;
 pub mod sums;
 pub mod listed_versions;
+pub mod more_folders;

@@ -1,0 +1,244 @@
+-- Runs over folders in memory, with one more folder and without it.
+use Rattle.std.proofs.Common.{◌≡◌, ◌∙◌, ◌↔◌, ◌++◌, ◌∷◌, ℕ, Bool, List, [], Option, Some, None, Result, Ok, Err, Contains, ap, append_assoc, false, inl, inr, refl, subst, sym, true}
+use Rattle.std.proofs.lemmas.Bool.{false≢true}
+use Rattle.std.proofs.lemmas.List.{get_or-map, length-map}
+use Rattle.gm_file.specs.Fields.{Dependency}
+use Rattle.gm_store.specs.declared.folders_in_memory.FoldersInMemory.{FoldersInMemory}
+use Rattle.gm_store.specs.declared.proxy_list.Mark.{Mark}
+use Rattle.gm_store.specs.Asked.{Name, Reply, absent, answer_in, bytes, list_file, mod_file, names_in, too_long}
+use Rattle.gm_store.specs.Latest.{IsLatest}
+use Rattle.gm_store.specs.Listed.{AreListed}
+use Rattle.gm_store_sums.specs.declared.sum_table.SumTable.{SumTable}
+use Rattle.gm_graph_cache.specs.declared.class.Class.{Class}
+use Rattle.gm_graph_cache.specs.Main.{Main, ModuleVersion}
+use Rattle.gm_graph_cache.specs.Reading.{Held, IsFileReading, IsTold, Tells, fault_in, file_of, is_askable, reading_if, readings_by, vertex_fault}
+use Rattle.gm_graph_cache.proofs.Keeping.{answer_stays}
+use Rattle.gm_graph_select.proofs.Ascending.{member_cases, no_member}
+use Rattle.gm_graph.specs.declared.fault.Fault.{Fault}
+use Rattle.gm_graph.specs.Loading.{IsNeeded}
+use Rattle.gm_graph_listing.specs.Laws.{AllFilesAreValid, AnswerAlike}
+use Rattle.gm_graph_listing.specs.Outcomes.{Given, Outcome, answers, given}
+use Rattle.gm_graph_listing.proofs.OneRead.{one_finding, one_main, tells_alike}
+use Rattle.gm_graph_listing.proofs.OneStore.{Agrees, alike_back, opened, stores_agree}
+use Rattle.gomod_words.specs.declared.usage.Command.{Command}
+use Rattle.gomod_words.specs.declared.usage.Command.TheVariants.{Fmt, Edit, Versions, Graph, List as Rows, Chain}
+use Rattle.gomod_run.specs.Runs.{AnsweredAll, AskedAfter, AskedInTurn, Needs, is_query}
+use Rattle.gomod_run.specs.Versions.{AnswersByName, IsListedOutcome, IsShownOutcome, IsVersionsOutcome, VersionsNeed, shown_by}
+use Rattle.gomod_run.proofs.AllAsked.{done_answers}
+use Rattle.gomod_run.proofs.Answering.{answered_in}
+use Rattle.gomod_run.proofs.OneStore.{one_for_stores}
+use Rattle.gomod_run.proofs.Uniqueness.{latest_once, listed_once, none_latest}
+use Rattle.gomod_laws.specs.FolderLaws.{HasOneMore, MayAnswer, MoreFoldersChangeNothing, RunsOver}
+use Rattle.gomod_laws.specs.Runs.{HasOutcome, Prints}
+use Rattle.gomod_laws.proofs.FolderWalks.{found_again}
+use Rattle.gomod_laws.proofs.PrintedRuns.{Pairs, valid_files}
+use Rattle.gomod_laws.proofs.VersionRuns.{by_answers, list_answered, refusal_prints_nothing}
+
+-- ---- the files that were asked for
+
+abbrev Keeps : AnswersByName → AnswersByName → Type 0
+Keeps one other = (name : Name) (reply : Reply) → one name ≡ Some reply → other name ≡ Some reply
+
+-- files that the answers need, and that more answers need too
+abbrev Grows : (AnswersByName → Name → Type 0) → Type 0
+Grows needs = (one other : AnswersByName) → Keeps one other → (name : Name) → needs one name → needs other name
+
+-- each file that was asked for is needed by all answers
+needed_after : (needs : AnswersByName → Name → Type 0) → Grows needs → (before later : Pairs) → AskedAfter needs before later → (name : Name) → Contains (names_in later) name
+    → needs (answer_in (before ++ later)) name
+needed_after needs grows before [] after name there = absurd (no_member name there)
+needed_after needs grows before (pair ∷ later) after name there =
+    let here = grows (answer_in before) (answer_in (before ++ pair ∷ later)) (λ n r e. answer_stays before (pair ∷ later) n r e) pair.0 after.0 in
+    let further : Contains (names_in later) name → needs (answer_in (before ++ pair ∷ later)) name =
+    λ inside. subst (λ (pairs : Pairs). needs (answer_in pairs) name) (append_assoc before (pair ∷ []) later) (needed_after needs grows (before ++ pair ∷ []) later after.2 name inside) in
+    elim (member_cases pair.0 name (names_in later) there) [
+      | inl same ↦ subst (needs (answer_in (before ++ pair ∷ later))) same here
+      | inr inside ↦ further inside
+    ]
+
+answered_name : (asked : Pairs) (name : Name) (reply : Reply) → answer_in asked name ≡ Some reply → Contains (names_in asked) name
+answered_name asked name reply e =
+    let (k, below, at) = answered_in asked name reply e in
+    (k, rw length-map below, get_or-map (λ (pair : Name × Reply). pair.0) asked k (name, reply) name below ∙ ap (λ (pair : Name × Reply). pair.0) at)
+
+same_answer : (answer : Option Reply) (one other : Reply) → answer ≡ Some one → answer ≡ Some other → one ≡ other
+same_answer answer one other a b = cc
+
+same_bytes : (one other : List ℕ) → bytes one ≡ bytes other → one ≡ other
+same_bytes one other e = cc e
+
+-- ---- an answer that was read is a file
+
+abbrev IsFile : Reply → Type 0
+IsFile reply = (content : List ℕ) × (reply ≡ bytes content)
+
+read_is_file : (sums : Option SumTable) (name : Name) (reply : Reply) (file : Dependency) → IsFileReading sums name reply (Ok file) → IsFile reply
+read_is_file sums name absent file is = cc is
+read_is_file sums name too_long file is = cc is
+read_is_file sums name (bytes content) file is = (content, refl)
+
+-- ---- `versions`
+
+versions_grow : (path : List ℕ) (all : Bool) → Grows (VersionsNeed path all)
+versions_grow path all one other keeps name (may, inl is) = (may, inl is)
+versions_grow path all one other keeps name (may, inr (list, versions, latest, some, answered, listed, greatest, is)) =
+    (may, inr (list, versions, latest, some, keeps (list_file path) (bytes list) answered, listed, greatest, is))
+
+module _ (path : List ℕ) (all : Bool) (told : AnswersByName) (outcome : Outcome) (prints : Prints outcome) where
+  shown_from_file : (versions : List (List ℕ)) (latest : List ℕ) (reply : Reply) → IsShownOutcome path versions latest reply outcome → IsFile reply
+  shown_from_file versions latest reply shows = by shows.reading shows.says shows.outcome_is
+    where
+      by : (reading : Result Dependency Class) → IsFileReading None (mod_file path latest) reply reading → outcome ≡ shown_by path versions latest reading → IsFile reply
+      by (Ok file) says is = read_is_file None (mod_file path latest) reply file says
+      by (Err class) says is = absurd (refusal_prints_nothing outcome _ is prints)
+
+  latest_is_file : (versions : List (List ℕ)) (latest : List ℕ) (reply : Reply) → IsListedOutcome path all told versions outcome → all ≡ false → IsLatest versions latest
+      → told (mod_file path latest) ≡ Some reply → IsFile reply
+  latest_is_file versions latest reply (inl (inl every, says)) some greatest answered = absurd (false≢true (sym some ∙ every))
+  latest_is_file versions latest reply (inl (inr none, says)) some greatest answered = absurd (none_latest latest (subst (λ (vs : List (List ℕ)). IsLatest vs latest) none greatest))
+  latest_is_file versions latest reply (inr (last, other, isnt, greater, said, shows)) some greatest answered =
+      let same : last ≡ latest = latest_once versions last latest greater greatest in
+      let again : told (mod_file path latest) ≡ Some other = subst (λ (v : List ℕ). told (mod_file path v) ≡ Some other) same said in
+      let (content, is) = shown_from_file versions last other shows in
+      (content, same_answer (told (mod_file path latest)) reply other answered again ∙ is)
+
+  needed_is_file : (name : Name) (reply : Reply) → IsVersionsOutcome path all told outcome → VersionsNeed path all told name → told name ≡ Some reply → IsFile reply
+  needed_is_file name reply states (may, inl is) answered =
+      let (versions, are, follows) = list_answered path all told outcome prints states in
+      (are.list, same_answer (told (list_file path)) reply (bytes are.list) (subst (λ (n : Name). told n ≡ Some reply) is answered) are.answered)
+  needed_is_file name reply states (may, inr (list, versions, latest, some, said, listed, greatest, is)) answered =
+      let (others, are, follows) = list_answered path all told outcome prints states in
+      let lists : list ≡ are.list = same_bytes list are.list (same_answer (told (list_file path)) (bytes list) (bytes are.list) said are.answered) in
+      let same : versions ≡ others = listed_once path are.list versions others (subst (λ (l : List ℕ). AreListed path l versions) lists listed) are.listed in
+      latest_is_file others latest reply follows some (subst (λ (vs : List (List ℕ)). IsLatest vs latest) same greatest) (subst (λ (n : Name). told n ≡ Some reply) is answered)
+
+  -- the same files are needed over answers that name the same list
+  needed_again : (other : AnswersByName) (name : Name) → IsVersionsOutcome path all told outcome
+      → ((n : Name) (a b : Reply) → other n ≡ Some a → told n ≡ Some b → a ≡ b) → VersionsNeed path all other name → VersionsNeed path all told name
+  needed_again other name states alike (may, inl is) = (may, inl is)
+  needed_again other name states alike (may, inr (list, versions, latest, some, said, listed, greatest, is)) =
+      let (others, are, follows) = list_answered path all told outcome prints states in
+      let same : bytes list ≡ bytes are.list = alike (list_file path) (bytes list) (bytes are.list) said are.answered in
+      (may, inr (list, versions, latest, some, are.answered ∙ ap Some (sym same), listed, greatest, is))
+
+-- ---- queries
+
+module _ (run : Given) (main : Main) (held : Held) (valid : AllFilesAreValid run main held) where
+  faulty : (x : ModuleVersion) (class : Class) (askable : Bool) (said : Option (Result Dependency Class)) → askable ≡ true → said ≡ Some (Err class)
+      → fault_in (reading_if askable main x said) ≡ Some class
+  faulty x class true said e is = ap (λ (o : Option (Result Dependency Class)). fault_in (reading_if true main x o)) is
+  faulty x class false said e is = absurd (false≢true e)
+
+  no_fault : (name : Name) (class : Class) → IsNeeded main (readings_by main held) name → held name ≡ Some (Err class) → ⊥
+  no_fault name class (x, opens, is, askable) said =
+      let has : vertex_fault (readings_by main held) x ≡ Some class =
+      faulty x class (is_askable (file_of main x)) (held (file_of main x)) (ap is_askable is ∙ askable) (ap held is ∙ said) in
+      let fault : Fault = record { vertex = x; class = class } in
+      no_member fault ((valid.sound.each fault).1 (opens, has))
+
+  told_is_file : (name : Name) (reply : Reply) (answer : Option Reply) (said : Option (Result Dependency Class)) → IsTold valid.table name answer said → answer ≡ Some reply
+      → ((class : Class) → said ≡ Some (Err class) → ⊥) → IsFile reply
+  told_is_file name reply None said told e sound = cc e
+  told_is_file name reply (Some r) None told e sound = absurd told
+  told_is_file name reply (Some r) (Some (Err class)) told e sound = absurd (sound class refl)
+  told_is_file name reply (Some r) (Some (Ok file)) told e sound =
+      let same : r ≡ reply = cc e in
+      let (content, is) = read_is_file valid.table name r file told in
+      (content, sym same ∙ is)
+
+  opened_is_file : (name : Name) (reply : Reply) → answer_in run.told.asked name ≡ Some reply → IsFile reply
+  opened_is_file name reply e =
+      let needed = (valid.known.asked.each name).0 (answered_name run.told.asked name reply e) in
+      told_is_file name reply (answer_in run.told.asked name) (held name) (valid.known.tells name) e (λ class said. no_fault name class needed said)
+
+-- runs over answers that are alike ask for the same files
+names_into : (file : List ℕ) (sums : Option (List ℕ)) (asked told : Pairs) (main again : Main) (held next : Held) → AnswerAlike asked told
+    → AllFilesAreValid (given file sums (answers asked [])) main held → AllFilesAreValid (given file sums (answers told [])) again next
+    → (name : Name) → Contains (names_in asked) name → Contains (names_in told) name
+names_into file sums asked told main again held next alike valid also name there =
+    let same : main ≡ again = one_main file main again valid.read.main_file also.read.main_file in
+    let here : AllFilesAreValid (given file sums (answers asked [])) again held = subst (λ (m : Main). AllFilesAreValid (given file sums (answers asked [])) m held) same valid in
+    let tells : Tells also.table asked held = tells_alike here.table also.table (one_finding sums here.table also.table here.read.sums also.read.sums) asked held here.known.tells in
+    let agrees : Agrees again (readings_by again held) (readings_by again next) =
+    stores_agree again also.table asked told held next alike tells also.known.tells also.known.answered in
+    let (x, opens, is, askable) = (here.known.asked.each name).0 there in
+    (also.known.asked.each name).1 (x, opened again (readings_by again held) (readings_by again next) agrees x opens, is, askable)
+
+-- ---- any command
+
+-- a run over answers that are alike has the same outcome
+same_outcome : (command : Command) (main : List ℕ) (sums : Option (List ℕ)) (asked told : Pairs) (a b : Outcome) → AnswerAlike asked told
+    → HasOutcome command main sums asked a → HasOutcome command main sums told b → a ≡ b
+same_outcome command main sums asked told a b alike run again =
+    let all : AnswerAlike run.new.asked again.new.asked =
+    subst (λ (pairs : Pairs). AnswerAlike run.new.asked pairs) (sym again.asked_are) (subst (λ (pairs : Pairs). AnswerAlike pairs told) (sym run.asked_are) alike) in
+    one_for_stores command main sums run.old run.new again.old again.new a b all run.none_failed again.none_failed run.run again.run
+
+all_answered : (command : Command) (main : List ℕ) (sums : Option (List ℕ)) (asked : Pairs) (outcome : Outcome) → HasOutcome command main sums asked outcome → Prints outcome
+    → AnsweredAll (Needs command main sums) (answer_in asked)
+all_answered command main sums asked outcome run prints =
+    subst (λ (pairs : Pairs). AnsweredAll (Needs command main sums) (answer_in pairs)) run.asked_are (done_answers command main sums run.old run.new outcome run.run prints)
+
+module _ (main : List ℕ) (sums : Option (List ℕ)) where
+  -- what a query asked for is what it needed, and was read
+  query_is_file : (command : Command) (asked : Pairs) (outcome : Outcome) → is_query command ≡ true → HasOutcome command main sums asked outcome → Prints outcome
+      → (name : Name) (reply : Reply) → answer_in asked name ≡ Some reply → IsFile reply
+  query_is_file command asked outcome query run prints name reply e =
+      let (says, held, valid) = valid_files command main sums asked outcome query run prints in
+      opened_is_file (given main sums (answers asked [])) says held valid name reply e
+
+  -- a run that prints was answered with a file wherever it asked
+  each_is_file : (command : Command) (asked : Pairs) (outcome : Outcome) → HasOutcome command main sums asked outcome → AskedInTurn (Needs command main sums) asked → Prints outcome
+      → (name : Name) (reply : Reply) → answer_in asked name ≡ Some reply → IsFile reply
+  each_is_file Fmt asked outcome run turn prints name reply e = absurd (needed_after (Needs Fmt main sums) (λ one other keeps n need. need) [] asked turn name (answered_name asked name reply e))
+  each_is_file (Edit operations) asked outcome run turn prints name reply e =
+      absurd (needed_after (Needs (Edit operations) main sums) (λ one other keeps n need. need) [] asked turn name (answered_name asked name reply e))
+  each_is_file (Versions path all) asked outcome run turn prints name reply e =
+      needed_is_file path all (answer_in asked) outcome prints name reply (by_answers path all main sums asked outcome run)
+      (needed_after (VersionsNeed path all) (versions_grow path all) [] asked turn name (answered_name asked name reply e)) e
+  each_is_file Graph asked outcome run turn prints name reply e = query_is_file Graph asked outcome refl run prints name reply e
+  each_is_file (Rows after limit) asked outcome run turn prints name reply e = query_is_file (Rows after limit) asked outcome refl run prints name reply e
+  each_is_file (Chain path) asked outcome run turn prints name reply e = query_is_file (Chain path) asked outcome refl run prints name reply e
+
+  query_names : (command : Command) (asked told : Pairs) (a b : Outcome) → is_query command ≡ true → AnswerAlike asked told → HasOutcome command main sums asked a → Prints a
+      → HasOutcome command main sums told b → Prints b → (name : Name) → Contains (names_in asked) name → Contains (names_in told) name
+  query_names command asked told a b query alike run prints again also name there =
+      let (says, held, valid) = valid_files command main sums asked a query run prints in
+      let (tells, next, too) = valid_files command main sums told b query again also in
+      names_into main sums asked told says tells held next alike valid too name there
+
+  -- a file that one run asked for is one that the other asked for
+  names_in_other : (command : Command) (asked told : Pairs) (a b : Outcome) → AnswerAlike asked told → AskedInTurn (Needs command main sums) asked → HasOutcome command main sums asked a → Prints a
+      → HasOutcome command main sums told b → Prints b → (name : Name) → Contains (names_in asked) name → Contains (names_in told) name
+  names_in_other Fmt asked told a b alike turn run prints again also name there = absurd (needed_after (Needs Fmt main sums) (λ one other keeps n need. need) [] asked turn name there)
+  names_in_other (Edit operations) asked told a b alike turn run prints again also name there =
+      absurd (needed_after (Needs (Edit operations) main sums) (λ one other keeps n need. need) [] asked turn name there)
+  names_in_other (Versions path all) asked told a b alike turn run prints again also name there =
+      let need : VersionsNeed path all (answer_in asked) name = needed_after (VersionsNeed path all) (versions_grow path all) [] asked turn name there in
+      let too : VersionsNeed path all (answer_in told) name =
+      needed_again path all (answer_in told) b also (answer_in asked) name (by_answers path all main sums told b again) alike need in
+      let (reply, answered) = all_answered (Versions path all) main sums told b again also name too in
+      answered_name told name reply answered
+  names_in_other Graph asked told a b alike turn run prints again also name there = query_names Graph asked told a b refl alike run prints again also name there
+  names_in_other (Rows after limit) asked told a b alike turn run prints again also name there =
+      query_names (Rows after limit) asked told a b refl alike run prints again also name there
+  names_in_other (Chain path) asked told a b alike turn run prints again also name there = query_names (Chain path) asked told a b refl alike run prints again also name there
+
+-- ---- one more folder
+
+pub more_folders_change_nothing : MoreFoldersChangeNothing
+more_folders_change_nothing command main sums folders others marks more asked told one other grows run prints again =
+    let alike : AnswerAlike asked told =
+    λ name a b e f.
+    let (content, is) = each_is_file main sums command asked one run.ends run.in_turn prints name a e in
+    let may : MayAnswer folders marks name (bytes content) = subst (MayAnswer folders marks name) is (run.answers name a (answered_in asked name a e)) in
+    is ∙ sym (found_again folders others marks more grows name content b may (again.answers name b (answered_in told name b f))) in
+    let back : AnswerAlike told asked = alike_back asked told alike in
+    let same : other ≡ one = same_outcome command main sums told asked other one back again.ends run.ends in
+    let also : Prints other = ap (λ (o : Outcome). o.status) same ∙ prints in (
+      same,
+      λ name. (
+        names_in_other main sums command told asked other one back again.in_turn again.ends also run.ends prints name,
+        names_in_other main sums command asked told one other alike run.in_turn run.ends prints again.ends also name,
+      ),
+    )

@@ -1,0 +1,103 @@
+-- A file that is found in folders in memory is found with one more folder after the last, too.
+use Rattle.std.proofs.Common.{◌≡◌, ◌≢◌, ◌∙◌, ◌++◌, ◌∷◌, ℕ, zero, suc, List, [], Option, Some, None, ap, append_assoc, refl, subst, sym}
+use Rattle.std.specs.Prelude.{map, slice_get}
+use Rattle.std.proofs.lemmas.List.{map-append}
+use Rattle.gm_store.specs.declared.fallback_step.Next.{Next}
+use Rattle.gm_store.specs.declared.fallback_step.Next.TheVariants.{Go, Take}
+use Rattle.gm_store.specs.declared.folders_in_memory.FoldersInMemory.{FoldersInMemory}
+use Rattle.gm_store.specs.declared.memory_folder.MemoryFolder.{MemoryFolder}
+use Rattle.gm_store.specs.declared.proxy_list.Mark.{Mark}
+use Rattle.gm_store.specs.declared.proxy_list.Mark.TheVariants.{Bar, Comma}
+use Rattle.gm_store.specs.Asked.{Name, Reply, bytes, folder_file, list_file, mod_file}
+use Rattle.gm_store.specs.FolderLookups.{lookup_results, marks_for}
+use Rattle.gm_store.specs.FoldersInMemory.{result_at}
+use Rattle.gm_store.specs.Steps.{Seen, StopsAt, absent, failed, found, outcome_of, step_of, too_long}
+use Rattle.gm_store.proofs.Stops.{held_stop, one_stop}
+use Rattle.gomod_laws.specs.FolderLaws.{HasOneMore, MayAnswer}
+
+-- ---- one more result and one more mark
+
+unmarked : (seen : Seen) → step_of seen None ≢ Go
+unmarked (found content) e = cc e
+unmarked too_long e = cc e
+unmarked absent e = cc e
+unmarked failed e = cc e
+
+-- a request that goes on after a folder goes on as before
+goes_again : (marks : List Mark) (mark : Mark) (k : ℕ) (seen : Seen) → step_of seen (slice_get marks k) ≡ Go → step_of seen (slice_get (marks ++ mark ∷ []) k) ≡ Go
+goes_again [] mark k seen goes = absurd (unmarked seen goes)
+goes_again (first ∷ marks) mark zero seen goes = goes
+goes_again (first ∷ marks) mark (suc k) seen goes = goes_again marks mark k seen goes
+
+-- only a file that was found is the answer
+only_found : (content : List ℕ) (last : Seen) (mark : Option Mark) → Some (bytes content) ≡ outcome_of last (step_of last mark) → last ≡ found content
+only_found content (found other) mark e = let same : content ≡ other = cc e in ap found (sym same)
+only_found content too_long mark e = cc e
+only_found content absent None e = cc e
+only_found content absent (Some mark) e = cc e
+only_found content failed None e = cc e
+only_found content failed (Some Bar) e = cc e
+only_found content failed (Some Comma) e = cc e
+
+found_takes : (content : List ℕ) (last : Seen) (mark : Option Mark) → last ≡ found content → step_of last mark ≢ Go
+found_takes content last mark is goes = let takes : Take ≡ Go = sym (ap (λ (s : Seen). step_of s mark) is) ∙ goes in cc takes
+
+found_answers : (content : List ℕ) (last : Seen) (mark : Option Mark) → last ≡ found content → Some (bytes content) ≡ outcome_of last (step_of last mark)
+found_answers content last mark is = sym (ap (λ (s : Seen). outcome_of s (step_of s mark)) is)
+
+stops_again : (looks : List Seen) (marks : List Mark) (content : List ℕ) (failures : ℕ) (look : Seen) (mark : Mark) → StopsAt looks marks (Some (bytes content)) failures
+    → StopsAt (looks ++ look ∷ []) (marks ++ mark ∷ []) (Some (bytes content)) failures
+stops_again looks marks content failures look mark stop =
+    let is = only_found content stop.last _ stop.answers in
+    record {
+      passed = stop.passed;
+      last = stop.last;
+      rest = stop.rest ++ look ∷ [];
+      in_order = ap (λ (seen : List Seen). seen ++ look ∷ []) stop.in_order ∙ append_assoc stop.passed (stop.last ∷ stop.rest) (look ∷ []);
+      goes = λ k seen e. goes_again marks mark k seen (stop.goes k seen e);
+      stops = found_takes content stop.last _ is;
+      answers = found_answers content stop.last _ is;
+      counted = stop.counted;
+    }
+
+one_reply : (looks : List Seen) (marks : List Mark) (a b : Reply) (failures others : ℕ) → StopsAt looks marks (Some a) failures → StopsAt looks marks (Some b) others → b ≡ a
+one_reply looks marks a b failures others stop again = let same = (one_stop looks marks (Some a) (Some b) failures others stop again).0 in cc same
+
+-- ---- one more folder
+
+module _ (folders others : FoldersInMemory) (marks more : List Mark) (one : HasOneMore folders others marks more) where
+  in_proxies : (name : Name) (content : List ℕ) (reply : Reply) (failures count : ℕ)
+      → StopsAt (map (λ shelf. result_at shelf name) folders.proxies.items) marks (Some (bytes content)) failures
+      → StopsAt (map (λ shelf. result_at shelf name) others.proxies.items) more (Some reply) count
+      → reply ≡ bytes content
+  in_proxies name content reply failures count stop again =
+      let look : MemoryFolder → Seen = λ shelf. result_at shelf name in
+      let longer : map look others.proxies.items ≡ map look folders.proxies.items ++ look one.folder ∷ [] =
+      ap (map look) one.proxies ∙ map-append look folders.proxies.items (one.folder ∷ []) in
+      one_reply (map look folders.proxies.items ++ look one.folder ∷ []) (marks ++ one.mark ∷ []) (bytes content) reply failures count
+      (stops_again (map look folders.proxies.items) marks content failures (look one.folder) one.mark stop)
+      (subst (λ (looks : List Seen). StopsAt looks (marks ++ one.mark ∷ []) (Some reply) count) longer
+      (subst (λ (ms : List Mark). StopsAt (map look others.proxies.items) ms (Some reply) count) one.marks_are again))
+
+  beside_main : (name : Name) (content : List ℕ) (reply : Reply) (failures count : ℕ)
+      → StopsAt (result_at folders.beside name ∷ []) [] (Some (bytes content)) failures
+      → StopsAt (result_at others.beside name ∷ []) [] (Some reply) count
+      → reply ≡ bytes content
+  beside_main name content reply failures count stop again =
+      one_reply (result_at folders.beside name ∷ []) [] (bytes content) reply failures count stop
+      (subst (λ (shelf : MemoryFolder). StopsAt (result_at shelf name ∷ []) [] (Some reply) count) one.beside again)
+
+  -- the one answer to the name of a file that was found is that file
+  pub found_again : (name : Name) (content : List ℕ) (reply : Reply) → MayAnswer folders marks name (bytes content) → MayAnswer others more name reply → reply ≡ bytes content
+  found_again (mod_file path version) content reply (failures, may) (count, could) =
+      let name = mod_file path version in
+      in_proxies name content reply failures count
+      (held_stop folders name marks (Some (bytes content)) failures may) (held_stop others name more (Some reply) count could)
+  found_again (list_file path) content reply (failures, may) (count, could) =
+      let name = list_file path in
+      in_proxies name content reply failures count
+      (held_stop folders name marks (Some (bytes content)) failures may) (held_stop others name more (Some reply) count could)
+  found_again (folder_file text) content reply (failures, may) (count, could) =
+      let name = folder_file text in
+      beside_main name content reply failures count
+      (held_stop folders name [] (Some (bytes content)) failures may) (held_stop others name [] (Some reply) count could)

@@ -1,0 +1,44 @@
+-- A law of proxy folders in memory: Go Modules Reference, GOPROXY ("falls back to the next").
+use Rattle.std.specs.Prelude.{◌≡◌, ◌↔◌, ◌++◌, ◌∷◌, ℕ, List, [], Option, Some, Contains, slice_get}
+use Rattle.gm_store.specs.declared.folders_in_memory.FoldersInMemory.{FoldersInMemory}
+use Rattle.gm_store.specs.declared.memory_folder.MemoryFolder.{MemoryFolder}
+use Rattle.gm_store.specs.declared.proxy_list.Mark.{Mark}
+use Rattle.gm_store.specs.Asked.{Name, Reply, names_in}
+use Rattle.gm_store.specs.FolderLookups.{lookup_results, marks_for}
+use Rattle.gm_store.specs.Steps.{MayStop}
+use Rattle.gm_graph_listing.specs.Outcomes.{Outcome}
+use Rattle.gomod_words.specs.declared.usage.Command.{Command}
+use Rattle.gomod_run.specs.Runs.{AskedInTurn, Needs}
+use Rattle.gomod_laws.specs.Runs.{HasOutcome, Prints}
+
+-- the answers that folders in memory may give to a name, with these marks between the proxy folders
+abbrev pub MayAnswer : FoldersInMemory → List Mark → Name → Reply → Type 0
+MayAnswer folders marks name reply = (failures : ℕ)
+    × MayStop (λ k seen. slice_get (lookup_results folders name) k ≡ Some seen) (marks_for name marks)
+    (Some reply) failures
+
+-- A run over folders in memory, none of which failed: it has this outcome, each file that was asked for was needed
+-- by the answers before it, and each answer is one that the folders may give.
+pub record RunsOver (command : Command) (main : List ℕ) (sums : Option (List ℕ)) (folders : FoldersInMemory)
+    (marks : List Mark) (asked : List (Name × Reply)) (outcome : Outcome) : Type 0 where
+  pub ends : HasOutcome command main sums asked outcome
+  pub in_turn : AskedInTurn (Needs command main sums) asked
+  pub answers : (name : Name) (reply : Reply) → Contains asked (name, reply) → MayAnswer folders marks name reply
+
+-- The other folders are the same with one proxy folder more, which is the last, after the mark that is the last.
+pub record HasOneMore (folders others : FoldersInMemory) (marks more : List Mark) : Type 0 where
+  pub folder : MemoryFolder
+  pub mark : Mark
+  pub proxies : others.proxies.items ≡ folders.proxies.items ++ folder ∷ []
+  pub marks_are : more ≡ marks ++ mark ∷ []
+  pub beside : others.beside ≡ folders.beside
+
+-- Where a command prints, it prints the same with one more folder put last, and asks for the same files.
+abbrev pub MoreFoldersChangeNothing : Type 0
+MoreFoldersChangeNothing = (command : Command) (main : List ℕ) (sums : Option (List ℕ))
+    (folders others : FoldersInMemory) (marks more : List Mark) (asked told : List (Name × Reply))
+    (one other : Outcome)
+    → HasOneMore folders others marks more
+    → RunsOver command main sums folders marks asked one → Prints one
+    → RunsOver command main sums others more told other
+    → (other ≡ one) × ((name : Name) → Contains (names_in told) name ↔ Contains (names_in asked) name)
