@@ -15,3 +15,6 @@ pub mod VersionRuns
 pub mod PrintedRuns
 pub mod FolderWalks
 pub mod FolderRuns
+pub mod ExcludedVersions
+pub mod ReplacedVertices
+pub mod ReplacedRuns

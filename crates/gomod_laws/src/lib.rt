@@ -9,5 +9,6 @@ pub mod formatting;
 pub mod line_order;
 pub mod explained;
 pub mod sums;
+pub mod excluded;
 pub mod listed_versions;
 pub mod more_folders;
