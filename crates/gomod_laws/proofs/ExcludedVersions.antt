@@ -1,12 +1,10 @@
 -- An excluded version is nowhere in what a query prints or reports.
-use Rattle.std.proofs.Common.{◌≡◌, ◌⊎◌, ◌∙◌, ◌++◌, ◌∷◌, ℕ, zero, suc, Bool, List, [], Option, Some, None, Contains, ap, arith, false, inl, inr, map, not, refl, subst, sym, take, true}
+use Rattle.std.proofs.Common.{◌≡◌, ◌⊎◌, ◌∷◌, ℕ, zero, suc, Bool, List, [], Option, Some, None, Contains, ap, arith, false, inl, inr, map, not, refl, subst, sym, take, true}
 use Rattle.std.proofs.lemmas.Bool.{false≢true}
 use Rattle.std.proofs.lemmas.List.Elements.{All-contains, Contains-append_right, Contains-push_cases, filter_passes}
 use Rattle.gm_file.specs.Fields.{Dependency}
-use Rattle.gm_store.specs.Asked.{Name, Reply}
 use Rattle.gm_graph_cache.specs.Main.{Main, ModuleVersion, is_excluded, without_excluded}
-use Rattle.gm_graph_cache.specs.Reading.{Held, Readings, readings_by, requirements_in, said_in, vertex_requirements}
-use Rattle.gm_graph_select.specs.declared.step.Edge.{Edge}
+use Rattle.gm_graph_cache.specs.Reading.{Held, Readings, readings_by, requirements_in, said_in}
 use Rattle.gm_graph_select.specs.declared.step.Step.{Step}
 use Rattle.gm_graph_select.specs.declared.step.Step.TheVariants.{Main as FromMain, Of}
 use Rattle.gm_graph_select.specs.BuildList.{Entry, IsRestAfter, entry_of, main_entry}
@@ -15,8 +13,7 @@ use Rattle.gm_graph_select.proofs.Ascending.{member_cases, member_tail, no_membe
 use Rattle.gm_graph.specs.declared.fault.Fault.{Fault}
 use Rattle.gm_graph.specs.Graph.{IsDeep, IsEdge, IsOpened, from_deep, from_main, from_top}
 use Rattle.gm_graph.specs.Outcome.{AreFaults}
-use Rattle.gm_graph_listing.specs.Laws.{AllFilesAreValid}
-use Rattle.gm_graph_listing.specs.Outcomes.{AreRows, Given, IsMainFile, IsOutcome, Outcome, Prints as PrintsBy, PrintsChain, PrintsGraph, PrintsList, PrintsRows, answers, device, faulty, given, printed, refused, too_many}
+use Rattle.gm_graph_listing.specs.Outcomes.{AreRows, IsMainFile, IsOutcome, Outcome, Prints as PrintsBy, PrintsChain, PrintsGraph, PrintsList, PrintsRows, answers, device, faulty, given, printed, refused, too_many}
 use Rattle.gm_graph_listing.specs.Reports.{faults_text, not_listed_line, too_many_line}
 use Rattle.gm_graph_listing.specs.Texts.{limited, list_text}
 use Rattle.gm_graph_listing.proofs.OneRead.{misread_or_main, one_main}
@@ -25,7 +22,7 @@ use Rattle.gomod_words.specs.declared.usage.Command.TheVariants.{Fmt, Edit, Vers
 use Rattle.gomod_run.specs.Queries.{IsQueryOutcome}
 use Rattle.gomod_run.specs.Runs.{is_query}
 use Rattle.gomod_laws.specs.ExclusionLaws.{IsAllowed, NamesNoVersion, NoFaultIsExcluded, NoFieldIsExcluded, NoRowIsExcluded, NoStepIsExcluded}
-use Rattle.gomod_laws.specs.Runs.{HasOutcome, Prints}
+use Rattle.gomod_laws.specs.Runs.{Prints}
 use Rattle.gomod_laws.proofs.PrintedRuns.{Pairs, printed_by, query_by_answers}
 use Rattle.gomod_laws.proofs.VersionRuns.{refusal_prints_nothing}
 
@@ -142,8 +139,8 @@ no_field_is_excluded file main sums asked outcome reads run prints =
       edges,
       says,
       λ edge there.
-      let is : IsEdge main readings edge.from edge.to = (are.each edge).0 there in
-      (start_allowed main readings edge.from edge.to is, end_allowed main readings edge.from edge.to is),
+          let is : IsEdge main readings edge.from edge.to = (are.each edge).0 there in
+          (start_allowed main readings edge.from edge.to is, end_allowed main readings edge.from edge.to is),
     )
 
 pub no_step_is_excluded : NoStepIsExcluded

@@ -1,10 +1,8 @@
 -- Runs over folders in memory, with one more folder and without it.
-use Rattle.std.proofs.Common.{◌≡◌, ◌∙◌, ◌↔◌, ◌++◌, ◌∷◌, ℕ, Bool, List, [], Option, Some, None, Result, Ok, Err, Contains, ap, append_assoc, false, inl, inr, refl, subst, sym, true}
+use Rattle.std.proofs.Common.{◌≡◌, ◌∙◌, ◌++◌, ◌∷◌, ℕ, Bool, List, [], Option, Some, None, Result, Ok, Err, Contains, ap, append_assoc, false, inl, inr, refl, subst, sym, true}
 use Rattle.std.proofs.lemmas.Bool.{false≢true}
 use Rattle.std.proofs.lemmas.List.{get_or-map, length-map}
 use Rattle.gm_file.specs.Fields.{Dependency}
-use Rattle.gm_store.specs.declared.folders_in_memory.FoldersInMemory.{FoldersInMemory}
-use Rattle.gm_store.specs.declared.proxy_list.Mark.{Mark}
 use Rattle.gm_store.specs.Asked.{Name, Reply, absent, answer_in, bytes, list_file, mod_file, names_in, too_long}
 use Rattle.gm_store.specs.Latest.{IsLatest}
 use Rattle.gm_store.specs.Listed.{AreListed}
@@ -28,7 +26,7 @@ use Rattle.gomod_run.proofs.AllAsked.{done_answers}
 use Rattle.gomod_run.proofs.Answering.{answered_in}
 use Rattle.gomod_run.proofs.OneStore.{one_for_stores}
 use Rattle.gomod_run.proofs.Uniqueness.{latest_once, listed_once, none_latest}
-use Rattle.gomod_laws.specs.FolderLaws.{HasOneMore, MayAnswer, MoreFoldersChangeNothing, RunsOver}
+use Rattle.gomod_laws.specs.FolderLaws.{MayAnswer, MoreFoldersChangeNothing}
 use Rattle.gomod_laws.specs.Runs.{HasOutcome, Prints}
 use Rattle.gomod_laws.proofs.FolderWalks.{found_again}
 use Rattle.gomod_laws.proofs.PrintedRuns.{Pairs, valid_files}

@@ -1,12 +1,12 @@
 -- Runs of queries, and those that print.
-use Rattle.std.proofs.Common.{◌≡◌, ◌∙◌, ◌++◌, ◌∷◌, ℕ, Bool, List, [], Option, ap, append-nil, arith, inl, inr, refl, subst, sym, true}
+use Rattle.std.proofs.Common.{◌≡◌, ◌∙◌, ◌++◌, ℕ, List, [], Option, ap, append-nil, arith, inl, inr, subst, sym, true}
 use Rattle.std.proofs.lemmas.Bool.{false≢true}
 use Rattle.std.proofs.lemmas.List.{append_cancel_left}
 use Rattle.gm_store.specs.Asked.{Name, Reply}
 use Rattle.gm_graph_cache.specs.Main.{Main}
 use Rattle.gm_graph_cache.specs.Reading.{Held, readings_by}
 use Rattle.gm_graph_listing.specs.Laws.{AllFilesAreValid}
-use Rattle.gm_graph_listing.specs.Outcomes.{Given, IsOutcome, Outcome, Prints as PrintsBy, PrintsChain, PrintsGraph, PrintsList, answers, device, faulty, given, refused, too_many}
+use Rattle.gm_graph_listing.specs.Outcomes.{Given, IsOutcome, Outcome, Prints as PrintsBy, PrintsChain, PrintsGraph, PrintsList, answers, device, faulty, given, too_many}
 use Rattle.gomod_words.specs.declared.usage.Command.{Command}
 use Rattle.gomod_words.specs.declared.usage.Command.TheVariants.{Fmt, Edit, Versions, Graph, List as Rows, Chain}
 use Rattle.gomod_run.specs.Queries.{AnswersQuery, IsQueryOutcome, RunsTo}

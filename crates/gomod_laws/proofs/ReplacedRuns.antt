@@ -6,13 +6,12 @@ use Rattle.std.specs.Option.{option_map, option_or}
 use Rattle.gm_file.specs.Directives.{Left, Replacing, left_with, left_without}
 use Rattle.gm_file.specs.Faults.{is_same_left}
 use Rattle.gm_file.specs.Fields.{replacement_of, right_for}
-use Rattle.gm_store.specs.Asked.{Name}
 use Rattle.gm_store_sums.specs.declared.sum_table.SumTable.{SumTable}
 use Rattle.gm_graph_cache.specs.Main.{Main, ModuleVersion, replacement_in}
 use Rattle.gm_graph_cache.specs.Reading.{Held, Tells, readings_by}
 use Rattle.gm_graph.specs.Loading.{AreTooMany}
 use Rattle.gm_graph_listing.specs.Laws.{AnswerAlike, AreAlike}
-use Rattle.gm_graph_listing.specs.Outcomes.{AreKnown, AreSums, Given, GivenFilesReadAs, IsMainFile, IsOutcome, IsOutcomeOver, Outcome, Prints as PrintsBy, PrintsChain, PrintsGraph, PrintsList, answers, device, faulty, given, refused, too_many}
+use Rattle.gm_graph_listing.specs.Outcomes.{AreKnown, AreSums, Given, IsMainFile, IsOutcome, IsOutcomeOver, Outcome, Prints as PrintsBy, PrintsChain, PrintsGraph, PrintsList, answers, device, faulty, given, refused, too_many}
 use Rattle.gm_graph_listing.specs.Reports.{too_many_line}
 use Rattle.gm_graph_listing.proofs.OneOutcome.{alike_chains, alike_graphs, alike_lists}
 use Rattle.gm_graph_listing.proofs.OneRead.{misread_or_main, misread_or_sums, one_finding, one_main, tells_alike}

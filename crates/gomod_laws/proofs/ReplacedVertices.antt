@@ -1,6 +1,6 @@
 -- Two main files that differ in their replaces alone, over the same answers: if they replace each vertex of the module
 -- graph by the same, the graph is the same.
-use Rattle.std.proofs.Common.{◌≡◌, ◌∙◌, ◌∷◌, ℕ, Bool, List, [], Option, Some, None, IsSome, Result, Err, Contains, ap, ap₂, arith, false, inl, inr, map, refl, subst, sym, true}
+use Rattle.std.proofs.Common.{◌≡◌, ◌∙◌, ◌∷◌, ℕ, Bool, List, [], Option, Some, None, IsSome, Result, Err, Contains, ap, ap₂, false, inl, inr, map, refl, subst, sym, true}
 use Rattle.std.specs.Option.{option_map}
 use Rattle.gm_file.specs.Directives.{Replacing, Right}
 use Rattle.gm_file.specs.Fields.{Dependency}
@@ -20,7 +20,7 @@ use Rattle.gm_graph.specs.declared.fault.Fault.{Fault}
 use Rattle.gm_graph.specs.Graph.{IsDeep, IsEdge, IsOpened, IsVertex, from_deep, from_main, from_top}
 use Rattle.gm_graph.specs.Loading.{AreTooMany}
 use Rattle.gm_graph.specs.Outcome.{AreEdges, AreFaults}
-use Rattle.gm_graph_listing.specs.Outcomes.{Answers, AreKnown, AreRows, Outcome, Prints as PrintsBy, PrintsChain, PrintsGraph, PrintsList}
+use Rattle.gm_graph_listing.specs.Outcomes.{Answers, AreKnown, AreRows, Outcome, PrintsChain, PrintsGraph, PrintsList}
 
 -- the main file with other replaces
 abbrev pub with_replaces : Main → List Replacing → Main
@@ -139,8 +139,8 @@ module _ (main : Main) (replaces : List Replacing) (held : Held) (alike : Replac
     ascending = are.ascending;
     each = λ one. (
       (λ there. let (opens, has) = (are.each one).0 there in
-      let far = opened_back one.vertex opens in
-      (far, ap fault_in (same_at one.vertex (opened_vertex one.vertex far)) ∙ has)),
+          let far = opened_back one.vertex opens in
+          (far, ap fault_in (same_at one.vertex (opened_vertex one.vertex far)) ∙ has)),
       (λ is. (are.each one).1 (opened_into one.vertex is.0, ap fault_in (sym (same_at one.vertex (opened_vertex one.vertex is.0))) ∙ is.1)),
     );
   }
@@ -154,10 +154,10 @@ module _ (main : Main) (replaces : List Replacing) (held : Held) (alike : Replac
       once = are.asked.once;
       each = λ name. (
         (λ there. let (x, opens, is, askable) = (are.asked.each name).0 there in
-        let far = opened_back x opens in
-        (x, far, same_file x (opened_vertex x far) ∙ is, askable)),
+            let far = opened_back x opens in
+            (x, far, same_file x (opened_vertex x far) ∙ is, askable)),
         (λ need. let (x, opens, is, askable) = need in
-        (are.asked.each name).1 (x, opened_into x opens, sym (same_file x (opened_vertex x opens)) ∙ is, askable)),
+            (are.asked.each name).1 (x, opened_into x opens, sym (same_file x (opened_vertex x opens)) ∙ is, askable)),
       );
     };
     few = λ all once each. are.few all once (λ x there. opened_into x (each x there));

@@ -1,6 +1,6 @@
 -- Laws of excluded versions, and of a replace that nothing needs: Go Modules Reference, exclude directive and replace
 -- directive.
-use Rattle.std.specs.Prelude.{◌≡◌, ◌⊎◌, ◌||◌, ◌++◌, ◌∷◌, ℕ, Bool, List, [], Option, Contains, false, true}
+use Rattle.std.specs.Prelude.{◌≡◌, ◌⊎◌, ◌||◌, ◌++◌, ◌∷◌, ℕ, Bool, List, Option, Contains, false, true}
 use Rattle.gm_file.specs.Directives.{Left, Replacing, left_with, left_without}
 use Rattle.gm_file.specs.Faults.{is_same_left}
 use Rattle.gm_store.specs.Asked.{Name, Reply}
