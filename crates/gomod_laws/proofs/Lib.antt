@@ -18,3 +18,7 @@ pub mod FolderRuns
 pub mod ExcludedVersions
 pub mod ReplacedVertices
 pub mod ReplacedRuns
+pub mod AdditionsKept
+pub mod AdditionsOpened
+pub mod AdditionsRuns
+pub mod AdditionsPrinted

@@ -12,3 +12,4 @@ pub mod sums;
 pub mod excluded;
 pub mod listed_versions;
 pub mod more_folders;
+pub mod additions;

@@ -1,0 +1,80 @@
+-- A requirement added lowers nothing: Go Modules Reference, "Minimal version selection" and "Module graph pruning".
+use Rattle.std.specs.Prelude.{◌≡◌, ℕ, false, List, [], Option, None, Contains}
+use Rattle.std.specs.Ordering.{is_gt}
+use Rattle.gm_name.specs.Version.{version_cmp}
+use Rattle.gm_file.specs.Directives.{Right}
+use Rattle.gm_store.specs.Asked.{Name, Reply}
+use Rattle.gm_graph_cache.specs.Main.{Main, ModuleVersion, is_pruned_by, replacement_in}
+use Rattle.gm_graph_cache.specs.Reading.{Held, readings_by}
+use Rattle.gm_graph_select.specs.declared.step.Edge.{Edge}
+use Rattle.gm_graph_select.specs.declared.step.Step.TheVariants.{Of}
+use Rattle.gm_graph_select.specs.BuildList.{Entry}
+use Rattle.gm_graph.specs.Outcome.{AreEdges}
+use Rattle.gm_graph_listing.specs.Laws.{AllFilesAreValid, AnswerAlike}
+use Rattle.gm_graph_listing.specs.Outcomes.{AreRows, Given, IsMainFile, Outcome, answers, given, printed}
+use Rattle.gm_graph_listing.specs.Texts.{graph_text, list_text}
+use Rattle.gomod_words.specs.declared.usage.Command.{Command}
+use Rattle.gomod_words.specs.declared.usage.Command.TheVariants.{Graph, List as Rows}
+use Rattle.gomod_laws.specs.Runs.{HasOutcome, Prints}
+
+-- ---- what is printed
+
+-- `list` prints these rows, the build list of what the main file says.
+pub record ShowsRows (run : Given) (main : Main) (rows : List Entry) (outcome : Outcome) : Type 0 where
+  pub held : Held
+  pub valid : AllFilesAreValid run main held
+  pub are_rows : AreRows main (readings_by main held) rows
+  pub text : outcome ≡ printed (list_text main.path rows)
+
+-- `graph` prints these edges, those of the module graph of what the main file says.
+pub record ShowsEdges (run : Given) (main : Main) (edges : List Edge) (outcome : Outcome) : Type 0 where
+  pub held : Held
+  pub valid : AllFilesAreValid run main held
+  pub are_edges : AreEdges main (readings_by main held) edges
+  pub text : outcome ≡ printed (graph_text main.path edges)
+
+-- ---- two runs
+
+-- The command has one outcome over a main file and another over a second one: with the same go.sum or none, and
+-- with a store that answers no file differently. This is what the two main files say.
+pub record AreTwoRuns (command : Command) (file other : List ℕ) (sums : Option (List ℕ)) (first second : Main)
+    (one next : Outcome) : Type 0 where
+  pub asked : List (Name × Reply)
+  pub later : List (Name × Reply)
+  pub alike : AnswerAlike asked later
+  pub first_says : IsMainFile file first
+  pub second_says : IsMainFile other second
+  pub first_runs : HasOutcome command file sums asked one
+  pub second_runs : HasOutcome command other sums later next
+
+-- ---- the law
+
+-- The second main file says what the first says, and may require more, exclude less, and have a go version below
+-- 1.17 where that of the first is not.
+pub record SaysMore (first second : Main) : Type 0 where
+  pub path : first.path ≡ second.path
+  pub replaces : (x : ModuleVersion) → replacement_in first x ≡ replacement_in second x
+  pub requires : (x : ModuleVersion) → Contains first.requirements x → Contains second.requirements x
+  pub excludes : (x : ModuleVersion) → Contains second.excludes x → Contains first.excludes x
+  pub unpruned : is_pruned_by first.go ≡ false → is_pruned_by second.go ≡ false
+
+-- For each row of the first there is a row of its path in the second, at a version that is not below.
+abbrev pub AreNotLower : List Entry → List Entry → Type 0
+AreNotLower rows others = (x : ModuleVersion) (right : Option Right) → Contains rows (Of x, right)
+    → (y : ModuleVersion) × (its : Option Right) × Contains others (Of y, its) × (y.0 ≡ x.0)
+    × (is_gt (version_cmp x.1 y.1) ≡ false)
+
+-- Where `list` prints over a main file that says more, it prints over the other, and lowers no row of it.
+abbrev pub ListLowersNothing : Type 0
+ListLowersNothing = (file more : List ℕ) (sums : Option (List ℕ)) (first second : Main) (one next : Outcome)
+    (runs : AreTwoRuns (Rows None None) file more sums first second one next) → SaysMore first second → Prints next
+    → (rows : List Entry) × (others : List Entry) × ShowsRows (given file sums (answers runs.asked [])) first rows one
+    × ShowsRows (given more sums (answers runs.later [])) second others next × AreNotLower rows others
+
+-- Where `graph` prints over a main file that says more, it prints over the other, and each line of that is one of it.
+abbrev pub GraphKeepsLines : Type 0
+GraphKeepsLines = (file more : List ℕ) (sums : Option (List ℕ)) (first second : Main) (one next : Outcome)
+    (runs : AreTwoRuns Graph file more sums first second one next) → SaysMore first second → Prints next
+    → (edges : List Edge) × (others : List Edge) × ShowsEdges (given file sums (answers runs.asked [])) first edges one
+    × ShowsEdges (given more sums (answers runs.later [])) second others next
+    × ((e : Edge) → Contains edges e → Contains others e)
