@@ -22,3 +22,4 @@ pub mod AdditionsKept
 pub mod AdditionsOpened
 pub mod AdditionsRuns
 pub mod AdditionsPrinted
+pub mod RequirableLists

@@ -13,3 +13,4 @@ pub mod excluded;
 pub mod listed_versions;
 pub mod more_folders;
 pub mod additions;
+pub mod requirable;

@@ -1,0 +1,73 @@
+-- What is listed can be required: Go Modules Reference, "Minimal version selection" and "Module graph pruning".
+use Rattle.std.specs.Prelude.{◌≡◌, ◌↔◌, ◌⊎◌, ℕ, false, List, [], Option, None, Contains}
+use Rattle.gm_file.specs.Directives.{Right}
+use Rattle.gm_graph_cache.specs.Main.{Main, ModuleVersion, is_pruned_by, replacement_in}
+use Rattle.gm_graph_select.specs.declared.step.Edge.{Edge}
+use Rattle.gm_graph_select.specs.declared.step.Step.{Step}
+use Rattle.gm_graph_select.specs.declared.step.Step.TheVariants.{Of}
+use Rattle.gm_graph_select.specs.Graph.{edge}
+use Rattle.gm_graph_select.specs.BuildList.{Entry}
+use Rattle.gm_graph_listing.specs.Outcomes.{Outcome, answers, given}
+use Rattle.gomod_words.specs.declared.usage.Command.TheVariants.{List as Rows}
+use Rattle.gomod_laws.specs.Runs.{Prints}
+use Rattle.gomod_laws.specs.AdditionLaws.{AreTwoRuns, ShowsEdges, ShowsRows}
+
+-- ---- main files that require different modules
+
+-- The two main files say the same, but for what they require: one is pruned where the other is.
+pub record SayTheRest (first second : Main) : Type 0 where
+  pub path : first.path ≡ second.path
+  pub replaces : (x : ModuleVersion) → replacement_in first x ≡ replacement_in second x
+  pub excludes : (x : ModuleVersion) → Contains first.excludes x ↔ Contains second.excludes x
+  pub pruned : is_pruned_by first.go ≡ is_pruned_by second.go
+
+-- The second requires, besides what the first requires, only such modules.
+abbrev pub RequiresOnly : Main → Main → (ModuleVersion → Type 0) → Type 0
+RequiresOnly first second these = (x : ModuleVersion) → Contains second.requirements x
+    → Contains first.requirements x ⊎ these x
+
+-- The second says what the first says, and may also require some such modules.
+pub record RequiresAlso (first second : Main) (these : ModuleVersion → Type 0) : Type 0 where
+  pub rest : SayTheRest first second
+  pub keeps : (x : ModuleVersion) → Contains first.requirements x → Contains second.requirements x
+  pub adds : RequiresOnly first second these
+
+-- ---- what is printed
+
+-- The module has a row, whatever replaces it.
+abbrev pub HasRow : List Entry → ModuleVersion → Type 0
+HasRow rows x = (right : Option Right) × Contains rows (Of x, right)
+
+-- The module stands second in a line of `graph`.
+abbrev pub StandsSecond : List Edge → ModuleVersion → Type 0
+StandsSecond edges x = (from : Step) × Contains edges (edge from x)
+
+-- The module stands first in a line of `graph`.
+abbrev pub StandsFirst : List Edge → ModuleVersion → Type 0
+StandsFirst edges x = (to : ModuleVersion) × Contains edges (edge (Of x) to)
+
+-- ---- the laws
+
+-- Where the main file is not pruned and `graph` prints, `list` prints, too, and it prints the same where modules of the
+-- graph are also required: each of them stands second in a line.
+abbrev pub VerticesCanBeRequired : Type 0
+VerticesCanBeRequired = (file more : List ℕ) (sums : Option (List ℕ)) (first second : Main) (edges : List Edge)
+    (graph one next : Outcome) (runs : AreTwoRuns (Rows None None) file more sums first second one next)
+    → ShowsEdges (given file sums (answers runs.asked [])) first edges graph → is_pruned_by first.go ≡ false
+    → RequiresAlso first second (StandsSecond edges) → Prints one × (next ≡ one)
+
+-- So it does, whether the main file is pruned or not, where modules that stand first in a line are also required.
+abbrev pub OpenedCanBeRequired : Type 0
+OpenedCanBeRequired = (file more : List ℕ) (sums : Option (List ℕ)) (first second : Main) (edges : List Edge)
+    (graph one next : Outcome) (runs : AreTwoRuns (Rows None None) file more sums first second one next)
+    → ShowsEdges (given file sums (answers runs.asked [])) first edges graph
+    → RequiresAlso first second (StandsFirst edges) → Prints one × (next ≡ one)
+
+-- Where the main file is not pruned and `list` prints, it prints the same where each row is required, and besides the
+-- rows any of what was required before.
+abbrev pub RowsCanBeRequired : Type 0
+RowsCanBeRequired = (file more : List ℕ) (sums : Option (List ℕ)) (first second : Main) (rows : List Entry)
+    (one next : Outcome) (runs : AreTwoRuns (Rows None None) file more sums first second one next)
+    → ShowsRows (given file sums (answers runs.asked [])) first rows one → is_pruned_by first.go ≡ false
+    → SayTheRest first second → RequiresOnly first second (HasRow rows)
+    → ((x : ModuleVersion) → HasRow rows x → Contains second.requirements x) → next ≡ one
