@@ -3,22 +3,24 @@
 use Rattle.std.proofs.Common.{◌≡◌, ◌+◌, List, [], ◌∷◌, ◌++◌, length, map, Option, None, refl, sym, ap, subst, ◌∙◌, append-nil}
 use Rattle.std.specs.Option.{option_or, option_to_list}
 use Rattle.std.specs.List.{cons_option, filter_map, flat_map}
-use Rattle.std.specs.Prelude.{Some}
+use Rattle.std.specs.Prelude.{Some, option_and_then, unwrap_or}
 use Rattle.std.proofs.lemmas.List.Elements.{filter_map-append}
 use Rattle.gm_syntax.specs.Words.{Word}
 use Rattle.gm_syntax.specs.Document.{Line, Blank, Comment, Open, Close, Entry}
 use Rattle.gm_syntax.specs.Layout.{filled}
 use Rattle.gm_file.specs.declared.fault.DirectiveKind.{DirectiveKind}
 use Rattle.gm_file.specs.Directives.{Strict, Directive, LineInBlock, block_after_line, directives, item_at, said, with_blocks_from}
-use Rattle.gm_file.specs.Faults.{Fault, fault_of, faults, faults_after, first_of, item_kinds, missing_module, with_before_from}
+use Rattle.gm_file.specs.Faults.{Fault, fault_of, go_in, faults, faults_after, first_of, item_kinds, missing_module, with_before_from}
+use Rattle.gm_file.specs.Fields.{as_exclusion, as_go, as_module, as_replacing, as_requirement, first}
 use Rattle.gm_file.proofs.First.{first-none}
 use Rattle.gm_file_edit.proofs.Sound.{nil-map, nil-parts}
+use Rattle.gm_graph_cache.specs.Main.{Main}
 
-abbrev seat_of : Option Word → Line Word → LineInBlock Word
+abbrev pub seat_of : Option Word → Line Word → LineInBlock Word
 seat_of block line = (block, line)
 
 -- each line is without a fault after the directives of the lines before it
-abbrev AreFaultless : List Directive → Option Word → List (Line Word) → Type 0
+abbrev pub AreFaultless : List Directive → Option Word → List (Line Word) → Type 0
 AreFaultless earlier block [] = Unit {0}
 AreFaultless earlier block (line ∷ lines) =
     (item_kinds Strict earlier (item_at (seat_of block line)) ≡ [])
@@ -88,21 +90,38 @@ said_filled block (Open verb suffix ∷ lines) = said_filled (Some verb) lines
 said_filled block (Close suffix ∷ lines) = said_filled None lines
 said_filled block (Entry words suffix ∷ lines) = ap (cons_option (said Strict (seat_of block (Entry words suffix)))) (said_filled block lines)
 
+-- ---- whole documents
+
+or_none : (a b : Option Fault) → option_or a b ≡ None → (a ≡ None) × (b ≡ None)
+or_none None b e = (refl, e)
+or_none (Some x) b e = absurd cc
+
+pub faultless_lines : (lines : List (Line Word)) → fault_of Strict lines ≡ None → AreFaultless [] None lines
+unfolding fault_of faults
+faultless_lines lines none =
+    let parts = or_none (first_of (faults Strict lines)) (missing_module Strict (directives Strict lines)) none in
+    faultless_from [] [] None lines refl (first-none (faults Strict lines) parts.0)
+
+-- what these directives say as those of a main file
+abbrev pub main_said : List Directive → Main
+main_said ds = record {
+  path = unwrap_or (first (filter_map as_module ds)) [];
+  go = unwrap_or (option_and_then (go_in Strict) (first (filter_map as_go ds))) (1, 16);
+  requirements = filter_map as_requirement ds;
+  excludes = filter_map as_exclusion ds;
+  replaces = filter_map as_replacing ds;
+}
+
 -- ---- lines that are the same but for blank ones
 
 module _ (lines again : List (Line Word)) (same : filled again ≡ filled lines) where
   pub same_said : directives Strict again ≡ directives Strict lines
   same_said = sym (said_filled None again) ∙ ap (λ (ls : List (Line Word)). filter_map (said Strict) (with_blocks_from None ls)) same ∙ said_filled None lines
 
-  or_none : (a b : Option Fault) → option_or a b ≡ None → (a ≡ None) × (b ≡ None)
-  or_none None b e = (refl, e)
-  or_none (Some x) b e = absurd cc
-
   pub no_fault_again : fault_of Strict lines ≡ None → fault_of Strict again ≡ None
   unfolding fault_of faults
   no_fault_again none =
       let parts = or_none (first_of (faults Strict lines)) (missing_module Strict (directives Strict lines)) none in
-      let are : AreFaultless [] None lines = faultless_from [] [] None lines refl (first-none (faults Strict lines) parts.0) in
-      let kept : AreFaultless [] None (filled again) = subst (AreFaultless [] None) (sym same) (faultless_filled [] None lines are) in
+      let kept : AreFaultless [] None (filled again) = subst (AreFaultless [] None) (sym same) (faultless_filled [] None lines (faultless_lines lines none)) in
       let back : faults Strict again ≡ [] = from_faultless [] [] None again refl (filled_faultless [] None again kept) in
       ap (λ (fs : List Fault). option_or (first_of fs) (missing_module Strict (directives Strict again))) back ∙ ap (missing_module Strict) same_said ∙ parts.1

@@ -127,34 +127,34 @@ named_utf8 : (word text : List ℕ) (edit : Edit) → IsUtf8 text → named_in (
 unfolding named
 named_utf8 word text edit utf8 e =
     elim (cases_Bool (bytes_eq word (codes "module"))) [
-      | inl is ↦ let m = map-some SetModule (path_in text) edit (rw is at e) in subst HasUtf8 m.2 tt
+      | inl is ↦ let m = map-some SetModule (path_in text) edit (rw is at e) in subst HasUtf8 {x = SetModule m.0} m.2 tt
       | inr not_module ↦
           elim (cases_Bool (bytes_eq word (codes "go"))) [
-            | inl is ↦ let m = map-some SetGo (go_text_in text) edit (rw (not_module, is) at e) in subst HasUtf8 m.2 (go_utf8 text m.0 utf8 m.1)
+            | inl is ↦ let m = map-some SetGo (go_text_in text) edit (rw (not_module, is) at e) in subst HasUtf8 {x = SetGo m.0} m.2 (go_utf8 text m.0 utf8 m.1)
             | inr not_go ↦
                 elim (cases_Bool (bytes_eq word (codes "require"))) [
-                  | inl is ↦ let m = map-some SetRequire (pair_in text) edit (rw (not_module, not_go, is) at e) in subst HasUtf8 m.2 tt
+                  | inl is ↦ let m = map-some SetRequire (pair_in text) edit (rw (not_module, not_go, is) at e) in subst HasUtf8 {x = SetRequire m.0} m.2 tt
                   | inr not_require ↦
                       elim (cases_Bool (bytes_eq word (codes "droprequire"))) [
-                        | inl is ↦ let m = map-some DropRequire (path_in text) edit (rw (not_module, not_go, not_require, is) at e) in subst HasUtf8 m.2 tt
+                        | inl is ↦ let m = map-some DropRequire (path_in text) edit (rw (not_module, not_go, not_require, is) at e) in subst HasUtf8 {x = DropRequire m.0} m.2 tt
                         | inr not_droprequire ↦
                             elim (cases_Bool (bytes_eq word (codes "exclude"))) [
-                              | inl is ↦ let m = map-some AddExclude (pair_in text) edit (rw (not_module, not_go, not_require, not_droprequire, is) at e) in subst HasUtf8 m.2 tt
+                              | inl is ↦ let m = map-some AddExclude (pair_in text) edit (rw (not_module, not_go, not_require, not_droprequire, is) at e) in subst HasUtf8 {x = AddExclude m.0} m.2 tt
                               | inr not_exclude ↦
                                   elim (cases_Bool (bytes_eq word (codes "dropexclude"))) [
-                                    | inl is ↦ let m = map-some DropExclude (pair_in text) edit (rw (not_module, not_go, not_require, not_droprequire, not_exclude, is) at e) in subst HasUtf8 m.2 tt
+                                    | inl is ↦ let m = map-some DropExclude (pair_in text) edit (rw (not_module, not_go, not_require, not_droprequire, not_exclude, is) at e) in subst HasUtf8 {x = DropExclude m.0} m.2 tt
                                     | inr not_dropexclude ↦
                                         elim (cases_Bool (bytes_eq word (codes "replace"))) [
-                                          | inl is ↦ let m = map-some SetReplace (replacing_in text) edit (rw (not_module, not_go, not_require, not_droprequire, not_exclude, not_dropexclude, is) at e) in subst HasUtf8 m.2 (replacing_utf8 text m.0 utf8 m.1)
+                                          | inl is ↦ let m = map-some SetReplace (replacing_in text) edit (rw (not_module, not_go, not_require, not_droprequire, not_exclude, not_dropexclude, is) at e) in subst HasUtf8 {x = SetReplace m.0} m.2 (replacing_utf8 text m.0 utf8 m.1)
                                           | inr not_replace ↦
                                               elim (cases_Bool (bytes_eq word (codes "dropreplace"))) [
-                                                | inl is ↦ let m = map-some DropReplace (left_in text) edit (rw (not_module, not_go, not_require, not_droprequire, not_exclude, not_dropexclude, not_replace, is) at e) in subst HasUtf8 m.2 tt
+                                                | inl is ↦ let m = map-some DropReplace (left_in text) edit (rw (not_module, not_go, not_require, not_droprequire, not_exclude, not_dropexclude, not_replace, is) at e) in subst HasUtf8 {x = DropReplace m.0} m.2 tt
                                                 | inr not_dropreplace ↦
                                                     elim (cases_Bool (bytes_eq word (codes "retract"))) [
-                                                      | inl is ↦ let m = map-some AddRetract (interval_in text) edit (rw (not_module, not_go, not_require, not_droprequire, not_exclude, not_dropexclude, not_replace, not_dropreplace, is) at e) in subst HasUtf8 m.2 tt
+                                                      | inl is ↦ let m = map-some AddRetract (interval_in text) edit (rw (not_module, not_go, not_require, not_droprequire, not_exclude, not_dropexclude, not_replace, not_dropreplace, is) at e) in subst HasUtf8 {x = AddRetract m.0} m.2 tt
                                                       | inr not_retract ↦
                                                           elim (cases_Bool (bytes_eq word (codes "dropretract"))) [
-                                                            | inl is ↦ let m = map-some DropRetract (interval_in text) edit (rw (not_module, not_go, not_require, not_droprequire, not_exclude, not_dropexclude, not_replace, not_dropreplace, not_retract, is) at e) in subst HasUtf8 m.2 tt
+                                                            | inl is ↦ let m = map-some DropRetract (interval_in text) edit (rw (not_module, not_go, not_require, not_droprequire, not_exclude, not_dropexclude, not_replace, not_dropreplace, not_retract, is) at e) in subst HasUtf8 {x = DropRetract m.0} m.2 tt
                                                             | inr not_dropretract ↦ let none : None ≡ Some edit = rw (not_module, not_go, not_require, not_droprequire, not_exclude, not_dropexclude, not_replace, not_dropreplace, not_retract, not_dropretract) at e in absurd cc
                                                           ]
                                                     ]

@@ -5,16 +5,16 @@ use Rattle.std.specs.List.{AllByRecursion, cons_option, filter_map}
 use Rattle.std.specs.Option.{option_map, option_to_list}
 use Rattle.std.specs.String.{string_bytes}
 use Rattle.std.proofs.lemmas.Str.{IsUtf8-string_bytes}
-use Rattle.std.specs.Prelude.{String, codes, if◌then◌else◌, option_and_then, unwrap_or}
+use Rattle.std.specs.Prelude.{String, codes, if◌then◌else◌}
 use Rattle.gm_syntax.specs.Document.{IsDocument, Line, start}
 use Rattle.gm_syntax.specs.Layout.{layout}
 use Rattle.gm_syntax.specs.LineViews.{plain_lines}
 use Rattle.gm_syntax.specs.Parsed.{IsParsedAs}
 use Rattle.gm_syntax.specs.Tokens.{Placed}
 use Rattle.gm_syntax.specs.Words.{Word}
-use Rattle.gm_file.specs.Directives.{Strict, Directive, directives}
-use Rattle.gm_file.specs.Faults.{fault_of, go_in}
-use Rattle.gm_file.specs.Fields.{as_exclusion, as_go, as_module, as_replacing, as_requirement, first}
+use Rattle.gm_file.specs.Directives.{Strict, directives}
+use Rattle.gm_file.specs.Faults.{fault_of}
+use Rattle.gm_file.specs.Fields.{first}
 use Rattle.gm_file_edit.specs.Changes.{edited, is_fit}
 use Rattle.gm_file_edit.specs.Edits.{Edit as Change, edit_in}
 use Rattle.gm_file_edit.proofs.EditedSound.{edited-document}
@@ -32,7 +32,7 @@ use Rattle.gomod_run.proofs.Sameness.{one_outcome}
 use Rattle.gomod_laws.specs.FormattingLaws.{EditOfNothingFormats, EditsAreFormatted, FormattingChangesNoBuild, IsFormatted, LayoutsAreFormatted}
 use Rattle.gomod_laws.specs.LineOrderLaws.{SayTheSame}
 use Rattle.gomod_laws.specs.Runs.{HasOutcome}
-use Rattle.gomod_laws.proofs.FormattingBlanks.{no_fault_again, same_said}
+use Rattle.gomod_laws.proofs.FormattingBlanks.{main_said, no_fault_again, same_said}
 use Rattle.gomod_laws.proofs.FormattingEdits.{AreGood, edited_good, good_lines, lines_good}
 use Rattle.gomod_laws.proofs.FormattingRead.{layout_read, parsed_layout, read_document}
 use Rattle.gomod_laws.proofs.FormattingUtf8.{read_utf8}
@@ -40,16 +40,6 @@ use Rattle.gomod_laws.proofs.LineOrderProofs.{queries_move}
 use Rattle.gomod_laws.proofs.LineOrderRuns.{same_outcome}
 
 -- ---- what a main file says
-
--- what these directives say as those of a main file
-abbrev main_said : List Directive → Main
-main_said ds = record {
-  path = unwrap_or (first (filter_map as_module ds)) [];
-  go = unwrap_or (option_and_then (go_in Strict) (first (filter_map as_go ds))) (1, 16);
-  requirements = filter_map as_requirement ds;
-  excludes = filter_map as_exclusion ds;
-  replaces = filter_map as_replacing ds;
-}
 
 -- a main file and its layout say the same
 pub layout_main : (file : List ℕ) (lines : List (Line Placed)) (main : Main) → IsParsedAs file (Ok lines) → length (layout (plain_lines lines)) ≤ longest → IsMainFile file main → IsMainFile (layout (plain_lines lines)) main

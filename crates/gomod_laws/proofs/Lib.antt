@@ -23,3 +23,4 @@ pub mod AdditionsOpened
 pub mod AdditionsRuns
 pub mod AdditionsPrinted
 pub mod RequirableLists
+pub mod LineOrderLines

@@ -68,7 +68,7 @@ same_test false false into out = refl
 any_into : (test : ModuleVersion → Bool) (xs ys : List ModuleVersion) → ((x : ModuleVersion) → Contains xs x → Contains ys x) → list_any test xs ≡ true → list_any test ys ≡ true
 any_into test xs ys into e = let (x, there, holds) = any_member test xs e in member_any test ys x (into x there) holds
 
-same_any : (test : ModuleVersion → Bool) (xs ys : List ModuleVersion) → ((x : ModuleVersion) → Contains xs x ↔ Contains ys x) → list_any test xs ≡ list_any test ys
+pub same_any : (test : ModuleVersion → Bool) (xs ys : List ModuleVersion) → ((x : ModuleVersion) → Contains xs x ↔ Contains ys x) → list_any test xs ≡ list_any test ys
 same_any test xs ys same = same_test (list_any test xs) (list_any test ys) (any_into test xs ys (λ x. (same x).0)) (any_into test ys xs (λ x. (same x).1))
 
 -- ---- what the files say for these main files
