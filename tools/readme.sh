@@ -1,0 +1,128 @@
+#!/usr/bin/env bash
+# Runs each example of README.md and of the documents, and compares what it prints byte for byte.
+#
+#   tools/readme.sh           README.md and all documents of docs/
+#   tools/readme.sh FILE..    these
+#
+# An example is a block of lines that are indented by four spaces, the first of which begins `$ `: each such line is a
+# command of a shell, and the lines up to the next one are what it prints, on both streams. A block runs in one shell, at
+# the top of a scratch folder that has links to the files of the repository, so that files which an example writes don't
+# stay. It also compares the pieces of code of docs/LIBRARY.md, fenced as rust, with the sources of crates/library_example,
+# and tests that each link of a document to a file of the repository leads to one.
+#
+# It needs bin/gomod (./build makes it), bash and python3. It prints each difference and how many examples, pieces of code and
+# links were right and wrong. The status is 1 where one was wrong. The merge gate doesn't run it.
+set -euo pipefail
+cd "$(dirname "$0")/.."
+[ -x bin/gomod ] || {
+  echo "readme: there is no bin/gomod: run ./build" >&2
+  exit 1
+}
+exec python3 - "$@" << 'PYTHON'
+import glob
+import os
+import re
+import subprocess
+import sys
+import tempfile
+
+TOP = os.getcwd()
+SECONDS = 120
+
+
+def blocks(lines):
+    """The blocks of examples: the number of the first line, and the lines without their indent."""
+    block, begins = [], 0
+    for number, line in enumerate([*lines, "end"], 1):
+        if line.startswith("    ") or (block and not line.strip()):
+            begins = begins if block else number
+            block.append(line[4:])
+            continue
+        while block and not block[-1].strip():
+            block.pop()
+        if block and block[0].startswith("$ "):
+            yield begins, block
+        block = []
+
+
+def examples(begins, block):
+    """The commands of a block: line, command and what it prints."""
+    found = []
+    for number, line in enumerate(block, begins):
+        if found and found[-1][1].endswith("\\") and not found[-1][2]:
+            found[-1][1] += "\n" + line.removeprefix("> ")
+        elif line.startswith("$ "):
+            found.append([number, line[2:], ""])
+        else:
+            found[-1][2] += line + "\n"
+    return found
+
+
+def printed(commands):
+    """What each command prints, in one shell."""
+    script = "".join(f"status=$?; printf '\\036'; (exit $status)\n{it}\n" for it in commands)
+    with tempfile.TemporaryDirectory(prefix="gomod-readme-") as room:
+        for name in os.listdir(TOP):
+            if name != ".git":
+                os.symlink(f"{TOP}/{name}", f"{room}/{name}")
+        ran = subprocess.run(["bash", "-c", script], cwd=room, stdin=subprocess.DEVNULL, stdout=subprocess.PIPE,
+                             stderr=subprocess.STDOUT, timeout=SECONDS)
+    return ran.stdout.decode("utf-8", "replace").split("\036")[1:]
+
+
+def quoted(text):
+    return "".join(f"      {line}\n" for line in text.splitlines()) or "      (nothing)\n"
+
+
+def run_examples(name, lines, tally):
+    for begins, block in blocks(lines):
+        found = examples(begins, block)
+        got = printed([command for _, command, _ in found])
+        got += ["(it did not run)\n"] * (len(found) - len(got))
+        for (number, command, wanted), came in zip(found, got):
+            is_right = came == wanted
+            tally["examples"][is_right] += 1
+            if not is_right:
+                print(f"{name}:{number}: $ {command}\n    prints\n{quoted(came)}    and should print\n{quoted(wanted)}", end="")
+
+
+def compare_code(name, text, tally):
+    sources = ""
+    for file in glob.glob("crates/library_example/src/*.rt"):
+        with open(file, encoding="utf-8") as it:
+            sources += it.read() + "\n"
+    for found in re.finditer(r"(?ms)^```rust\n(.*?)^```$", text):
+        is_right = found[1] in sources
+        tally["pieces of code"][is_right] += 1
+        if not is_right:
+            number = text.count("\n", 0, found.start()) + 1
+            print(f"{name}:{number}: this code is in no source of crates/library_example")
+
+
+def follow_links(name, text, tally):
+    for found in re.finditer(r"\]\(([^)#\s]+)(#[^)]*)?\)", text):
+        if re.match(r"[a-z]+:", found[1]):
+            continue
+        is_right = os.path.exists(os.path.join(os.path.dirname(name), found[1]))
+        tally["links"][is_right] += 1
+        if not is_right:
+            number = text.count("\n", 0, found.start()) + 1
+            print(f"{name}:{number}: there is no {found[1]}")
+
+
+def main(*names):
+    tally = {it: {True: 0, False: 0} for it in ("examples", "pieces of code", "links")}
+    for name in names or ["README.md", "CHANGELOG.md", *sorted(glob.glob("docs/*.md"))]:
+        with open(name, encoding="utf-8") as it:
+            text = it.read()
+        run_examples(name, text.split("\n"), tally)
+        if os.path.basename(name) == "LIBRARY.md":
+            compare_code(name, text, tally)
+        follow_links(name, text, tally)
+    for what, counts in tally.items():
+        print(f"{what}: {counts[True]} right, {counts[False]} wrong")
+    return 1 if any(it[False] for it in tally.values()) else 0
+
+
+sys.exit(main(*sys.argv[1:]))
+PYTHON
