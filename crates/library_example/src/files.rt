@@ -1,0 +1,58 @@
+//! Formatting, reading and editing a go.mod.
+
+use gm_file::MainFile;
+use gm_file_edit::{Op, apply};
+use gm_syntax::{Doc, SyntaxFault};
+use std::alloc::Global;
+use std::io;
+
+/// A go.mod that nobody has formatted.
+const MAIN: &str =
+    "module  example.com/hello\ngo 1.21\nrequire(\n  example.com/a v1.0.0//indirect\n  \"example.com/b\"  v1.2.0\n)\n";
+
+/// The layout of a go.mod text.
+fn layout(alloc: Global, text: &str) -> Result<String, SyntaxFault> {
+    let doc = Doc::parse(alloc, text.as_bytes())?;
+    Ok(doc.format(alloc)?)
+}
+
+/// Reads the go.mod text of a main module.
+pub(crate) fn main_file<'a>(alloc: Global, text: &'a str) -> anyhow::Result<MainFile<'a>> {
+    let doc = Doc::parse(alloc, text.as_bytes())?;
+    Ok(MainFile::read(alloc, doc)?)
+}
+
+/// Prints what the go.mod of a main module says.
+fn print_file(rt: &impl Print, file: &MainFile<'_>) -> io::Result<()> {
+    let (major, minor) = file.go();
+    println!(rt; "{} is written for go {major}.{minor}", file.module())?;
+    for required in file.requirements() {
+        println!(rt; "it requires {required}")?;
+    }
+    Ok(())
+}
+
+/// Applies an operation of `gomod edit` to a file.
+fn edit(alloc: Global, file: &mut MainFile<'_>, operation: &str) -> anyhow::Result<()> {
+    let op = Op::parse(alloc, operation)?;
+    apply(alloc, file, &op)?;
+    Ok(())
+}
+
+/// Formats, reads and edits the example.
+pub(crate) fn show(rt: &impl Print, alloc: Global) -> anyhow::Result<()> {
+    let text = layout(alloc, MAIN)?;
+    print!(rt; "{text}")?;
+    if let Err(fault) = layout(alloc, "module example.com/hello\nrequire (\n") {
+        println!(rt; "{fault}")?;
+    }
+    let mut file = main_file(alloc, MAIN)?;
+    print_file(rt, &file)?;
+    edit(alloc, &mut file, "require=example.com/b@v1.3.0")?;
+    if let Err(fault) = edit(alloc, &mut file, "require=example.com/b@v2.0.0") {
+        println!(rt; "{fault}")?;
+    }
+    let edited = file.doc().format(alloc)?;
+    print!(rt; "{edited}")?;
+    Ok(())
+}

@@ -1,0 +1,99 @@
+//! Selecting the build list of a module graph, and a shortest chain in it.
+
+ghost use Rattle.std.specs.Prelude.{IfOk};
+ghost use Rattle.gm_graph_select.specs.Graph.{edge_cmp};
+ghost use Rattle.gm_graph_select.specs.Order.{IsAscending};
+
+use crate::files::main_file;
+use anyhow::Context;
+use gm_file::MainFile;
+use gm_graph_select::{Edge, Row, Step, build_list, chain, sorted_edges};
+use gm_name::{ModPath, ModVer, ModVersion, NoMemory};
+use std::alloc::Global;
+use std::io;
+
+/// The main module's file. It requires a and b, and b requires another version of a.
+const MAIN: &str =
+    "module example.com/hello\nrequire example.com/a v1.9.0\nrequire example.com/b v1.0.0\n";
+
+/// A module at a version.
+fn vertex(alloc: Global, path: &str, version: &str) -> anyhow::Result<ModVer> {
+    let path = ModPath::parse(alloc, path)?;
+    let version = ModVersion::parse(alloc, version)?;
+    ModVer::pair(path, version).context("the version does not fit the path")
+}
+
+/// The edges of the graph, in ascending order, as `chain` requires them.
+fn edges(alloc: Global, main: &MainFile<'_>) -> anyhow::Result<Vec<Edge>>
+    ensures { IfOk result (λ edges. IsAscending edge_cmp edges.items) }
+{
+    let mut edges = Vec::new(alloc);
+    for required in main.requirements() {
+        edges.push(Edge {
+            from: Step::Main,
+            to: required.copy(alloc)?,
+        })?;
+    }
+    edges.push(Edge {
+        from: Step::Of(vertex(alloc, "example.com/b", "v1.0.0")?),
+        to: vertex(alloc, "example.com/a", "v1.10.0")?,
+    })?;
+    Ok(sorted_edges(edges))
+}
+
+/// The modules that edges lead to, from which the build list is selected.
+fn ends(alloc: Global, edges: &[Edge]) -> Result<Vec<ModVer>, NoMemory> {
+    let mut ends = Vec::new(alloc);
+    for edge in edges {
+        ends.push(edge.to.copy(alloc)?)?;
+    }
+    Ok(ends)
+}
+
+/// Prints a step: the main module's path, or a path and a version.
+fn print_step(rt: &impl Print, main: &MainFile<'_>, step: &Step) -> io::Result<()> {
+    match step {
+        Step::Main => println!(rt; "{}", main.module()),
+        Step::Of(vertex) => println!(rt; "{vertex}"),
+    }
+}
+
+/// Prints the rows of a build list.
+fn print_rows(rt: &impl Print, main: &MainFile<'_>, rows: &[Row]) -> io::Result<()> {
+    for row in rows {
+        print_step(rt, main, &row.step)?;
+    }
+    Ok(())
+}
+
+/// Prints the chain to the version of a path that the build list has.
+fn print_chain(
+    rt: &impl Print,
+    alloc: Global,
+    main: &MainFile<'_>,
+    edges: &[Edge],
+    rows: &[Row],
+) -> anyhow::Result<()>
+    requires { IsAscending edge_cmp edges.now }
+{
+    let path = ModPath::parse(alloc, "example.com/a")?;
+    let steps = chain(alloc, main.module(), edges, rows, &path)?;
+    for step in &steps {
+        print_step(rt, main, step)?;
+    }
+    Ok(())
+}
+
+/// Prints the build list of a graph, and a chain in it.
+fn show_over(rt: &impl Print, alloc: Global, main: &MainFile<'_>) -> anyhow::Result<()> {
+    let edges = edges(alloc, main)?;
+    let rows = build_list(alloc, main, ends(alloc, &edges)?)?;
+    print_rows(rt, main, &rows)?;
+    print_chain(rt, alloc, main, &edges, &rows)
+}
+
+/// Selects the build list of the example.
+pub(crate) fn show(rt: &impl Print, alloc: Global) -> anyhow::Result<()> {
+    let main = main_file(alloc, MAIN)?;
+    show_over(rt, alloc, &main)
+}
