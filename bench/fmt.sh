@@ -1,5 +1,12 @@
 #!/usr/bin/env bash
-# Times `gomod fmt` on a go.mod of 400,000 requires beside `cat`, and beside `go mod edit -fmt` where there is a go command.
+# Times `gomod fmt` on a go.mod of 400,000 requires beside `cat`, and beside `go mod edit -fmt` where there is a go
+# command.
+#
+#   bench/fmt.sh
+#
+# It needs what ./build needs, which it runs, and python3 and awk; 16 MB of disk in the folder for temporary files. It
+# prints the size of the file, then for each command the least time of three runs: elapsed seconds, bytes a second,
+# peak memory, and for gomod those of the processor too. The status is 1 where gomod fails.
 set -euo pipefail
 cd "$(dirname "$0")/.."
 gomod=$(./build | tail -n 1)

@@ -1,8 +1,17 @@
 #!/usr/bin/env bash
-# Times `gomod list`, `graph` and `chain` over proxy folders of 1,000, 10,000 and 65,000 modules with five requirements each, of
-# 1,000 modules with 200 requirements each, over a chain 65,000 deep and a main file with 65,535 requirements, beside `cat` of the
-# same files. Beside it, in the same run, where there is a Rust compiler, a plain Rust program (plain.rs), and where there is a go
-# command, `go list -m all` with a cold module cache (one run) and with a warm one, and whether they print the same bytes.
+# Times `gomod list`, `graph` and `chain` over proxy folders of 1,000, 10,000 and 65,000 modules with five
+# requirements each, of 1,000 modules with 200 requirements each, over a chain 65,000 deep and a main file with 65,535
+# requirements, beside `cat` of the same files. Beside it, in the same run, where there is a Rust compiler, a plain
+# Rust program (plain.rs), and where there is a go command, `go list -m all` with a cold module cache (one run) and
+# with a warm one, and whether they print the same bytes.
+#
+#   bench/graph.sh
+#
+# It needs what ./build needs, which it runs, and python3 and awk; in the folder for temporary files room for 400,000
+# small files (1.7 GB where each takes 4 KB), and about as much again for the caches of a go command. rustc and go are
+# used where they are there. It prints for each graph its modules and bytes, and then for each command elapsed
+# seconds, those of the processor, peak memory, and the last two for each module: of three runs the one that took
+# least time. The status is 1 where gomod fails.
 set -euo pipefail
 cd "$(dirname "$0")/.."
 gomod=$(./build | tail -n 1)
@@ -15,8 +24,8 @@ if command -v rustc > /dev/null; then
   rustc -O -o "$plain" bench/plain.rs
 fi
 
-# The same files at each run. A path has up to three versions, each a module of its own. Requirements stand as the go command
-# leaves them, in the order of their paths and each once.
+# The same files at each run. A path has up to three versions, each a module of its own. Requirements stand as the go
+# command leaves them, in the order of their paths and each once.
 python3 - "$work" << 'PY'
 import os
 import random

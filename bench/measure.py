@@ -1,6 +1,8 @@
 """Runs a command and prints what it took: python3 measure.py INPUT COMMAND.. (INPUT is - for none).
 
-The line has the seconds that passed, those of the processor, the peak memory in bytes and the status. What the command prints is thrown away.
+The line has the seconds that passed, those of the processor, the peak memory in bytes and the status. What the
+command prints is thrown away. It needs python3 and Linux, and /usr/bin/time for peaks below 14 MB. The scripts beside
+it use it.
 """
 
 import os

@@ -2,6 +2,8 @@
 // hash maps and nothing proved. It ends at the first fault, knows neither replace nor exclude, and tests names in part.
 //
 //     rustc -O bench/plain.rs && ./plain GO.MOD PROXY
+//
+// It needs a Rust compiler, and prints the build list as `gomod list` does. bench/graph.sh builds and runs it.
 
 use std::collections::{HashMap, HashSet, VecDeque};
 use std::{env, fs, process, str};

@@ -4,15 +4,16 @@
 #   tools/program.sh                  the cases of crates/run_cases/data
 #   tools/program.sh FILE.txt.. TITLE..   those of these files, or those whose titles have one of these texts
 #
-# The merge gate runs the same cases inside a process, with outputs in memory; of the program itself it compares what a few
-# stored runs write to standard output. What this adds is standard error and the whole way from the words to the system.
-# Calls, cases with a file at the root of the system, and those of files without permission for root are left out.
+# The merge gate runs the same cases inside a process, with outputs in memory; of the program itself it compares what
+# a few stored runs write to standard output. What this adds is standard error and the whole way from the words to the
+# system. Calls, cases with a file at the root of the system, and those of files without permission for root are left
+# out.
 #
-# Where REFUSE_MEMORY names the library that tools/refuse-memory.sh makes, each command runs again with each of its allocations
-# refused in turn: it then has to say that memory ran out, or to have the result of the case.
+# Where REFUSE_MEMORY names the library that tools/refuse-memory.sh makes, each command runs again with each of its
+# allocations refused in turn: it then has to say that memory ran out, or to have the result of the case.
 #
-# It needs bin/gomod (./build makes it) and python3, and prints each difference and how many cases passed and failed. The
-# status is 1 where one failed.
+# It needs bin/gomod (./build makes it) and python3, and prints each difference and how many cases passed and failed.
+# The status is 1 where one failed.
 set -euo pipefail
 cd "$(dirname "$0")/.."
 [ -x bin/gomod ] || {

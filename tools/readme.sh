@@ -5,13 +5,13 @@
 #   tools/readme.sh FILE..    these
 #
 # An example is a block of lines that are indented by four spaces, the first of which begins `$ `: each such line is a
-# command of a shell, and the lines up to the next one are what it prints, on both streams. A block runs in one shell, at
-# the top of a scratch folder that has links to the files of the repository, so that files which an example writes don't
-# stay. It also compares the pieces of code of docs/LIBRARY.md, fenced as rust, with the sources of crates/library_example,
-# and tests that each link of a document to a file of the repository leads to one.
+# command of a shell, and the lines up to the next one are what it prints, on both streams. A block runs in one shell,
+# at the top of a scratch folder that has links to the files of the repository, so that files which an example writes
+# don't stay. It also compares the pieces of code of docs/LIBRARY.md, fenced as rust, with the sources of
+# crates/library_example, and tests that each link of a document to a file of the repository leads to one.
 #
-# It needs bin/gomod (./build makes it), bash and python3. It prints each difference and how many examples, pieces of code and
-# links were right and wrong. The status is 1 where one was wrong. The merge gate doesn't run it.
+# It needs bin/gomod (./build makes it), bash and python3. It prints each difference and how many examples, pieces of
+# code and links were right and wrong. The status is 1 where one was wrong. The merge gate doesn't run it.
 set -euo pipefail
 cd "$(dirname "$0")/.."
 [ -x bin/gomod ] || {
@@ -83,7 +83,8 @@ def run_examples(name, lines, tally):
             is_right = came == wanted
             tally["examples"][is_right] += 1
             if not is_right:
-                print(f"{name}:{number}: $ {command}\n    prints\n{quoted(came)}    and should print\n{quoted(wanted)}", end="")
+                print(f"{name}:{number}: $ {command}\n    prints\n{quoted(came)}", end="")
+                print(f"    and should print\n{quoted(wanted)}", end="")
 
 
 def compare_code(name, text, tally):

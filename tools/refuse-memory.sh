@@ -6,12 +6,13 @@
 #   tools/refuse-memory.sh NAME..     the tests of these crates
 #   tools/refuse-memory.sh --but WORD NAME..   without the tests whose names have that word
 #
-# A command whose memory is refused has to say so, or to have the result of its case. A test has to end well, or to fail and say
-# that memory ran out. What does otherwise, crashes or hangs is printed with the number of the refused allocation. The status is
-# 1 where that happened, and 0 where all stood every refusal. The merge gate runs the same cases and tests with none refused.
+# A command whose memory is refused has to say so, or to have the result of its case. A test has to end well, or to
+# fail and say that memory ran out. What does otherwise, crashes or hangs is printed with the number of the refused
+# allocation. The status is 1 where that happened, and 0 where all stood every refusal. The merge gate runs the same
+# cases and tests with none refused.
 #
-# It needs a C compiler (`cc`), bin/gomod (./build makes it) and python3 for the cases, and `rt` for a crate whose tests are not
-# built: `rt test` leaves them in out/NAME_tests.
+# It needs a C compiler (`cc`), bin/gomod (./build makes it) and python3 for the cases, and `rt` for a crate whose
+# tests are not built: `rt test` leaves them in out/NAME_tests.
 set -euo pipefail
 cd "$(dirname "$0")/.."
 

@@ -1,5 +1,5 @@
-//! An example of gomod's libraries. It formats, reads and edits a go.mod, selects the build list of a small module graph,
-//! and orders versions. docs/LIBRARY.md explains each step.
+//! An example of gomod's libraries. It formats, reads and edits a go.mod, selects the build list of a small module
+//! graph, and orders versions. docs/LIBRARY.md explains each step.
 //!
 //! It reads no file: what it works on are the constants of the modules below.
 #![tactic(auto)]
