@@ -49,9 +49,7 @@ def examples(begins, block):
     """The commands of a block: line, command and what it prints."""
     found = []
     for number, line in enumerate(block, begins):
-        if found and found[-1][1].endswith("\\") and not found[-1][2]:
-            found[-1][1] += "\n" + line.removeprefix("> ")
-        elif line.startswith("$ "):
+        if line.startswith("$ "):
             found.append([number, line[2:], ""])
         else:
             found[-1][2] += line + "\n"
