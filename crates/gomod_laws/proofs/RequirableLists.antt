@@ -8,8 +8,9 @@ use Rattle.gm_name.specs.Version.{version_cmp}
 use Rattle.gm_name.specs.VersionOrder.{version_total, version-anti}
 use Rattle.gm_file.specs.Directives.{Replacing, Right}
 use Rattle.gm_file.specs.Fields.{Dependency, replacement_of}
+use Rattle.gm_store.specs.Asked.{Name, Reply}
 use Rattle.gm_graph_cache.specs.declared.class.Class.{Class}
-use Rattle.gm_graph_cache.specs.Main.{Main, ModuleVersion, is_pruned_by, without_excluded}
+use Rattle.gm_graph_cache.specs.Main.{Main, ModuleVersion, is_pruned_by, without_excluded, replacement_in}
 use Rattle.gm_graph_cache.specs.Reading.{Held, Readings, readings_by, requirements_in, said_in}
 use Rattle.gm_graph_select.specs.declared.step.Step.TheVariants.{Main as FromMain, Of}
 use Rattle.gm_graph_select.specs.Graph.{Edges, edge}
@@ -20,15 +21,15 @@ use Rattle.gm_graph_select.proofs.Same.{EndAlike, alike_build_list, same_build_l
 use Rattle.gm_graph.specs.Graph.{IsEdge, IsOpened, IsTop, IsVertex}
 use Rattle.gm_graph.specs.Loading.{AreFew}
 use Rattle.gm_graph.proofs.LawProofs.{unpruned_is_plain}
-use Rattle.gm_graph_listing.specs.Laws.{AllFilesAreValid}
+use Rattle.gm_graph_listing.specs.Laws.{AllFilesAreValid, AnswerAlike}
 use Rattle.gm_graph_listing.specs.Outcomes.{AreRows, Given, Outcome, Prints, PrintsList, answers, given, printed}
 use Rattle.gm_graph_listing.specs.Texts.{list_text}
 use Rattle.gm_graph_listing.proofs.OneOutcome.{also_printed}
-use Rattle.gm_graph_listing.proofs.OneStore.{Agrees, alike_back}
+use Rattle.gm_graph_listing.proofs.OneStore.{Agrees, alike_back, opened as opened_by}
 use Rattle.gm_graph_listing.proofs.PrintedList.{greatest}
 use Rattle.gomod_words.specs.declared.usage.Command.TheVariants.{List as Rows}
 use Rattle.gomod_laws.specs.AdditionLaws.{AreTwoRuns}
-use Rattle.gomod_laws.specs.RequirableLaws.{HasRow, OpenedCanBeRequired, RequiresAlso, RequiresOnly, RowsCanBeRequired, SayTheRest, StandsFirst, StandsSecond, VerticesCanBeRequired}
+use Rattle.gomod_laws.specs.RequirableLaws.{HasRow, OpenedCanBeRequired, RequiresAlso, RequiresOnly, RowsCanBeRequired, DifferInRequirements, StandsFirst, StandsSecond, VerticesCanBeRequired}
 use Rattle.gomod_laws.proofs.AdditionsKept.{kept_of, kept_there}
 use Rattle.gomod_laws.proofs.AdditionsOpened.{opened_too, vertex_too}
 use Rattle.gomod_laws.proofs.AdditionsPrinted.{list_run}
@@ -54,7 +55,7 @@ replaced_alike main one other E rows same list = record {
 }
 
 -- the build list of the second main file
-rows_of_second : (first second : Main) → SayTheRest first second → (b : Readings) (rows others : List Entry)
+rows_of_second : (first second : Main) → DifferInRequirements first second → (b : Readings) (rows others : List Entry)
     → IsBuildList first.path first.replaces (IsEdge second b) rows → AreRows second b others → rows ≡ others
 rows_of_second first second rest b rows others list other =
     same_build_lists second.path second.replaces (IsEdge second b) rows others
@@ -76,7 +77,7 @@ kept_vertex main readings x (Of y, (is, there)) = kept_in main (readings y) x th
 
 -- ---- a main file that also requires some opened modules
 
-module _ (first second : Main) (rest : SayTheRest first second) (these : ModuleVersion → Type 0)
+module _ (first second : Main) (rest : DifferInRequirements first second) (these : ModuleVersion → Type 0)
     (adds : RequiresOnly first second these) (a : Readings)
     (opened : (x : ModuleVersion) → these x → IsOpened first a x) where
   top_back : (x : ModuleVersion) → IsTop second x → IsOpened first a x
@@ -116,7 +117,7 @@ module _ (first second : Main) (these : ModuleVersion → Type 0) (also : Requir
 -- ---- two runs
 
 module _ (file other : List ℕ) (sums : Option (List ℕ)) (first second : Main) (one next : Outcome)
-    (runs : AreTwoRuns (Rows None None) file other sums first second one next) (rest : SayTheRest first second) where
+    (runs : AreTwoRuns (Rows None None) file other sums first second one next) (rest : DifferInRequirements first second) where
   abbrev here : Given
   here = given file sums (answers runs.asked [])
 
@@ -174,15 +175,33 @@ also_same file other sums first second one next runs these also held found opene
     (λ b agrees x is. opened_back first second also.rest these also.adds a opened b agrees x is)
     (λ b into back rows list. rows_also first second these also a opened b into back rows list)
 
+-- the same, by what another run is known to open that was answered alike
+also_seen : (file other : List ℕ) (sums : Option (List ℕ)) (first second : Main) (one next : Outcome)
+    (runs : AreTwoRuns (Rows None None) file other sums first second one next) (these : ModuleVersion → Type 0)
+    → RequiresAlso first second these → (seen : List (Name × Reply)) → AnswerAlike seen runs.asked → (held : Held)
+    → AllFilesAreValid (given file sums (answers seen [])) first held
+    → ((x : ModuleVersion) → these x → IsOpened first (readings_by first held) x) → (one.status ≡ 0) × (next ≡ one)
+also_seen file other sums first second one next runs these also seen alike held found opened =
+    let here = given file sums (answers runs.asked []) in
+    let before = given file sums (answers seen []) in
+    let same : (x : ModuleVersion) → replacement_in first x ≡ replacement_in first x = λ x. refl in
+    let (base, valid, shows) =
+    prints_too here before first first held found runs.first_says refl (alike_back seen runs.asked alike) same refl
+    (λ a agrees x is. opened_by first (readings_by first a) (readings_by first held) agrees x is) one (PrintsList None None)
+    (list_run None None file sums runs.asked one runs.first_runs) in
+    let agrees = agree before here first first base valid runs.first_says refl alike same found.table found.read.sums held found.known.tells in
+    also_same file other sums first second one next runs these also base valid
+    (λ x is. opened_by first (readings_by first held) (readings_by first base) agrees x (opened x is))
+
 pub vertices_can_be_required : VerticesCanBeRequired
-vertices_can_be_required file other sums first second edges graph one next runs shows unpruned also =
+vertices_can_be_required file other sums first second edges seen graph one next runs alike shows unpruned also =
     let a = readings_by first shows.held in
-    also_same file other sums first second one next runs (StandsSecond edges) also shows.held shows.valid
+    also_seen file other sums first second one next runs (StandsSecond edges) also seen alike shows.held shows.valid
     (λ x stands. vertex_opened first a unpruned x (stands.0, (shows.are_edges.each (edge stands.0 x)).0 stands.1))
 
 pub opened_can_be_required : OpenedCanBeRequired
-opened_can_be_required file other sums first second edges graph one next runs shows also =
-    also_same file other sums first second one next runs (StandsFirst edges) also shows.held shows.valid
+opened_can_be_required file other sums first second edges seen graph one next runs alike shows also =
+    also_seen file other sums first second one next runs (StandsFirst edges) also seen alike shows.held shows.valid
     (λ x stands. ((shows.are_edges.each (edge (Of x) stands.0)).0 stands.1).0)
 
 -- ---- the rows

@@ -11,7 +11,7 @@ use Rattle.gm_graph_select.specs.declared.step.Step.TheVariants.{Of}
 use Rattle.gm_graph_select.specs.BuildList.{Entry}
 use Rattle.gm_graph.specs.Outcome.{AreEdges}
 use Rattle.gm_graph_listing.specs.Laws.{AllFilesAreValid, AnswerAlike}
-use Rattle.gm_graph_listing.specs.Outcomes.{AreRows, Given, IsMainFile, Outcome, answers, given, printed}
+use Rattle.gm_graph_listing.specs.Outcomes.{AreRows, IsMainFile, Outcome, answers, given, printed}
 use Rattle.gm_graph_listing.specs.Texts.{graph_text, list_text}
 use Rattle.gomod_words.specs.declared.usage.Command.{Command}
 use Rattle.gomod_words.specs.declared.usage.Command.TheVariants.{Graph, List as Rows}
@@ -19,17 +19,19 @@ use Rattle.gomod_laws.specs.Runs.{HasOutcome, Prints}
 
 -- ---- what is printed
 
--- `list` prints these rows, the build list of what the main file says.
-pub record ShowsRows (run : Given) (main : Main) (rows : List Entry) (outcome : Outcome) : Type 0 where
+-- `list` prints these rows, the build list of what the main file says, over a store that gave these answers.
+pub record ShowsRows (file : List ℕ) (sums : Option (List ℕ)) (asked : List (Name × Reply)) (main : Main)
+    (rows : List Entry) (outcome : Outcome) : Type 0 where
   pub held : Held
-  pub valid : AllFilesAreValid run main held
+  pub valid : AllFilesAreValid (given file sums (answers asked [])) main held
   pub are_rows : AreRows main (readings_by main held) rows
   pub text : outcome ≡ printed (list_text main.path rows)
 
--- `graph` prints these edges, those of the module graph of what the main file says.
-pub record ShowsEdges (run : Given) (main : Main) (edges : List Edge) (outcome : Outcome) : Type 0 where
+-- `graph` prints these edges, those of the module graph of what the main file says, over such a store.
+pub record ShowsEdges (file : List ℕ) (sums : Option (List ℕ)) (asked : List (Name × Reply)) (main : Main)
+    (edges : List Edge) (outcome : Outcome) : Type 0 where
   pub held : Held
-  pub valid : AllFilesAreValid run main held
+  pub valid : AllFilesAreValid (given file sums (answers asked [])) main held
   pub are_edges : AreEdges main (readings_by main held) edges
   pub text : outcome ≡ printed (graph_text main.path edges)
 
@@ -68,13 +70,12 @@ AreNotLower rows others = (x : ModuleVersion) (right : Option Right) → Contain
 abbrev pub ListLowersNothing : Type 0
 ListLowersNothing = (file more : List ℕ) (sums : Option (List ℕ)) (first second : Main) (one next : Outcome)
     (runs : AreTwoRuns (Rows None None) file more sums first second one next) → SaysMore first second → Prints next
-    → (rows : List Entry) × (others : List Entry) × ShowsRows (given file sums (answers runs.asked [])) first rows one
-    × ShowsRows (given more sums (answers runs.later [])) second others next × AreNotLower rows others
+    → (rows : List Entry) × (others : List Entry) × ShowsRows file sums runs.asked first rows one
+    × ShowsRows more sums runs.later second others next × AreNotLower rows others
 
 -- Where `graph` prints over a main file that says more, it prints over the other, and each line of that is one of it.
 abbrev pub GraphKeepsLines : Type 0
 GraphKeepsLines = (file more : List ℕ) (sums : Option (List ℕ)) (first second : Main) (one next : Outcome)
     (runs : AreTwoRuns Graph file more sums first second one next) → SaysMore first second → Prints next
-    → (edges : List Edge) × (others : List Edge) × ShowsEdges (given file sums (answers runs.asked [])) first edges one
-    × ShowsEdges (given more sums (answers runs.later [])) second others next
-    × ((e : Edge) → Contains edges e → Contains others e)
+    → (edges : List Edge) × (others : List Edge) × ShowsEdges file sums runs.asked first edges one
+    × ShowsEdges more sums runs.later second others next × ((e : Edge) → Contains edges e → Contains others e)

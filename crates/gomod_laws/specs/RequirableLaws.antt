@@ -1,13 +1,15 @@
 -- What is listed can be required: Go Modules Reference, "Minimal version selection" and "Module graph pruning".
-use Rattle.std.specs.Prelude.{◌≡◌, ◌↔◌, ◌⊎◌, ℕ, false, List, [], Option, None, Contains}
+use Rattle.std.specs.Prelude.{◌≡◌, ◌↔◌, ◌⊎◌, ℕ, false, List, Option, None, Contains}
 use Rattle.gm_file.specs.Directives.{Right}
+use Rattle.gm_store.specs.Asked.{Name, Reply}
 use Rattle.gm_graph_cache.specs.Main.{Main, ModuleVersion, is_pruned_by, replacement_in}
 use Rattle.gm_graph_select.specs.declared.step.Edge.{Edge}
 use Rattle.gm_graph_select.specs.declared.step.Step.{Step}
 use Rattle.gm_graph_select.specs.declared.step.Step.TheVariants.{Of}
 use Rattle.gm_graph_select.specs.Graph.{edge}
 use Rattle.gm_graph_select.specs.BuildList.{Entry}
-use Rattle.gm_graph_listing.specs.Outcomes.{Outcome, answers, given}
+use Rattle.gm_graph_listing.specs.Laws.{AnswerAlike}
+use Rattle.gm_graph_listing.specs.Outcomes.{Outcome}
 use Rattle.gomod_words.specs.declared.usage.Command.TheVariants.{List as Rows}
 use Rattle.gomod_laws.specs.Runs.{Prints}
 use Rattle.gomod_laws.specs.AdditionLaws.{AreTwoRuns, ShowsEdges, ShowsRows}
@@ -15,7 +17,7 @@ use Rattle.gomod_laws.specs.AdditionLaws.{AreTwoRuns, ShowsEdges, ShowsRows}
 -- ---- main files that require different modules
 
 -- The two main files say the same, but for what they require: one is pruned where the other is.
-pub record SayTheRest (first second : Main) : Type 0 where
+pub record DifferInRequirements (first second : Main) : Type 0 where
   pub path : first.path ≡ second.path
   pub replaces : (x : ModuleVersion) → replacement_in first x ≡ replacement_in second x
   pub excludes : (x : ModuleVersion) → Contains first.excludes x ↔ Contains second.excludes x
@@ -28,7 +30,7 @@ RequiresOnly first second these = (x : ModuleVersion) → Contains second.requir
 
 -- The second says what the first says, and may also require some such modules.
 pub record RequiresAlso (first second : Main) (these : ModuleVersion → Type 0) : Type 0 where
-  pub rest : SayTheRest first second
+  pub rest : DifferInRequirements first second
   pub keeps : (x : ModuleVersion) → Contains first.requirements x → Contains second.requirements x
   pub adds : RequiresOnly first second these
 
@@ -52,22 +54,24 @@ StandsFirst edges x = (to : ModuleVersion) × Contains edges (edge (Of x) to)
 -- graph are also required: each of them stands second in a line.
 abbrev pub VerticesCanBeRequired : Type 0
 VerticesCanBeRequired = (file more : List ℕ) (sums : Option (List ℕ)) (first second : Main) (edges : List Edge)
-    (graph one next : Outcome) (runs : AreTwoRuns (Rows None None) file more sums first second one next)
-    → ShowsEdges (given file sums (answers runs.asked [])) first edges graph → is_pruned_by first.go ≡ false
+    (seen : List (Name × Reply)) (graph one next : Outcome)
+    (runs : AreTwoRuns (Rows None None) file more sums first second one next) → AnswerAlike seen runs.asked
+    → ShowsEdges file sums seen first edges graph → is_pruned_by first.go ≡ false
     → RequiresAlso first second (StandsSecond edges) → Prints one × (next ≡ one)
 
 -- So it does, whether the main file is pruned or not, where modules that stand first in a line are also required.
 abbrev pub OpenedCanBeRequired : Type 0
 OpenedCanBeRequired = (file more : List ℕ) (sums : Option (List ℕ)) (first second : Main) (edges : List Edge)
-    (graph one next : Outcome) (runs : AreTwoRuns (Rows None None) file more sums first second one next)
-    → ShowsEdges (given file sums (answers runs.asked [])) first edges graph
-    → RequiresAlso first second (StandsFirst edges) → Prints one × (next ≡ one)
+    (seen : List (Name × Reply)) (graph one next : Outcome)
+    (runs : AreTwoRuns (Rows None None) file more sums first second one next) → AnswerAlike seen runs.asked
+    → ShowsEdges file sums seen first edges graph → RequiresAlso first second (StandsFirst edges)
+    → Prints one × (next ≡ one)
 
 -- Where the main file is not pruned and `list` prints, it prints the same where each row is required, and besides the
 -- rows any of what was required before.
 abbrev pub RowsCanBeRequired : Type 0
 RowsCanBeRequired = (file more : List ℕ) (sums : Option (List ℕ)) (first second : Main) (rows : List Entry)
     (one next : Outcome) (runs : AreTwoRuns (Rows None None) file more sums first second one next)
-    → ShowsRows (given file sums (answers runs.asked [])) first rows one → is_pruned_by first.go ≡ false
-    → SayTheRest first second → RequiresOnly first second (HasRow rows)
+    → ShowsRows file sums runs.asked first rows one → is_pruned_by first.go ≡ false
+    → DifferInRequirements first second → RequiresOnly first second (HasRow rows)
     → ((x : ModuleVersion) → HasRow rows x → Contains second.requirements x) → next ≡ one
