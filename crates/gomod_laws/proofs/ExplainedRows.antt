@@ -1,5 +1,5 @@
 -- Each row is explained.
-use Rattle.std.proofs.Common.{◌≡◌, ◌≢◌, ◌∙◌, ◌++◌, ◌⊎◌, ℕ, List, [], ◌∷◌, map, None, Contains, codes, ap, sym, refl, subst, inl, inr}
+use Rattle.std.proofs.Common.{◌≡◌, ◌≢◌, ◌∙◌, ◌++◌, ◌⊎◌, ℕ, List, [], ◌∷◌, map, Contains, codes, ap, sym, refl, subst, inl, inr}
 use Rattle.std.specs.Prelude.{AllPairs}
 use Rattle.std.specs.List.{flat_map}
 use Rattle.std.proofs.lemmas.List.Elements.{Contains-append_cases}
@@ -96,7 +96,8 @@ module _ (main : Main) (E : Edges) (rows : List Entry)
     (chain : Outcome) where
   row_shown : (entry : Entry) → Contains rows entry → path_of main.path entry.0 ≡ path
       → ShowsChain path main F rows chain
-      → (lines : List (List ℕ)) × LeadsTo (map (edge_words main.path) edges) main.path (step_text main.path entry.0) lines
+      → (lines : List (List ℕ))
+      × LeadsTo (map (edge_words main.path) edges) main.path (step_text main.path entry.0) lines
       × (chain ≡ printed (text_of lines))
   row_shown entry there is (inl (s, steps, at, walk, says)) = (
     map (step_text main.path) steps,
@@ -119,10 +120,10 @@ module _ (main : Main) (E : Edges) (rows : List Entry)
   }
 
 pub each_row_is_explained : EachRowIsExplained
-each_row_is_explained file sums asked others list graph alike is_list is_graph ends =
+each_row_is_explained after limit file sums asked others list graph alike is_list is_graph ends =
     let (main, held, found, (rows, listed, says)) =
-    printed_run (PrintsList None None) (given file sums (answers asked [])) list
-    (query_given (Rows None None) file sums asked list refl is_list) ends in
+    printed_run (PrintsList after limit) (given file sums (answers asked [])) list
+    (query_given (Rows after limit) file sums asked list refl is_list) ends in
     let (next, same, (edges, exact, shows)) =
     prints_too file sums asked others alike main held found PrintsGraph graph
     (query_given Graph file sums others graph refl is_graph) in (

@@ -37,7 +37,8 @@ module _ (file : List ℕ) (sums : Option (List ℕ)) (asked others : List (Name
       let agrees : Agrees main (readings_by main next) (readings_by main held) =
       stores_agree main found.table others asked next held (alike_back asked others alike)
       (tells_alike table found.table same others next tells) found.known.tells found.known.answered in
-      let (all, long, distinct, each) = many_stay main (readings_by main next) (readings_by main held) agrees overflows in
+      let (all, long, distinct, each) =
+      many_stay main (readings_by main next) (readings_by main held) agrees overflows in
       let few : length all ≤ 65536 = found.known.few all distinct each in
       omega (arith, long, few)
 

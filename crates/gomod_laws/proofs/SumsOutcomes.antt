@@ -129,7 +129,8 @@ module _ (main sums : List ℕ) (asked : List (Name × Reply)) (right : AreRight
   over_checked : (prints : PrintsOver) (outcome : Outcome) → IsOutcomeOver prints said None (answers asked []) outcome
       → IsOutcomeOver prints said (Some table) (answers asked []) outcome
   over_checked prints outcome (inl (too_many over none says)) = inl (too_many (many_checked over) none says)
-  over_checked prints outcome (inl (device name due failed says)) = absurd (let some : [] ≡ name ∷ [] = failed in cc some)
+  over_checked prints outcome (inl (device name due failed says)) =
+      absurd (let some : [] ≡ name ∷ [] = failed in cc some)
   over_checked prints outcome (inl (faulty held first others known faults says)) =
       inl (faulty held first others (known_checked held known) faults says)
   over_checked prints outcome (inr (held, known, faults, says)) = inr (held, known_checked held known, faults, says)

@@ -1,13 +1,13 @@
 -- Laws of the rows of `list`: what `graph` and `chain` say of them.
-use Rattle.std.specs.Prelude.{◌≡◌, ◌++◌, ℕ, List, [], ◌∷◌, Option, None, Contains, codes}
+use Rattle.std.specs.Prelude.{◌≡◌, ◌++◌, ℕ, List, [], ◌∷◌, Option, Contains, codes}
 use Rattle.std.specs.List.{flat_map}
 use Rattle.gm_store.specs.Asked.{Name, Reply}
 use Rattle.gm_graph_cache.specs.Main.{Main}
 use Rattle.gm_graph_select.specs.BuildList.{Entry, HasEntryFor, path_of}
 use Rattle.gm_graph_listing.specs.Laws.{AnswerAlike}
-use Rattle.gm_graph_listing.specs.Outcomes.{IsMainFile, Outcome, printed, refused}
+use Rattle.gm_graph_listing.specs.Outcomes.{IsMainFile, Outcome, PrintsRows, printed, refused}
 use Rattle.gm_graph_listing.specs.Reports.{not_listed_line}
-use Rattle.gm_graph_listing.specs.Texts.{line, list_text, step_text}
+use Rattle.gm_graph_listing.specs.Texts.{line, step_text}
 use Rattle.gomod_words.specs.declared.usage.Command.TheVariants.{Graph, List as Rows, Chain}
 use Rattle.gomod_laws.specs.Runs.{HasOutcome, Prints}
 
@@ -31,12 +31,12 @@ pub record IsExplained (main : List ℕ) (rows : List Entry) (edges : List (List
   -- for another path: nothing, and it is reported
   pub unlisted : ¬ (HasEntryFor main rows path) → chain ≡ refused (not_listed_line path)
 
--- Where `list` prints its rows, `graph` prints lines by which `chain` explains each row, and no other path.
+-- Where `list` prints, all rows or a part of them, `graph` prints too, and by its lines `chain` explains each row.
 abbrev pub EachRowIsExplained : Type 0
-EachRowIsExplained = (file : List ℕ) (sums : Option (List ℕ)) (asked others : List (Name × Reply))
-    (list graph : Outcome) → AnswerAlike asked others
-    → HasOutcome (Rows None None) file sums asked list → HasOutcome Graph file sums others graph → Prints list
+EachRowIsExplained = (after : Option (List ℕ)) (limit : Option ℕ) (file : List ℕ) (sums : Option (List ℕ))
+    (asked others : List (Name × Reply)) (list graph : Outcome) → AnswerAlike asked others
+    → HasOutcome (Rows after limit) file sums asked list → HasOutcome Graph file sums others graph → Prints list
     → (main : Main) × (rows : List Entry) × (edges : List (List ℕ)) × IsMainFile file main
-    × (list ≡ printed (list_text main.path rows)) × (graph ≡ printed (text_of edges))
+    × PrintsRows main rows after limit list × (graph ≡ printed (text_of edges))
     × ((path : List ℕ) (third : List (Name × Reply)) (chain : Outcome) → AnswerAlike asked third
     → HasOutcome (Chain path) file sums third chain → IsExplained main.path rows edges path chain)
