@@ -82,7 +82,12 @@ pub record Dependency : Type 0 where
   pub retracts : List Pair
 
 abbrev pub dependency_of : List (Line Word) → Dependency
-dependency_of lines = record { declared = module_of Lax lines; go = go_of Lax lines; requirements = requirements_of Lax lines; retracts = lax_retracts_of lines }
+dependency_of lines = record {
+  declared = module_of Lax lines;
+  go = go_of Lax lines;
+  requirements = requirements_of Lax lines;
+  retracts = lax_retracts_of lines;
+}
 
 -- ---- lookups
 

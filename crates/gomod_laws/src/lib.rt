@@ -5,12 +5,12 @@
 //! those of a go.sum or none, and the answers of a store whose device did not fail.
 #![tactic(auto)]
 
+pub mod additions;
+pub mod excluded;
+pub mod explained;
 pub mod formatting;
 pub mod line_order;
-pub mod explained;
-pub mod sums;
-pub mod excluded;
 pub mod listed_versions;
 pub mod more_folders;
-pub mod additions;
 pub mod requirable;
+pub mod sums;
