@@ -1,13 +1,15 @@
 -- Facts about how the program ends.
 use Rattle.std.proofs.Common.{◌≡◌, ◌∙◌, ◌++◌, ◌∷◌, ℕ, List, [], Option, None, Result, Ok, Contains, ap, false, inl, inr, string_bytes, subst, sym, true}
 use Rattle.std.specs.Global.{Vec}
+use Rattle.std.specs.Str.{IsUtf8}
 use Rattle.gm_store.specs.Asked.{Name, Reply, answer_in, list_file, reply_for}
 use Rattle.gm_store.specs.Memory.{may_give}
 use Rattle.gm_store.specs.declared.memory_files.MemoryFiles.{MemoryFiles}
 use Rattle.gm_store.specs.declared.reading.ReadFault.{ReadFault}
 use Rattle.gomod_words.specs.declared.usage.Command.TheVariants.{Fmt, Edit, Versions, Graph, List as Rows, Chain}
-use Rattle.gomod_words.specs.Usage.{AskFor, IsFaultOf}
+use Rattle.gomod_words.specs.Usage.{AskFor, IsFaultOf, IsLineOf, unreadable_text}
 use Rattle.gomod_words.specs.declared.usage.UsageFault.{UsageFault}
+use Rattle.gomod_words.specs.declared.usage.UsageFault.TheVariants.{NoMemory, Help, Version, Line, BadPath, BadProxy}
 use Rattle.gomod_words.specs.declared.usage.Command.{Command}
 use Rattle.gomod_words.specs.declared.usage.Places.{Places}
 use Rattle.gm_graph_listing.specs.Outcomes.{Outcome, longest}
@@ -48,6 +50,15 @@ pub program_ends : (words : List (List ℕ)) (out out' report report' : SinkStat
     → EndsAsStated IsProgramOutcome out out' report report' status
 program_ends words out out' report report' status ends =
     ends_weaken (IsWordsOutcome words) IsProgramOutcome out out' report report' status (λ outcome stated. inl (words, stated)) ends
+
+-- the usage error of a word which is not UTF-8
+pub unreadable_word : (word : List ℕ) (fault : UsageFault) → ¬ (IsUtf8 word) → IsLineOf (unreadable_text word) fault → IsUnreadableWords fault
+unreadable_word word NoMemory bad known = tt
+unreadable_word word (Line text) bad known = (word, bad, known)
+unreadable_word word (Help text) bad known = absurd known
+unreadable_word word (Version text) bad known = absurd known
+unreadable_word word (BadPath text) bad known = absurd known
+unreadable_word word (BadProxy text) bad known = absurd known
 
 -- an end that reports a word which is not UTF-8 is an end of the program
 pub unreadable_ends : (fault : UsageFault) (out out' report report' : SinkState) (status : ℕ) → IsUnreadableWords fault

@@ -11,3 +11,4 @@ pub mod Steps
 pub mod QueryRuns
 pub mod OneEnd
 pub mod OneStore
+pub mod Answered

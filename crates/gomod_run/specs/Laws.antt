@@ -1,11 +1,14 @@
 -- Laws of runs, which follow from the definitions alone.
-use Rattle.std.specs.Prelude.{◌≡◌, ℕ, List, Option}
+use Rattle.std.specs.Prelude.{◌≡◌, ◌⊎◌, ◌∷◌, ℕ, List, [], Option, codes}
 use Rattle.gm_graph_listing.specs.Laws.{AnswerAlike}
-use Rattle.gm_graph_listing.specs.Outcomes.{Outcome}
+use Rattle.gm_graph_listing.specs.Outcomes.{Outcome, printed}
+use Rattle.gomod_words.specs.Usage.{version_line}
 use Rattle.gomod_words.specs.declared.usage.Command.{Command}
+use Rattle.gomod_run.specs.Program.{IsWordsOutcome}
 use Rattle.gomod_run.specs.Queries.{RunsTo}
 use Rattle.gomod_run.specs.Runs.{StatesOutcome, StoreState}
 use Rattle.gomod_run.specs.Versions.{AnswersByName}
+use Rattle.gomod_run.specs.Written.{out_of_memory}
 
 -- `fmt`, `edit` and `versions`: the outcome is a function of what is read and of what a store answers
 abbrev pub OneStated : Type 0
@@ -25,3 +28,14 @@ OneForStores = (command : Command) (main : List ℕ) (sums : Option (List ℕ))
     (old new before after : StoreState) (one other : Outcome)
     → AnswerAlike new.asked after.asked → new.refused ≡ old.refused → after.refused ≡ before.refused
     → RunsTo command main sums old new one → RunsTo command main sums before after other → one ≡ other
+
+-- `gomod --version` and `gomod -V` print the version, or memory runs out
+abbrev pub VersionIsPrinted : Type 0
+VersionIsPrinted = (program flag : List ℕ) (outcome : Outcome)
+    → (flag ≡ codes "--version") ⊎ (flag ≡ codes "-V") → IsWordsOutcome (program ∷ flag ∷ []) outcome
+    → (outcome ≡ printed version_line) ⊎ (outcome ≡ out_of_memory)
+
+-- `gomod` without words prints nothing and ends with the status of a usage error, or memory runs out
+abbrev pub NothingIsPrinted : Type 0
+NothingIsPrinted = (program : List ℕ) (outcome : Outcome) → IsWordsOutcome (program ∷ []) outcome
+    → ((outcome.text ≡ []) × (outcome.status ≡ 2)) ⊎ (outcome ≡ out_of_memory)

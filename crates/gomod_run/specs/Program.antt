@@ -1,12 +1,13 @@
 -- The outcomes of the whole program, from its words to its exit status.
 use Rattle.std.specs.Prelude.{◌≡◌, ◌⊎◌, ◌++◌, ℕ, List, [], Option, Some, None, Result, Ok, Err, codes, option_map, if◌then◌else◌}
 use Rattle.std.specs.Global.{Vec}
+use Rattle.std.specs.Str.{IsUtf8}
 use Rattle.std.specs.String.{string_bytes}
 use Rattle.gm_store.specs.Asked.{Name, Reply, list_file, reply_for, same_name}
 use Rattle.gm_store.specs.declared.proxy_list.ProxyList.{ProxyList}
 use Rattle.gm_store.specs.declared.reading.ReadFault.{ReadFault}
 use Rattle.gm_store.specs.declared.reading.ReadFault.TheVariants as reading
-use Rattle.gomod_words.specs.Usage.{AskFor, IsFaultOf}
+use Rattle.gomod_words.specs.Usage.{AskFor, IsFaultOf, unreadable_text}
 use Rattle.gomod_words.specs.declared.usage.Command.{Command}
 use Rattle.gomod_words.specs.declared.usage.Command.TheVariants.{Fmt, Edit, Versions, Graph, List as Rows, Chain}
 use Rattle.gomod_words.specs.declared.usage.Places.{Places}
@@ -24,10 +25,11 @@ use Rattle.gomod_run.specs.Written.{out_of_memory}
 abbrev pub usage_error : List ℕ → Outcome
 usage_error text = record { text = []; report = text; status = 2 }
 
--- a usage error or a request for help
+-- a usage error, or a request for help or the version
 abbrev pub usage_outcome : UsageFault → Outcome
 usage_outcome usage.NoMemory = out_of_memory
 usage_outcome (usage.Help text) = printed (string_bytes text)
+usage_outcome (usage.Version text) = printed (string_bytes text)
 usage_outcome (usage.Line text) = usage_error (string_bytes text)
 usage_outcome (usage.BadPath text) = usage_error (codes "gomod: bad path " ++ string_bytes text ++ codes "\n")
 usage_outcome (usage.BadProxy text) = usage_error (codes "gomod: bad proxy " ++ string_bytes text ++ codes "\n")
@@ -109,10 +111,11 @@ IsWordsOutcome words outcome =
     ((fault : UsageFault) × IsFaultOf words fault × (outcome ≡ usage_outcome fault))
     ⊎ ((command : Command) × (places : Places) × AskFor words command places × IsServed command places outcome)
 
--- the error of a command line with a word that is not UTF-8, or for which memory ran out
+-- the error of a command line with a word that is not UTF-8, which shows the word, or for which memory ran out
 abbrev pub IsUnreadableWords : UsageFault → Type 0
 IsUnreadableWords usage.NoMemory = Unit {0}
-IsUnreadableWords (usage.Line text) = string_bytes text ≡ codes "error: a word is not UTF-8\n"
+IsUnreadableWords (usage.Line text) =
+    (word : List ℕ) × ¬ (IsUtf8 word) × (string_bytes text ≡ unreadable_text word)
 IsUnreadableWords fault = ⊥
 
 -- the outcome of the program: that of its words, or the error if one of them is not UTF-8

@@ -1,6 +1,6 @@
 //! Laws of the definitions of a run, each the contract of a function that does nothing.
 
-ghost use Rattle.gomod_run.specs.Laws.{OneForStores, OneRun, OneStated};
+ghost use Rattle.gomod_run.specs.Laws.{NothingIsPrinted, OneForStores, OneRun, OneStated, VersionIsPrinted};
 
 /// A command has one outcome: output, report and status are a function of what it reads and of what a store
 /// answers.
@@ -16,4 +16,15 @@ pub fn one_outcome()
 /// differently and their devices did not fail. It doesn't matter what else was asked, nor in which order.
 pub fn one_store()
     ensures { OneForStores }
+{}
+
+/// `gomod --version` and `gomod -V` print the version and the kit that the program is proved with, and end with status
+/// 0, unless memory runs out.
+pub fn version_printed()
+    ensures { VersionIsPrinted }
+{}
+
+/// `gomod` without words prints nothing to its output and ends with status 2, unless memory runs out.
+pub fn nothing_printed()
+    ensures { NothingIsPrinted }
 {}

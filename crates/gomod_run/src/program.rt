@@ -22,15 +22,19 @@ use gm_name::{ModPath, NoMemory};
 use gm_store::{
     DiskFallback, FileName, MemoryFiles, ProxyList, ReadFault, Sink, StdSink, read_limited,
 };
-use gomod_words::{Command, Places, UsageFault, read_words};
+use gomod_words::{Command, Places, UsageFault, read_words, unreadable};
 use std::alloc::{AllocError, Global};
+use std::env::FillError;
 use std::io::ErrorKind;
 use std::process::ExitCode;
 use std::rt::{Env, Files};
-use std::{env, fs};
+use std::{fs, str};
 
 /// The exit status of usage errors.
 const USAGE_STATUS: u8 = 2;
+
+/// The room for a word of the command line that is tried first.
+const FIRST_ROOM: usize = 256;
 
 /// The whole program: reads the words of the command line and runs the command, with standard output and standard
 /// error as the two sinks.
@@ -59,7 +63,7 @@ fn ended<S: Env + Input + Files + Clone + Drop + Alloc<A = Global>, O: Sink, R: 
 }
 
 /// Reads the words of the command line and does what `status_of_words` does with them. If a word is not UTF-8, the
-/// report is `error: a word is not UTF-8` and the status is 2.
+/// report is a usage error that shows the first such word with its bytes escaped, and the status is 2.
 pub fn status_of<S: Env + Input + Files + Clone + Drop + Alloc<A = Global>, O: Sink, R: Sink>(
     rt: &S,
     out: &mut O,
@@ -93,6 +97,7 @@ pub fn status_of<S: Env + Input + Files + Clone + Drop + Alloc<A = Global>, O: S
 /// |---|---|---|
 /// | 0, 1, 3 | that of `run` | the words are a command, and its files could be read |
 /// | 0 | help on `out` | the words ask for help |
+/// | 0 | the version on `out` | the words ask for the version |
 /// | 2 | the usage error on `report` | the words are invalid (`gomod_words::read_words` says which error) |
 /// | 3 | `gomod: cannot read NAME` on `report` | a file or standard input, whose name is `-`, can't be read |
 ///
@@ -309,16 +314,54 @@ fn texts_of(alloc: Global, words: &[String]) -> Result<Vec<&str>, AllocError> {
 }
 
 /// The words of the command line. A word that is not UTF-8 is a usage error.
+///
+/// `env::args` does not say which word that is, so the words are read as bytes.
 fn words_of<S: Env + Alloc<A = Global>>(rt: &S) -> Result<Vec<String>, UsageFault>
     ensures { IfErr result IsUnreadableWords }
 {
-    match env::args(rt) {
-        Ok(words) => Ok(words.collect(rt.alloc())?),
-        Err(error) if error.kind() == ErrorKind::InvalidData => {
-            let text = String::from_str(rt.alloc(), "error: a word is not UTF-8\n")?;
-            Err(UsageFault::Line(text))
+    let mut words = Vec::new(rt.alloc());
+    for number in 0..usize::MAX {
+        let Some(bytes) = word_at(rt, number)? else {
+            break;
+        };
+        let word = text_of(rt.alloc(), bytes.as_slice())?;
+        if words.push(word).is_err() {
+            return Err(UsageFault::NoMemory);
         }
-        Err(_) => Err(UsageFault::NoMemory),
+    }
+    Ok(words)
+}
+
+/// The bytes of a word of the command line, or `None` after the last word. The runtime fills a buffer, which is doubled
+/// until it has room for the word.
+fn word_at<S: Env + Alloc<A = Global>>(
+    rt: &S,
+    number: usize,
+) -> Result<Option<Vec<u8>>, AllocError> {
+    let mut room = FIRST_ROOM;
+    for _ in 0..usize::BITS {
+        let mut word = Vec::new(rt.alloc());
+        word.resize(room, 0u8)?;
+        match rt.arg(number, word.as_mut_slice()) {
+            Ok(length) => {
+                word.truncate(length);
+                return Ok(Some(word));
+            }
+            Err(FillError::NotPresent) => return Ok(None),
+            Err(FillError::TooLong) => room = room.saturating_mul(2),
+        }
+    }
+    Err(AllocError)
+}
+
+/// A word as a text. One that is not UTF-8 is a usage error.
+fn text_of(alloc: Global, word: &[u8]) -> Result<String, UsageFault>
+    ensures text { IfOk result (λ text. string_bytes text ≡ word.now) }
+    ensures fault { IfErr result IsUnreadableWords }
+{
+    match str::from_utf8(word) {
+        Ok(text) => Ok(String::from_str(alloc, text)?),
+        Err(_) => Err(unreadable(alloc, word)),
     }
 }
 
@@ -379,7 +422,7 @@ fn bad_proxy(alloc: Global, value: &str) -> Result<String, NoMemory>
     Ok(line)
 }
 
-/// Shows help or reports a usage error, and returns the exit status.
+/// Shows help or the version, or reports a usage error, and returns the exit status.
 fn tell<O: Sink, R: Sink>(alloc: Global, fault: &UsageFault, out: &mut O, report: &mut R) -> u8
     ensures { EndsAsStated (λ outcome. outcome ≡ usage_outcome fault.now)
         (O.state out.old) (O.state out.new) (R.state report.old) (R.state report.new)
@@ -388,6 +431,13 @@ fn tell<O: Sink, R: Sink>(alloc: Global, fault: &UsageFault, out: &mut O, report
     match fault {
         UsageFault::NoMemory => end(out, b"", report, NO_MEMORY, Status::Device).code(),
         UsageFault::Help(text) => end(
+            out,
+            text.as_str().as_bytes(),
+            report,
+            b"",
+            Status::Done,
+        ).code(),
+        UsageFault::Version(text) => end(
             out,
             text.as_str().as_bytes(),
             report,

@@ -1,5 +1,5 @@
 -- What is known about the words at each fault.
-use Rattle.std.proofs.Common.{◌≡◌, ◌≢◌, List, [], Option, Result, Ok, Err, IfErr, IfOk, true, sym, subst, inl, inr, refl}
+use Rattle.std.proofs.Common.{◌≡◌, ◌≢◌, ◌∙◌, List, [], Option, Result, Ok, Err, IfErr, IfOk, true, sym, subst, inl, inr, refl}
 use Rattle.clap.specs.Walk.{Row, Text}
 use Rattle.clap.specs.Simple.{App, HasMatchesOf, is_simple, subcommand_of, subcommand_rows_of}
 use Rattle.clap.specs.Faults.{fault_of, is_simple_and_free}
@@ -9,12 +9,12 @@ use Rattle.clap.specs.Values.{kind_of}
 use Rattle.clap.specs.declared.error.Error.{Error}
 use Rattle.clap.specs.declared.parser.matches.ArgMatches.{ArgMatches}
 use Rattle.clap.specs.declared.error.kind.ErrorKind.{ErrorKind}
-use Rattle.clap.specs.declared.error.kind.ErrorKind.TheVariants.{DisplayHelp, OutOfMemory}
+use Rattle.clap.specs.declared.error.kind.ErrorKind.TheVariants.{DisplayHelp, DisplayVersion, OutOfMemory}
 use Rattle.gomod_words.specs.Usage.{AreRecognized, AreAccepted, AskFor, HasBadPath, HasBadProxy, IsEntriesFault, IsFaultOf, IsMeant, IsParserFault, gomod_app}
 use Rattle.gomod_words.specs.declared.usage.Command.{Command}
 use Rattle.gomod_words.specs.declared.usage.Places.{Places}
 use Rattle.gomod_words.specs.declared.usage.UsageFault.{UsageFault}
-use Rattle.gomod_words.specs.declared.usage.UsageFault.TheVariants.{NoMemory, Help, Line, BadPath, BadProxy}
+use Rattle.gomod_words.specs.declared.usage.UsageFault.TheVariants.{NoMemory, Help, Version, Line, BadPath, BadProxy}
 use Rattle.std.specs.String.{string_bytes}
 
 -- a fault of the entries is a fault of the words
@@ -22,6 +22,7 @@ entries_fault : (words : List Text) (entered : Option (Text × List Row)) (fault
     → entered ≡ subcommand_of gomod_app words → IsEntriesFault entered fault → IsFaultOf words fault
 entries_fault words entered NoMemory taken same known = tt
 entries_fault words entered (Help text) taken same known = absurd known
+entries_fault words entered (Version text) taken same known = absurd known
 entries_fault words entered (Line text) taken same known = inr (taken, λ meant. known (subst AreRecognized (sym same) meant))
 entries_fault words entered (BadPath text) taken same known =
     let P : Option (Text × List Row) → Type 0 = λ o. HasBadPath o (string_bytes text) in (taken, subst P same known)
@@ -40,26 +41,29 @@ entries_read words entered (Ok read) taken same known =
     let P : Option (Text × List Row) → Type 0 = λ o. IsMeant o read.0 read.1 in record { taken = taken; meant = subst P same known }
 entries_read words entered (Err fault) taken same known = tt
 
--- help is shown only if it was asked for
-help_among : (words : List Text) (error : Error) → HasKind (fault_of gomod_app words) error → kind_of error ≡ DisplayHelp
-    → IsAmong DisplayHelp (fault_of gomod_app words)
-help_among words error (inl memory) help = cc
-help_among words error (inr among) help =
-    let P : ErrorKind → Type 0 = λ kind. IsAmong kind (fault_of gomod_app words) in subst P help among
+-- an error whose kind is not that memory ran out has a kind that applies to the words
+kind_among : (words : List Text) (error : Error) → HasKind (fault_of gomod_app words) error → kind_of error ≢ OutOfMemory
+    → IsAmong (kind_of error) (fault_of gomod_app words)
+kind_among words error (inl memory) enough = absurd (enough memory)
+kind_among words error (inr among) enough = among
 
--- the fault `Line` comes only if something was refused other than a request for help
-line_among : (words : List Text) (error : Error) → HasKind (fault_of gomod_app words) error → kind_of error ≢ DisplayHelp → kind_of error ≢ OutOfMemory
-    → (kind : ErrorKind) × (kind ≢ DisplayHelp) × IsAmong kind (fault_of gomod_app words)
-line_among words error (inl memory) other enough = absurd (enough memory)
-line_among words error (inr among) other enough = (kind_of error, other, among)
+-- help is shown only if it was asked for, and so is the version
+asked_among : (words : List Text) (error : Error) (kind : ErrorKind) → HasKind (fault_of gomod_app words) error → kind_of error ≡ kind → kind ≢ OutOfMemory
+    → IsAmong kind (fault_of gomod_app words)
+asked_among words error kind kinds asked other =
+    let P : ErrorKind → Type 0 = λ k. IsAmong k (fault_of gomod_app words) in
+    subst P asked (kind_among words error kinds (λ memory. other (sym asked ∙ memory)))
 
 -- a fault of the parser is a fault of the words
 pub parser_fault : (words : List Text) (error : Error) (fault : UsageFault) → HasKind (fault_of gomod_app words) error
     → (takes gomod_app words ≡ true → kind_of error ≡ OutOfMemory) → IsParserFault error fault → IsFaultOf words fault
 parser_fault words error NoMemory kinds passes known = tt
-parser_fault words error (Help text) kinds passes known = (help_among words error kinds known, λ taken. let memory = passes taken in cc)
+parser_fault words error (Help text) kinds passes known =
+    (asked_among words error DisplayHelp kinds known (λ e. cc e), λ taken. let memory = passes taken in cc)
+parser_fault words error (Version text) kinds passes known =
+    (asked_among words error DisplayVersion kinds known.0 (λ e. cc e), (λ taken. let memory = passes taken in let version = known.0 in cc), known.1)
 parser_fault words error (Line text) kinds passes known =
-    let other = line_among words error kinds known.0 known.1 in inl ((λ taken. known.1 (passes taken)), other.0, other.1, other.2)
+    inl ((λ taken. known.2 (passes taken)), kind_of error, known.0, known.1, kind_among words error kinds known.2)
 parser_fault words error (BadPath text) kinds passes known = absurd known
 parser_fault words error (BadProxy text) kinds passes known = absurd known
 

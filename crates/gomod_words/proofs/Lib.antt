@@ -1,3 +1,4 @@
+pub mod Asked
 mod Faults
 mod Limits
 mod Queries

@@ -9,7 +9,7 @@ use Rattle.gomod_words.specs.declared.usage.Command.{Command}
 use Rattle.gomod_words.specs.declared.usage.Command.TheVariants.{Versions, Fmt, Edit, Graph, List as Rows, Chain}
 use Rattle.gomod_words.specs.declared.usage.Places.{Places}
 use Rattle.gomod_words.specs.declared.usage.UsageFault.{UsageFault}
-use Rattle.gomod_words.specs.declared.usage.UsageFault.TheVariants.{NoMemory, Help, Line, BadPath, BadProxy}
+use Rattle.gomod_words.specs.declared.usage.UsageFault.TheVariants.{NoMemory, Help, Version, Line, BadPath, BadProxy}
 
 sound_before : (rows : List Row) (after : Option Text) → first_of (codes "after") rows ≡ after → ((text : Text) → after ≡ Some text → IsPath text)
     → has_limit (first_of (codes "limit") rows) ≡ true → IsValidBeforeProxy (codes "list") rows
@@ -53,6 +53,7 @@ places_fault : (rows : List Row) (after : Option Text) (fault : UsageFault) → 
     → IsPlacesFault (first_of (codes "proxy") rows) fault → IsEntriesFault (Some (codes "list", rows)) fault
 places_fault rows after NoMemory is paths limit known = tt
 places_fault rows after (Help text) is paths limit known = absurd known
+places_fault rows after (Version text) is paths limit known = absurd known
 places_fault rows after (Line text) is paths limit known = no_meaning rows after is paths known
 places_fault rows after (BadPath text) is paths limit known = absurd known
 places_fault rows after (BadProxy text) is paths limit known = (sound_before rows after is paths limit, known.0, known.1)

@@ -1,6 +1,7 @@
 -- What the words of a command line mean: the table of commands that the parser is given, the command that its
 -- entries stand for, and the faults of words that have no meaning.
-use Rattle.std.specs.Prelude.{◌≡◌, ◌≢◌, ◌⊎◌, ◌||◌, not, ℕ, Bool, List, [], Option, Some, None, true, false, codes, is_some, map, option_map, unwrap_or, String}
+use Rattle.std.specs.Prelude.{◌≡◌, ◌≢◌, ◌⊎◌, ◌||◌, ◌∷◌, ◌++◌, not, ℕ, Bool, List, [], Option, Some, None, true, false, codes, encode_utf8_all, flat_map, is_some, map, option_map, unwrap_or, String}
+use Rattle.std.specs.Char.Escape.{escape_ascii}
 use Rattle.std.specs.List.{list_all}
 use Rattle.std.specs.Option.{option_map_or}
 use Rattle.std.specs.Str.{bytes_eq}
@@ -16,7 +17,7 @@ use Rattle.clap.specs.declared.builder.action.ArgAction.TheVariants.{SetTrue}
 use Rattle.clap.specs.declared.error.Error.{Error}
 use Rattle.clap.specs.Values.{kind_of}
 use Rattle.clap.specs.declared.error.kind.ErrorKind.{ErrorKind}
-use Rattle.clap.specs.declared.error.kind.ErrorKind.TheVariants.{DisplayHelp, OutOfMemory}
+use Rattle.clap.specs.declared.error.kind.ErrorKind.TheVariants.{DisplayHelp, DisplayVersion, OutOfMemory}
 use Rattle.gm_name.specs.Path.{IsPath}
 use Rattle.gm_store.specs.Proxies.{folders_in, folders_of, is_folder, marks_in, marks_of}
 use Rattle.gm_store.specs.declared.proxy_list.ProxyList.{ProxyList}
@@ -25,7 +26,7 @@ use Rattle.gomod_words.specs.declared.usage.Command.{Command}
 use Rattle.gomod_words.specs.declared.usage.Command.TheVariants.{Versions, Fmt, Edit, Graph, List as Rows, Chain}
 use Rattle.gomod_words.specs.declared.usage.Places.{Places}
 use Rattle.gomod_words.specs.declared.usage.UsageFault.{UsageFault}
-use Rattle.gomod_words.specs.declared.usage.UsageFault.TheVariants.{NoMemory, Help, Line, BadPath, BadProxy}
+use Rattle.gomod_words.specs.declared.usage.UsageFault.TheVariants.{NoMemory, Help, Version, Line, BadPath, BadProxy}
 
 -- a positional argument of this name, which must be given
 abbrev pub positional_rule : Text → Rule
@@ -50,6 +51,10 @@ edit_app =
 abbrev pub option_rule : Text → Rule
 option_rule name = record (new_rule name) { long = Some name; value_names = 1 }
 
+-- an option `--NAME VALUE`, which has this value if it is left out
+abbrev pub default_option_rule : Text → Text → Rule
+default_option_rule name value = record (option_rule name) { defaults = value ∷ [] }
+
 -- a flag `--NAME`
 abbrev pub flag_rule : Text → Rule
 flag_rule name = record (new_rule name) { long = Some name; action = Some SetTrue }
@@ -68,7 +73,7 @@ required_option_rule name = record (new_rule name) { long = Some name; required 
 abbrev pub query_app : Text → App
 query_app name =
     with_rule (with_rule (with_rule (new_app name) (required_option_rule (codes "proxy")))
-    (option_rule (codes "mod"))) (option_rule (codes "sum"))
+    (default_option_rule (codes "mod") (codes "go.mod"))) (option_rule (codes "sum"))
 
 -- `graph`
 abbrev pub graph_app : App
@@ -82,9 +87,13 @@ list_app = with_rule (with_rule (query_app (codes "list")) (option_rule (codes "
 abbrev pub chain_app : App
 chain_app = with_rule (query_app (codes "chain")) (positional_rule (codes "path"))
 
--- `gomod`, which requires a command, before its commands are added
+-- `gomod`, before its commands are added: it has a version, requires a command, and shows its help without words
 abbrev pub bare_gomod : App
-bare_gomod = let app = new_app (codes "gomod") in record app { top = record app.top { subcommand_required = true } }
+bare_gomod =
+    let app = new_app (codes "gomod") in
+    record app {
+      top = record app.top { has_version = true; subcommand_required = true; arg_required_else_help = true };
+    }
 
 -- `gomod` with its commands
 abbrev pub gomod_app : App
@@ -160,11 +169,16 @@ IsMeant (Some entered) command places = Means entered.0 entered.1 command places
 abbrev pub AreAccepted : List Text → Type 0
 AreAccepted words = fault_of gomod_app words ≡ []
 
--- the parser finds something wrong with the words, other than that help is asked for
+-- the parser finds something wrong with the words, other than that help or the version is asked for
 abbrev pub AreRefused : List Text → Type 0
 AreRefused words =
     (takes gomod_app words ≡ true → ⊥)
-    × (kind : ErrorKind) × (kind ≢ DisplayHelp) × IsAmong kind (fault_of gomod_app words)
+    × (kind : ErrorKind) × (kind ≢ DisplayHelp) × (kind ≢ DisplayVersion)
+    × IsAmong kind (fault_of gomod_app words)
+
+-- what `gomod --version` prints
+abbrev pub version_line : List ℕ
+version_line = codes "gomod 1.0.0 (Rattle, logic dac8208d650f15bf)\n"
 
 -- The words ask for this command with these places: the parser accepts them, and its entries for them have
 -- this meaning.
@@ -209,16 +223,20 @@ AreRecognized entered = ((command : Command) × (places : Places) × IsMeant ent
 abbrev pub IsEntriesFault : Option (Text × List Row) → UsageFault → Type 0
 IsEntriesFault entered NoMemory = Unit {0}
 IsEntriesFault entered (Help text) = ⊥
+IsEntriesFault entered (Version text) = ⊥
 IsEntriesFault entered (Line text) = ¬ (AreRecognized entered)
 IsEntriesFault entered (BadPath text) = HasBadPath entered (string_bytes text)
 IsEntriesFault entered (BadProxy text) = HasBadProxy entered (string_bytes text)
 
--- What a fault says about the words: help is asked for; or the parser refuses them for another reason; or it
--- accepts them, but its entries stand for no command, the path is invalid, or the value of `--proxy` is
--- invalid.
+-- What a fault says about the words: help is asked for; or the version is, which is this one; or the parser
+-- refuses them for another reason; or it accepts them, but its entries stand for no command, the path is invalid,
+-- or the value of `--proxy` is invalid.
 abbrev pub IsFaultOf : List Text → UsageFault → Type 0
 IsFaultOf words NoMemory = Unit {0}
 IsFaultOf words (Help text) = IsAmong DisplayHelp (fault_of gomod_app words) × (takes gomod_app words ≡ true → ⊥)
+IsFaultOf words (Version text) =
+    IsAmong DisplayVersion (fault_of gomod_app words) × (takes gomod_app words ≡ true → ⊥)
+    × (string_bytes text ≡ version_line)
 IsFaultOf words (Line text) =
     AreRefused words ⊎ (AreAccepted words × ¬ (AreRecognized (subcommand_of gomod_app words)))
 IsFaultOf words (BadPath text) = AreAccepted words × HasBadPath (subcommand_of gomod_app words) (string_bytes text)
@@ -228,7 +246,9 @@ IsFaultOf words (BadProxy text) = AreAccepted words × HasBadProxy (subcommand_o
 abbrev pub IsParserFault : Error → UsageFault → Type 0
 IsParserFault error NoMemory = Unit {0}
 IsParserFault error (Help text) = kind_of error ≡ DisplayHelp
-IsParserFault error (Line text) = (kind_of error ≢ DisplayHelp) × (kind_of error ≢ OutOfMemory)
+IsParserFault error (Version text) = (kind_of error ≡ DisplayVersion) × (string_bytes text ≡ version_line)
+IsParserFault error (Line text) =
+    (kind_of error ≢ DisplayHelp) × (kind_of error ≢ DisplayVersion) × (kind_of error ≢ OutOfMemory)
 IsParserFault error (BadPath text) = ⊥
 IsParserFault error (BadProxy text) = ⊥
 
@@ -261,6 +281,32 @@ abbrev pub IsLimitFault : Option Text → UsageFault → Type 0
 IsLimitFault value NoMemory = Unit {0}
 IsLimitFault value (Line text) = has_limit value ≡ false
 IsLimitFault value _ = ⊥
+
+-- the fault is the version, or memory ran out
+abbrev pub IsVersionLine : UsageFault → Type 0
+IsVersionLine NoMemory = Unit {0}
+IsVersionLine (Version text) = string_bytes text ≡ version_line
+IsVersionLine _ = ⊥
+
+-- how a usage error reads: what is wrong, the usage line, and how to get help
+abbrev pub usage_text : List ℕ → List ℕ → List ℕ
+usage_text message usage =
+    message ++ codes "\n\nUsage: " ++ usage ++ codes "\n\nFor more information, try '--help'.\n"
+
+-- the fault is this usage error, or memory ran out
+abbrev pub IsLineOf : List ℕ → UsageFault → Type 0
+IsLineOf text NoMemory = Unit {0}
+IsLineOf text (Line line) = string_bytes line ≡ text
+IsLineOf text _ = ⊥
+
+-- a word as it is shown where it is not UTF-8: each byte that prints as itself, and any other by its code, as `\xe9`
+abbrev pub shown_bytes : List ℕ → List ℕ
+shown_bytes word = flat_map (λ b. encode_utf8_all (escape_ascii b)) word
+
+-- the usage error of a word that is not UTF-8
+abbrev pub unreadable_text : List ℕ → List ℕ
+unreadable_text word =
+    usage_text (codes "error: the word '" ++ shown_bytes word ++ codes "' is not UTF-8") (codes "gomod <COMMAND>")
 
 -- the fault is `Line` or `NoMemory`
 abbrev pub is_line_or_memory : UsageFault → Bool

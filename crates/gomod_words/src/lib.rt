@@ -12,7 +12,9 @@
 #![tactic(auto)]
 
 mod command;
+mod help;
+pub mod laws;
 mod query;
 mod usage;
 
-pub use crate::usage::{Command, Places, UsageFault, read_words};
+pub use crate::usage::{Command, Places, UsageFault, read_words, unreadable};

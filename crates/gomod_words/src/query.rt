@@ -10,6 +10,7 @@ ghost use Rattle.gm_name.specs.Path.{IsPath};
 ghost use Rattle.gomod_words.specs.Limits.{limit_of};
 ghost use Rattle.gomod_words.specs.Usage.{ArePlaces, IsAfterFault, IsEntriesFault, IsLimit, IsLimitFault, IsPlacesFault, IsProxy, Means, is_line_or_memory};
 
+use crate::help::{CHAIN_USAGE, GRAPH_USAGE, LIST_USAGE};
 use crate::usage::{Command, Places, UsageFault, line, read_path, read_proxy, value_of};
 use clap::ArgMatches;
 use gm_name::ModPath;
@@ -43,9 +44,9 @@ fn bad_limit(alloc: Global, text: &str) -> UsageFault
     ensures { is_line_or_memory result ≡ true }
 {
     match format!(in alloc;
-        "error: invalid value '{text}' for '--limit <N>': not a number from 1 to 4294967295\n\nFor more information, try '--help'.\n"
+        "error: invalid value '{text}' for '--limit <N>': not a number from 1 to 4294967295"
     ) {
-        Ok(text) => UsageFault::Line(text),
+        Ok(message) => line(alloc, message.as_str(), LIST_USAGE),
         Err(_) => UsageFault::NoMemory,
     }
 }
@@ -78,16 +79,20 @@ fn after_given<'a>(alloc: Global, found: &ArgMatches<'a>) -> Result<Option<ModPa
     }
 }
 
-/// The proxy folders, which must be given. Their absence is refused with `Line`, an invalid value with
-/// `BadProxy`.
-fn proxy_given<'a>(alloc: Global, found: &ArgMatches<'a>) -> Result<ProxyList, UsageFault>
+/// The proxy folders, which must be given. Their absence is refused with `Line`, which has the usage line of the
+/// command, and an invalid value with `BadProxy`.
+fn proxy_given<'a>(
+    alloc: Global,
+    found: &ArgMatches<'a>,
+    usage: &str,
+) -> Result<ProxyList, UsageFault>
     ensures proxy { IfOk result (λ list.
         IsProxy (first_of (codes "proxy") (rows_of (found_of found.now))) (Some list)) }
     ensures fault { IfErr result (IsPlacesFault (first_of (codes "proxy") (rows_of (found_of found.now)))) }
 {
     match value_of(found, "proxy") {
         Some(value) => read_proxy(alloc, value),
-        None => Err(line(alloc, "no DIR")),
+        None => Err(line(alloc, "error: no DIR given", usage)),
     }
 }
 
@@ -113,12 +118,12 @@ fn sums_given<'a>(alloc: Global, found: &ArgMatches<'a>) -> Result<Option<String
     }
 }
 
-/// The files and folders of a command over a module graph.
-fn read_places<'a>(alloc: Global, found: &ArgMatches<'a>) -> Result<Places, UsageFault>
+/// The files and folders of a command over a module graph with this usage line.
+fn read_places<'a>(alloc: Global, found: &ArgMatches<'a>, usage: &str) -> Result<Places, UsageFault>
     ensures places { IfOk result (ArePlaces (rows_of (found_of found.now))) }
     ensures fault { IfErr result (IsPlacesFault (first_of (codes "proxy") (rows_of (found_of found.now)))) }
 {
-    let proxy = proxy_given(alloc, found)?;
+    let proxy = proxy_given(alloc, found, usage)?;
     let main = main_given(alloc, found)?;
     let sums = sums_given(alloc, found)?;
     Ok(Places {
@@ -136,7 +141,7 @@ pub(crate) fn read_graph<'a>(
     ensures read { IfOk result (λ read. Means (codes "graph") (rows_of (found_of found.now)) read.0 read.1) }
     ensures fault { IfErr result (IsEntriesFault (Some (codes "graph", rows_of (found_of found.now)))) }
 {
-    let places = read_places(alloc, found)?;
+    let places = read_places(alloc, found, GRAPH_USAGE)?;
     Ok((Command::Graph, places))
 }
 
@@ -152,7 +157,7 @@ pub(crate) fn read_list<'a>(
 {
     let limit = limit_given(alloc, found)?;
     let after = after_given(alloc, found)?;
-    let places = read_places(alloc, found)?;
+    let places = read_places(alloc, found, LIST_USAGE)?;
     Ok((Command::List { after, limit }, places))
 }
 
@@ -165,9 +170,9 @@ pub(crate) fn read_chain<'a>(
     ensures fault { IfErr result (IsEntriesFault (Some (codes "chain", rows_of (found_of found.now)))) }
 {
     let Some(text) = value_of(found, "path") else {
-        return Err(line(alloc, "no PATH"));
+        return Err(line(alloc, "error: no PATH given", CHAIN_USAGE));
     };
     let path = read_path(alloc, text)?;
-    let places = read_places(alloc, found)?;
+    let places = read_places(alloc, found, CHAIN_USAGE)?;
     Ok((Command::Chain(path), places))
 }

@@ -1,13 +1,19 @@
 //! The meaning of the words of a command line, and the faults of words that have none.
+//!
+//! Every usage error reads the same, whether the parser finds it or this crate: what is wrong, the usage line, and how
+//! to get help.
 
-ghost use Rattle.std.specs.Prelude.{◌≡◌, IfErr, IfOk, Some, codes, map, true};
+ghost use Rattle.std.specs.Prelude.{◌≡◌, ◌++◌, IfErr, IfOk, OnOk, Some, codes, encode_utf8_all, map, true};
 ghost use Rattle.std.specs.Option.{option_map};
 ghost use Rattle.clap.specs.Words.{all_of, first_of, found_of, rows_of, subcommand_rows_of};
-ghost use Rattle.gomod_words.specs.Usage.{AskFor, IsEntriesFault, IsFaultOf, IsMeant, IsParserFault, IsPathFault, IsProxy, IsProxyFault, Means, is_given, is_line_or_memory, texts_in};
+ghost use Rattle.std.specs.Char.Escape.{escape_ascii};
+ghost use Rattle.std.specs.String.{string_bytes};
+ghost use Rattle.gomod_words.specs.Usage.{AskFor, IsEntriesFault, IsFaultOf, IsLineOf, IsMeant, IsParserFault, IsPathFault, IsProxy, IsProxyFault, IsVersionLine, Means, is_given, is_line_or_memory, shown_bytes, texts_in, unreadable_text, usage_text};
 ghost use Rattle.gm_name.specs.Path.{IsPath};
 ghost use Rattle.gomod_words.specs.declared.usage.UsageFault.TheVariants.{NoMemory};
 
 use crate::command::gomod_command;
+use crate::help::{self, EDIT_USAGE, FMT_USAGE, GOMOD_USAGE, TRY_HELP, VERSION, VERSIONS_USAGE};
 use crate::query::{read_chain, read_graph, read_list};
 use clap::ArgMatches;
 use clap::error::ErrorKind;
@@ -65,7 +71,11 @@ pub enum UsageFault {
     /// Help was asked for. This is its text.
     #[error("{0}")]
     Help(String),
-    /// The words are not a valid command line. This text says what is wrong with them.
+    /// The version was asked for. This is the line that says it.
+    #[error("{0}")]
+    Version(String),
+    /// The words are not a valid command line. This text says what is wrong with them. Where there are no words but
+    /// the program's name, it is the help of the program.
     #[error("{0}")]
     Line(String),
     /// This word is not a module path, and one is required in its position.
@@ -93,9 +103,11 @@ impl From<AllocError> for UsageFault {
 ///
 /// - `Help` if help is asked for, by `help` as the first word, or by `-h` or `--help`, including after a
 ///   command. It holds the help text.
+/// - `Version` if the version is asked for, by `-V` or `--version` as the first word. It holds the line that says
+///   it, and the kit that the program is proved with.
 /// - `Line` if the words do not match any command, or a command has too few or too many words. It holds the
 ///   parser's message. It also comes if the value of `--limit` is not one or more ASCII digits that form a
-///   number from 1 to 4,294,967,295.
+///   number from 1 to 4,294,967,295. Without a word after the program's name it holds the help.
 /// - `BadPath` if all of that is valid, but PATH of `versions` or `chain`, or the value of `--after` of
 ///   `list`, is not a module path. It holds that text.
 /// - `BadProxy` if all of that is valid, but the value of `--proxy` has an empty piece between its `,` and
@@ -112,26 +124,51 @@ pub fn read_words<'a>(alloc: Global, words: &'a [&'a str]) -> Result<(Command, P
     let command = gomod_command(alloc)?;
     match command.try_get_matches_from(words) {
         Ok(matches) => read_matches(alloc, &matches),
-        Err(error) => Err(fault_of(alloc, &error)),
+        Err(error) => Err(fault_of(alloc, &error, help::usage_of(words))),
     }
 }
 
-/// The fault that a parser's error stands for. The error must be turned into text here, so memory can run
-/// out.
-fn fault_of(alloc: Global, error: &clap::Error) -> UsageFault
+/// The fault that a parser's error stands for, if the words name the command with this usage line. The error must be
+/// turned into text here, so memory can run out.
+fn fault_of(alloc: Global, error: &clap::Error, usage: &str) -> UsageFault
     ensures { IsParserFault error.now result }
 {
     let kind = error.kind();
     if matches!(kind, ErrorKind::OutOfMemory) {
         return UsageFault::NoMemory;
     }
+    if matches!(kind, ErrorKind::DisplayVersion) {
+        return version(alloc);
+    }
     let Ok(text) = error.to_string(alloc) else {
         return UsageFault::NoMemory;
     };
     if matches!(kind, ErrorKind::DisplayHelp) {
         UsageFault::Help(text)
+    } else if matches!(kind, ErrorKind::InvalidValue) {
+        with_usage(alloc, text, usage)
     } else {
         UsageFault::Line(text)
+    }
+}
+
+/// The answer to words that ask for the version.
+fn version(alloc: Global) -> UsageFault
+    ensures { IsVersionLine result }
+{
+    match format!(in alloc; "gomod {VERSION}\n") {
+        Ok(line) => UsageFault::Version(line),
+        Err(_) => UsageFault::NoMemory,
+    }
+}
+
+/// The parser's text on an option without its value, with the usage line, which the parser leaves out there.
+fn with_usage(alloc: Global, text: String, usage: &str) -> UsageFault
+    ensures { is_line_or_memory result ≡ true }
+{
+    match text.as_str().strip_suffix(TRY_HELP) {
+        Some(message) => line(alloc, message, usage),
+        None => UsageFault::Line(text),
     }
 }
 
@@ -151,7 +188,7 @@ fn read_matches<'a>(
         Some(("graph", found)) => read_graph(alloc, found),
         Some(("list", found)) => read_list(alloc, found),
         Some(("chain", found)) => read_chain(alloc, found),
-        _ => Err(line(alloc, "no command")),
+        _ => Err(line(alloc, "error: no command given", GOMOD_USAGE)),
     }
 }
 
@@ -222,7 +259,7 @@ fn read_fmt<'a>(alloc: Global, found: &ArgMatches<'a>) -> Result<(Command, Place
     ensures fault { IfErr result (IsEntriesFault (Some (codes "fmt", rows_of (found_of found.now)))) }
 {
     let Some(file) = value_of(found, "file") else {
-        return Err(line(alloc, "no FILE"));
+        return Err(line(alloc, "error: no FILE given", FMT_USAGE));
     };
     let places = Places {
         main: String::from_str(alloc, file)?,
@@ -249,10 +286,10 @@ fn read_edit<'a>(alloc: Global, found: &ArgMatches<'a>) -> Result<(Command, Plac
     ensures fault { IfErr result (IsEntriesFault (Some (codes "edit", rows_of (found_of found.now)))) }
 {
     let Some(file) = value_of(found, "file") else {
-        return Err(line(alloc, "no FILE"));
+        return Err(line(alloc, "error: no FILE given", EDIT_USAGE));
     };
     let Some(operations) = values_of(found, "op") else {
-        return Err(line(alloc, "no OP"));
+        return Err(line(alloc, "error: no OP given", EDIT_USAGE));
     };
     let operations = copied(alloc, operations)?;
     let main = String::from_str(alloc, file)?;
@@ -271,7 +308,7 @@ fn read_versions<'a>(alloc: Global, found: &ArgMatches<'a>) -> Result<(Command, 
     ensures fault { IfErr result (IsEntriesFault (Some (codes "versions", rows_of (found_of found.now)))) }
 {
     let Some(text) = value_of(found, "path") else {
-        return Err(line(alloc, "no PATH"));
+        return Err(line(alloc, "error: no PATH given", VERSIONS_USAGE));
     };
     let path = read_path(alloc, text)?;
     let proxy = proxy_of(alloc, found)?;
@@ -284,11 +321,54 @@ fn read_versions<'a>(alloc: Global, found: &ArgMatches<'a>) -> Result<(Command, 
     Ok((Command::Versions { path, all }, places))
 }
 
-/// The fault for words that lack something. `lack` names it, such as `no PATH`.
-pub(crate) fn line(alloc: Global, lack: &str) -> UsageFault
-    ensures { is_line_or_memory result ≡ true }
+/// The usage error of a word that is not UTF-8, which it shows with its bytes escaped.
+pub fn unreadable(alloc: Global, word: &[u8]) -> UsageFault
+    ensures { IsLineOf (unreadable_text word.now) result }
 {
-    match format!(in alloc; "error: {lack} given\n\nFor more information, try '--help'.\n") {
+    match unreadable_message(alloc, word) {
+        Ok(message) => line(alloc, message.as_str(), GOMOD_USAGE),
+        Err(_) => UsageFault::NoMemory,
+    }
+}
+
+/// What is wrong with a word that is not UTF-8.
+fn unreadable_message(alloc: Global, word: &[u8]) -> Result<String, AllocError>
+    ensures { IfOk result (λ message. string_bytes message
+        ≡ codes "error: the word '" ++ shown_bytes word.now ++ codes "' is not UTF-8") }
+{
+    let shown = shown(alloc, word)?;
+    let message = format!(in alloc; "error: the word '{shown}' is not UTF-8")?;
+    Ok(message)
+}
+
+/// The bytes as they are shown where they are not UTF-8.
+fn shown(alloc: Global, bytes: &[u8]) -> Result<String, AllocError>
+    ensures { IfOk result (λ text. string_bytes text ≡ shown_bytes bytes.now) }
+{
+    let mut text = String::new(alloc);
+    for byte in bytes {
+        push_shown(&mut text, *byte)?;
+    }
+    Ok(text)
+}
+
+/// Appends a byte: itself if it prints, and otherwise its code, such as `\xe9`.
+fn push_shown(text: &mut String, byte: u8) -> Result<(), AllocError>
+    ensures { OnOk result (string_bytes text.new ≡ string_bytes text.old ++ encode_utf8_all (escape_ascii byte)) }
+{
+    let mut rest = byte.escape_ascii();
+    'escape: while let Some(code) = rest.next() {
+        text.push(char::from(code))?;
+    }
+    Ok(())
+}
+
+/// A usage error: what is wrong, the usage line, and how to get help.
+pub(crate) fn line(alloc: Global, message: &str, usage: &str) -> UsageFault
+    ensures kind { is_line_or_memory result ≡ true }
+    ensures text { IsLineOf (usage_text message.now usage.now) result }
+{
+    match format!(in alloc; "{message}\n\nUsage: {usage}{TRY_HELP}") {
         Ok(text) => UsageFault::Line(text),
         Err(_) => UsageFault::NoMemory,
     }

@@ -1,0 +1,28 @@
+-- Laws of the words of a command line, which follow from the table of commands alone.
+use Rattle.std.specs.Prelude.{◌≡◌, ◌∷◌, List, [], codes, true}
+use Rattle.clap.specs.Walk.{Text}
+use Rattle.gomod_words.specs.Usage.{AskFor, IsFaultOf, IsVersionLine, is_line_or_memory}
+use Rattle.gomod_words.specs.declared.usage.Command.{Command}
+use Rattle.gomod_words.specs.declared.usage.Places.{Places}
+use Rattle.gomod_words.specs.declared.usage.UsageFault.{UsageFault}
+
+-- the words ask for the version and for nothing else
+abbrev pub AskForVersion : List Text → Type 0
+AskForVersion words =
+    ((command : Command) (places : Places) → ¬ (AskFor words command places))
+    × ((fault : UsageFault) → IsFaultOf words fault → IsVersionLine fault)
+
+-- the words are a usage error
+abbrev pub AreUsageError : List Text → Type 0
+AreUsageError words =
+    ((command : Command) (places : Places) → ¬ (AskFor words command places))
+    × ((fault : UsageFault) → IsFaultOf words fault → is_line_or_memory fault ≡ true)
+
+-- `gomod --version` and `gomod -V`, whatever the program's name
+abbrev pub VersionIsAsked : Type 0
+VersionIsAsked = (program : Text)
+    → AskForVersion (program ∷ codes "--version" ∷ []) × AskForVersion (program ∷ codes "-V" ∷ [])
+
+-- `gomod` alone
+abbrev pub NothingIsAsked : Type 0
+NothingIsAsked = (program : Text) → AreUsageError (program ∷ [])
