@@ -7,8 +7,9 @@ ghost use Rattle.gomod_laws.specs.FolderLaws.{MayAnswer, MoreFoldersChangeNothin
 use gm_store::{Files, MemoryFallback};
 
 /// One more folder changes nothing that was found. Over folders in memory, where a command prints, it prints the same
-/// with one more proxy folder after the last, behind `,` or `|`, and it asks for the same files. The marks before
-/// stay as they are. In front of the others, or between them, a folder can change what is printed.
+/// with one more proxy folder after the last, separated from it by `,` or `|`, and it asks for the same files. The
+/// folders before it and their marks stay as they are. A folder put before others, or between them, can change what
+/// is printed.
 pub fn more_folders_change_nothing()
     ensures { MoreFoldersChangeNothing }
 {}
