@@ -23,4 +23,6 @@ pub mod AdditionsOpened
 pub mod AdditionsRuns
 pub mod AdditionsPrinted
 pub mod RequirableLists
+pub mod RequirableEdits
+pub mod RequirableRows
 pub mod LineOrderLines

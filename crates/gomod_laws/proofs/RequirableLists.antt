@@ -207,7 +207,7 @@ opened_can_be_required file other sums first second edges seen graph one next ru
 -- ---- the rows
 
 -- two versions are the same if neither is greater
-same_version : (v w : List ℕ) → is_gt (version_cmp v w) ≡ false → is_gt (version_cmp w v) ≡ false → v ≡ w
+pub same_version : (v w : List ℕ) → is_gt (version_cmp v w) ≡ false → is_gt (version_cmp w v) ≡ false → v ≡ w
 same_version v w low high = go (version_cmp v w) refl
   where
     go : (r : Ordering) → version_cmp v w ≡ r → v ≡ w

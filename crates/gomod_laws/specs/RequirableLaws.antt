@@ -1,6 +1,8 @@
 -- What is listed can be required: Go Modules Reference, "Minimal version selection" and "Module graph pruning".
-use Rattle.std.specs.Prelude.{◌≡◌, ◌↔◌, ◌⊎◌, ℕ, false, List, Option, None, Contains}
+use Rattle.std.specs.Prelude.{◌≡◌, ◌↔◌, ◌⊎◌, ℕ, false, List, [], Option, Some, None, Contains, String}
+use Rattle.std.specs.Global.{Global, Vec}
 use Rattle.gm_file.specs.Directives.{Right}
+use Rattle.gm_file_edit.specs.Edits.{SetRequire, edit_in}
 use Rattle.gm_store.specs.Asked.{Name, Reply}
 use Rattle.gm_graph_cache.specs.Main.{Main, ModuleVersion, is_pruned_by, replacement_in}
 use Rattle.gm_graph_select.specs.declared.step.Edge.{Edge}
@@ -9,9 +11,10 @@ use Rattle.gm_graph_select.specs.declared.step.Step.TheVariants.{Of}
 use Rattle.gm_graph_select.specs.Graph.{edge}
 use Rattle.gm_graph_select.specs.BuildList.{Entry}
 use Rattle.gm_graph_listing.specs.Laws.{AnswerAlike}
-use Rattle.gm_graph_listing.specs.Outcomes.{Outcome}
-use Rattle.gomod_words.specs.declared.usage.Command.TheVariants.{List as Rows}
-use Rattle.gomod_laws.specs.Runs.{Prints}
+use Rattle.gm_graph_listing.specs.Outcomes.{Outcome, printed}
+use Rattle.gomod_words.specs.Usage.{texts_in}
+use Rattle.gomod_words.specs.declared.usage.Command.TheVariants.{Edit, List as Rows}
+use Rattle.gomod_laws.specs.Runs.{HasOutcome, Prints}
 use Rattle.gomod_laws.specs.AdditionLaws.{AreTwoRuns, ShowsEdges, ShowsRows}
 
 -- ---- main files that require different modules
@@ -75,3 +78,22 @@ RowsCanBeRequired = (file more : List ℕ) (sums : Option (List ℕ)) (first sec
     → ShowsRows file sums runs.asked first rows one → is_pruned_by first.go ≡ false
     → DifferInRequirements first second → RequiresOnly first second (HasRow rows)
     → ((x : ModuleVersion) → HasRow rows x → Contains second.requirements x) → next ≡ one
+
+-- ---- `edit` with `require=` of each row
+
+-- Each operation is `require=` of a row, and each row has one.
+pub record RequireTheRows (rows : List Entry) (operations : List (List ℕ)) : Type 0 where
+  pub are_rows : (text : List ℕ) → Contains operations text
+      → (x : ModuleVersion) × HasRow rows x × (edit_in text ≡ Some (SetRequire x))
+  pub each_row : (x : ModuleVersion) → HasRow rows x
+      → (text : List ℕ) × Contains operations text × (edit_in text ≡ Some (SetRequire x))
+
+-- Where the main file is not pruned and `list` prints, it prints the same over what `edit` prints with `require=` of
+-- each row, if it prints.
+abbrev pub EditedRowsStay : Type 0
+EditedRowsStay = (operations : Vec (String Global)) (file text : List ℕ) (sums : Option (List ℕ)) (main : Main)
+    (rows : List Entry) (asked later : List (Name × Reply)) (one next : Outcome) → AnswerAlike asked later
+    → ShowsRows file sums asked main rows one → is_pruned_by main.go ≡ false
+    → RequireTheRows rows (texts_in operations) → HasOutcome (Edit operations) file None [] (printed text)
+    → HasOutcome (Rows None None) file sums asked one → HasOutcome (Rows None None) text sums later next → Prints next
+    → next ≡ one

@@ -1,6 +1,6 @@
 //! What is listed can be required.
 
-ghost use Rattle.gomod_laws.specs.RequirableLaws.{OpenedCanBeRequired, RowsCanBeRequired, VerticesCanBeRequired};
+ghost use Rattle.gomod_laws.specs.RequirableLaws.{EditedRowsStay, OpenedCanBeRequired, RowsCanBeRequired, VerticesCanBeRequired};
 
 /// What is listed can be required. Let two main files say the same, but for what they require. Where `list` prints over
 /// the first, it prints the same over the second.
@@ -11,4 +11,10 @@ pub fn the_listed_can_be_required()
     ensures opened { OpenedCanBeRequired }
     // if the second requires each row, and besides the rows any of what the first requires; for go versions below 1.17
     ensures rows { RowsCanBeRequired }
+{}
+
+/// The rows of the list can be required by an edit. For go versions below 1.17 `list` prints the same over what `edit`
+/// prints with `require=` of each row. Of one row alone this isn't said: what the version before it required can go.
+pub fn each_row_can_be_required()
+    ensures { EditedRowsStay }
 {}
