@@ -17,7 +17,10 @@ pub(crate) fn call(
         Ok(text) => text,
         Err(fault) => fault.line(alloc)?,
     };
-    Ok(text.map(String::into_bytes))
+    let Some(text) = text else {
+        return Ok(None);
+    };
+    Ok(Some(text.into_bytes()))
 }
 
 /// What a call gives, or none where there is no such call.
@@ -36,14 +39,38 @@ fn answer(alloc: Global, view: &View<'_>, words: &[&str]) -> Result<Option<Strin
 
 /// What a call about names gives, or none where there is no such call.
 fn about_names(alloc: Global, name: &str, arguments: &[&str]) -> Result<Option<String>, CallFault> {
+    if let Some(text) = about_one_name(alloc, name, arguments)? {
+        return Ok(Some(text));
+    }
+    about_two_names(alloc, name, arguments)
+}
+
+/// What a call about one name gives, or none where there is no such call.
+fn about_one_name(
+    alloc: Global,
+    name: &str,
+    arguments: &[&str],
+) -> Result<Option<String>, CallFault> {
     let text = match (name, arguments) {
         ("path", [path]) => name_calls::path(alloc, path)?,
         ("version", [version]) => name_calls::version(alloc, version)?,
-        ("fits", [path, version]) => name_calls::fits(alloc, path, version)?,
         ("pseudo", [version]) => name_calls::pseudo(alloc, version)?,
         ("base", [version]) => name_calls::base(alloc, version)?,
         ("escape", [text]) => name_calls::escape(alloc, text)?,
         ("unescape", [name]) => name_calls::unescape(alloc, name)?,
+        _ => return Ok(None),
+    };
+    Ok(Some(text))
+}
+
+/// What a call about two names gives, or none where there is no such call.
+fn about_two_names(
+    alloc: Global,
+    name: &str,
+    arguments: &[&str],
+) -> Result<Option<String>, CallFault> {
+    let text = match (name, arguments) {
+        ("fits", [path, version]) => name_calls::fits(alloc, path, version)?,
         ("order", [version, other]) => name_calls::order(alloc, version, other)?,
         ("order", [path, version, other_path, other_version]) => {
             name_calls::order_of_pairs(alloc, (path, version), (other_path, other_version))?
@@ -89,17 +116,75 @@ fn about_files(
     name: &str,
     arguments: &[&str],
 ) -> Result<Option<String>, CallFault> {
+    if let Some(text) = about_lines(alloc, view, name, arguments)? {
+        return Ok(Some(text));
+    }
+    if let Some(text) = about_directives(alloc, view, name, arguments)? {
+        return Ok(Some(text));
+    }
+    if let Some(text) = about_choices(alloc, view, name, arguments)? {
+        return Ok(Some(text));
+    }
+    about_sums_and_lists(alloc, view, name, arguments)
+}
+
+/// What a call about the lines of a go.mod gives, or none where there is no such call.
+fn about_lines(
+    alloc: Global,
+    view: &View<'_>,
+    name: &str,
+    arguments: &[&str],
+) -> Result<Option<String>, CallFault> {
     let text = match (name, arguments) {
         ("document", [name]) => file_calls::document(alloc, file(view, name)?)?,
         ("spans", [name]) => file_calls::spans(alloc, file(view, name)?)?,
+        _ => return Ok(None),
+    };
+    Ok(Some(text))
+}
+
+/// What a call about the directives of a go.mod gives, or none where there is no such call.
+fn about_directives(
+    alloc: Global,
+    view: &View<'_>,
+    name: &str,
+    arguments: &[&str],
+) -> Result<Option<String>, CallFault> {
+    let text = match (name, arguments) {
         ("strict", [name]) => file_calls::strict(alloc, file(view, name)?)?,
         ("lax", [name]) => file_calls::lax(alloc, file(view, name)?)?,
+        _ => return Ok(None),
+    };
+    Ok(Some(text))
+}
+
+/// What a call about a version in a main file gives, or none where there is no such call.
+fn about_choices(
+    alloc: Global,
+    view: &View<'_>,
+    name: &str,
+    arguments: &[&str],
+) -> Result<Option<String>, CallFault> {
+    let text = match (name, arguments) {
         ("replacement", [name, path, version]) => {
             file_calls::replacement(alloc, file(view, name)?, path, version)?
         }
         ("excluded", [name, path, version]) => {
             file_calls::excluded(alloc, file(view, name)?, path, version)?
         }
+        _ => return Ok(None),
+    };
+    Ok(Some(text))
+}
+
+/// What a call about a go.sum or a list of versions gives, or none where there is no such call.
+fn about_sums_and_lists(
+    alloc: Global,
+    view: &View<'_>,
+    name: &str,
+    arguments: &[&str],
+) -> Result<Option<String>, CallFault> {
+    let text = match (name, arguments) {
         ("hash", [name]) => store_calls::hash(alloc, file(view, name)?)?,
         ("check", [name, path, version, hash]) => {
             store_calls::check(alloc, file(view, name)?, (path, version), hash)?

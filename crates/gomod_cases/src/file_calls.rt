@@ -3,9 +3,10 @@
 use crate::call_faults::CallFault;
 use crate::name_calls::{pair, yes_or_no};
 use gm_file::{DepFile, Interval, MainFile, Replace, Right};
-use gm_name::{KnownNames, ModVer};
+use gm_name::{KnownNames, ModPath, ModVer};
 use gm_syntax::{Doc, Line, Text, Token};
 use std::alloc::{AllocError, Global};
+use std::slice;
 
 /// The document of some bytes, read as a main file.
 fn main_file<'a>(alloc: Global, bytes: &'a [u8]) -> Result<MainFile<'a>, CallFault> {
@@ -77,16 +78,19 @@ fn push_place(text: &mut String, word: &Token) -> Result<(), AllocError> {
     writeln!(text, "{line} {first}..{after} {spelling}")
 }
 
-/// Appends the places of a line's words.
-fn push_places(text: &mut String, line: &Line) -> Result<(), AllocError> {
+/// The words of a line but for the parentheses of a block.
+fn words_of<'a, 'b>(line: &'b Line<'a>) -> &'b [Token<'a>] {
     match line {
-        Line::Open(verb, _) => push_place(text, verb)?,
-        Line::Entry(words, _) => {
-            for word in words {
-                push_place(text, word)?;
-            }
-        }
-        _ => {}
+        Line::Open(verb, _) => slice::from_ref(verb),
+        Line::Entry(words, _) => words.as_slice(),
+        _ => &[],
+    }
+}
+
+/// Appends the places of words.
+fn push_places(text: &mut String, words: &[Token]) -> Result<(), AllocError> {
+    for word in words {
+        push_place(text, word)?;
     }
     Ok(())
 }
@@ -96,7 +100,7 @@ pub(crate) fn spans(alloc: Global, bytes: &[u8]) -> Result<String, CallFault> {
     let doc = Doc::parse(alloc, bytes)?;
     let mut text = String::new(alloc);
     for line in doc.lines() {
-        push_places(&mut text, line)?;
+        push_places(&mut text, words_of(line))?;
     }
     Ok(text)
 }
@@ -155,19 +159,45 @@ fn push_go(text: &mut String, go: (u32, u32)) -> Result<(), AllocError> {
     writeln!(text, "go {first}.{second}")
 }
 
+/// Appends replacements.
+fn push_replacements(text: &mut String, replacements: &[Replace]) -> Result<(), AllocError> {
+    for replacement in replacements {
+        push_replacement(text, replacement)?;
+    }
+    Ok(())
+}
+
+/// Appends the path of a module.
+fn push_module(text: &mut String, path: &ModPath) -> Result<(), AllocError> {
+    writeln!(text, "module {path}")
+}
+
+/// Appends what a main file says.
+fn push_main(text: &mut String, file: &MainFile) -> Result<(), AllocError> {
+    push_module(text, file.module())?;
+    push_go(text, file.go())?;
+    push_pairs(text, "require", file.requirements())?;
+    push_pairs(text, "exclude", file.excludes())?;
+    push_replacements(text, file.replaces())?;
+    push_retractions(text, file.retracts())
+}
+
 /// What a main file says.
 pub(crate) fn strict(alloc: Global, bytes: &[u8]) -> Result<String, CallFault> {
     let file = main_file(alloc, bytes)?;
-    let path = file.module();
-    let mut text = format!(in alloc; "module {path}\n")?;
-    push_go(&mut text, file.go())?;
-    push_pairs(&mut text, "require", file.requirements())?;
-    push_pairs(&mut text, "exclude", file.excludes())?;
-    for replacement in file.replaces() {
-        push_replacement(&mut text, replacement)?;
-    }
-    push_retractions(&mut text, file.retracts())?;
+    let mut text = String::new(alloc);
+    push_main(&mut text, &file)?;
     Ok(text)
+}
+
+/// Appends what a dependency's file says.
+fn push_dependency(text: &mut String, file: &DepFile) -> Result<(), AllocError> {
+    if let Some(path) = file.module() {
+        push_module(text, path)?;
+    }
+    push_go(text, file.go())?;
+    push_pairs(text, "require", file.requirements())?;
+    push_retractions(text, file.retracts())
 }
 
 /// What a dependency's file says.
@@ -175,13 +205,17 @@ pub(crate) fn lax(alloc: Global, bytes: &[u8]) -> Result<String, CallFault> {
     let doc = Doc::parse(alloc, bytes)?;
     let file = DepFile::read(alloc, &mut KnownNames::new(alloc, 0), &doc)?;
     let mut text = String::new(alloc);
-    if let Some(path) = file.module() {
-        writeln!(text, "module {path}")?;
-    }
-    push_go(&mut text, file.go())?;
-    push_pairs(&mut text, "require", file.requirements())?;
-    push_retractions(&mut text, file.retracts())?;
+    push_dependency(&mut text, &file)?;
     Ok(text)
+}
+
+/// Appends a right side, or that there is none.
+fn push_found(text: &mut String, right: Option<&Right>) -> Result<(), AllocError> {
+    match right {
+        Some(right) => push_right(text, right)?,
+        None => text.push_str("none")?,
+    }
+    text.push('\n')
 }
 
 /// The replacement of a version in a main file.
@@ -194,11 +228,7 @@ pub(crate) fn replacement(
     let pair = pair(alloc, path, version)?;
     let file = main_file(alloc, bytes)?;
     let mut text = String::new(alloc);
-    match file.replacement(&pair) {
-        Some(right) => push_right(&mut text, right)?,
-        None => text.push_str("none")?,
-    }
-    text.push('\n')?;
+    push_found(&mut text, file.replacement(&pair))?;
     Ok(text)
 }
 

@@ -125,14 +125,7 @@ impl Folders {
         text: &str,
     ) -> Result<(), AllocError> {
         let name = FileName::Folder(String::from_str(alloc, text)?);
-        let relative = relative_name(alloc, &name)?;
-        let relative = relative.as_str();
-        let place = if relative.starts_with('/') {
-            tidied(alloc, relative)?
-        } else {
-            let joined = format!(in alloc; "{main}/{relative}")?;
-            tidied(alloc, joined.as_str())?
-        };
+        let place = place_beside(alloc, main, &name)?;
         if let Some(bytes) = view.named(place.as_str()) {
             self.put(name, Held::Content(copied(alloc, bytes)?))?;
         }
@@ -188,6 +181,16 @@ fn held_in<'a>(
     let bytes = view.bytes(file)?;
     let name = name_in(alloc, folder, file.name.as_str())?;
     Some((name, bytes))
+}
+
+/// The place of the file with this name beside a main file in a folder, in its shortest spelling.
+fn place_beside(alloc: Global, main: &str, name: &FileName) -> Result<String, AllocError> {
+    let relative = relative_name(alloc, name)?;
+    if relative.as_str().starts_with('/') {
+        return tidied(alloc, relative.as_str());
+    }
+    let joined = format!(in alloc; "{main}/{relative}")?;
+    tidied(alloc, joined.as_str())
 }
 
 /// A copy of bytes.
