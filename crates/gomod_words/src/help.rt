@@ -164,7 +164,7 @@ pub(crate) const MOD: &str = "The go.mod file of the main module";
 
 /// The help of `--sum`.
 pub(crate) const SUM: &str =
-    "The go.sum file to check go.mod files of modules against; by default none is checked";
+    "The go.sum file to check go.mod files against; by default none is checked";
 
 /// The help of `--after`.
 pub(crate) const AFTER: &str = "Print only the rows after the row of this module";
