@@ -1,5 +1,5 @@
 -- What the program says to single words.
-use Rattle.std.proofs.Common.{◌≡◌, ◌⊎◌, ◌∷◌, ◌∙◌, ℕ, List, [], ap, codes, inl, inr, refl, string_bytes, subst, true}
+use Rattle.std.proofs.Common.{◌≡◌, ◌⊎◌, ◌∷◌, ◌∙◌, ℕ, List, [], ap, codes, inl, inr, subst, true}
 use Rattle.gm_graph_listing.specs.Outcomes.{Outcome, printed}
 use Rattle.gomod_words.specs.Laws.{AreUsageError, AskForVersion}
 use Rattle.gomod_words.specs.Usage.{IsVersionLine, is_line_or_memory, version_line}
