@@ -1,6 +1,6 @@
 //! Loading a module graph: a loop over the worklist, and the assembly of the result.
 
-ghost use Rattle.std.specs.Prelude.{◌≡◌, ◌++◌, [], Contains, IfOk, OnOk, Err, map};
+ghost use Rattle.std.specs.Prelude.{◌≡◌, ◌<◌, ◌≤◌, ◌⊎◌, ◌^◌, ◌-◌, ◌++◌, [], Contains, IfOk, OnOk, Err, map};
 ghost use Rattle.std.specs.Option.{option_copied};
 ghost use Rattle.gm_store.specs.Asked.{Name, Reply, name_of};
 ghost use Rattle.gm_store.specs.declared.files.FileName.{FileName};
@@ -58,6 +58,9 @@ fn visit_all<F: Files>(
         → IsDue (main_in cache.old) (sums_in cache.old) (F.asked files.new) (name_of name) }
     ensures refused { F.refused files.new ≡ F.refused files.old ++ refused_in result }
     ensures may { MayGrow (F.may_answer files.old) (F.asked files.old) (F.asked files.new) }
+    ensures cause { (name : FileName) → result ≡ Err (LoadFault.Device name)
+        → (F.fault_count files.old < F.fault_count files.new) ⊎ (F.fault_count files.old ≡ 2 ^ 64 - 1) }
+    ensures later { F.fault_count files.old ≤ F.fault_count files.new }
 {
     let mut at = 0;
     'turns: while at < worklist.turns.len() {
@@ -135,6 +138,9 @@ pub fn load<F: Files>(
     ensures refused { F.refused files.new ≡ F.refused files.old ++ refused_in result }
     ensures may_answer { (name : Name) (reply : Reply) → Contains (F.asked files.new) (name, reply)
         → F.may_answer files.old name reply }
+    ensures cause { (name : FileName) → result ≡ Err (LoadFault.Device name)
+        → (F.fault_count files.old < F.fault_count files.new) ⊎ (F.fault_count files.old ≡ 2 ^ 64 - 1) }
+    ensures later { F.fault_count files.old ≤ F.fault_count files.new }
 {
     let required = kept_requirements(alloc, main)?;
     let mut worklist = first_turns(alloc, main, &required)?;

@@ -3,7 +3,7 @@
 //! It exists so that each file is asked for and parsed once, however many vertices and turns need it. The test of
 //! the declared path depends on the vertex, not on the file alone, and is therefore repeated for each vertex.
 
-ghost use Rattle.std.specs.Prelude.{◌≡◌, ◌<◌, ◌⊎◌, ◌^◌, ◌-◌, ◌++◌, ◌∷◌, [], ℕ, List, IfOk, OnOk, OnErr, IsSome, None, Some, Ok, Err, true};
+ghost use Rattle.std.specs.Prelude.{◌≡◌, ◌<◌, ◌≤◌, ◌⊎◌, ◌^◌, ◌-◌, ◌++◌, ◌∷◌, [], ℕ, List, IfOk, OnOk, OnErr, IsSome, None, Some, Ok, Err, true};
 ghost use Rattle.std.specs.Option.{option_copied, option_map};
 ghost use Rattle.gm_store.specs.Asked.{Name, Reply, answer_in, name_of, reply_of};
 ghost use Rattle.gm_store.specs.declared.files.FileName.{FileName};
@@ -141,6 +141,7 @@ impl<'a> Cache<'a> {
             → (F.fault_count files.old < F.fault_count files.new) ⊎ (F.fault_count files.old ≡ 2 ^ 64 - 1) }
         ensures may { MayGrow (F.may_answer files.old) (F.asked files.old) (F.asked files.new) }
         ensures same_store { MayLess (F.may_answer files.new) (F.may_answer files.old) }
+        ensures later { F.fault_count files.old ≤ F.fault_count files.new }
     {
         if find_summary(&self.summaries, key).is_some() {
             return Ok(());
@@ -202,6 +203,7 @@ impl<'a> Cache<'a> {
             → (F.fault_count files.old < F.fault_count files.new) ⊎ (F.fault_count files.old ≡ 2 ^ 64 - 1) }
         ensures may { MayGrow (F.may_answer files.old) (F.asked files.old) (F.asked files.new) }
         ensures same_store { MayLess (F.may_answer files.new) (F.may_answer files.old) }
+        ensures later { F.fault_count files.old ≤ F.fault_count files.new }
     {
         let name = file_name(self.alloc, self.main, x)?;
         if !is_askable(&name) {

@@ -12,7 +12,7 @@ use thiserror::Error;
 /// Why bytes can't be read as a dependency's go.mod file.
 #[derive(Clone, Copy, Debug, PartialEq, Eq, Error)]
 pub enum Misreading {
-    /// There are more than 16,777,216 bytes. A store that keeps to its limit never leads to this.
+    /// There are more than 16,777,216 bytes. No answer of a store has that many.
     #[error("more than 16,777,216 bytes")]
     TooMany,
     /// The bytes aren't UTF-8.

@@ -1,5 +1,5 @@
 -- What the commands do with what was found.
-use Rattle.std.proofs.Common.{◌≡◌, ◌∙◌, ◌++◌, ℕ, List, [], ◌∷◌, Option, Some, Result, Ok, Err, IfOk, MatchResult, sym, refl, subst, inl, inr, append-nil}
+use Rattle.std.proofs.Common.{◌≡◌, ◌∙◌, ◌++◌, ◌<◌, ◌-◌, ◌^◌, ◌⊎◌, ℕ, List, [], ◌∷◌, Option, Some, Result, Ok, Err, IfOk, MatchResult, sym, refl, subst, inl, inr, append-nil}
 use Rattle.gm_syntax.specs.Document.{Line}
 use Rattle.gm_syntax.specs.Tokens.{Placed}
 use Rattle.gm_store.specs.Asked.{Name, Reply, name_of}
@@ -56,6 +56,15 @@ load_fails main table asked before after (Ok loaded) grown due = inl (grown ∙ 
 load_fails main table asked before after (Err load.NoMemory) grown due = inl (grown ∙ append-nil before)
 load_fails main table asked before after (Err load.TooMany) grown due = inl (grown ∙ append-nil before)
 load_fails main table asked before after (Err (load.Device name)) grown due = inr (name_of name, due name refl, grown)
+
+-- a failure is recorded only where the count of failures rose, or was at its greatest value
+pub load_counts : {T : Type 0} (before after : List Name) (old new : ℕ) (result : Result T LoadFault)
+    → after ≡ before ++ refused_in result → ((name : FileName) → result ≡ Err (load.Device name) → (old < new) ⊎ (old ≡ 2 ^ 64 - 1))
+    → (after ≡ before) ⊎ ((old < new) ⊎ (old ≡ 2 ^ 64 - 1))
+load_counts before after old new (Ok loaded) grown cause = inl (grown ∙ append-nil before)
+load_counts before after old new (Err load.NoMemory) grown cause = inl (grown ∙ append-nil before)
+load_counts before after old new (Err load.TooMany) grown cause = inl (grown ∙ append-nil before)
+load_counts before after old new (Err (load.Device name)) grown cause = inr (cause name refl)
 
 pub over_fails : (file : List ℕ) (sums : Option (List ℕ)) (main : Main) (table : Option SumTable) (asked : List (Name × Reply)) (before after : List Name)
     → FilesReadAs file sums main table → FailsOver main table asked before after → FailsInOrder file sums asked before after

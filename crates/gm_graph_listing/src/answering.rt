@@ -1,7 +1,7 @@
 //! Runs a command over a module graph: reads the two files, loads what the main module's file leads to, and
 //! answers.
 
-ghost use Rattle.std.specs.Prelude.{◌≡◌, ◌++◌, [], Contains, IfOk, MatchResult, List};
+ghost use Rattle.std.specs.Prelude.{◌≡◌, ◌<◌, ◌≤◌, ◌⊎◌, ◌^◌, ◌-◌, ◌++◌, [], Contains, IfOk, MatchResult, List};
 ghost use Rattle.std.specs.Option.{option_copied};
 ghost use Rattle.gm_store.specs.Asked.{Name, Reply};
 ghost use Rattle.gm_graph_cache.specs.Main.{main_of};
@@ -80,6 +80,9 @@ fn answer_over<F: Files>(
         (F.refused files.old) (F.refused files.new) }
     ensures may_answer { (name : Name) (reply : Reply) → Contains (F.asked files.new) (name, reply)
         → F.may_answer files.old name reply }
+    ensures cause { (F.refused files.new ≡ F.refused files.old)
+        ⊎ ((F.fault_count files.old < F.fault_count files.new) ⊎ (F.fault_count files.old ≡ 2 ^ 64 - 1)) }
+    ensures later { F.fault_count files.old ≤ F.fault_count files.new }
 {
     match load(alloc, main, files, table) {
         Ok(loaded) => {
@@ -109,8 +112,8 @@ fn answer_over<F: Files>(
 ///
 /// If one of the two files is invalid, the store is asked for nothing. Otherwise it is asked for the files of
 /// the modules that are opened according to its previous answers, each once, and for no other file. Each
-/// answer is one that the store may give. Its device fails on at most one file, which is one of these. All
-/// this holds however the run ends.
+/// answer is one that the store may give. Its device fails on at most one file, which is one of these, and
+/// only where the count of its failures rises or has reached its maximum. All this holds however the run ends.
 ///
 /// The store must not have been asked for anything before. Refused only when memory runs out, which can
 /// happen in place of any answer.
@@ -131,6 +134,9 @@ pub fn answer<F: Files>(
         (F.refused files.old) (F.refused files.new) }
     ensures may_answer { (name : Name) (reply : Reply) → Contains (F.asked files.new) (name, reply)
         → F.may_answer files.old name reply }
+    ensures cause { (F.refused files.new ≡ F.refused files.old)
+        ⊎ ((F.fault_count files.old < F.fault_count files.new) ⊎ (F.fault_count files.old ≡ 2 ^ 64 - 1)) }
+    ensures later { F.fault_count files.old ≤ F.fault_count files.new }
 {
     let read = match read_files(alloc, file, sums)? {
         Ok(read) => read,

@@ -1,6 +1,8 @@
 pub mod Appending
 pub mod Bytes
 pub mod Consuming
+pub mod Counts
+pub mod Limits
 pub mod Listing
 pub mod MainFolder
 pub mod NameOrder

@@ -1,6 +1,6 @@
 -- Requests to a store and its answers, as lists of bytes. `FileName` and `Answer` of src are read through these
 -- views.
-use Rattle.std.specs.Prelude.{ℕ, Bool, false, ◌&&◌, if◌then◌else◌, nat_le, List, [], ◌∷◌, length, map, Option, Some, None}
+use Rattle.std.specs.Prelude.{ℕ, ◌≤◌, Bool, false, ◌&&◌, if◌then◌else◌, nat_le, List, [], ◌∷◌, length, map, Option, Some, None}
 use Rattle.std.specs.Str.{bytes_eq}
 use Rattle.std.specs.String.{string_bytes}
 use Rattle.gm_store.specs.declared.files.FileName.{FileName}
@@ -19,6 +19,16 @@ pub data Reply : Type 0 where
   bytes : List ℕ → Reply
   absent : Reply
   too_long : Reply
+
+-- the bytes of an answer: none if there is no such file, or if it is too long
+abbrev pub bytes_in : Reply → List ℕ
+bytes_in (bytes content) = content
+bytes_in absent = []
+bytes_in too_long = []
+
+-- an answer has at most 16 MiB of bytes
+abbrev pub IsWithinLimit : Reply → Type 0
+IsWithinLimit reply = length (bytes_in reply) ≤ 16777216
 
 -- the view of a name
 abbrev pub name_of : FileName → Name

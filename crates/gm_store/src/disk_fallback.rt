@@ -1,5 +1,9 @@
 //! The GOPROXY fallback over folders of a file system. No other file of this crate opens files.
 
+ghost use Rattle.std.specs.Prelude.{IfOk};
+ghost use Rattle.gm_store.specs.Asked.{IsWithinLimit};
+ghost use Rattle.gm_store.specs.Steps.{reply_in, result_of};
+
 use crate::fallback_step::Looked;
 use crate::fallback_store::FallbackStore;
 use crate::fallback_walk::Folders;
@@ -77,7 +81,9 @@ impl<R: rt::Files> Folders for FoldersOnDisk<R> {
 /// Opens the file at a path and reads it, at most `LIMIT + 1` bytes.
 ///
 /// System errors are part of the result; the only refusal is `NoMemory`.
-fn open_and_read<R: rt::Files>(system: &R, alloc: Global, place: &str) -> Result<Looked, NoMemory> {
+fn open_and_read<R: rt::Files>(system: &R, alloc: Global, place: &str) -> Result<Looked, NoMemory>
+    ensures within_limit { IfOk result (λ looked. IsWithinLimit (reply_in (result_of looked))) }
+{
     match fs::open(system, place) {
         Ok(mut file) => read_result(read_limited(alloc, &mut file)),
         Err(error) => open_error_result(error.kind()),

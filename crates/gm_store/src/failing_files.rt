@@ -2,8 +2,8 @@
 //!
 //! Tests use it to inject a device failure at every point of a run, without a real device.
 
-ghost use Rattle.std.specs.Prelude.{◌≡◌, ◌+◌, ◌-◌, ◌^◌, ◌<◌, ◌⊎◌, List, [], ◌∷◌, ◌++◌, Some, None, OnOk, OnErr, IsErr};
-ghost use Rattle.gm_store.specs.Asked.{Name, Reply, answer_in, name_of};
+ghost use Rattle.std.specs.Prelude.{◌≡◌, ◌+◌, ◌-◌, ◌^◌, ◌<◌, ◌≤◌, ◌⊎◌, List, [], ◌∷◌, ◌++◌, Some, None, OnOk, OnErr, IsErr};
+ghost use Rattle.gm_store.specs.Asked.{IsWithinLimit, Name, Reply, answer_in, name_of};
 
 use crate::files::{Answer, AskFault, FileName, Files, copy_name};
 use crate::memory_files::MemoryFiles;
@@ -66,6 +66,9 @@ impl Files for FailingFiles {
             ⊎ (failures_with (asks_left self.old) ≡ 2 ^ 64 - 1) }
         ensures same_store { (name : Name) (reply : Reply)
             → may_give (inside_of self.new) name reply → may_give (inside_of self.old) name reply }
+        ensures within_limit { OnOk result ((reply : Reply) × IsWithinLimit reply
+            × (pairs_of (inside_of self.new) ≡ pairs_of (inside_of self.old) ++ (name_of name.now, reply) ∷ [])) }
+        ensures later { failures_with (asks_left self.old) ≤ failures_with (asks_left self.new) }
 
         // The device fails exactly once: when no request is left before the failure.
         ensures fails { asks_left self.old ≡ Some 0 → IsErr result }

@@ -64,8 +64,8 @@ impl<F: Folders> FallbackStore<F> {
 }
 
 impl<F: Folders> Files for FallbackStore<F> {
-    ghost use Rattle.std.specs.Prelude.{◌≡◌, ◌-◌, ◌^◌, ◌<◌, ◌⊎◌, ℕ, [], ◌∷◌, ◌++◌, None, Some, OnOk, OnErr};
-    ghost use Rattle.gm_store.specs.Asked.{Reply, answer_in, name_of};
+    ghost use Rattle.std.specs.Prelude.{◌≡◌, ◌-◌, ◌^◌, ◌<◌, ◌≤◌, ◌⊎◌, ℕ, [], ◌∷◌, ◌++◌, None, Some, OnOk, OnErr};
+    ghost use Rattle.gm_store.specs.Asked.{IsWithinLimit, Reply, answer_in, name_of};
     ghost use Rattle.gm_store.specs.Steps.{HasCounted, MayStop, counted_up};
     ghost use Rattle.gm_store.specs.Views.{asked_by, faults_of, folders_under, marks_between, refused_by};
 
@@ -93,6 +93,9 @@ impl<F: Folders> Files for FallbackStore<F> {
             → (faults_of self.old < faults_of self.new) ⊎ (faults_of self.old ≡ 2 ^ 64 - 1) }
         ensures same_store { (folders_under self.new ≡ folders_under self.old)
             × (marks_between self.new ≡ marks_between self.old) }
+        ensures within_limit { OnOk result ((reply : Reply) × IsWithinLimit reply
+            × (asked_by self.new ≡ asked_by self.old ++ (name_of name.now, reply) ∷ [])) }
+        ensures later { faults_of self.old ≤ faults_of self.new }
 
         // The answer is that of the folder at which `step` stops. The request fails only if `step` stops at a
         // failure of the device. Failures in the folders before are counted too.

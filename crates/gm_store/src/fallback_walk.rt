@@ -2,11 +2,11 @@
 //!
 //! The loop works over the trait `Folders`, so folders in memory and on a device share it.
 
-ghost use Rattle.std.specs.Prelude.{◌≡◌, ◌-◌, ◌^◌, ◌<◌, ◌⊎◌, ℕ, [], ◌∷◌, length, slice_get, Some, IfErr, IfNone, IfOk, OnErr, false};
+ghost use Rattle.std.specs.Prelude.{◌≡◌, ◌-◌, ◌^◌, ◌<◌, ◌⊎◌, ℕ, [], ◌∷◌, length, slice_get, Some, IfErr, IfNone, IfOk, IfSome, OnErr, false};
 ghost use Rattle.std.specs.List.{count_by};
 ghost use Rattle.std.specs.Option.{option_map};
-ghost use Rattle.gm_store.specs.Asked.{name_of, reply_of};
-ghost use Rattle.gm_store.specs.Steps.{HasCounted, HasFallenBack, MayStop, counted_up, has_failed, outcome_of, result_of, step_of};
+ghost use Rattle.gm_store.specs.Asked.{IsWithinLimit, name_of, reply_of};
+ghost use Rattle.gm_store.specs.Steps.{HasCounted, HasFallenBack, MayStop, counted_up, has_failed, outcome_of, reply_in, result_of, step_of};
 ghost use Rattle.gm_store.specs.declared.files.AskFault.TheVariants as ask_fault;
 
 use crate::fallback_step::{Looked, Next, step};
@@ -16,8 +16,8 @@ use gm_name::NoMemory;
 
 /// A list of folders that can be looked into.
 pub trait Folders {
-    ghost use Rattle.gm_store.specs.Asked.{Name, name_of};
-    ghost use Rattle.gm_store.specs.Steps.{Seen, result_of};
+    ghost use Rattle.gm_store.specs.Asked.{IsWithinLimit, Name, name_of};
+    ghost use Rattle.gm_store.specs.Steps.{Seen, reply_in, result_of};
 
     /// How many folders there are for a name.
     ghost count_for: { Self → Name → ℕ };
@@ -32,7 +32,8 @@ pub trait Folders {
     /// is `NoMemory`.
     fn look(&self, folder: usize, name: &FileName) -> Result<Looked, NoMemory>
         requires { folder < count_for self.now (name_of name.now) }
-        ensures { IfOk result (λ looked. may_find self.now folder (name_of name.now) (result_of looked)) };
+        ensures possible { IfOk result (λ looked. may_find self.now folder (name_of name.now) (result_of looked)) }
+        ensures within_limit { IfOk result (λ looked. IsWithinLimit (reply_in (result_of looked))) };
 }
 
 /// Memory ran out during a walk.
@@ -72,6 +73,7 @@ pub(crate) fn walk<F: Folders>(
     ensures fell_back { IfErr result (λ fault.
         HasFallenBack (λ k seen. F.may_find folders.now k (name_of name.now) seen) marks.now
         fault.folder faults.old faults.new) }
+    ensures within_limit { IfOk result (λ answer. IfSome answer (λ answer. IsWithinLimit (reply_of answer))) }
 {
     let mut at = 0;
     let mut count = *faults;
@@ -109,8 +111,9 @@ fn counted(faults: u64, looked: &Looked) -> u64
 
 /// The answer that a lookup results in, or `None` if the device failed.
 fn answer_in(looked: Looked) -> Option<Answer>
-    ensures { has_failed (result_of looked) ≡ false
+    ensures outcome { has_failed (result_of looked) ≡ false
         → option_map reply_of result ≡ outcome_of (result_of looked) Next.Take }
+    ensures reply { IfSome result (λ answer. reply_of answer ≡ reply_in (result_of looked)) }
 {
     match looked {
         Looked::Found(content) => Some(Answer::Bytes(content)),

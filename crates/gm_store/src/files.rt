@@ -4,7 +4,7 @@
 //! function of the answers, and one store can stand in for another.
 
 ghost use Rattle.std.specs.Prelude.{◌≡◌, ◌+◌, ◌-◌, ◌^◌, ◌<◌, ◌⊎◌, ℕ, List, [], ◌∷◌, ◌++◌, length, slice_get, Some, None, OnOk, OnErr, IfOk};
-ghost use Rattle.gm_store.specs.Asked.{name_of};
+ghost use Rattle.gm_store.specs.Asked.{IsWithinLimit, name_of, reply_of};
 ghost use Rattle.gm_store.specs.declared.files.AskFault.TheVariants as ask_fault;
 
 use gm_name::{ModPath, ModVersion, NoMemory};
@@ -57,6 +57,8 @@ pub struct Asked {
     pub name: FileName,
     /// The answer to it.
     pub answer: Answer,
+    // No file of more than `LIMIT` bytes is kept.
+    ghost within_limit: { IsWithinLimit (reply_of answer) },
 }
 
 /// A copy of a name. The only refusal is `NoMemory`.
@@ -102,7 +104,8 @@ impl<T: Drop> From<AllocFailed<T>> for AskFault {
 ///
 /// So the files of a run don't change while it lasts, and contracts can refer to all that was read.
 pub trait Files {
-    ghost use Rattle.gm_store.specs.Asked.{Name, Reply, name_of, reply_of, names_in, replies_in, answer_in};
+    ghost use Rattle.std.specs.Prelude.{◌≤◌};
+    ghost use Rattle.gm_store.specs.Asked.{IsWithinLimit, Name, Reply, name_of, reply_of, names_in, replies_in, answer_in};
 
     /// The names requested so far with their answers, in order.
     ghost asked: { Self → List (Name × Reply) };
@@ -137,7 +140,12 @@ pub trait Files {
 
         // A request doesn't add possible answers.
         ensures same_store { (name : Name) (reply : Reply)
-            → may_answer self.new name reply → may_answer self.old name reply };
+            → may_answer self.new name reply → may_answer self.old name reply }
+
+        // No answer has more than `LIMIT` bytes, and the count of failures never falls.
+        ensures within_limit { OnOk result ((reply : Reply) × IsWithinLimit reply
+            × (asked self.new ≡ asked self.old ++ (name_of name.now, reply) ∷ [])) }
+        ensures later { fault_count self.old ≤ fault_count self.new };
 
     /// The number of requests that were answered.
     fn count(&self) -> usize
@@ -151,7 +159,8 @@ pub trait Files {
     /// The answer to request number `i`, counted from 0.
     fn answer(&self, i: usize) -> &Answer
         requires { i < length (asked self.now) }
-        ensures { slice_get (replies_in (asked self.now)) i ≡ Some (reply_of result.now) };
+        ensures value { slice_get (replies_in (asked self.now)) i ≡ Some (reply_of result.now) }
+        ensures within_limit { IsWithinLimit (reply_of result.now) };
 
     /// How often the device has failed. The count saturates at the greatest `u64`.
     fn faults(&self) -> u64

@@ -5,7 +5,8 @@
 
 ghost use Rattle.std.specs.Prelude.{◌≡◌, IfOk, OnErr};
 ghost use Rattle.gm_store.specs.Found.{result_for_bytes};
-ghost use Rattle.gm_store.specs.Steps.{absent, failed, result_of};
+ghost use Rattle.gm_store.specs.Asked.{IsWithinLimit};
+ghost use Rattle.gm_store.specs.Steps.{absent, failed, reply_in, result_of};
 
 use crate::fallback_step::Looked;
 use crate::reading::{LIMIT, ReadFault};
@@ -21,6 +22,7 @@ pub(crate) fn open_error_result(kind: ErrorKind) -> Result<Looked, NoMemory>
     ensures absent { kind ≡ ErrorKind.NotFound → IfOk result (λ looked. result_of looked ≡ absent) }
     ensures failed { (kind ≡ ErrorKind.NotFound → ⊥) → IfOk result (λ looked. result_of looked ≡ failed) }
     ensures no_memory { OnErr result (kind ≡ ErrorKind.OutOfMemory) }
+    ensures within_limit { IfOk result (λ looked. IsWithinLimit (reply_in (result_of looked))) }
 {
     match kind {
         ErrorKind::NotFound => Ok(Looked::Absent),
@@ -36,6 +38,7 @@ pub(crate) fn read_result(read: Result<Vec<u8>, ReadFault>) -> Result<Looked, No
     ensures bytes { IfOk read (λ bytes. IfOk result (λ looked. result_of looked ≡ result_for_bytes bytes.items)) }
     ensures failed { read ≡ Err ReadFault.Device → IfOk result (λ looked. result_of looked ≡ failed) }
     ensures no_memory { OnErr result (read ≡ Err ReadFault.NoMemory) }
+    ensures within_limit { IfOk result (λ looked. IsWithinLimit (reply_in (result_of looked))) }
 {
     match read {
         Ok(bytes) if bytes.len() > LIMIT => Ok(Looked::TooLong),

@@ -4,7 +4,7 @@
 //! several folders nor device failures.
 
 ghost use Rattle.std.specs.Prelude.{◌≡◌, List, [], ◌∷◌, map, Some, None, OnOk, OnErr, IfOk, if◌then◌else◌};
-ghost use Rattle.gm_store.specs.Asked.{Name, name_of, reply_of, same_name};
+ghost use Rattle.gm_store.specs.Asked.{IsWithinLimit, Name, name_of, reply_of, same_name};
 
 use crate::files::{Answer, AskFault, Asked, FileName, Files, copy_name};
 use crate::reading::LIMIT;
@@ -53,7 +53,8 @@ impl MemoryFiles {
 
     /// The answer to a name: a copy of the file's bytes, `TooLong` or `Absent`. The only refusal is `NoMemory`.
     fn look_up(&self, name: &FileName) -> Result<Answer, NoMemory>
-        ensures { IfOk result (λ answer. may_give self.now (name_of name.now) (reply_of answer)) }
+        ensures content { IfOk result (λ answer. may_give self.now (name_of name.now) (reply_of answer)) }
+        ensures within_limit { IfOk result (λ answer. IsWithinLimit (reply_of answer)) }
     {
         match self.held.get(name) {
             None => Ok(Answer::Absent),

@@ -1,7 +1,7 @@
 //! One folder in memory, which stands for a proxy folder in tests. A file in it may be unreadable.
 
 ghost use Rattle.std.specs.Prelude.{◌≡◌, None, Some, OnOk, OnErr, IfOk, if◌then◌else◌};
-ghost use Rattle.gm_store.specs.Asked.{Name, name_of, same_name};
+ghost use Rattle.gm_store.specs.Asked.{IsWithinLimit, Name, name_of, same_name};
 
 use crate::fallback_step::Looked;
 use crate::files::FileName;
@@ -29,7 +29,7 @@ pub struct MemoryFolder {
 
 impl MemoryFolder {
     ghost use Rattle.gm_store.specs.FoldersInMemory.{file_at, result_at};
-    ghost use Rattle.gm_store.specs.Steps.{absent, result_of};
+    ghost use Rattle.gm_store.specs.Steps.{absent, reply_in, result_of};
 
     /// An empty folder.
     pub fn new(alloc: Global) -> MemoryFolder
@@ -54,7 +54,8 @@ impl MemoryFolder {
 
     /// Looks up a name. A file's bytes are copied; the only refusal is `NoMemory`.
     pub(crate) fn look(&self, name: &FileName) -> Result<Looked, NoMemory>
-        ensures { IfOk result (λ looked. result_of looked ≡ result_at self.now (name_of name.now)) }
+        ensures contents { IfOk result (λ looked. result_of looked ≡ result_at self.now (name_of name.now)) }
+        ensures within_limit { IfOk result (λ looked. IsWithinLimit (reply_in (result_of looked))) }
     {
         match self.held.get(name) {
             None => Ok(Looked::Absent),

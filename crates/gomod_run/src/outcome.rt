@@ -1,7 +1,7 @@
 //! The outcome of a command. It is complete before anything is written, since a fault that is found late must leave
 //! standard output empty.
 
-ghost use Rattle.std.specs.Prelude.{◌≡◌, [], Contains, IfOk};
+ghost use Rattle.std.specs.Prelude.{◌≡◌, ◌<◌, ◌≤◌, ◌⊎◌, ◌^◌, ◌-◌, [], Contains, IfOk};
 ghost use Rattle.std.specs.Option.{option_map};
 ghost use Rattle.gm_store.specs.Asked.{Name, Reply};
 ghost use Rattle.gm_graph_listing.specs.Outcomes.{outcome_view};
@@ -39,6 +39,9 @@ pub(crate) fn outcome<F: Files>(
         (store_state (F.asked files.new) (F.refused files.new)) }
     ensures answers { (name : Name) (reply : Reply)
         → Contains (F.asked files.new) (name, reply) → F.may_answer files.old name reply }
+    ensures cause { (F.refused files.new ≡ F.refused files.old)
+        ⊎ ((F.fault_count files.old < F.fault_count files.new) ⊎ (F.fault_count files.old ≡ 2 ^ 64 - 1)) }
+    ensures later { F.fault_count files.old ≤ F.fault_count files.new }
 {
     match command {
         Command::Versions { path, all } => versions_outcome(alloc, path, *all, files),

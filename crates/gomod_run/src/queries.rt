@@ -1,7 +1,7 @@
 //! The outcome of `graph`, `list` and `chain`: `gm_graph_listing` finds it, and this file states which files are
 //! asked for in the terms of all commands.
 
-ghost use Rattle.std.specs.Prelude.{◌≡◌, ◌++◌, [], Contains, IfOk, List};
+ghost use Rattle.std.specs.Prelude.{◌≡◌, ◌<◌, ◌≤◌, ◌⊎◌, ◌^◌, ◌-◌, ◌++◌, [], Contains, IfOk, List};
 ghost use Rattle.std.specs.Option.{option_map};
 ghost use Rattle.gm_store.specs.Asked.{Name, Reply};
 ghost use Rattle.gm_graph_listing.specs.Outcomes.{IsAnswer, answers, given, outcome_view};
@@ -34,6 +34,9 @@ pub(crate) fn query_outcome<F: Files>(
         (store_state (F.asked files.new) (F.refused files.new)) }
     ensures answers { (name : Name) (reply : Reply)
         → Contains (F.asked files.new) (name, reply) → F.may_answer files.old name reply }
+    ensures cause { (F.refused files.new ≡ F.refused files.old)
+        ⊎ ((F.fault_count files.old < F.fault_count files.new) ⊎ (F.fault_count files.old ≡ 2 ^ 64 - 1)) }
+    ensures later { F.fault_count files.old ≤ F.fault_count files.new }
 {
     let output = answer(alloc, query, main, sums, files)?;
     Ok(output)

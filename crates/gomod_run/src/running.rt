@@ -1,6 +1,6 @@
 //! Running one command, from bytes that have been read to bytes that are written.
 
-ghost use Rattle.std.specs.Prelude.{◌≡◌, [], Contains, None, false};
+ghost use Rattle.std.specs.Prelude.{◌≡◌, ◌<◌, ◌≤◌, ◌⊎◌, ◌^◌, ◌-◌, [], Contains, None, false};
 ghost use Rattle.std.specs.Option.{option_map};
 ghost use Rattle.gm_store.specs.Asked.{Name, Reply, answer_in};
 ghost use Rattle.gm_graph_listing.specs.Outcomes.{code_of};
@@ -90,6 +90,10 @@ pub fn run<F: Files, O: Sink, R: Sink>(
     // Each answer is one that the store may give.
     ensures answers { (name : Name) (reply : Reply)
         → Contains (F.asked files.new) (name, reply) → F.may_answer files.old name reply }
+    // The device fails only where the count of its failures rises in this run, or stood at its maximum before it.
+    ensures cause { (F.refused files.new ≡ F.refused files.old)
+        ⊎ ((F.fault_count files.old < F.fault_count files.new) ⊎ (F.fault_count files.old ≡ 2 ^ 64 - 1)) }
+    ensures later { F.fault_count files.old ≤ F.fault_count files.new }
 {
     match outcome(alloc, command, main, sums, files) {
         Ok(output) => {

@@ -1,7 +1,7 @@
 //! The outcome of `versions`: it needs a module's list and then perhaps one go.mod, so the asks of the store are
 //! ordered here.
 
-ghost use Rattle.std.specs.Prelude.{◌≡◌, ◌⊎◌, ℕ, [], Bool, Contains, IfErr, IfOk, List, MatchOption, None, Some, false, map, true};
+ghost use Rattle.std.specs.Prelude.{◌≡◌, ◌<◌, ◌≤◌, ◌⊎◌, ◌^◌, ◌-◌, ℕ, [], Bool, Contains, IfErr, IfOk, List, MatchOption, None, Some, false, map, true};
 ghost use Rattle.std.specs.String.{string_bytes};
 ghost use Rattle.std.specs.List.Sorted.{IsStrictlySortedBy};
 ghost use Rattle.gm_name.specs.Version.{version_cmp};
@@ -148,6 +148,9 @@ fn latest_outcome<F: Files>(
         (store_state (F.asked files.old) (F.refused files.old))
         (store_state (F.asked files.new) (F.refused files.new))
         result }
+    ensures cause { (F.refused files.new ≡ F.refused files.old)
+        ⊎ ((F.fault_count files.old < F.fault_count files.new) ⊎ (F.fault_count files.old ≡ 2 ^ 64 - 1)) }
+    ensures later { F.fault_count files.old ≤ F.fault_count files.new }
 {
     let file = FileName::Mod(path.copy(alloc)?, latest.copy(alloc)?);
     match ask_for(alloc, files, &file)? {
@@ -183,6 +186,9 @@ fn listed<F: Files>(
         → Contains (F.asked files.new) (name, reply) → F.may_answer files.old name reply }
     ensures same_store { (name : Name) (reply : Reply)
         → F.may_answer files.new name reply → F.may_answer files.old name reply }
+    ensures cause { (F.refused files.new ≡ F.refused files.old)
+        ⊎ ((F.fault_count files.old < F.fault_count files.new) ⊎ (F.fault_count files.old ≡ 2 ^ 64 - 1)) }
+    ensures later { F.fault_count files.old ≤ F.fault_count files.new }
 {
     if !path.is_fetchable() {
         return Ok(Err(refused(alloc, list_line(alloc, path, "NotFetchable")?)));
@@ -234,6 +240,9 @@ pub(crate) fn versions_outcome<F: Files>(
         (store_state (F.asked files.new) (F.refused files.new)) }
     ensures answers { (name : Name) (reply : Reply)
         → Contains (F.asked files.new) (name, reply) → F.may_answer files.old name reply }
+    ensures cause { (F.refused files.new ≡ F.refused files.old)
+        ⊎ ((F.fault_count files.old < F.fault_count files.new) ⊎ (F.fault_count files.old ≡ 2 ^ 64 - 1)) }
+    ensures later { F.fault_count files.old ≤ F.fault_count files.new }
 {
     let versions = match listed(alloc, path, files)? {
         Ok(versions) => versions,

@@ -37,6 +37,9 @@ returns-in_err-visit_all-clause-too_many g c = λ e.
     (subst (λ (s : Option SumTable). Told (main_in c.new-cache.result) s pairs (AreTooMany (main_in c.new-cache.result))) c.new-cache.ensures.sums
     (c.in_err-visit_all.ensures.too_many (ap Err (sym (rw e at c.from_residual-in_err-visit_all.ensures.1)))))
 
+pub returns-in_err-visit_all-clause-cause : goal.returns-in_err-visit_all-clause-cause
+returns-in_err-visit_all-clause-cause g c = λ name e. c.in_err-visit_all.ensures.cause name (ap Err (sym (rw e at c.from_residual-in_err-visit_all.ensures.1)))
+
 pub assemble-requires : goal.assemble-requires
 assemble-requires g c = record {
   rooted = gathered_rooted _ _ _ c.visit_all.new.worklist c.visit_all.new.builder c.in_ok-visit_all.ensures.opened;

@@ -1,5 +1,6 @@
 use Rattle.std.proofs.Common.{◌≡◌, ◌∙◌, ◌++◌, get_or, subst, sym, ap, Err, arith, refl, List, append-nil}
 use Rattle.gm_store.specs.Asked.{Name}
+use Rattle.gm_store.proofs.Counts.{cause_later, later_both}
 use Rattle.gm_graph_cache.specs.declared.depth.Turn.{Turn}
 use Rattle.gm_graph_cache.specs.Cached.{main_in, sums_in}
 use Rattle.gm_graph_cache.specs.Refusals.{refused_names}
@@ -15,6 +16,7 @@ turns-init g c = record {
   may = may_none _ _;
   same_store = λ n r h. h;
   refused = refl;
+  later = omega arith;
 }
 
 pub turns-smaller : goal.turns-smaller
@@ -29,6 +31,7 @@ turns-preserved g c =
       may = may_along _ _ _ _ _ c.turns.invariant.same_store c.turns.invariant.may c.visit.ensures.may;
       same_store = λ n r h. c.turns.invariant.same_store n r (c.visit.ensures.same_store n r h);
       refused = c.in_ok-visit.ensures.refused ∙ append-nil _ ∙ c.turns.invariant.refused;
+      later = later_both _ _ _ c.turns.invariant.later c.visit.ensures.later;
     }
 
 pub returns-clause-opened : goal.returns-clause-opened
@@ -61,6 +64,13 @@ returns-in_err-visit-clause-device g c = λ name e.
     let said = c.in_err-visit.ensures.device name (ap Err (sym (rw e at c.from_residual-in_err-visit.ensures.1))) in
     due_here (main_in c.args.cache.now) (sums_in c.args.cache.now) c.turns.cache state.main_is state.sums_are (g.F.Files.asked c.turns.files) state.knows c.turns.worklist.turns.items c.turns.at c.in_ok-one.one.vertex c.in_ok-one.one.depth state.queue.sound (omega arith) here
     (g.F.Files.asked c.visit.new.files) _ said.0 said.1 said.2 said.3
+
+pub returns-in_err-visit-clause-cause : goal.returns-in_err-visit-clause-cause
+returns-in_err-visit-clause-cause g c = λ name e.
+    cause_later _ _ _ _ c.turns.invariant.later c.visit.ensures.later (c.in_err-visit.ensures.cause name (ap Err (sym (rw e at c.from_residual-in_err-visit.ensures.1))))
+
+pub returns-in_err-visit-clause-later : goal.returns-in_err-visit-clause-later
+returns-in_err-visit-clause-later g c = later_both _ _ _ c.turns.invariant.later c.visit.ensures.later
 
 pub returns-in_err-visit-clause-may : goal.returns-in_err-visit-clause-may
 returns-in_err-visit-clause-may g c = may_along _ _ _ _ _ c.turns.invariant.same_store c.turns.invariant.may c.visit.ensures.may

@@ -1,4 +1,4 @@
-use Rattle.std.proofs.Common.{◌≡◌, ◌-◌}
+use Rattle.std.proofs.Common.{◌≡◌, ◌≤◌, ◌-◌}
 use Rattle.gm_graph_cache.specs.Asking.{MayGrow, MayLess}
 use Rattle.gm_graph_cache.specs.Cached.{main_in, sums_in}
 use Rattle.gm_graph.proofs.Stepping.{IsAt}
@@ -10,6 +10,7 @@ invariant-turns g l = record {
   may : MayGrow (g.F.Files.may_answer l.fn.files) (g.F.Files.asked l.fn.files) (g.F.Files.asked l.files);
   same_store : MayLess (g.F.Files.may_answer l.files) (g.F.Files.may_answer l.fn.files);
   refused : g.F.Files.refused l.files ≡ g.F.Files.refused l.fn.files;
+  later : g.F.Files.fault_count l.fn.files ≤ g.F.Files.fault_count l.files;
 }
 
 abbrev pub decreases-turns : goal.decreases-turns

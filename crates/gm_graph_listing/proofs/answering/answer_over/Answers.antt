@@ -2,7 +2,7 @@ use Rattle.std.proofs.Common.{◌∙◌, Err, ap, refl}
 use Rattle.std.specs.Option.{option_copied}
 use Rattle.gm_graph_cache.specs.Main.{main_of}
 use Rattle.gm_graph_listing.specs.Outcomes.{outcome_view}
-use Rattle.gm_graph_listing.proofs.CommandOutcomes.{by_faults, load_fails, not_loaded}
+use Rattle.gm_graph_listing.proofs.CommandOutcomes.{by_faults, load_counts, load_fails, not_loaded}
 use Rattle.gm_graph_listing.proofs.answering.answer_over.Goals as goal
 
 pub returns-in_ok-output-in-Ok-clause-comes : goal.returns-in_ok-output-in-Ok-clause-comes
@@ -39,3 +39,23 @@ pub returns-in_ok-output-in-Err-clause-fails : goal.returns-in_ok-output-in-Err-
 returns-in_ok-output-in-Err-clause-fails g c =
     load_fails (main_of c.args.main.now) (option_copied c.args.table) (g.F.Files.asked c.load.new.files) (g.F.Files.refused c.args.files.now) (g.F.Files.refused c.load.new.files)
     c.load.result c.load.ensures.refused c.load.ensures.device
+
+pub returns-in_err-output-in-Ok-clause-cause : goal.returns-in_err-output-in-Ok-clause-cause
+returns-in_err-output-in-Ok-clause-cause g c =
+    load_counts (g.F.Files.refused c.args.files.now) (g.F.Files.refused c.load.new.files) (g.F.Files.fault_count c.args.files.now) (g.F.Files.fault_count c.load.new.files)
+    c.load.result c.load.ensures.refused c.load.ensures.cause
+
+pub returns-in_ok-output-in-Ok-clause-cause : goal.returns-in_ok-output-in-Ok-clause-cause
+returns-in_ok-output-in-Ok-clause-cause g c =
+    load_counts (g.F.Files.refused c.args.files.now) (g.F.Files.refused c.load.new.files) (g.F.Files.fault_count c.args.files.now) (g.F.Files.fault_count c.load.new.files)
+    c.load.result c.load.ensures.refused c.load.ensures.cause
+
+pub returns-in_err-output-in-Err-clause-cause : goal.returns-in_err-output-in-Err-clause-cause
+returns-in_err-output-in-Err-clause-cause g c =
+    load_counts (g.F.Files.refused c.args.files.now) (g.F.Files.refused c.load.new.files) (g.F.Files.fault_count c.args.files.now) (g.F.Files.fault_count c.load.new.files)
+    c.load.result c.load.ensures.refused c.load.ensures.cause
+
+pub returns-in_ok-output-in-Err-clause-cause : goal.returns-in_ok-output-in-Err-clause-cause
+returns-in_ok-output-in-Err-clause-cause g c =
+    load_counts (g.F.Files.refused c.args.files.now) (g.F.Files.refused c.load.new.files) (g.F.Files.fault_count c.args.files.now) (g.F.Files.fault_count c.load.new.files)
+    c.load.result c.load.ensures.refused c.load.ensures.cause

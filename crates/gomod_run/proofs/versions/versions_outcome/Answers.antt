@@ -1,3 +1,4 @@
+use Rattle.gm_store.proofs.Counts.{cause_both, later_both}
 use Rattle.gomod_run.specs.Runs.{store_state}
 use Rattle.gomod_run.proofs.Steps.{all_comes, latest_allowed, latest_comes, latest_fails, latest_in_turn}
 use Rattle.gomod_run.proofs.versions.versions_outcome.Goals as goal
@@ -62,3 +63,11 @@ returns-in_err-versions-clause-fails g c = c.listed.ensures.fails c.args.all
 
 pub returns-in-Err-clause-fails : goal.returns-in-Err-clause-fails
 returns-in-Err-clause-fails g c = c.listed.ensures.fails c.args.all
+
+pub returns-in-Some-clause-cause : goal.returns-in-Some-clause-cause
+returns-in-Some-clause-cause g c =
+    cause_both (g.F.Files.refused c.args.files.now) (g.F.Files.refused c.listed.new.files) (g.F.Files.refused c.latest_outcome.new.files) _ _ _ _
+    c.listed.ensures.later c.latest_outcome.ensures.later c.listed.ensures.cause c.latest_outcome.ensures.cause
+
+pub returns-in-Some-clause-later : goal.returns-in-Some-clause-later
+returns-in-Some-clause-later g c = later_both _ _ _ c.listed.ensures.later c.latest_outcome.ensures.later

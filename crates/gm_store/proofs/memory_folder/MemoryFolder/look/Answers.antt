@@ -19,19 +19,19 @@ seen_short held bytes e h = sym (ap result_for_file e ∙ fits 16777216 bytes.it
 seen_long : (held : Option Held) (bytes : Vec ℕ Global) → held ≡ Some (Content bytes) → 16777216 < length bytes.items → too_long ≡ result_for_file held
 seen_long held bytes e h = sym (ap result_for_file e ∙ exceeds 16777216 bytes.items h)
 
-pub returns-in-None : goal.returns-in-None
-returns-in-None c = sym (ap result_for_file (sym (c.in-None.ensures.value ∙ found_by c.args.name.now c.args.self.now.held.entries)))
+pub returns-in-None-clause-contents : goal.returns-in-None-clause-contents
+returns-in-None-clause-contents c = sym (ap result_for_file (sym (c.in-None.ensures.value ∙ found_by c.args.name.now c.args.self.now.held.entries)))
 
-pub returns-in-Some-Broken : goal.returns-in-Some-Broken
-returns-in-Some-Broken c =
+pub returns-in-Some-Broken-clause-contents : goal.returns-in-Some-Broken-clause-contents
+returns-in-Some-Broken-clause-contents c =
     sym (ap result_for_file (sym (c.in-Some-Broken.ensures.value ∙ found_by c.args.name.now c.args.self.now.held.entries) ∙ ap Some c.in-Some-Broken.field-0-is))
 
-pub returns-then-len-gt-LIMIT : goal.returns-then-len-gt-LIMIT
-returns-then-len-gt-LIMIT c =
+pub returns-then-len-gt-LIMIT-clause-contents : goal.returns-then-len-gt-LIMIT-clause-contents
+returns-then-len-gt-LIMIT-clause-contents c =
     let lies = sym (c.in-Some-Content.ensures.value ∙ found_by c.args.name.now c.args.self.now.held.entries) ∙ ap Some c.in-Some-Content.field-0-is in
     seen_long _ c.in-Some-Content.content lies (omega arith)
 
-pub returns-in_ok-copy_bytes-in-Some-Content : goal.returns-in_ok-copy_bytes-in-Some-Content
-returns-in_ok-copy_bytes-in-Some-Content c =
+pub returns-in_ok-copy_bytes-in-Some-Content-clause-contents : goal.returns-in_ok-copy_bytes-in-Some-Content-clause-contents
+returns-in_ok-copy_bytes-in-Some-Content-clause-contents c =
     let lies = sym (c.in-Some-Content.ensures.value ∙ found_by c.args.name.now c.args.self.now.held.entries) ∙ ap Some c.in-Some-Content.field-0-is in
     ap found c.in_ok-copy_bytes-in-Some-Content.ensures ∙ seen_short _ c.in-Some-Content.content lies (omega arith)
