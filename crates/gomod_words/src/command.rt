@@ -2,6 +2,7 @@
 //! expects. The texts of help are in `help`.
 
 ghost use Rattle.std.specs.Prelude.{◌≡◌, IfOk, codes, false};
+ghost use Rattle.clap.specs.Simple.{with_subcommand};
 ghost use Rattle.clap.specs.Words.{app_of, rule_of};
 ghost use Rattle.clap.specs.declared.builder.command.Command.TheViews.{out-Command};
 ghost use Rattle.gomod_words.specs.Usage.{chain_app, edit_app, default_option_rule, flag_rule, fmt_app, gomod_app, graph_app, list_app, required_option_rule, option_rule, query_app, versions_app, positional_rule, repeated_positional_rule};
@@ -45,7 +46,6 @@ fn fmt_command<'a>(alloc: Global) -> Result<Command<'a>, AllocError>
     ensures app { IfOk result (λ command. app_of command ≡ fmt_app) }
     ensures local { IfOk result (λ command. (out-Command command).has_globals ≡ false) }
 {
-    let file = file_argument(alloc, help::FMT_FILE);
     let described = with_help(
         Command::new(alloc, "fmt"),
         "Print a go.mod file, formatted",
@@ -53,7 +53,7 @@ fn fmt_command<'a>(alloc: Global) -> Result<Command<'a>, AllocError>
         help::FMT_USAGE,
         help::FMT_END,
     );
-    let command = described.arg(file)?;
+    let command = described.arg(file_argument(alloc, help::FMT_FILE))?;
     Ok(command)
 }
 
@@ -74,8 +74,6 @@ fn edit_command<'a>(alloc: Global) -> Result<Command<'a>, AllocError>
     ensures app { IfOk result (λ command. app_of command ≡ edit_app) }
     ensures local { IfOk result (λ command. (out-Command command).has_globals ≡ false) }
 {
-    let file = file_argument(alloc, help::EDIT_FILE);
-    let operations = operation_arguments(alloc);
     let described = with_help(
         Command::new(alloc, "edit"),
         "Apply operations to a go.mod file and print the result",
@@ -83,7 +81,9 @@ fn edit_command<'a>(alloc: Global) -> Result<Command<'a>, AllocError>
         help::EDIT_USAGE,
         help::EDIT_END,
     );
-    let command = described.arg(file)?.arg(operations)?;
+    let command = described
+        .arg(file_argument(alloc, help::EDIT_FILE))?
+        .arg(operation_arguments(alloc))?;
     Ok(command)
 }
 
@@ -126,9 +126,6 @@ fn versions_command<'a>(alloc: Global) -> Result<Command<'a>, AllocError>
     ensures app { IfOk result (λ command. app_of command ≡ versions_app) }
     ensures local { IfOk result (λ command. (out-Command command).has_globals ≡ false) }
 {
-    let path = path_argument(alloc);
-    let proxy = proxy_option(alloc);
-    let retracted = retracted_flag(alloc);
     let described = with_help(
         Command::new(alloc, "versions"),
         "Print the versions of a module, from standard input or --proxy",
@@ -136,7 +133,10 @@ fn versions_command<'a>(alloc: Global) -> Result<Command<'a>, AllocError>
         help::VERSIONS_USAGE,
         help::VERSIONS_END,
     );
-    let command = described.arg(path)?.arg(proxy)?.arg(retracted)?;
+    let command = described
+        .arg(path_argument(alloc))?
+        .arg(proxy_option(alloc))?
+        .arg(retracted_flag(alloc))?;
     Ok(command)
 }
 
@@ -204,10 +204,10 @@ fn query_command<'a>(alloc: Global, name: &'a str) -> Result<Command<'a>, AllocE
     ensures app { IfOk result (λ command. app_of command ≡ query_app name.entry.now) }
     ensures local { IfOk result (λ command. (out-Command command).has_globals ≡ false) }
 {
-    let proxy = required_proxy_option(alloc);
-    let main = mod_option(alloc);
-    let sums = sum_option(alloc);
-    let command = Command::new(alloc, name).arg(proxy)?.arg(main)?.arg(sums)?;
+    let command = Command::new(alloc, name)
+        .arg(required_proxy_option(alloc))?
+        .arg(mod_option(alloc))?
+        .arg(sum_option(alloc))?;
     Ok(command)
 }
 
@@ -232,8 +232,6 @@ fn list_command<'a>(alloc: Global) -> Result<Command<'a>, AllocError>
     ensures app { IfOk result (λ command. app_of command ≡ list_app) }
     ensures local { IfOk result (λ command. (out-Command command).has_globals ≡ false) }
 {
-    let after = after_option(alloc);
-    let limit = limit_option(alloc);
     let query = query_command(alloc, "list")?;
     let described = with_help(
         query,
@@ -242,7 +240,9 @@ fn list_command<'a>(alloc: Global) -> Result<Command<'a>, AllocError>
         help::LIST_USAGE,
         help::LIST_END,
     );
-    let command = described.arg(after)?.arg(limit)?;
+    let command = described
+        .arg(after_option(alloc))?
+        .arg(limit_option(alloc))?;
     Ok(command)
 }
 
@@ -251,7 +251,6 @@ fn chain_command<'a>(alloc: Global) -> Result<Command<'a>, AllocError>
     ensures app { IfOk result (λ command. app_of command ≡ chain_app) }
     ensures local { IfOk result (λ command. (out-Command command).has_globals ≡ false) }
 {
-    let path = path_argument(alloc);
     let query = query_command(alloc, "chain")?;
     let described = with_help(
         query,
@@ -260,7 +259,31 @@ fn chain_command<'a>(alloc: Global) -> Result<Command<'a>, AllocError>
         help::CHAIN_USAGE,
         help::CHAIN_END,
     );
-    let command = described.arg(path)?;
+    let command = described.arg(path_argument(alloc))?;
+    Ok(command)
+}
+
+/// The program with its commands over one file, `fmt` and `edit`.
+fn with_file_commands<'a>(alloc: Global, program: Command<'a>) -> Result<Command<'a>, AllocError>
+    ensures { IfOk result (λ command. app_of command
+        ≡ with_subcommand (with_subcommand (app_of program.entry) fmt_app.top) edit_app.top) }
+{
+    let command = program
+        .subcommand(fmt_command(alloc)?)?
+        .subcommand(edit_command(alloc)?)?;
+    Ok(command)
+}
+
+/// The program with its commands over a module graph, `graph`, `list` and `chain`.
+fn with_graph_commands<'a>(alloc: Global, program: Command<'a>) -> Result<Command<'a>, AllocError>
+    ensures { IfOk result (λ command. app_of command
+        ≡ with_subcommand (with_subcommand (with_subcommand (app_of program.entry) graph_app.top) list_app.top)
+        chain_app.top) }
+{
+    let command = program
+        .subcommand(graph_command(alloc)?)?
+        .subcommand(list_command(alloc)?)?
+        .subcommand(chain_command(alloc)?)?;
     Ok(command)
 }
 
@@ -268,24 +291,15 @@ fn chain_command<'a>(alloc: Global) -> Result<Command<'a>, AllocError>
 pub(crate) fn gomod_command<'a>(alloc: Global) -> Result<Command<'a>, AllocError>
     ensures { IfOk result (λ command. app_of command ≡ gomod_app) }
 {
-    let fmt = fmt_command(alloc)?;
-    let edit = edit_command(alloc)?;
-    let graph = graph_command(alloc)?;
-    let list = list_command(alloc)?;
-    let chain = chain_command(alloc)?;
-    let versions = versions_command(alloc)?;
-    let command = Command::new(alloc, "gomod")
+    let program = Command::new(alloc, "gomod")
         .about("Work with Go module files, without a network")
         .version(help::VERSION)
         .override_usage(help::GOMOD_USAGE)
         .after_help(help::GOMOD_END)
         .subcommand_required(true)
-        .arg_required_else_help(true)
-        .subcommand(fmt)?
-        .subcommand(edit)?
-        .subcommand(graph)?
-        .subcommand(list)?
-        .subcommand(chain)?
-        .subcommand(versions)?;
+        .arg_required_else_help(true);
+    let program = with_file_commands(alloc, program)?;
+    let program = with_graph_commands(alloc, program)?;
+    let command = program.subcommand(versions_command(alloc)?)?;
     Ok(command)
 }
