@@ -65,7 +65,7 @@ pub record IsLayoutOf (file text : List ℕ) : Type 0 where
   pub parsed : IsParsedAs file (Ok lines)
   pub text_is : text ≡ layout (plain_lines lines)
 
-not_printed : (text report : List ℕ) → printed text ≡ refused report → ⊥
+pub not_printed : (text report : List ℕ) → printed text ≡ refused report → ⊥
 not_printed text report same = let e : 0 ≡ 1 = ap (λ (o : Outcome). o.status) same in omega (arith, e)
 
 pub fmt_printed : (file text : List ℕ) → IsFormatted file text → IsLayoutOf file text
@@ -74,7 +74,7 @@ fmt_printed file text has = elim (fmt_states file (printed text) has) [
   | inr of_fault ↦ absurd (not_printed text (main_line of_fault.1) of_fault.4)
 ]
 
-says_itself : (main : Main) → SayTheSame main main
+pub says_itself : (main : Main) → SayTheSame main main
 says_itself main = record { path = refl; pruned = refl; required = λ x. (λ is. is, λ is. is); excluded = λ x. (λ is. is, λ is. is); replaced = λ x. refl }
 
 pub formatting_changes_no_build : FormattingChangesNoBuild
@@ -98,7 +98,7 @@ layouts_are_formatted file text formatted first short again =
 
 -- ---- `edit` without an operation
 
-edit_states : (operations : Vec (String Global)) (file : List ℕ) (outcome : Outcome) → HasOutcome (Edit operations) file None [] outcome → IsEditOutcome (texts_in operations) file outcome
+pub edit_states : (operations : Vec (String Global)) (file : List ℕ) (outcome : Outcome) → HasOutcome (Edit operations) file None [] outcome → IsEditOutcome (texts_in operations) file outcome
 edit_states operations file outcome has = elim has.run [
   | inl stated ↦ stated.0
   | inr stopped ↦ absurd stopped.2
@@ -116,21 +116,21 @@ edit_of_nothing_formats operations file main edited formatted none is one other 
 -- ---- what `edit` prints
 
 -- what is known of lines between two operations
-record AreSoundLines (lines : List (Line Placed)) : Type 0 where
+pub record AreSoundLines (lines : List (Line Placed)) : Type 0 where
   pub document : IsDocument (plain_lines lines)
   pub faultless : fault_of Strict (plain_lines lines) ≡ None
   pub utf8 : AreGood lines
 
-edited_sound : (text : List ℕ) (edit : Change) (lines : List (Line Placed)) → IsUtf8 text → edit_in text ≡ Some edit → is_fit edit ≡ true → AreSoundLines lines → AreSoundLines (edited edit lines)
+pub edited_sound : (text : List ℕ) (edit : Change) (lines : List (Line Placed)) → IsUtf8 text → edit_in text ≡ Some edit → is_fit edit ≡ true → AreSoundLines lines → AreSoundLines (edited edit lines)
 edited_sound text edit lines utf8 written fit are =
     let sound = written-sound text edit written in
     let after = edited-document edit lines sound fit are.document are.faultless in
     record { document = after.0; faultless = after.1; utf8 = edited_good text edit lines utf8 written sound are.utf8 }
 
-abbrev numbered : ℕ → List ℕ → ℕ × List ℕ
+abbrev pub numbered : ℕ → List ℕ → ℕ × List ℕ
 numbered number kind = (number, kind)
 
-no_refusal : (number : ℕ) (edit : Change) (rest : List (ℕ × List ℕ)) → option_to_list (option_map (numbered number) (refusal_of (Some edit))) ++ rest ≡ [] → (is_fit edit ≡ true) × (rest ≡ [])
+pub no_refusal : (number : ℕ) (edit : Change) (rest : List (ℕ × List ℕ)) → option_to_list (option_map (numbered number) (refusal_of (Some edit))) ++ rest ≡ [] → (is_fit edit ≡ true) × (rest ≡ [])
 no_refusal number edit rest none = by_fit (is_fit edit) refl none
   where
     by_fit : (fit : Bool) → is_fit edit ≡ fit → option_to_list (option_map (numbered number) (if fit then None else Some (codes "Misfit"))) ++ rest ≡ [] → (is_fit edit ≡ true) × (rest ≡ [])
@@ -150,7 +150,7 @@ in_turn_sound number (text ∷ texts) lines utf8 none are = by_edit (edit_in tex
         let fit = no_refusal number edit (refusals_from (number + 1) texts) refused in
         rest (edited edit lines) fit.1 (edited_sound text edit lines utf8.0 written fit.0 are)
 
-texts_utf8 : (texts : List (String Global)) → AllByRecursion IsUtf8 (map string_bytes texts)
+pub texts_utf8 : (texts : List (String Global)) → AllByRecursion IsUtf8 (map string_bytes texts)
 texts_utf8 [] = tt
 texts_utf8 (text ∷ texts) = (IsUtf8-string_bytes text, texts_utf8 texts)
 

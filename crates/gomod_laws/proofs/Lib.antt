@@ -26,3 +26,9 @@ pub mod RequirableLists
 pub mod RequirableEdits
 pub mod RequirableRows
 pub mod LineOrderLines
+pub mod EditListSaid
+pub mod EditListSteps
+pub mod EditListShown
+pub mod EditListExcluded
+pub mod EditListReplaced
+pub mod EditListFar

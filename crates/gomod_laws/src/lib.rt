@@ -6,6 +6,7 @@
 #![tactic(auto)]
 
 pub mod additions;
+pub mod edits_listed;
 pub mod excluded;
 pub mod explained;
 pub mod formatting;
