@@ -1,8 +1,7 @@
 -- Which faults of a version make the version of a pair bad.
-use Rattle.std.proofs.Common.{◌≡◌, Err, Result, refl}
+use Rattle.std.proofs.Common.{◌≡◌, Err, Result}
 use Rattle.std.specs.Prelude.{IsErrOf}
 use Rattle.gm_name.specs.PairFaults.{pair_fault_of_version}
-use Rattle.gm_name.specs.declared.known_names.PairFault.{PairFault}
 use Rattle.gm_name.specs.declared.known_names.PairFault.TheVariants as pair
 use Rattle.gm_name.specs.declared.version.VersionFault.{VersionFault}
 use Rattle.gm_name.specs.declared.version.VersionFault.TheVariants as version

@@ -2,6 +2,7 @@ pub mod Element
 pub mod Escape
 pub mod Fingerprint
 pub mod Fit
+pub mod Kept
 pub mod Laws
 pub mod Names
 pub mod Number

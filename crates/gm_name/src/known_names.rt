@@ -1,7 +1,9 @@
 //! Names that were read before, kept so that a duplicate is neither tested nor stored again.
 
-ghost use Rattle.std.specs.Prelude.{◌≡◌, ◌↔◌, IfOk, IfSome, IsErrOf};
+ghost use Rattle.std.specs.Prelude.{◌≡◌, ◌<◌, ◌≤◌, ◌↔◌, IfOk, IfErr, IfSome, IsErrOf, length};
+ghost use Rattle.gm_name.specs.Fingerprint.{fingerprint};
 ghost use Rattle.gm_name.specs.Fit.{Fits};
+ghost use Rattle.gm_name.specs.Kept.{IsWithinRoom, none_kept};
 ghost use Rattle.gm_name.specs.Path.{IsPath};
 ghost use Rattle.gm_name.specs.Version.{IsNotCanonical, IsSemVer, IsVersion};
 ghost use Rattle.gm_name.specs.PairFaults.{pair_fault_of_path, pair_fault_of_version};
@@ -13,6 +15,7 @@ use crate::path::{ModPath, PathFault};
 use crate::version::{ModVersion, VersionFault};
 use std::alloc::{AllocError, Global};
 use std::collections::BTreeMap;
+use std::marker::Model;
 use thiserror::Error;
 
 /// Why `KnownNames::pair` returned no pair.
@@ -68,7 +71,8 @@ impl From<VersionFault> for PairFault {
 ///
 /// Reading through a `KnownNames` gives the same results as `ModPath::parse` and `ModVersion::parse`. One name
 /// is kept under each fingerprint, so a lookup among n names takes log n comparisons of numbers and one of
-/// texts, whatever the names are.
+/// texts, whatever the names are. Contracts see how many names of each kind are kept, which is never more than
+/// there is room for. Where there is no room, no text is hashed to be looked up.
 #[derive(Drop)]
 pub struct KnownNames {
     /// How many names each of the three maps may grow to.
@@ -77,8 +81,26 @@ pub struct KnownNames {
     paths: BTreeMap<u64, ModPath>,
     /// Versions by fingerprint.
     versions: BTreeMap<u64, ModVersion>,
-    /// Pairs by fingerprint.
+    /// Pairs by the number that `PairNumbers::joined` makes of their texts' fingerprints.
     pairs: BTreeMap<u64, ModVer>,
+}
+
+impl Model for KnownNames {
+    ghost use Rattle.std.specs.Prelude.{◌≤◌, length};
+    ghost use Rattle.gm_name.specs.Kept.{KeptCounts};
+
+    ghost Value = { KeptCounts };
+
+    ghost view = { λ a. record {
+      room = a.room;
+      paths = length a.paths.entries;
+      versions = length a.versions.entries;
+      pairs = length a.pairs.entries;
+    } };
+
+    ghost invariant = { λ a. (length a.paths.entries ≤ a.room)
+        × (length a.versions.entries ≤ a.room)
+        × (length a.pairs.entries ≤ a.room) };
 }
 
 /// Keeps a name under a number, replacing any other there, as long as there are fewer than `room` names.
@@ -87,18 +109,36 @@ fn keep<T: Drop>(
     room: usize,
     number: u64,
     name: T,
-) -> Result<(), AllocError> {
+) -> Result<(), AllocError>
+    ensures { length names.old.entries ≤ room → length names.new.entries ≤ room }
+{
     if names.len() < room {
         names.insert(number, name)?;
     }
     Ok(())
 }
 
+/// The numbers of a pair's texts, under which they are kept.
+#[derive(Clone, Copy)]
+struct PairNumbers {
+    /// The number of the path's text.
+    path: u64,
+    /// The number of the version's text.
+    version: u64,
+}
+
+impl PairNumbers {
+    /// The number that the pair is kept under. It needs no further pass over the texts.
+    fn joined(self) -> u64 {
+        self.path.rotate_left(1) ^ self.version
+    }
+}
+
 impl KnownNames {
-    /// No names, with room for `room` paths, as many versions and as many pairs. Allocates no memory until a
-    /// name is kept.
+    /// No names, with room for `room` paths, as many versions and as many pairs. No more than these are ever
+    /// kept. Allocates no memory until a name is kept.
     pub fn new(alloc: Global, room: usize) -> KnownNames
-        ensures { result.room ≡ room }
+        ensures { result ≡ none_kept room }
     {
         KnownNames {
             room,
@@ -108,15 +148,51 @@ impl KnownNames {
         }
     }
 
-    /// The pair with these texts, if it was kept. Two pairs may have the same fingerprint, so the texts are
-    /// compared too.
-    fn known_pair(&self, path: &str, version: &str) -> Option<&ModVer>
+    /// The number that a text is kept under: its fingerprint. It isn't computed where there is no room to keep
+    /// anything.
+    fn number_of(&self, text: &str) -> u64
+        ensures { 0 < self.now.room → result ≡ fingerprint 0 text.now }
+    {
+        if self.room == 0 {
+            0
+        } else {
+            fingerprint(0, text)
+        }
+    }
+
+    /// The path with this text, if it was kept under this number. Two texts may have the same number, so the texts
+    /// are compared too.
+    fn known_path(&self, number: u64, text: &str) -> Option<&ModPath>
+        ensures { IfSome result (λ path. (path.now ≡ text.now) × IsPath text.now) }
+    {
+        let held = self.paths.get(&number)?;
+        if held.as_str() == text {
+            Some(held)
+        } else {
+            None
+        }
+    }
+
+    /// The version with this text, if it was kept under this number. The texts are compared too.
+    fn known_version(&self, number: u64, text: &str) -> Option<&ModVersion>
+        ensures { IfSome result (λ version. (version.now ≡ text.now) × IsVersion text.now) }
+    {
+        let held = self.versions.get(&number)?;
+        if held.as_str() == text {
+            Some(held)
+        } else {
+            None
+        }
+    }
+
+    /// The pair with these texts, if it was kept under this number. The texts are compared too.
+    fn known_pair(&self, number: u64, path: &str, version: &str) -> Option<&ModVer>
         ensures pair { IfSome result (λ pair. pair.now ≡ (path.now, version.now)) }
         ensures path { IfSome result (λ pair. IsPath path.now) }
         ensures version { IfSome result (λ pair. IsVersion version.now) }
         ensures fit { IfSome result (λ pair. Fits path.now version.now) }
+        ensures within { IsWithinRoom self.now }
     {
-        let number = fingerprint(fingerprint(0, path), version);
         let held = self.pairs.get(&number)?;
         if held.path().as_str() == path && held.version().as_str() == version {
             Some(held)
@@ -125,16 +201,15 @@ impl KnownNames {
         }
     }
 
-    /// Keeps a pair, so that later reads of it find it.
-    fn keep_pair(&mut self, alloc: Global, pair: &ModVer) -> Result<(), AllocError>
-        ensures { self.new.room ≡ self.old.room }
+    /// Keeps a pair under a number, so that later reads of it find it.
+    fn keep_pair(&mut self, alloc: Global, number: u64, pair: &ModVer) -> Result<(), AllocError>
+        ensures room { self.new.room ≡ self.old.room }
+        ensures within { IsWithinRoom self.new }
     {
-        keep(
-            &mut self.pairs,
-            self.room,
-            pair.fingerprint(),
-            pair.copy(alloc)?,
-        )
+        if self.room == 0 {
+            return Ok(());
+        }
+        keep(&mut self.pairs, self.room, number, pair.copy(alloc)?)
     }
 
     /// The pair of the path in one text and the version in another, as `path` and `version` read them and
@@ -145,22 +220,28 @@ impl KnownNames {
     /// path, `NoMemory` may come in place of any other result.
     pub fn pair(&mut self, alloc: Global, path: &str, version: &str) -> Result<ModVer, PairFault>
         ensures room { self.new.room ≡ self.old.room }
+        ensures within { IsWithinRoom self.new }
         ensures pair { IfOk result (λ pair. pair ≡ (path.now, version.now)) }
         ensures fit { IfOk result (λ pair. IsPath path.now × IsVersion version.now × Fits path.now version.now) }
         ensures bad_path { IsErrOf result PairFault.BadPath ↔ ¬ (IsPath path.now) }
         ensures bad_version { IsErrOf result PairFault.BadVersion → IsPath path.now × ¬ (IsVersion version.now) }
         ensures misfit { IsErrOf result PairFault.Misfit
             → IsPath path.now × IsVersion version.now × ¬ (Fits path.now version.now) }
+        ensures memory { IsErrOf result PairFault.NoMemory → IsPath path.now }
     {
-        if let Some(held) = self.known_pair(path, version) {
+        let numbers = PairNumbers {
+            path: self.number_of(path),
+            version: self.number_of(version),
+        };
+        if let Some(held) = self.known_pair(numbers.joined(), path, version) {
             return Ok(held.copy(alloc)?);
         }
-        let path = self.path(alloc, path)?;
-        let version = self.version(alloc, version)?;
+        let path = self.numbered_path(alloc, numbers.path, path)?;
+        let version = self.numbered_version(alloc, numbers.version, version)?;
         let Some(pair) = ModVer::pair(path, version) else {
             return Err(PairFault::Misfit);
         };
-        self.keep_pair(alloc, &pair)?;
+        self.keep_pair(alloc, numbers.joined(), &pair)?;
         Ok(pair)
     }
 
@@ -169,16 +250,35 @@ impl KnownNames {
     /// `BadPath` exactly when the text isn't a module path; `NoMemory` only if it is one.
     pub fn path(&mut self, alloc: Global, text: &str) -> Result<ModPath, PathFault>
         ensures room { self.new.room ≡ self.old.room }
+        ensures within { IsWithinRoom self.new }
         ensures ok { IfOk result (λ path. (path ≡ text.now) × IsPath text.now) }
         ensures bad { IsErrOf result PathFault.BadPath ↔ ¬ (IsPath text.now) }
+        ensures memory { IsErrOf result PathFault.NoMemory → IsPath text.now }
     {
-        let number = fingerprint(0, text);
-        if let Some(held) = self.paths.get(&number) {
-            if held.as_str() == text {
-                return Ok(held.copy(alloc)?);
-            }
+        self.numbered_path(alloc, self.number_of(text), text)
+    }
+
+    /// The module path in a text with this number.
+    fn numbered_path(
+        &mut self,
+        alloc: Global,
+        number: u64,
+        text: &str,
+    ) -> Result<ModPath, PathFault>
+        requires { 0 < self.old.room → number ≡ fingerprint 0 text.now }
+        ensures room { self.new.room ≡ self.old.room }
+        ensures within { IsWithinRoom self.new }
+        ensures ok { IfOk result (λ path. (path ≡ text.now) × IsPath text.now) }
+        ensures bad { IsErrOf result PathFault.BadPath ↔ ¬ (IsPath text.now) }
+        ensures memory { IsErrOf result PathFault.NoMemory → IsPath text.now }
+    {
+        if self.room == 0 {
+            return ModPath::parse(alloc, text);
         }
-        let path = ModPath::parse(alloc, text)?;
+        if let Some(held) = self.known_path(number, text) {
+            return Ok(held.copy(alloc)?);
+        }
+        let path = ModPath::numbered(alloc, number, text)?;
         keep(&mut self.paths, self.room, number, path.copy(alloc)?)?;
         Ok(path)
     }
@@ -189,17 +289,36 @@ impl KnownNames {
     /// SemVer version, with any build.
     pub fn version(&mut self, alloc: Global, text: &str) -> Result<ModVersion, VersionFault>
         ensures room { self.new.room ≡ self.old.room }
+        ensures within { IsWithinRoom self.new }
         ensures ok { IfOk result (λ version. (version ≡ text.now) × IsVersion text.now) }
         ensures not_canonical { IsErrOf result VersionFault.NotCanonical
             → IsNotCanonical text.now × ¬ (IsVersion text.now) }
         ensures bad { IsErrOf result VersionFault.BadVersion → ¬ (IsVersion text.now) × ¬ (IsNotCanonical text.now) }
         ensures memory { IsErrOf result VersionFault.NoMemory → IsSemVer text.now }
     {
-        let number = fingerprint(0, text);
-        if let Some(held) = self.versions.get(&number) {
-            if held.as_str() == text {
-                return Ok(held.copy(alloc)?);
-            }
+        self.numbered_version(alloc, self.number_of(text), text)
+    }
+
+    /// The version in a text with this number.
+    fn numbered_version(
+        &mut self,
+        alloc: Global,
+        number: u64,
+        text: &str,
+    ) -> Result<ModVersion, VersionFault>
+        ensures room { self.new.room ≡ self.old.room }
+        ensures within { IsWithinRoom self.new }
+        ensures ok { IfOk result (λ version. (version ≡ text.now) × IsVersion text.now) }
+        ensures not_canonical { IsErrOf result VersionFault.NotCanonical
+            → IsNotCanonical text.now × ¬ (IsVersion text.now) }
+        ensures bad { IsErrOf result VersionFault.BadVersion → ¬ (IsVersion text.now) × ¬ (IsNotCanonical text.now) }
+        ensures memory { IsErrOf result VersionFault.NoMemory → IsSemVer text.now }
+    {
+        if self.room == 0 {
+            return ModVersion::parse(alloc, text);
+        }
+        if let Some(held) = self.known_version(number, text) {
+            return Ok(held.copy(alloc)?);
         }
         let version = ModVersion::parse(alloc, text)?;
         keep(&mut self.versions, self.room, number, version.copy(alloc)?)?;

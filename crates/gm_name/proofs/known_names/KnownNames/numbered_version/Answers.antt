@@ -1,5 +1,5 @@
 use Rattle.std.proofs.lemmas.Result.{err_from_is_err_and}
-use Rattle.gm_name.proofs.known_names.KnownNames.version.Goals as goal
+use Rattle.gm_name.proofs.known_names.KnownNames.numbered_version.Goals as goal
 
 pub returns-in_err-version-clause-not_canonical : goal.returns-in_err-version-clause-not_canonical
 returns-in_err-version-clause-not_canonical c =
