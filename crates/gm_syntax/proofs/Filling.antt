@@ -10,6 +10,7 @@ use Rattle.gm_syntax.specs.Scan.{trim_end}
 use Rattle.gm_syntax.specs.Document.{Line, Blank, Comment, Open, Close, Entry, class_of}
 use Rattle.gm_syntax.specs.LineViews.{tokens_of, plain}
 use Rattle.gm_syntax.specs.Placing.{IsTail, FillText, FillsLine, FillLines}
+use Rattle.gm_syntax.specs.LineReading.{LinesFillUpTo}
 use Rattle.gm_syntax.proofs.Reading.{trim_parts}
 use Rattle.gm_syntax.proofs.Lines.{lines_nil}
 use Rattle.gm_syntax.proofs.Stable.{mark, FromWords, from_words}
@@ -128,10 +129,6 @@ line_filled inside first text ts comment l classed same f = by_line l (from_word
         fill_as words suffix (sym (same ∙ take_all (length words) ts (omega (arith, len)))) w.1
 
 -- ---- the lines of a text
-
--- the lines so far take the text up to its rest
-abbrev pub LinesFillUpTo : List ℕ → List (Line Placed) → List ℕ → Type 0
-LinesFillUpTo text lines rest = (more : List (Line Placed)) → FillLines (length text - length rest) (lines_of rest) more → FillLines 0 (lines_of text) (lines ++ more)
 
 -- without lines the offset is nothing to them
 no_lines : (m n : ℕ) (more : List (Line Placed)) → FillLines m [] more → FillLines n [] more

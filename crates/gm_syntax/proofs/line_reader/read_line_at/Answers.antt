@@ -3,7 +3,7 @@ use Rattle.gm_syntax.specs.Tokens.{comment_of, AreSlicesBetween}
 use Rattle.gm_syntax.specs.LineViews.{line_of, tokens_of}
 use Rattle.gm_syntax.proofs.Places.{stand_take}
 use Rattle.gm_syntax.proofs.Filling.{line_filled}
-use Rattle.gm_syntax.proofs.doc.read_line_at.Goals as goal
+use Rattle.gm_syntax.proofs.line_reader.read_line_at.Goals as goal
 
 pub returns-in-Ok-clause-placed : goal.returns-in-Ok-clause-placed
 returns-in-Ok-clause-placed c = λ source after whole.

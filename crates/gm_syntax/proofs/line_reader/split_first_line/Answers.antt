@@ -6,8 +6,8 @@ use Rattle.std.proofs.lemmas.Bool.{eqb-true, eqb-false}
 use Rattle.gm_syntax.specs.Lines.{lines_of, line_len}
 use Rattle.gm_syntax.proofs.Lines.{CutLine, cut_at, line_boundary, past_boundary}
 use Rattle.gm_syntax.proofs.Places.{suffix_of}
-use Rattle.gm_syntax.proofs.doc.split_first_line.Goals as goal
-use Rattle.gm_syntax.proofs.doc.split_first_line.Goals.{After-split_at}
+use Rattle.gm_syntax.proofs.line_reader.split_first_line.Goals as goal
+use Rattle.gm_syntax.proofs.line_reader.split_first_line.Goals.{After-split_at}
 
 len_is : (c : After-split_at) → c.line_len.result ≡ line_len c.args.text.now
 len_is c = c.line_len.ensures ∙ ap line_len c.as_bytes.ensures.value

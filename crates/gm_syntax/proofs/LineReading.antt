@@ -1,0 +1,84 @@
+-- The steps of a reader of lines.
+use Rattle.std.proofs.Common.{◌≡◌, ℕ, ◌+◌, ◌-◌, ◌<◌, ◌≤◌, true, false, List, [], ◌∷◌, ◌++◌, length, drop, Ok, Err, refl, sym, ap, subst, arith}
+use Rattle.std.proofs.lemmas.List.{map_push, length-append}
+use Rattle.gm_syntax.specs.declared.fault.LineFault.{LineFault}
+use Rattle.gm_syntax.specs.declared.fault.LineFault.TheVariants as faults
+use Rattle.gm_syntax.specs.declared.fault.SyntaxKind.TheVariants.{OpenBlock}
+use Rattle.gm_syntax.specs.declared.fault.SyntaxFault.TheVariants as syntax
+use Rattle.gm_syntax.specs.declared.place.Place.{Place}
+use Rattle.gm_syntax.specs.Words.{Word}
+use Rattle.gm_syntax.specs.Lines.{lines_of, HasNoLineFeed}
+use Rattle.gm_syntax.specs.Tokens.{Placed, AreSlicesBetween, AreNumbered}
+use Rattle.gm_syntax.specs.Document.{Line, start, after}
+use Rattle.gm_syntax.specs.LineViews.{plain, plain_lines, tokens_of, all_tokens}
+use Rattle.gm_syntax.specs.Placing.{FillsLine, FillLines}
+use Rattle.gm_syntax.specs.Parsed.{IsText, IsParsedAs}
+use Rattle.gm_syntax.specs.Reader.{IsOnlyLine, IsLineReadAs}
+use Rattle.gm_syntax.specs.LineFaults.{fault_at}
+use Rattle.gm_syntax.specs.LineReading.{Unread, TextProgress, HasRead, IsReadDocument}
+use Rattle.gm_syntax.proofs.Places.{suffix_of_suffix, line_stands, lines_numbered_push, stand_widen}
+use Rattle.gm_syntax.proofs.Filling.{lines_fill_more, lines_fill_end}
+use Rattle.gm_syntax.proofs.Counting.{document_counted}
+use Rattle.gm_syntax.proofs.Texts.{text_start, text_line, text_fault, text_end, text_open, number_after}
+
+abbrev pub unread : List ℕ → List ℕ → Place → Unread
+unread source rest at = record { source = source; rest = rest; at = at }
+
+-- before the first line
+pub read_start : (source : List ℕ) → IsText source → HasRead (unread source source start) []
+read_start source is =
+    let zero_left : 0 ≡ length source - length source = omega arith in record {
+      is_text = is;
+      progress = text_start source;
+      fits = omega arith;
+      suffix = ap (λ (n : ℕ). drop n source) zero_left;
+      counted = refl;
+      placed = omega arith;
+      numbered = tt;
+      filled = λ more f. subst (λ (n : ℕ). FillLines n (lines_of source) more) (sym zero_left) f;
+    }
+
+module _ {left : Unread} {lines : List (Line Placed)} (so : HasRead left lines) where
+  -- after one more line
+  pub read_more : (front next : List ℕ) (l : Line Placed) (at : Place) → at ≡ after left.at (plain l) → lines_of left.rest ≡ front ∷ lines_of next → HasNoLineFeed front
+      → length next < length left.rest → length front + length next ≤ length left.rest → ((more : List ℕ) × (left.rest ≡ front ++ more))
+      → next ≡ drop (length left.rest - length next) left.rest → (0 < length next → length left.rest ≡ length front + 1 + length next)
+      → IsOnlyLine left.at.inside front (Ok (plain l))
+      → ((source more : List ℕ) → drop (length left.source - length left.rest) source ≡ front ++ more → AreSlicesBetween source (length left.source - length left.rest) (length left.source - length left.rest + length front) (tokens_of l))
+      → AreNumbered left.at.number (tokens_of l) → FillsLine (length left.source - length left.rest) front l
+      → HasRead (unread left.source next at) (lines ++ l ∷ [])
+  read_more front next l at is_after cut no_feed shorter within begins is_rest feed only stands numbers fills = record {
+    is_text = so.is_text;
+    progress = subst (λ (ls : List (Line Word)). TextProgress left.source ls at next) (sym (map_push plain lines l))
+        (subst (λ (p : Place). TextProgress left.source (plain_lines lines ++ plain l ∷ []) p next) (sym is_after)
+        (text_line so.progress front next (plain l) cut no_feed only));
+    fits = omega (arith, shorter, so.fits);
+    suffix = suffix_of_suffix left.source left.rest next so.fits (omega (arith, shorter)) so.suffix is_rest;
+    counted = omega (arith, ap (λ (p : Place). p.number) is_after, number_after left.at (plain l), so.counted, length-append lines (l ∷ []));
+    placed = line_stands left.source left.rest front next lines l so.fits within so.suffix begins so.placed stands;
+    numbered = lines_numbered_push 1 lines l so.numbered (subst (λ (n : ℕ). AreNumbered n (tokens_of l)) so.counted numbers);
+    filled = lines_fill_more left.source left.rest front next lines l so.fits so.filled cut feed fills;
+  }
+
+  -- the next line has a fault
+  pub read_fault : (front next : List ℕ) (fault : LineFault) → lines_of left.rest ≡ front ∷ lines_of next → IsLineReadAs left.at.inside front (Err fault)
+      → IsParsedAs left.source (Err (fault_at left.at.number fault))
+  read_fault front next faults.Memory cut only = tt
+  read_fault front next (faults.Syntax kind) cut only = (so.is_text, plain_lines lines, text_fault so.progress front next kind cut only)
+
+  -- there is no line left, and the last block is closed
+  pub read_end : lines_of left.rest ≡ [] → left.at.inside ≡ false → IsReadDocument left.source lines
+  read_end none outside =
+      let whole = text_end so.progress none outside in
+      let fills = lines_fill_end left.source left.rest lines so.filled none in
+      record {
+        parsed = (so.is_text, whole.0);
+        document = whole.1;
+        placed = stand_widen left.source 0 (length left.source - length left.rest) (length left.source) (all_tokens lines) (omega arith) so.placed;
+        numbered = so.numbered;
+        stand = record { fills_lines = fills; counted_lines = document_counted left.source lines fills so.numbered };
+      }
+
+  -- there is no line left, and the last block is open
+  pub read_open : lines_of left.rest ≡ [] → left.at.inside ≡ true → IsParsedAs left.source (Err (syntax.Syntax left.at.opened OpenBlock))
+  read_open none inside = (so.is_text, plain_lines lines, text_open so.progress none inside)
