@@ -15,3 +15,4 @@ pub mod LineSaid
 pub mod Lines
 pub mod Whole
 pub mod Retracted
+pub mod DepReading

@@ -12,3 +12,5 @@ pub mod Pairs
 pub mod Indexes
 pub mod Holding
 pub mod Retracting
+pub mod ReadFaults
+pub mod DepLines

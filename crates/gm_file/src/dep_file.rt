@@ -1,20 +1,22 @@
 //! A dependency's file: lax reading, which keeps only what a build needs from a dependency.
 
-ghost use Rattle.std.specs.Prelude.{◌≡◌, IfOk, IfErr, None};
+ghost use Rattle.std.specs.Prelude.{◌≡◌, IfOk, IfErr, None, unwrap_or};
 ghost use Rattle.std.specs.Option.{option_copied};
 ghost use Rattle.gm_syntax.specs.LineViews.{plain_lines};
+ghost use Rattle.gm_file.specs.DepLines.{IsDependencyIn, IsMisread};
 ghost use Rattle.gm_file.specs.Directives.{Lax};
 ghost use Rattle.gm_file.specs.Faults.{fault_of};
 ghost use Rattle.gm_file.specs.Fields.{dependency_of};
 ghost use Rattle.gm_file.specs.Views.{ReportsFault, interval_views};
 
-use crate::fault::FileFault;
+use crate::dep_lines::{DepLines, read_dep_lines};
+use crate::fault::{FileFault, ReadFault};
 use crate::fields::{Fields, read_lines};
 use crate::replace::Interval;
 use crate::retractions::read_retractions;
 use crate::verb::Mode;
 use gm_name::{KnownNames, ModPath, ModVer};
-use gm_syntax::Doc;
+use gm_syntax::{Doc, LineReader};
 use std::alloc::Global;
 use std::marker::Model;
 
@@ -59,19 +61,53 @@ impl DepFile {
             × (fault_of Lax (plain_lines doc.now) ≡ None)) }
         ensures fault { IfErr result (ReportsFault Lax (plain_lines doc.now)) }
     {
+        let fields = read_lines(alloc, names, Mode::Lax, doc.lines())?;
+        let retracts = read_retractions(alloc, names, doc.lines())?;
+        Ok(DepFile::of_fields(fields, retracts))
+    }
+
+    /// Reads the bytes of a file: the result is that of `Doc::parse` and then `read`, but no document is kept.
+    ///
+    /// A fault of the text comes first, on whichever line it is: the bytes are read to the end even if a directive
+    /// before it is at fault. `NoMemory` may replace any result, when memory runs out.
+    pub fn read_bytes(
+        alloc: Global,
+        names: &mut KnownNames,
+        bytes: &[u8],
+    ) -> Result<DepFile, ReadFault>
+        ensures ok { IfOk result (IsDependencyIn bytes.now) }
+        ensures fault { IfErr result (IsMisread bytes.now) }
+    {
+        let mut reader = LineReader::new(alloc, bytes)?;
+        let DepLines {
+            fields,
+            retracts,
+            ..
+        } = read_dep_lines(alloc, names, &mut reader)?;
+        Ok(DepFile::of_fields(fields, retracts))
+    }
+
+    /// The file with these fields and retractions.
+    fn of_fields(fields: Fields, retracts: Vec<Interval>) -> DepFile
+        ensures { result ≡ record {
+          declared = fields.declared;
+          go = unwrap_or fields.go (1, 16);
+          requirements = fields.requirements.items;
+          retracts = interval_views retracts.items;
+        } }
+    {
         let Fields {
             declared,
             go,
             requirements,
             ..
-        } = read_lines(alloc, names, Mode::Lax, doc.lines())?;
-        let retracts = read_retractions(alloc, names, doc.lines())?;
-        Ok(DepFile {
+        } = fields;
+        DepFile {
             declared,
             go: go.unwrap_or((1, 16)),
             requirements,
             retracts,
-        })
+        }
     }
 
     /// The path of the `module` directive, if there is one.

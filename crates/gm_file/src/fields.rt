@@ -129,7 +129,7 @@ impl Fields {
     }
 
     /// Reads the next line and adds its directive. `block` is the verb of the open block, if any.
-    fn read_line(
+    pub(crate) fn read_line(
         &mut self,
         alloc: Global,
         names: &mut KnownNames,

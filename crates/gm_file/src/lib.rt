@@ -23,6 +23,7 @@
 #![tactic(auto)]
 
 mod dep_file;
+mod dep_lines;
 mod directive;
 mod exclusions;
 mod fault;
@@ -38,7 +39,7 @@ mod verb;
 
 pub use crate::dep_file::DepFile;
 pub use crate::directive::{Directive, read_line};
-pub use crate::fault::{DirectiveKind, FileFault, LineFault};
+pub use crate::fault::{DirectiveKind, FileFault, LineFault, ReadFault};
 pub use crate::go_version::strict_go;
 pub use crate::main_file::MainFile;
 pub use crate::replace::{Interval, Replace, Right};

@@ -1,8 +1,8 @@
 //! The retractions of a dependency's file. They are read in a pass of their own, since their faults don't count,
 //! while the loop in `fields` stops at every fault.
 
-ghost use Rattle.std.specs.Prelude.{◌≡◌, IfOk};
-ghost use Rattle.std.specs.Option.{option_map};
+ghost use Rattle.std.specs.Prelude.{◌≡◌, ◌++◌, IfOk, OnOk};
+ghost use Rattle.std.specs.Option.{option_map, option_to_list};
 ghost use Rattle.gm_syntax.specs.LineViews.{line_of, line_views, plain, plain_lines};
 ghost use Rattle.gm_syntax.specs.Tokens.{words_of};
 ghost use Rattle.gm_file.specs.Directives.{item_at};
@@ -84,6 +84,24 @@ fn retraction_at(
     interval_in(alloc, names, words)
 }
 
+/// Adds the interval that a line retracts, if it retracts one. `block` is the verb of the open block, if any.
+pub(crate) fn add_retraction(
+    alloc: Global,
+    names: &mut KnownNames,
+    intervals: &mut Vec<Interval>,
+    block: Option<&Token>,
+    line: &Line,
+) -> Result<(), AllocError>
+    ensures { OnOk result (interval_views intervals.new.items
+        ≡ interval_views intervals.old.items ++ option_to_list
+        (retraction_at (item_at (option_map (λ t. t.now.word) block.entry, plain (line_of line.now))))) }
+{
+    if let Some(interval) = retraction_at(alloc, names, block, line)? {
+        intervals.push(interval)?;
+    }
+    Ok(())
+}
+
 /// The intervals that the lines retract, in order and with duplicates. An entry that strict reading would refuse is
 /// skipped.
 pub(crate) fn read_retractions(
@@ -97,9 +115,7 @@ pub(crate) fn read_retractions(
     let mut intervals = Vec::new(alloc);
     let mut block = None;
     for line in lines {
-        if let Some(interval) = retraction_at(alloc, names, block, line)? {
-            intervals.push(interval)?;
-        }
+        add_retraction(alloc, names, &mut intervals, block, line)?;
         block = block_after_line(block, line);
     }
     Ok(intervals)

@@ -1,0 +1,95 @@
+-- The steps of reading a dependency's file from its bytes.
+use Rattle.std.proofs.Common.{◌≡◌, ℕ, ◌+◌, List, [], ◌∷◌, ◌++◌, length, Option, Some, None, Ok, Err, refl, sym, ap, subst, ◌∙◌, arith, Bor}
+use Rattle.std.proofs.lemmas.List.{length-append, length-map, map-append, map_push}
+use Rattle.std.specs.Prelude.{unwrap_or}
+use Rattle.std.specs.Option.{option_copied, option_map, option_to_list}
+use Rattle.std.specs.Global.{Vec}
+use Rattle.gm_syntax.specs.Words.{Word}
+use Rattle.gm_syntax.specs.Tokens.{Placed}
+use Rattle.gm_syntax.specs.Document.{Line}
+use Rattle.gm_syntax.specs.LineViews.{plain, plain_lines}
+use Rattle.gm_syntax.specs.Parsed.{IsParsedAs}
+use Rattle.gm_syntax.specs.LineReading.{IsRestRead}
+use Rattle.gm_syntax.specs.declared.fault.SyntaxFault.{SyntaxFault}
+use Rattle.gm_syntax.specs.declared.fault.SyntaxFault.TheVariants as syntax
+use Rattle.gm_file.specs.declared.dep_lines.DepLines.{DepLines}
+use Rattle.gm_file.specs.declared.fault.LineFault.{LineFault}
+use Rattle.gm_file.specs.declared.fault.LineFault.TheVariants as line
+use Rattle.gm_file.specs.declared.fields.Fields.{Fields}
+use Rattle.gm_file.specs.declared.replace.Interval.{Interval}
+use Rattle.gm_file.specs.DepLines.{AreAllRead, AreDepLines, HasNextFault, IsDependencyIn, IsMisread}
+use Rattle.gm_file.specs.Directives.{Lax, block_after_line, item_at}
+use Rattle.gm_file.specs.Faults.{fault_of}
+use Rattle.gm_file.specs.Fields.{Dependency}
+use Rattle.gm_file.specs.Holding.{AreFound, AreReadTo, Holds, IsLineAdded}
+use Rattle.gm_file.specs.ReadFaults.{read_by_file, read_by_syntax}
+use Rattle.gm_file.specs.Retracting.{retraction_at}
+use Rattle.gm_file.specs.Views.{fault_at, interval_views}
+use Rattle.gm_file.proofs.Lines.{fault-reported, read-more, read-none}
+use Rattle.gm_file.proofs.Retracted.{AreRetracted, retracted-more}
+use Rattle.gm_file.proofs.Whole.{dependency, dependency-is, lax-sound}
+
+-- the word of a block's verb
+abbrev pub word_of : Option Placed → Option Word
+word_of block = option_map (λ t. t.word) block
+
+pub word-behind : (block : Option (Bor Placed)) → option_map (λ t. t.now.word) block ≡ word_of (option_copied block)
+word-behind None = refl
+word-behind (Some t) = refl
+
+-- before the first line
+pub dep-none : (fields : Fields) (retracts : Vec Interval) → Holds Lax [] fields → AreFound fields → retracts.items ≡ []
+    → AreDepLines [] (record { block = None; fields = fields; retracts = retracts })
+dep-none fields retracts holds found none = record { read = read-none Lax fields holds found; retracted = ap interval_views none }
+
+-- one more line without a fault
+pub dep-more : (lines : List (Line Word)) (here : Line Word) (block : Option Word) (old new : DepLines) → AreDepLines lines old → block ≡ word_of old.block → AreFound new.fields
+    → IsLineAdded Lax old.fields new.fields (item_at (block, here)) (Ok tt)
+    → interval_views new.retracts.items ≡ interval_views old.retracts.items ++ option_to_list (retraction_at (item_at (block, here)))
+    → word_of new.block ≡ block_after_line (word_of old.block) here
+    → AreDepLines (lines ++ here ∷ []) new
+dep-more lines here block old new so is found added retracts after =
+    let read : AreReadTo Lax lines block old.fields = subst (λ (b : Option Word). AreReadTo Lax lines b old.fields) (sym is) so.read in
+    let kept : AreRetracted lines block (interval_views old.retracts.items) = record { open_is = read.open_is; are = so.retracted } in
+    let now : word_of new.block ≡ block_after_line block here = after ∙ ap (λ (b : Option Word). block_after_line b here) (sym is) in
+    record {
+      read = subst (λ (b : Option Word). AreReadTo Lax (lines ++ here ∷ []) b new.fields) (sym now) (read-more Lax lines block here old.fields new.fields read found added);
+      retracted = (retracted-more lines block here (interval_views old.retracts.items) (interval_views new.retracts.items) kept retracts).are;
+    }
+
+-- the next line has a fault
+pub dep-fault : (lines : List (Line Word)) (here : Line Word) (block : Option Word) (old : DepLines) (new : Fields) (fault : LineFault) → AreDepLines lines old → block ≡ word_of old.block
+    → IsLineAdded Lax old.fields new (item_at (block, here)) (Err fault) → HasNextFault lines here fault
+dep-fault lines here block old new fault so is told = λ later.
+    let read : AreReadTo Lax lines block old.fields = subst (λ (b : Option Word). AreReadTo Lax lines b old.fields) (sym is) so.read in
+    fault-reported Lax lines block here later ((lines ++ here ∷ []) ++ later) (length lines + 1) old.fields new fault read refl refl told
+
+-- a fault of the text comes first
+pub misread-syntax : (bytes : List ℕ) (fault : SyntaxFault) → IsParsedAs bytes (Err fault) → IsMisread bytes (read_by_syntax fault)
+misread-syntax bytes syntax.NoMemory is = tt
+misread-syntax bytes syntax.TooMany is = is
+misread-syntax bytes syntax.NotUtf8 is = is
+misread-syntax bytes (syntax.Syntax number kind) is = is
+
+-- where the rest of the text has no fault, that of the line is the fault of the bytes
+pub misread-line : (bytes : List ℕ) (lines : List (Line Placed)) (here : Line Placed) (number : ℕ) (fault : LineFault)
+    → number ≡ length (lines ++ here ∷ []) → HasNextFault (plain_lines lines) (plain here) fault → IsRestRead bytes (lines ++ here ∷ []) (Ok tt)
+    → IsMisread bytes (read_by_file (fault_at number fault))
+misread-line bytes lines here number line.NoMemory is told rest = tt
+misread-line bytes lines here number (line.Kind kind) is told rest =
+    let same : length (plain_lines lines) + 1 ≡ number = omega (arith, is, length-append lines (here ∷ []), length-map lines plain) in (
+      (lines ++ here ∷ []) ++ rest.0,
+      rest.1,
+      ap (fault_of Lax) (map-append plain (lines ++ here ∷ []) rest.0 ∙ ap (λ (ls : List (Line Word)). ls ++ plain_lines rest.0) (map_push plain lines here))
+          ∙ told (plain_lines rest.0) ∙ ap (λ (n : ℕ). Some (n, kind)) same,
+    )
+
+-- all lines have been read
+pub dep-whole : (bytes : List ℕ) (said : DepLines) (file : Dependency) → AreAllRead bytes said
+    → file ≡ dependency said.fields.declared (unwrap_or said.fields.go (1, 16)) said.fields.requirements.items (interval_views said.retracts.items) → IsDependencyIn bytes file
+dep-whole bytes said file all is = (
+  all.0,
+  all.1,
+  lax-sound (plain_lines all.0) said.fields all.2.read.read,
+  sym (is ∙ dependency-is (plain_lines all.0) said.fields (unwrap_or said.fields.go (1, 16)) (interval_views said.retracts.items) all.2.read.read refl all.2.retracted),
+)

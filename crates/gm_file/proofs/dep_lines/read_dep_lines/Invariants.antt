@@ -1,0 +1,18 @@
+use Rattle.std.proofs.Common.{◌≡◌, List, length}
+use Rattle.gm_syntax.specs.Tokens.{Placed}
+use Rattle.gm_syntax.specs.Document.{Line}
+use Rattle.gm_syntax.specs.LineReading.{HasRead}
+use Rattle.gm_syntax.specs.LineViews.{plain_lines}
+use Rattle.gm_file.specs.DepLines.{AreDepLines}
+use Rattle.gm_file.specs.Holding.{AreFound}
+use Rattle.gm_file.proofs.dep_lines.read_dep_lines.Given as goal
+
+abbrev pub invariant-loop-said : goal.invariant-loop-said
+invariant-loop-said l = record {
+  source : l.reader.source ≡ l.initial.reader.source;
+  found : AreFound l.said.fields;
+  read : (lines : List (Line Placed)) × HasRead l.reader lines × AreDepLines (plain_lines lines) l.said;
+}
+
+abbrev pub decreases-loop-said : goal.decreases-loop-said
+decreases-loop-said l = length l.reader.rest

@@ -1,0 +1,51 @@
+-- Reading a dependency's file from its bytes, line by line.
+use Rattle.std.specs.Prelude.{◌≡◌, ℕ, ◌+◌, List, [], ◌∷◌, ◌++◌, length, Some, None, Result, Ok, Err, ⊤}
+use Rattle.std.specs.Option.{option_map}
+use Rattle.gm_syntax.specs.Words.{Word}
+use Rattle.gm_syntax.specs.Tokens.{Placed}
+use Rattle.gm_syntax.specs.Document.{Line}
+use Rattle.gm_syntax.specs.LineViews.{plain_lines}
+use Rattle.gm_syntax.specs.Parsed.{IsParsedAs}
+use Rattle.gm_syntax.specs.declared.fault.SyntaxFault.TheVariants as syntax
+use Rattle.gm_file.specs.declared.dep_lines.DepLines.{DepLines}
+use Rattle.gm_file.specs.declared.fault.LineFault.{LineFault}
+use Rattle.gm_file.specs.declared.fault.ReadFault.{ReadFault}
+use Rattle.gm_file.specs.declared.fault.ReadFault.TheVariants as read
+use Rattle.gm_file.specs.Directives.{Lax}
+use Rattle.gm_file.specs.Faults.{fault_of}
+use Rattle.gm_file.specs.Fields.{Dependency, dependency_of, lax_retracts_of}
+use Rattle.gm_file.specs.Holding.{AreReadTo}
+use Rattle.gm_file.specs.Views.{ReportsFault, fault_at, interval_views}
+
+-- the bytes are a document without a fault, and these are its fields
+abbrev pub IsDependencyIn : List ℕ → Dependency → Type 0
+IsDependencyIn bytes file = (doc : List (Line Placed)) × IsParsedAs bytes (Ok doc)
+    × (fault_of Lax (plain_lines doc) ≡ None) × (dependency_of (plain_lines doc) ≡ file)
+
+-- the fault of the bytes: that of the text if it has one, otherwise that of the document
+abbrev pub IsMisread : List ℕ → ReadFault → Type 0
+IsMisread bytes read.NoMemory = ⊤
+IsMisread bytes read.TooMany = IsParsedAs bytes (Err syntax.TooMany)
+IsMisread bytes read.NotUtf8 = IsParsedAs bytes (Err syntax.NotUtf8)
+IsMisread bytes (read.Syntax line kind) = IsParsedAs bytes (Err (syntax.Syntax line kind))
+IsMisread bytes (read.Directive line kind) = (doc : List (Line Placed)) × IsParsedAs bytes (Ok doc)
+    × (fault_of Lax (plain_lines doc) ≡ Some (line, kind))
+
+-- the lines so far have no fault, and this is what they say
+pub record AreDepLines (lines : List (Line Word)) (said : DepLines) : Type 0 where
+  pub read : AreReadTo Lax lines (option_map (λ t. t.word) said.block) said.fields
+  pub retracted : interval_views said.retracts.items ≡ lax_retracts_of lines
+
+-- the next line has this fault, whatever lines follow
+abbrev pub HasNextFault : List (Line Word) → Line Word → LineFault → Type 0
+HasNextFault lines here fault = (later : List (Line Word))
+    → ReportsFault Lax ((lines ++ here ∷ []) ++ later) (fault_at (length lines + 1) fault)
+
+-- one more line has been read, or has this fault
+abbrev pub IsNextRead : List (Line Word) → Line Word → DepLines → Result (Unit {0}) LineFault → Type 0
+IsNextRead lines here said (Ok u) = AreDepLines (lines ++ here ∷ []) said
+IsNextRead lines here said (Err fault) = HasNextFault lines here fault
+
+-- all lines of the bytes have been read
+abbrev pub AreAllRead : List ℕ → DepLines → Type 0
+AreAllRead bytes said = (doc : List (Line Placed)) × IsParsedAs bytes (Ok doc) × AreDepLines (plain_lines doc) said

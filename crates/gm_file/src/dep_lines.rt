@@ -1,0 +1,124 @@
+//! A dependency's file read from its bytes: line by line and in one pass, so that no document is kept.
+
+ghost use Rattle.std.specs.Prelude.{◌≡◌, ◌∷◌, ◌++◌, [], List, IfErr, IfOk, OnOk};
+ghost use Rattle.std.specs.Option.{option_map};
+ghost use Rattle.gm_syntax.specs.Document.{Line as LineOf};
+ghost use Rattle.gm_syntax.specs.LineReading.{HasRead};
+ghost use Rattle.gm_syntax.specs.LineViews.{line_of, plain, plain_lines};
+ghost use Rattle.gm_syntax.specs.Tokens.{Placed};
+ghost use Rattle.gm_syntax.specs.Words.{Word};
+ghost use Rattle.gm_file.specs.DepLines.{AreAllRead, AreDepLines, HasNextFault, IsMisread, IsNextRead};
+ghost use Rattle.gm_file.specs.Directives.{block_after_line};
+ghost use Rattle.gm_file.specs.Holding.{AreFound};
+
+use crate::fault::{LineFault, ReadFault};
+use crate::fields::Fields;
+use crate::replace::Interval;
+use crate::retractions::add_retraction;
+use crate::verb::Mode;
+use gm_name::KnownNames;
+use gm_syntax::{Line, LineReader, Token};
+use std::alloc::{AllocError, Global};
+
+/// What the lines so far of a dependency's file say.
+#[derive(Drop)]
+pub(crate) struct DepLines<'a> {
+    /// The verb of the block that is open, if any.
+    pub(crate) block: Option<Token<'a>>,
+    /// The fields.
+    pub(crate) fields: Fields,
+    /// The intervals of the well-formed `retract` entries, in order.
+    pub(crate) retracts: Vec<Interval>,
+}
+
+/// Sets the verb of the open block to that of the one that is open after a line.
+fn pass_line<'a>(
+    alloc: Global,
+    block: &mut Option<Token<'a>>,
+    line: &Line<'a>,
+) -> Result<(), AllocError>
+    ensures { OnOk result (option_map (λ t. t.word) block.new
+        ≡ block_after_line (option_map (λ t. t.word) block.old) (plain (line_of line.now))) }
+{
+    match line {
+        Line::Open(verb, _) => set_block(block, Some(verb.copy(alloc)?)),
+        Line::Close(_) => set_block(block, None),
+        Line::Blank => (),
+        Line::Comment(_) => (),
+        Line::Entry(_, _) => (),
+    }
+    Ok(())
+}
+
+/// Sets the verb of the open block.
+fn set_block<'a>(block: &mut Option<Token<'a>>, verb: Option<Token<'a>>)
+    ensures { block.new ≡ verb.entry }
+{
+    *block = verb;
+}
+
+impl<'a> DepLines<'a> {
+    /// What no lines say.
+    fn new(alloc: Global) -> DepLines<'a>
+        ensures lines { AreDepLines [] result }
+        ensures found { AreFound result.fields }
+    {
+        DepLines {
+            block: None,
+            fields: Fields::new(alloc),
+            retracts: Vec::new(alloc),
+        }
+    }
+
+    /// Reads the next line.
+    fn read_line(
+        &mut self,
+        alloc: Global,
+        names: &mut KnownNames,
+        line: &Line<'a>,
+    ) -> Result<(), LineFault>
+        requires { AreFound self.old.fields }
+        ensures found { OnOk result (AreFound self.new.fields) }
+        ensures read { (lines : List (LineOf Word)) → AreDepLines lines self.old
+            → IsNextRead lines (plain (line_of line.now)) self.new result }
+    {
+        let block = self.block.as_ref();
+        self.fields.read_line(alloc, names, Mode::Lax, block, line)?;
+        add_retraction(alloc, names, &mut self.retracts, block, line)?;
+        pass_line(alloc, &mut self.block, line)?;
+        Ok(())
+    }
+}
+
+/// The fault of the bytes, given the fault of the last line that was read: a fault of the text on a later line comes
+/// first.
+fn fault_of_all(reader: &mut LineReader, fault: LineFault) -> ReadFault
+    ensures { (lines : List (LineOf Placed)) (here : LineOf Placed) → HasRead reader.old (lines ++ here ∷ [])
+        → HasNextFault (plain_lines lines) (plain here) fault → IsMisread reader.old.source result }
+{
+    let number = reader.lines_read();
+    match reader.skip_rest() {
+        Ok(()) => ReadFault::from(fault.at_line(number)),
+        Err(syntax) => ReadFault::from(syntax),
+    }
+}
+
+/// What all lines say, or the fault of the bytes.
+pub(crate) fn read_dep_lines<'a>(
+    alloc: Global,
+    names: &mut KnownNames,
+    reader: &mut LineReader<'a>,
+) -> Result<DepLines<'a>, ReadFault>
+    requires { HasRead reader.old [] }
+    ensures ok { IfOk result (AreAllRead reader.old.source) }
+    ensures fault { IfErr result (IsMisread reader.old.source) }
+{
+    let mut said = DepLines::new(alloc);
+    while let Some(line) = reader.next()? {
+        if let Err(fault) = said.read_line(alloc, names, &line) {
+            return Err(fault_of_all(reader, fault));
+        }
+        reader.recycle(line);
+    }
+    Ok(said)
+}
