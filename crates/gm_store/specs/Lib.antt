@@ -1,5 +1,6 @@
 pub mod Cutting
 pub mod Failing
+pub mod Faults
 pub mod Found
 pub mod Asked
 pub mod Held

@@ -1,6 +1,7 @@
 -- What is known of a sink, and the effects of writing a piece to it.
-use Rattle.std.specs.Prelude.{◌≡◌, ◌<◌, ◌≤◌, ◌⊎◌, ◌-◌, ◌^◌, ℕ, List, length, take, Option, Some, None, Result, MatchResult, IsErr, min}
+use Rattle.std.specs.Prelude.{◌≡◌, ◌<◌, ◌≤◌, ◌-◌, ℕ, List, length, take, Option, Some, None, Result, MatchResult, IsErr, min}
 use Rattle.std.specs.Io.KnownBytes.{Appends}
+use Rattle.gm_store.specs.Faults.{HasCountedFailure}
 
 -- what is known of a sink: the bytes that it took and how many more it can take, where it reports them, and how
 -- often it failed
@@ -18,7 +19,7 @@ pub record TakesPrefix (old new : Option (List ℕ)) (piece : List ℕ) (count :
 -- the count of faults doesn't fall, and it rises with each failure unless it is at its maximum already
 pub record HasCause {T E : Type 0} (old new : ℕ) (result : Result T E) : Type 0 where
   pub later : old ≤ new
-  pub cause : IsErr result → (old < new) ⊎ (old ≡ 2 ^ 64 - 1)
+  pub cause : IsErr result → HasCountedFailure old new
 
 -- if the room is known, as many bytes are taken as fit; a piece is refused only if it isn't empty and there is no
 -- room

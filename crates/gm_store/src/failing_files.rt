@@ -2,8 +2,9 @@
 //!
 //! Tests use it to inject a device failure at every point of a run, without a real device.
 
-ghost use Rattle.std.specs.Prelude.{◌≡◌, ◌+◌, ◌-◌, ◌^◌, ◌<◌, ◌≤◌, ◌⊎◌, List, [], ◌∷◌, ◌++◌, Some, None, OnOk, OnErr, IsErr};
+ghost use Rattle.std.specs.Prelude.{◌≡◌, ◌+◌, ◌≤◌, List, [], ◌∷◌, ◌++◌, Some, None, OnOk, OnErr, IsErr};
 ghost use Rattle.gm_store.specs.Asked.{IsWithinLimit, Name, Reply, answer_in, name_of};
+ghost use Rattle.gm_store.specs.Faults.{HasCountedFailure};
 
 use crate::files::{Answer, AskFault, FileName, Files, copy_name};
 use crate::memory_files::MemoryFiles;
@@ -62,8 +63,7 @@ impl Files for FailingFiles {
             → refused_by self.new ≡ refused_by self.old ++ name_of name.now ∷ [] }
         ensures not_refused { (result ≡ Err AskFault.Device → ⊥) → refused_by self.new ≡ refused_by self.old }
         ensures cause { result ≡ Err AskFault.Device
-            → (failures_with (asks_left self.old) < failures_with (asks_left self.new))
-            ⊎ (failures_with (asks_left self.old) ≡ 2 ^ 64 - 1) }
+            → HasCountedFailure (failures_with (asks_left self.old)) (failures_with (asks_left self.new)) }
         ensures same_store { (name : Name) (reply : Reply)
             → may_give (inside_of self.new) name reply → may_give (inside_of self.old) name reply }
         ensures within_limit { OnOk result ((reply : Reply) × IsWithinLimit reply

@@ -64,8 +64,9 @@ impl<F: Folders> FallbackStore<F> {
 }
 
 impl<F: Folders> Files for FallbackStore<F> {
-    ghost use Rattle.std.specs.Prelude.{◌≡◌, ◌-◌, ◌^◌, ◌<◌, ◌≤◌, ◌⊎◌, ℕ, [], ◌∷◌, ◌++◌, None, Some, OnOk, OnErr};
+    ghost use Rattle.std.specs.Prelude.{◌≡◌, ◌≤◌, ℕ, [], ◌∷◌, ◌++◌, None, Some, OnOk, OnErr};
     ghost use Rattle.gm_store.specs.Asked.{IsWithinLimit, Reply, answer_in, name_of};
+    ghost use Rattle.gm_store.specs.Faults.{HasCountedFailure};
     ghost use Rattle.gm_store.specs.Steps.{HasCounted, MayStop, counted_up};
     ghost use Rattle.gm_store.specs.Views.{asked_by, faults_of, folders_under, marks_between, refused_by};
 
@@ -90,7 +91,7 @@ impl<F: Folders> Files for FallbackStore<F> {
             → refused_by self.new ≡ refused_by self.old ++ name_of name.now ∷ [] }
         ensures not_refused { (result ≡ Err AskFault.Device → ⊥) → refused_by self.new ≡ refused_by self.old }
         ensures cause { result ≡ Err AskFault.Device
-            → (faults_of self.old < faults_of self.new) ⊎ (faults_of self.old ≡ 2 ^ 64 - 1) }
+            → HasCountedFailure (faults_of self.old) (faults_of self.new) }
         ensures same_store { (folders_under self.new ≡ folders_under self.old)
             × (marks_between self.new ≡ marks_between self.old) }
         ensures within_limit { OnOk result ((reply : Reply) × IsWithinLimit reply

@@ -2,10 +2,11 @@
 //!
 //! The loop works over the trait `Folders`, so folders in memory and on a device share it.
 
-ghost use Rattle.std.specs.Prelude.{◌≡◌, ◌-◌, ◌^◌, ◌<◌, ◌⊎◌, ℕ, [], ◌∷◌, length, slice_get, Some, IfErr, IfNone, IfOk, IfSome, OnErr, false};
+ghost use Rattle.std.specs.Prelude.{◌≡◌, ◌<◌, ℕ, [], ◌∷◌, length, slice_get, Some, IfErr, IfNone, IfOk, IfSome, OnErr, false};
 ghost use Rattle.std.specs.List.{count_by};
 ghost use Rattle.std.specs.Option.{option_map};
 ghost use Rattle.gm_store.specs.Asked.{IsWithinLimit, name_of, reply_of};
+ghost use Rattle.gm_store.specs.Faults.{HasCountedFailure};
 ghost use Rattle.gm_store.specs.Steps.{HasCounted, HasFallenBack, MayStop, counted_up, has_failed, outcome_of, reply_in, result_of, step_of};
 ghost use Rattle.gm_store.specs.declared.files.AskFault.TheVariants as ask_fault;
 
@@ -63,7 +64,7 @@ pub(crate) fn walk<F: Folders>(
     faults: &mut u64,
 ) -> Result<Option<Answer>, OutOfMemory>
     requires { length marks.now < F.count_for folders.now (name_of name.now) }
-    ensures cause { IfOk result (λ answer. IfNone answer ((faults.old < faults.new) ⊎ (faults.old ≡ 2 ^ 64 - 1))) }
+    ensures cause { IfOk result (λ answer. IfNone answer (HasCountedFailure faults.old faults.new)) }
     ensures stop { IfOk result (λ answer. (failures : ℕ)
         × MayStop (λ k seen. F.may_find folders.now k (name_of name.now) seen) marks.now
         (option_map reply_of answer) failures

@@ -3,7 +3,7 @@
 //! Other crates get the files of dependencies only through this trait. A store keeps each answer, so a run is a
 //! function of the answers, and one store can stand in for another.
 
-ghost use Rattle.std.specs.Prelude.{◌≡◌, ◌+◌, ◌-◌, ◌^◌, ◌<◌, ◌⊎◌, ℕ, List, [], ◌∷◌, ◌++◌, length, slice_get, Some, None, OnOk, OnErr, IfOk};
+ghost use Rattle.std.specs.Prelude.{◌≡◌, ◌+◌, ◌<◌, ℕ, List, [], ◌∷◌, ◌++◌, length, slice_get, Some, None, OnOk, OnErr, IfOk};
 ghost use Rattle.gm_store.specs.Asked.{IsWithinLimit, name_of, reply_of};
 ghost use Rattle.gm_store.specs.declared.files.AskFault.TheVariants as ask_fault;
 
@@ -13,7 +13,7 @@ use thiserror::Error;
 
 /// The name of a file that is requested from a store. The maps of memory stores use the derived
 /// order.
-#[derive(Debug, Drop, PartialEq, Eq, PartialOrd, Ord)]
+#[derive(Debug, Drop, PartialEq, Eq, PartialOrd, Ord, Hash)]
 pub enum FileName {
     /// The `.mod` file of a module at a version.
     Mod(ModPath, ModVersion),
@@ -40,7 +40,7 @@ impl FileName {
 }
 
 /// A store's answer to a request.
-#[derive(Debug, Drop)]
+#[derive(Debug, Drop, PartialEq, Eq)]
 pub enum Answer {
     /// The file's bytes, at most `LIMIT` (16 MiB).
     Bytes(Vec<u8>),
@@ -105,6 +105,7 @@ impl<T: Drop> From<AllocFailed<T>> for AskFault {
 /// So the files of a run don't change while it lasts, and contracts can refer to all that was read.
 pub trait Files {
     ghost use Rattle.std.specs.Prelude.{◌≤◌};
+    ghost use Rattle.gm_store.specs.Faults.{HasCountedFailure};
     ghost use Rattle.gm_store.specs.Asked.{IsWithinLimit, Name, Reply, name_of, reply_of, names_in, replies_in, answer_in};
 
     /// The names requested so far with their answers, in order.
@@ -136,7 +137,7 @@ pub trait Files {
             → refused self.new ≡ refused self.old ++ name_of name.now ∷ [] }
         ensures not_refused { (result ≡ Err AskFault.Device → ⊥) → refused self.new ≡ refused self.old }
         ensures cause { result ≡ Err AskFault.Device
-            → (fault_count self.old < fault_count self.new) ⊎ (fault_count self.old ≡ 2 ^ 64 - 1) }
+            → HasCountedFailure (fault_count self.old) (fault_count self.new) }
 
         // A request doesn't add possible answers.
         ensures same_store { (name : Name) (reply : Reply)
