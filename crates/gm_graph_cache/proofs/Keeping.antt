@@ -7,7 +7,7 @@ use Rattle.gm_store.specs.Asked.{Name, Reply, answer_in, same_name}
 use Rattle.gm_store_sums.specs.declared.sum_table.SumTable.{SumTable}
 use Rattle.gm_graph_cache.specs.declared.class.Class.{Class}
 use Rattle.gm_graph_cache.specs.declared.name_key.NameKey.{NameKey}
-use Rattle.gm_graph_cache.specs.declared.summary.Summary.{Summary}
+use Rattle.gm_graph_cache.specs.declared.summary.Kept.{Kept}
 use Rattle.gm_graph_cache.specs.declared.cache.Cache.{Cache}
 use Rattle.gm_graph_cache.specs.Main.{Main, ModuleVersion, main_of, replacement_in}
 use Rattle.gm_graph_cache.specs.Marks.{is_key_of}
@@ -90,7 +90,7 @@ readings_stay main old new keeps x reading e = reading_stays (is_askable (file_o
 -- ---- a cache that holds the same
 
 -- what a map holds of the file of each name
-abbrev held_among : List (NameKey × Result Summary Class) → Held
+abbrev held_among : List (NameKey × Kept) → Held
 held_among entries name = option_map summary_reading (lookup (is_key_of name) entries)
 
 pub main_same : (old new : Cache) → HoldsSame old new → main_in new ≡ main_in old
@@ -104,5 +104,5 @@ pub knows_still : (old new : Cache) (pairs : List (Name × Reply)) → HoldsSame
 knows_still old new pairs same knows = record {
   tells = subst (λ (s : Option SumTable). Tells s pairs (held_of new)) (sym same.sums) (subst (λ (h : Held). Tells (sums_in old) pairs h) (sym (held_same old new same)) knows.tells);
   lends = λ name one e. subst (λ (m : Main). IsKept m one) (sym (main_same old new same))
-      (knows.lends name one (ap (λ (es : List (NameKey × Result Summary Class)). lookup (is_key_of name) es) (sym same.entries) ∙ e));
+      (knows.lends name one (ap (λ (es : List (NameKey × Kept)). lookup (is_key_of name) es) (sym same.entries) ∙ e));
 }

@@ -5,11 +5,13 @@ use Rattle.gm_file.specs.Fields.{Dependency}
 use Rattle.gm_store.specs.Asked.{Name}
 use Rattle.gm_graph_cache.specs.declared.class.Class.{Class}
 use Rattle.gm_graph_cache.specs.declared.class.Class.TheVariants.{WrongPath}
-use Rattle.gm_graph_cache.specs.declared.summary.Summary.{Summary}
+use Rattle.gm_graph_cache.specs.declared.summary.Kept.{Kept}
+use Rattle.gm_graph_cache.specs.declared.summary.Kept.TheVariants.{Valid, Faulty}
 use Rattle.gm_graph_cache.specs.declared.cache.Cache.{Cache}
 use Rattle.gm_graph_cache.specs.Main.{Main, ModuleVersion, without_excluded, replacement_in}
 use Rattle.gm_graph_cache.specs.Reading.{Held, file_of, is_askable, is_right_path, reading_if, readings_by, requirements_in, vertex_requirements, said_in, with_right_path}
-use Rattle.gm_graph_cache.specs.Summaries.{IsKept, lent_found, lent_in, summary_reading}
+use Rattle.gm_graph_cache.specs.Entries.{lent_in}
+use Rattle.gm_graph_cache.specs.Summaries.{IsKept, lent_found, summary_reading}
 use Rattle.gm_graph_cache.specs.Cached.{IsLender, LendsKept, held_of, main_in, summary_at}
 use Rattle.gm_graph_cache.proofs.Holding.{held_sound}
 
@@ -24,10 +26,10 @@ finds_right main held x name file is askable there right =
     ∙ ap (λ (o : Option (Result Dependency Class)). option_map (with_right_path x (replacement_in main x)) o) (subst (λ (n : Name). held n ≡ Some (Ok file)) is there)
     ∙ ap (λ (b : Bool). Some (or_wrong b file)) right
 
-lent_one : (main : Main) (o : Option (Result Summary Class)) (file : Dependency) → ((one : Result Summary Class) → o ≡ Some one → IsKept main one) → option_map summary_reading o ≡ Some (Ok file) → lent_found o ≡ without_excluded main file.requirements
+lent_one : (main : Main) (o : Option Kept) (file : Dependency) → ((one : Kept) → o ≡ Some one → IsKept main one) → option_map summary_reading o ≡ Some (Ok file) → lent_found o ≡ without_excluded main file.requirements
 lent_one main None file is e = absurd cc
-lent_one main (Some (Err class)) file is e = absurd cc
-lent_one main (Some (Ok summary)) file is e = let same : summary.file ≡ file = cc in is (Ok summary) refl ∙ ap (λ (f : Dependency). without_excluded main f.requirements) same
+lent_one main (Some (Faulty class)) file is e = absurd cc
+lent_one main (Some (Valid summary)) file is e = let same : summary.file ≡ file = cc in is (Valid summary) refl ∙ ap (λ (f : Dependency). without_excluded main f.requirements) same
 
 -- The requirements returned under the name of a vertex's file, or without a name if the vertex has a fault, are its
 -- requirements.

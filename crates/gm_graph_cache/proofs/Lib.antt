@@ -6,3 +6,4 @@ pub mod Growing
 pub mod Lending
 pub mod OneReading
 pub mod Keeping
+pub mod Newer

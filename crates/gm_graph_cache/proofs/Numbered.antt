@@ -47,7 +47,7 @@ under_by false other name number is e = none_both (nat_eq (name_fingerprint othe
     none_both true = refl
     none_both false = refl
 
-under_marked : (key : NameKey) (other : Name) → IsNameKey key → is_key_of other key ≡ same_name other (name_of key.name)
+pub under_marked : (key : NameKey) (other : Name) → IsNameKey key → is_key_of other key ≡ same_name other (name_of key.name)
 under_marked key other marked = under_by (same_name other (name_of key.name)) other (name_of key.name) key.number refl marked
 
 under_alike : (other : Name) (k e : NameKey) → is_eq (cmp-value.it k e) ≡ true → is_key_of other e ≡ is_key_of other k
@@ -74,7 +74,3 @@ under_inserted es k v other marked =
 -- What a lookup by a marked key finds is the entry of its name.
 pub found_under : {X : Type 0} (key : NameKey) (es : List (NameKey × X)) → IsNameKey key → lookup (λ e. is_eq (cmp-value.it key e)) es ≡ lookup (is_key_of (name_of key.name)) es
 found_under key es marked = lookup-agree _ _ (λ e. ties key e ∙ ap (λ (n : ℕ). same_key n (name_of key.name) e.number (name_of e.name)) marked) es
-
--- An equal key is marked, too.
-pub marked_copy : (key copy : NameKey) → IsNameKey key → copy.number ≡ key.number → name_of copy.name ≡ name_of key.name → IsNameKey copy
-marked_copy key copy marked number name = number ∙ marked ∙ sym (ap name_fingerprint name)

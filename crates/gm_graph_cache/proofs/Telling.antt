@@ -1,17 +1,22 @@
 -- The readings of the answers so far, and of one more answer.
-use Rattle.std.proofs.Common.{◌≡◌, ◌∙◌, ◌-◌, ℕ, Bool, true, false, cond, List, [], ◌∷◌, ◌++◌, length, Option, Some, None, Result, slice_get, Bor, is_some, sym, ap, subst, refl, arith, length-append}
-use Rattle.std.specs.Option.{option_copied, option_map}
+use Rattle.std.proofs.Common.{◌≡◌, ◌∙◌, ◌-◌, ℕ, Bool, true, false, cond, List, [], ◌∷◌, ◌++◌, length, Option, Some, None, Result, slice_get, sym, ap, subst, refl, arith, length-append}
+use Rattle.std.specs.Option.{option_map}
 use Rattle.gm_file.specs.Fields.{Dependency}
 use Rattle.gm_store.specs.Asked.{Name, Reply, answer_in, replies_in, same_name}
 use Rattle.gm_store_sums.specs.declared.sum_table.SumTable.{SumTable}
 use Rattle.gm_store.proofs.NameOrder.{names_equal, name_itself}
 use Rattle.gm_graph_cache.specs.declared.class.Class.{Class}
-use Rattle.gm_graph_cache.specs.declared.summary.Summary.{Summary}
+use Rattle.gm_graph_cache.specs.declared.summary.Kept.{Kept}
 use Rattle.gm_graph_cache.specs.declared.cache.Cache.{Cache}
 use Rattle.gm_graph_cache.specs.Main.{Main, main_of}
 use Rattle.gm_graph_cache.specs.Reading.{Held, IsFileReading, IsTold, Tells}
-use Rattle.gm_graph_cache.specs.Summaries.{IsKept, AddsSummary, summary_reading}
-use Rattle.gm_graph_cache.specs.Cached.{Knows, held_of, main_in, summary_at, sums_in}
+use Rattle.std.specs.Map.{lookup}
+use Rattle.gm_graph_cache.specs.declared.name_key.NameKey.{NameKey}
+use Rattle.gm_graph_cache.specs.Entries.{AddsSummary}
+use Rattle.gm_graph_cache.specs.Marks.{is_key_of}
+use Rattle.gm_graph_cache.proofs.Keeping.{knows_still, main_same}
+use Rattle.gm_graph_cache.specs.Summaries.{IsKept, summary_reading}
+use Rattle.gm_graph_cache.specs.Cached.{HoldsSame, Knows, LentSame, held_of, main_in, summary_at, sums_in}
 
 -- If no reading is held, the name was not answered.
 none_told : (sums : Option SumTable) (name : Name) (a : Option Reply) (h : Option (Result Dependency Class)) → IsTold sums name a h → h ≡ None → a ≡ None
@@ -19,7 +24,7 @@ none_told sums name None h told e = refl
 none_told sums name (Some reply) None told e = absurd told
 none_told sums name (Some reply) (Some reading) told e = absurd cc
 
-said_none : (o : Option (Result Summary Class)) → o ≡ None → option_map summary_reading o ≡ None
+said_none : (o : Option Kept) → o ≡ None → option_map summary_reading o ≡ None
 said_none o e = ap (option_map summary_reading) e
 
 -- A name without an entry was not asked for.
@@ -68,15 +73,15 @@ map_cond f false v r = refl
 
 -- ---- a cache with one more entry
 
-held_with : (old new : Cache) (name : Name) (one : Result Summary Class) → AddsSummary old.summaries new.summaries name one → (other : Name) → held_of new other ≡ cond (same_name other name) (Some (summary_reading one)) (held_of old other)
+held_with : (old new : Cache) (name : Name) (one : Kept) → AddsSummary old.summaries new.summaries name one → (other : Name) → held_of new other ≡ cond (same_name other name) (Some (summary_reading one)) (held_of old other)
 held_with old new name one keeps other = ap (option_map summary_reading) (keeps other) ∙ map_cond summary_reading (same_name other name) one (summary_at old other)
 
-kept_with : (b : Bool) (main : Main) (o : Option (Result Summary Class)) (one some : Result Summary Class) → ((any : Result Summary Class) → o ≡ Some any → IsKept main any) → IsKept main one → cond b (Some one) o ≡ Some some → IsKept main some
-kept_with true main o one some were is e = let same : one ≡ some = cc in subst (λ (x : Result Summary Class). IsKept main x) same is
+kept_with : (b : Bool) (main : Main) (o : Option Kept) (one some : Kept) → ((any : Kept) → o ≡ Some any → IsKept main any) → IsKept main one → cond b (Some one) o ≡ Some some → IsKept main some
+kept_with true main o one some were is e = let same : one ≡ some = cc in subst (λ (x : Kept). IsKept main x) same is
 kept_with false main o one some were is e = were some e
 
 -- The cache knows the pairs and one more.
-pub knows_more : (old new : Cache) (pairs : List (Name × Reply)) (name : Name) (reply : Reply) (one : Result Summary Class)
+pub knows_more : (old new : Cache) (pairs : List (Name × Reply)) (name : Name) (reply : Reply) (one : Kept)
     → Knows old pairs → summary_at old name ≡ None → new.main.now ≡ old.main.now → sums_in new ≡ sums_in old → AddsSummary old.summaries new.summaries name one
     → IsFileReading (sums_in old) name reply (summary_reading one) → IsKept (main_in old) one → Knows new (pairs ++ (name, reply) ∷ [])
 knows_more old new pairs name reply one knows none same_main same_sums keeps reads is = record {
@@ -86,17 +91,15 @@ knows_more old new pairs name reply one knows none same_main same_sums keeps rea
       (kept_with (same_name other name) (main_in old) (summary_at old other) one some (λ any f. knows.lends other any f) is (sym (keeps other) ∙ e));
 }
 
--- A cache that adds the reading of the last answer knows all answers.
-pub knows_last : (old new : Cache) (pairs all : List (Name × Reply)) (name : Name) (reply found : Reply) (one : Result Summary Class)
-    → Knows old pairs → summary_at old name ≡ None → new.main.now ≡ old.main.now → sums_in new ≡ sums_in old → AddsSummary old.summaries new.summaries name one
-    → all ≡ pairs ++ (name, reply) ∷ [] → found ≡ reply → IsFileReading (sums_in old) name found (summary_reading one) → IsKept (main_in old) one → Knows new all
-knows_last old new pairs all name reply found one knows none same_main same_sums keeps e f reads is =
+-- A cache that adds what was read of one more file knows all answers.
+pub knows_read : (old mid new : Cache) (pairs all : List (Name × Reply)) (name : Name) (reply : Reply) (one : Kept)
+    → Knows old pairs → HoldsSame old mid → LentSame mid new → summary_at old name ≡ None → AddsSummary mid.summaries new.summaries name one
+    → all ≡ pairs ++ (name, reply) ∷ [] → IsFileReading (sums_in old) name reply (summary_reading one) → IsKept (main_in old) one → Knows new all
+knows_read old mid new pairs all name reply one knows same lent none adds e reads is =
     subst (λ (ps : List (Name × Reply)). Knows new ps) (sym e)
-    (knows_more old new pairs name reply one knows none same_main same_sums keeps (subst (λ (r : Reply). IsFileReading (sums_in old) name r (summary_reading one)) f reads) is)
-
-pub none_copied : {X : Type 0} (o : Option (Bor X)) (b : Bool) (r : Option X) → option_copied o ≡ r → b ≡ is_some o → b ≡ false → r ≡ None
-none_copied None b r e i f = sym e
-none_copied (Some x) b r e i f = absurd cc
+    (knows_more mid new pairs name reply one (knows_still old mid pairs same knows) (ap (λ (es : List (NameKey × Kept)). lookup (is_key_of name) es) same.entries ∙ none) lent.main lent.sums adds
+    (subst (λ (s : Option SumTable). IsFileReading s name reply (summary_reading one)) (sym same.sums) reads)
+    (subst (λ (m : Main). IsKept m one) (sym (main_same old mid same)) is))
 
 -- ---- the last answer
 

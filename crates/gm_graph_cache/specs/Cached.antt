@@ -10,10 +10,11 @@ use Rattle.gm_graph_cache.specs.declared.class.Class.{Class}
 use Rattle.gm_graph_cache.specs.declared.depth.Turn.{Turn}
 use Rattle.gm_graph_cache.specs.declared.finding.Finding.{Finding}
 use Rattle.gm_graph_cache.specs.declared.finding.Finding.TheVariants.{Fault, Sound}
-use Rattle.gm_graph_cache.specs.declared.summary.Summary.{Summary}
+use Rattle.gm_graph_cache.specs.declared.summary.Kept.{Kept}
 use Rattle.gm_graph_cache.specs.declared.cache.Cache.{Cache}
 use Rattle.gm_graph_cache.specs.Main.{Main, ModuleVersion, main_of}
-use Rattle.gm_graph_cache.specs.Summaries.{IsKept, found_in, summary_reading}
+use Rattle.gm_graph_cache.specs.Entries.{entries_of, found_in}
+use Rattle.gm_graph_cache.specs.Summaries.{IsKept, summary_reading}
 use Rattle.gm_graph_cache.specs.Reading.{Held, Tells, readings_by, file_of}
 use mir.Syntax.{named}
 use Rattle.gm_graph_cache.specs.contracts.cache.Cache.{the_row}
@@ -31,7 +32,7 @@ abbrev pub turns_in : Cache → List Turn
 turns_in cache = cache.turns.items
 
 -- the entry of a name
-abbrev pub summary_at : Cache → Name → Option (Result Summary Class)
+abbrev pub summary_at : Cache → Name → Option Kept
 summary_at cache name = found_in cache.summaries name
 
 -- what a cache holds of the file of each name
@@ -40,7 +41,7 @@ held_of cache name = option_map summary_reading (summary_at cache name)
 
 -- Each summary has the requirements of its file, without the excluded ones.
 abbrev pub LendsKept : Cache → Type 0
-LendsKept cache = (name : Name) (one : Result Summary Class) → summary_at cache name ≡ Some one
+LendsKept cache = (name : Name) (one : Kept) → summary_at cache name ≡ Some one
     → IsKept (main_in cache) one
 
 -- The cache holds what these replies say, and nothing else.
@@ -52,7 +53,7 @@ pub record Knows (cache : Cache) (pairs : List (Name × Reply)) : Type 0 where
 pub record HoldsSame (old new : Cache) : Type 0 where
   pub main : new.main.now ≡ old.main.now
   pub sums : sums_in new ≡ sums_in old
-  pub entries : new.summaries.entries ≡ old.summaries.entries
+  pub entries : entries_of new.summaries ≡ entries_of old.summaries
 
 -- the same main file, go.sum and list of turns
 pub record LentSame (old new : Cache) : Type 0 where

@@ -3,6 +3,7 @@ pub mod Reading
 pub mod Asking
 pub mod Marks
 pub mod Summaries
+pub mod Entries
 pub mod Turns
 pub mod Cached
 pub mod Refusals

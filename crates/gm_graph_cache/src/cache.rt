@@ -3,15 +3,17 @@
 //! It exists so that each file is asked for and parsed once, however many vertices and turns need it. The test of
 //! the declared path depends on the vertex, not on the file alone, and is therefore repeated for each vertex.
 
-ghost use Rattle.std.specs.Prelude.{◌≡◌, ◌<◌, ◌≤◌, ◌⊎◌, ◌^◌, ◌-◌, ◌++◌, ◌∷◌, [], ℕ, List, IfOk, OnOk, OnErr, IsSome, None, Some, Ok, Err, true};
+ghost use Rattle.std.specs.Prelude.{◌≡◌, ◌<◌, ◌≤◌, ◌⊎◌, ◌^◌, ◌-◌, ◌++◌, ◌∷◌, [], ℕ, List, IfOk, OnOk, OnErr, None, Some, Ok, Err, true};
 ghost use Rattle.std.specs.Option.{option_copied, option_map};
 ghost use Rattle.gm_store.specs.Asked.{Name, Reply, answer_in, name_of, reply_of};
 ghost use Rattle.gm_store.specs.declared.files.FileName.{FileName};
 ghost use Rattle.gm_graph_cache.specs.Main.{ModuleVersion, main_of};
 ghost use Rattle.gm_graph_cache.specs.Marks.{IsNameKey};
 ghost use Rattle.gm_graph_cache.specs.Asking.{AsksAtMost, AsksFor, MayGrow, MayLess};
-ghost use Rattle.gm_graph_cache.specs.Reading.{IsFileReading, KeepsHeld, file_of, is_askable as may_be_asked, is_unpruned, is_unpruned_in, readings_by, vertex_requirements, said_in};
+ghost use Rattle.gm_graph_cache.specs.Reading.{Held, IsFileReading, KeepsHeld, file_of, is_askable as may_be_asked, is_unpruned, is_unpruned_in, readings_by, vertex_requirements, said_in};
 ghost use Rattle.gm_graph_cache.specs.Refusals.{refused_in};
+ghost use Rattle.gm_graph_cache.specs.Cached.{IsFinding};
+ghost use Rattle.gm_graph_cache.specs.Entries.{AddsSummary};
 ghost use Rattle.gm_graph_cache.specs.Summaries.{IsKept, summary_reading};
 ghost use Rattle.gm_graph_cache.specs.Turns.{turn};
 
@@ -19,18 +21,17 @@ use crate::class::Class;
 use crate::depth::{Depth, Turn};
 use crate::finding::Finding;
 use crate::load_fault::LoadFault;
-use crate::name_key::{NameKey, mark, mark_any, mark_copy};
+use crate::name_key::{NameKey, mark};
 use crate::naming::{file_name, is_askable};
 use crate::paths::is_right_path;
 use crate::reading::read_answer;
-use crate::summary::{Summary, summary_of};
-use crate::summary_map::{find_summary, insert_summary, is_unpruned_in, lent_in};
+use crate::summaries::Summaries;
+use crate::summary::{Kept, summary_of};
 use gm_file::MainFile;
 use gm_name::{KnownNames, ModVer, NoMemory};
-use gm_store::{Answer, AskFault, FileName, Files};
+use gm_store::{Answer, AskFault, FileName, Files, copy_name};
 use gm_store_sums::SumTable;
 use std::alloc::Global;
-use std::collections::BTreeMap;
 
 /// What was read of the files that a store was asked for, and the turns whose requirements were requested. Only the
 /// cache reads a store's answers, and it reads each of them once, at the time of asking. The test of the declared
@@ -46,7 +47,7 @@ pub struct Cache<'a> {
     /// The paths and versions that the files share.
     names: KnownNames,
     /// What was read of each file, or what is wrong with it.
-    summaries: BTreeMap<NameKey, Result<Summary, Class>>,
+    summaries: Summaries,
     /// The turns whose requirements were requested, in order.
     turns: Vec<Turn>,
 }
@@ -73,14 +74,33 @@ fn summarize(
     sums: Option<&SumTable>,
     name: &FileName,
     answer: &Answer,
-) -> Result<Result<Summary, Class>, NoMemory>
-    ensures reading { IfOk result (λ one.
-        IsFileReading (option_copied sums.entry) (name_of name.now) (reply_of answer.now) (summary_reading one)) }
+) -> Result<Kept, NoMemory>
+    ensures reading { IfOk result (λ kept.
+        IsFileReading (option_copied sums.entry) (name_of name.now) (reply_of answer.now) (summary_reading kept)) }
     ensures kept { IfOk result (IsKept (main_of main.now)) }
 {
     match read_answer(alloc, names, sums, name, answer)? {
-        Ok(file) => Ok(Ok(summary_of(alloc, main, file)?)),
-        Err(class) => Ok(Err(class)),
+        Ok(file) => Ok(Kept::Valid(summary_of(alloc, main, file)?)),
+        Err(class) => Ok(Kept::Faulty(class)),
+    }
+}
+
+/// What is found of a vertex whose file has this name and was read.
+fn finding_of(main: &MainFile, x: &ModVer, name: FileName, kept: &Kept) -> Finding
+    requires file { name_of name ≡ file_of (main_of main.now) x.now }
+    requires askable { may_be_asked (name_of name) ≡ true }
+    ensures { (held : Held) → held (name_of name) ≡ Some (summary_reading kept.now)
+        → IsFinding (main_of main.now) held x.now result }
+{
+    match kept {
+        Kept::Faulty(class) => Finding::Fault(*class),
+        Kept::Valid(summary) => {
+            if is_right_path(main, x, &summary.file) {
+                Finding::Sound(name)
+            } else {
+                Finding::Fault(Class::WrongPath)
+            }
+        }
     }
 }
 
@@ -103,7 +123,7 @@ fn push_turn(
 
 impl<'a> Cache<'a> {
     ghost use Rattle.std.specs.Borrow.{sem};
-    ghost use Rattle.gm_graph_cache.specs.Cached.{HoldsSame, IsFinding, IsLender, IsUnchanged, Knows, LendsKept, LentSame, Lends, held_of, main_in, summary_at, sums_in, turns_in};
+    ghost use Rattle.gm_graph_cache.specs.Cached.{HoldsSame, IsLender, IsUnchanged, Knows, LendsKept, LentSame, Lends, held_of, main_in, sums_in, turns_in};
 
     /// An empty cache for a main file. If there is a go.sum, the files that come from proxies are checked against
     /// it.
@@ -118,24 +138,23 @@ impl<'a> Cache<'a> {
             main,
             sums,
             names: KnownNames::new(alloc, MOST_KNOWN),
-            summaries: BTreeMap::new(alloc),
+            summaries: Summaries::new(alloc),
             turns: Vec::new(alloc),
         }
     }
 
-    /// Asks for the file of that name and reads it, unless it is known already.
-    fn read_file<F: Files>(&mut self, files: &mut F, key: &NameKey) -> Result<(), AskFault>
-        requires knows { Knows self.old (F.asked files.old) }
-        requires marked { IsNameKey key.now }
-        ensures knows { OnOk result (Knows self.new (F.asked files.new)) }
-        ensures found { OnOk result (IsSome (summary_at self.new (name_of key.now.name))) }
-        ensures lent { LentSame self.old self.new }
-        ensures grows { KeepsHeld (held_of self.old) (held_of self.new) }
-        ensures err { OnErr result (HoldsSame self.old self.new) }
-        ensures asks { AsksAtMost (F.asked files.old) (F.asked files.new) (name_of key.now.name) }
+    /// Asks for the file of a name that was not asked for, and reads it.
+    fn read_file<F: Files>(&mut self, files: &mut F, name: &FileName) -> Result<Kept, AskFault>
+        requires { answer_in (F.asked files.old) (name_of name.now) ≡ None }
+        ensures reading { IfOk result (λ kept. (reply : Reply)
+            × (F.asked files.new ≡ F.asked files.old ++ (name_of name.now, reply) ∷ [])
+            × IsFileReading (sums_in self.old) (name_of name.now) reply (summary_reading kept)) }
+        ensures kept { IfOk result (IsKept (main_in self.old)) }
+        ensures unchanged { IsUnchanged self.old self.new }
+        ensures asks { AsksAtMost (F.asked files.old) (F.asked files.new) (name_of name.now) }
         ensures device { result ≡ Err AskFault.Device
-            → (F.asked files.new ≡ F.asked files.old) × (answer_in (F.asked files.old) (name_of key.now.name) ≡ None)
-            × (F.refused files.new ≡ F.refused files.old ++ name_of key.now.name ∷ []) }
+            → (F.asked files.new ≡ F.asked files.old)
+            × (F.refused files.new ≡ F.refused files.old ++ name_of name.now ∷ []) }
         ensures not_refused { (result ≡ Err AskFault.Device → ⊥) → F.refused files.new ≡ F.refused files.old }
         ensures cause { result ≡ Err AskFault.Device
             → (F.fault_count files.old < F.fault_count files.new) ⊎ (F.fault_count files.old ≡ 2 ^ 64 - 1) }
@@ -143,41 +162,33 @@ impl<'a> Cache<'a> {
         ensures same_store { MayLess (F.may_answer files.new) (F.may_answer files.old) }
         ensures later { F.fault_count files.old ≤ F.fault_count files.new }
     {
-        if find_summary(&self.summaries, key).is_some() {
-            return Ok(());
-        }
-        files.ask(&key.name)?;
-        let one = summarize(
+        files.ask(name)?;
+        let kept = summarize(
             self.alloc,
             &mut self.names,
             self.main,
             self.sums,
-            &key.name,
+            name,
             last_answer(files),
         )?;
-        insert_summary(self.alloc, &mut self.summaries, key, one)?;
-        Ok(())
+        Ok(kept)
     }
 
-    /// What is found of a vertex whose file is known.
-    fn find(&self, x: &ModVer, key: NameKey) -> Finding
+    /// Keeps what was read of the file of a vertex, and reports what is found of the vertex. The only refusal is
+    /// `NoMemory`, which leaves the cache unchanged.
+    fn keep(&mut self, x: &ModVer, key: NameKey, kept: Kept) -> Result<Finding, NoMemory>
         requires marked { IsNameKey key }
-        requires file { name_of key.name ≡ file_of (main_in self.now) x.now }
+        requires file { name_of key.name ≡ file_of (main_in self.old) x.now }
         requires askable { may_be_asked (name_of key.name) ≡ true }
-        requires found { IsSome (summary_at self.now (name_of key.name)) }
-        ensures { IsFinding (main_in self.now) (held_of self.now) x.now result }
+        ensures adds { OnOk result (AddsSummary self.old.summaries self.new.summaries (name_of key.name) kept) }
+        ensures finding { IfOk result (IsFinding (main_in self.new) (held_of self.new) x.now) }
+        ensures lent { LentSame self.old self.new }
+        ensures err { OnErr result (HoldsSame self.old self.new) }
     {
-        match find_summary(&self.summaries, &key) {
-            None => unreachable!(),
-            Some(Err(class)) => Finding::Fault(*class),
-            Some(Ok(summary)) => {
-                if is_right_path(self.main, x, &summary.file) {
-                    Finding::Sound(key.name)
-                } else {
-                    Finding::Fault(Class::WrongPath)
-                }
-            }
-        }
+        let name = copy_name(self.alloc, &key.name)?;
+        let finding = finding_of(self.main, x, name, &kept);
+        self.summaries.add(key, kept)?;
+        Ok(finding)
     }
 
     /// Makes the file of a vertex known, and reports what is found of the vertex. The store is asked for that file
@@ -210,8 +221,11 @@ impl<'a> Cache<'a> {
             return Ok(Finding::Fault(Class::NotFetchable));
         }
         let key = mark(name);
-        match self.read_file(files, &key) {
-            Ok(()) => Ok(self.find(x, key)),
+        if let Some(kept) = self.summaries.find(&key) {
+            return Ok(finding_of(self.main, x, key.name, kept));
+        }
+        match self.read_file(files, &key.name) {
+            Ok(kept) => Ok(self.keep(x, key, kept)?),
             Err(AskFault::NoMemory) => Err(LoadFault::NoMemory),
             Err(AskFault::Device) => Err(LoadFault::Device(key.name)),
         }
@@ -233,9 +247,9 @@ impl<'a> Cache<'a> {
             ≡ vertex_requirements (main_in self.old) (readings_by (main_in self.old) (held_of self.old)) vertex.now) }
         ensures* after { sem 𝓛 (Lends self.entry (turn vertex.now depth) result) }
     {
-        let key = mark_any(self.alloc, name)?;
+        let place = self.summaries.place_of(self.alloc, name)?;
         push_turn(self.alloc, &mut self.turns, vertex, depth)?;
-        Ok(lent_in(&self.summaries, key))
+        Ok(self.summaries.lent_at(place))
     }
 
     /// Whether the file of that name is known, has no fault and is unpruned, that is, whether the first two numbers
@@ -247,8 +261,11 @@ impl<'a> Cache<'a> {
             x (Some (name_of name.now))
             → IfOk result (λ is. is ≡ is_unpruned (readings_by (main_in self.now) (held_of self.now)) x) }
     {
-        let key = mark_copy(self.alloc, name)?;
-        Ok(is_unpruned_in(find_summary(&self.summaries, &key)))
+        let place = self.summaries.place_of(self.alloc, Some(name))?;
+        match self.summaries.at(place) {
+            None => Ok(false),
+            Some(kept) => Ok(kept.is_unpruned()),
+        }
     }
 
     /// The vertices and depths whose requirements were requested, in order.

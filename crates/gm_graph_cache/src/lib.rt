@@ -24,8 +24,8 @@ mod name_key;
 mod naming;
 mod paths;
 mod reading;
+mod summaries;
 mod summary;
-mod summary_map;
 
 pub use crate::cache::Cache;
 pub use crate::class::{Class, Misreading};

@@ -3,8 +3,7 @@
 //! Paths may be as long as a file and share long prefixes, so comparing them at each step of a lookup would be
 //! slow. Fingerprints decide almost every comparison.
 
-ghost use Rattle.std.specs.Prelude.{◌≡◌, IfOk, IfSome};
-ghost use Rattle.std.specs.Option.{option_map};
+ghost use Rattle.std.specs.Prelude.{◌≡◌, IfOk};
 ghost use Rattle.gm_store.specs.Asked.{name_of};
 ghost use Rattle.gm_graph_cache.specs.Marks.{IsNameKey, name_fingerprint};
 
@@ -51,29 +50,4 @@ pub(crate) fn mark_copy(alloc: Global, name: &FileName) -> Result<NameKey, NoMem
     ensures name { IfOk result (λ key. name_of key.name ≡ name_of name.now) }
 {
     Ok(mark(copy_name(alloc, name)?))
-}
-
-/// The key of a copy of a name, if there is one. The only refusal is `NoMemory`.
-pub(crate) fn mark_any(alloc: Global, name: Option<&FileName>) -> Result<Option<NameKey>, NoMemory>
-    ensures marked { IfOk result (λ key. IfSome key IsNameKey) }
-    ensures name { IfOk result (λ key. option_map (λ k. name_of k.name) key
-        ≡ option_map (λ n. name_of n.now) name.entry) }
-{
-    match name {
-        None => Ok(None),
-        Some(name) => Ok(Some(mark_copy(alloc, name)?)),
-    }
-}
-
-impl NameKey {
-    /// An equal key. The only refusal is `NoMemory`.
-    pub(crate) fn copy(&self, alloc: Global) -> Result<NameKey, NoMemory>
-        ensures number { IfOk result (λ key. key.number ≡ self.now.number) }
-        ensures name { IfOk result (λ key. name_of key.name ≡ name_of self.now.name) }
-    {
-        Ok(NameKey {
-            number: self.number,
-            name: copy_name(alloc, &self.name)?,
-        })
-    }
 }

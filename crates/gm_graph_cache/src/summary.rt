@@ -1,11 +1,13 @@
-//! What the cache keeps of a valid file.
+//! What the cache keeps of a file that was read.
 
-ghost use Rattle.std.specs.Prelude.{◌≡◌, IfOk};
+ghost use Rattle.std.specs.Prelude.{◌≡◌, IfOk, Some};
 ghost use Rattle.std.specs.List.{list_any};
 ghost use Rattle.gm_graph_cache.specs.Main.{is_excluded, without_excluded, main_of};
-ghost use Rattle.gm_graph_cache.specs.Summaries.{lent_by};
+ghost use Rattle.gm_graph_cache.specs.Reading.{is_unpruned_in, said_in};
+ghost use Rattle.gm_graph_cache.specs.Summaries.{lent_by, lent_found, summary_reading};
 
-use crate::main_view::is_excluded;
+use crate::class::Class;
+use crate::main_view::{is_excluded, is_pruned};
 use gm_file::{DepFile, MainFile};
 use gm_name::{ModVer, NoMemory};
 use std::alloc::Global;
@@ -18,6 +20,15 @@ pub(crate) struct Summary {
     /// The requirements without the excluded ones, if one of them is excluded. Otherwise the list of the file
     /// itself serves, so that most summaries need no copy.
     pub(crate) kept: Option<Vec<ModVer>>,
+}
+
+/// What the cache keeps of a file.
+#[derive(Drop)]
+pub(crate) enum Kept {
+    /// The file is valid, and this is its summary.
+    Valid(Summary),
+    /// The file has this fault.
+    Faulty(Class),
 }
 
 /// Whether one of these is excluded.
@@ -57,12 +68,34 @@ pub(crate) fn summary_of(alloc: Global, main: &MainFile, file: DepFile) -> Resul
 
 impl Summary {
     /// The requirements without the excluded ones.
-    pub(crate) fn lent(&self) -> &[ModVer]
+    fn lent(&self) -> &[ModVer]
         ensures { result.now ≡ lent_by self.now }
     {
         match &self.kept {
             None => self.file.requirements(),
             Some(some) => some.as_slice(),
+        }
+    }
+}
+
+impl Kept {
+    /// Whether the file is valid and unpruned.
+    pub(crate) fn is_unpruned(&self) -> bool
+        ensures { result ≡ is_unpruned_in (said_in (Some (summary_reading self.now))) }
+    {
+        match self {
+            Kept::Valid(summary) => !is_pruned(summary.file.go()),
+            Kept::Faulty(_) => false,
+        }
+    }
+
+    /// The requirements without the excluded ones: none if the file has a fault.
+    pub(crate) fn lent(&self) -> &[ModVer]
+        ensures { result.now ≡ lent_found (Some self.now) }
+    {
+        match self {
+            Kept::Valid(summary) => summary.lent(),
+            Kept::Faulty(_) => &[],
         }
     }
 }
