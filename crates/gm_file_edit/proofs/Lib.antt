@@ -4,6 +4,7 @@ pub mod Sound
 pub mod Leaving
 pub mod Walking
 pub mod Drops
+pub mod Targets
 pub mod Parts
 pub mod Feeds
 pub mod Folders

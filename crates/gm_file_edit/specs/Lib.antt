@@ -2,6 +2,7 @@ pub mod Edits
 pub mod Views
 pub mod Fates
 pub mod About
+pub mod Targets
 pub mod Walks
 pub mod NewWords
 pub mod Renewing

@@ -7,14 +7,12 @@ ghost use Rattle.std.specs.Option.{option_map};
 ghost use Rattle.gm_syntax.specs.Document.{Blank, IsDocument};
 ghost use Rattle.gm_syntax.specs.LineViews.{line_of, line_views, plain_lines};
 ghost use Rattle.gm_file.specs.Directives.{Strict, block_after_line};
-ghost use Rattle.gm_file.specs.DirectiveViews.{directive_view};
 ghost use Rattle.gm_file.specs.Faults.{fault_of, is_module};
 ghost use Rattle.gm_file_edit.specs.Adding.{added, after_first_that, spot_after_first, spot_after_last, close_len, entry_at, is_of, past_block, single, verb_text};
 ghost use Rattle.gm_syntax.specs.Lines.{HasNoLineFeed};
 ghost use Rattle.gm_file_edit.specs.Fates.{directive_at, passes, IsValidAt};
 
-use crate::dropping::{block_after_line, held_at};
-use gm_file::Directive;
+use crate::target::{block_after_line, is_entry_of};
 use gm_syntax::{Line, Token};
 use std::alloc::{AllocError, Global};
 
@@ -40,64 +38,45 @@ pub(crate) struct Spot {
     inside: bool,
 }
 
-/// Whether a directive has this verb.
-fn is_of(verb: AddedVerb, directive: &Directive) -> bool
-    ensures { result ≡ is_of verb (directive_view directive.now) }
+/// The spelling of a verb.
+fn verb_text(verb: AddedVerb) -> &'static str
+    ensures text { result.now ≡ verb_text verb }
+    ensures no_line_feed { HasNoLineFeed result.now }
 {
     match verb {
-        AddedVerb::Require => matches!(directive, Directive::Require(_)),
-        AddedVerb::Exclude => matches!(directive, Directive::Exclude(_)),
-        AddedVerb::Replace => matches!(directive, Directive::Replace(_)),
-        AddedVerb::Retract => matches!(directive, Directive::Retract(_)),
+        AddedVerb::Require => "require",
+        AddedVerb::Exclude => "exclude",
+        AddedVerb::Replace => "replace",
+        AddedVerb::Retract => "retract",
     }
-}
-
-/// Whether a directive declares the module path.
-fn is_module(directive: &Directive) -> bool
-    ensures { result ≡ is_module (directive_view directive.now) }
-{
-    matches!(directive, Directive::Module(_))
 }
 
 /// Whether a line of a valid file holds a directive with this verb.
-fn holds(
-    alloc: Global,
-    verb: AddedVerb,
-    block: Option<&Token>,
-    line: &Line,
-) -> Result<bool, AllocError>
+fn holds(verb: AddedVerb, block: Option<&Token>, line: &Line) -> bool
     requires { IsValidAt (option_map (λ t. t.now) block) (line_of line.now) }
-    ensures { IfOk result (λ b. b
-        ≡ passes (is_of verb) (directive_at (option_map (λ t. t.now) block.entry) (line_of line.now))) }
+    ensures { result ≡ passes (is_of verb) (directive_at (option_map (λ t. t.now) block.entry) (line_of line.now)) }
 {
-    match held_at(alloc, block, line)? {
-        None => Ok(false),
-        Some(directive) => Ok(is_of(verb, &directive)),
-    }
+    is_entry_of(verb_text(verb), block, line)
 }
 
 /// Whether a line of a valid file declares the module path.
-fn declares_module(alloc: Global, block: Option<&Token>, line: &Line) -> Result<bool, AllocError>
+fn declares_module(block: Option<&Token>, line: &Line) -> bool
     requires { IsValidAt (option_map (λ t. t.now) block) (line_of line.now) }
-    ensures { IfOk result (λ b. b
-        ≡ passes is_module (directive_at (option_map (λ t. t.now) block.entry) (line_of line.now))) }
+    ensures { result ≡ passes is_module (directive_at (option_map (λ t. t.now) block.entry) (line_of line.now)) }
 {
-    match held_at(alloc, block, line)? {
-        None => Ok(false),
-        Some(directive) => Ok(is_module(&directive)),
-    }
+    is_entry_of("module", block, line)
 }
 
 /// The position directly after the last entry with this verb, if any.
-fn last_spot(alloc: Global, verb: AddedVerb, lines: &[Line]) -> Result<Option<Spot>, AllocError>
+fn last_spot(verb: AddedVerb, lines: &[Line]) -> Option<Spot>
     requires document { IsDocument (plain_lines (line_views lines.now)) }
     requires sound { fault_of Strict (plain_lines (line_views lines.now)) ≡ None }
-    ensures { IfOk result (λ spot. spot ≡ spot_after_last (is_of verb) None (line_views lines.now)) }
+    ensures { result ≡ spot_after_last (is_of verb) None (line_views lines.now) }
 {
     let mut spot = None;
     let mut block = None;
     for (n, line) in lines.iter().enumerate() {
-        if holds(alloc, verb, block, line)? {
+        if holds(verb, block, line) {
             spot = Some(Spot {
                 before: n + 1,
                 inside: block.is_some(),
@@ -105,26 +84,26 @@ fn last_spot(alloc: Global, verb: AddedVerb, lines: &[Line]) -> Result<Option<Sp
         }
         block = block_after_line(block, line);
     }
-    Ok(spot)
+    spot
 }
 
 /// The position directly after the entry that declares the module path, if any.
-fn module_spot(alloc: Global, lines: &[Line]) -> Result<Option<Spot>, AllocError>
+fn module_spot(lines: &[Line]) -> Option<Spot>
     requires document { IsDocument (plain_lines (line_views lines.now)) }
     requires sound { fault_of Strict (plain_lines (line_views lines.now)) ≡ None }
-    ensures { IfOk result (λ spot. spot ≡ spot_after_first is_module None (line_views lines.now)) }
+    ensures { result ≡ spot_after_first is_module None (line_views lines.now) }
 {
     let mut block = None;
     for (n, line) in lines.iter().enumerate() {
-        if declares_module(alloc, block, line)? {
-            return Ok(Some(Spot {
+        if declares_module(block, line) {
+            return Some(Spot {
                 before: n + 1,
                 inside: block.is_some(),
-            }));
+            });
         }
         block = block_after_line(block, line);
     }
-    Ok(None)
+    None
 }
 
 /// The number of lines up to and including the first closing bracket of a block, or of all lines if there is none.
@@ -171,19 +150,6 @@ fn single<'a>(alloc: Global, verb: &str, arguments: Vec<Token<'a>>) -> Result<Li
     let mut words = arguments;
     words.insert(0, Token::spell(alloc, verb)?)?;
     Ok(Line::Entry(words, None))
-}
-
-/// The spelling of a verb.
-fn verb_text(verb: AddedVerb) -> &'static str
-    ensures text { result.now ≡ verb_text verb }
-    ensures no_line_feed { HasNoLineFeed result.now }
-{
-    match verb {
-        AddedVerb::Require => "require",
-        AddedVerb::Exclude => "exclude",
-        AddedVerb::Replace => "replace",
-        AddedVerb::Retract => "retract",
-    }
 }
 
 /// An entry with this verb. The verb is written only outside blocks, since a block has it at its opening.
@@ -259,7 +225,7 @@ pub(crate) fn added<'a>(
     ensures { IfOk result (λ v. line_views v.items
         ≡ added (is_of verb) (verb_text verb) arguments.entry.items (line_views lines.now)) }
 {
-    let spot = last_spot(alloc, verb, lines)?;
+    let spot = last_spot(verb, lines);
     let copies = copy_lines(alloc, lines)?;
     match spot {
         Some(spot) => {
@@ -282,7 +248,7 @@ pub(crate) fn go_added<'a>(
     ensures { IfOk result (λ v. line_views v.items
         ≡ after_first_that is_module (Blank ∷ single (codes "go") arguments.entry.items ∷ []) (line_views lines.now)) }
 {
-    let spot = module_spot(alloc, lines)?;
+    let spot = module_spot(lines);
     let copies = copy_lines(alloc, lines)?;
     let line = single(alloc, "go", arguments)?;
     match spot {

@@ -2,7 +2,7 @@
 //!
 //! The new lines are built and read before the file is replaced, so that a failed edit leaves the file unchanged.
 
-ghost use Rattle.std.specs.Prelude.{◌≡◌, ◌↔◌, IfErr, IfOk, IsErrOf, OnErr, OnOk, None, true, false};
+ghost use Rattle.std.specs.Prelude.{◌≡◌, ◌↔◌, IfOk, IsErrOf, OnErr, OnOk, None, true, false};
 ghost use Rattle.gm_syntax.specs.Document.{IsDocument};
 ghost use Rattle.gm_syntax.specs.LineViews.{line_views, plain_lines};
 ghost use Rattle.gm_file.specs.Directives.{Strict};
@@ -14,14 +14,15 @@ ghost use Rattle.gm_file_edit.specs.Views.{edit_of};
 
 use crate::adding::{AddedVerb, added, copy_lines, go_added};
 use crate::dropping::dropped;
+use crate::editor::Editor;
 use crate::fault::EditFault;
 use crate::new_words::{interval_words, one_word, pair_words, replace_words};
 use crate::op::{Change, Op};
 use crate::renewing::renewed;
 use crate::searching::is_there;
-use gm_file::{FileFault, MainFile};
+use gm_file::MainFile;
 use gm_name::{ModPath, ModVersion, fits};
-use gm_syntax::{Doc, Line};
+use gm_syntax::Line;
 use std::alloc::{AllocError, Global};
 use std::mem;
 
@@ -44,7 +45,7 @@ fn does_left_fit(path: &ModPath, version: &Option<ModVersion>) -> bool
 
 /// Whether the versions of an operation fit their paths. Only versions that it requires or excludes and the one in
 /// the left side of a `replace` are checked, since strict reading of the result refuses those.
-fn is_fit(change: &Change) -> bool
+pub(crate) fn is_fit(change: &Change) -> bool
     ensures { result ≡ is_fit (edit_of change.now) }
 {
     match change {
@@ -117,7 +118,7 @@ fn put_in<'a>(
 
 /// The lines after an operation.
 #[tactic(auto, unfolding(crate::specs::Changes::edited))]
-fn edited<'a>(
+pub(crate) fn edited<'a>(
     alloc: Global,
     change: &Change,
     lines: &[Line<'a>],
@@ -133,46 +134,6 @@ fn edited<'a>(
     put_in(alloc, change, lines)
 }
 
-/// Replaces the content of a file by `lines`, which have no fault. They are read before the file is replaced, so that
-/// it stays unchanged if memory runs out.
-fn replace_lines<'a>(
-    alloc: Global,
-    file: &mut MainFile<'a>,
-    lines: Vec<Line<'a>>,
-) -> Result<(), EditFault>
-    requires document { IsDocument (plain_lines (line_views lines.items)) }
-    requires sound { fault_of Strict (plain_lines (line_views lines.items)) ≡ None }
-    ensures ok { OnOk result (file.new ≡ line_views lines.entry.items) }
-    ensures err { OnErr result (file.new ≡ file.old) }
-    ensures memory { IfErr result (λ fault. fault ≡ EditFault.NoMemory) }
-{
-    match MainFile::read(alloc, Doc::of_lines(lines)) {
-        Ok(read) => {
-            let _before = mem::replace(file, read);
-            Ok(())
-        }
-        Err(fault) => match fault {
-            FileFault::NoMemory => Err(EditFault::NoMemory),
-            FileFault::Directive { line: _, kind: _ } => unreachable!(),
-        },
-    }
-}
-
-/// The lines of a file after an operation. They are a document that strict reading accepts.
-fn lines_after<'a>(
-    alloc: Global,
-    file: &MainFile<'a>,
-    change: &Change,
-) -> Result<Vec<Line<'a>>, AllocError>
-    requires written { IsSoundEdit (edit_of change.now) }
-    requires fit { is_fit (edit_of change.now) ≡ true }
-    ensures lines { IfOk result (λ v. line_views v.items ≡ edited (edit_of change.now) file.now) }
-    ensures document { IfOk result (λ v. IsDocument (plain_lines (line_views v.items))) }
-    ensures sound { IfOk result (λ v. fault_of Strict (plain_lines (line_views v.items)) ≡ None) }
-{
-    edited(alloc, change, file.doc().lines())
-}
-
 /// Applies an operation to a file (go help mod edit). The file then holds the new lines and the fields that strict
 /// reading gives for them.
 ///
@@ -182,7 +143,7 @@ fn lines_after<'a>(
 ///
 /// Fails with `NoMemory` if memory runs out. On any failure the file is unchanged.
 ///
-/// Apart from reading the new lines, the time is linear in the number of lines.
+/// The whole file is read again. For more than one operation an `Editor` reads nothing between them.
 pub fn apply<'a>(alloc: Global, file: &mut MainFile<'a>, op: &Op) -> Result<(), EditFault>
     ensures ok { OnOk result (file.new ≡ edited op.now file.old) }
     ensures err { OnErr result (file.new ≡ file.old) }
@@ -191,6 +152,8 @@ pub fn apply<'a>(alloc: Global, file: &mut MainFile<'a>, op: &Op) -> Result<(), 
     if !is_fit(&op.change) {
         return Err(EditFault::Misfit);
     }
-    let lines = lines_after(alloc, file, &op.change)?;
-    replace_lines(alloc, file, lines)
+    let mut editor = Editor::new(alloc, file)?;
+    editor.apply(op)?;
+    let _before = mem::replace(file, editor.into_file()?);
+    Ok(())
 }

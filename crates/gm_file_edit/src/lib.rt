@@ -12,6 +12,7 @@ mod about;
 mod adding;
 mod applying;
 mod dropping;
+mod editor;
 mod fault;
 pub mod laws;
 mod name;
@@ -20,8 +21,10 @@ mod op;
 mod part;
 mod renewing;
 mod searching;
+mod target;
 mod walk;
 
 pub use crate::applying::apply;
+pub use crate::editor::Editor;
 pub use crate::fault::{EditFault, OpFault};
 pub use crate::op::Op;

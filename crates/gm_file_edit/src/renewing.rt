@@ -18,9 +18,9 @@ ghost use Rattle.gm_file_edit.specs.Sound.{IsSoundEdit, IsSoundRight};
 ghost use Rattle.gm_file_edit.specs.Views.{edit_of};
 ghost use Rattle.gm_file_edit.specs.Walks.{fate_seen};
 
-use crate::dropping::{block_after_line, held_at, passes};
 use crate::new_words::{push_replace, push_word};
 use crate::op::Change;
+use crate::target::{block_after_line, is_about_at};
 use crate::walk::{finish, start, step};
 use gm_file::Replace;
 use gm_syntax::{Line, Token};
@@ -128,21 +128,6 @@ fn new_fate<'a>(
     }
     let copy = line.copy(alloc)?;
     Ok(Some(made_new(alloc, change, block, copy)?))
-}
-
-/// Whether a line holds a directive that an operation targets.
-pub(crate) fn is_about_at(
-    alloc: Global,
-    change: &Change,
-    block: Option<&Token>,
-    line: &Line,
-) -> Result<bool, AllocError>
-    requires { IsValidAt (option_map (λ t. t.now) block) (line_of line.now) }
-    ensures { IfOk result (λ b. b
-        ≡ passes (about (edit_of change.now)) (directive_at (option_map (λ t. t.now) block.entry) (line_of line.now))) }
-{
-    let held = held_at(alloc, block, line)?;
-    Ok(passes(change, &held))
 }
 
 /// The fate of a line, and whether a line has been rewritten by now.

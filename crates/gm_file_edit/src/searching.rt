@@ -12,9 +12,8 @@ ghost use Rattle.gm_file_edit.specs.About.{about};
 ghost use Rattle.gm_file_edit.specs.Searching.{is_there};
 ghost use Rattle.gm_file_edit.specs.Views.{edit_of};
 
-use crate::dropping::block_after_line;
 use crate::op::Change;
-use crate::renewing::is_about_at;
+use crate::target::{block_after_line, is_about_at};
 use gm_syntax::Line;
 use std::alloc::{AllocError, Global};
 

@@ -1,0 +1,500 @@
+-- Lines that hold no directive that an operation targets, by their verb and their first argument.
+use Rattle.std.proofs.Common.{◌≡◌, ℕ, ◌&&◌, Bool, true, false, List, [], ◌∷◌, map, not, suc, ◌+◌, ◌-◌, ◌<◌, ◌≤◌, length, get_or, take, drop, arith, Option, Some, None, refl, sym, ap, subst, ◌∙◌, inl, inr}
+use Rattle.std.specs.Prelude.{⊤, ◌⊎◌, codes, if◌then◌else◌, ◌||◌}
+use Rattle.std.specs.Option.{option_map}
+use Rattle.std.specs.List.{before_first, after_first, prefix_len}
+use Rattle.std.specs.Str.{bytes_eq}
+use Rattle.std.proofs.lemmas.Bool.{cases_Bool}
+use Rattle.std.proofs.lemmas.Slice.Eq.{bytes_eq-Decides}
+use Rattle.gm_syntax.specs.Words.{Word}
+use Rattle.std.proofs.lemmas.List.{take_rest}
+use Rattle.gm_syntax.specs.Tokens.{Placed, words_of}
+use Rattle.gm_syntax.specs.Document.{Line, Entry}
+use Rattle.gm_syntax.specs.declared.word.Kind.{Kind}
+use Rattle.gm_syntax.specs.declared.word.Kind.TheVariants.{Bare, Text, Mark}
+use Rattle.gm_syntax.specs.Values.{value_of, value_of_kind}
+use Rattle.gm_file.specs.Values.{argument, argument_of_kind, both}
+use Rattle.gm_file.specs.Directives.{Verb, ForModule, ForGo, ForRequire, ForExclude, ForReplace, ForRetract, ForNothing, Unknown, Strict, Pair, pair, Left, Right, replacing, Directive, DeclaresModule, DeclaresGo, Requires, Excludes, Replaces, Retracts, Kept, Item, Silent, Opening, Saying, directive_in, directive_of, ends_of, is_arrow, is_empty_block, item_at, left_of, left_with, left_without, main_verb, one_of, pair_of, replacing_of, right_of}
+use Rattle.gm_file_edit.specs.About.{about, excludes_pair, is_covered_by, is_replaced_by, replaces_left, requires_path, retracts_ends}
+use Rattle.gm_file.specs.Faults.{entry_kinds, is_go, is_module, is_same_left, item_kinds}
+use Rattle.gm_file_edit.specs.Edits.{Edit, SetModule, SetGo, SetRequire, DropRequire, AddExclude, DropExclude, SetReplace, DropReplace, AddRetract, DropRetract}
+use Rattle.gm_file_edit.specs.Fates.{IsValidAt, directive_at, item_of, passes}
+use Rattle.gm_file_edit.specs.Adding.{is_exclude, is_of, is_replace, is_require, is_retract, verb_text}
+use Rattle.gm_file_edit.specs.declared.adding.AddedVerb.{AddedVerb}
+use Rattle.gm_file_edit.specs.declared.adding.AddedVerb.TheVariants as verb
+use Rattle.gm_file_edit.specs.Targets.{begins_with, is_entry_of, is_first, is_text, path_of, verb_of}
+
+-- ---- the verb of a directive
+
+-- the verb of the entries that say a directive
+abbrev verb_said : Directive → Verb
+verb_said (DeclaresModule path) = ForModule
+verb_said (DeclaresGo text) = ForGo
+verb_said (Requires p) = ForRequire
+verb_said (Excludes p) = ForExclude
+verb_said (Replaces r) = ForReplace
+verb_said (Retracts ends) = ForRetract
+verb_said Kept = ForNothing
+
+-- the verb of the directives that an operation targets
+abbrev verb_about : Edit → Verb
+verb_about (SetModule path) = ForModule
+verb_about (SetGo text) = ForGo
+verb_about (SetRequire p) = ForRequire
+verb_about (DropRequire path) = ForRequire
+verb_about (AddExclude p) = ForExclude
+verb_about (DropExclude p) = ForExclude
+verb_about (SetReplace r) = ForReplace
+verb_about (DropReplace left) = ForReplace
+verb_about (AddRetract ends) = ForRetract
+verb_about (DropRetract ends) = ForRetract
+
+is-module-verb : (d : Directive) → is_module d ≡ true → verb_said d ≡ ForModule
+is-module-verb (DeclaresModule m) holds = refl
+is-module-verb (DeclaresGo t) holds = absurd cc
+is-module-verb (Requires q) holds = absurd cc
+is-module-verb (Excludes q) holds = absurd cc
+is-module-verb (Replaces r) holds = absurd cc
+is-module-verb (Retracts e) holds = absurd cc
+is-module-verb Kept holds = absurd cc
+
+is-go-verb : (d : Directive) → is_go d ≡ true → verb_said d ≡ ForGo
+is-go-verb (DeclaresModule m) holds = absurd cc
+is-go-verb (DeclaresGo t) holds = refl
+is-go-verb (Requires q) holds = absurd cc
+is-go-verb (Excludes q) holds = absurd cc
+is-go-verb (Replaces r) holds = absurd cc
+is-go-verb (Retracts e) holds = absurd cc
+is-go-verb Kept holds = absurd cc
+
+requires-path-verb : (path : List ℕ) (d : Directive) → requires_path path d ≡ true → verb_said d ≡ ForRequire
+requires-path-verb path (DeclaresModule m) holds = absurd cc
+requires-path-verb path (DeclaresGo t) holds = absurd cc
+requires-path-verb path (Requires q) holds = refl
+requires-path-verb path (Excludes q) holds = absurd cc
+requires-path-verb path (Replaces r) holds = absurd cc
+requires-path-verb path (Retracts e) holds = absurd cc
+requires-path-verb path Kept holds = absurd cc
+
+excludes-pair-verb : (p : Pair) (d : Directive) → excludes_pair p d ≡ true → verb_said d ≡ ForExclude
+excludes-pair-verb p (DeclaresModule m) holds = absurd cc
+excludes-pair-verb p (DeclaresGo t) holds = absurd cc
+excludes-pair-verb p (Requires q) holds = absurd cc
+excludes-pair-verb p (Excludes q) holds = refl
+excludes-pair-verb p (Replaces r) holds = absurd cc
+excludes-pair-verb p (Retracts e) holds = absurd cc
+excludes-pair-verb p Kept holds = absurd cc
+
+is-replaced-by-verb : (left : Left) (d : Directive) → is_replaced_by left d ≡ true → verb_said d ≡ ForReplace
+is-replaced-by-verb left (DeclaresModule m) holds = absurd cc
+is-replaced-by-verb left (DeclaresGo t) holds = absurd cc
+is-replaced-by-verb left (Requires q) holds = absurd cc
+is-replaced-by-verb left (Excludes q) holds = absurd cc
+is-replaced-by-verb left (Replaces r) holds = refl
+is-replaced-by-verb left (Retracts e) holds = absurd cc
+is-replaced-by-verb left Kept holds = absurd cc
+
+replaces-left-verb : (left : Left) (d : Directive) → replaces_left left d ≡ true → verb_said d ≡ ForReplace
+replaces-left-verb left (DeclaresModule m) holds = absurd cc
+replaces-left-verb left (DeclaresGo t) holds = absurd cc
+replaces-left-verb left (Requires q) holds = absurd cc
+replaces-left-verb left (Excludes q) holds = absurd cc
+replaces-left-verb left (Replaces r) holds = refl
+replaces-left-verb left (Retracts e) holds = absurd cc
+replaces-left-verb left Kept holds = absurd cc
+
+retracts-ends-verb : (ends : Pair) (d : Directive) → retracts_ends ends d ≡ true → verb_said d ≡ ForRetract
+retracts-ends-verb ends (DeclaresModule m) holds = absurd cc
+retracts-ends-verb ends (DeclaresGo t) holds = absurd cc
+retracts-ends-verb ends (Requires q) holds = absurd cc
+retracts-ends-verb ends (Excludes q) holds = absurd cc
+retracts-ends-verb ends (Replaces r) holds = absurd cc
+retracts-ends-verb ends (Retracts e) holds = refl
+retracts-ends-verb ends Kept holds = absurd cc
+
+about-verb : (edit : Edit) (d : Directive) → about edit d ≡ true → verb_said d ≡ verb_about edit
+about-verb (SetModule path) d holds = is-module-verb d holds
+about-verb (SetGo text) d holds = is-go-verb d holds
+about-verb (SetRequire p) d holds = requires-path-verb p.0 d holds
+about-verb (DropRequire path) d holds = requires-path-verb path d holds
+about-verb (AddExclude p) d holds = excludes-pair-verb p d holds
+about-verb (DropExclude p) d holds = excludes-pair-verb p d holds
+about-verb (SetReplace r) d holds = is-replaced-by-verb r.0 d holds
+about-verb (DropReplace left) d holds = replaces-left-verb left d holds
+about-verb (AddRetract ends) d holds = retracts-ends-verb ends d holds
+about-verb (DropRetract ends) d holds = retracts-ends-verb ends d holds
+
+-- ---- the verb of an entry
+
+made-verb : {X : Type 0} (o : Option X) (make : X → Directive) (v : Verb) (d : Directive) → ((x : X) → verb_said (make x) ≡ v) → option_map make o ≡ Some d → verb_said d ≡ v
+made-verb None make v d says e = absurd cc
+made-verb (Some x) make v d says e = let is : make x ≡ d = cc in subst (λ (d : Directive). verb_said d ≡ v) is (says x)
+
+directive-verb : (v : Verb) (words : List Word) (d : Directive) → directive_of v words ≡ Some d → verb_said d ≡ v
+unfolding directive_of
+directive-verb ForModule words d e = made-verb (one_of words) DeclaresModule ForModule d (λ x. refl) e
+directive-verb ForGo words d e = made-verb (one_of words) DeclaresGo ForGo d (λ x. refl) e
+directive-verb ForRequire words d e = made-verb (pair_of words) Requires ForRequire d (λ x. refl) e
+directive-verb ForExclude words d e = made-verb (pair_of words) Excludes ForExclude d (λ x. refl) e
+directive-verb ForReplace words d e = made-verb (replacing_of words) Replaces ForReplace d (λ x. refl) e
+directive-verb ForRetract words d e = made-verb (ends_of words) Retracts ForRetract d (λ x. refl) e
+directive-verb ForNothing words d e = let is : Kept ≡ d = cc in subst (λ (d : Directive). verb_said d ≡ ForNothing) is refl
+directive-verb Unknown words d e = absurd cc
+
+-- what a text is that spells a verb
+abbrev Spells : Verb → List ℕ → Type 0
+Spells ForModule text = bytes_eq text (codes "module") ≡ true
+Spells ForGo text = bytes_eq text (codes "go") ≡ true
+Spells ForRequire text = bytes_eq text (codes "require") ≡ true
+Spells ForExclude text = bytes_eq text (codes "exclude") ≡ true
+Spells ForReplace text = bytes_eq text (codes "replace") ≡ true
+Spells ForRetract text = bytes_eq text (codes "retract") ≡ true
+Spells ForNothing text = ⊤
+Spells Unknown text = ⊤
+
+chosen : (b : Bool) (v w : Verb) (text : List ℕ) → (b ≡ true → Spells v text) → Spells w text → Spells (if b then v else w) text
+chosen true v w text one other = one refl
+chosen false v w text one other = other
+
+spelled : (text : List ℕ) → Spells (main_verb text) text
+spelled text =
+    chosen (bytes_eq text (codes "module")) ForModule _ text (λ e. e)
+    (chosen (bytes_eq text (codes "go")) ForGo _ text (λ e. e)
+    (chosen (bytes_eq text (codes "require")) ForRequire _ text (λ e. e)
+    (chosen (bytes_eq text (codes "exclude")) ForExclude _ text (λ e. e)
+    (chosen (bytes_eq text (codes "replace")) ForReplace _ text (λ e. e)
+    (chosen (bytes_eq text (codes "retract")) ForRetract _ text (λ e. e)
+    (chosen (bytes_eq text (codes "toolchain") || bytes_eq text (codes "godebug") || bytes_eq text (codes "tool") || bytes_eq text (codes "ignore")) ForNothing Unknown text (λ e. tt) tt))))))
+
+verb-spelled : (edit : Edit) (text : List ℕ) → Spells (verb_about edit) text → bytes_eq text (verb_of edit) ≡ true
+verb-spelled (SetModule path) text e = e
+verb-spelled (SetGo version) text e = e
+verb-spelled (SetRequire p) text e = e
+verb-spelled (DropRequire path) text e = e
+verb-spelled (AddExclude p) text e = e
+verb-spelled (DropExclude p) text e = e
+verb-spelled (SetReplace r) text e = e
+verb-spelled (DropReplace left) text e = e
+verb-spelled (AddRetract ends) text e = e
+verb-spelled (DropRetract ends) text e = e
+
+none-passes : (edit : Edit) (text : List ℕ) (words : List Word) (o : Option Directive) → directive_of (main_verb text) words ≡ o → bytes_eq text (verb_of edit) ≡ false → passes (about edit) o ≡ false
+none-passes edit text words None is other = refl
+none-passes edit text words (Some d) is other = elim (cases_Bool (about edit d)) [
+  | inl holds ↦
+      let same : main_verb text ≡ verb_about edit = sym (directive-verb (main_verb text) words d is) ∙ about-verb edit d holds in
+      let named : bytes_eq text (verb_of edit) ≡ true = verb-spelled edit text (subst (λ (v : Verb). Spells v text) same (spelled text)) in
+      absurd (cc (named, other))
+  | inr fails ↦ fails
+]
+
+-- an entry with another verb isn't targeted
+pub other-verb : (edit : Edit) (text : List ℕ) (words : List Word) → bytes_eq text (verb_of edit) ≡ false → passes (about edit) (directive_of (main_verb text) words) ≡ false
+other-verb edit text words other = none-passes edit text words (directive_of (main_verb text) words) refl other
+
+-- ---- the first argument of an entry
+
+text-of-kind : (kind : Kind) (spelling value : List ℕ) → kind ≡ Text → value_of_kind kind spelling ≡ value → argument_of_kind kind spelling ≡ Some value
+text-of-kind Bare spelling value e is = absurd cc
+text-of-kind Text spelling value e is = ap Some is
+text-of-kind Mark spelling value e is = absurd cc
+
+-- the value of a string is the value of an argument
+pub text-value : (word : Word) (text value : List ℕ) → word.kind ≡ Text → value_of word ≡ value → bytes_eq value text ≡ is_text text (argument word)
+text-value word text value kind is = ap (is_text text) (sym (text-of-kind word.kind word.spelling value kind is))
+
+other-required : (path : List ℕ) (a b : Option (List ℕ)) → is_text path a ≡ false → passes (requires_path path) (option_map Requires (both pair a b)) ≡ false
+other-required path None b other = refl
+other-required path (Some p) None other = refl
+other-required path (Some p) (Some v) other = other
+
+required : (path : List ℕ) (words : List Word) → is_first path words ≡ false → passes (requires_path path) (option_map Requires (pair_of words)) ≡ false
+required path [] other = refl
+required path (p ∷ []) other = refl
+required path (p ∷ v ∷ []) other = other-required path (argument p) (argument v) other
+required path (p ∷ v ∷ w ∷ words) other = refl
+
+other-excluded : (q : Pair) (a b : Option (List ℕ)) → is_text q.0 a ≡ false → passes (excludes_pair q) (option_map Excludes (both pair a b)) ≡ false
+other-excluded q None b other = refl
+other-excluded q (Some p) None other = refl
+other-excluded q (Some p) (Some v) other = rw other refl
+
+excluded : (q : Pair) (words : List Word) → is_first q.0 words ≡ false → passes (excludes_pair q) (option_map Excludes (pair_of words)) ≡ false
+excluded q [] other = refl
+excluded q (p ∷ []) other = refl
+excluded q (p ∷ v ∷ []) other = other-excluded q (argument p) (argument v) other
+excluded q (p ∷ v ∷ w ∷ words) other = refl
+
+-- a test of left sides that fails for all but one path
+abbrev IsOfPath : List ℕ → (Left → Bool) → Type 0
+IsOfPath path test = (left : Left) → bytes_eq left.path path ≡ false → test left ≡ false
+
+-- a left side passes the test
+abbrev left_passes : (Left → Bool) → Option Left → Bool
+left_passes test None = false
+left_passes test (Some left) = test left
+
+one-left : (path : List ℕ) (test : Left → Bool) → IsOfPath path test → (a : Option (List ℕ)) → is_text path a ≡ false → left_passes test (option_map left_without a) ≡ false
+one-left path test only None other = refl
+one-left path test only (Some p) other = only (left_without p) other
+
+two-left : (path : List ℕ) (test : Left → Bool) → IsOfPath path test → (a b : Option (List ℕ)) → is_text path a ≡ false → left_passes test (both left_with a b) ≡ false
+two-left path test only None b other = refl
+two-left path test only (Some p) None other = refl
+two-left path test only (Some p) (Some v) other = only (left_with p v) other
+
+other-left : (path : List ℕ) (test : Left → Bool) → IsOfPath path test → (words : List Word) → is_first path words ≡ false → left_passes test (left_of words) ≡ false
+other-left path test only [] other = refl
+other-left path test only (p ∷ []) other = one-left path test only (argument p) other
+other-left path test only (p ∷ v ∷ []) other = two-left path test only (argument p) (argument v) other
+other-left path test only (p ∷ v ∷ w ∷ words) other = refl
+
+-- what stands before a word begins with the first word, unless that is nothing
+before-cons : {X : Type 0} (test : X → Bool) (x : X) (xs : List X) → (before_first test (x ∷ xs) ≡ []) ⊎ ((ys : List X) × (before_first test (x ∷ xs) ≡ x ∷ ys))
+before-cons test x xs = elim (cases_Bool (test x)) [
+  | inl holds ↦ inl (rw holds refl)
+  | inr fails ↦ let more : 1 + prefix_len (λ y. not (test y)) xs ≡ suc (prefix_len (λ y. not (test y)) xs) = omega arith in inr (before_first test xs, rw fails (ap (λ (n : ℕ). take n (x ∷ xs)) more))
+]
+
+first-before : (path : List ℕ) (words : List Word) → is_first path words ≡ false → is_first path (before_first is_arrow words) ≡ false
+first-before path [] other = refl
+first-before path (w ∷ words) other = elim (before-cons is_arrow w words) [
+  | inl none ↦ ap (is_first path) none
+  | inr some ↦ ap (is_first path) some.1 ∙ other
+]
+
+sides-pass : (test : Left → Bool) (about_it : Directive → Bool) → ((left : Left) (right : Right) → about_it (Replaces (replacing left right)) ≡ test left) → (l : Option Left) (r : Option Right)
+    → left_passes test l ≡ false → passes about_it (option_map Replaces (both replacing l r)) ≡ false
+sides-pass test about_it is None r fails = refl
+sides-pass test about_it is (Some left) None fails = refl
+sides-pass test about_it is (Some left) (Some right) fails = is left right ∙ fails
+
+replaced : (path : List ℕ) (test : Left → Bool) (about_it : Directive → Bool) → IsOfPath path test → ((left : Left) (right : Right) → about_it (Replaces (replacing left right)) ≡ test left)
+    → (words : List Word) → is_first path words ≡ false → passes about_it (option_map Replaces (replacing_of words)) ≡ false
+replaced path test about_it only is words other =
+    sides-pass test about_it is (left_of (before_first is_arrow words)) (right_of (after_first is_arrow words)) (other-left path test only (before_first is_arrow words) (first-before path words other))
+
+covered-path : (left : Left) (version : Option (List ℕ)) → IsOfPath left.path (is_covered_by left version)
+covered-path left None other fails = fails
+covered-path left (Some v) other fails = rw fails refl
+
+-- the verb of a text that spells the verb of an operation
+same-verb : (edit : Edit) → main_verb (verb_of edit) ≡ verb_about edit
+same-verb (SetModule path) = refl
+same-verb (SetGo text) = refl
+same-verb (SetRequire p) = refl
+same-verb (DropRequire path) = refl
+same-verb (AddExclude p) = refl
+same-verb (DropExclude p) = refl
+same-verb (SetReplace r) = refl
+same-verb (DropReplace left) = refl
+same-verb (AddRetract ends) = refl
+same-verb (DropRetract ends) = refl
+
+other-begin : (edit : Edit) (words : List Word) → begins_with (path_of edit) words ≡ false → passes (about edit) (directive_of (verb_about edit) words) ≡ false
+unfolding directive_of
+other-begin (SetModule path) words other = absurd cc
+other-begin (SetGo text) words other = absurd cc
+other-begin (SetRequire p) words other = required p.0 words other
+other-begin (DropRequire path) words other = required path words other
+other-begin (AddExclude p) words other = excluded p words other
+other-begin (DropExclude p) words other = excluded p words other
+other-begin (SetReplace r) words other = replaced r.0.path (is_covered_by r.0 r.0.version) (is_replaced_by r.0) (covered-path r.0 r.0.version) (λ left right. refl) words other
+other-begin (DropReplace left) words other = replaced left.path (λ side. is_same_left side left) (replaces_left left) (λ side fails. rw fails refl) (λ side right. refl) words other
+other-begin (AddRetract ends) words other = absurd cc
+other-begin (DropRetract ends) words other = absurd cc
+
+-- an entry with the verb and another first argument isn't targeted
+pub other-path : (edit : Edit) (text : List ℕ) (words : List Word) → bytes_eq text (verb_of edit) ≡ true → begins_with (path_of edit) words ≡ false → passes (about edit) (directive_of (main_verb text) words) ≡ false
+other-path edit text words named other =
+    let is : text ≡ verb_of edit = (bytes_eq-Decides text (verb_of edit)).0 named in
+    let verb : main_verb text ≡ verb_about edit = ap main_verb is ∙ same-verb edit in
+    ap (λ (v : Verb). passes (about edit) (directive_of v words)) verb ∙ other-begin edit words other
+
+-- ---- lines
+
+-- `VERB ()` holds no directive
+pub loose-other : (edit : Edit) (verb : Placed) (arguments : List Placed) (suffix : Option (List ℕ))
+    → passes (about edit) (directive_of (main_verb verb.word.spelling) (map (λ t. t.word) arguments)) ≡ false
+    → passes (about edit) (directive_at None (Entry (verb ∷ arguments) suffix)) ≡ false
+unfolding item_at
+loose-other edit verb arguments suffix fails = elim (cases_Bool (is_empty_block (map (λ t. t.word) arguments))) [
+  | inl empty ↦ rw empty refl
+  | inr full ↦ rw full fails
+]
+
+pub no-words-other : (edit : Edit) (words : List Placed) (suffix : Option (List ℕ)) → length words < 1 → passes (about edit) (directive_at None (Entry words suffix)) ≡ false
+unfolding item_at
+no-words-other edit [] suffix short = refl
+no-words-other edit (word ∷ words) suffix short = absurd (omega (arith, short))
+
+pub words-other : (edit : Edit) (verb : Placed) (words : List Placed) (suffix : Option (List ℕ)) → 1 ≤ length words → verb ≡ get_or words 0 verb
+    → passes (about edit) (directive_of (main_verb verb.word.spelling) (words_of (take (length words - 1) (drop 1 words)))) ≡ false
+    → passes (about edit) (directive_at None (Entry words suffix)) ≡ false
+words-other edit verb [] suffix long is fails = absurd (omega (arith, long))
+words-other edit verb (word ∷ words) suffix long is fails =
+    let rest : take (length (word ∷ words) - 1) (drop 1 (word ∷ words)) ≡ words = take_rest (word ∷ words) 1 in
+    let same : passes (about edit) (directive_of (main_verb word.word.spelling) (words_of words)) ≡ false =
+    ap (λ (w : Placed). passes (about edit) (directive_of (main_verb w.word.spelling) (words_of words))) (sym is)
+    ∙ ap (λ (ws : List Placed). passes (about edit) (directive_of (main_verb verb.word.spelling) (words_of ws))) (sym rest) ∙ fails in
+    loose-other edit word words suffix same
+
+pub block-other : (edit : Edit) (verb : Placed) (words : List Placed) (suffix : Option (List ℕ))
+    → passes (about edit) (directive_of (main_verb verb.word.spelling) (map (λ t. t.word) words)) ≡ false
+    → passes (about edit) (directive_at (Some verb) (Entry words suffix)) ≡ false
+unfolding item_at
+block-other edit verb words suffix fails = fails
+
+-- ---- entries of one verb
+
+verb-is-module : (d : Directive) → verb_said d ≡ ForModule → is_module d ≡ true
+verb-is-module (DeclaresModule m) is = refl
+verb-is-module (DeclaresGo t) is = absurd cc
+verb-is-module (Requires q) is = absurd cc
+verb-is-module (Excludes q) is = absurd cc
+verb-is-module (Replaces r) is = absurd cc
+verb-is-module (Retracts e) is = absurd cc
+verb-is-module Kept is = absurd cc
+
+is-require-verb : (d : Directive) → is_require d ≡ true → verb_said d ≡ ForRequire
+is-require-verb (DeclaresModule m) holds = absurd cc
+is-require-verb (DeclaresGo t) holds = absurd cc
+is-require-verb (Requires q) holds = refl
+is-require-verb (Excludes q) holds = absurd cc
+is-require-verb (Replaces r) holds = absurd cc
+is-require-verb (Retracts e) holds = absurd cc
+is-require-verb Kept holds = absurd cc
+
+verb-is-require : (d : Directive) → verb_said d ≡ ForRequire → is_require d ≡ true
+verb-is-require (DeclaresModule m) is = absurd cc
+verb-is-require (DeclaresGo t) is = absurd cc
+verb-is-require (Requires q) is = refl
+verb-is-require (Excludes q) is = absurd cc
+verb-is-require (Replaces r) is = absurd cc
+verb-is-require (Retracts e) is = absurd cc
+verb-is-require Kept is = absurd cc
+
+is-exclude-verb : (d : Directive) → is_exclude d ≡ true → verb_said d ≡ ForExclude
+is-exclude-verb (DeclaresModule m) holds = absurd cc
+is-exclude-verb (DeclaresGo t) holds = absurd cc
+is-exclude-verb (Requires q) holds = absurd cc
+is-exclude-verb (Excludes q) holds = refl
+is-exclude-verb (Replaces r) holds = absurd cc
+is-exclude-verb (Retracts e) holds = absurd cc
+is-exclude-verb Kept holds = absurd cc
+
+verb-is-exclude : (d : Directive) → verb_said d ≡ ForExclude → is_exclude d ≡ true
+verb-is-exclude (DeclaresModule m) is = absurd cc
+verb-is-exclude (DeclaresGo t) is = absurd cc
+verb-is-exclude (Requires q) is = absurd cc
+verb-is-exclude (Excludes q) is = refl
+verb-is-exclude (Replaces r) is = absurd cc
+verb-is-exclude (Retracts e) is = absurd cc
+verb-is-exclude Kept is = absurd cc
+
+is-replace-verb : (d : Directive) → is_replace d ≡ true → verb_said d ≡ ForReplace
+is-replace-verb (DeclaresModule m) holds = absurd cc
+is-replace-verb (DeclaresGo t) holds = absurd cc
+is-replace-verb (Requires q) holds = absurd cc
+is-replace-verb (Excludes q) holds = absurd cc
+is-replace-verb (Replaces r) holds = refl
+is-replace-verb (Retracts e) holds = absurd cc
+is-replace-verb Kept holds = absurd cc
+
+verb-is-replace : (d : Directive) → verb_said d ≡ ForReplace → is_replace d ≡ true
+verb-is-replace (DeclaresModule m) is = absurd cc
+verb-is-replace (DeclaresGo t) is = absurd cc
+verb-is-replace (Requires q) is = absurd cc
+verb-is-replace (Excludes q) is = absurd cc
+verb-is-replace (Replaces r) is = refl
+verb-is-replace (Retracts e) is = absurd cc
+verb-is-replace Kept is = absurd cc
+
+is-retract-verb : (d : Directive) → is_retract d ≡ true → verb_said d ≡ ForRetract
+is-retract-verb (DeclaresModule m) holds = absurd cc
+is-retract-verb (DeclaresGo t) holds = absurd cc
+is-retract-verb (Requires q) holds = absurd cc
+is-retract-verb (Excludes q) holds = absurd cc
+is-retract-verb (Replaces r) holds = absurd cc
+is-retract-verb (Retracts e) holds = refl
+is-retract-verb Kept holds = absurd cc
+
+verb-is-retract : (d : Directive) → verb_said d ≡ ForRetract → is_retract d ≡ true
+verb-is-retract (DeclaresModule m) is = absurd cc
+verb-is-retract (DeclaresGo t) is = absurd cc
+verb-is-retract (Requires q) is = absurd cc
+verb-is-retract (Excludes q) is = absurd cc
+verb-is-retract (Replaces r) is = absurd cc
+verb-is-retract (Retracts e) is = refl
+verb-is-retract Kept is = absurd cc
+
+-- the directives of this verb are those that pass the test, and the text spells the verb
+record IsTestOf (text : List ℕ) (verb : Verb) (test : Directive → Bool) : Type 0 where
+  of_verb : (d : Directive) → test d ≡ true → verb_said d ≡ verb
+  passing : (d : Directive) → verb_said d ≡ verb → test d ≡ true
+  spelling : main_verb text ≡ verb
+  only_spelling : (other : List ℕ) → Spells verb other → bytes_eq other text ≡ true
+
+module-test : IsTestOf (codes "module") ForModule is_module
+module-test = record { of_verb = is-module-verb; passing = verb-is-module; spelling = refl; only_spelling = λ other is. is }
+
+added-test : (v : AddedVerb) → (w : Verb) × IsTestOf (verb_text v) w (is_of v)
+added-test verb.Require = (ForRequire, record { of_verb = is-require-verb; passing = verb-is-require; spelling = refl; only_spelling = λ other is. is })
+added-test verb.Exclude = (ForExclude, record { of_verb = is-exclude-verb; passing = verb-is-exclude; spelling = refl; only_spelling = λ other is. is })
+added-test verb.Replace = (ForReplace, record { of_verb = is-replace-verb; passing = verb-is-replace; spelling = refl; only_spelling = λ other is. is })
+added-test verb.Retract = (ForRetract, record { of_verb = is-retract-verb; passing = verb-is-retract; spelling = refl; only_spelling = λ other is. is })
+
+said-passes : (text : List ℕ) (v : Verb) (test : Directive → Bool) → IsTestOf text v test → (earlier : List Directive) (verb : List ℕ) (words : List Word) (o : Option Directive)
+    → directive_of (main_verb verb) words ≡ o → entry_kinds Strict earlier (main_verb verb) o ≡ [] → bytes_eq verb text ≡ passes test o
+said-passes text v test is earlier verb words None said right = absurd cc
+said-passes text v test is earlier verb words (Some d) said right =
+    let of : verb_said d ≡ main_verb verb = directive-verb (main_verb verb) words d said in
+    elim (cases_Bool (bytes_eq verb text)) [
+      | inl same ↦
+          let spelled_so : verb ≡ text = (bytes_eq-Decides verb text).0 same in
+          same ∙ sym (is.passing d (of ∙ ap main_verb spelled_so ∙ is.spelling))
+      | inr differs ↦ elim (cases_Bool (test d)) [
+        | inl holds ↦ absurd (cc (is.only_spelling verb (subst (λ (w : Verb). Spells w verb) (sym of ∙ is.of_verb d holds) (spelled verb)), differs))
+        | inr fails ↦ differs ∙ sym fails
+      ]
+    ]
+
+valid-passes : (text : List ℕ) (v : Verb) (test : Directive → Bool) → IsTestOf text v test → (item : Item) (earlier : List Directive) → item_kinds Strict earlier item ≡ [] → is_entry_of text item ≡ passes test (directive_in Strict item)
+valid-passes text v test is Silent earlier right = refl
+valid-passes text v test is (Opening verb) earlier right = refl
+valid-passes text v test is (Saying verb arguments) earlier right = said-passes text v test is earlier verb arguments (directive_of (main_verb verb) arguments) refl right
+
+-- in a valid file the entries of a verb are the lines that hold its directives
+pub entry-holds : (v : AddedVerb) (block : Option Placed) (line : Line Placed) → IsValidAt block line → is_entry_of (verb_text v) (item_of block line) ≡ passes (is_of v) (directive_at block line)
+entry-holds v block line valid = valid-passes (verb_text v) (added-test v).0 (is_of v) (added-test v).1 (item_of block line) valid.0 valid.1
+
+pub entry-declares : (block : Option Placed) (line : Line Placed) → IsValidAt block line → is_entry_of (codes "module") (item_of block line) ≡ passes is_module (directive_at block line)
+entry-declares block line valid = valid-passes (codes "module") ForModule is_module module-test (item_of block line) valid.0 valid.1
+
+and-false : (b : Bool) → (b && false) ≡ false
+and-false true = refl
+and-false false = refl
+
+and-true : (b : Bool) → (b && true) ≡ b
+and-true true = refl
+and-true false = refl
+
+-- words outside blocks that are no whole block
+pub single-of : (text : List ℕ) (verb : Placed) (words : List Placed) (suffix : Option (List ℕ)) (same empty : Bool) → 1 ≤ length words → verb ≡ get_or words 0 verb
+    → same ≡ bytes_eq verb.word.spelling text → empty ≡ is_empty_block (words_of (take (length words - 1) (drop 1 words)))
+    → (same && not empty) ≡ is_entry_of text (item_of None (Entry words suffix))
+unfolding item_at
+single-of text verb [] suffix same empty long is tested closed = absurd (omega (arith, long))
+single-of text verb (word ∷ words) suffix same empty long is tested closed =
+    let rest : take (length (word ∷ words) - 1) (drop 1 (word ∷ words)) ≡ words = take_rest (word ∷ words) 1 in
+    let shut : empty ≡ is_empty_block (words_of words) = closed ∙ ap (λ (ws : List Placed). is_empty_block (words_of ws)) rest in
+    let said : same ≡ bytes_eq word.word.spelling text = tested ∙ ap (λ (w : Placed). bytes_eq w.word.spelling text) is in
+    elim (cases_Bool (is_empty_block (words_of words))) [
+      | inl yes_empty ↦ rw (shut, yes_empty) (and-false same)
+      | inr not_empty ↦ rw (shut, not_empty, said) (and-true (bytes_eq word.word.spelling text))
+    ]
+
+pub no-words-of : (text : List ℕ) (words : List Placed) (suffix : Option (List ℕ)) → length words < 1 → false ≡ is_entry_of text (item_of None (Entry words suffix))
+unfolding item_at
+no-words-of text [] suffix short = refl
+no-words-of text (word ∷ words) suffix short = absurd (omega (arith, short))

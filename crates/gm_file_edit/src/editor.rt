@@ -1,0 +1,117 @@
+//! Editing the lines of a file by operations in turn.
+//!
+//! An operation leaves a sound file sound, so nothing is read again between two operations.
+
+ghost use Rattle.std.specs.Prelude.{◌≡◌, ◌↔◌, IfOk, IsErrOf, OnErr, OnOk, None, true, false};
+ghost use Rattle.gm_syntax.specs.Document.{IsDocument};
+ghost use Rattle.gm_syntax.specs.LineViews.{line_views, plain_lines};
+ghost use Rattle.gm_file.specs.Directives.{Strict};
+ghost use Rattle.gm_file.specs.Faults.{fault_of};
+ghost use Rattle.gm_file_edit.specs.Changes.{edited, is_fit};
+ghost use Rattle.gm_file_edit.specs.Sound.{IsSoundEdit};
+ghost use Rattle.gm_file_edit.specs.Views.{edit_of};
+
+use crate::adding::copy_lines;
+use crate::applying::{edited, is_fit};
+use crate::fault::EditFault;
+use crate::op::{Change, Op};
+use gm_file::{FileFault, MainFile};
+use gm_syntax::{Doc, Line};
+use std::alloc::{AllocError, Global};
+use std::marker::Model;
+use std::mem;
+
+/// The lines of a main module's file, which operations change in turn. They are always a document that strict reading
+/// accepts.
+#[derive(Drop)]
+pub struct Editor<'a> {
+    /// The allocator of the lines.
+    alloc: Global,
+    /// The lines after the operations so far.
+    lines: Vec<Line<'a>>,
+}
+
+impl<'a> Model for Editor<'a> {
+    ghost use Rattle.std.specs.Prelude.{List, ◌≡◌, None};
+    ghost use Rattle.gm_syntax.specs.Tokens.{Placed};
+    ghost use Rattle.gm_syntax.specs.Document.{IsDocument, Line as LineOf};
+    ghost use Rattle.gm_syntax.specs.LineViews.{line_views, plain_lines};
+    ghost use Rattle.gm_file.specs.Directives.{Strict};
+    ghost use Rattle.gm_file.specs.Faults.{fault_of};
+
+    ghost Value = { List (LineOf Placed) };
+
+    ghost view = { λ e. line_views e.lines.items };
+
+    ghost invariant = { λ e. IsDocument (plain_lines (line_views e.lines.items))
+        × (fault_of Strict (plain_lines (line_views e.lines.items)) ≡ None) };
+}
+
+/// Changes lines by an operation. If memory runs out, they stay as they are.
+fn edit_lines<'a>(
+    alloc: Global,
+    change: &Change,
+    lines: &mut Vec<Line<'a>>,
+) -> Result<(), AllocError>
+    requires written { IsSoundEdit (edit_of change.now) }
+    requires document { IsDocument (plain_lines (line_views lines.old.items)) }
+    requires sound { fault_of Strict (plain_lines (line_views lines.old.items)) ≡ None }
+    ensures ok { OnOk result (line_views lines.new.items ≡ edited (edit_of change.now) (line_views lines.old.items)) }
+    ensures err { OnErr result (line_views lines.new.items ≡ line_views lines.old.items) }
+{
+    let new = edited(alloc, change, lines.as_slice())?;
+    let _before = mem::replace(lines, new);
+    Ok(())
+}
+
+impl<'a> Editor<'a> {
+    /// An editor of a copy of a file's lines. Fails only if memory runs out.
+    pub fn new(alloc: Global, file: &MainFile<'a>) -> Result<Editor<'a>, AllocError>
+        ensures { IfOk result (λ editor. editor ≡ file.now) }
+    {
+        let lines = copy_lines(alloc, file.doc().lines())?;
+        Ok(Editor { alloc, lines })
+    }
+
+    /// Applies an operation to the lines (go help mod edit).
+    ///
+    /// Fails with `Misfit` if and only if a version doesn't fit its path. This concerns a version that the operation
+    /// requires or excludes, or the one in the left side of a `replace`. The right side of a `replace` isn't checked.
+    /// The check comes before any allocation.
+    ///
+    /// Fails with `NoMemory` if memory runs out. On any failure the lines are unchanged.
+    pub fn apply(&mut self, op: &Op) -> Result<(), EditFault>
+        ensures ok { OnOk result (self.new ≡ edited op.now self.old) }
+        ensures err { OnErr result (self.new ≡ self.old) }
+        ensures misfit { IsErrOf result EditFault.Misfit ↔ is_fit op.now ≡ false }
+    {
+        if !is_fit(&op.change) {
+            return Err(EditFault::Misfit);
+        }
+        edit_lines(self.alloc, &op.change, &mut self.lines)?;
+        Ok(())
+    }
+
+    /// The document of the lines. Takes no memory.
+    pub fn into_doc(self) -> Doc<'a>
+        ensures lines { result ≡ self.entry }
+        ensures sound { fault_of Strict (plain_lines self.entry) ≡ None }
+    {
+        let Editor { alloc: _, lines } = self;
+        Doc::of_lines(lines)
+    }
+
+    /// The file of the lines, with the fields that strict reading gives for them. Fails only if memory runs out.
+    pub fn into_file(self) -> Result<MainFile<'a>, AllocError>
+        ensures { IfOk result (λ file. file ≡ self.entry) }
+    {
+        let alloc = self.alloc;
+        match MainFile::read(alloc, self.into_doc()) {
+            Ok(file) => Ok(file),
+            Err(fault) => match fault {
+                FileFault::NoMemory => Err(AllocError),
+                FileFault::Directive { line: _, kind: _ } => unreachable!(),
+            },
+        }
+    }
+}
