@@ -1,5 +1,5 @@
 -- Operations with nothing to do leave the lines as they are.
-use Rattle.std.proofs.Common.{◌≡◌, if◌then◌else◌, Bool, true, false, List, [], ◌∷◌, Option, Some, None, refl, sym, ap, ◌∙◌, inl, inr}
+use Rattle.std.proofs.Common.{◌≡◌, if◌then◌else◌, Bool, true, false, List, [], ◌∷◌, Some, None, refl, sym, ap, ◌∙◌, inl, inr}
 use Rattle.std.specs.Prelude.{filter}
 use Rattle.std.specs.List.{list_any}
 use Rattle.std.proofs.lemmas.Bool.{cases_Bool}
@@ -10,7 +10,7 @@ use Rattle.gm_file_edit.specs.Edits.{Edit, SetModule, SetGo, SetRequire, DropReq
 use Rattle.gm_file_edit.specs.About.{about}
 use Rattle.gm_file_edit.specs.Changes.{changed, edited, put_in}
 use Rattle.gm_file_edit.specs.EditLaws.{IdleAdditionChangesNothing, IdleDropChangesNothing, SecondAdditionChangesNothing, SecondDropChangesNothing}
-use Rattle.gm_file_edit.specs.Laws.{IsEditOf, added_by, directives_of, is_drop}
+use Rattle.gm_file_edit.specs.Laws.{added_by, directives_of, is_drop}
 use Rattle.gm_file_edit.specs.Searching.{is_there}
 use Rattle.gm_file_edit.proofs.AddingSound.{file-held}
 use Rattle.gm_file_edit.proofs.SaidAfter.{added-is-there, dropped-is-gone, there-is}
@@ -63,7 +63,7 @@ filter-miss : (test : Directive → Bool) (d : Directive) (ds : List Directive) 
 filter-miss test d ds e = rw e refl
 
 -- a list of which a filter leaves an element has one that passes the test
-some-filtered : (test : Directive → Bool) (ds more : List Directive) (d : Directive) → filter test ds ≡ d ∷ more → list_any test ds ≡ true
+pub some-filtered : (test : Directive → Bool) (ds more : List Directive) (d : Directive) → filter test ds ≡ d ∷ more → list_any test ds ≡ true
 some-filtered test [] more d e = absurd cc
 some-filtered test (x ∷ ds) more d e = elim (cases_Bool (test x)) [
   | inl hit ↦ rw hit refl

@@ -17,6 +17,7 @@ pub mod AddingSound
 pub mod AddingCode
 pub mod EditedSound
 pub mod Places
+pub mod Seats
 pub mod Said
 pub mod SaidAfter
 pub mod Idle
@@ -26,3 +27,4 @@ pub mod Sections
 pub mod SectionRenewals
 pub mod Additions
 pub mod GoPlace
+pub mod Twice

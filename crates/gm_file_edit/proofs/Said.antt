@@ -1,22 +1,23 @@
 -- What the lines of a file say after an operation.
-use Rattle.std.proofs.Common.{◌≡◌, ℕ, ◌||◌, not, Bool, true, false, List, [], ◌∷◌, ◌++◌, take, drop, Option, Some, None, is_some, refl, sym, ap, subst, ◌∙◌, append-nil, append_assoc, inl, inr}
+use Rattle.std.proofs.Common.{◌≡◌, ℕ, ◌||◌, not, Bool, true, false, List, [], ◌∷◌, ◌++◌, take, drop, Option, Some, None, is_some, refl, sym, ap, subst, ◌∙◌, append-nil, inl, inr}
 use Rattle.std.specs.Prelude.{filter}
-use Rattle.std.specs.Option.{option_to_list}
-use Rattle.std.specs.List.{list_all, list_any}
+use Rattle.std.specs.Option.{option_map, option_to_list}
+use Rattle.std.specs.List.{cons_option, filter_map, list_any}
 use Rattle.std.proofs.lemmas.Bool.{cases_Bool}
 use Rattle.std.proofs.lemmas.List.{take-append-drop}
-use Rattle.std.proofs.lemmas.List.Elements.{filter-append, filter_map-append}
+use Rattle.std.proofs.lemmas.List.Elements.{filter-append}
 use Rattle.gm_syntax.specs.Tokens.{Placed}
-use Rattle.gm_syntax.specs.Document.{Line, Blank, Comment, Open, Close, Entry, IsValidLine}
+use Rattle.gm_syntax.specs.Document.{Line, Blank, IsValidLine}
 use Rattle.gm_syntax.specs.LineViews.{plain}
-use Rattle.gm_file.specs.Directives.{Directive, block_after_lines, block_after_line, item_at}
+use Rattle.gm_file.specs.Directives.{Directive, LineInBlock, block_after_lines, block_after_line, item_at}
 use Rattle.gm_file_edit.specs.declared.adding.AddedVerb.{AddedVerb}
 use Rattle.gm_file_edit.specs.declared.adding.Spot.{Spot}
 use Rattle.gm_file_edit.specs.Adding.{added, added_at, after_first_that, spot_after_first, spot_after_last, entry_at, is_of, past_block, insert_at_spot, single, verb_text}
-use Rattle.gm_file_edit.specs.Fates.{Begun, Fate, begin, dropped, dropping_from, directive_at, is_emptied, itself, kept, leaves_nothing, remaining_from, opened_lines, passes, renewed, renewing_from, with_line}
+use Rattle.gm_file_edit.specs.Fates.{Begun, Fate, dropped, dropping_from, directive_at, kept, remaining_from, passes, renewed, renewing_from}
 use Rattle.gm_file_edit.specs.Searching.{is_there, is_there_from}
 use Rattle.gm_file_edit.proofs.AddingSound.{Fits, IsAddition, IsIn, IsVerbSpot, back-sound, entry-fits, first-is-in, held-append, held_from, last-is, passing-level, past-outside}
-use Rattle.gm_file_edit.proofs.Leaving.{IsMadeNew, emptied-inner}
+use Rattle.gm_file_edit.proofs.Leaving.{IsMadeNew}
+use Rattle.gm_file_edit.proofs.Seats.{left-seats, opened, seats_from}
 use Rattle.gm_file_edit.proofs.Sound.{SoundFrom}
 
 -- ---- lists of directives
@@ -91,55 +92,23 @@ same-front p front xs ys e = filter-append p front xs ∙ ap (λ (ds : List Dire
 
 -- ---- the remaining lines say what the lines that stay say
 
-abbrev pub opened : Option Begun → List (Line Placed)
-opened None = []
-opened (Some b) = opened_lines b
+-- what lines say, by those that hold a directive
+abbrev said_in : List (LineInBlock Placed) → List Directive
+said_in seats = filter_map (λ seat. directive_at seat.0 seat.1) seats
 
-blank-held : (inner : List Fate) (block : Option Placed) (lines : List (Line Placed)) → list_all leaves_nothing inner ≡ true → held_from block (kept inner ++ lines) ≡ held_from block lines
-unfolding item_at
-blank-held [] block lines e = refl
-blank-held (None ∷ inner) block lines e = blank-held inner block lines e
-blank-held (Some Blank ∷ inner) block lines e = blank-held inner block lines e
-blank-held (Some (Comment text) ∷ inner) block lines e = absurd cc
-blank-held (Some (Open verb suffix) ∷ inner) block lines e = absurd cc
-blank-held (Some (Close suffix) ∷ inner) block lines e = absurd cc
-blank-held (Some (Entry words suffix) ∷ inner) block lines e = absurd cc
+line-seats : (block : Option Placed) (line : Line Placed) (held : Option Directive) (ds : List Directive) (seats : List (LineInBlock Placed)) → directive_at block line ≡ held → ds ≡ said_in seats
+    → option_to_list held ++ ds ≡ said_in (option_to_list (option_map (λ d. (block, line)) held) ++ seats)
+line-seats block line None ds seats is same = same
+line-seats block line (Some d) ds seats is same = ap (λ (es : List Directive). d ∷ es) same ∙ sym (ap (λ (held : Option Directive). cons_option held (said_in seats)) is)
 
-opened-more : (b : Begun) (fate : Fate) (fates : List Fate) → opened_lines (with_line b fate) ++ kept fates ≡ opened_lines b ++ kept (fate ∷ fates)
-opened-more b fate fates =
-    ap (λ (ls : List (Line Placed)). Open b.verb b.suffix ∷ ls)
-    (ap (λ (ls : List (Line Placed)). ls ++ kept fates) (filter_map-append itself b.inner (fate ∷ [])) ∙ append_assoc (kept b.inner) (kept (fate ∷ [])) (kept fates)
-    ∙ ap (λ (ls : List (Line Placed)). kept b.inner ++ ls) (sym (filter_map-append itself (fate ∷ []) fates)))
-
-same-behind : (block : Option Placed) (front xs ys : List (Line Placed)) → ((b : Option Placed) → held_from b xs ≡ held_from b ys) → held_from block (front ++ xs) ≡ held_from block (front ++ ys)
-same-behind block [] xs ys h = h block
-same-behind block (line ∷ front) xs ys h = ap (λ (ds : List Directive). option_to_list (directive_at block line) ++ ds) (same-behind (block_after_line block line) front xs ys h)
-
-closing-held : (after : Bool) (b : Begun) (suffix : Option (List ℕ)) (fates : List Fate) → ((f : Bool) → held_from None (remaining_from f None fates) ≡ held_from None (kept fates))
-    → held_from None (remaining_from after (Some b) (Some (Close suffix) ∷ fates)) ≡ held_from None (opened_lines b ++ kept (Some (Close suffix) ∷ fates))
-unfolding remaining_from item_at
-closing-held after b suffix fates next = elim (cases_Bool (is_emptied b.suffix b.inner suffix)) [
-  | inl holds ↦ rw holds (next true ∙ sym (blank-held b.inner (Some b.verb) (Close suffix ∷ kept fates) (emptied-inner b.suffix b.inner suffix holds)))
-  | inr fails ↦ rw fails (same-behind (Some b.verb) (kept b.inner) (Close suffix ∷ remaining_from false None fates) (Close suffix ∷ kept fates) (λ block. next false))
-]
+held-seats : (block : Option Placed) (lines : List (Line Placed)) → held_from block lines ≡ said_in (seats_from block lines)
+held-seats block [] = refl
+held-seats block (line ∷ lines) =
+    let behind : Option Placed = block_after_line block line in
+    line-seats block line (directive_at block line) (held_from behind lines) (seats_from behind lines) refl (held-seats behind lines)
 
 pub left-held : (after : Bool) (b : Option Begun) (fates : List Fate) → held_from None (remaining_from after b fates) ≡ held_from None (opened b ++ kept fates)
-unfolding remaining_from item_at
-left-held after None [] = refl
-left-held after (Some b) [] = ap (held_from None) (sym (append-nil (opened_lines b)))
-left-held after None (None ∷ fates) = left-held after None fates
-left-held true None (Some Blank ∷ fates) = left-held false None fates
-left-held false None (Some Blank ∷ fates) = left-held false None fates
-left-held after None (Some (Comment text) ∷ fates) = left-held false None fates
-left-held after None (Some (Open verb suffix) ∷ fates) = left-held false (Some (begin verb suffix)) fates
-left-held after None (Some (Close suffix) ∷ fates) = left-held false None fates
-left-held after None (Some (Entry words suffix) ∷ fates) = ap (λ (ds : List Directive). option_to_list (directive_at None (Entry words suffix)) ++ ds) (left-held false None fates)
-left-held after (Some b) (Some (Close suffix) ∷ fates) = closing-held after b suffix fates (λ f. left-held f None fates)
-left-held after (Some b) (None ∷ fates) = left-held after (Some (with_line b None)) fates ∙ ap (held_from None) (opened-more b None fates)
-left-held after (Some b) (Some Blank ∷ fates) = left-held after (Some (with_line b (Some Blank))) fates ∙ ap (held_from None) (opened-more b (Some Blank) fates)
-left-held after (Some b) (Some (Comment text) ∷ fates) = left-held after (Some (with_line b (Some (Comment text)))) fates ∙ ap (held_from None) (opened-more b (Some (Comment text)) fates)
-left-held after (Some b) (Some (Open verb suffix) ∷ fates) = left-held after (Some (with_line b (Some (Open verb suffix)))) fates ∙ ap (held_from None) (opened-more b (Some (Open verb suffix)) fates)
-left-held after (Some b) (Some (Entry words suffix) ∷ fates) = left-held after (Some (with_line b (Some (Entry words suffix)))) fates ∙ ap (held_from None) (opened-more b (Some (Entry words suffix)) fates)
+left-held after b fates = held-seats None (remaining_from after b fates) ∙ ap said_in (left-seats after b fates) ∙ sym (held-seats None (opened b ++ kept fates))
 
 -- ---- what is said after entries are removed
 

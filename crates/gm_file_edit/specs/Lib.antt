@@ -13,3 +13,4 @@ pub mod Changes
 pub mod Laws
 pub mod EditLaws
 pub mod GoPlace
+pub mod Twice

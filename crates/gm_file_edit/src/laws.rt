@@ -13,6 +13,7 @@ ghost use Rattle.gm_file_edit.specs.EditLaws.{AdditionFollowsItsVerb, AdditionOf
 ghost use Rattle.gm_file_edit.specs.Edits.{Edit, edit_in};
 ghost use Rattle.gm_file_edit.specs.GoPlace.{GoFollowsModule, GoFollowsModuleBlock};
 ghost use Rattle.gm_file_edit.specs.Laws.{AddedIsThere, DroppedIsGone, OthersStay, SetStandsAlone};
+ghost use Rattle.gm_file_edit.specs.Twice.{SecondOperationChangesNothing, SecondSettingChangesNothing};
 
 /// A valid file stays valid. If the lines are a document that strict reading accepts without a fault, so are the
 /// lines after the operation. The operation must be one that some text spells, and the versions that it puts in must
@@ -73,6 +74,17 @@ pub fn second_drops_change_nothing()
 /// `exclude=P@V` gives the same lines if it is applied twice, and so does `retract`.
 pub fn second_additions_change_nothing()
     ensures { SecondAdditionChangesNothing }
+{}
+
+/// An operation that sets a directive gives the same lines if it is applied twice: `module`, `go`, `require` and
+/// `replace`.
+pub fn second_settings_change_nothing()
+    ensures { SecondSettingChangesNothing }
+{}
+
+/// So every operation gives the same lines if it is applied twice.
+pub fn second_operations_change_nothing()
+    ensures { SecondOperationChangesNothing }
 {}
 
 /// The comment lines of a file are the same before and after any operation, and in the same order.

@@ -1,0 +1,339 @@
+-- An operation that follows itself leaves the lines as they are.
+use Rattle.std.proofs.Common.{◌≡◌, ℕ, ◌-◌, Bool, true, false, List, [], ◌∷◌, ◌++◌, length, take, drop, Option, Some, None, is_some, refl, sym, ap, subst, ◌∙◌, append-nil, arith, length-append, inl, inr}
+use Rattle.std.specs.Prelude.{codes, filter}
+use Rattle.std.specs.Option.{option_map, option_to_list}
+use Rattle.std.specs.List.{AllByRecursion}
+use Rattle.std.proofs.lemmas.Bool.{cases_Bool, false≢true}
+use Rattle.std.proofs.lemmas.List.{take-append-drop, take_at}
+use Rattle.gm_syntax.specs.Tokens.{Placed}
+use Rattle.gm_syntax.specs.Document.{Line, Blank, Comment, Open, Close, Entry}
+use Rattle.gm_file.specs.Directives.{Directive, LineInBlock, block_after_line, block_after_lines, item_at}
+use Rattle.gm_file.specs.Faults.{is_go, is_module}
+use Rattle.gm_file_edit.specs.declared.adding.AddedVerb.{AddedVerb}
+use Rattle.gm_file_edit.specs.declared.adding.AddedVerb.TheVariants as verb
+use Rattle.gm_file_edit.specs.declared.adding.Spot.{Spot}
+use Rattle.gm_file_edit.specs.Edits.{Edit, SetModule, SetGo, SetRequire, DropRequire, AddExclude, DropExclude, SetReplace, DropReplace, AddRetract, DropRetract}
+use Rattle.gm_file_edit.specs.About.{about}
+use Rattle.gm_file_edit.specs.Adding.{added, added_at, after_first_that, entry_at, insert_at_spot, is_of, past_block, single, spot_after_first, spot_after_last, verb_text}
+use Rattle.gm_file_edit.specs.Changes.{changed, edited, put_in}
+use Rattle.gm_file_edit.specs.Fates.{Fate, directive_at, dropping_from, kept, passes, remaining_from, renewing_from}
+use Rattle.gm_file_edit.specs.Laws.{directives_of, set_by}
+use Rattle.gm_file_edit.specs.NewWords.{made_word, pair_words, replace_words}
+use Rattle.gm_file_edit.specs.Renewing.{made_new, with_arguments, with_last}
+use Rattle.gm_file_edit.specs.Searching.{is_there, is_there_from}
+use Rattle.gm_file_edit.specs.Twice.{SecondOperationChangesNothing, SecondSettingChangesNothing}
+use Rattle.gm_file_edit.proofs.AddingSound.{IsIn, IsVerbSpot, back-sound, file-held, first-is-in, held_from, last-is, passing-level, past-outside}
+use Rattle.gm_file_edit.proofs.Idle.{second-addition, second-drop, some-filtered, there-said}
+use Rattle.gm_file_edit.proofs.Said.{none-any}
+use Rattle.gm_file_edit.proofs.SaidAfter.{set-stands-alone, there-is}
+use Rattle.gm_file_edit.proofs.Seats.{left-seats, seats-append, seats_from}
+use Rattle.gm_file_edit.proofs.Sound.{SoundFrom, sound-file}
+use Rattle.gm_file_edit.proofs.Untouched.{all-lines-stay, all_stay, none-dropped-from, or-none}
+
+-- how an operation rewrites a line, given the verb of its block
+abbrev Rewriting : Type 0
+Rewriting = Option Placed → Line Placed → Line Placed
+
+-- ---- lines that an operation has set
+
+-- the operation would rewrite this line to itself, if it targets it
+abbrev IsSet : (Directive → Bool) → Rewriting → LineInBlock Placed → Type 0
+IsSet test new seat = passes test (directive_at seat.0 seat.1) ≡ true → new seat.0 seat.1 ≡ seat.1
+
+abbrev AreSet : (Directive → Bool) → Rewriting → List (LineInBlock Placed) → Type 0
+AreSet test new seats = AllByRecursion (IsSet test new) seats
+
+-- the same of lines, given the verb of the block that is open before them
+abbrev LinesAreSet : (Directive → Bool) → Rewriting → Option Placed → List (Line Placed) → Type 0
+LinesAreSet test new block lines = AreSet test new (seats_from block lines)
+
+set-append : (test : Directive → Bool) (new : Rewriting) (xs ys : List (LineInBlock Placed)) → AreSet test new xs → AreSet test new ys → AreSet test new (xs ++ ys)
+set-append test new [] ys one two = two
+set-append test new (x ∷ xs) ys one two = (one.0, set-append test new xs ys one.1 two)
+
+-- one more line before the others
+line-set : (test : Directive → Bool) (new : Rewriting) (block : Option Placed) (line : Line Placed) (lines : List (Line Placed)) → IsSet test new (block, line)
+    → LinesAreSet test new (block_after_line block line) lines → LinesAreSet test new block (line ∷ lines)
+line-set test new block line lines is are = by_directive (directive_at block line)
+  where
+    by_directive : (held : Option Directive) → AreSet test new (option_to_list (option_map (λ d. (block, line)) held) ++ seats_from (block_after_line block line) lines)
+    by_directive None = are
+    by_directive (Some d) = (is, are)
+
+record FirstIsSet (test : Directive → Bool) (new : Rewriting) (block : Option Placed) (line : Line Placed) (lines : List (Line Placed)) : Type 0 where
+  pub line_is : IsSet test new (block, line)
+  pub lines_are : LinesAreSet test new (block_after_line block line) lines
+
+first-set : (test : Directive → Bool) (new : Rewriting) (block : Option Placed) (line : Line Placed) (lines : List (Line Placed)) → LinesAreSet test new block (line ∷ lines) → FirstIsSet test new block line lines
+first-set test new block line lines are = by_directive (directive_at block line) refl are
+  where
+    by_directive : (held : Option Directive) → directive_at block line ≡ held → AreSet test new (option_to_list (option_map (λ d. (block, line)) held) ++ seats_from (block_after_line block line) lines)
+        → FirstIsSet test new block line lines
+    by_directive None is all = record { line_is = λ e. absurd (false≢true (sym (ap (passes test) is) ∙ e)); lines_are = all }
+    by_directive (Some d) is all = record { line_is = all.0; lines_are = all.1 }
+
+missed : (test : Directive → Bool) (new : Rewriting) (block : Option Placed) (line : Line Placed) → passes test (directive_at block line) ≡ false → IsSet test new (block, line)
+missed test new block line miss = λ e. absurd (false≢true (sym miss ∙ e))
+
+-- lines of which none is targeted
+none-set : (test : Directive → Bool) (new : Rewriting) (block : Option Placed) (lines : List (Line Placed)) → is_there_from test block lines ≡ false → LinesAreSet test new block lines
+none-set test new block [] none = tt
+none-set test new block (line ∷ lines) none =
+    let parts = or-none (passes test (directive_at block line)) (is_there_from test (block_after_line block line) lines) none in
+    line-set test new block line lines (missed test new block line parts.0) (none-set test new (block_after_line block line) lines parts.1)
+
+-- ---- the lines that a setting leaves, if it targets some
+
+-- how an operation rewrites lines: a line that it targets once at most
+record IsSetting (test : Directive → Bool) (new : Rewriting) : Type 0 where
+  pub level : (block : Option Placed) (line : Line Placed) → block_after_line block (new block line) ≡ block_after_line block line
+  pub again : (block : Option Placed) (line : Line Placed) → passes test (directive_at block line) ≡ true → new block (new block line) ≡ new block line
+
+dropping-set : (test : Directive → Bool) (new : Rewriting) (block : Option Placed) (lines : List (Line Placed)) → LinesAreSet test new block (kept (dropping_from test block lines))
+dropping-set test new block [] = tt
+dropping-set test new block (line ∷ lines) =
+    let rest = dropping-set test new (block_after_line block line) lines in
+    elim (cases_Bool (passes test (directive_at block line))) [
+      | inl hit ↦ rw hit (subst (λ (b : Option Placed). LinesAreSet test new b (kept (dropping_from test (block_after_line block line) lines))) (passing-level test block line hit) rest)
+      | inr miss ↦ rw miss (line-set test new block line (kept (dropping_from test (block_after_line block line) lines)) (missed test new block line miss) rest)
+    ]
+
+renewing-set : (test : Directive → Bool) (new : Rewriting) → IsSetting test new → (block : Option Placed) (lines : List (Line Placed)) → LinesAreSet test new block (kept (renewing_from test new block lines))
+renewing-set test new sets block [] = tt
+renewing-set test new sets block (line ∷ lines) =
+    let behind : Option Placed = block_after_line block line in
+    elim (cases_Bool (passes test (directive_at block line))) [
+      | inl hit ↦
+          rw hit
+          (line-set test new block (new block line) (kept (dropping_from test behind lines)) (λ e. sets.again block line hit)
+          (subst (λ (b : Option Placed). LinesAreSet test new b (kept (dropping_from test behind lines))) (sym (sets.level block line)) (dropping-set test new behind lines)))
+      | inr miss ↦ rw miss (line-set test new block line (kept (renewing_from test new behind lines)) (missed test new block line miss) (renewing-set test new sets behind lines))
+    ]
+
+-- ---- rewriting twice
+
+last-level : (value : List ℕ) (block : Option Placed) (line : Line Placed) → block_after_line block (with_last value block line) ≡ block_after_line block line
+last-level value block Blank = refl
+last-level value block (Comment text) = refl
+last-level value block (Open verb suffix) = refl
+last-level value block (Close suffix) = refl
+last-level value block (Entry words suffix) = refl
+
+arguments-level : (arguments : List Placed) (block : Option Placed) (line : Line Placed) → block_after_line block (with_arguments arguments block line) ≡ block_after_line block line
+arguments-level arguments block Blank = refl
+arguments-level arguments block (Comment text) = refl
+arguments-level arguments block (Open verb suffix) = refl
+arguments-level arguments block (Close suffix) = refl
+arguments-level arguments block (Entry words suffix) = refl
+
+without-last : (words : List Placed) (last : Placed) → take (length (words ++ last ∷ []) - 1) (words ++ last ∷ []) ≡ words
+without-last words last = take_at words (last ∷ []) (length (words ++ last ∷ []) - 1) (omega (arith, length-append words (last ∷ [])))
+
+last-again : (value : List ℕ) (block : Option Placed) (line : Line Placed) → with_last value block (with_last value block line) ≡ with_last value block line
+last-again value block Blank = refl
+last-again value block (Comment text) = refl
+last-again value block (Open verb suffix) = refl
+last-again value block (Close suffix) = refl
+last-again value block (Entry words suffix) = ap (λ (front : List Placed). Entry (front ++ made_word value ∷ []) suffix) (without-last (take (length words - 1) words) (made_word value))
+
+arguments-again : (test : Directive → Bool) (arguments : List Placed) (block : Option Placed) (line : Line Placed) → passes test (directive_at block line) ≡ true
+    → with_arguments arguments block (with_arguments arguments block line) ≡ with_arguments arguments block line
+unfolding item_at
+arguments-again test arguments block Blank hit = refl
+arguments-again test arguments block (Comment text) hit = refl
+arguments-again test arguments block (Open verb suffix) hit = refl
+arguments-again test arguments block (Close suffix) hit = refl
+arguments-again test arguments (Some verb) (Entry words suffix) hit = refl
+arguments-again test arguments None (Entry [] suffix) hit = absurd cc
+arguments-again test arguments None (Entry (verb ∷ words) suffix) hit = refl
+
+last-sets : (test : Directive → Bool) (value : List ℕ) → IsSetting test (with_last value)
+last-sets test value = record { level = last-level value; again = λ block line hit. last-again value block line }
+
+arguments-set : (test : Directive → Bool) (arguments : List Placed) → IsSetting test (with_arguments arguments)
+arguments-set test arguments = record { level = arguments-level arguments; again = arguments-again test arguments }
+
+remaining-set : (test : Directive → Bool) (new : Rewriting) → IsSetting test new → (lines : List (Line Placed)) → LinesAreSet test new None (remaining_from false None (renewing_from test new None lines))
+remaining-set test new sets lines = subst (AreSet test new) (sym (left-seats false None (renewing_from test new None lines))) (renewing-set test new sets None lines)
+
+changed-set : (edit : Edit) (lines : List (Line Placed)) (d : Directive) → set_by edit ≡ Some d → LinesAreSet (about edit) (made_new edit) None (changed edit lines)
+unfolding changed
+changed-set (SetModule path) lines d sets = remaining-set (about (SetModule path)) (made_new (SetModule path)) (last-sets is_module path) lines
+changed-set (SetGo text) lines d sets = remaining-set (about (SetGo text)) (made_new (SetGo text)) (last-sets is_go text) lines
+changed-set (SetRequire p) lines d sets = remaining-set (about (SetRequire p)) (made_new (SetRequire p)) (last-sets (about (SetRequire p)) p.1) lines
+changed-set (SetReplace r) lines d sets = remaining-set (about (SetReplace r)) (made_new (SetReplace r)) (arguments-set (about (SetReplace r)) (replace_words r)) lines
+changed-set (DropRequire path) lines d sets = absurd cc
+changed-set (AddExclude p) lines d sets = absurd cc
+changed-set (DropExclude p) lines d sets = absurd cc
+changed-set (DropReplace left) lines d sets = absurd cc
+changed-set (AddRetract ends) lines d sets = absurd cc
+changed-set (DropRetract ends) lines d sets = absurd cc
+
+-- ---- the lines that a setting leaves, if it targets none
+
+-- new lines among lines of which none is targeted
+inserted-set : (test : Directive → Bool) (new : Rewriting) (block : Option Placed) (front more back : List (Line Placed)) → is_there_from test block (front ++ back) ≡ false
+    → LinesAreSet test new (block_after_lines block front) more → block_after_lines (block_after_lines block front) more ≡ block_after_lines block front → LinesAreSet test new block (front ++ (more ++ back))
+inserted-set test new block [] more back none are level =
+    subst (AreSet test new) (sym (seats-append block more back))
+    (set-append test new (seats_from block more) (seats_from (block_after_lines block more) back) are (subst (λ (b : Option Placed). LinesAreSet test new b back) (sym level) (none-set test new block back none)))
+inserted-set test new block (line ∷ front) more back none are level =
+    let parts = or-none (passes test (directive_at block line)) (is_there_from test (block_after_line block line) (front ++ back)) none in
+    line-set test new block line (front ++ (more ++ back)) (missed test new block line parts.0) (inserted-set test new (block_after_line block line) front more back parts.1 are level)
+
+-- an entry that is new in its block is rewritten to itself
+abbrev EntryIsSet : Rewriting → List ℕ → List Placed → Type 0
+EntryIsSet new text arguments = (block : Option Placed) → new block (entry_at (is_some block) text arguments) ≡ entry_at (is_some block) text arguments
+
+entry-level : (block : Option Placed) (inside : Bool) (text : List ℕ) (arguments : List Placed) → block_after_line block (entry_at inside text arguments) ≡ block
+entry-level block true text arguments = refl
+entry-level block false text arguments = refl
+
+only-set : (test : Directive → Bool) (new : Rewriting) (block : Option Placed) (line : Line Placed) → new block line ≡ line → LinesAreSet test new block (line ∷ [])
+only-set test new block line same = line-set test new block line [] (λ e. same) tt
+
+-- a blank line and an entry outside blocks
+blank-and-entry : (test : Directive → Bool) (new : Rewriting) (block : Option Placed) (line : Line Placed) → new block line ≡ line → LinesAreSet test new block (Blank ∷ line ∷ [])
+unfolding item_at
+blank-and-entry test new block line same = only-set test new block line same
+
+last-outside : (lines : List (Line Placed)) → SoundFrom [] None lines → block_after_lines None lines ≡ None
+last-outside lines sound = (back-sound [] None lines [] (subst (SoundFrom [] None) (sym (append-nil lines)) sound)).0
+
+at-end-set : (test : Directive → Bool) (new : Rewriting) (text : List ℕ) (arguments : List Placed) (lines : List (Line Placed)) → EntryIsSet new text arguments → SoundFrom [] None lines → is_there test lines ≡ false
+    → LinesAreSet test new None (lines ++ Blank ∷ single text arguments ∷ [])
+at-end-set test new text arguments lines is sound none =
+    let outside = last-outside lines sound in
+    inserted-set test new None lines (Blank ∷ single text arguments ∷ []) [] (subst (λ (ls : List (Line Placed)). is_there test ls ≡ false) (sym (append-nil lines)) none)
+    (subst (λ (b : Option Placed). LinesAreSet test new b (Blank ∷ single text arguments ∷ [])) (sym outside) (blank-and-entry test new None (single text arguments) (is None))) refl
+
+added-at-set : (test : Directive → Bool) (new : Rewriting) (v : AddedVerb) (arguments : List Placed) (lines : List (Line Placed)) → EntryIsSet new (verb_text v) arguments → SoundFrom [] None lines → is_there test lines ≡ false
+    → (o : Option Spot) → ((spot : Spot) → o ≡ Some spot → IsVerbSpot v None lines spot) → LinesAreSet test new None (added_at (verb_text v) arguments lines o)
+added-at-set test new v arguments lines is sound none None spot_is = at-end-set test new (verb_text v) arguments lines is sound none
+added-at-set test new v arguments lines is sound none (Some spot) spot_is =
+    let front : List (Line Placed) = take spot.before lines in
+    let back : List (Line Placed) = drop spot.before lines in
+    let block : Option Placed = block_after_lines None front in
+    let here = spot_is spot refl in
+    let entry : Line Placed = entry_at spot.inside (verb_text v) arguments in
+    let same : new block entry ≡ entry = subst (λ (b : Bool). new block (entry_at b (verb_text v) arguments) ≡ entry_at b (verb_text v) arguments) here.0.inside (is block) in
+    inserted-set test new None front (entry ∷ []) back (subst (λ (ls : List (Line Placed)). is_there test ls ≡ false) (sym (take-append-drop spot.before lines)) none)
+    (only-set test new block entry same) (entry-level block spot.inside (verb_text v) arguments)
+
+added-set : (test : Directive → Bool) (new : Rewriting) (v : AddedVerb) (arguments : List Placed) (lines : List (Line Placed)) → EntryIsSet new (verb_text v) arguments → SoundFrom [] None lines → is_there test lines ≡ false
+    → LinesAreSet test new None (added (is_of v) (verb_text v) arguments lines)
+unfolding added
+added-set test new v arguments lines is sound none = added-at-set test new v arguments lines is sound none (spot_after_last (is_of v) None lines) (last-is v None lines)
+
+behind-set : (test : Directive → Bool) (new : Rewriting) (text : List ℕ) (arguments : List Placed) (lines : List (Line Placed)) → EntryIsSet new text arguments → SoundFrom [] None lines → is_there test lines ≡ false
+    → (o : Option Spot) → ((spot : Spot) → o ≡ Some spot → IsIn None lines spot) → LinesAreSet test new None (insert_at_spot (Blank ∷ single text arguments ∷ []) lines o)
+behind-set test new text arguments lines is sound none None spot_is = at-end-set test new text arguments lines is sound none
+behind-set test new text arguments lines is sound none (Some spot) spot_is =
+    let n : ℕ = past_block lines spot in
+    let outside = past-outside lines spot sound (spot_is spot refl) in
+    inserted-set test new None (take n lines) (Blank ∷ single text arguments ∷ []) (drop n lines) (subst (λ (ls : List (Line Placed)). is_there test ls ≡ false) (sym (take-append-drop n lines)) none)
+    (subst (λ (b : Option Placed). LinesAreSet test new b (Blank ∷ single text arguments ∷ [])) (sym outside) (blank-and-entry test new None (single text arguments) (is None))) refl
+
+go-set : (text : List ℕ) (lines : List (Line Placed)) → SoundFrom [] None lines → is_there is_go lines ≡ false
+    → LinesAreSet is_go (with_last text) None (after_first_that is_module (Blank ∷ single (codes "go") (made_word text ∷ []) ∷ []) lines)
+unfolding after_first_that
+go-set text lines sound none = behind-set is_go (with_last text) (codes "go") (made_word text ∷ []) lines go-entry sound none (spot_after_first is_module None lines) (first-is-in is_module None lines)
+  where
+    go-entry : EntryIsSet (with_last text) (codes "go") (made_word text ∷ [])
+    go-entry None = refl
+    go-entry (Some verb) = refl
+
+put-set : (edit : Edit) (lines : List (Line Placed)) (d : Directive) → set_by edit ≡ Some d → SoundFrom [] None lines → is_there (about edit) lines ≡ false → LinesAreSet (about edit) (made_new edit) None (put_in edit lines)
+unfolding put_in
+put-set (SetModule path) lines d sets sound none = none-set is_module (made_new (SetModule path)) None lines none
+put-set (SetGo text) lines d sets sound none = go-set text lines sound none
+put-set (SetRequire p) lines d sets sound none = added-set (about (SetRequire p)) (made_new (SetRequire p)) verb.Require (pair_words p) lines require-entry sound none
+  where
+    require-entry : EntryIsSet (with_last p.1) (verb_text verb.Require) (pair_words p)
+    require-entry None = refl
+    require-entry (Some block) = refl
+put-set (SetReplace r) lines d sets sound none = added-set (about (SetReplace r)) (made_new (SetReplace r)) verb.Replace (replace_words r) lines replace-entry sound none
+  where
+    replace-entry : EntryIsSet (with_arguments (replace_words r)) (verb_text verb.Replace) (replace_words r)
+    replace-entry None = refl
+    replace-entry (Some block) = refl
+put-set (DropRequire path) lines d sets sound none = absurd cc
+put-set (AddExclude p) lines d sets sound none = absurd cc
+put-set (DropExclude p) lines d sets sound none = absurd cc
+put-set (DropReplace left) lines d sets sound none = absurd cc
+put-set (AddRetract ends) lines d sets sound none = absurd cc
+put-set (DropRetract ends) lines d sets sound none = absurd cc
+
+edited-set : (edit : Edit) (lines : List (Line Placed)) (d : Directive) → set_by edit ≡ Some d → SoundFrom [] None lines → LinesAreSet (about edit) (made_new edit) None (edited edit lines)
+unfolding edited
+edited-set edit lines d sets sound = elim (cases_Bool (is_there (about edit) lines)) [
+  | inl there ↦ rw there (changed-set edit lines d sets)
+  | inr none ↦ rw none (put-set edit lines d sets sound none)
+]
+
+-- ---- such lines stay, if only one of them is targeted
+
+rest-none : (test : Directive → Bool) (held : Option Directive) (rest : List Directive) (d : Directive) → passes test held ≡ true → filter test (option_to_list held ++ rest) ≡ d ∷ [] → filter test rest ≡ []
+rest-none test None rest d hit e = absurd cc
+rest-none test (Some x) rest d hit e = let more : x ∷ filter test rest ≡ d ∷ [] = rw hit at e in cc more
+
+rest-same : (test : Directive → Bool) (held : Option Directive) (rest : List Directive) → passes test held ≡ false → filter test (option_to_list held ++ rest) ≡ filter test rest
+rest-same test None rest miss = refl
+rest-same test (Some x) rest miss = rw miss refl
+
+renewing-stays : (test : Directive → Bool) (new : Rewriting) (d : Directive) (block : Option Placed) (lines : List (Line Placed)) → LinesAreSet test new block lines → filter test (held_from block lines) ≡ d ∷ []
+    → renewing_from test new block lines ≡ all_stay lines
+renewing-stays test new d block [] are alone = refl
+renewing-stays test new d block (line ∷ lines) are alone =
+    let behind : Option Placed = block_after_line block line in
+    let rest : List Directive = held_from behind lines in
+    let first = first-set test new block line lines are in
+    elim (cases_Bool (passes test (directive_at block line))) [
+      | inl hit ↦
+          let none : is_there_from test behind lines ≡ false = there-is test behind lines ∙ none-any test rest (rest-none test (directive_at block line) rest d hit alone) in
+          rw (hit, first.line_is hit, none-dropped-from test behind lines none) refl
+      | inr miss ↦ rw miss (ap (λ (fs : List Fate). Some line ∷ fs) (renewing-stays test new d behind lines first.lines_are (sym (rest-same test (directive_at block line) rest miss) ∙ alone)))
+    ]
+
+stays : (test : Directive → Bool) (new : Rewriting) (d : Directive) (lines : List (Line Placed)) → LinesAreSet test new None lines → filter test (held_from None lines) ≡ d ∷ []
+    → remaining_from false None (renewing_from test new None lines) ≡ lines
+stays test new d lines are alone = ap (remaining_from false None) (renewing-stays test new d None lines are alone) ∙ all-lines-stay lines
+
+again-changes : (edit : Edit) (lines : List (Line Placed)) (d : Directive) → set_by edit ≡ Some d → LinesAreSet (about edit) (made_new edit) None lines → filter (about edit) (held_from None lines) ≡ d ∷ [] → changed edit lines ≡ lines
+unfolding changed
+again-changes (SetModule path) lines d sets are alone = stays (about (SetModule path)) (made_new (SetModule path)) d lines are alone
+again-changes (SetGo text) lines d sets are alone = stays (about (SetGo text)) (made_new (SetGo text)) d lines are alone
+again-changes (SetRequire p) lines d sets are alone = stays (about (SetRequire p)) (made_new (SetRequire p)) d lines are alone
+again-changes (SetReplace r) lines d sets are alone = stays (about (SetReplace r)) (made_new (SetReplace r)) d lines are alone
+again-changes (DropRequire path) lines d sets are alone = absurd cc
+again-changes (AddExclude p) lines d sets are alone = absurd cc
+again-changes (DropExclude p) lines d sets are alone = absurd cc
+again-changes (DropReplace left) lines d sets are alone = absurd cc
+again-changes (AddRetract ends) lines d sets are alone = absurd cc
+again-changes (DropRetract ends) lines d sets are alone = absurd cc
+
+-- ---- the laws
+
+changes-there : (edit : Edit) (lines : List (Line Placed)) → is_there (about edit) lines ≡ true → edited edit lines ≡ changed edit lines
+unfolding edited
+changes-there edit lines there = rw there refl
+
+pub second-setting : SecondSettingChangesNothing
+second-setting edit lines d is sets =
+    let after : List (Line Placed) = edited edit lines in
+    let alone : filter (about edit) (directives_of after) ≡ d ∷ [] = set-stands-alone edit lines d is sets in
+    let there : is_there (about edit) after ≡ true = there-said (about edit) after ∙ some-filtered (about edit) (directives_of after) [] d alone in
+    changes-there edit after there
+    ∙ again-changes edit after d sets (edited-set edit lines d sets (sound-file lines is.2 is.3)) (ap (filter (about edit)) (sym (file-held after)) ∙ alone)
+
+pub second-operation : SecondOperationChangesNothing
+second-operation (SetModule path) lines is = second-setting (SetModule path) lines _ is refl
+second-operation (SetGo text) lines is = second-setting (SetGo text) lines _ is refl
+second-operation (SetRequire p) lines is = second-setting (SetRequire p) lines _ is refl
+second-operation (DropRequire path) lines is = second-drop (DropRequire path) lines refl
+second-operation (AddExclude p) lines is = second-addition (AddExclude p) lines _ is refl
+second-operation (DropExclude p) lines is = second-drop (DropExclude p) lines refl
+second-operation (SetReplace r) lines is = second-setting (SetReplace r) lines _ is refl
+second-operation (DropReplace left) lines is = second-drop (DropReplace left) lines refl
+second-operation (AddRetract ends) lines is = second-addition (AddRetract ends) lines _ is refl
+second-operation (DropRetract ends) lines is = second-drop (DropRetract ends) lines refl
