@@ -6,11 +6,10 @@ ghost use Rattle.gm_store.specs.Asked.{name_of, reply_of};
 ghost use Rattle.gm_graph_cache.specs.Reading.{IsContentReading, IsFileReading, class_of_sum, sum_fault};
 
 use crate::class::{Class, Misreading};
-use gm_file::{DepFile, FileFault};
+use gm_file::{DepFile, ReadFault};
 use gm_name::{KnownNames, NoMemory};
 use gm_store::{Answer, FileName};
 use gm_store_sums::{Sum, SumTable, mod_hash};
-use gm_syntax::{Doc, SyntaxFault};
 use std::alloc::{AllocError, Global};
 
 /// The class of a failed hash check, or `None` if the hash is right.
@@ -54,19 +53,15 @@ fn read_bytes(
 ) -> Result<Result<DepFile, Class>, NoMemory>
     ensures { IfOk result (IsContentReading content.now) }
 {
-    let doc = match Doc::parse(alloc, content) {
-        Ok(doc) => doc,
-        Err(SyntaxFault::NoMemory) => return Err(AllocError),
-        Err(SyntaxFault::TooMany) => return Ok(Err(malformed(0, Misreading::TooMany))),
-        Err(SyntaxFault::NotUtf8) => return Ok(Err(malformed(0, Misreading::NotUtf8))),
-        Err(SyntaxFault::Syntax { line, kind }) => {
-            return Ok(Err(malformed(line, Misreading::Syntax(kind))));
-        }
-    };
-    match DepFile::read(alloc, names, &doc) {
+    match DepFile::read_bytes(alloc, names, content) {
         Ok(file) => Ok(Ok(file)),
-        Err(FileFault::NoMemory) => Err(AllocError),
-        Err(FileFault::Directive { line, kind }) => {
+        Err(ReadFault::NoMemory) => Err(AllocError),
+        Err(ReadFault::TooMany) => Ok(Err(malformed(0, Misreading::TooMany))),
+        Err(ReadFault::NotUtf8) => Ok(Err(malformed(0, Misreading::NotUtf8))),
+        Err(ReadFault::Syntax { line, kind }) => {
+            Ok(Err(malformed(line, Misreading::Syntax(kind))))
+        }
+        Err(ReadFault::Directive { line, kind }) => {
             Ok(Err(malformed(line, Misreading::Directive(kind))))
         }
     }
