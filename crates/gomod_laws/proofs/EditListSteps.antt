@@ -4,7 +4,7 @@ use Rattle.std.specs.Global.{Global, Vec}
 use Rattle.std.specs.List.{AllByRecursion, filter_map}
 use Rattle.std.specs.Option.{option_map, option_to_list}
 use Rattle.std.specs.Prelude.{String}
-use Rattle.gm_syntax.specs.Document.{Line, start}
+use Rattle.gm_syntax.specs.Document.{Line}
 use Rattle.gm_syntax.specs.Layout.{layout}
 use Rattle.gm_syntax.specs.LineViews.{plain_lines}
 use Rattle.gm_syntax.specs.Parsed.{IsParsedAs}
@@ -25,10 +25,9 @@ use Rattle.gomod_laws.specs.EditListLaws.{AreRetractions, PrintsAfter, Retractio
 use Rattle.gomod_laws.specs.FormattingLaws.{IsEdited}
 use Rattle.gomod_laws.proofs.EditListSaid.{main_without_retractions}
 use Rattle.gomod_laws.proofs.FormattingBlanks.{main_said, no_fault_again, same_said}
-use Rattle.gomod_laws.proofs.FormattingEdits.{good_lines, lines_good}
-use Rattle.gomod_laws.proofs.FormattingProofs.{AreSoundLines, edit_states, edited_sound, no_refusal, not_printed, numbered, says_itself, texts_utf8}
-use Rattle.gomod_laws.proofs.FormattingRead.{layout_read, read_document}
-use Rattle.gomod_laws.proofs.FormattingUtf8.{read_utf8}
+use Rattle.gomod_laws.proofs.FormattingEdits.{lines_good}
+use Rattle.gomod_laws.proofs.FormattingProofs.{AreSoundLines, edit_states, edited_sound, no_refusal, not_printed, numbered, read_sound, says_itself, texts_utf8}
+use Rattle.gomod_laws.proofs.FormattingRead.{layout_read}
 use Rattle.gomod_laws.proofs.LineOrderProofs.{queries_move}
 use Rattle.gomod_laws.proofs.LineOrderRuns.{same_outcome}
 
@@ -46,11 +45,8 @@ edited_by : (texts : List (List ℕ)) (file text : List ℕ) → IsEditOutcome t
 edited_by texts file text (inl (place, malformed, says)) = absurd (not_printed text (main_line place) says)
 edited_by texts file text (inr (lines, (parsed, faultless), says)) = by_refusals (refusals_from 1 texts) refl says
   where
-    before : AreSoundLines lines
-    before = record { document = read_document file (plain_lines lines) parsed.1.reads; faultless = faultless; utf8 = good_lines lines (read_utf8 start file (plain_lines lines) parsed.0.1 parsed.1.reads) }
-
     by_refusals : (found : List (ℕ × List ℕ)) → refusals_from 1 texts ≡ found → printed text ≡ edits_outcome found (edited_in_turn (filter_map edit_in texts) lines) → IsEditedFrom texts file text
-    by_refusals [] none is = record { lines = lines; is_main = (parsed, faultless); sound = before; none = none; text_is = ap (λ (o : Outcome). o.text) is }
+    by_refusals [] none is = record { lines = lines; is_main = (parsed, faultless); sound = read_sound file lines (parsed, faultless); none = none; text_is = ap (λ (o : Outcome). o.text) is }
     by_refusals (first ∷ others) some is = absurd (not_printed text (edit_line first) is)
 
 pub edited_from : (operations : Vec (String Global)) (file text : List ℕ) → IsEdited operations file text → IsEditedFrom (texts_in operations) file text

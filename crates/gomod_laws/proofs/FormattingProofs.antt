@@ -20,7 +20,7 @@ use Rattle.gm_file_edit.specs.Edits.{Edit as Change, edit_in}
 use Rattle.gm_file_edit.proofs.EditedSound.{edited-document}
 use Rattle.gm_file_edit.proofs.Written.{written-sound}
 use Rattle.gm_graph_cache.specs.Main.{Main}
-use Rattle.gm_graph_listing.specs.Outcomes.{IsMainFile, Outcome, longest, printed, refused}
+use Rattle.gm_graph_listing.specs.Outcomes.{IsMainFile, IsMainOf, Outcome, longest, printed, refused}
 use Rattle.gm_graph_listing.specs.Reports.{main_line}
 use Rattle.gm_graph_listing.proofs.OneRead.{misread_or_main, same_lines}
 use Rattle.gomod_words.specs.Usage.{texts_in}
@@ -121,6 +121,10 @@ pub record AreSoundLines (lines : List (Line Placed)) : Type 0 where
   pub faultless : fault_of Strict (plain_lines lines) ≡ None
   pub utf8 : AreGood lines
 
+-- the lines of a main file
+pub read_sound : (file : List ℕ) (lines : List (Line Placed)) → IsMainOf file lines → AreSoundLines lines
+read_sound file lines (parsed, faultless) = record { document = read_document file (plain_lines lines) parsed.1.reads; faultless = faultless; utf8 = good_lines lines (read_utf8 start file (plain_lines lines) parsed.0.1 parsed.1.reads) }
+
 pub edited_sound : (text : List ℕ) (edit : Change) (lines : List (Line Placed)) → IsUtf8 text → edit_in text ≡ Some edit → is_fit edit ≡ true → AreSoundLines lines → AreSoundLines (edited edit lines)
 edited_sound text edit lines utf8 written fit are =
     let sound = written-sound text edit written in
@@ -164,11 +168,8 @@ edit_printed : (texts : List (List ℕ)) (file text : List ℕ) → AllByRecursi
 edit_printed texts file text utf8 (inl (place, malformed, says)) = absurd (not_printed text (main_line place) says)
 edit_printed texts file text utf8 (inr (lines, (parsed, faultless), says)) = by_refusals (refusals_from 1 texts) refl says
   where
-    before : AreSoundLines lines
-    before = record { document = read_document file (plain_lines lines) parsed.1.reads; faultless = faultless; utf8 = good_lines lines (read_utf8 start file (plain_lines lines) parsed.0.1 parsed.1.reads) }
-
     by_refusals : (found : List (ℕ × List ℕ)) → refusals_from 1 texts ≡ found → printed text ≡ edits_outcome found (edited_in_turn (filter_map edit_in texts) lines) → IsEditLayout text
-    by_refusals [] none is = record { lines = edited_in_turn (filter_map edit_in texts) lines; sound = in_turn_sound 1 texts lines utf8 none before; text_is = ap (λ (o : Outcome). o.text) is }
+    by_refusals [] none is = record { lines = edited_in_turn (filter_map edit_in texts) lines; sound = in_turn_sound 1 texts lines utf8 none (read_sound file lines (parsed, faultless)); text_is = ap (λ (o : Outcome). o.text) is }
     by_refusals (first ∷ others) some is = absurd (not_printed text (edit_line first) is)
 
 pub edits_are_formatted : EditsAreFormatted

@@ -32,3 +32,4 @@ pub mod EditListShown
 pub mod EditListExcluded
 pub mod EditListReplaced
 pub mod EditListFar
+pub mod EditTwice

@@ -7,6 +7,7 @@
 
 pub mod additions;
 pub mod edits_listed;
+pub mod edits_repeated;
 pub mod excluded;
 pub mod explained;
 pub mod formatting;
