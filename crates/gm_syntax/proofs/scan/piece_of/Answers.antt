@@ -1,0 +1,12 @@
+use Rattle.std.proofs.Common.{ap, sym, ◌∙◌}
+use Rattle.gm_syntax.specs.declared.scan.Piece.TheVariants.{Word}
+use Rattle.gm_syntax.specs.declared.word.Kind.TheVariants.{Bare}
+use Rattle.gm_syntax.specs.Scan.{bare_len, piece_of}
+use Rattle.gm_syntax.proofs.Steps.{plain_piece}
+use Rattle.gm_syntax.proofs.scan.piece_of.Goals as goal
+
+pub returns-then-b-ne61 : goal.returns-then-b-ne61
+returns-then-b-ne61 c =
+    let bytes = c.in-Some.ensures.cases.0 in
+    ap (Word Bare) (c.bare_len.ensures ∙ ap bare_len bytes)
+    ∙ sym (ap (piece_of c.args.after_bare) bytes ∙ plain_piece c.args.after_bare c.in-Some.first.now c.in-Some.rest.now (sym c.is_plain.ensures ∙ c.if-is_plain.true) c.if-b-ne61.true)
