@@ -11,7 +11,7 @@ ghost use Rattle.gm_file.specs.DirectiveViews.{IsLineRead, directive_view};
 ghost use Rattle.gm_file.specs.VerbViews.{mode_view, verb_view};
 
 use crate::fault::{DirectiveKind, LineFault};
-use crate::part::{is_empty_block, one_value, read_interval, read_pair, read_path};
+use crate::part::{borrowed_one, is_empty_block, one_value, read_interval, read_pair, read_path};
 use crate::replace::{Interval, Replace};
 use crate::sides::read_replace;
 use crate::verb::{Mode, Verb, verb_in};
@@ -43,7 +43,7 @@ pub enum Directive {
 fn read_module(alloc: Global, names: &mut KnownNames, words: &[Token]) -> Result<ModPath, LineFault>
     ensures { IsRead (λ path. path) DirectiveKind.WrongArguments path_kinds (one_of (words_of words.now)) result }
 {
-    let path = one_value(alloc, words)?;
+    let path = borrowed_one(alloc, words)?;
     read_path(alloc, names, path.as_str())
 }
 

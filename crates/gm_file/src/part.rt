@@ -47,14 +47,22 @@ pub(crate) fn argument(alloc: Global, word: &Token) -> Result<String, LineFault>
     Ok(borrowed_argument(alloc, word)?.into_owned(alloc)?)
 }
 
-/// A copy of the value of the only argument. Any other number of words is refused with `WrongArguments`.
+/// The value of the only argument, borrowed where it has no escapes. Any other number of words is refused with
+/// `WrongArguments`.
+pub(crate) fn borrowed_one<'w>(alloc: Global, words: &'w [Token]) -> Result<CowStr<'w>, LineFault>
+    ensures { IsRead cow_str_bytes DirectiveKind.WrongArguments no_kinds (one_of (words_of words.now)) result }
+{
+    match words {
+        [word] => borrowed_argument(alloc, word),
+        _ => Err(LineFault::Kind(DirectiveKind::WrongArguments)),
+    }
+}
+
+/// A copy of the value of the only argument.
 pub(crate) fn one_value(alloc: Global, words: &[Token]) -> Result<String, LineFault>
     ensures { IsRead string_bytes DirectiveKind.WrongArguments no_kinds (one_of (words_of words.now)) result }
 {
-    match words {
-        [word] => argument(alloc, word),
-        _ => Err(LineFault::Kind(DirectiveKind::WrongArguments)),
-    }
+    Ok(borrowed_one(alloc, words)?.into_owned(alloc)?)
 }
 
 /// Copies of the values of two arguments.
