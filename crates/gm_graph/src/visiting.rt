@@ -52,21 +52,13 @@ fn leads_on(
 
 /// Whether the edges of a vertex are added in a visit to this depth. A vertex may be visited at both depths; its
 /// edges are then added in the visit at the top only.
-fn gathers(
-    alloc: Global,
-    worklist: &Worklist,
-    vertex: &ModVer,
-    depth: Depth,
-) -> Result<bool, NoMemory>
+fn gathers(worklist: &Worklist, vertex: &ModVer, depth: Depth) -> bool
     requires { IsWorklist worklist.now }
-    ensures { IfOk result (λ is_first. is_first ≡ gathers worklist.now.turns.items (turn vertex.now depth)) }
+    ensures { result ≡ gathers worklist.now.turns.items (turn vertex.now depth) }
 {
     match depth {
-        Depth::Top => Ok(true),
-        Depth::Deep => {
-            let has_top = worklist.has_top(alloc, vertex)?;
-            Ok(!has_top)
-        }
+        Depth::Top => true,
+        Depth::Deep => !worklist.has_top(vertex),
     }
 }
 
@@ -92,7 +84,7 @@ fn add_requirements(
     ensures not_refused { refused_in result ≡ [] }
 {
     let leads = leads_on(cache, vertex, depth, finding)?;
-    let gathers = gathers(alloc, worklist, vertex, depth)?;
+    let gathers = gathers(worklist, vertex, depth);
     builder.note(alloc, vertex, finding)?;
     let lent = cache.lend(vertex, depth, lender(finding))?;
     if gathers {

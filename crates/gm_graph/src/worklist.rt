@@ -89,13 +89,12 @@ impl Worklist {
         }
     }
 
-    /// Whether the worklist has a turn of a vertex at the top. The only refusal is `AllocError`, if memory runs out.
-    pub(crate) fn has_top(&self, alloc: Global, vertex: &ModVer) -> Result<bool, AllocError>
+    /// Whether the worklist has a turn of a vertex at the top.
+    pub(crate) fn has_top(&self, vertex: &ModVer) -> bool
         requires { IsWorklist self.now }
-        ensures { IfOk result (λ is_there. is_there
-            ≡ list_any (same_turn (turn vertex.now Depth.Top)) self.now.turns.items) }
+        ensures { result ≡ list_any (same_turn (turn vertex.now Depth.Top)) self.now.turns.items }
     {
-        self.tops.contains(alloc, vertex)
+        self.tops.contains(vertex)
     }
 
     /// Marks a vertex at a depth, and reports whether the mark is new. The only refusal is `AllocError`, if memory
@@ -116,18 +115,13 @@ impl Worklist {
         Ok(is_new)
     }
 
-    /// Whether a vertex is marked at the other depth. The only refusal is `AllocError`, if memory runs out.
-    fn is_marked_at_other(
-        &self,
-        alloc: Global,
-        vertex: &ModVer,
-        depth: Depth,
-    ) -> Result<bool, AllocError>
-        ensures { IfOk result (λ is_marked. is_marked ≡ is_marked_at self.now (other_depth depth) vertex.now) }
+    /// Whether a vertex is marked at the other depth.
+    fn is_marked_at_other(&self, vertex: &ModVer, depth: Depth) -> bool
+        ensures { result ≡ is_marked_at self.now (other_depth depth) vertex.now }
     {
         match depth {
-            Depth::Top => self.deeps.contains(alloc, vertex),
-            Depth::Deep => self.tops.contains(alloc, vertex),
+            Depth::Top => self.deeps.contains(vertex),
+            Depth::Deep => self.tops.contains(vertex),
         }
     }
 
@@ -147,7 +141,7 @@ impl Worklist {
         if !is_new {
             return Ok(());
         }
-        let has_vertex = self.is_marked_at_other(alloc, vertex, depth)?;
+        let has_vertex = self.is_marked_at_other(vertex, depth);
         if !has_vertex {
             if self.vertices.len() >= MOST {
                 return Err(AddFault::TooMany);
@@ -192,15 +186,12 @@ impl Worklist {
         ensures { IfOk result (λ ends. ends.items ≡ self.vertices.items ++ self.leaves.items) }
     {
         let Worklist {
-            vertices,
-            leaves,
+            mut vertices,
+            mut leaves,
             ..
         } = self;
-        let mut ends = vertices;
-        for y in leaves {
-            ends.push(y)?;
-        }
-        Ok(ends)
+        vertices.append(&mut leaves)?;
+        Ok(vertices)
     }
 }
 

@@ -1,7 +1,7 @@
 pub mod Sorts
 pub mod RestRows
 pub mod Same
-pub mod VertexKey
+pub mod Held
 pub mod Greatest
 pub mod Selected
 pub mod Ranges

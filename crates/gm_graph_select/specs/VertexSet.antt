@@ -1,10 +1,10 @@
--- Sets of vertices, keyed by their fingerprints first.
-use Rattle.std.specs.Prelude.{ℕ, Bool}
-use Rattle.std.specs.declared.cmp.Ordering.{Ordering}
-use Rattle.std.specs.Ordering.{nat_cmp, ordering_then}
+-- Sets of vertices, found by their fingerprints.
+use Rattle.std.specs.Prelude.{◌||◌, ℕ, Bool, false, Option, unwrap_or}
+use Rattle.std.specs.Option.{option_map}
+use Rattle.std.specs.Ordering.{is_eq, nat_cmp}
+use Rattle.std.specs.BTreeMap as map
 use Rattle.std.specs.BTreeSet as set
 use Rattle.gm_name.specs.Fingerprint.{fingerprint}
-use Rattle.gm_graph_select.specs.declared.vertex_set.VertexKey.{VertexKey}
 use Rattle.gm_graph_select.specs.declared.vertex_set.VertexSet.{VertexSet}
 use Rattle.gm_graph_select.specs.Graph.{Vertex, vertex_cmp}
 
@@ -12,13 +12,11 @@ use Rattle.gm_graph_select.specs.Graph.{Vertex, vertex_cmp}
 abbrev pub vertex_fingerprint : Vertex → ℕ
 vertex_fingerprint x = fingerprint (fingerprint 0 x.0) x.1
 
-abbrev pub marked : Vertex → VertexKey
-marked x = record { number = vertex_fingerprint x; vertex = x }
+-- Whether this is the vertex, if there is one.
+abbrev pub is_any : Vertex → Option Vertex → Option Bool
+is_any x = option_map (λ held. is_eq (vertex_cmp held x))
 
--- by the number, then by the vertex
-abbrev pub vertex_key_cmp : VertexKey → VertexKey → Ordering
-vertex_key_cmp a b = ordering_then (nat_cmp a.number b.number) (vertex_cmp a.vertex b.vertex)
-
--- Whether a vertex is in the set.
+-- Whether a vertex is in the set: it is the first one with its fingerprint, or among the others.
 abbrev pub has : VertexSet → Vertex → Bool
-has vertices x = set.contains vertex_key_cmp vertices.marked (marked x)
+has vertices x = unwrap_or (is_any x (map.get nat_cmp vertices.first (vertex_fingerprint x))) false
+    || set.contains vertex_cmp vertices.others x

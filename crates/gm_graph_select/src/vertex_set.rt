@@ -1,44 +1,32 @@
 //! Sets of module versions that remain fast for long paths.
 
 ghost use Rattle.std.specs.Prelude.{◌≡◌, IfOk, OnErr, OnOk, cond, false, not, true};
-ghost use Rattle.std.specs.Ordering.{is_eq};
-ghost use Rattle.std.specs.BTreeSet as set;
+ghost use Rattle.std.specs.BTreeMap as map;
+ghost use Rattle.std.specs.Ordering.{is_eq, nat_cmp};
 ghost use Rattle.gm_graph_select.specs.Graph.{Vertex, vertex_cmp};
-ghost use Rattle.gm_graph_select.specs.VertexSet.{has, marked};
+ghost use Rattle.gm_graph_select.specs.VertexSet.{has, is_any};
 
 use gm_name::ModVer;
 use std::alloc::{AllocError, Global};
-use std::collections::BTreeSet;
+use std::collections::{BTreeMap, BTreeSet};
 
-/// A module version with the fingerprint of its texts in front. A set of these compares numbers, which are stored
-/// next to each other, and looks at the texts only if two numbers are equal. Versions crafted to have equal
-/// fingerprints cost no more than in a set ordered by version.
-#[derive(Drop, PartialEq, Eq, PartialOrd, Ord)]
-struct VertexKey {
-    /// The fingerprint of path and version.
-    number: u64,
-    /// The module version.
-    vertex: ModVer,
-}
-
-impl VertexKey {
-    /// A copy of the module version with its fingerprint.
-    fn new(alloc: Global, vertex: &ModVer) -> Result<VertexKey, AllocError>
-        ensures { IfOk result (λ one. one ≡ marked vertex.now) }
-    {
-        Ok(VertexKey {
-            number: vertex.fingerprint(),
-            vertex: vertex.copy(alloc)?,
-        })
-    }
-}
-
-/// A set of module versions. It can be asked for membership, but not for an order. A lookup takes log n
-/// comparisons, most of them of numbers.
+/// A set of module versions. It can be asked for membership, but not for an order. A lookup takes log n comparisons
+/// of numbers, and one of texts; one of module versions crafted to have equal fingerprints takes no more comparisons
+/// of texts than in a set ordered by them.
 #[derive(Drop)]
 pub struct VertexSet {
-    /// The members with their fingerprints.
-    marked: BTreeSet<VertexKey>,
+    /// Of the members with the same fingerprint, the first one. Numbers are compared here, which are stored next to
+    /// each other.
+    first: BTreeMap<u64, ModVer>,
+    /// The other members, in the order of their texts.
+    others: BTreeSet<ModVer>,
+}
+
+/// Whether two module versions are the same.
+fn is_same(one: &ModVer, other: &ModVer) -> bool
+    ensures { result ≡ is_eq (vertex_cmp one.now other.now) }
+{
+    *one == *other
 }
 
 impl VertexSet {
@@ -47,16 +35,27 @@ impl VertexSet {
         ensures { (x : Vertex) → has result x ≡ false }
     {
         VertexSet {
-            marked: BTreeSet::new(alloc),
+            first: BTreeMap::new(alloc),
+            others: BTreeSet::new(alloc),
         }
     }
 
-    /// Whether the vertex is in the set. The only refusal is `AllocError`, if memory runs out.
-    pub fn contains(&self, alloc: Global, vertex: &ModVer) -> Result<bool, AllocError>
-        ensures { IfOk result (λ is_in. is_in ≡ has self.now vertex.now) }
+    /// Whether the first member with that fingerprint is the vertex, or `None` if there is no such member.
+    fn is_first(&self, number: u64, vertex: &ModVer) -> Option<bool>
+        ensures { result ≡ is_any vertex.now (map.get nat_cmp self.now.first number) }
     {
-        let one = VertexKey::new(alloc, vertex)?;
-        Ok(self.marked.contains(&one))
+        match self.first.get(&number) {
+            None => None,
+            Some(held) => Some(is_same(held, vertex)),
+        }
+    }
+
+    /// Whether the vertex is in the set.
+    pub fn contains(&self, vertex: &ModVer) -> bool
+        ensures { result ≡ has self.now vertex.now }
+    {
+        let is_first = self.is_first(vertex.fingerprint(), vertex);
+        is_first.unwrap_or(false) || self.others.contains(vertex)
     }
 
     /// Adds a vertex to the set, and reports whether it was new. The only refusal is `AllocError`, if memory runs
@@ -67,8 +66,23 @@ impl VertexSet {
             → has self.new x ≡ cond (is_eq (vertex_cmp vertex.now x)) true (has self.old x)) }
         ensures err { OnErr result ((x : Vertex) → has self.new x ≡ has self.old x) }
     {
-        let one = VertexKey::new(alloc, vertex)?;
-        let is_new = self.marked.insert(one)?;
-        Ok(is_new)
+        let number = vertex.fingerprint();
+        let is_first = self.is_first(number, vertex);
+        if is_first.unwrap_or(false) {
+            return Ok(false);
+        }
+        if self.others.contains(vertex) {
+            return Ok(false);
+        }
+        let copy = vertex.copy(alloc)?;
+        match is_first {
+            None => {
+                self.first.insert(number, copy)?;
+            }
+            Some(_) => {
+                self.others.insert(copy)?;
+            }
+        }
+        Ok(true)
     }
 }

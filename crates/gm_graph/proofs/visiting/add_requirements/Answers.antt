@@ -39,7 +39,7 @@ returns-clause-followed c =
           (λ q. ap (λ (g : GraphBuilder). faults_by_vertex g q) w.builder-is ∙ w.in_ok-add_edges.ensures.faults q)
       | else-gathers w ↦
           gathers_no_edges main held turns x d found c.requires.finding before noted after c.in_ok-note.ensures.faults c.in_ok-note.ensures.edges
-          (sym c.in_ok-gathers.ensures ∙ w.if-gathers.false) w.builder-is
+          (sym c.gathers-gathers.ensures ∙ w.if-gathers.false) w.builder-is
     ] in
     elim c.if-leads.branch [
       | then-leads+in_ok-add_all w ↦

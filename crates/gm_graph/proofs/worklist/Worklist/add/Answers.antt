@@ -29,7 +29,7 @@ returns-then-len-ge-MOST-clause-too_many c = λ _.
     let old = c.args.self.now in
     let fresh = was_not_marked _ _ c.in_ok-is_new.ensures.is_new c.if-not-is_new.false in
     let same = ap (λ (vs : List ModuleVersion). length vs) c.in_ok-is_new.ensures.vertices in
-    (omega (arith, same), sym (vertex_by_mark old c.mark.new.self c.args.vertex.now c.args.depth _ c.requires c.in_ok-is_new.ensures.marked fresh c.in_ok-has_vertex.ensures) ∙ c.if-not-has_vertex.true)
+    (omega (arith, same), sym (vertex_by_mark old c.mark.new.self c.args.vertex.now c.args.depth _ c.requires c.in_ok-is_new.ensures.marked fresh c.is_marked_at_other-has_vertex.ensures) ∙ c.if-not-has_vertex.true)
 
 pub returns-clause-adds : goal.returns-clause-adds
 returns-clause-adds c =
@@ -50,7 +50,7 @@ returns-clause-worklist c =
     let marked = c.mark.new.self in
     let new_mark = was_not_marked _ _ c.in_ok-is_new.ensures.is_new c.if-not-is_new.false in
     let fresh = sym (c.requires.marks x d) ∙ new_mark in
-    let there = vertex_by_mark old marked x d _ c.requires c.in_ok-is_new.ensures.marked new_mark c.in_ok-has_vertex.ensures in
+    let there = vertex_by_mark old marked x d _ c.requires c.in_ok-is_new.ensures.marked new_mark c.is_marked_at_other-has_vertex.ensures in
     let same = c.if-not-has_vertex.self in
     let new : Worklist = record { turns = c.push_turn.new.turns; vertices = same.vertices; leaves = same.leaves; tops = same.tops; deeps = same.deeps } in
     elim c.if-not-has_vertex.branch [
