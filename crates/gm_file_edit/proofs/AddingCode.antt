@@ -1,8 +1,9 @@
 -- The loops that find the position of a new entry, and the insertion of lines.
-use Rattle.std.proofs.Common.{◌≡◌, ℕ, zero, suc, ◌+◌, ◌-◌, ◌≤◌, Bool, true, false, List, [], ◌∷◌, ◌++◌, length, take, drop, Option, Some, None, Result, Ok, Err, is_some, refl, sym, ap, subst, ◌∙◌, arith, inl, inr}
+use Rattle.std.proofs.Common.{◌≡◌, ℕ, zero, suc, ◌+◌, ◌-◌, ◌≤◌, Bool, true, false, List, [], ◌∷◌, ◌++◌, length, take, drop, Option, Some, None, Result, Ok, Err, is_some, refl, sym, ap, subst, ◌∙◌, append-nil, arith, inl, inr}
 use Rattle.std.specs.Prelude.{if◌then◌else◌, insert, IfOk}
 use Rattle.std.proofs.lemmas.Bool.{cases_Bool}
-use Rattle.std.proofs.lemmas.List.{drop-map, length-drop, length-map, map-append, take-map, take_all}
+use Rattle.std.proofs.Math.Seq.{take-length}
+use Rattle.std.proofs.lemmas.List.{drop-map, length-drop, length-map, map-append, drop_all, take-map, take_all}
 use Rattle.std.specs.Option.{option_map, option_or, option_to_list}
 use Rattle.gm_syntax.specs.Tokens.{Placed}
 use Rattle.gm_syntax.specs.Document.{Line, Blank, Comment, Open, Close, Entry}
@@ -156,15 +157,8 @@ pub if-ok : {X E : Type 0} (r : Result X E) (P Q : X → Type 0) → ((x : X) �
 if-ok (Ok x) P Q h p = h x p
 if-ok (Err e) P Q h p = tt
 
--- an index into the lines is valid in a copy of them
-pub in-copies : (lines copies : List declared.Line) (n : ℕ) → line_views copies ≡ line_views lines → n ≤ length (line_views lines) → n ≤ length copies
-in-copies lines copies n same le =
-    let there = length-map copies line_of in
-    let here = ap length same in
-    omega (arith, le, there, here)
-
 pub in-lines : (lines : List declared.Line) (n : ℕ) → n ≤ length (line_views lines) → n ≤ length lines
-in-lines lines n le = in-copies lines lines n refl le
+in-lines lines n le = let count = length-map lines line_of in omega (arith, le, count)
 
 pub add-there : (test : Directive → Bool) (text : List ℕ) (arguments : List Placed) (lines copies : List (Line Placed)) (line : Line Placed) (o : Option Spot) (spot : Spot)
     → o ≡ spot_after_last test None lines → o ≡ Some spot → copies ≡ lines → line ≡ entry_at spot.inside text arguments → insert copies spot.before line ≡ added test text arguments lines
@@ -180,16 +174,21 @@ add-last test text arguments lines copies line o told is same so =
     let at : added_at text arguments lines None ≡ added_at text arguments lines (spot_after_last test None lines) = ap (added_at text arguments lines) (sym is ∙ told) in
     rw (same, so) at
 
-pub put-there : (test : Directive → Bool) (new : Line Placed) (lines copies : List (Line Placed)) (line : Line Placed) (o : Option Spot) (spot : Spot) (n : ℕ)
-    → o ≡ spot_after_first test None lines → o ≡ Some spot → n ≡ past_block lines spot → copies ≡ lines → line ≡ new → take n copies ++ (Blank ∷ line ∷ drop n copies) ≡ after_first_that test (Blank ∷ new ∷ []) lines
-unfolding after_first_that
-put-there test new lines copies line o spot n told is past same so =
-    let at : insert_at_spot (Blank ∷ new ∷ []) lines (Some spot) ≡ insert_at_spot (Blank ∷ new ∷ []) lines (spot_after_first test None lines) = ap (insert_at_spot (Blank ∷ new ∷ []) lines) (sym is ∙ told) in
-    rw (past, same, so) at
+-- lines that are inserted at the end
+pub at-end : (lines new : List (Line Placed)) (n : ℕ) → n ≡ length lines → take n lines ++ (new ++ drop n lines) ≡ lines ++ new
+at-end lines new n is =
+    let none : drop n lines ≡ [] = drop_all n lines (omega (arith, is)) in
+    let all : take n lines ≡ lines = ap (λ (k : ℕ). take k lines) is ∙ take-length lines in
+    rw (none, all, append-nil new) refl
 
-pub put-last : (test : Directive → Bool) (new : Line Placed) (lines copies : List (Line Placed)) (line : Line Placed) (o : Option Spot)
-    → o ≡ spot_after_first test None lines → o ≡ None → copies ≡ lines → line ≡ new → copies ++ (Blank ∷ line ∷ []) ≡ after_first_that test (Blank ∷ new ∷ []) lines
+-- the index of new lines that go after the first line that passes a test
+pub index-there : (test : Directive → Bool) (new lines : List (Line Placed)) (o : Option Spot) (spot : Spot) (n : ℕ)
+    → o ≡ spot_after_first test None lines → o ≡ Some spot → n ≡ past_block lines spot → take n lines ++ (new ++ drop n lines) ≡ after_first_that test new lines
 unfolding after_first_that
-put-last test new lines copies line o told is same so =
-    let at : insert_at_spot (Blank ∷ new ∷ []) lines None ≡ insert_at_spot (Blank ∷ new ∷ []) lines (spot_after_first test None lines) = ap (insert_at_spot (Blank ∷ new ∷ []) lines) (sym is ∙ told) in
-    rw (same, so) at
+index-there test new lines o spot n told is past =
+    ap (λ (k : ℕ). take k lines ++ (new ++ drop k lines)) past ∙ ap (insert_at_spot new lines) (sym is ∙ told)
+
+pub index-last : (test : Directive → Bool) (new lines : List (Line Placed)) (o : Option Spot) (n : ℕ)
+    → o ≡ spot_after_first test None lines → o ≡ None → n ≡ length lines → take n lines ++ (new ++ drop n lines) ≡ after_first_that test new lines
+unfolding after_first_that
+index-last test new lines o n told is end = at-end lines new n end ∙ ap (insert_at_spot new lines) (sym is ∙ told)

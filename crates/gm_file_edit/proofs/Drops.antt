@@ -1,6 +1,6 @@
 -- The loop that drops entries.
-use Rattle.std.proofs.Common.{◌≡◌, Bool, true, false, List, [], ◌∷◌, ◌++◌, Option, Some, None, Ok, Err, Bor, refl, sym, ap, subst, ◌∙◌}
-use Rattle.std.specs.Option.{option_map, option_to_list}
+use Rattle.std.proofs.Common.{◌≡◌, Bool, true, false, List, [], ◌∷◌, Option, Some, None, Ok, Err, Bor, refl, sym, ap, subst, ◌∙◌}
+use Rattle.std.specs.Option.{option_map}
 use Rattle.gm_syntax.specs.Words.{Word}
 use Rattle.gm_syntax.specs.Tokens.{Placed}
 use Rattle.gm_syntax.specs.Document.{Line}
@@ -12,9 +12,7 @@ use Rattle.gm_file.specs.DirectiveViews.{IsLineRead, directive_view}
 use Rattle.gm_file.specs.Directives.{Strict, Directive, DeclaresModule, DeclaresGo, Requires, Excludes, Replaces, Retracts, Kept, Item, block_after_line, directive_in, item_at}
 use Rattle.gm_file.specs.Faults.{item_kinds}
 use Rattle.gm_file.specs.Fields.{first}
-use Rattle.gm_file_edit.specs.declared.walk.Walk as declared_walk
 use Rattle.gm_file_edit.specs.Fates.{Fate, IsValidAt, dropped, dropping_from, fate_of, directive_at, remaining_from, passes, word_of}
-use Rattle.gm_file_edit.specs.Walks.{remaining_by}
 use Rattle.gm_file_edit.proofs.Sound.{SoundFrom}
 use Rattle.gm_file_edit.proofs.Leaving.{AreMarked, AreMild, IsGone, Marked, Near, fates_in, left-sound, lines_in}
 use Rattle.gm_file.specs.Faults.{is_module}
@@ -39,30 +37,6 @@ never-wrong P block line kind right h =
     let told = subst (λ (b : Option Word). first (item_kinds Strict right.0 (item_at (b, plain line))) ≡ Some kind) (block-words block) (h right.0) in
     let none = ap first right.1 in
     absurd (cc (told, none))
-
--- Loop invariant: the walk followed by the fates of the rest gives the final result, and the rest is valid.
-pub record IsDroppedTo (test : Directive → Bool) (whole rest : List (Line Placed)) (block : Option Placed) (walk : declared_walk.Walk) : Type 0 where
-  pub sound : (earlier : List Directive) × SoundFrom earlier block rest
-  pub left : remaining_by walk (dropping_from test block rest) ≡ dropped test whole
-
-pub drop-begin : (test : Directive → Bool) (whole : List (Line Placed)) (walk : declared_walk.Walk) → SoundFrom [] None whole → ((fates : List Fate) → remaining_by walk fates ≡ remaining_from false None fates) → IsDroppedTo test whole whole None walk
-drop-begin test whole walk sound is = record { sound = ([], sound); left = is (dropping_from test None whole) }
-
-pub drop-right : (test : Directive → Bool) (whole rest more : List (Line Placed)) (block : Option Placed) (line : Line Placed) (walk : declared_walk.Walk) → rest ≡ line ∷ more → IsDroppedTo test whole rest block walk → IsValidAt block line
-drop-right test whole rest more block line walk is so = let s = subst (SoundFrom so.sound.0 block) is so.sound.1 in (so.sound.0, s.1)
-
-pub drop-more : (test : Directive → Bool) (whole rest more : List (Line Placed)) (block next_block : Option Placed) (line : Line Placed) (old next : declared_walk.Walk) (fate : Fate) → rest ≡ line ∷ more → next_block ≡ block_after_line block line
-    → fate ≡ fate_of test block line → ((fates : List Fate) → remaining_by next fates ≡ remaining_by old (fate ∷ fates)) → IsDroppedTo test whole rest block old → IsDroppedTo test whole more next_block next
-drop-more test whole rest more block next_block line old next fate is behind fated moved so =
-    let s = subst (SoundFrom so.sound.0 block) is so.sound.1 in
-    subst (λ (b : Option Placed). IsDroppedTo test whole more b next) (sym behind) (record {
-      sound = (so.sound.0 ++ option_to_list (directive_at block line), s.2);
-      left =
-          moved (dropping_from test (block_after_line block line) more) ∙ ap (λ (f : Fate). remaining_by old (f ∷ dropping_from test (block_after_line block line) more)) fated
-          ∙ ap (λ (lines : List (Line Placed)). remaining_by old (dropping_from test block lines)) (sym is) ∙ so.left;
-    })
-
--- ---- the lines after a drop are a document without a fault
 
 -- each line with its fate
 abbrev pub dropping : (Directive → Bool) → Option Placed → List (Line Placed) → List Marked

@@ -4,6 +4,8 @@ pub mod Sound
 pub mod Leaving
 pub mod Walking
 pub mod Drops
+pub mod Packs
+pub mod Marks
 pub mod Targets
 pub mod Parts
 pub mod Feeds
@@ -12,7 +14,6 @@ pub mod Written
 pub mod Made
 pub mod Renews
 pub mod Renewals
-pub mod Searches
 pub mod AddingSound
 pub mod AddingCode
 pub mod EditedSound

@@ -1,4 +1,4 @@
--- The loop that rewrites an entry, and that its lines stay a document without a fault.
+-- Lines of which one is rewritten stay a document without a fault.
 use Rattle.std.proofs.Common.{◌≡◌, ◌||◌, not, Bool, true, false, List, [], ◌∷◌, ◌++◌, Option, Some, None, is_some, refl, sym, ap, subst, ◌∙◌, inl, inr}
 use Rattle.std.specs.Prelude.{if◌then◌else◌}
 use Rattle.std.specs.Option.{option_to_list}
@@ -11,60 +11,10 @@ use Rattle.gm_syntax.specs.LineViews.{plain}
 use Rattle.gm_file.specs.declared.fault.DirectiveKind.TheVariants.{Repeated}
 use Rattle.gm_file.specs.Directives.{Strict, Directive, DeclaresModule, DeclaresGo, Requires, Excludes, Replaces, Retracts, Kept, Item, Silent, Opening, Saying, Verb, block_after_line, directive_in, directive_of, verb_in}
 use Rattle.gm_file.specs.Faults.{directive_kinds, is_module, item_kinds, path_kinds, entry_kinds, unless}
-use Rattle.gm_file_edit.specs.declared.walk.Walk as declared_walk
-use Rattle.gm_file_edit.specs.Fates.{Fate, IsValidAt, directive_at, item_of, remaining_from, passes, renewed, renewing_from}
-use Rattle.gm_file_edit.specs.Renewing.{new_fate, renewing_rest}
-use Rattle.gm_file_edit.specs.Walks.{remaining_by}
+use Rattle.gm_file_edit.specs.Fates.{Fate, directive_at, item_of, remaining_from, passes, renewed, renewing_from}
 use Rattle.gm_file_edit.proofs.Sound.{SoundFrom, nil-parts}
 use Rattle.gm_file_edit.proofs.Leaving.{AreMarked, AreMild, IsMadeNew, Marked, Near, fates_in, left-sound, lines_in}
 use Rattle.gm_file_edit.proofs.Drops.{dropping, dropping-fates, dropping-lines, gone-line}
-
--- ---- the loop
-
-next-fates : (done : Bool) (test : Directive → Bool) (new : Option Placed → Line Placed → Line Placed) (block : Option Placed) (line : Line Placed) (lines : List (Line Placed))
-    → renewing_rest done test new block (line ∷ lines)
-    ≡ new_fate done (passes test (directive_at block line)) new block line ∷ renewing_rest (done || passes test (directive_at block line)) test new (block_after_line block line) lines
-next-fates true test new block line lines = elim (cases_Bool (passes test (directive_at block line))) [ inl holds ↦ rw holds refl | inr fails ↦ rw fails refl ]
-next-fates false test new block line lines = elim (cases_Bool (passes test (directive_at block line))) [ inl holds ↦ rw holds refl | inr fails ↦ rw fails refl ]
-
--- Loop invariant: the walk followed by the fates of the rest gives the final result, and the rest is valid.
-pub record IsRenewedTo (test : Directive → Bool) (new : Option Placed → Line Placed → Line Placed) (whole rest : List (Line Placed)) (block : Option Placed) (done : Bool) (walk : declared_walk.Walk) : Type 0 where
-  pub sound : (earlier : List Directive) × SoundFrom earlier block rest
-  pub left : remaining_by walk (renewing_rest done test new block rest) ≡ renewed test new whole
-
-pub renew-begin : (test : Directive → Bool) (new : Option Placed → Line Placed → Line Placed) (whole : List (Line Placed)) (walk : declared_walk.Walk) → SoundFrom [] None whole
-    → ((fates : List Fate) → remaining_by walk fates ≡ remaining_from false None fates) → IsRenewedTo test new whole whole None false walk
-renew-begin test new whole walk sound is = record { sound = ([], sound); left = is (renewing_from test new None whole) }
-
-pub renew-right : (test : Directive → Bool) (new : Option Placed → Line Placed → Line Placed) (whole rest more : List (Line Placed)) (block : Option Placed) (line : Line Placed) (done : Bool) (walk : declared_walk.Walk)
-    → rest ≡ line ∷ more → IsRenewedTo test new whole rest block done walk → IsValidAt block line
-renew-right test new whole rest more block line done walk is so = let s = subst (SoundFrom so.sound.0 block) is so.sound.1 in (so.sound.0, s.1)
-
-pub renew-more : (test : Directive → Bool) (new : Option Placed → Line Placed → Line Placed) (whole rest more : List (Line Placed)) (block next_block : Option Placed) (line : Line Placed) (done next_done : Bool) (old next : declared_walk.Walk) (fate : Fate)
-    → rest ≡ line ∷ more → next_block ≡ block_after_line block line → next_done ≡ (done || passes test (directive_at block line))
-    → fate ≡ new_fate done (passes test (directive_at block line)) new block line → ((fates : List Fate) → remaining_by next fates ≡ remaining_by old (fate ∷ fates)) → IsRenewedTo test new whole rest block done old
-    → IsRenewedTo test new whole more next_block next_done next
-renew-more test new whole rest more block next_block line done next_done old next fate is behind done_is fate_is moved so =
-    let s = subst (SoundFrom so.sound.0 block) is so.sound.1 in
-    let held : Bool = passes test (directive_at block line) in
-    let later : List Fate = renewing_rest (done || held) test new (block_after_line block line) more in
-    let left : remaining_by next later ≡ renewed test new whole =
-    moved later ∙ ap (λ (f : Fate). remaining_by old (f ∷ later)) fate_is ∙ ap (remaining_by old) (sym (next-fates done test new block line more))
-    ∙ ap (λ (lines : List (Line Placed)). remaining_by old (renewing_rest done test new block lines)) (sym is) ∙ so.left in
-    subst (λ (b : Option Placed). IsRenewedTo test new whole more b next_done next) (sym behind)
-    (subst (λ (d : Bool). IsRenewedTo test new whole more (block_after_line block line) d next) (sym done_is) (record {
-      sound = (so.sound.0 ++ option_to_list (directive_at block line), s.2);
-      left = left;
-    }))
-
-none-behind : (done : Bool) (test : Directive → Bool) (new : Option Placed → Line Placed → Line Placed) (block : Option Placed) → renewing_rest done test new block [] ≡ []
-none-behind true test new block = refl
-none-behind false test new block = refl
-
-pub renew-end : (test : Directive → Bool) (new : Option Placed → Line Placed → Line Placed) (whole rest : List (Line Placed)) (block : Option Placed) (done : Bool) (walk : declared_walk.Walk)
-    → rest ≡ [] → IsRenewedTo test new whole rest block done walk → remaining_by walk [] ≡ renewed test new whole
-renew-end test new whole rest block done walk is so =
-    ap (remaining_by walk) (sym (none-behind done test new block) ∙ ap (renewing_rest done test new block) (sym is)) ∙ so.left
 
 -- ---- the lines stay a document without a fault
 

@@ -3,7 +3,8 @@ pub mod Views
 pub mod Fates
 pub mod About
 pub mod Targets
-pub mod Walks
+pub mod Packs
+pub mod Marks
 pub mod NewWords
 pub mod Renewing
 pub mod Sound

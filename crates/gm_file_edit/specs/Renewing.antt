@@ -1,11 +1,9 @@
 -- Entries that an operation rewrites.
-use Rattle.std.specs.Prelude.{ℕ, ◌-◌, Bool, true, false, List, [], ◌∷◌, ◌++◌, length, take, Option, Some, None}
+use Rattle.std.specs.Prelude.{ℕ, ◌-◌, List, [], ◌∷◌, ◌++◌, length, take, Option, Some, None}
 use Rattle.gm_syntax.specs.Tokens.{Placed}
 use Rattle.gm_syntax.specs.Document.{Line, Blank, Comment, Open, Close, Entry}
-use Rattle.gm_file.specs.Directives.{Directive}
 use Rattle.gm_file_edit.specs.Edits.{Edit, SetModule, SetGo, SetRequire, DropRequire, AddExclude, DropExclude, SetReplace, DropReplace, AddRetract, DropRetract}
 use Rattle.gm_file_edit.specs.NewWords.{made_word, replace_words}
-use Rattle.gm_file_edit.specs.Fates.{Fate, dropping_from, renewing_from}
 
 -- an entry with its last word replaced
 abbrev pub with_last : List ℕ → Option Placed → Line Placed → Line Placed
@@ -40,15 +38,3 @@ made_new (SetReplace r) block line = with_arguments (replace_words r) block line
 made_new (DropReplace left) block line = line
 made_new (AddRetract ends) block line = line
 made_new (DropRetract ends) block line = line
-
--- the fate of a line, given whether a targeted entry came before it, and whether it is one itself
-abbrev pub new_fate : Bool → Bool → (Option Placed → Line Placed → Line Placed) → Option Placed → Line Placed → Fate
-new_fate done false new block line = Some line
-new_fate false true new block line = Some (new block line)
-new_fate true true new block line = None
-
--- the fates of lines, given whether a targeted entry came before them
-abbrev pub renewing_rest : Bool → (Directive → Bool) → (Option Placed → Line Placed → Line Placed) → Option Placed
-    → List (Line Placed) → List Fate
-renewing_rest true test new block lines = dropping_from test block lines
-renewing_rest false test new block lines = renewing_from test new block lines

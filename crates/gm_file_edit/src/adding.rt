@@ -2,9 +2,10 @@
 //!
 //! A new entry goes next to its own kind, so that the file keeps its grouping.
 
-ghost use Rattle.std.specs.Prelude.{◌≡◌, ◌∷◌, ◌++◌, ◌≤◌, [], length, take, drop, IfOk, None, codes, insert};
+ghost use Rattle.std.specs.Prelude.{◌≡◌, ◌∷◌, ◌++◌, ◌≤◌, [], length, take, drop, List, IfOk, OnErr, OnOk, None, codes, insert};
 ghost use Rattle.std.specs.Option.{option_map};
-ghost use Rattle.gm_syntax.specs.Document.{Blank, IsDocument};
+ghost use Rattle.gm_syntax.specs.Document.{Blank, IsDocument, Line as LineOf};
+ghost use Rattle.gm_syntax.specs.Tokens.{Placed};
 ghost use Rattle.gm_syntax.specs.LineViews.{line_of, line_views, plain_lines};
 ghost use Rattle.gm_file.specs.Directives.{Strict, block_after_line};
 ghost use Rattle.gm_file.specs.Faults.{fault_of, is_module};
@@ -131,17 +132,6 @@ fn past_block(lines: &[Line], spot: Spot) -> usize
     spot.before
 }
 
-/// A copy of the lines.
-pub(crate) fn copy_lines<'a>(alloc: Global, lines: &[Line<'a>]) -> Result<Vec<Line<'a>>, AllocError>
-    ensures { IfOk result (λ v. line_views v.items ≡ line_views lines.now) }
-{
-    let mut copies = Vec::new(alloc);
-    for line in lines {
-        copies.push(line.copy(alloc)?)?;
-    }
-    Ok(copies)
-}
-
 /// An entry outside blocks: its verb and its arguments.
 fn single<'a>(alloc: Global, verb: &str, arguments: Vec<Token<'a>>) -> Result<Line<'a>, AllocError>
     requires { HasNoLineFeed verb.now }
@@ -167,92 +157,93 @@ fn entry_at<'a>(
     single(alloc, verb_text(verb), arguments)
 }
 
-/// The lines with one more at an index.
-fn with_line<'a>(
-    lines: Vec<Line<'a>>,
-    at: usize,
-    line: Line<'a>,
-) -> Result<Vec<Line<'a>>, AllocError>
-    requires { at ≤ length lines.items }
-    ensures { IfOk result (λ v. line_views v.items ≡ insert (line_views lines.entry.items) at (line_of line.entry)) }
+/// Inserts a line at an index. If memory runs out, the lines stay as they are.
+fn insert_line<'a>(lines: &mut Vec<Line<'a>>, at: usize, line: Line<'a>) -> Result<(), AllocError>
+    requires { at ≤ length lines.old.items }
+    ensures ok { OnOk result (line_views lines.new.items
+        ≡ insert (line_views lines.old.items) at (line_of line.entry)) }
+    ensures err { OnErr result (line_views lines.new.items ≡ line_views lines.old.items) }
 {
-    let mut lines = lines;
     lines.insert(at, line)?;
-    Ok(lines)
+    Ok(())
 }
 
-/// The lines with a blank line and then `line` at an index.
-fn with_blank_and_line<'a>(
-    lines: Vec<Line<'a>>,
+/// Inserts a blank line and then `line` at an index. If memory runs out, the lines stay as they are.
+fn insert_after_blank<'a>(
+    lines: &mut Vec<Line<'a>>,
     at: usize,
     line: Line<'a>,
-) -> Result<Vec<Line<'a>>, AllocError>
-    requires { at ≤ length lines.items }
-    ensures { IfOk result (λ v. line_views v.items
-        ≡ take at (line_views lines.entry.items)
-        ++ (Blank ∷ line_of line.entry ∷ drop at (line_views lines.entry.items))) }
+) -> Result<(), AllocError>
+    requires { at ≤ length lines.old.items }
+    ensures ok { OnOk result (line_views lines.new.items
+        ≡ take at (line_views lines.old.items)
+        ++ (Blank ∷ line_of line.entry ∷ drop at (line_views lines.old.items))) }
+    ensures err { OnErr result (line_views lines.new.items ≡ line_views lines.old.items) }
 {
-    let mut lines = lines;
+    // with room for both, neither is inserted alone
+    lines.reserve(2)?;
     lines.insert(at, line)?;
     lines.insert(at, Line::Blank)?;
-    Ok(lines)
+    Ok(())
 }
 
-/// The lines with a blank line and then `line` at the end.
-fn with_blank_and_line_last<'a>(
-    lines: Vec<Line<'a>>,
-    line: Line<'a>,
-) -> Result<Vec<Line<'a>>, AllocError>
-    ensures { IfOk result (λ v. line_views v.items
-        ≡ line_views lines.entry.items ++ (Blank ∷ line_of line.entry ∷ [])) }
-{
-    let mut lines = lines;
-    lines.push(Line::Blank)?;
-    lines.push(line)?;
-    Ok(lines)
-}
-
-/// The lines with one more entry. It goes directly after the last entry with its verb, in the same block if that one
-/// is in a block. If no entry has the verb, it goes to the end, after a blank line.
-pub(crate) fn added<'a>(
+/// Adds an entry. It goes directly after the last entry with its verb, in the same block if that one is in a block. If
+/// no entry has the verb, it goes to the end, after a blank line. If memory runs out, the lines stay as they are.
+pub(crate) fn add<'a>(
     alloc: Global,
     verb: AddedVerb,
     arguments: Vec<Token<'a>>,
-    lines: &[Line<'a>],
-) -> Result<Vec<Line<'a>>, AllocError>
-    requires document { IsDocument (plain_lines (line_views lines.now)) }
-    requires sound { fault_of Strict (plain_lines (line_views lines.now)) ≡ None }
-    ensures { IfOk result (λ v. line_views v.items
-        ≡ added (is_of verb) (verb_text verb) arguments.entry.items (line_views lines.now)) }
+    lines: &mut Vec<Line<'a>>,
+) -> Result<(), AllocError>
+    requires document { IsDocument (plain_lines (line_views lines.old.items)) }
+    requires sound { fault_of Strict (plain_lines (line_views lines.old.items)) ≡ None }
+    ensures ok { OnOk result (line_views lines.new.items
+        ≡ added (is_of verb) (verb_text verb) arguments.entry.items (line_views lines.old.items)) }
+    ensures err { OnErr result (line_views lines.new.items ≡ line_views lines.old.items) }
 {
-    let spot = last_spot(verb, lines);
-    let copies = copy_lines(alloc, lines)?;
+    let spot = last_spot(verb, lines.as_slice());
     match spot {
         Some(spot) => {
             let entry = entry_at(alloc, spot.inside, verb, arguments)?;
-            with_line(copies, spot.before, entry)
+            insert_line(lines, spot.before, entry)
         }
-        None => with_blank_and_line_last(copies, single(alloc, verb_text(verb), arguments)?),
+        None => {
+            let entry = single(alloc, verb_text(verb), arguments)?;
+            let end = lines.len();
+            insert_after_blank(lines, end, entry)
+        }
     }
 }
 
-/// The lines with a blank line and a go directive after the module directive, or after its block if it is in one. If
-/// there is no module directive, both go to the end.
-pub(crate) fn go_added<'a>(
-    alloc: Global,
-    arguments: Vec<Token<'a>>,
-    lines: &[Line<'a>],
-) -> Result<Vec<Line<'a>>, AllocError>
+/// The index at which a new go directive goes: after the module directive, or after its block if it is in one, or the
+/// end of the file if there is no module directive.
+fn go_index(lines: &[Line]) -> usize
     requires document { IsDocument (plain_lines (line_views lines.now)) }
     requires sound { fault_of Strict (plain_lines (line_views lines.now)) ≡ None }
-    ensures { IfOk result (λ v. line_views v.items
-        ≡ after_first_that is_module (Blank ∷ single (codes "go") arguments.entry.items ∷ []) (line_views lines.now)) }
+    ensures index { (new : List (LineOf Placed)) → take result (line_views lines.now) ++ (new ++ drop result (line_views lines.now))
+        ≡ after_first_that is_module new (line_views lines.now) }
+    ensures in_range { result ≤ length lines.now }
 {
-    let spot = module_spot(lines);
-    let copies = copy_lines(alloc, lines)?;
-    let line = single(alloc, "go", arguments)?;
-    match spot {
-        Some(spot) => with_blank_and_line(copies, past_block(lines, spot), line),
-        None => with_blank_and_line_last(copies, line),
+    match module_spot(lines) {
+        Some(spot) => past_block(lines, spot),
+        None => lines.len(),
     }
+}
+
+/// Adds a blank line and a go directive after the module directive, or after its block if it is in one. If there is no
+/// module directive, both go to the end. If memory runs out, the lines stay as they are.
+pub(crate) fn add_go<'a>(
+    alloc: Global,
+    arguments: Vec<Token<'a>>,
+    lines: &mut Vec<Line<'a>>,
+) -> Result<(), AllocError>
+    requires document { IsDocument (plain_lines (line_views lines.old.items)) }
+    requires sound { fault_of Strict (plain_lines (line_views lines.old.items)) ≡ None }
+    ensures ok { OnOk result (line_views lines.new.items ≡ after_first_that is_module
+        (Blank ∷ single (codes "go") arguments.entry.items ∷ []) (line_views lines.old.items)) }
+    ensures err { OnErr result (line_views lines.new.items ≡ line_views lines.old.items) }
+{
+    let line = single(alloc, "go", arguments)?;
+    let at = go_index(lines.as_slice());
+    insert_after_blank(lines, at, line)
 }

@@ -1,25 +1,28 @@
 //! Applying operations to the go.mod file of a main module.
 //!
-//! The new lines are built and read before the file is replaced, so that a failed edit leaves the file unchanged.
+//! Whatever may run out of memory comes before any change of the lines, so that a failed edit leaves them unchanged.
 
-ghost use Rattle.std.specs.Prelude.{◌≡◌, ◌↔◌, IfOk, IsErrOf, OnErr, OnOk, None, true, false};
+ghost use Rattle.std.specs.Prelude.{◌≡◌, ◌↔◌, ◌<◌, not, length, take_while, IsErrOf, OnErr, OnOk, None, true, false, is_some};
 ghost use Rattle.gm_syntax.specs.Document.{IsDocument};
 ghost use Rattle.gm_syntax.specs.LineViews.{line_views, plain_lines};
 ghost use Rattle.gm_file.specs.Directives.{Strict};
 ghost use Rattle.gm_file.specs.Faults.{does_left_fit, fault_of};
 ghost use Rattle.gm_name.specs.Names.{does_fit};
+ghost use Rattle.gm_file_edit.specs.About.{about};
 ghost use Rattle.gm_file_edit.specs.Changes.{changed, edited, is_fit, put_in};
+ghost use Rattle.gm_file_edit.specs.Laws.{is_drop, set_by};
+ghost use Rattle.gm_file_edit.specs.Marks.{marks_from};
 ghost use Rattle.gm_file_edit.specs.Sound.{IsSoundEdit};
 ghost use Rattle.gm_file_edit.specs.Views.{edit_of};
 
-use crate::adding::{AddedVerb, added, copy_lines, go_added};
-use crate::dropping::dropped;
+use crate::adding::{AddedVerb, add, add_go};
 use crate::editor::Editor;
 use crate::fault::EditFault;
+use crate::marking::{first_mark, marks};
 use crate::new_words::{interval_words, one_word, pair_words, replace_words};
 use crate::op::{Change, Op};
-use crate::renewing::renewed;
-use crate::searching::is_there;
+use crate::packing::pack;
+use crate::renewing::renew;
 use gm_file::MainFile;
 use gm_name::{ModPath, ModVersion, fits};
 use gm_syntax::Line;
@@ -56,80 +59,106 @@ pub(crate) fn is_fit(change: &Change) -> bool
     }
 }
 
-/// The edited lines if some entry is targeted by the operation.
-#[tactic(auto, unfolding(crate::specs::Changes::changed))]
-fn changed<'a>(
-    alloc: Global,
-    change: &Change,
-    lines: &[Line<'a>],
-) -> Result<Vec<Line<'a>>, AllocError>
-    requires written { IsSoundEdit (edit_of change.now) }
-    requires document { IsDocument (plain_lines (line_views lines.now)) }
-    requires sound { fault_of Strict (plain_lines (line_views lines.now)) ≡ None }
-    ensures { IfOk result (λ v. line_views v.items ≡ changed (edit_of change.now) (line_views lines.now)) }
+/// Whether an operation leaves one directive in place of all that it targets.
+fn sets(change: &Change) -> bool
+    ensures { result ≡ is_some (set_by (edit_of change.now)) }
 {
     match change {
-        Change::SetModule(_) => renewed(alloc, change, lines),
-        Change::SetGo(_) => renewed(alloc, change, lines),
-        Change::SetRequire((_, _)) => renewed(alloc, change, lines),
-        Change::DropRequire(_) => dropped(alloc, change, lines),
-        Change::AddExclude((_, _)) => copy_lines(alloc, lines),
-        Change::DropExclude((_, _)) => dropped(alloc, change, lines),
-        Change::SetReplace(_) => renewed(alloc, change, lines),
-        Change::DropReplace(_) => dropped(alloc, change, lines),
-        Change::AddRetract(_) => copy_lines(alloc, lines),
-        Change::DropRetract(_) => dropped(alloc, change, lines),
+        Change::SetModule(_) => true,
+        Change::SetGo(_) => true,
+        Change::SetRequire((_, _)) => true,
+        Change::SetReplace(_) => true,
+        _ => false,
     }
 }
 
-/// The edited lines if no entry is targeted by the operation.
-#[tactic(auto, unfolding(crate::specs::Changes::put_in))]
-fn put_in<'a>(
-    alloc: Global,
-    change: &Change,
-    lines: &[Line<'a>],
-) -> Result<Vec<Line<'a>>, AllocError>
-    requires written { IsSoundEdit (edit_of change.now) }
-    requires document { IsDocument (plain_lines (line_views lines.now)) }
-    requires sound { fault_of Strict (plain_lines (line_views lines.now)) ≡ None }
-    ensures { IfOk result (λ v. line_views v.items ≡ put_in (edit_of change.now) (line_views lines.now)) }
+/// Whether an operation removes the directives that it targets.
+fn drops(change: &Change) -> bool
+    ensures { result ≡ is_drop (edit_of change.now) }
 {
     match change {
-        Change::SetGo(text) => go_added(alloc, one_word(alloc, text.as_str())?, lines),
+        Change::DropRequire(_) => true,
+        Change::DropExclude((_, _)) => true,
+        Change::DropReplace(_) => true,
+        Change::DropRetract(_) => true,
+        _ => false,
+    }
+}
+
+/// Changes the lines that have a mark, those that an operation targets. The first is at an index. If memory runs out,
+/// the lines stay as they are.
+fn change_lines<'a>(
+    alloc: Global,
+    change: &Change,
+    lines: &mut Vec<Line<'a>>,
+    marks: Vec<bool>,
+    first: usize,
+) -> Result<(), AllocError>
+    requires written { IsSoundEdit (edit_of change.now) }
+    requires marked { marks.items ≡ marks_from (about (edit_of change.now)) None (line_views lines.old.items) }
+    requires first { first ≡ length (take_while (λ mark. not mark) marks.items) }
+    requires in_range { first < length lines.old.items }
+    ensures ok { OnOk result (line_views lines.new.items ≡ changed (edit_of change.now) (line_views lines.old.items)) }
+    ensures err { OnErr result (line_views lines.new.items ≡ line_views lines.old.items) }
+{
+    if sets(change) {
+        return renew(alloc, change, lines, marks, first);
+    }
+    if drops(change) {
+        pack(lines, marks.as_slice());
+        return Ok(());
+    }
+    Ok(())
+}
+
+/// Adds the entry of an operation that targets no line, if it adds one. If memory runs out, the lines stay as they are.
+#[tactic(auto, unfolding(crate::specs::Changes::put_in))]
+fn put_in<'a>(alloc: Global, change: &Change, lines: &mut Vec<Line<'a>>) -> Result<(), AllocError>
+    requires written { IsSoundEdit (edit_of change.now) }
+    requires document { IsDocument (plain_lines (line_views lines.old.items)) }
+    requires sound { fault_of Strict (plain_lines (line_views lines.old.items)) ≡ None }
+    ensures ok { OnOk result (line_views lines.new.items ≡ put_in (edit_of change.now) (line_views lines.old.items)) }
+    ensures err { OnErr result (line_views lines.new.items ≡ line_views lines.old.items) }
+{
+    match change {
+        Change::SetGo(text) => add_go(alloc, one_word(alloc, text.as_str())?, lines),
         Change::SetRequire((path, version)) => {
             let words = pair_words(alloc, path, version)?;
-            added(alloc, AddedVerb::Require, words, lines)
+            add(alloc, AddedVerb::Require, words, lines)
         }
         Change::AddExclude((path, version)) => {
             let words = pair_words(alloc, path, version)?;
-            added(alloc, AddedVerb::Exclude, words, lines)
+            add(alloc, AddedVerb::Exclude, words, lines)
         }
         Change::SetReplace(replace) => {
             let words = replace_words(alloc, replace)?;
-            added(alloc, AddedVerb::Replace, words, lines)
+            add(alloc, AddedVerb::Replace, words, lines)
         }
         Change::AddRetract(ends) => {
             let words = interval_words(alloc, ends)?;
-            added(alloc, AddedVerb::Retract, words, lines)
+            add(alloc, AddedVerb::Retract, words, lines)
         }
-        _ => copy_lines(alloc, lines),
+        _ => Ok(()),
     }
 }
 
-/// The lines after an operation.
+/// Changes the lines of a file by an operation. If memory runs out, they stay as they are.
 #[tactic(auto, unfolding(crate::specs::Changes::edited))]
-pub(crate) fn edited<'a>(
+pub(crate) fn edit_lines<'a>(
     alloc: Global,
     change: &Change,
-    lines: &[Line<'a>],
-) -> Result<Vec<Line<'a>>, AllocError>
+    lines: &mut Vec<Line<'a>>,
+) -> Result<(), AllocError>
     requires written { IsSoundEdit (edit_of change.now) }
-    requires document { IsDocument (plain_lines (line_views lines.now)) }
-    requires sound { fault_of Strict (plain_lines (line_views lines.now)) ≡ None }
-    ensures { IfOk result (λ v. line_views v.items ≡ edited (edit_of change.now) (line_views lines.now)) }
+    requires document { IsDocument (plain_lines (line_views lines.old.items)) }
+    requires sound { fault_of Strict (plain_lines (line_views lines.old.items)) ≡ None }
+    ensures ok { OnOk result (line_views lines.new.items ≡ edited (edit_of change.now) (line_views lines.old.items)) }
+    ensures err { OnErr result (line_views lines.new.items ≡ line_views lines.old.items) }
 {
-    if is_there(alloc, change, lines)? {
-        return changed(alloc, change, lines);
+    let marks = marks(alloc, change, lines.as_slice())?;
+    let first = first_mark(marks.as_slice());
+    if first < lines.len() {
+        return change_lines(alloc, change, lines, marks, first);
     }
     put_in(alloc, change, lines)
 }

@@ -3,23 +3,18 @@
 //! An operation leaves a sound file sound, so nothing is read again between two operations.
 
 ghost use Rattle.std.specs.Prelude.{◌≡◌, ◌↔◌, IfOk, IsErrOf, OnErr, OnOk, None, true, false};
-ghost use Rattle.gm_syntax.specs.Document.{IsDocument};
 ghost use Rattle.gm_syntax.specs.LineViews.{line_views, plain_lines};
 ghost use Rattle.gm_file.specs.Directives.{Strict};
 ghost use Rattle.gm_file.specs.Faults.{fault_of};
 ghost use Rattle.gm_file_edit.specs.Changes.{edited, is_fit};
-ghost use Rattle.gm_file_edit.specs.Sound.{IsSoundEdit};
-ghost use Rattle.gm_file_edit.specs.Views.{edit_of};
 
-use crate::adding::copy_lines;
-use crate::applying::{edited, is_fit};
+use crate::applying::{edit_lines, is_fit};
 use crate::fault::EditFault;
-use crate::op::{Change, Op};
+use crate::op::Op;
 use gm_file::{FileFault, MainFile};
 use gm_syntax::{Doc, Line};
 use std::alloc::{AllocError, Global};
 use std::marker::Model;
-use std::mem;
 
 /// The lines of a main module's file, which operations change in turn. They are always a document that strict reading
 /// accepts.
@@ -47,21 +42,15 @@ impl<'a> Model for Editor<'a> {
         × (fault_of Strict (plain_lines (line_views e.lines.items)) ≡ None) };
 }
 
-/// Changes lines by an operation. If memory runs out, they stay as they are.
-fn edit_lines<'a>(
-    alloc: Global,
-    change: &Change,
-    lines: &mut Vec<Line<'a>>,
-) -> Result<(), AllocError>
-    requires written { IsSoundEdit (edit_of change.now) }
-    requires document { IsDocument (plain_lines (line_views lines.old.items)) }
-    requires sound { fault_of Strict (plain_lines (line_views lines.old.items)) ≡ None }
-    ensures ok { OnOk result (line_views lines.new.items ≡ edited (edit_of change.now) (line_views lines.old.items)) }
-    ensures err { OnErr result (line_views lines.new.items ≡ line_views lines.old.items) }
+/// A copy of the lines.
+fn copy_lines<'a>(alloc: Global, lines: &[Line<'a>]) -> Result<Vec<Line<'a>>, AllocError>
+    ensures { IfOk result (λ v. line_views v.items ≡ line_views lines.now) }
 {
-    let new = edited(alloc, change, lines.as_slice())?;
-    let _before = mem::replace(lines, new);
-    Ok(())
+    let mut copies = Vec::with_capacity(alloc, lines.len())?;
+    for line in lines {
+        copies.push(line.copy(alloc)?)?;
+    }
+    Ok(copies)
 }
 
 impl<'a> Editor<'a> {

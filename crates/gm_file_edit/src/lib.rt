@@ -11,18 +11,17 @@
 mod about;
 mod adding;
 mod applying;
-mod dropping;
 mod editor;
 mod fault;
 pub mod laws;
+mod marking;
 mod name;
 mod new_words;
 mod op;
+mod packing;
 mod part;
 mod renewing;
-mod searching;
 mod target;
-mod walk;
 
 pub use crate::applying::apply;
 pub use crate::editor::Editor;

@@ -2,29 +2,29 @@
 //!
 //! An entry is rewritten in place, so that its comment and its position in a block are kept.
 
-ghost use Rattle.std.specs.Prelude.{◌≡◌, ◌||◌, IfOk, None};
+ghost use Rattle.std.specs.Prelude.{◌≡◌, ◌<◌, not, length, take, take_while, slice_set, IfOk, OnErr, OnOk, None};
 ghost use Rattle.std.specs.Option.{option_map};
-ghost use Rattle.gm_syntax.specs.Document.{IsDocument};
-ghost use Rattle.gm_syntax.specs.LineViews.{line_of, line_views, plain_lines};
+ghost use Rattle.gm_syntax.specs.LineViews.{line_of, line_views};
 ghost use Rattle.gm_syntax.specs.Lines.{HasNoLineFeed};
-ghost use Rattle.gm_file.specs.Directives.{Strict};
-ghost use Rattle.gm_file.specs.Faults.{fault_of};
+ghost use Rattle.gm_file.specs.Directives.{block_after_lines};
 ghost use Rattle.gm_file.specs.Views.{replace_view};
 ghost use Rattle.gm_file_edit.specs.About.{about};
-ghost use Rattle.gm_file_edit.specs.Fates.{directive_at, passes, renewed, IsValidAt};
-ghost use Rattle.gm_file_edit.specs.Renewing.{before_arguments, made_new, new_fate, with_arguments, with_last};
+ghost use Rattle.gm_file_edit.specs.Fates.{renewed};
+ghost use Rattle.gm_file_edit.specs.Renewing.{before_arguments, made_new, with_arguments, with_last};
+ghost use Rattle.gm_file_edit.specs.Marks.{marks_from};
 ghost use Rattle.gm_file_edit.specs.NewWords.{replace_words};
+ghost use Rattle.gm_file_edit.specs.Packs.{line_at};
 ghost use Rattle.gm_file_edit.specs.Sound.{IsSoundEdit, IsSoundRight};
 ghost use Rattle.gm_file_edit.specs.Views.{edit_of};
-ghost use Rattle.gm_file_edit.specs.Walks.{fate_seen};
 
 use crate::new_words::{push_replace, push_word};
 use crate::op::Change;
-use crate::target::{block_after_line, is_about_at};
-use crate::walk::{finish, start, step};
+use crate::packing::pack;
+use crate::target::block_after_line;
 use gm_file::Replace;
 use gm_syntax::{Line, Token};
 use std::alloc::{AllocError, Global};
+use std::mem;
 
 /// An entry with its last word replaced. Any other line stays as is.
 fn with_last<'a>(
@@ -105,76 +105,62 @@ fn made_new<'a>(
     }
 }
 
-/// The fate of a line. `is_about` says whether the operation targets it, and `is_done` whether an earlier line was
-/// rewritten already.
-fn new_fate<'a>(
-    alloc: Global,
-    change: &Change,
-    is_done: bool,
-    is_about: bool,
-    block: Option<&Token<'a>>,
-    line: &Line<'a>,
-) -> Result<Option<Line<'a>>, AllocError>
-    requires { IsSoundEdit (edit_of change.now) }
-    ensures { IfOk result (λ f. fate_seen f
-        ≡ new_fate is_done is_about (made_new (edit_of change.now)) (option_map (λ t. t.now) block.entry)
-        (line_of line.now)) }
+/// The verb of the block that is open after lines, if one is.
+fn open_after<'w, 'a>(lines: &'w [Line<'a>]) -> Option<&'w Token<'a>>
+    ensures { option_map (λ t. t.now) result ≡ block_after_lines None (line_views lines.now) }
 {
-    if !is_about {
-        return Ok(Some(line.copy(alloc)?));
+    let mut block = None;
+    for line in lines {
+        block = block_after_line(block, line);
     }
-    if is_done {
-        return Ok(None);
-    }
-    let copy = line.copy(alloc)?;
-    Ok(Some(made_new(alloc, change, block, copy)?))
+    block
 }
 
-/// The fate of a line, and whether a line has been rewritten by now.
-fn renew_line<'a>(
-    alloc: Global,
-    change: &Change,
-    is_done: bool,
-    block: Option<&Token<'a>>,
-    line: &Line<'a>,
-) -> Result<(Option<Line<'a>>, bool), AllocError>
-    requires written { IsSoundEdit (edit_of change.now) }
-    requires right { IsValidAt (option_map (λ t. t.now) block) (line_of line.now) }
-    ensures fate { IfOk result (λ r. fate_seen r.0
-        ≡ new_fate is_done
-        (passes (about (edit_of change.now)) (directive_at (option_map (λ t. t.now) block.entry) (line_of line.now)))
-        (made_new (edit_of change.now)) (option_map (λ t. t.now) block.entry) (line_of line.now)) }
-    ensures done { IfOk result (λ r. r.1
-        ≡ (is_done
-        || passes (about (edit_of change.now))
-        (directive_at (option_map (λ t. t.now) block.entry) (line_of line.now)))) }
-{
-    let is_about = is_about_at(alloc, change, block, line)?;
-    let fate = new_fate(alloc, change, is_done, is_about, block, line)?;
-    Ok((fate, is_done || is_about))
-}
-
-/// The lines with the first entry that an operation targets rewritten, and without the later ones and the blocks that
-/// this empties.
-pub(crate) fn renewed<'a>(
+/// The line at an index as the operation rewrites it.
+fn new_line<'a>(
     alloc: Global,
     change: &Change,
     lines: &[Line<'a>],
-) -> Result<Vec<Line<'a>>, AllocError>
+    at: usize,
+) -> Result<Line<'a>, AllocError>
     requires written { IsSoundEdit (edit_of change.now) }
-    requires document { IsDocument (plain_lines (line_views lines.now)) }
-    requires sound { fault_of Strict (plain_lines (line_views lines.now)) ≡ None }
-    ensures { IfOk result (λ v. line_views v.items
-        ≡ renewed (about (edit_of change.now)) (made_new (edit_of change.now)) (line_views lines.now)) }
+    requires in_range { at < length lines.now }
+    ensures { IfOk result (λ l. line_of l ≡ made_new (edit_of change.now)
+        (block_after_lines None (take at (line_views lines.now))) (line_at (line_views lines.now) at)) }
 {
-    let mut walk = start(alloc);
-    let mut block = None;
-    let mut is_done = false;
-    for line in lines {
-        let (fate, done) = renew_line(alloc, change, is_done, block, line)?;
-        walk = step(alloc, walk, fate)?;
-        block = block_after_line(block, line);
-        is_done = done;
-    }
-    finish(alloc, walk)
+    let copy = lines[at].copy(alloc)?;
+    made_new(alloc, change, open_after(&lines[..at]), copy)
+}
+
+/// Puts a line in the place of the one at an index.
+fn put_line<'a>(lines: &mut Vec<Line<'a>>, at: usize, line: Line<'a>)
+    requires { at < length lines.old.items }
+    ensures { line_views lines.new.items ≡ slice_set (line_views lines.old.items) at (line_of line.entry) }
+{
+    let _before = mem::replace(&mut lines[at], line);
+}
+
+/// Rewrites the first line that has a mark, which is at an index, and removes the others and the blocks that this
+/// empties. If memory runs out, the lines stay as they are.
+pub(crate) fn renew<'a>(
+    alloc: Global,
+    change: &Change,
+    lines: &mut Vec<Line<'a>>,
+    marks: Vec<bool>,
+    first: usize,
+) -> Result<(), AllocError>
+    requires written { IsSoundEdit (edit_of change.now) }
+    requires marked { marks.items ≡ marks_from (about (edit_of change.now)) None (line_views lines.old.items) }
+    requires first { first ≡ length (take_while (λ mark. not mark) marks.items) }
+    requires in_range { first < length lines.old.items }
+    ensures ok { OnOk result (line_views lines.new.items
+        ≡ renewed (about (edit_of change.now)) (made_new (edit_of change.now)) (line_views lines.old.items)) }
+    ensures err { OnErr result (line_views lines.new.items ≡ line_views lines.old.items) }
+{
+    let line = new_line(alloc, change, lines.as_slice(), first)?;
+    put_line(lines, first, line);
+    let mut others = marks;
+    others[first] = false;
+    pack(lines, others.as_slice());
+    Ok(())
 }

@@ -1,0 +1,197 @@
+-- The marks of lines, and what removing marked lines leaves.
+use Rattle.std.proofs.Common.{◌≡◌, ℕ, suc, ◌+◌, ◌<◌, ◌≤◌, not, Bool, true, false, List, [], ◌∷◌, ◌++◌, length, take, set, Option, Some, None, is_some, refl, sym, ap, subst, ◌∙◌, append-nil, append_assoc, arith, inl, inr}
+use Rattle.std.specs.Prelude.{if◌then◌else◌, take_while}
+use Rattle.std.specs.List.{prefix_len}
+use Rattle.std.specs.Option.{option_to_list}
+use Rattle.std.proofs.lemmas.Bool.{cases_Bool}
+use Rattle.gm_syntax.specs.Tokens.{Placed}
+use Rattle.gm_syntax.specs.Document.{Line}
+use Rattle.gm_file.specs.Directives.{Directive, block_after_line, block_after_lines}
+use Rattle.gm_file_edit.specs.Fates.{Fate, IsValidAt, directive_at, dropped, dropping_from, passes, remaining_from, renewed, renewing_from}
+use Rattle.gm_file_edit.specs.About.{about}
+use Rattle.gm_file_edit.specs.Changes.{changed, edited, put_in}
+use Rattle.gm_file_edit.specs.Edits.{Edit, SetModule, SetGo, SetRequire, DropRequire, AddExclude, DropExclude, SetReplace, DropReplace, AddRetract, DropRetract}
+use Rattle.gm_file_edit.specs.Laws.{is_drop, set_by}
+use Rattle.gm_file_edit.specs.Renewing.{made_new}
+use Rattle.gm_file_edit.specs.Marks.{marks_from}
+use Rattle.gm_file_edit.specs.Packs.{fate_by, line_at, marked}
+use Rattle.gm_file_edit.specs.Searching.{is_there_from}
+use Rattle.gm_file_edit.proofs.Sound.{SoundFrom}
+
+-- ---- the loop that marks lines
+
+-- Loop invariant: the marks so far and those of the rest are the marks of the whole, and the rest is valid.
+pub record IsMarkedTo (test : Directive → Bool) (whole rest : List (Line Placed)) (block : Option Placed) (marks : List Bool) : Type 0 where
+  pub sound : (earlier : List Directive) × SoundFrom earlier block rest
+  pub left : marks ++ marks_from test block rest ≡ marks_from test None whole
+
+pub mark-begin : (test : Directive → Bool) (whole : List (Line Placed)) → SoundFrom [] None whole → (marks : List Bool) → marks ≡ [] → IsMarkedTo test whole whole None marks
+mark-begin test whole sound marks is = record { sound = ([], sound); left = ap (λ (ms : List Bool). ms ++ marks_from test None whole) is }
+
+pub mark-right : (test : Directive → Bool) (whole rest more : List (Line Placed)) (block : Option Placed) (line : Line Placed) (marks : List Bool) → rest ≡ line ∷ more → IsMarkedTo test whole rest block marks → IsValidAt block line
+mark-right test whole rest more block line marks is so = let s = subst (SoundFrom so.sound.0 block) is so.sound.1 in (so.sound.0, s.1)
+
+pub mark-more : (test : Directive → Bool) (whole rest more : List (Line Placed)) (block next_block : Option Placed) (line : Line Placed) (marks next : List Bool) (mark : Bool) → rest ≡ line ∷ more → next_block ≡ block_after_line block line
+    → mark ≡ passes test (directive_at block line) → next ≡ marks ++ mark ∷ [] → IsMarkedTo test whole rest block marks → IsMarkedTo test whole more next_block next
+mark-more test whole rest more block next_block line marks next mark is behind tested pushed so =
+    let s = subst (SoundFrom so.sound.0 block) is so.sound.1 in
+    rw (behind, pushed, tested) (record {
+      sound = (so.sound.0 ++ option_to_list (directive_at block line), s.2);
+      left =
+          append_assoc marks (passes test (directive_at block line) ∷ []) (marks_from test (block_after_line block line) more)
+          ∙ ap (λ (ls : List (Line Placed)). marks ++ marks_from test block ls) (sym is) ∙ so.left;
+    })
+
+pub mark-end : (test : Directive → Bool) (whole rest : List (Line Placed)) (block : Option Placed) (marks : List Bool) → rest ≡ [] → IsMarkedTo test whole rest block marks → marks ≡ marks_from test None whole
+mark-end test whole rest block marks is so = sym (append-nil marks) ∙ ap (λ (ls : List (Line Placed)). marks ++ marks_from test block ls) (sym is) ∙ so.left
+
+-- ---- the first mark
+
+pub marks-count : (test : Directive → Bool) (block : Option Placed) (lines : List (Line Placed)) → length (marks_from test block lines) ≡ length lines
+marks-count test block [] = refl
+marks-count test block (line ∷ lines) = ap suc (marks-count test (block_after_line block line) lines)
+
+-- the number of marks before the first
+abbrev pub first_of : List Bool → ℕ
+first_of [] = 0
+first_of (true ∷ marks) = 0
+first_of (false ∷ marks) = suc (first_of marks)
+
+pub first-is : (marks : List Bool) → length (take_while (λ mark. not mark) marks) ≡ first_of marks
+first-is [] = refl
+first-is (true ∷ marks) = refl
+first-is (false ∷ marks) =
+    let more : 1 + prefix_len (λ mark. not mark) marks ≡ suc (prefix_len (λ mark. not mark) marks) = omega arith in
+    ap (λ (n : ℕ). length (take n (false ∷ marks))) more ∙ ap suc (first-is marks)
+
+first-hit : (mark : Bool) (marks : List Bool) → mark ≡ true → first_of (mark ∷ marks) ≡ 0
+first-hit true marks e = refl
+first-hit false marks e = absurd cc
+
+first-miss : (mark : Bool) (marks : List Bool) → mark ≡ false → first_of (mark ∷ marks) ≡ suc (first_of marks)
+first-miss true marks e = absurd cc
+first-miss false marks e = refl
+
+shorter-miss : (mark : Bool) (marks : List Bool) (n : ℕ) → mark ≡ false → first_of (mark ∷ marks) < suc n → first_of marks < n
+shorter-miss mark marks n e lt = let f = first-miss mark marks e in omega (arith, lt, f)
+
+longer-miss : (mark : Bool) (marks : List Bool) (n : ℕ) → mark ≡ false → suc n ≤ first_of (mark ∷ marks) → n ≤ first_of marks
+longer-miss mark marks n e le = let f = first-miss mark marks e in omega (arith, le, f)
+
+no-hit : (mark : Bool) (marks : List Bool) (n : ℕ) → mark ≡ true → suc n ≤ first_of (mark ∷ marks) → ⊥
+no-hit mark marks n e le = let f = first-hit mark marks e in omega (arith, le, f)
+
+pub some-mark : (test : Directive → Bool) (block : Option Placed) (lines : List (Line Placed)) → first_of (marks_from test block lines) < length lines → is_there_from test block lines ≡ true
+some-mark test block [] lt = absurd (omega (arith, lt))
+some-mark test block (line ∷ lines) lt = elim (cases_Bool (passes test (directive_at block line))) [
+  | inl holds ↦ rw holds refl
+  | inr fails ↦ rw fails (some-mark test (block_after_line block line) lines (shorter-miss (passes test (directive_at block line)) (marks_from test (block_after_line block line) lines) (length lines) fails lt))
+]
+
+pub no-mark : (test : Directive → Bool) (block : Option Placed) (lines : List (Line Placed)) → length lines ≤ first_of (marks_from test block lines) → is_there_from test block lines ≡ false
+no-mark test block [] le = refl
+no-mark test block (line ∷ lines) le = elim (cases_Bool (passes test (directive_at block line))) [
+  | inl holds ↦ absurd (no-hit (passes test (directive_at block line)) (marks_from test (block_after_line block line) lines) (length lines) holds le)
+  | inr fails ↦ rw fails (no-mark test (block_after_line block line) lines (longer-miss (passes test (directive_at block line)) (marks_from test (block_after_line block line) lines) (length lines) fails le))
+]
+
+-- ---- lines of which those with a mark are removed
+
+fate-is : (mark : Bool) (line : Line Placed) → (if mark then None else Some line) ≡ fate_by mark line
+fate-is true line = refl
+fate-is false line = refl
+
+pub dropping-marked : (test : Directive → Bool) (block : Option Placed) (lines : List (Line Placed)) → dropping_from test block lines ≡ marked (marks_from test block lines) lines
+dropping-marked test block [] = refl
+dropping-marked test block (line ∷ lines) =
+    ap (λ (f : Fate). f ∷ dropping_from test (block_after_line block line) lines) (fate-is (passes test (directive_at block line)) line)
+    ∙ ap (λ (fs : List Fate). fate_by (passes test (directive_at block line)) line ∷ fs) (dropping-marked test (block_after_line block line) lines)
+
+pub dropped-marked : (test : Directive → Bool) (lines : List (Line Placed)) → dropped test lines ≡ remaining_from false None (marked (marks_from test None lines) lines)
+dropped-marked test lines = ap (remaining_from false None) (dropping-marked test None lines)
+
+-- ---- lines of which the first with a mark is rewritten, and the others are removed
+
+-- the marks and the lines after the first line with a mark is rewritten
+abbrev pub after_first : List Bool → List Bool
+after_first marks = set marks (first_of marks) false
+
+abbrev pub rewritten : (Option Placed → Line Placed → Line Placed) → Option Placed → List Bool → List (Line Placed) → List (Line Placed)
+rewritten new block marks lines = set lines (first_of marks) (new (block_after_lines block (take (first_of marks) lines)) (line_at lines (first_of marks)))
+
+pub renewing-marked : (test : Directive → Bool) (new : Option Placed → Line Placed → Line Placed) (block : Option Placed) (lines : List (Line Placed)) → first_of (marks_from test block lines) < length lines
+    → renewing_from test new block lines ≡ marked (after_first (marks_from test block lines)) (rewritten new block (marks_from test block lines) lines)
+renewing-marked test new block [] lt = absurd (omega (arith, lt))
+renewing-marked test new block (line ∷ lines) lt = elim (cases_Bool (passes test (directive_at block line))) [
+  | inl holds ↦ rw holds (ap (λ (fs : List Fate). Some (new block line) ∷ fs) (dropping-marked test (block_after_line block line) lines))
+  | inr fails ↦
+      rw fails (ap (λ (fs : List Fate). Some line ∷ fs)
+      (renewing-marked test new (block_after_line block line) lines (shorter-miss (passes test (directive_at block line)) (marks_from test (block_after_line block line) lines) (length lines) fails lt)))
+]
+
+pub renewed-marked : (test : Directive → Bool) (new : Option Placed → Line Placed → Line Placed) (lines : List (Line Placed)) → first_of (marks_from test None lines) < length lines
+    → renewed test new lines ≡ remaining_from false None (marked (after_first (marks_from test None lines)) (rewritten new None (marks_from test None lines) lines))
+renewed-marked test new lines lt = ap (remaining_from false None) (renewing-marked test new None lines lt)
+
+-- ---- what an operation does with the lines that it targets
+
+pub sets-changed : (edit : Edit) (lines : List (Line Placed)) → is_some (set_by edit) ≡ true → changed edit lines ≡ renewed (about edit) (made_new edit) lines
+unfolding changed
+sets-changed (SetModule path) lines e = refl
+sets-changed (SetGo text) lines e = refl
+sets-changed (SetRequire p) lines e = refl
+sets-changed (DropRequire path) lines e = absurd cc
+sets-changed (AddExclude p) lines e = absurd cc
+sets-changed (DropExclude p) lines e = absurd cc
+sets-changed (SetReplace r) lines e = refl
+sets-changed (DropReplace left) lines e = absurd cc
+sets-changed (AddRetract ends) lines e = absurd cc
+sets-changed (DropRetract ends) lines e = absurd cc
+
+pub drops-changed : (edit : Edit) (lines : List (Line Placed)) → is_drop edit ≡ true → changed edit lines ≡ dropped (about edit) lines
+unfolding changed
+drops-changed (SetModule path) lines e = absurd cc
+drops-changed (SetGo text) lines e = absurd cc
+drops-changed (SetRequire p) lines e = absurd cc
+drops-changed (DropRequire path) lines e = refl
+drops-changed (AddExclude p) lines e = absurd cc
+drops-changed (DropExclude p) lines e = refl
+drops-changed (SetReplace r) lines e = absurd cc
+drops-changed (DropReplace left) lines e = refl
+drops-changed (AddRetract ends) lines e = absurd cc
+drops-changed (DropRetract ends) lines e = refl
+
+pub adds-changed : (edit : Edit) (lines : List (Line Placed)) → is_some (set_by edit) ≡ false → is_drop edit ≡ false → changed edit lines ≡ lines
+unfolding changed
+adds-changed (SetModule path) lines e f = absurd cc
+adds-changed (SetGo text) lines e f = absurd cc
+adds-changed (SetRequire p) lines e f = absurd cc
+adds-changed (DropRequire path) lines e f = absurd cc
+adds-changed (AddExclude p) lines e f = refl
+adds-changed (DropExclude p) lines e f = absurd cc
+adds-changed (SetReplace r) lines e f = absurd cc
+adds-changed (DropReplace left) lines e f = absurd cc
+adds-changed (AddRetract ends) lines e f = refl
+adds-changed (DropRetract ends) lines e f = absurd cc
+
+pub edited-there : (edit : Edit) (lines : List (Line Placed)) → first_of (marks_from (about edit) None lines) < length lines → edited edit lines ≡ changed edit lines
+unfolding edited
+edited-there edit lines lt = rw (some-mark (about edit) None lines lt) refl
+
+pub edited-new : (edit : Edit) (lines : List (Line Placed)) → length lines ≤ first_of (marks_from (about edit) None lines) → edited edit lines ≡ put_in edit lines
+unfolding edited
+edited-new edit lines le = rw (no-mark (about edit) None lines le) refl
+
+-- what is left of lines of which the first with a mark is rewritten
+pub renew-is : (edit : Edit) (lines new : List (Line Placed)) (marks others : List Bool) (first : ℕ) (line : Line Placed)
+    → marks ≡ marks_from (about edit) None lines → first ≡ length (take_while (λ mark. not mark) marks) → first < length lines
+    → line ≡ made_new edit (block_after_lines None (take first lines)) (line_at lines first) → new ≡ set lines first line → others ≡ set marks first false
+    → remaining_from false None (marked others new) ≡ renewed (about edit) (made_new edit) lines
+renew-is edit lines new marks others first line marks_are first_is lt line_is new_is others_are =
+    let all : List Bool = marks_from (about edit) None lines in
+    let f : first ≡ first_of all = first_is ∙ first-is marks ∙ ap first_of marks_are in
+    let others_so : others ≡ after_first all = others_are ∙ ap (λ (ms : List Bool). set ms first false) marks_are ∙ ap (λ (n : ℕ). set all n false) f in
+    let new_so : new ≡ rewritten (made_new edit) None all lines =
+    new_is ∙ ap (set lines first) line_is ∙ ap (λ (n : ℕ). set lines n (made_new edit (block_after_lines None (take n lines)) (line_at lines n))) f in
+    ap (λ (ms : List Bool). remaining_from false None (marked ms new)) others_so ∙ ap (λ (ls : List (Line Placed)). remaining_from false None (marked (after_first all) ls)) new_so
+    ∙ sym (renewed-marked (about edit) (made_new edit) lines (omega (arith, lt, f)))

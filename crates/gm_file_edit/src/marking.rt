@@ -1,0 +1,39 @@
+//! Marking the lines that an operation targets.
+//!
+//! All tests of lines come first, since a test may run out of memory and a change of the lines may not.
+
+ghost use Rattle.std.specs.Prelude.{◌≡◌, not, length, take_while, IfOk, None};
+ghost use Rattle.gm_syntax.specs.Document.{IsDocument};
+ghost use Rattle.gm_syntax.specs.LineViews.{line_views, plain_lines};
+ghost use Rattle.gm_file.specs.Directives.{Strict};
+ghost use Rattle.gm_file.specs.Faults.{fault_of};
+ghost use Rattle.gm_file_edit.specs.About.{about};
+ghost use Rattle.gm_file_edit.specs.Marks.{marks_from};
+ghost use Rattle.gm_file_edit.specs.Views.{edit_of};
+
+use crate::op::Change;
+use crate::target::{block_after_line, is_about_at};
+use gm_syntax::Line;
+use std::alloc::{AllocError, Global};
+
+/// A mark for each line of a valid file: whether it holds a directive that an operation targets.
+pub(crate) fn marks(alloc: Global, change: &Change, lines: &[Line]) -> Result<Vec<bool>, AllocError>
+    requires document { IsDocument (plain_lines (line_views lines.now)) }
+    requires sound { fault_of Strict (plain_lines (line_views lines.now)) ≡ None }
+    ensures { IfOk result (λ v. v.items ≡ marks_from (about (edit_of change.now)) None (line_views lines.now)) }
+{
+    let mut marks = Vec::with_capacity(alloc, lines.len())?;
+    let mut block = None;
+    for line in lines {
+        marks.push(is_about_at(alloc, change, block, line)?)?;
+        block = block_after_line(block, line);
+    }
+    Ok(marks)
+}
+
+/// The number of lines before the first that is marked, or of all lines if none is.
+pub(crate) fn first_mark(marks: &[bool]) -> usize
+    ensures { result ≡ length (take_while (λ mark. not mark) marks.now) }
+{
+    marks.iter().take_while(|mark| !**mark).count()
+}
