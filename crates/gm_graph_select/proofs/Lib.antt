@@ -5,11 +5,9 @@ pub mod Held
 pub mod Greatest
 pub mod Selected
 pub mod Ranges
-pub mod Marking
-pub mod Leveling
-pub mod Numbered
-pub mod Stepping
-pub mod Walking
 pub mod Ascending
 pub mod Inserting
 pub mod Lawful
+pub mod NumberedSteps
+pub mod BreadthFirst
+pub mod LeftSteps

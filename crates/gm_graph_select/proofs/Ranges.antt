@@ -39,7 +39,7 @@ step_itself s = own_turn _ (step_total.antisymm s s)
 abbrev pub IsUpTo : Step → Step → Type 0
 IsUpTo s t = (step_cmp s t ≡ Less) ⊎ (step_cmp s t ≡ Equal)
 
-less_down : (s t u : Step) → IsUpTo s t → step_cmp t u ≡ Less → step_cmp s u ≡ Less
+pub less_down : (s t u : Step) → IsUpTo s t → step_cmp t u ≡ Less → step_cmp s u ≡ Less
 less_down s t u (inl l) h = step_total.trans s t u l h
 less_down s t u (inr e) h = step_total.congr s t u e ∙ h
 
@@ -50,7 +50,7 @@ abbrev pub is_of_step : Step → Edge → Bool
 is_of_step step e = step_eq e.from step
 
 module _ (edges : List Edge) (ascending : IsAscending edge_cmp edges) (step : Step) where
-  rises : (i j : ℕ) (d : Edge) → i ≤ j → j < length edges → IsUpTo (get_or edges i d).from (get_or edges j d).from
+  pub rises : (i j : ℕ) (d : Edge) → i ≤ j → j < length edges → IsUpTo (get_or edges i d).from (get_or edges j d).from
   rises i j d le below = elim (cases_lt i j) [
     | inl lt ↦ first_of_less _ _ (ascending i j d lt below)
     | inr ge ↦

@@ -5,5 +5,6 @@ pub mod BuildList
 pub mod VertexSet
 pub mod Greatest
 pub mod Chains
-pub mod Levels
 pub mod Laws
+pub mod Numbering
+pub mod Searching

@@ -16,8 +16,9 @@
 
 mod chaining;
 pub mod laws;
-mod levels;
+mod numbering;
 mod row;
+mod searching;
 mod selecting;
 mod sorting;
 mod step;

@@ -1,31 +1,37 @@
-use Rattle.std.proofs.Common.{◌≡◌, ◌∙◌, ◌++◌, ◌∷◌, [], List, Some, ap, arith, reverse, subst, sym}
+use Rattle.std.proofs.Common.{◌≡◌, ◌∙◌, ◌++◌, ◌∷◌, [], List, ap, arith, reverse, sym}
 use Rattle.gm_graph_select.specs.declared.step.Step.{Step}
-use Rattle.gm_graph_select.specs.declared.step.Step.TheVariants.{Main}
-use Rattle.gm_graph_select.specs.Graph.{among}
-use Rattle.gm_graph_select.specs.Chains.{IsChain}
-use Rattle.gm_graph_select.proofs.Walking.{walk_begins, walk_done, walk_lost, walk_step}
+use Rattle.gm_graph_select.specs.declared.step.Step.TheVariants.{Main, Of}
+use Rattle.gm_graph_select.specs.Graph.{Vertex}
+use Rattle.gm_graph_select.specs.Numbering.{edges_of, steps_of}
+use Rattle.gm_graph_select.specs.Searching.{visited}
+use Rattle.gm_graph_select.proofs.BreadthFirst.{back_begins, back_done, back_longer, back_more}
 use Rattle.gm_graph_select.proofs.chaining.walk_back.Goals as goal
 
 pub back-init : goal.back-init
-back-init c = λ edges numbers levels best is.
-    (is, subst (λ (steps : List Step). (b : List Step) → IsChain (among edges) c.args.last.now b → IsChain (among edges) c.args.last.now (b ++ reverse steps)) (sym c.new-steps.ensures.items) (walk_begins edges c.args.last.now))
+back-init c =
+    let first : c.push.new.self.items ≡ Of c.args.goal.now ∷ [] = c.in_ok-push.ensures.items ∙ ap (λ (l : List Step). l ++ Of c.in_ok-copy.field-0 ∷ []) c.new-steps.ensures.items ∙ ap (λ (x : Vertex). Of x ∷ []) c.in_ok-copy.ensures in
+    record {
+      inside = let some = c.requires.some in omega (arith, some);
+      chain = back_begins (edges_of c.args.sources.now) (steps_of c.args.sources.now) c.args.visits.now c.args.goal.now _ c.push.new.self.items first c.requires.last;
+    }
 
 pub back-preserved : goal.back-preserved
-back-preserved c = λ edges numbers levels best is.
-    let (number, chain) = c.back.invariant edges numbers levels best is in
-    let (less, longer) = walk_step edges numbers levels c.args.before.now best c.back.at.now c.back.left c.in-Some.nearer.now c.args.last.now c.back.steps.items (omega arith) (sym c.in-Some.ensures) number chain in
-    let same : c.back.steps.items ++ c.back.at.now ∷ [] ≡ c.push.new.self.items = ap (λ (s : Step). c.back.steps.items ++ s ∷ []) (sym c.in_ok-copy.ensures) ∙ sym c.in_ok-push.ensures.items in
-    (less, subst (λ (steps : List Step). (b : List Step) → IsChain (among edges) c.in-Some.nearer.now b → IsChain (among edges) c.args.last.now (b ++ reverse steps)) same longer)
-
-pub returns-in_default : goal.returns-in_default
-returns-in_default c = λ edges numbers levels best is.
-    let (number, chain) = c.back.invariant edges numbers levels best is in
-    absurd (walk_lost edges numbers levels c.args.before.now best c.back.at.now c.back.left (omega arith) (sym c.in_default.ensures) number)
+back-preserved c =
+    let E = edges_of c.args.sources.now in
+    let steps = steps_of c.args.sources.now in
+    let visits = c.args.visits.now in
+    let k = c.back.place in
+    let (below, chain) = back_more E steps visits k c.in-Of.vertex (c.requires.each.traced k c.back.invariant.inside) (sym c.step.ensures ∙ c.in-Of.is) in
+    let more : c.push-in-Of.new.self.items ≡ c.back.steps.items ++ Of c.in-Of.vertex ∷ [] = c.in_ok-push-2.ensures.items ∙ ap (λ (x : Vertex). c.back.steps.items ++ Of x ∷ []) c.in_ok-copy-2.ensures in
+    record {
+      inside = let room = c.back.invariant.inside in omega (arith, below, room);
+      chain = λ l h. back_longer E steps visits c.args.goal.now (visited steps visits k) (Of c.in-Of.vertex) c.back.steps.items c.push-in-Of.new.self.items more l (c.back.invariant.chain (l ++ Of c.in-Of.vertex ∷ []) (chain l h));
+    }
 
 pub returns : goal.returns
-returns c = λ edges numbers levels best is.
-    let (number, chain) = c.back.invariant edges numbers levels best is in
-    let none : c.back.left ≡ 0 = omega arith in
-    let same : reverse (c.back.steps.items ++ Main ∷ []) ≡ c.reverse.new.self.items = ap reverse (sym c.in_ok-push-2.ensures.items) ∙ sym c.reverse.ensures.items in
-    subst (λ (steps : List Step). IsChain (among edges) c.args.last.now steps) same
-    (walk_done edges numbers levels c.args.before.now best c.back.at.now c.args.last.now c.back.steps.items (number ∙ ap Some none) chain)
+returns c =
+    let E = edges_of c.args.sources.now in
+    let steps = steps_of c.args.sources.now in
+    let visits = c.args.visits.now in
+    let all : c.reverse.new.self.items ≡ reverse (c.back.steps.items ++ Main ∷ []) = c.reverse.ensures.items ∙ ap reverse c.in_ok-push-3.ensures.items in
+    back_done E steps visits c.args.goal.now (visited steps visits c.back.place) c.back.steps.items c.reverse.new.self.items (sym c.step.ensures ∙ c.in_default.is) all c.back.invariant.chain

@@ -1,16 +1,17 @@
-use Rattle.std.proofs.Common.{◌≡◌, ◌++◌, List, reverse, Some}
-use Rattle.std.specs.BTreeMap.{get}
-use Rattle.gm_graph_select.specs.declared.step.Edge.{Edge}
+use Rattle.std.proofs.Common.{◌++◌, ◌<◌, List, length, reverse}
 use Rattle.gm_graph_select.specs.declared.step.Step.{Step}
-use Rattle.gm_graph_select.specs.Graph.{Vertex, among, vertex_cmp}
+use Rattle.gm_graph_select.specs.declared.step.Step.TheVariants.{Of}
 use Rattle.gm_graph_select.specs.Chains.{IsChain}
-use Rattle.gm_graph_select.specs.Levels.{AreLevels, IsBest, Numbers}
+use Rattle.gm_graph_select.specs.Numbering.{edges_of, steps_of}
+use Rattle.gm_graph_select.specs.Searching.{visited}
 use Rattle.gm_graph_select.proofs.chaining.walk_back.Given as goal
 
--- A chain to the step, followed by the steps on the way back, is a chain to the last one.
+-- A chain to the visited step, followed by the steps on the way back, is a chain to the goal.
 abbrev pub invariant-back : goal.invariant-back
-invariant-back l = (edges : List Edge) (numbers : Numbers) → AreLevels (among edges) numbers → ((y : Vertex) → IsBest edges numbers y (get vertex_cmp l.before y)) → numbers l.last ≡ Some l.level
-    → (numbers l.at ≡ Some l.left) × ((c : List Step) → IsChain (among edges) l.at c → IsChain (among edges) l.last (c ++ reverse l.steps.items))
+invariant-back l = record {
+  inside : l.place < length l.visits;
+  chain : (c : List Step) → IsChain (edges_of l.sources) (visited (steps_of l.sources) l.visits l.place) c → IsChain (edges_of l.sources) (Of l.goal) (c ++ reverse l.steps.items);
+}
 
 abbrev pub decreases-back : goal.decreases-back
-decreases-back l = l.left
+decreases-back l = l.place

@@ -1,0 +1,600 @@
+-- A breadth-first search: one more edge, one more visit, one more level.
+use Rattle.std.proofs.Common.{◌≡◌, ◌≢◌, ◌+◌, ◌-◌, ◌<◌, ◌≤◌, ◌⊎◌, ◌↔◌, ℕ, zero, suc, Bool, true, false, cond, List, [], ◌∷◌, ◌++◌, length, get_or, set, take, replicate, reverse, Contains, ap, ap₂, ◌∙◌, ◌&&◌, sym, refl, subst, inl, inr, arith, length-append, append_assoc}
+use Rattle.std.specs.Prelude.{◌==◌, nat_lt}
+use Rattle.std.specs.Ordering.{is_lt, nat_cmp, ordering_then}
+use Rattle.std.specs.declared.cmp.Ordering.{Ordering}
+use Rattle.std.specs.declared.cmp.Ordering.TheVariants.{Less, Equal, Greater}
+use Rattle.std.specs.Str.{bytes_eq}
+use Rattle.std.proofs.Math.Seq.{get_or-append_seam}
+use Rattle.std.proofs.lemmas.Bool.{cases_eq, cases_lt, eqb-false, eqb-true, false≢true, ltb-true}
+use Rattle.std.proofs.lemmas.List.{get_or_append_left, get_or_default, get_or-replicate, get_or-set_other, get_or-set_same, get_or-take, length-replicate, length-set, length-take-le, reverse-append, take_more}
+use Rattle.std.proofs.lemmas.List.Elements.{Contains-append_left, Contains-append_right, Contains-get_or, Contains-push, Contains-push_cases}
+use Rattle.std.proofs.lemmas.List.Sums.{sum_by-set}
+use Rattle.std.proofs.lemmas.Slice.Eq.{bytes_eq-Decides}
+use Rattle.gm_graph_select.specs.declared.step.Step.{Step}
+use Rattle.gm_graph_select.specs.declared.step.Step.TheVariants.{Main, Of}
+use Rattle.gm_graph_select.specs.declared.step.Edge.{Edge}
+use Rattle.gm_graph_select.specs.declared.numbering.Sources.{Sources}
+use Rattle.gm_graph_select.specs.declared.searching.Visit.{Visit}
+use Rattle.gm_graph_select.specs.Graph.{Vertex, Edges, edge, step_cmp}
+use Rattle.gm_graph_select.specs.Chains.{IsChain, IsLevel, IsPredecessor, IsReached, Leads, along, at_main, begins, goes_on}
+use Rattle.gm_graph_select.specs.Numbering.{AreSources, edges_of, step_at, steps_of}
+use Rattle.gm_graph_select.specs.Order.{IsAscending}
+use Rattle.gm_graph_select.specs.Searching.{AreTraced, AreTried, IsDue, IsFollowed, IsSearchedTo, IsTraced, IsTracedTo, IsTurn, IsWithin, State, count_left, first_state, flag, found_at, visit_at, visited}
+use Rattle.gm_graph_select.proofs.NumberedSteps.{less_number, same_number, source_number}
+
+-- ---- vertices
+
+both : (a b : Bool) → a && b ≡ true → (a ≡ true) × (b ≡ true)
+both true true h = (refl, refl)
+both true false h = absurd (false≢true h)
+both false b h = absurd (false≢true h)
+
+pub vertex_same : (x y : Vertex) → bytes_eq x.0 y.0 && bytes_eq x.1 y.1 ≡ true → x ≡ y
+vertex_same (p, v) (q, w) e =
+    let (paths, versions) = both (bytes_eq p q) (bytes_eq v w) e in
+    let make : List ℕ → List ℕ → Vertex = λ a b. (a, b) in
+    ap₂ make ((bytes_eq-Decides p q).0 paths) ((bytes_eq-Decides v w).0 versions)
+
+pub vertex_differs : (x y : Vertex) → bytes_eq x.0 y.0 && bytes_eq x.1 y.1 ≡ false → x ≢ y
+vertex_differs x y e same =
+    let own : bytes_eq y.0 y.0 && bytes_eq y.1 y.1 ≡ true = ap₂ (λ (a b : Bool). a && b) ((bytes_eq-Decides y.0 y.0).1 refl) ((bytes_eq-Decides y.1 y.1).1 refl) in
+    false≢true (sym e ∙ ap (λ (z : Vertex). bytes_eq z.0 y.0 && bytes_eq z.1 y.1) same ∙ own)
+
+-- ---- levels
+
+is_false : (b : Bool) → (b ≡ true → ⊥) → b ≡ false
+is_false true h = absurd (h refl)
+is_false false h = refl
+
+by_true : (b : Bool) → (b ≡ false → ⊥) → b ≡ true
+by_true true h = refl
+by_true false h = absurd (h refl)
+
+module _ (E : Edges) (n : ℕ) (y : Vertex) (far : IsWithin E n (Of y) → ⊥) where
+  at_least : (s : Step) → E s y → (m : ℕ) → Leads E s m → n ≤ m
+  at_least s e m h = elim (cases_lt m n) [
+    | inl lt ↦ absurd (far (suc m, omega (arith, lt), along h e))
+    | inr ge ↦ ge
+  ]
+
+  -- A vertex that no edge leads to from a step of the level is no level further either.
+  pub not_further : ((s : Step) → IsLevel E s n → E s y → ⊥) → IsWithin E (suc n) (Of y) → ⊥
+  not_further none (k, low, leads) = go k leads low
+    where
+      go : (k : ℕ) → Leads E (Of y) k → k ≤ suc n → ⊥
+      go _ (along {s} {n = j} l e) low =
+          let high = at_least s e j l in
+          let same : j ≡ n = omega (arith, low, high) in
+          none s (record { leads = subst (λ (m : ℕ). Leads E s m) same l; least = at_least s e }) e
+
+  -- A vertex that an edge leads to from a step of the level is one level further.
+  pub is_further : (s : Step) → IsLevel E s n → E s y → IsLevel E (Of y) (suc n)
+  is_further s level e = record {
+    leads = along level.leads e;
+    least = λ m h. elim (cases_lt n m) [ inl lt ↦ omega (arith, lt) | inr ge ↦ absurd (far (m, ge, h)) ];
+  }
+
+leads_none : (E : Edges) (s : Step) → Leads E s zero → s ≡ Main
+leads_none E _ at_main = refl
+
+within_none : (E : Edges) (s : Step) → IsWithin E 0 s → s ≡ Main
+within_none E s (k, low, h) =
+    let none : k ≡ 0 = omega (arith, low) in
+    leads_none E s (subst (λ (m : ℕ). Leads E s m) none h)
+
+main_level : (E : Edges) → IsLevel E Main 0
+main_level E = record { leads = at_main; least = λ m h. omega arith }
+
+-- ---- visits
+
+place_cases : (visits : List Visit) (v : Visit) (k : ℕ) → k < length (visits ++ v ∷ []) → (k < length visits) ⊎ (k ≡ length visits)
+place_cases visits v k below = elim (cases_lt k (length visits)) [
+  | inl lt ↦ inl lt
+  | inr ge ↦ inr (omega (arith, ge, below, length-append visits (v ∷ [])))
+]
+
+pub visit_kept : (visits : List Visit) (v : Visit) (k : ℕ) → k < length visits → visit_at (visits ++ v ∷ []) k ≡ visit_at visits k
+visit_kept visits v k below = get_or_append_left visits (v ∷ []) (record { number = 0; before = 0 }) k below
+
+pub visit_last : (visits : List Visit) (v : Visit) → visit_at (visits ++ v ∷ []) (length visits) ≡ v
+visit_last visits v = get_or-append_seam visits v [] (record { number = 0; before = 0 })
+
+module _ (E : Edges) (steps : List Step) (visits : List Visit) (v : Visit) where
+  traced_later : (place later : ℕ) (w : Visit) → place ≤ length visits → place ≤ later → IsTraced E steps visits place w → IsTraced E steps (visits ++ v ∷ []) later w
+  traced_later place later w inside le (inl main) = inl main
+  traced_later place later w inside le (inr (y, is, below, before)) = inr (
+    y,
+    is,
+    omega (arith, below, le),
+    subst (λ (u : Visit). IsPredecessor E (step_at steps u.number) y) (sym (visit_kept visits v w.before (omega (arith, below, inside)))) before,
+  )
+
+  pub traced_more : (w : Visit) → IsTraced E steps visits (length visits) w → IsTraced E steps (visits ++ v ∷ []) (length (visits ++ v ∷ [])) w
+  traced_more w h = traced_later (length visits) (length (visits ++ v ∷ [])) w (omega arith) (omega (arith, length-append visits (v ∷ []))) h
+
+  pub all_traced : v.number < length steps → IsTraced E steps visits (length visits) v → AreTraced E steps visits → AreTraced E steps (visits ++ v ∷ [])
+  all_traced inside traced each = record { inside = insides; traced = all }
+    where
+      insides : (k : ℕ) → k < length (visits ++ v ∷ []) → (visit_at (visits ++ v ∷ []) k).number < length steps
+      insides k below = elim (place_cases visits v k below) [
+        | inl lt ↦ subst (λ (u : Visit). u.number < length steps) (sym (visit_kept visits v k lt)) (each.inside k lt)
+        | inr is ↦ subst (λ (u : Visit). u.number < length steps) (sym (ap (visit_at (visits ++ v ∷ [])) is ∙ visit_last visits v)) inside
+      ]
+
+      last : (k : ℕ) → k ≡ length visits → IsTraced E steps (visits ++ v ∷ []) k (visit_at (visits ++ v ∷ []) k)
+      last k is = subst (λ (u : Visit). IsTraced E steps (visits ++ v ∷ []) k u) (sym (ap (visit_at (visits ++ v ∷ [])) is ∙ visit_last visits v))
+          (traced_later (length visits) k v (omega arith) (omega (arith, is)) traced)
+
+      all : (k : ℕ) → k < length (visits ++ v ∷ []) → IsTraced E steps (visits ++ v ∷ []) k (visit_at (visits ++ v ∷ []) k)
+      all k below = elim (place_cases visits v k below) [
+        | inl lt ↦ subst (λ (u : Visit). IsTraced E steps (visits ++ v ∷ []) k u) (sym (visit_kept visits v k lt))
+            (traced_later k k (visit_at visits k) (omega (arith, lt)) (omega arith) (each.traced k lt))
+        | inr is ↦ last k is
+      ]
+
+-- ---- one more edge
+
+set_true : (found : List Bool) (i j : ℕ) → i < length found → found_at found j ≡ true → found_at (set found i true) j ≡ true
+set_true found i j below h = elim (cases_eq j i) [
+  | inl is ↦ subst (λ (k : ℕ). found_at (set found i true) k ≡ true) (sym is) (get_or-set_same found i true false below)
+  | inr ne ↦ get_or-set_other found i j true false ne ∙ h
+]
+
+count_set : (found : List Bool) (i : ℕ) → i < length found → found_at found i ≡ false → count_left (set found i true) + 1 ≡ count_left found
+count_set found i below none =
+    let sums = sum_by-set (λ (b : Bool). cond b 0 1) found i true false below in
+    let one : cond (found_at found i) 0 1 ≡ 1 = ap {B = ℕ} (λ (b : Bool). cond b 0 1) none in
+    omega (arith, sums, one)
+
+module _ (S : Sources) (goal : Vertex) (level : ℕ) (before : List Bool) (tried : List Edge) where
+  -- An edge whose end was found, if it has a number.
+  pub with_edge : (state : State) (e : Edge) → e.to ≢ goal → ((i : ℕ) → i < length (steps_of S) → step_at (steps_of S) i ≡ Of e.to → found_at state.found i ≡ true) → IsFollowed S goal level before tried state → IsFollowed S goal level before (tried ++ e ∷ []) state
+  with_edge state e miss end f = record {
+    size = f.size;
+    keeps = f.keeps;
+    news = f.news;
+    inside = f.inside;
+    found = f.found;
+    on_level = f.on_level;
+    traced = f.traced;
+    once = f.once;
+    ends = λ a h. elim (Contains-push_cases tried e a h) [
+      | inl old ↦ f.ends a old
+      | inr new ↦ subst (λ (b : Edge). (i : ℕ) → i < length (steps_of S) → step_at (steps_of S) i ≡ Of b.to → found_at state.found i ≡ true) new end
+    ];
+    misses = λ a h. elim (Contains-push_cases tried e a h) [ inl old ↦ f.misses a old | inr new ↦ subst (λ (b : Edge). b.to ≢ goal) new miss ];
+    visits = f.visits;
+    count = f.count;
+  }
+
+  -- One more visit.
+  pub with_visit : (found : List Bool) (visits next : List Visit) (v : Visit) → v.number < length (steps_of S) → IsTraced (edges_of S) (steps_of S) visits (length visits) v → IsFollowed S goal level before tried (record { found = found; visits = visits; next = next }) → IsFollowed S goal level before tried (record { found = found; visits = visits ++ v ∷ []; next = next })
+  with_visit found visits next v inside traced f = record {
+    size = f.size;
+    keeps = f.keeps;
+    news = f.news;
+    inside = f.inside;
+    found = f.found;
+    on_level = f.on_level;
+    traced = λ w h. traced_more (edges_of S) (steps_of S) visits v w (f.traced w h);
+    once = f.once;
+    ends = f.ends;
+    misses = f.misses;
+    visits = all_traced (edges_of S) (steps_of S) visits v inside traced f.visits;
+    count = f.count;
+  }
+
+  -- The end of an edge is found.
+  pub with_end : (found : List Bool) (visits next : List Visit) (i place : ℕ) (e : Edge) → AreSources S → IsTurn S level before tried e.from → visited (steps_of S) visits place ≡ e.from → place < length visits → Contains S.edges.now e
+      → i < length (steps_of S) → step_at (steps_of S) i ≡ Of e.to → found_at found i ≡ false → IsFollowed S goal level before tried (record { found = found; visits = visits; next = next })
+      → IsFollowed S goal level before tried (record { found = set found i true; visits = visits; next = next ++ record { number = i; before = place } ∷ [] })
+  with_end found visits next i place e are turn here room there inside is none f = record {
+    size = length-set found i true ∙ f.size;
+    keeps = λ j h. set_true found i j below (f.keeps j h);
+    news = news;
+    inside = λ w h. elim (Contains-push_cases next v w h) [ inl old ↦ f.inside w old | inr new ↦ subst (λ (u : Visit). u.number < length (steps_of S)) new inside ];
+    found = λ w h. elim (Contains-push_cases next v w h) [
+      | inl old ↦ set_true found i w.number below (f.found w old)
+      | inr new ↦ subst (λ (u : Visit). found_at (set found i true) u.number ≡ true) new (get_or-set_same found i true false below)
+    ];
+    on_level = λ w h. elim (Contains-push_cases next v w h) [
+      | inl old ↦ f.on_level w old
+      | inr new ↦ subst (λ (u : Visit). IsLevel (edges_of S) (step_at (steps_of S) u.number) (suc level)) new
+          (subst (λ (s : Step). IsLevel (edges_of S) s (suc level)) (sym is) further)
+    ];
+    traced = λ w h. elim (Contains-push_cases next v w h) [
+      | inl old ↦ f.traced w old
+      | inr new ↦ subst (λ (u : Visit). IsTraced (edges_of S) (steps_of S) visits (length visits) u) new (inr (e.to, is, room, predecessor))
+    ];
+    once = λ w u h g. elim (Contains-push_cases next v w h) [
+      | inl old ↦ elim (Contains-push_cases next v u g) [
+        | inl other ↦ λ same. f.once w u old other same
+        | inr new ↦ λ same. absurd (unlike w u old new same)
+      ]
+      | inr new ↦ elim (Contains-push_cases next v u g) [
+        | inl other ↦ λ same. absurd (unlike u w other new (sym same))
+        | inr too ↦ λ same. sym new ∙ too
+      ]
+    ];
+    ends = λ a h j low at. set_true found i j below (f.ends a h j low at);
+    misses = f.misses;
+    visits = f.visits;
+    count = let fewer = count_set found i below none in let old = f.count in omega (arith, length-append next (v ∷ []), fewer, old);
+  }
+    where
+      v : Visit
+      v = record { number = i; before = place }
+
+      below : i < length found
+      below = let size = f.size in omega (arith, size, inside)
+
+      far : IsWithin (edges_of S) level (Of e.to) → ⊥
+      far w = false≢true (sym none ∙ f.keeps i (turn.full i inside (subst (λ (s : Step). IsWithin (edges_of S) level s) (sym is) w)))
+
+      further : IsLevel (edges_of S) (Of e.to) (suc level)
+      further = is_further (edges_of S) level e.to far e.from turn.on_level there
+
+      predecessor : IsPredecessor (edges_of S) (visited (steps_of S) visits place) e.to
+      predecessor = subst (λ (s : Step). IsPredecessor (edges_of S) s e.to) (sym here) (record {
+        is_edge = there;
+        level = level;
+        nearer = turn.on_level;
+        further = further;
+        least = λ t h l. is_false (is_lt (step_cmp t e.from)) (λ low. false≢true (sym none ∙ f.ends (edge t e.to) (turn.lower t e.to h l low) i inside is));
+      })
+
+      news : (j : ℕ) → found_at (set found i true) j ≡ true → (found_at before j ≡ true) ⊎ ((w : Visit) × Contains (next ++ v ∷ []) w × (w.number ≡ j))
+      news j h = elim (cases_eq j i) [
+        | inl same ↦ inr (v, Contains-push next v, sym same)
+        | inr ne ↦ elim (f.news j (sym (get_or-set_other found i j true false ne) ∙ h)) [
+          | inl old ↦ inl old
+          | inr (w, in', at) ↦ inr (w, Contains-append_left next (v ∷ []) w in', at)
+        ]
+      ]
+
+      unlike : (w u : Visit) → Contains next w → v ≡ u → w.number ≡ u.number → ⊥
+      unlike w u old new same = false≢true (sym none ∙ ap (found_at found) (ap (λ (x : Visit). x.number) new ∙ sym same) ∙ f.found w old)
+
+  -- The goal is found.
+  pub goal_found : (state : State) (s : Step) → edges_of S s goal → IsTurn S level before tried s → (IsWithin (edges_of S) level (Of goal) → ⊥) → IsFollowed S goal level before tried state → IsPredecessor (edges_of S) s goal
+  goal_found state s there turn far f = record {
+    is_edge = there;
+    level = level;
+    nearer = turn.on_level;
+    further = is_further (edges_of S) level goal far s turn.on_level there;
+    least = λ t h l. is_false (is_lt (step_cmp t s)) (λ low. f.misses (edge t goal) (turn.lower t goal h l low) refl);
+  }
+
+  pub turn_later : (more : List Edge) (s : Step) → IsTurn S level before tried s → IsTurn S level before (tried ++ more) s
+  turn_later more s turn = record {
+    on_level = turn.on_level;
+    lower = λ t y h l low. Contains-append_left tried more (edge t y) (turn.lower t y h l low);
+    full = turn.full;
+  }
+
+  -- The goal is found by an edge that leaves the last visited step.
+  pub found_here : (state : State) (old : List Visit) (v : Visit) (e : Edge) → state.visits ≡ old ++ v ∷ [] → e.to ≡ goal → Contains S.edges.now e → e.from ≡ step_at (steps_of S) v.number
+      → IsTurn S level before tried (step_at (steps_of S) v.number) → (IsWithin (edges_of S) level (Of goal) → ⊥) → IsFollowed S goal level before tried state → IsTracedTo S goal state.visits
+  found_here state old v e visits to there from turn far f = record {
+    each = f.visits;
+    some = let long = ap length visits in omega (arith, long, length-append old (v ∷ []));
+    last = subst (λ (s : Step). IsPredecessor (edges_of S) s goal) (sym last) (goal_found state (step_at (steps_of S) v.number) here turn far f);
+  }
+    where
+      here : edges_of S (step_at (steps_of S) v.number) goal
+      here = subst (λ (s : Step). edges_of S s goal) from (subst (λ (y : Vertex). edges_of S e.from y) to there)
+
+      place : length state.visits - 1 ≡ length old
+      place = let long = ap length visits in omega (arith, long, length-append old (v ∷ []))
+
+      last : visited (steps_of S) state.visits (length state.visits - 1) ≡ step_at (steps_of S) v.number
+      last = ap (visited (steps_of S) state.visits) place ∙ ap (λ (vs : List Visit). visited (steps_of S) vs (length old)) visits
+          ∙ ap (λ (u : Visit). step_at (steps_of S) u.number) (visit_last old v)
+
+pub one_more : (done edges : List Edge) (i : ℕ) (e : Edge) → i < length edges → e ≡ get_or edges i e → (done ++ take i edges) ++ e ∷ [] ≡ done ++ take (i + 1) edges
+one_more done edges i e below is =
+    append_assoc done (take i edges) (e ∷ [])
+    ∙ ap (λ (es : List Edge). done ++ es) (ap (λ (a : Edge). take i edges ++ a ∷ []) is ∙ sym (take_more edges i e below))
+
+pub last_visit : (steps : List Step) (visits : List Visit) (v : Visit) (all : List Visit) (p : ℕ) → all ≡ visits ++ v ∷ [] → p ≡ length visits → (visited steps all p ≡ step_at steps v.number) × (p < length all)
+last_visit steps visits v all p is at = (
+  ap (λ (vs : List Visit). visited steps vs p) is ∙ ap (visited steps (visits ++ v ∷ [])) at ∙ ap (λ (u : Visit). step_at steps u.number) (visit_last visits v),
+  (let long = ap length is in omega (arith, long, at, length-append visits (v ∷ []))),
+)
+
+-- ---- one more visit of a level
+
+pub one_tried : (S : Sources) (v : Visit) (more : List Edge) → ((y : Vertex) → edges_of S (step_at (steps_of S) v.number) y → Contains more (edge (step_at (steps_of S) v.number) y)) → AreTried S (v ∷ []) more
+one_tried S v more all w (k, inside, at) y e = elim (cases_eq k 0) [
+  | inl nil ↦
+      let same : v ≡ w = subst (λ (n : ℕ). get_or (v ∷ []) n w ≡ w) nil at in
+      subst (λ (u : Visit). edges_of S (step_at (steps_of S) u.number) y → Contains more (edge (step_at (steps_of S) u.number) y)) same (all y) e
+  | inr ne ↦ absurd (omega (arith, inside, ne))
+]
+
+pub tried_none : (S : Sources) (due : List Visit) → AreTried S (take 0 due) []
+tried_none S due v h = absurd (omega (arith, h.1))
+
+pub tried_more : (S : Sources) (due : List Visit) (i : ℕ) (v : Visit) (tried more : List Edge) → i < length due → v ≡ get_or due i v → AreTried S (take i due) tried → AreTried S (v ∷ []) more → AreTried S (take (i + 1) due) (tried ++ more)
+tried_more S due i v tried more below is old new w (k, inside, at) y e = elim (cases_lt k i) [
+  | inl lt ↦ Contains-append_left tried more (edge (step_at (steps_of S) w.number) y) (old w (k, omega (arith, length-take-le i due (omega (arith, below)), lt), get_or-take i due k w lt ∙ sym (get_or-take (i + 1) due k w (omega (arith, lt))) ∙ at) y e)
+  | inr ge ↦
+      let last : k ≡ i = omega (arith, ge, inside, length-take-le (i + 1) due (omega (arith, below))) in
+      let same : v ≡ w = is ∙ get_or_default due i v w below ∙ ap (λ (n : ℕ). get_or due n w) (sym last) ∙ sym (get_or-take (i + 1) due k w (omega (arith, last))) ∙ at in
+      Contains-append_right tried more (edge (step_at (steps_of S) w.number) y) (new w (0, omega arith, same) y e)
+]
+
+-- No edge was followed yet.
+pub level_begins : (S : Sources) (goal : Vertex) (level : ℕ) (start : State) (due : List Visit) → IsSearchedTo S goal level start due → IsFollowed S goal level start.found [] start
+level_begins S goal level start due h = record {
+  size = h.size;
+  keeps = λ i g. g;
+  news = λ i g. inl g;
+  inside = λ v there. absurd (nothing v there);
+  found = λ v there. absurd (nothing v there);
+  on_level = λ v there. absurd (nothing v there);
+  traced = λ v there. absurd (nothing v there);
+  once = λ v w there. absurd (nothing v there);
+  ends = λ e there. absurd (omega (arith, there.1));
+  misses = λ e there. absurd (omega (arith, there.1));
+  visits = h.visits;
+  count = let long = ap length h.none in omega (arith, long);
+}
+  where
+    nothing : (v : Visit) → Contains start.next v → ⊥
+    nothing v there =
+        let (k, below, at) = subst (λ (vs : List Visit). Contains vs v) h.none there in
+        omega (arith, below)
+
+-- A visit of the level is due after those before it.
+pub due_next : (S : Sources) (goal : Vertex) (level : ℕ) (start state : State) (due : List Visit) (tried : List Edge) (i : ℕ) (v : Visit) → AreSources S → IsSearchedTo S goal level start due → i < length due → v ≡ get_or due i v → AreTried S (take i due) tried
+    → IsTraced (edges_of S) (steps_of S) state.visits (length state.visits) v → IsFollowed S goal level start.found tried state → IsDue S goal level start.found tried state v
+due_next S goal level start state due tried i v are h below is all traced f = record {
+  turn = record { on_level = h.on_level v member; lower = lower; full = λ j inside w. (h.found j inside).1 w };
+  far = h.far;
+  traced = traced;
+  followed = f;
+}
+  where
+    member : Contains due v
+    member = (i, below, sym is)
+
+    lower : (t : Step) (y : Vertex) → edges_of S t y → IsLevel (edges_of S) t level → is_lt (step_cmp t (step_at (steps_of S) v.number)) ≡ true → Contains tried (edge t y)
+    lower t y e l low =
+        let (j, inside, at) = source_number S.edges.now S.list.items are.left t y e in
+        let (w, (p, room, found), number) = h.listed j inside (subst (λ (s : Step). IsLevel (edges_of S) s level) (sym at) l) in
+        let less : j < v.number = less_number (steps_of S) are.left.ascending j v.number inside (h.inside v member) (subst (λ (s : Step). is_lt (step_cmp s (step_at (steps_of S) v.number)) ≡ true) (sym at) low) in
+        let same : step_at (steps_of S) w.number ≡ t = ap (step_at (steps_of S)) number ∙ at in
+        subst (λ (s : Step). Contains tried (edge s y)) same (elim (cases_lt p i) [
+          | inl lt ↦ all w (p, omega (arith, length-take-le i due (omega (arith, below)), lt), get_or-take i due p w lt ∙ found) y (subst (λ (s : Step). edges_of S s y) (sym same) e)
+          | inr ge ↦ absurd (
+              let here : (visit_at due i).number ≡ v.number = ap (λ (u : Visit). u.number) (get_or_default due i (record { number = 0; before = 0 }) v below ∙ sym is) in
+              let there : (visit_at due p).number ≡ j = ap (λ (u : Visit). u.number) (get_or_default due p (record { number = 0; before = 0 }) w room ∙ found) ∙ number in
+              elim (cases_lt i p) [
+                | inl lt ↦ let up = h.ascending i p lt room in omega (arith, up, here, there, less)
+                | inr le ↦
+                    let equal : i ≡ p = omega (arith, ge, le) in
+                    let twice : v.number ≡ j = sym here ∙ ap (λ (n : ℕ). (visit_at due n).number) equal ∙ there in
+                    omega (arith, twice, less)
+              ])
+        ])
+
+-- ---- one more level
+
+module _ (S : Sources) (goal : Vertex) (level : ℕ) (start : State) (due : List Visit) (tried : List Edge) (state : State) (are : AreSources S) (h : IsSearchedTo S goal level start due) (all : AreTried S due tried) (f : IsFollowed S goal level start.found tried state) where
+  E : Edges
+  E = edges_of S
+
+  tried_edge : (s : Step) (y : Vertex) → IsLevel (edges_of S) s level → edges_of S s y → Contains tried (edge s y)
+  tried_edge s y l e =
+      let (i, inside, at) = source_number S.edges.now S.list.items are.left s y e in
+      let (v, there, number) = h.listed i inside (subst (λ (t : Step). IsLevel (edges_of S) t level) (sym at) l) in
+      let same : step_at (steps_of S) v.number ≡ s = ap (step_at (steps_of S)) number ∙ at in
+      subst (λ (t : Step). Contains tried (edge t y)) same (all v there y (subst (λ (t : Step). edges_of S t y) (sym same) e))
+
+  found_old : (i : ℕ) → i < length (steps_of S) → IsWithin (edges_of S) level (step_at (steps_of S) i) → found_at state.found i ≡ true
+  found_old i inside w = f.keeps i ((h.found i inside).1 w)
+
+  found_next : (i : ℕ) → i < length (steps_of S) → IsWithin (edges_of S) (suc level) (step_at (steps_of S) i) → found_at state.found i ≡ true
+  found_next i inside w = by_true (found_at state.found i) (λ none. go none (step_at (steps_of S) i) refl)
+    where
+      go : found_at state.found i ≡ false → (s : Step) → step_at (steps_of S) i ≡ s → ⊥
+      go none Main is = false≢true (sym none ∙ found_old i inside (subst (λ (s : Step). IsWithin (edges_of S) level s) (sym is) (0, omega arith, at_main)))
+      go none (Of y) is = not_further (edges_of S) level y
+          (λ g. false≢true (sym none ∙ found_old i inside (subst (λ (s : Step). IsWithin (edges_of S) level s) (sym is) g)))
+          (λ s l e. false≢true (sym none ∙ f.ends (edge s y) (tried_edge s y l e) i inside is))
+          (subst (λ (s : Step). IsWithin (edges_of S) (suc level) s) is w)
+
+  pub level_more : (next : List Visit) → ((v : Visit) → Contains state.next v ↔ Contains next v) → ((i j : ℕ) → i < j → j < length next → (visit_at next i).number < (visit_at next j).number)
+      → IsSearchedTo S goal (suc level) (record { found = state.found; visits = state.visits; next = [] }) next
+  level_more next same up = record {
+    size = f.size;
+    found = λ i inside. ((λ g. within i inside g), (λ w. found_next i inside w));
+    listed = dues;
+    inside = λ v there. f.inside v ((same v).1 there);
+    on_level = λ v there. f.on_level v ((same v).1 there);
+    traced = λ v there. f.traced v ((same v).1 there);
+    ascending = up;
+    visits = f.visits;
+    far = not_further (edges_of S) level goal h.far (λ s l e. f.misses (edge s goal) (tried_edge s goal l e) refl);
+    none = refl;
+  }
+    where
+      within : (i : ℕ) → i < length (steps_of S) → found_at state.found i ≡ true → IsWithin (edges_of S) (suc level) (step_at (steps_of S) i)
+      within i inside g = elim (f.news i g) [
+        | inl old ↦ let (k, low, l) = (h.found i inside).0 old in (k, omega (arith, low), l)
+        | inr (v, there, number) ↦ (suc level, omega arith, subst (λ (n : ℕ). Leads (edges_of S) (step_at (steps_of S) n) (suc level)) number (f.on_level v there).leads)
+      ]
+
+      dues : (i : ℕ) → i < length (steps_of S) → IsLevel (edges_of S) (step_at (steps_of S) i) (suc level) → (v : Visit) × Contains next v × (v.number ≡ i)
+      dues i inside l = elim (f.news i (found_next i inside (suc level, omega arith, l.leads))) [
+        | inl old ↦ absurd (let (k, low, g) = (h.found i inside).0 old in let high = l.least k g in omega (arith, low, high))
+        | inr (v, there, number) ↦ (v, (same v).0 there, number)
+      ]
+
+pub level_taken : (S : Sources) (goal : Vertex) (level : ℕ) (found new_found : List Bool) (visits new_visits next due : List Visit) → new_found ≡ found → new_visits ≡ visits → next ≡ []
+    → IsSearchedTo S goal level (record { found = found; visits = visits; next = [] }) due → IsSearchedTo S goal level (record { found = new_found; visits = new_visits; next = next }) due
+level_taken S goal level found new_found visits new_visits next due same alike none h =
+    subst (λ (bs : List Bool). IsSearchedTo S goal level (record { found = bs; visits = new_visits; next = next }) due) (sym same)
+    (subst (λ (vs : List Visit). IsSearchedTo S goal level (record { found = found; visits = vs; next = next }) due) (sym alike)
+    (subst (λ (vs : List Visit). IsSearchedTo S goal level (record { found = found; visits = visits; next = vs }) due) (sym none) h))
+
+-- Where a level has no steps, nothing more is found.
+pub not_reached : (S : Sources) (goal : Vertex) (level : ℕ) (state : State) (due : List Visit) → AreSources S → IsSearchedTo S goal level state due → due ≡ [] → IsReached (edges_of S) (Of goal) → ⊥
+not_reached S goal level state due are h empty (n, leads) = last n leads
+  where
+    no_level : (s : Step) (y : Vertex) → IsLevel (edges_of S) s level → edges_of S s y → ⊥
+    no_level s y l e =
+        let (i, inside, at) = source_number S.edges.now S.list.items are.left s y e in
+        let (v, there, number) = h.listed i inside (subst (λ (t : Step). IsLevel (edges_of S) t level) (sym at) l) in
+        let (k, below, is) = subst (λ (vs : List Visit). Contains vs v) empty there in
+        omega (arith, below)
+
+    all_found : (s : Step) (k : ℕ) → Leads (edges_of S) s k → (y : Vertex) → edges_of S s y → IsWithin (edges_of S) level s
+    all_found _ _ at_main y e = (0, omega arith, at_main)
+    all_found _ _ (along {s} {y = z} {n = k} l a) y e =
+        let (m, low, near) = all_found s k l z a in
+        let (i, inside, at) = source_number S.edges.now S.list.items are.left (Of z) y e in
+        let to_found : IsWithin (edges_of S) level (Of z) → found_at state.found i ≡ true = λ w. (h.found i inside).1 (subst (λ (t : Step). IsWithin (edges_of S) level t) (sym at) w) in
+        let found : found_at state.found i ≡ true = by_true (found_at state.found i) (λ none.
+        not_further (edges_of S) level z (λ w. false≢true (sym none ∙ to_found w)) (λ t l2 e2. no_level t z l2 e2) (suc m, omega (arith, low), along near a)) in
+        subst (λ (t : Step). IsWithin (edges_of S) level t) at ((h.found i inside).0 found)
+
+    last : (n : ℕ) → Leads (edges_of S) (Of goal) n → ⊥
+    last _ (along {s} {n = k} l e) =
+        let (m, low, near) = all_found s k l goal e in
+        not_further (edges_of S) level goal h.far (λ t l2 e2. no_level t goal l2 e2) (suc m, omega (arith, low), along near e)
+
+-- ---- the first level
+
+pub first_level : (S : Sources) (goal : Vertex) (due : List Visit) → AreSources S → 0 < length (steps_of S) → step_at (steps_of S) 0 ≡ Main → due ≡ record { number = 0; before = 0 } ∷ [] → IsSearchedTo S goal 0 (first_state (length (steps_of S))) due
+first_level S goal due are some main is = subst (λ (d : List Visit). IsSearchedTo S goal 0 (first_state (length (steps_of S))) d) (sym is) (record {
+  size = length-set none 0 true ∙ length-replicate (length (steps_of S)) false;
+  found = λ i inside. (from i inside, to i inside);
+  listed = λ i inside l. (v, (0, omega arith, refl), sym (only i inside (leads_none (edges_of S) (step_at (steps_of S) i) l.leads)));
+  inside = λ w there. subst (λ (u : Visit). u.number < length (steps_of S)) (one w there) some;
+  on_level = λ w there. subst (λ (u : Visit). IsLevel (edges_of S) (step_at (steps_of S) u.number) 0) (one w there) (subst (λ (s : Step). IsLevel (edges_of S) s 0) (sym main) (main_level (edges_of S)));
+  traced = λ w there. inl (subst (λ (u : Visit). step_at (steps_of S) u.number ≡ Main) (one w there) main);
+  ascending = λ i j lt below. absurd (omega (arith, lt, below));
+  visits = record { inside = λ k below. absurd (omega (arith, below)); traced = λ k below. absurd (omega (arith, below)) };
+  far = λ w. absurd (let same : Of goal ≡ Main = within_none (edges_of S) (Of goal) w in cc same);
+  none = refl;
+})
+  where
+    v : Visit
+    v = record { number = 0; before = 0 }
+
+    none : List Bool
+    none = replicate (length (steps_of S)) false
+
+    below : 0 < length none
+    below = let size = length-replicate (length (steps_of S)) false in omega (arith, size, some)
+
+    one : (w : Visit) → Contains (v ∷ []) w → v ≡ w
+    one w (k, inside, at) = elim (cases_eq k 0) [
+      | inl nil ↦ subst (λ (n : ℕ). get_or (v ∷ []) n w ≡ w) nil at
+      | inr ne ↦ absurd (omega (arith, inside, ne))
+    ]
+
+    only : (i : ℕ) → i < length (steps_of S) → step_at (steps_of S) i ≡ Main → i ≡ 0
+    only i inside at = same_number (steps_of S) are.left.ascending i 0 inside some (at ∙ sym main)
+
+    from : (i : ℕ) → i < length (steps_of S) → found_at (set none 0 true) i ≡ true → IsWithin (edges_of S) 0 (step_at (steps_of S) i)
+    from i inside g = elim (cases_eq i 0) [
+      | inl nil ↦ subst (λ (n : ℕ). IsWithin (edges_of S) 0 (step_at (steps_of S) n)) (sym nil) (subst (λ (s : Step). IsWithin (edges_of S) 0 s) (sym main) (0, omega arith, at_main))
+      | inr ne ↦ absurd (false≢true (sym (get_or-set_other none 0 i true false ne ∙ get_or-replicate (length (steps_of S)) i false false inside) ∙ g))
+    ]
+
+    to : (i : ℕ) → i < length (steps_of S) → IsWithin (edges_of S) 0 (step_at (steps_of S) i) → found_at (set none 0 true) i ≡ true
+    to i inside w = subst (λ (n : ℕ). found_at (set none 0 true) n ≡ true) (sym (only i inside (within_none (edges_of S) (step_at (steps_of S) i) w))) (get_or-set_same none 0 true false below)
+
+-- Where no edge leaves the main module, nothing is reached.
+pub main_left : (S : Sources) (goal : Vertex) → ((y : Vertex) → edges_of S Main y → ⊥) → IsReached (edges_of S) (Of goal) → ⊥
+main_left S goal none (n, leads) = last n leads
+  where
+    from_main : (s : Step) (k : ℕ) → Leads (edges_of S) s k → (y : Vertex) → edges_of S s y → ⊥
+    from_main _ _ at_main y e = none y e
+    from_main _ _ (along {s} {y = z} {n = k} l a) y e = from_main s k l z a
+
+    last : (n : ℕ) → Leads (edges_of S) (Of goal) n → ⊥
+    last _ (along {s} {n = k} l e) = from_main s k l goal e
+
+-- ---- the visits to the next level in order
+
+abbrev pub visit_cmp : Visit → Visit → Ordering
+visit_cmp a b = ordering_then (nat_cmp a.number b.number) (nat_cmp a.before b.before)
+
+less_is : (x y : ℕ) → nat_cmp x y ≡ Less → x < y
+less_is x y e = ltb-true x y (pick (nat_lt x y) (x == y) e)
+  where
+    pick : (a b : Bool) → cond a Less (cond b Equal Greater) ≡ Less → a ≡ true
+    pick true b e = refl
+    pick false true e = cc
+    pick false false e = cc
+
+equal_is : (x y : ℕ) → nat_cmp x y ≡ Equal → x ≡ y
+equal_is x y e = eqb-true x y (pick (nat_lt x y) (x == y) e)
+  where
+    pick : (a b : Bool) → cond a Less (cond b Equal Greater) ≡ Equal → b ≡ true
+    pick true b e = cc
+    pick false true e = refl
+    pick false false e = cc
+
+visit_less : (a b : Visit) → visit_cmp a b ≡ Less → (a.number < b.number) ⊎ ((a.number ≡ b.number) × (a.before < b.before))
+visit_less a b e = go (nat_cmp a.number b.number) refl e
+  where
+    go : (r : Ordering) → nat_cmp a.number b.number ≡ r → ordering_then r (nat_cmp a.before b.before) ≡ Less → (a.number < b.number) ⊎ ((a.number ≡ b.number) × (a.before < b.before))
+    go Less is e = inl (less_is a.number b.number is)
+    go Equal is e = inr (equal_is a.number b.number is, less_is a.before b.before e)
+    go Greater is e = cc
+
+pub in_order : (next sorted : List Visit) → IsAscending visit_cmp sorted → ((v : Visit) → Contains next v ↔ Contains sorted v) → ((v w : Visit) → Contains next v → Contains next w → v.number ≡ w.number → v ≡ w)
+    → (i j : ℕ) → i < j → j < length sorted → (visit_at sorted i).number < (visit_at sorted j).number
+in_order next sorted up same once i j lt below = elim (visit_less (visit_at sorted i) (visit_at sorted j) (up i j (record { number = 0; before = 0 }) lt below)) [
+  | inl less ↦ less
+  | inr (equal, later) ↦
+      let a = (same (visit_at sorted i)).1 (Contains-get_or sorted i (record { number = 0; before = 0 }) (omega (arith, lt, below))) in
+      let b = (same (visit_at sorted j)).1 (Contains-get_or sorted j (record { number = 0; before = 0 }) below) in
+      let alike : (visit_at sorted i).before ≡ (visit_at sorted j).before = ap (λ (v : Visit). v.before) (once (visit_at sorted i) (visit_at sorted j) a b equal) in
+      absurd (omega (arith, alike, later))
+]
+
+pub flag_same : (next sorted : List Visit) → ((v : Visit) → Contains next v ↔ Contains sorted v) → flag sorted ≤ length next
+flag_same next [] same = omega arith
+flag_same next (v ∷ sorted) same =
+    let (k, below, at) = (same v).1 (0, omega arith, refl) in
+    omega (arith, below)
+
+pub no_due : (due : List Visit) (n : ℕ) → length due ≡ n → (n == 0) ≡ true → due ≡ []
+no_due [] n is h = refl
+no_due (v ∷ due) n is h = absurd (let nil = eqb-true n 0 h in omega (arith, is, nil))
+
+pub some_due : (due : List Visit) (n : ℕ) → length due ≡ n → (n == 0) ≡ false → flag due ≡ 1
+some_due [] n is h = absurd (let apart = eqb-false n 0 h in apart (sym is))
+some_due (v ∷ due) n is h = refl
+
+-- ---- the way back
+
+module _ (E : Edges) (steps : List Step) (visits : List Visit) where
+  pub back_begins : (goal : Vertex) (p : ℕ) (items : List Step) → items ≡ Of goal ∷ [] → IsPredecessor E (visited steps visits p) goal → (c : List Step) → IsChain E (visited steps visits p) c → IsChain E (Of goal) (c ++ reverse items)
+  back_begins goal p items is before c h = subst (λ (l : List Step). IsChain E (Of goal) (c ++ reverse l)) (sym is) (goes_on h before)
+
+  -- one step back
+  pub back_more : (k : ℕ) (x : Vertex) → IsTraced E steps visits k (visit_at visits k) → visited steps visits k ≡ Of x → ((visit_at visits k).before < k) × ((c : List Step) → IsChain E (visited steps visits (visit_at visits k).before) c → IsChain E (visited steps visits k) (c ++ Of x ∷ []))
+  back_more k x (inl main) at = absurd (let wrong : Main ≡ Of x = sym main ∙ at in cc wrong)
+  back_more k x (inr (y, is, below, before)) at = (
+    below,
+    λ c h.
+        let same : y ≡ x = (let e : Of y ≡ Of x = sym is ∙ at in cc e) in
+        subst (λ (s : Step). IsChain E s (c ++ Of x ∷ [])) (sym at) (goes_on h (subst (λ (z : Vertex). IsPredecessor E (visited steps visits (visit_at visits k).before) z) same before)),
+  )
+
+  pub back_longer : (goal : Vertex) (at s : Step) (items more : List Step) → more ≡ items ++ s ∷ [] → (c : List Step) → IsChain E (Of goal) ((c ++ s ∷ []) ++ reverse items) → IsChain E (Of goal) (c ++ reverse more)
+  back_longer goal at s items more is c h = subst (λ (l : List Step). IsChain E (Of goal) l)
+      (append_assoc c (s ∷ []) (reverse items) ∙ ap (λ (l : List Step). c ++ l) (sym (ap reverse is ∙ reverse-append items (s ∷ [])))) h
+
+  -- The main module was reached.
+  pub back_done : (goal : Vertex) (at : Step) (items all : List Step) → at ≡ Main → all ≡ reverse (items ++ Main ∷ []) → ((c : List Step) → IsChain E at c → IsChain E (Of goal) (c ++ reverse items)) → IsChain E (Of goal) all
+  back_done goal at items all main is chain = subst (λ (l : List Step). IsChain E (Of goal) l) (sym (is ∙ reverse-append items (Main ∷ [])))
+      (chain (Main ∷ []) (subst (λ (s : Step). IsChain E s (Main ∷ [])) (sym main) begins))

@@ -1,0 +1,137 @@
+-- A breadth-first search for a vertex over the steps that edges leave.
+use Rattle.std.specs.Prelude.{◌≡◌, ◌≢◌, ◌↔◌, ◌<◌, ◌≤◌, ◌⊎◌, ◌+◌, ◌-◌, ℕ, suc, Bool, true, false, List, [], ◌∷◌, length, replicate, slice_index_or, slice_set, sum_by, Contains, if◌then◌else◌}
+use Rattle.std.specs.Ordering.{is_lt}
+use Rattle.gm_graph_select.specs.declared.step.Step.{Step}
+use Rattle.gm_graph_select.specs.declared.step.Step.TheVariants.{Main, Of}
+use Rattle.gm_graph_select.specs.declared.step.Edge.{Edge}
+use Rattle.gm_graph_select.specs.declared.numbering.Sources.{Sources}
+use Rattle.gm_graph_select.specs.declared.searching.Visit.{Visit}
+use Rattle.gm_graph_select.specs.declared.searching.Search.{Search}
+use Rattle.gm_graph_select.specs.Graph.{Vertex, Edges, edge, step_cmp}
+use Rattle.gm_graph_select.specs.Chains.{IsLevel, IsPredecessor, Leads}
+use Rattle.gm_graph_select.specs.Numbering.{edges_of, step_at, steps_of}
+
+-- A path of at most that many edges leads from the main module to the step.
+abbrev pub IsWithin : Edges → ℕ → Step → Type 0
+IsWithin edges level s = (n : ℕ) × (n ≤ level) × Leads edges s n
+
+-- ---- visits
+
+abbrev pub visit_at : List Visit → ℕ → Visit
+visit_at visits place = slice_index_or visits place (record { number = 0; before = 0 })
+
+-- the step that was visited at a place
+abbrev pub visited : List Step → List Visit → ℕ → Step
+visited steps visits place = step_at steps (visit_at visits place).number
+
+-- A visit is of the main module, or it names an earlier place, at which its step's predecessor was visited.
+abbrev pub IsTraced : Edges → List Step → List Visit → ℕ → Visit → Type 0
+IsTraced edges steps visits place visit = (step_at steps visit.number ≡ Main)
+    ⊎ ((y : Vertex) × (step_at steps visit.number ≡ Of y) × (visit.before < place)
+    × IsPredecessor edges (visited steps visits visit.before) y)
+
+-- each of the visits
+pub record AreTraced (edges : Edges) (steps : List Step) (visits : List Visit) : Type 0 where
+  pub inside : (k : ℕ) → k < length visits → (visit_at visits k).number < length steps
+  pub traced : (k : ℕ) → k < length visits → IsTraced edges steps visits k (visit_at visits k)
+
+-- The last visit is of the goal's predecessor.
+pub record IsTracedTo (sources : Sources) (goal : Vertex) (visits : List Visit) : Type 0 where
+  pub each : AreTraced (edges_of sources) (steps_of sources) visits
+  pub some : 0 < length visits
+  pub last : IsPredecessor (edges_of sources) (visited (steps_of sources) visits (length visits - 1)) goal
+
+-- No two of the visits are to the same step.
+abbrev pub AreOnce : List Visit → Type 0
+AreOnce visits = (v w : Visit) → Contains visits v → Contains visits w → v.number ≡ w.number → v ≡ w
+
+-- ---- what was found
+
+-- what is known of a search: the steps found, the visits, and those to the next level
+pub record State : Type 0 where
+  pub found : List Bool
+  pub visits : List Visit
+  pub next : List Visit
+
+abbrev pub state_of : Search → State
+state_of search = record { found = search.is_found.items; visits = search.visits.items; next = search.next.items }
+
+-- the main module alone was found
+abbrev pub first_state : ℕ → State
+first_state count = record { found = slice_set (replicate count false) 0 true; visits = []; next = [] }
+
+abbrev pub found_at : List Bool → ℕ → Bool
+found_at found number = slice_index_or found number false
+
+-- how many steps were not found
+abbrev pub count_left : List Bool → ℕ
+count_left found = sum_by (λ is_found. if is_found then 0 else 1) found
+
+-- 1 where visits are due
+abbrev pub flag : List Visit → ℕ
+flag [] = 0
+flag (v ∷ due) = 1
+
+-- All steps up to a level were visited but those due, which are the steps of the level in ascending order. The steps
+-- found are exactly those up to the level, and the goal is none of these.
+pub record IsSearchedTo (sources : Sources) (goal : Vertex) (level : ℕ) (state : State)
+    (due : List Visit) : Type 0 where
+  pub size : length state.found ≡ length (steps_of sources)
+  pub found : (i : ℕ) → i < length (steps_of sources)
+      → (found_at state.found i ≡ true) ↔ IsWithin (edges_of sources) level (step_at (steps_of sources) i)
+  pub listed : (i : ℕ) → i < length (steps_of sources)
+      → IsLevel (edges_of sources) (step_at (steps_of sources) i) level
+      → (v : Visit) × Contains due v × (v.number ≡ i)
+  pub inside : (v : Visit) → Contains due v → v.number < length (steps_of sources)
+  pub on_level : (v : Visit) → Contains due v
+      → IsLevel (edges_of sources) (step_at (steps_of sources) v.number) level
+  pub traced : (v : Visit) → Contains due v
+      → IsTraced (edges_of sources) (steps_of sources) state.visits (length state.visits) v
+  pub ascending : (i j : ℕ) → i < j → j < length due → (visit_at due i).number < (visit_at due j).number
+  pub visits : AreTraced (edges_of sources) (steps_of sources) state.visits
+  pub far : IsWithin (edges_of sources) level (Of goal) → ⊥
+  pub none : state.next ≡ []
+
+-- Some edges that leave steps of the level were followed, none of them to the goal: the steps found are those found
+-- before and those of the next level that these edges lead to.
+pub record IsFollowed (sources : Sources) (goal : Vertex) (level : ℕ) (before : List Bool) (tried : List Edge)
+    (state : State) : Type 0 where
+  pub size : length state.found ≡ length (steps_of sources)
+  pub keeps : (i : ℕ) → found_at before i ≡ true → found_at state.found i ≡ true
+  pub news : (i : ℕ) → found_at state.found i ≡ true
+      → (found_at before i ≡ true) ⊎ ((v : Visit) × Contains state.next v × (v.number ≡ i))
+  pub inside : (v : Visit) → Contains state.next v → v.number < length (steps_of sources)
+  pub found : (v : Visit) → Contains state.next v → found_at state.found v.number ≡ true
+  pub on_level : (v : Visit) → Contains state.next v
+      → IsLevel (edges_of sources) (step_at (steps_of sources) v.number) (suc level)
+  pub traced : (v : Visit) → Contains state.next v
+      → IsTraced (edges_of sources) (steps_of sources) state.visits (length state.visits) v
+  pub once : AreOnce state.next
+  pub ends : (e : Edge) → Contains tried e → (i : ℕ) → i < length (steps_of sources)
+      → step_at (steps_of sources) i ≡ Of e.to → found_at state.found i ≡ true
+  pub misses : (e : Edge) → Contains tried e → e.to ≢ goal
+  pub visits : AreTraced (edges_of sources) (steps_of sources) state.visits
+  pub count : count_left state.found + length state.next ≡ count_left before
+
+-- It is a step's turn: it is on the level, and all edges of the level's lesser steps were followed. All steps up to
+-- the level were found.
+pub record IsTurn (sources : Sources) (level : ℕ) (before : List Bool) (tried : List Edge) (s : Step) : Type 0 where
+  pub on_level : IsLevel (edges_of sources) s level
+  pub lower : (t : Step) (y : Vertex) → edges_of sources t y → IsLevel (edges_of sources) t level
+      → is_lt (step_cmp t s) ≡ true → Contains tried (edge t y)
+  pub full : (i : ℕ) → i < length (steps_of sources)
+      → IsWithin (edges_of sources) level (step_at (steps_of sources) i) → found_at before i ≡ true
+
+-- The visit comes next, after those whose edges were followed.
+pub record IsDue (sources : Sources) (goal : Vertex) (level : ℕ) (before : List Bool) (tried : List Edge)
+    (state : State) (visit : Visit) : Type 0 where
+  pub turn : IsTurn sources level before tried (step_at (steps_of sources) visit.number)
+  pub far : IsWithin (edges_of sources) level (Of goal) → ⊥
+  pub traced : IsTraced (edges_of sources) (steps_of sources) state.visits (length state.visits) visit
+  pub followed : IsFollowed sources goal level before tried state
+
+-- The edges that were followed include those that leave the visited steps.
+abbrev pub AreTried : Sources → List Visit → List Edge → Type 0
+AreTried sources visits tried = (v : Visit) → Contains visits v → (y : Vertex)
+    → edges_of sources (step_at (steps_of sources) v.number) y
+    → Contains tried (edge (step_at (steps_of sources) v.number) y)

@@ -1,0 +1,183 @@
+//! A breadth-first search for a vertex, by numbers.
+//!
+//! The steps of a level are visited in ascending order, and each edge that leaves a visited step is followed once.
+//! So the first edge that leads to a step comes from its predecessor: the least step that is one edge nearer to the
+//! main module. The search ends at the first edge that leads to the goal.
+
+ghost use Rattle.std.specs.Prelude.{◌≡◌, ◌≢◌, ◌↔◌, ◌<◌, ◌++◌, ◌∷◌, [], false, true, ℕ, Bool, Contains, IfNone, IfOk, IfSome, List, OnOk, length};
+ghost use Rattle.gm_graph_select.specs.declared.step.Edge.{Edge};
+ghost use Rattle.gm_graph_select.specs.declared.step.Step.TheVariants.{Of};
+ghost use Rattle.gm_graph_select.specs.Graph.{Vertex};
+ghost use Rattle.gm_graph_select.specs.Order.{HaveSame};
+ghost use Rattle.gm_graph_select.specs.Chains.{IsReached};
+ghost use Rattle.gm_graph_select.specs.Numbering.{AreSources, edges_of, step_at, steps_of};
+ghost use Rattle.gm_graph_select.specs.Searching.{AreOnce, AreTried, IsDue, IsFollowed, IsSearchedTo, IsTracedTo, IsTurn, first_state, state_of, visit_at, visited};
+
+use crate::numbering::Sources;
+use crate::sorting::sorted;
+use crate::step::Edge;
+use gm_name::ModVer;
+use std::alloc::{AllocError, Global};
+use std::mem;
+
+/// A visit to a step. Visits are ordered by the number of the step first, which the field order decides.
+#[derive(Clone, Copy, Debug, Drop, PartialEq, Eq, PartialOrd, Ord)]
+pub(crate) struct Visit {
+    /// The number of the step.
+    pub(crate) number: usize,
+    /// The place among the visits at which its predecessor was visited. The main module has none.
+    pub(crate) before: usize,
+}
+
+/// The state of a search.
+#[derive(Drop)]
+struct Search {
+    /// For each number, whether an edge that was followed leads to its step.
+    is_found: Vec<bool>,
+    /// The visits so far, in their order.
+    visits: Vec<Visit>,
+    /// The visits to the next level, in the order in which its steps were found.
+    next: Vec<Visit>,
+}
+
+impl Search {
+    /// Follows an edge from the step that was visited at the place `before`. It doesn't lead to the goal.
+    fn follow<'a>(
+        &mut self,
+        sources: &Sources<'a>,
+        before: usize,
+        edge: &'a Edge,
+    ) -> Result<(), AllocError>
+        requires sources { AreSources sources.now }
+        requires size { length self.old.is_found.items ≡ length (steps_of sources.now) }
+        ensures size { length self.new.is_found.items ≡ length (steps_of sources.now) }
+        ensures visits { self.new.visits ≡ self.old.visits }
+        ensures followed { OnOk result ((goal : Vertex) (level : ℕ) (found : List Bool) (tried : List Edge)
+            → IsTurn sources.now level found tried edge.entry.now.from
+            → visited (steps_of sources.now) self.old.visits.items before ≡ edge.entry.now.from
+            → before < length self.old.visits.items
+            → Contains sources.now.edges.now edge.entry.now → edge.entry.now.to ≢ goal
+            → IsFollowed sources.now goal level found tried (state_of self.old)
+            → IsFollowed sources.now goal level found (tried ++ edge.entry.now ∷ []) (state_of self.new)) }
+    {
+        let Some(number) = sources.number_of(&edge.to) else {
+            return Ok(());
+        };
+        if self.is_found[number] {
+            return Ok(());
+        }
+        self.is_found[number] = true;
+        self.next.push(Visit { number, before })?;
+        Ok(())
+    }
+
+    /// Visits a step of the level, and follows the edges that leave it. Returns whether one of them leads to the
+    /// goal.
+    fn visit<'a>(
+        &mut self,
+        sources: &Sources<'a>,
+        goal: &ModVer,
+        visit: Visit,
+    ) -> Result<bool, AllocError>
+        requires sources { AreSources sources.now }
+        requires size { length self.old.is_found.items ≡ length (steps_of sources.now) }
+        requires inside { visit.number < length (steps_of sources.now) }
+        ensures size { length self.new.is_found.items ≡ length (steps_of sources.now) }
+        ensures visits { OnOk result (self.new.visits.items ≡ self.old.visits.items ++ visit ∷ []) }
+        ensures found { IfOk result (λ is_goal. is_goal ≡ true → (level : ℕ) (found : List Bool) (tried : List Edge)
+            → IsDue sources.now goal.now level found tried (state_of self.old) visit
+            → IsTracedTo sources.now goal.now self.new.visits.items) }
+        ensures missed { IfOk result (λ is_goal. is_goal ≡ false → (level : ℕ) (found : List Bool) (tried : List Edge)
+            → IsDue sources.now goal.now level found tried (state_of self.old) visit
+            → (more : List Edge) × IsFollowed sources.now goal.now level found (tried ++ more) (state_of self.new)
+            × AreTried sources.now (visit ∷ []) more) }
+    {
+        let before = self.visits.len();
+        self.visits.push(visit)?;
+        for edge in sources.list[visit.number].edges {
+            if edge.to == *goal {
+                return Ok(true);
+            }
+            self.follow(sources, before, edge)?;
+        }
+        Ok(false)
+    }
+
+    /// Visits the steps of a level. Returns whether an edge that leaves one of them leads to the goal.
+    fn visit_level(
+        &mut self,
+        sources: &Sources<'_>,
+        goal: &ModVer,
+        due: &[Visit],
+    ) -> Result<bool, AllocError>
+        requires sources { AreSources sources.now }
+        requires searched { (level : ℕ) × IsSearchedTo sources.now goal.now level (state_of self.old) due.now }
+        ensures found { IfOk result (λ is_goal. is_goal ≡ true
+            → IsTracedTo sources.now goal.now self.new.visits.items) }
+        ensures missed { IfOk result (λ is_goal. is_goal ≡ false → (level : ℕ)
+            → IsSearchedTo sources.now goal.now level (state_of self.old) due.now
+            → (tried : List Edge) × AreTried sources.now due.now tried
+            × IsFollowed sources.now goal.now level self.old.is_found.items tried (state_of self.new)) }
+    {
+        for visit in due {
+            if self.visit(sources, goal, *visit)? {
+                return Ok(true);
+            }
+        }
+        Ok(false)
+    }
+
+    /// Takes the visits to the next level, in ascending order of their steps. No step may be found twice.
+    fn take_level(&mut self, alloc: Global) -> Vec<Visit>
+        ensures found { self.new.is_found ≡ self.old.is_found }
+        ensures visits { self.new.visits ≡ self.old.visits }
+        ensures none { self.new.next.items ≡ [] }
+        ensures members { HaveSame self.old.next.items result.items }
+        ensures ascending { AreOnce self.old.next.items → (i j : ℕ) → i < j → j < length result.items
+            → (visit_at result.items i).number < (visit_at result.items j).number }
+    {
+        sorted(mem::replace(&mut self.next, Vec::new(alloc)))
+    }
+}
+
+/// The state before the first level, whose only step is the main module.
+fn first_search(alloc: Global, sources: &Sources<'_>) -> Result<Search, AllocError>
+    requires { 0 < length (steps_of sources.now) }
+    ensures { IfOk result (λ search. state_of search ≡ first_state (length (steps_of sources.now))) }
+{
+    let mut is_found = vec![in alloc; false; sources.list.len()]?;
+    is_found[0] = true;
+    Ok(Search {
+        is_found,
+        visits: Vec::new(alloc),
+        next: Vec::new(alloc),
+    })
+}
+
+/// The visits up to that of the goal's predecessor, or `None` if no edges lead from the main module to the goal.
+pub(crate) fn visits_to(
+    alloc: Global,
+    sources: &Sources<'_>,
+    goal: &ModVer,
+) -> Result<Option<Vec<Visit>>, AllocError>
+    requires { AreSources sources.now }
+    ensures found { IfOk result (λ visits. IfSome visits (λ visits. IsTracedTo sources.now goal.now visits.items)) }
+    ensures none { IfOk result (λ visits. IfNone visits (IsReached (edges_of sources.now) (Of goal.now) → ⊥)) }
+{
+    if !sources.begins_with_main() {
+        return Ok(None);
+    }
+    let mut search = first_search(alloc, sources)?;
+    let mut due = Vec::new(alloc);
+    due.push(Visit {
+        number: 0,
+        before: 0,
+    })?;
+    'levels: while !due.is_empty() {
+        if search.visit_level(sources, goal, &due)? {
+            return Ok(Some(search.visits));
+        }
+        due = search.take_level(alloc);
+    }
+    Ok(None)
+}
