@@ -1,7 +1,7 @@
 //! Reading a document line by line: each line is given away before the next one is read, so that a document can be
 //! read without keeping its lines.
 
-ghost use Rattle.std.specs.Prelude.{◌≡◌, ◌+◌, ◌<◌, ◌≤◌, ◌-◌, ◌^◌, ◌∷◌, ◌++◌, [], ℕ, List, length, drop, IfOk, IfErr, IsSome, OnErr};
+ghost use Rattle.std.specs.Prelude.{◌≡◌, ◌+◌, ◌<◌, ◌≤◌, ◌-◌, ◌^◌, ◌∷◌, ◌++◌, [], ℕ, List, length, drop, IfOk, IfErr, IfNone, IsSome, OnErr};
 ghost use Rattle.gm_syntax.specs.Tokens.{Placed, AreSlicesBetween, AreNumbered};
 ghost use Rattle.gm_syntax.specs.LineViews.{line_of, tokens_of};
 ghost use Rattle.gm_syntax.specs.Lines.{line_len, lines_of, HasNoLineFeed};
@@ -88,6 +88,7 @@ impl<'a> LineReader<'a> {
         ensures next { (lines : List (LineOf Placed)) → HasRead self.old lines → IsNextRead self.new lines result }
         ensures source { self.new.source ≡ self.old.source }
         ensures shorter { IfOk result (λ line. IsSome line → length self.new.rest < length self.old.rest) }
+        ensures end { IfOk result (λ line. IfNone line (self.new ≡ self.old)) }
         ensures err { OnErr result (self.new ≡ self.old) }
     {
         if self.rest.is_empty() {
