@@ -73,7 +73,7 @@ not_or : (a b : Bool) → not (a || b) ≡ true → not a ≡ true
 not_or true b e = e
 not_or false b e = refl
 
-gathers_before : (old new : List Turn) (x : ModuleVersion) (d : Depth) → Extends old new → gathers new (turn x d) ≡ true → gathers old (turn x d) ≡ true
+pub gathers_before : (old new : List Turn) (x : ModuleVersion) (d : Depth) → Extends old new → gathers new (turn x d) ≡ true → gathers old (turn x d) ≡ true
 gathers_before old new x Top extends e = refl
 gathers_before old new x Deep (rest, is) e =
     not_or (list_any (same_turn (turn x Top)) old) (list_any (same_turn (turn x Top)) rest)

@@ -56,14 +56,6 @@ pub edges_push : (all : List Adjacency) (one : Adjacency) → edges_of (all ++ o
 edges_push [] one = append-nil (edges_from one)
 edges_push (first ∷ all) one = ap (λ (es : List Edge). edges_from first ++ es) (edges_push all one) ∙ sym (append_assoc (edges_from first) (edges_of all) (edges_from one))
 
--- A vertex without requirements has no edges.
-pub edges_none : (old : List Edge) (x : ModuleVersion) (ys : List ModuleVersion) → ys ≡ [] → AddsEdges old old x ys
-edges_none old x ys none = record {
-  extends = ([], sym (append-nil old));
-  each = λ y h. absurd (let there : Contains [] y = subst (λ (l : List ModuleVersion). Contains l y) none h in omega (arith, there.1));
-  only = λ e h. inl h;
-}
-
 -- the edges of one more vertex
 pub edges_more : (old new : List Adjacency) (one : Adjacency) (x : ModuleVersion) (ys : List ModuleVersion) → new ≡ old ++ one ∷ [] → one.from ≡ Of x → HaveSame ys one.to.items → AddsEdges (edges_of old) (edges_of new) x ys
 edges_more old new one x ys more from same =

@@ -1,9 +1,15 @@
 -- The edges of ascending adjacency lists, one after another, are in ascending order.
-use Rattle.std.proofs.Common.{◌≡◌, ◌+◌, ◌<◌, ℕ, List, [], ◌∷◌, ◌++◌, length, take, get_or, Contains, ap, ap₂, ◌∙◌, sym, inl, inr, arith}
+use Rattle.std.proofs.Common.{◌≡◌, ◌+◌, ◌<◌, ℕ, List, [], ◌∷◌, ◌++◌, Bool, true, false, length, take, get_or, Contains, ap, ap₂, ◌∙◌, sym, refl, inl, inr, arith}
 use Rattle.std.specs.Prelude.{All, AllPairs}
 use Rattle.std.specs.declared.cmp.Ordering.{Ordering}
-use Rattle.std.specs.declared.cmp.Ordering.TheVariants.{Less}
-use Rattle.std.specs.Ordering.{ordering_then}
+use Rattle.std.specs.declared.cmp.Ordering.TheVariants.{Less, Equal, Greater}
+use Rattle.std.specs.Cmp.{on_total}
+use Rattle.std.specs.List.{IsDistinct}
+use Rattle.std.specs.List.Sorted.{IsSortedBy}
+use Rattle.std.specs.Ordering.{is_eq, is_lt, ordering_reverse, ordering_then}
+use Rattle.std.proofs.lemmas.Map.Keys.{apart_from_distinct}
+use Rattle.gm_graph_select.specs.StepOrder.{step_total}
+use Rattle.gm_graph_select.proofs.Sorts.{from_adjacent}
 use Rattle.std.proofs.lemmas.List.{get_or-map, length-append, length-map, take_more}
 use Rattle.std.proofs.lemmas.List.Elements.{Contains-append_cases, Contains-get_or}
 use Rattle.std.proofs.lemmas.List.Kept.{AllPairs-cons}
@@ -14,7 +20,7 @@ use Rattle.gm_graph_select.specs.Order.{IsAscending}
 use Rattle.gm_graph_select.proofs.Ascending.{member_head, member_tail, pairs_head, pairs_tail}
 use Rattle.gm_graph_select.proofs.Ranges.{step_itself}
 use Rattle.gm_graph.specs.declared.adjacency.Adjacency.{Adjacency}
-use Rattle.gm_graph.specs.Adjacency.{edges_from, edges_of}
+use Rattle.gm_graph.specs.Adjacency.{AreAscending, edges_from, edges_of, same_step}
 use Rattle.gm_graph.proofs.EdgesAndFaults.{edges_only, edges_push, from_only}
 
 -- pairs within two lists and between them
@@ -65,3 +71,26 @@ edges_counted all i x below is =
     ∙ ap (λ (es : List Edge). length es) (edges_push (take i all) x)
     ∙ length-append (edges_of (take i all)) (edges_from x)
     ∙ ap (λ (n : ℕ). length (edges_of (take i all)) + n) (length-map x.to.items (λ (y : ModuleVersion). edge x.from y))
+
+-- ---- sorted adjacency lists
+
+lower_step : (r : Ordering) → is_lt r ≡ false → is_eq (ordering_reverse r) ≡ false → true ≡ is_lt (ordering_reverse r)
+lower_step Less e f = absurd (cc e)
+lower_step Equal e f = absurd (cc f)
+lower_step Greater e f = refl
+
+-- Sorted adjacency lists, no two of which leave the same step, leave ascending steps.
+pub sorted_ascends : (lower : Adjacency → Adjacency → Bool) → ((a b : Adjacency) → lower a b ≡ false → is_lt (step_cmp a.from b.from) ≡ false) → (all : List Adjacency) → IsSortedBy lower all → IsDistinct same_step all → AreAscending all
+sorted_ascends lower by all sorted distinct =
+    from_adjacent (on_total (λ (one : Adjacency). one.from) step_total) all
+    (λ k d inside.
+    let a = get_or all k d in
+    let b = get_or all (k + 1) d in
+    let apart = apart_from_distinct same_step all k (k + 1) d distinct (omega arith) inside in
+    lower_step (step_cmp b.from a.from) (by b a (sorted k d (omega arith) inside)) (ap is_eq (sym (step_total.antisymm a.from b.from)) ∙ apart)
+    ∙ ap is_lt (sym (step_total.antisymm a.from b.from)))
+
+pub first_lower : (r s : Ordering) → is_lt (ordering_then r s) ≡ false → is_lt r ≡ false
+first_lower Less s e = e
+first_lower Equal s e = refl
+first_lower Greater s e = refl

@@ -7,6 +7,7 @@ pub mod Rounds
 pub mod Marking
 pub mod EdgesAndFaults
 pub mod InOrder
+pub mod OneGroup
 pub mod Turning
 pub mod Caching
 pub mod Queueing

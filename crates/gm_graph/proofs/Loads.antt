@@ -17,6 +17,7 @@ use Rattle.gm_graph_select.proofs.Same.{same_build_list}
 use Rattle.gm_graph.specs.declared.fault.Fault.{Fault}
 use Rattle.gm_graph.specs.declared.graph_builder.GraphBuilder.{GraphBuilder}
 use Rattle.gm_graph.specs.declared.worklist.Worklist.{Worklist}
+use Rattle.gm_graph.specs.Adjacency.{left_by}
 use Rattle.gm_graph.specs.Visiting.{IsOpenedIn}
 use Rattle.gm_graph.specs.Building.{edges_in, fault}
 use Rattle.gm_graph.specs.Graph.{IsEdge}
@@ -39,8 +40,8 @@ module _ (old new : Cache) (pairs : List (Name × Reply)) (worklist : Worklist) 
   pub gathered_rooted : IsRooted (among (edges_in builder))
   gathered_rooted = list_rooted main readings (edges_in builder) opened.edges
 
-  pub gathered_ends : AreEnds (worklist.vertices.items ++ worklist.leaves.items) (among (edges_in builder))
-  gathered_ends = ends_among main readings (worklist.vertices.items ++ worklist.leaves.items) (edges_in builder) opened.edges opened.ends
+  pub gathered_ends : AreEnds (left_by builder.leaving.items ++ worklist.leaves.items) (among (edges_in builder))
+  gathered_ends = ends_among main readings (left_by builder.leaving.items ++ worklist.leaves.items) (edges_in builder) opened.edges opened.ends
 
   faults_are : (faults : List Fault) → faults ≡ map (λ e. fault e.0 e.1) builder.faults.entries → tree.IsOrdered vertex_cmp builder.faults → AreFaults main readings faults
   faults_are faults e ordered = subst (λ (fs : List Fault). AreFaults main readings fs) (sym e) (record {

@@ -1,5 +1,5 @@
 -- What one visit adds to the graph builder.
-use Rattle.std.proofs.Common.{◌≡◌, false, List, [], Option, IsSome, Contains, ap, ◌∙◌, sym, refl, subst, inl, append-nil}
+use Rattle.std.proofs.Common.{◌≡◌, Bool, true, false, List, [], Option, IsSome, Contains, ap, ◌∙◌, sym, refl, subst, inl, append-nil}
 use Rattle.std.proofs.lemmas.Bool.{false≢true}
 use Rattle.gm_graph_cache.specs.declared.class.Class.{Class}
 use Rattle.gm_graph_cache.specs.declared.depth.Depth.{Depth}
@@ -11,7 +11,9 @@ use Rattle.gm_graph_cache.specs.Turns.{turn}
 use Rattle.gm_graph_cache.specs.Main.{Main, ModuleVersion}
 use Rattle.gm_graph_cache.specs.Reading.{Held, fault_in, vertex_fault, readings_by, vertex_requirements}
 use Rattle.gm_graph_select.specs.declared.step.Edge.{Edge}
+use Rattle.gm_graph.specs.declared.adjacency.Adjacency.{Adjacency}
 use Rattle.gm_graph.specs.declared.graph_builder.GraphBuilder.{GraphBuilder}
+use Rattle.gm_graph.specs.Adjacency.{AddsGroup}
 use Rattle.gm_graph.specs.Building.{AddsEdges, Gathers, edges_in, faults_by_vertex, found_fault, gathers, noted}
 
 finding_fault : (main : Main) (held : Held) (x : ModuleVersion) (f : Finding) → IsFinding main held x f → found_fault f ≡ vertex_fault (readings_by main held) x
@@ -49,3 +51,10 @@ module _ (main : Main) (held : Held) (turns : List Turn) (x : ModuleVersion) (d 
     only = λ one h. inl (subst (λ (es : List Edge). Contains es one) (ap edges_in e ∙ same) h);
     faults = λ q. ap (λ (g : GraphBuilder). faults_by_vertex g q) e ∙ noting_fault q;
   }
+
+-- the adjacency lists after a visit that adds edges, and after one that adds none
+pub adds_group : (b : Bool) (old mid new : List Adjacency) (x : ModuleVersion) → b ≡ true → mid ≡ old → AddsGroup true mid new x → AddsGroup b old new x
+adds_group b old mid new x e same adds = subst (λ (c : Bool). AddsGroup c old new x) (sym e) (subst (λ (all : List Adjacency). AddsGroup true all new x) same adds)
+
+pub adds_no_group : (b : Bool) (old mid new : List Adjacency) (x : ModuleVersion) → b ≡ false → mid ≡ old → new ≡ mid → AddsGroup b old new x
+adds_no_group b old mid new x e same is = subst (λ (c : Bool). AddsGroup c old new x) (sym e) (is ∙ same)

@@ -1,5 +1,6 @@
 -- What one visit changes in the cache, the worklist and the graph builder.
 use Rattle.std.specs.Prelude.{◌≡◌, ◌↔◌, ◌++◌, List, Option, None, Some, IsSome, Contains}
+use Rattle.std.specs.List.{IsDistinct}
 use Rattle.gm_store.specs.Asked.{Name, Reply, name_of}
 use Rattle.gm_graph_cache.specs.declared.cache.Cache.{Cache}
 use Rattle.gm_graph_cache.specs.declared.depth.Depth.{Depth}
@@ -13,7 +14,8 @@ use Rattle.gm_graph_cache.specs.declared.class.Class.{Class}
 use Rattle.gm_graph_select.specs.declared.step.Edge.{Edge}
 use Rattle.gm_graph.specs.declared.graph_builder.GraphBuilder.{GraphBuilder}
 use Rattle.gm_graph.specs.declared.worklist.Worklist.{Worklist}
-use Rattle.gm_graph.specs.Building.{Gathers, edges_in, faults_by_vertex}
+use Rattle.gm_graph.specs.Adjacency.{AddsGroup, left_by, same_step}
+use Rattle.gm_graph.specs.Building.{Gathers, edges_in, faults_by_vertex, gathers as adds_edges}
 use Rattle.gm_graph.specs.Graph.{IsEdge, IsOpened, IsVertex}
 use Rattle.gm_graph.specs.Loading.{AreTurns}
 use Rattle.gm_graph.specs.Marks.{IsWorklist}
@@ -38,6 +40,7 @@ pub record IsVisited (main : Main) (readings : Readings) (old new : Worklist) (b
       ≡ leaves_with (leads_on readings x d) old.leaves.items (vertex_requirements main readings x)
   pub gathers : Gathers main readings old.turns.items (edges_in before) (edges_in after) (faults_by_vertex before)
       (faults_by_vertex after) (turn x d)
+  pub group : AddsGroup (adds_edges old.turns.items (turn x d)) before.leaving.items after.leaving.items x
 
 -- The main file and the go.sum are the same, and each file that was known is still known.
 pub record Continues (old new : Cache) : Type 0 where
@@ -51,8 +54,8 @@ OverflowsAt cache pairs worklist x d = (held : Held) × Tells (sums_in cache) pa
     × VisitOverflows (main_in cache) (readings_by (main_in cache) held) worklist.vertices.items x d
 
 -- The whole worklist was visited. The cache knows the readings of the answers, and its list of turns is the
--- worklist's. The turns are those of the opened vertices, whose edges and faults are in the graph builder. The
--- opened vertices and the leaves are the vertices that edges lead to.
+-- worklist's. The turns are those of the opened vertices, whose edges and faults are in the graph builder, with one
+-- adjacency list for each. The opened vertices and the leaves are the vertices that edges lead to.
 pub record IsOpenedIn (old new : Cache) (pairs : List (Name × Reply))
     (opened : Worklist) (builder : GraphBuilder) : Type 0 where
   pub main : main_in new ≡ main_in old
@@ -64,7 +67,8 @@ pub record IsOpenedIn (old new : Cache) (pairs : List (Name × Reply))
       → IsSome (readings_by (main_in old) (held_of new) x)
   pub edges : (one : Edge) → Contains (edges_in builder) one
       ↔ IsEdge (main_in old) (readings_by (main_in old) (held_of new)) one.from one.to
-  pub ends : (x : ModuleVersion) → Contains (opened.vertices.items ++ opened.leaves.items) x
+  pub once : IsDistinct same_step builder.leaving.items
+  pub ends : (x : ModuleVersion) → Contains (left_by builder.leaving.items ++ opened.leaves.items) x
       ↔ IsVertex (main_in old) (readings_by (main_in old) (held_of new)) x
   pub faults : (x : ModuleVersion) (class : Class)
       → (faults_by_vertex builder x ≡ Some class)

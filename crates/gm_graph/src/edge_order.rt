@@ -1,13 +1,54 @@
-//! All edges of a graph in ascending order, from its adjacency lists.
+//! The edges of a graph in ascending order, and the vertices that they lead to, from its adjacency lists.
+//!
+//! Each opened vertex has one adjacency list, so these are sorted once, by the step that they leave, and nothing else
+//! has to be sorted by texts: the opened vertices are then in ascending order, too.
 
-ghost use Rattle.std.specs.Prelude.{◌≡◌, ◌≤◌, true, IfOk, length};
-ghost use Rattle.gm_graph_select.specs.Graph.{edge_cmp};
-ghost use Rattle.gm_graph_select.specs.Order.{HaveSame, IsAscending};
-ghost use Rattle.gm_graph.specs.Adjacency.{edges_of};
+ghost use Rattle.std.specs.Prelude.{◌≡◌, ◌++◌, ◌≤◌, IfOk, OnOk, length};
+ghost use Rattle.std.specs.List.{IsDistinct};
+ghost use Rattle.std.specs.List.Sorted.{IsPermutation};
+ghost use Rattle.gm_graph.specs.Adjacency.{AreAscending, edges_of, left_by, same_step};
 
 use crate::adjacency::Adjacency;
-use gm_graph_select::{Edge, sorted_edges};
+use gm_graph_select::{Edge, Step};
+use gm_name::ModVer;
 use std::alloc::{AllocError, Global};
+
+/// These groups in ascending order of the steps that they leave. No two of them may leave the same step.
+pub(crate) fn sorted_groups(mut all: Vec<Adjacency>) -> Vec<Adjacency>
+    requires { IsDistinct same_step all.items }
+    ensures same { IsPermutation all.items result.items }
+    ensures ascending { AreAscending result.items }
+{
+    all.sort_unstable();
+    all
+}
+
+/// Appends copies of the vertices that these groups leave.
+fn push_left(alloc: Global, vertices: &mut Vec<ModVer>, all: &[Adjacency]) -> Result<(), AllocError>
+    ensures { OnOk result (vertices.new.items ≡ vertices.old.items ++ left_by all.now) }
+{
+    for one in all {
+        if let Step::Of(vertex) = &one.from {
+            vertices.push(vertex.copy(alloc)?)?;
+        }
+    }
+    Ok(())
+}
+
+/// The vertices that these groups leave, in the same order, followed by leaves.
+pub(crate) fn all_ends(
+    alloc: Global,
+    all: &[Adjacency],
+    leaves: Vec<ModVer>,
+) -> Result<Vec<ModVer>, AllocError>
+    ensures { IfOk result (λ ends. ends.items ≡ left_by all.now ++ leaves.items) }
+{
+    let mut leaves = leaves;
+    let mut ends = Vec::with_capacity(alloc, all.len())?;
+    push_left(alloc, &mut ends, all)?;
+    ends.append(&mut leaves)?;
+    Ok(ends)
+}
 
 /// How many edges these groups have. It is only used to reserve memory, so it may stop at the greatest `usize`; it is
 /// never more than there are.
@@ -22,7 +63,7 @@ fn count(all: &[Adjacency]) -> usize
 }
 
 /// All edges of these groups, in the same order.
-fn in_order(alloc: Global, all: Vec<Adjacency>) -> Result<Vec<Edge>, AllocError>
+pub(crate) fn all_edges(alloc: Global, all: Vec<Adjacency>) -> Result<Vec<Edge>, AllocError>
     ensures { IfOk result (λ edges. edges.items ≡ edges_of all.items) }
 {
     let mut edges = Vec::with_capacity(alloc, count(&all))?;
@@ -30,29 +71,4 @@ fn in_order(alloc: Global, all: Vec<Adjacency>) -> Result<Vec<Edge>, AllocError>
         one.push_edges(alloc, &mut edges)?;
     }
     Ok(edges)
-}
-
-/// Whether no two of these groups, which are in ascending order, leave the same step. Their edges, one group after
-/// another, are then in strictly ascending order. A step is compared once for its group, not for each edge, since its
-/// path and the list of its requirements may both be as long as a file.
-fn are_in_order(all: &[Adjacency]) -> bool
-    ensures { result ≡ true → IsAscending edge_cmp (edges_of all.now) }
-{
-    all.is_sorted_by(|a, b| a.from.cmp(&b.from).is_lt())
-}
-
-/// All edges of these groups in strictly ascending order, without duplicates. The edges are sorted individually
-/// only if two groups leave the same step.
-pub(crate) fn ascending_edges(alloc: Global, all: Vec<Adjacency>) -> Result<Vec<Edge>, AllocError>
-    ensures ascending { IfOk result (λ edges. IsAscending edge_cmp edges.items) }
-    ensures members { IfOk result (λ edges. HaveSame (edges_of all.items) edges.items) }
-{
-    let mut groups = all;
-    groups.sort_unstable();
-    let is_done = are_in_order(&groups);
-    let edges = in_order(alloc, groups)?;
-    if is_done {
-        return Ok(edges);
-    }
-    Ok(sorted_edges(edges))
 }

@@ -14,6 +14,8 @@ ghost use Rattle.gm_graph_select.specs.Chains.{IsRooted};
 ghost use Rattle.gm_graph_select.specs.Graph.{AreEnds, among, edge_cmp, vertex_cmp};
 ghost use Rattle.gm_graph_select.specs.Order.{HaveSame, IsAscending};
 ghost use Rattle.std.specs.BTreeMap as tree;
+ghost use Rattle.std.specs.List.{IsDistinct};
+ghost use Rattle.gm_graph.specs.Adjacency.{IsMainGroup, left_by, same_step};
 ghost use Rattle.gm_graph.specs.Visiting.{IsOpenedIn, readings_in};
 ghost use Rattle.gm_graph.specs.Building.{AreGathered, edges_in, fault, faults_by_vertex};
 ghost use Rattle.gm_graph.specs.Loading.{AreTooMany, AsksInTurn, IsDue, Told};
@@ -21,7 +23,7 @@ ghost use Rattle.gm_graph.specs.Marks.{IsWorklist};
 ghost use Rattle.gm_graph.specs.Outcome.{IsLoaded};
 ghost use Rattle.gm_graph.specs.Turns.{AreFirstTurns};
 
-use crate::edge_order::ascending_edges;
+use crate::edge_order::{all_edges, all_ends, sorted_groups};
 use crate::graph_builder::{GraphBuilder, fault_list, main_edges};
 use crate::loaded::Loaded;
 use crate::starting::{first_turns, kept_requirements};
@@ -50,6 +52,7 @@ fn visit_all<F: Files>(
     requires first { AreFirstTurns (main_in cache.old) worklist.old.turns.items }
     requires builder { (readings : Readings)
         → AreGathered (main_in cache.old) readings (edges_in builder.old) (faults_by_vertex builder.old) }
+    requires group { IsMainGroup builder.old.leaving.items }
     ensures opened { OnOk result (IsOpenedIn cache.old cache.new (F.asked files.new) worklist.new builder.new) }
     ensures too_many { result ≡ Err LoadFault.TooMany
         → Told (main_in cache.old) (sums_in cache.old) (F.asked files.new) (AreTooMany (main_in cache.old)) }
@@ -88,7 +91,8 @@ fn assemble(
     builder: GraphBuilder,
 ) -> Result<Loaded, AllocError>
     requires rooted { IsRooted (among (edges_in builder)) }
-    requires ends { AreEnds (worklist.vertices.items ++ worklist.leaves.items) (among (edges_in builder)) }
+    requires once { IsDistinct same_step builder.leaving.items }
+    requires ends { AreEnds (left_by builder.leaving.items ++ worklist.leaves.items) (among (edges_in builder)) }
     ensures main { IfOk result (λ loaded. loaded.main ≡ (main_of main.now).path) }
     ensures faults { IfOk result (λ loaded. loaded.faults
         ≡ map (λ entry. fault entry.0 entry.1) builder.faults.entries) }
@@ -104,9 +108,10 @@ fn assemble(
     let faults = fault_list(alloc, faults)?;
     // The summaries are dropped here, before the list of edges takes its memory.
     let turns = cache.into_turns();
-    let ends = worklist.into_ends()?;
+    let groups = sorted_groups(leaving);
+    let ends = all_ends(alloc, &groups, worklist.into_leaves())?;
     let rows = build_list(alloc, main, ends)?;
-    let edges = ascending_edges(alloc, leaving)?;
+    let edges = all_edges(alloc, groups)?;
     Ok(Loaded::new(path, faults, edges, rows, turns))
 }
 

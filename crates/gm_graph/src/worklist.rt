@@ -181,17 +181,11 @@ impl Worklist {
         push_copies(alloc, &mut self.leaves, list)
     }
 
-    /// The vertices of the turns, followed by the leaves: all vertices that edges lead to.
-    pub(crate) fn into_ends(self) -> Result<Vec<ModVer>, AllocError>
-        ensures { IfOk result (λ ends. ends.items ≡ self.vertices.items ++ self.leaves.items) }
+    /// The leaves. The rest of the worklist is dropped.
+    pub(crate) fn into_leaves(self) -> Vec<ModVer>
+        ensures { result.items ≡ self.leaves.items }
     {
-        let Worklist {
-            mut vertices,
-            mut leaves,
-            ..
-        } = self;
-        vertices.append(&mut leaves)?;
-        Ok(vertices)
+        self.leaves
     }
 }
 

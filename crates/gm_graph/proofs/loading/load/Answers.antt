@@ -42,6 +42,7 @@ returns-in_err-visit_all-clause-cause g c = λ name e. c.in_err-visit_all.ensure
 
 pub assemble-requires : goal.assemble-requires
 assemble-requires g c = record {
+  once = c.in_ok-visit_all.ensures.opened.once;
   rooted = gathered_rooted _ _ _ c.visit_all.new.worklist c.visit_all.new.builder c.in_ok-visit_all.ensures.opened;
   ends = gathered_ends _ _ _ c.visit_all.new.worklist c.visit_all.new.builder c.in_ok-visit_all.ensures.opened;
 }

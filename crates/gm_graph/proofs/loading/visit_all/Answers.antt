@@ -12,7 +12,7 @@ use Rattle.gm_graph.proofs.loading.visit_all.Goals as goal
 
 pub turns-init : goal.turns-init
 turns-init g c = record {
-  state = first_step c.args.cache.now (g.F.Files.asked c.args.files.now) c.args.worklist.now c.args.builder.now c.requires.asked c.requires.knows c.requires.lent c.requires.worklist c.requires.leaves c.requires.first c.requires.builder;
+  state = first_step c.args.cache.now (g.F.Files.asked c.args.files.now) c.args.worklist.now c.args.builder.now c.requires.asked c.requires.knows c.requires.lent c.requires.worklist c.requires.leaves c.requires.first c.requires.builder c.requires.group;
   may = may_none _ _;
   same_store = λ n r h. h;
   refused = refl;

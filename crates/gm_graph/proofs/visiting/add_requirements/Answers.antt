@@ -1,4 +1,4 @@
-use Rattle.std.proofs.Common.{◌∙◌, ◌++◌, sym, ap, subst, Bool, List, Err}
+use Rattle.std.proofs.Common.{◌∙◌, ◌++◌, sym, ap, subst, Bool, true, List, Err}
 use Rattle.gm_graph_cache.specs.Cached.{held_of, main_in}
 use Rattle.gm_graph_cache.specs.declared.depth.Depth.TheVariants.{Deep}
 use Rattle.gm_graph_cache.specs.declared.depth.Turn.{Turn}
@@ -8,11 +8,12 @@ use Rattle.gm_graph_cache.specs.Turns.{turn}
 use Rattle.gm_graph.specs.declared.graph_builder.GraphBuilder.{GraphBuilder}
 use Rattle.gm_graph.specs.declared.worklist.Worklist.{Worklist}
 use Rattle.gm_graph.specs.Visiting.{IsVisited, readings_in}
-use Rattle.gm_graph.specs.Building.{AddsEdges, Gathers, edges_in, faults_by_vertex}
+use Rattle.gm_graph.specs.Adjacency.{AddsGroup, edges_of}
+use Rattle.gm_graph.specs.Building.{AddsEdges, Gathers, edges_in, faults_by_vertex, gathers}
 use Rattle.gm_graph.specs.Turns.{AddsAll, Visits, OverflowsWith, leaves_with}
 use Rattle.gm_graph.proofs.AddFaults.{add_too_many, add_unrefused}
 use Rattle.gm_graph.proofs.Deepening.{follows_adds, follows_nothing}
-use Rattle.gm_graph.proofs.Turning.{finding_known, gathers_edges, gathers_no_edges}
+use Rattle.gm_graph.proofs.Turning.{adds_group, adds_no_group, finding_known, gathers_edges, gathers_no_edges}
 use Rattle.gm_graph.proofs.visiting.add_requirements.Goals as goal
 use Rattle.gm_graph.proofs.visiting.add_requirements.Goals.{then-gathers+in_ok-add_edges, else-gathers, then-leads+in_ok-add_all, else-leads+in_ok-add_leaves}
 
@@ -33,13 +34,21 @@ returns-clause-followed c =
     let known = finding_known main held x found c.requires.finding in
     let gathering : Gathers main readings turns (edges_in before) (edges_in after) (faults_by_vertex before) (faults_by_vertex after) (turn x d) = elim c.if-gathers.branch [
       | then-gathers+in_ok-add_edges w ↦
-          gathers_edges main held turns x d found c.requires.finding before noted after c.in_ok-note.ensures.faults c.in_ok-note.ensures.edges
+          gathers_edges main held turns x d found c.requires.finding before noted after c.in_ok-note.ensures.faults (ap edges_of c.in_ok-note.ensures.groups)
           (subst (λ (ys : List ModuleVersion). AddsEdges (edges_in noted) (edges_in after) x ys) c.in_ok-lent.ensures.lent
           (subst (λ (g : GraphBuilder). AddsEdges (edges_in noted) (edges_in g) x c.in_ok-lent.lent.now) (sym w.builder-is) w.in_ok-add_edges.ensures.edges))
           (λ q. ap (λ (g : GraphBuilder). faults_by_vertex g q) w.builder-is ∙ w.in_ok-add_edges.ensures.faults q)
       | else-gathers w ↦
-          gathers_no_edges main held turns x d found c.requires.finding before noted after c.in_ok-note.ensures.faults c.in_ok-note.ensures.edges
+          gathers_no_edges main held turns x d found c.requires.finding before noted after c.in_ok-note.ensures.faults (ap edges_of c.in_ok-note.ensures.groups)
           (sym c.gathers-gathers.ensures ∙ w.if-gathers.false) w.builder-is
+    ] in
+    let group : AddsGroup (gathers turns (turn x d)) before.leaving.items after.leaving.items x = elim c.if-gathers.branch [
+      | then-gathers+in_ok-add_edges w ↦
+          adds_group (gathers turns (turn x d)) before.leaving.items noted.leaving.items after.leaving.items x (sym c.gathers-gathers.ensures ∙ w.if-gathers.true) c.in_ok-note.ensures.groups
+          (subst (λ (g : GraphBuilder). AddsGroup true noted.leaving.items g.leaving.items x) (sym w.builder-is) w.in_ok-add_edges.ensures.group)
+      | else-gathers w ↦
+          adds_no_group (gathers turns (turn x d)) before.leaving.items noted.leaving.items after.leaving.items x (sym c.gathers-gathers.ensures ∙ w.if-gathers.false) c.in_ok-note.ensures.groups
+          (ap (λ (g : GraphBuilder). g.leaving.items) w.builder-is)
     ] in
     elim c.if-leads.branch [
       | then-leads+in_ok-add_all w ↦
@@ -52,6 +61,7 @@ returns-clause-followed c =
                 (subst (λ (ys : List ModuleVersion). AddsAll turns new.turns.items ys Deep) c.in_ok-lent.ensures.lent adds.adds);
             leaves = adds.leaves ∙ ap (λ (b : Bool). leaves_with b leaves (vertex_requirements main readings x)) (sym leads);
             gathers = gathering;
+            group = group;
           })
       | else-leads+in_ok-add_leaves w ↦
           let leads = sym c.in_ok-leads.ensures ∙ w.if-leads.false in
@@ -63,6 +73,7 @@ returns-clause-followed c =
                 ∙ ap (λ (ys : List ModuleVersion). leaves ++ ys) c.in_ok-lent.ensures.lent
                 ∙ ap (λ (b : Bool). leaves_with b leaves (vertex_requirements main readings x)) (sym leads);
             gathers = gathering;
+            group = group;
           })
     ]
 
