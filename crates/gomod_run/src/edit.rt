@@ -12,25 +12,25 @@ ghost use Rattle.gomod_run.specs.Editing.{IsEditOutcome, edited_in_turn, edits_o
 
 use crate::report_lines::edit_line;
 use gm_file::MainFile;
-use gm_file_edit::{EditFault, Op, OpFault, apply};
+use gm_file_edit::{EditFault, Editor, Op, OpFault};
 use gm_graph_listing::{Output, main_file, printed, refused};
 use gm_name::NoMemory;
 use std::alloc::{AllocError, Global};
 
 /// Parses one operation and applies it. If it is refused, the result is the name of the reason.
-fn apply_text<'a>(
+fn apply_text(
     alloc: Global,
-    file: &mut MainFile<'a>,
+    editor: &mut Editor<'_>,
     text: &str,
 ) -> Result<Option<&'static str>, NoMemory>
-    ensures { IfOk result (λ kind. IsApplied text.now file.old file.new (option_map (λ kind. kind.now) kind)) }
+    ensures { IfOk result (λ kind. IsApplied text.now editor.old editor.new (option_map (λ kind. kind.now) kind)) }
 {
     let op = match Op::parse(alloc, text) {
         Ok(op) => op,
         Err(OpFault::Spelling) => return Ok(Some("Spelling")),
         Err(OpFault::NoMemory) => return Err(AllocError),
     };
-    match apply(alloc, file, &op) {
+    match editor.apply(&op) {
         Ok(()) => Ok(None),
         Err(EditFault::Misfit) => Ok(Some("Misfit")),
         Err(EditFault::NoMemory) => Err(AllocError),
@@ -39,16 +39,16 @@ fn apply_text<'a>(
 
 /// Applies operations in turn, up to the first that is refused. The result is that one's number, counted from 1,
 /// and the name of the reason.
-fn apply_all<'a>(
+fn apply_all(
     alloc: Global,
-    file: &mut MainFile<'a>,
+    editor: &mut Editor<'_>,
     texts: &[String],
 ) -> Result<Option<(usize, &'static str)>, NoMemory>
-    ensures { IfOk result (λ stop. IsFirstRefusal (map string_bytes texts.now) file.old file.new
+    ensures { IfOk result (λ stop. IsFirstRefusal (map string_bytes texts.now) editor.old editor.new
         (option_map (λ refusal. (refusal.0, refusal.1.now)) stop)) }
 {
     for (n, text) in texts.iter().enumerate() {
-        if let Some(kind) = apply_text(alloc, file, text.as_str())? {
+        if let Some(kind) = apply_text(alloc, editor, text.as_str())? {
             return Ok(Some((n + 1, kind)));
         }
     }
@@ -59,15 +59,16 @@ fn apply_all<'a>(
 /// is refused.
 fn edits_outcome(
     alloc: Global,
-    file: &mut MainFile<'_>,
+    file: &MainFile<'_>,
     operations: &[String],
 ) -> Result<Output, NoMemory>
     ensures { IfOk result (λ output. outcome_view output
         ≡ edits_outcome (refusals_from 1 (map string_bytes operations.now))
-        (edited_in_turn (filter_map edit_in (map string_bytes operations.now)) file.old)) }
+        (edited_in_turn (filter_map edit_in (map string_bytes operations.now)) file.now)) }
 {
-    match apply_all(alloc, file, operations)? {
-        None => Ok(printed(alloc, file.doc().format(alloc)?)),
+    let mut editor = Editor::new(alloc, file)?;
+    match apply_all(alloc, &mut editor, operations)? {
+        None => Ok(printed(alloc, editor.into_doc().format(alloc)?)),
         Some((number, kind)) => Ok(refused(alloc, edit_line(alloc, number, kind)?)),
     }
 }
@@ -81,7 +82,7 @@ pub(crate) fn edit_outcome(
     ensures { IfOk result (λ output. IsEditOutcome (map string_bytes operations.now) file.now (outcome_view output)) }
 {
     match main_file(alloc, file)? {
-        Ok(mut main) => edits_outcome(alloc, &mut main, operations),
+        Ok(main) => edits_outcome(alloc, &main, operations),
         Err(output) => Ok(output),
     }
 }
