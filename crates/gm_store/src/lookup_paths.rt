@@ -3,13 +3,13 @@
 //! Module files come from the proxy folders. The `go.mod` of a local folder doesn't: its path is relative to the
 //! main file's folder (Go Modules Reference, `replace` directive).
 
-ghost use Rattle.std.specs.Prelude.{◌≡◌, ◌<◌, IfOk, length, map, string_bytes};
+ghost use Rattle.std.specs.Prelude.{◌≡◌, ◌<◌, ◌++◌, ℕ, List, IfOk, OnOk, length, map, string_bytes};
 ghost use Rattle.gm_store.specs.Asked.{name_of};
-ghost use Rattle.gm_store.specs.Placed.{is_absolute, lookup_path_text};
+ghost use Rattle.gm_store.specs.Placed.{is_absolute, lookup_path_text, placed};
 ghost use Rattle.gm_store.specs.FolderLookups.{count_for};
 
 use crate::files::FileName;
-use crate::relative_path::{below, relative_name};
+use crate::relative_path::{ROOM, push_folder, push_relative};
 use gm_name::NoMemory;
 use std::alloc::Global;
 
@@ -28,11 +28,29 @@ pub(crate) fn lookup_path(
     ensures { IfOk result (λ place. string_bytes place
         ≡ lookup_path_text main.now (map string_bytes proxies.now) folder (name_of name.now)) }
 {
-    let relative = relative_name(alloc, name)?;
+    let mut place = String::with_capacity(alloc, ROOM)?;
+    push_base(&mut place, main, proxies, folder, name)?;
+    push_relative(&mut place, name)?;
+    Ok(place)
+}
+
+/// Appends the folder that a name's path is relative to in the look-up in folder number `folder`: nothing for a local
+/// folder whose text is absolute. The only refusal is `NoMemory`.
+fn push_base(
+    place: &mut String,
+    main: &str,
+    proxies: &[String],
+    folder: usize,
+    name: &FileName,
+) -> Result<(), NoMemory>
+    requires { folder < count_for (length proxies.now) (name_of name.now) }
+    ensures { OnOk result ((text : List ℕ) → string_bytes place.new ++ text
+        ≡ string_bytes place.old ++ placed main.now (map string_bytes proxies.now) folder (name_of name.now) text) }
+{
     match name {
-        FileName::Folder(text) if is_absolute(text.as_str()) => Ok(relative),
-        FileName::Folder(_) => below(alloc, main, relative.as_str()),
-        _ => below(alloc, proxies[folder].as_str(), relative.as_str()),
+        FileName::Folder(text) if is_absolute(text.as_str()) => Ok(()),
+        FileName::Folder(_) => push_folder(place, main),
+        _ => push_folder(place, proxies[folder].as_str()),
     }
 }
 

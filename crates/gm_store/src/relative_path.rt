@@ -2,13 +2,16 @@
 //!
 //! Paths are escaped, so that they don't depend on whether a file system distinguishes upper and lower case.
 
-ghost use Rattle.std.specs.Prelude.{◌≡◌, IfOk, string_bytes};
-ghost use Rattle.gm_store.specs.Asked.{name_of};
-ghost use Rattle.gm_store.specs.Relative.{StaysBelow, below, ends_in_slash, relative_text};
+ghost use Rattle.std.specs.Prelude.{◌≡◌, ◌++◌, ℕ, List, IfOk, OnOk, string_bytes};
+ghost use Rattle.gm_store.specs.Asked.{list_file, mod_file, name_of};
+ghost use Rattle.gm_store.specs.Relative.{LeadsBelow, StaysBelow, below, ends_in_slash, relative_text};
 
 use crate::files::FileName;
-use gm_name::{NoMemory, escape};
+use gm_name::{ModPath, ModVersion, NoMemory, push_escaped};
 use std::alloc::Global;
+
+/// The room that is made for a path at first, in bytes. Most paths are shorter, and take one allocation.
+pub(crate) const ROOM: usize = 128;
 
 /// The path of a file: `PATH/@v/VERSION.mod` or `PATH/@v/list` below a proxy folder, with path and version
 /// escaped, and `FOLDER/go.mod` for a local folder (Go Modules Reference, GOPROXY protocol). No second slash is
@@ -22,36 +25,64 @@ pub fn relative_name(alloc: Global, name: &FileName) -> Result<String, NoMemory>
     ensures text { IfOk result (λ text. string_bytes text ≡ relative_text (name_of name.now)) }
     ensures inside { IfOk result (λ text. StaysBelow (name_of name.now) (string_bytes text)) }
 {
+    let mut text = String::with_capacity(alloc, ROOM)?;
+    push_relative(&mut text, name)?;
+    Ok(text)
+}
+
+/// Appends the path of a file, as `relative_name` gives it, to a text. The only refusal is `NoMemory`.
+pub(crate) fn push_relative(place: &mut String, name: &FileName) -> Result<(), NoMemory>
+    ensures text { OnOk result (string_bytes place.new ≡ string_bytes place.old ++ relative_text (name_of name.now)) }
+    ensures inside { OnOk result (StaysBelow (name_of name.now) (relative_text (name_of name.now))) }
+{
     match name {
-        FileName::Mod(path, version) => {
-            let mut text = escape(alloc, path.as_str())?;
-            text.push_str("/@v/")?;
-            text.push_str(escape(alloc, version.as_str())?.as_str())?;
-            text.push_str(".mod")?;
-            Ok(text)
+        FileName::Mod(path, version) => push_mod_file(place, path, version),
+        FileName::List(path) => push_list_file(place, path),
+        FileName::Folder(folder) => {
+            push_folder(place, folder.as_str())?;
+            place.push_str("go.mod")?;
+            Ok(())
         }
-        FileName::List(path) => {
-            let mut text = escape(alloc, path.as_str())?;
-            text.push_str("/@v/list")?;
-            Ok(text)
-        }
-        FileName::Folder(folder) => below(alloc, folder.as_str(), "go.mod"),
     }
 }
 
-/// A path below a folder, with exactly one slash added if the folder's text doesn't end in one. The only refusal
-/// is `NoMemory`.
-pub(crate) fn below(alloc: Global, folder: &str, text: &str) -> Result<String, NoMemory>
-    ensures { IfOk result (λ place. string_bytes place ≡ below folder.now text.now) }
+/// Appends the path of a module's `.mod` file below a proxy folder. The only refusal is `NoMemory`.
+fn push_mod_file(place: &mut String, path: &ModPath, version: &ModVersion) -> Result<(), NoMemory>
+    ensures text { OnOk result (string_bytes place.new
+        ≡ string_bytes place.old ++ relative_text (mod_file path.now version.now)) }
+    ensures inside { OnOk result (LeadsBelow (relative_text (mod_file path.now version.now))) }
 {
-    let room = folder.len().saturating_add(text.len()).saturating_add(1);
-    let mut place = String::with_capacity(alloc, room)?;
+    let (path, version) = (path.as_str(), version.as_str());
+    push_escaped(place, path)?;
+    place.push_str("/@v/")?;
+    push_escaped(place, version)?;
+    place.push_str(".mod")?;
+    Ok(())
+}
+
+/// Appends the path of a module's list file below a proxy folder. The only refusal is `NoMemory`.
+fn push_list_file(place: &mut String, path: &ModPath) -> Result<(), NoMemory>
+    ensures text { OnOk result (string_bytes place.new ≡ string_bytes place.old ++ relative_text (list_file path.now)) }
+    ensures inside { OnOk result (LeadsBelow (relative_text (list_file path.now))) }
+{
+    let path = path.as_str();
+    push_escaped(place, path)?;
+    place.push_str("/@v/list")?;
+    Ok(())
+}
+
+/// Appends a folder's text, and a slash if it doesn't end in one, so that a path appended next is below the folder.
+/// The only refusal is `NoMemory`.
+pub(crate) fn push_folder(place: &mut String, folder: &str) -> Result<(), NoMemory>
+    ensures { OnOk result ((rest : List ℕ)
+        → string_bytes place.new ++ rest ≡ string_bytes place.old ++ below folder.now rest) }
+{
     place.push_str(folder)?;
-    if !ends_in_slash(folder) {
-        place.push_str("/")?;
+    if ends_in_slash(folder) {
+        return Ok(());
     }
-    place.push_str(text)?;
-    Ok(place)
+    place.push_str("/")?;
+    Ok(())
 }
 
 /// Whether a text ends in a slash.
