@@ -1,9 +1,10 @@
 //! Runs a command over a module graph: reads the two files, loads what the main module's file leads to, and
 //! answers.
 
-ghost use Rattle.std.specs.Prelude.{◌≡◌, ◌<◌, ◌≤◌, ◌⊎◌, ◌^◌, ◌-◌, ◌++◌, [], Contains, IfOk, MatchResult, List};
+ghost use Rattle.std.specs.Prelude.{◌≡◌, ◌≤◌, ◌⊎◌, ◌++◌, [], Contains, IfOk, MatchResult, List};
 ghost use Rattle.std.specs.Option.{option_copied};
 ghost use Rattle.gm_store.specs.Asked.{Name, Reply};
+ghost use Rattle.gm_store.specs.Faults.{HasCountedFailure};
 ghost use Rattle.gm_graph_cache.specs.Main.{main_of};
 ghost use Rattle.gm_graph.specs.Loading.{AsksInTurn};
 ghost use Rattle.gm_graph_listing.specs.Outcomes.{AsksInOrder, FailsInOrder, IsAnswer, IsRefusedRead, answers, given, outcome_view};
@@ -81,7 +82,7 @@ fn answer_over<F: Files>(
     ensures may_answer { (name : Name) (reply : Reply) → Contains (F.asked files.new) (name, reply)
         → F.may_answer files.old name reply }
     ensures cause { (F.refused files.new ≡ F.refused files.old)
-        ⊎ ((F.fault_count files.old < F.fault_count files.new) ⊎ (F.fault_count files.old ≡ 2 ^ 64 - 1)) }
+        ⊎ HasCountedFailure (F.fault_count files.old) (F.fault_count files.new) }
     ensures later { F.fault_count files.old ≤ F.fault_count files.new }
 {
     match load(alloc, main, files, table) {
@@ -135,7 +136,7 @@ pub fn answer<F: Files>(
     ensures may_answer { (name : Name) (reply : Reply) → Contains (F.asked files.new) (name, reply)
         → F.may_answer files.old name reply }
     ensures cause { (F.refused files.new ≡ F.refused files.old)
-        ⊎ ((F.fault_count files.old < F.fault_count files.new) ⊎ (F.fault_count files.old ≡ 2 ^ 64 - 1)) }
+        ⊎ HasCountedFailure (F.fault_count files.old) (F.fault_count files.new) }
     ensures later { F.fault_count files.old ≤ F.fault_count files.new }
 {
     let read = match read_files(alloc, file, sums)? {

@@ -11,8 +11,8 @@ use gm_name::{ModPath, ModVersion, NoMemory};
 use std::alloc::{AllocError, AllocFailed, Global};
 use thiserror::Error;
 
-/// The name of a file that is requested from a store. The maps of memory stores use the derived
-/// order.
+/// The name of a file that is requested from a store. Names are equal if they are of the same kind, with equal texts
+/// (the law `names_are_equal_by_text`). The maps of memory stores use the derived order.
 #[derive(Debug, Drop, PartialEq, Eq, PartialOrd, Ord, Hash)]
 pub enum FileName {
     /// The `.mod` file of a module at a version.
@@ -21,22 +21,6 @@ pub enum FileName {
     Folder(String),
     /// The list file of a module, which names its versions.
     List(ModPath),
-}
-
-impl FileName {
-    ghost use Rattle.gm_store.specs.Asked.{same_name};
-
-    /// Whether two names are the same: the same kind of file, with equal texts.
-    pub fn is_same(&self, other: &FileName) -> bool
-        ensures { result ≡ same_name (name_of self.now) (name_of other.now) }
-    {
-        match (self, other) {
-            (FileName::Mod(p, v), FileName::Mod(q, w)) => *p == *q && *v == *w,
-            (FileName::Folder(t), FileName::Folder(u)) => *t == *u,
-            (FileName::List(p), FileName::List(q)) => *p == *q,
-            _ => false,
-        }
-    }
 }
 
 /// A store's answer to a request.

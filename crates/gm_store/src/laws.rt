@@ -1,10 +1,21 @@
-//! Laws about file paths and about lookups in several folders. The functions do nothing; each contract is a law.
+//! Laws about file names and paths and about lookups in several folders. The functions do nothing; each contract is a
+//! law.
 //!
 //! They show that the definitions in the contracts mean what a reader expects: different files have different
 //! paths, and a lookup has exactly one outcome.
 
+ghost use Rattle.std.specs.Prelude.{◌≡◌};
+ghost use Rattle.gm_store.specs.Asked.{name_of, same_name};
+ghost use Rattle.gm_store.specs.declared.files.FileName.{FileName};
 ghost use Rattle.gm_store.specs.Relative.{PathsAreLowercase, PathsDiffer};
 ghost use Rattle.gm_store.specs.Stops.{OutcomeExists, OutcomeIsUnique, OutcomeFollowsContents};
+
+use crate::files::FileName;
+
+/// Two names of files are equal exactly if they are the same: the same kind of file, with equal texts.
+pub fn names_are_equal_by_text()
+    ensures { (a b : FileName) → ⟦<FileName as PartialEq>⟧.eq a b ≡ same_name (name_of a) (name_of b) }
+{}
 
 /// Different module files have different paths. The paths have no upper-case letter, so they differ on file
 /// systems that ignore case as well.

@@ -1,6 +1,7 @@
 -- What sinks hold after texts were written to them.
-use Rattle.std.specs.Prelude.{◌≡◌, ◌<◌, ◌≤◌, ◌-◌, ◌^◌, ◌⊎◌, ℕ, List, Option, Some, None, codes, length, take}
+use Rattle.std.specs.Prelude.{◌≡◌, ◌<◌, ◌≤◌, ◌-◌, ◌⊎◌, ℕ, List, Option, Some, None, codes, length, take}
 use Rattle.std.specs.Io.KnownBytes.{Appends}
+use Rattle.gm_store.specs.Faults.{HasCountedFailure}
 use Rattle.gm_store.specs.Taken.{AppendsSome, SinkState}
 use Rattle.gm_graph_listing.specs.Outcomes.{Outcome, failed}
 use Rattle.gm_graph_listing.specs.Texts.{line as line_of}
@@ -24,7 +25,7 @@ Overflows (Some room) old new text = (room < length text) × Appends old new (ta
 pub record TookPrefix (old new : SinkState) (text : List ℕ) : Type 0 where
   pub bytes : AppendsSome old.taken new.taken text
   pub room : Overflows old.room old.taken new.taken text
-  pub cause : (old.faults < new.faults) ⊎ (old.faults ≡ 2 ^ 64 - 1)
+  pub cause : HasCountedFailure old.faults new.faults
 
 -- both texts were written
 abbrev pub WroteBoth : List ℕ → List ℕ → SinkState → SinkState → SinkState → SinkState → Type 0

@@ -1,7 +1,8 @@
 //! Asking a store for one file. A separate step, because a failing device ends a run with a report of its own.
 
-ghost use Rattle.std.specs.Prelude.{◌≡◌, ◌<◌, ◌≤◌, ◌⊎◌, ◌^◌, ◌-◌, ◌++◌, ◌∷◌, [], List, None, length};
+ghost use Rattle.std.specs.Prelude.{◌≡◌, ◌<◌, ◌≤◌, ◌⊎◌, ◌++◌, ◌∷◌, [], List, None, length};
 ghost use Rattle.gm_store.specs.Asked.{Name, Reply, answer_in, name_of, reply_of};
+ghost use Rattle.gm_store.specs.Faults.{HasCountedFailure};
 ghost use Rattle.gomod_run.specs.Asking.{IsAsked};
 ghost use Rattle.gomod_run.specs.Runs.{store_state};
 
@@ -25,7 +26,7 @@ pub(crate) fn ask_for<F: Files>(
     ensures same_store { (name : Name) (reply : Reply)
         → F.may_answer files.new name reply → F.may_answer files.old name reply }
     ensures cause { (F.refused files.new ≡ F.refused files.old)
-        ⊎ ((F.fault_count files.old < F.fault_count files.new) ⊎ (F.fault_count files.old ≡ 2 ^ 64 - 1)) }
+        ⊎ HasCountedFailure (F.fault_count files.old) (F.fault_count files.new) }
     ensures later { F.fault_count files.old ≤ F.fault_count files.new }
 {
     match files.ask(name) {

@@ -1,9 +1,10 @@
 //! The outcome of a command. It is complete before anything is written, since a fault that is found late must leave
 //! standard output empty.
 
-ghost use Rattle.std.specs.Prelude.{◌≡◌, ◌<◌, ◌≤◌, ◌⊎◌, ◌^◌, ◌-◌, [], Contains, IfOk};
+ghost use Rattle.std.specs.Prelude.{◌≡◌, ◌≤◌, ◌⊎◌, [], Contains, IfOk};
 ghost use Rattle.std.specs.Option.{option_map};
 ghost use Rattle.gm_store.specs.Asked.{Name, Reply};
+ghost use Rattle.gm_store.specs.Faults.{HasCountedFailure};
 ghost use Rattle.gm_graph_listing.specs.Outcomes.{outcome_view};
 ghost use Rattle.gomod_run.specs.Runs.{AskedInTurn, FailsInTurn, Needs, store_state};
 ghost use Rattle.gomod_run.specs.Queries.{RunsTo};
@@ -40,7 +41,7 @@ pub(crate) fn outcome<F: Files>(
     ensures answers { (name : Name) (reply : Reply)
         → Contains (F.asked files.new) (name, reply) → F.may_answer files.old name reply }
     ensures cause { (F.refused files.new ≡ F.refused files.old)
-        ⊎ ((F.fault_count files.old < F.fault_count files.new) ⊎ (F.fault_count files.old ≡ 2 ^ 64 - 1)) }
+        ⊎ HasCountedFailure (F.fault_count files.old) (F.fault_count files.new) }
     ensures later { F.fault_count files.old ≤ F.fault_count files.new }
 {
     match command {

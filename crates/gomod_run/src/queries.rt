@@ -1,9 +1,10 @@
 //! The outcome of `graph`, `list` and `chain`: `gm_graph_listing` finds it, and this file states which files are
 //! asked for in the terms of all commands.
 
-ghost use Rattle.std.specs.Prelude.{◌≡◌, ◌<◌, ◌≤◌, ◌⊎◌, ◌^◌, ◌-◌, ◌++◌, [], Contains, IfOk, List};
+ghost use Rattle.std.specs.Prelude.{◌≡◌, ◌≤◌, ◌⊎◌, ◌++◌, [], Contains, IfOk, List};
 ghost use Rattle.std.specs.Option.{option_map};
 ghost use Rattle.gm_store.specs.Asked.{Name, Reply};
+ghost use Rattle.gm_store.specs.Faults.{HasCountedFailure};
 ghost use Rattle.gm_graph_listing.specs.Outcomes.{IsAnswer, answers, given, outcome_view};
 ghost use Rattle.gomod_run.specs.Needs.{GraphNeeds};
 ghost use Rattle.gomod_run.specs.Runs.{AskedInTurn, FailsInTurn, store_state};
@@ -35,7 +36,7 @@ pub(crate) fn query_outcome<F: Files>(
     ensures answers { (name : Name) (reply : Reply)
         → Contains (F.asked files.new) (name, reply) → F.may_answer files.old name reply }
     ensures cause { (F.refused files.new ≡ F.refused files.old)
-        ⊎ ((F.fault_count files.old < F.fault_count files.new) ⊎ (F.fault_count files.old ≡ 2 ^ 64 - 1)) }
+        ⊎ HasCountedFailure (F.fault_count files.old) (F.fault_count files.new) }
     ensures later { F.fault_count files.old ≤ F.fault_count files.new }
 {
     let output = answer(alloc, query, main, sums, files)?;

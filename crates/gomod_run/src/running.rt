@@ -1,8 +1,9 @@
 //! Running one command, from bytes that have been read to bytes that are written.
 
-ghost use Rattle.std.specs.Prelude.{◌≡◌, ◌<◌, ◌≤◌, ◌⊎◌, ◌^◌, ◌-◌, [], Contains, None, false};
+ghost use Rattle.std.specs.Prelude.{◌≡◌, ◌≤◌, ◌⊎◌, [], Contains, None, false};
 ghost use Rattle.std.specs.Option.{option_map};
 ghost use Rattle.gm_store.specs.Asked.{Name, Reply, answer_in};
+ghost use Rattle.gm_store.specs.Faults.{HasCountedFailure};
 ghost use Rattle.gm_graph_listing.specs.Outcomes.{code_of};
 ghost use Rattle.gomod_run.specs.Runs.{AnsweredAll, AskedInTurn, FailsInTurn, Needs, store_state, takes_sums};
 ghost use Rattle.gomod_run.specs.Queries.{RunsTo};
@@ -92,7 +93,7 @@ pub fn run<F: Files, O: Sink, R: Sink>(
         → Contains (F.asked files.new) (name, reply) → F.may_answer files.old name reply }
     // The device fails only where the count of its failures rises in this run, or stood at its maximum before it.
     ensures cause { (F.refused files.new ≡ F.refused files.old)
-        ⊎ ((F.fault_count files.old < F.fault_count files.new) ⊎ (F.fault_count files.old ≡ 2 ^ 64 - 1)) }
+        ⊎ HasCountedFailure (F.fault_count files.old) (F.fault_count files.new) }
     ensures later { F.fault_count files.old ≤ F.fault_count files.new }
 {
     match outcome(alloc, command, main, sums, files) {

@@ -1,13 +1,14 @@
 //! The outcome of `versions`: it needs a module's list and then perhaps one go.mod, so the asks of the store are
 //! ordered here.
 
-ghost use Rattle.std.specs.Prelude.{◌≡◌, ◌<◌, ◌≤◌, ◌⊎◌, ◌^◌, ◌-◌, ℕ, [], Bool, Contains, IfErr, IfOk, List, MatchOption, None, Some, false, map, true};
+ghost use Rattle.std.specs.Prelude.{◌≡◌, ◌≤◌, ◌⊎◌, ℕ, [], Bool, Contains, IfErr, IfOk, List, MatchOption, None, Some, false, map, true};
 ghost use Rattle.std.specs.String.{string_bytes};
 ghost use Rattle.std.specs.List.Sorted.{IsStrictlySortedBy};
 ghost use Rattle.gm_name.specs.Version.{version_cmp};
 ghost use Rattle.gm_file.specs.Views.{interval_views};
 ghost use Rattle.gm_file_retract.specs.Shown.{shown_of};
 ghost use Rattle.gm_store.specs.Asked.{Name, Reply, answer_in, mod_file, reply_of};
+ghost use Rattle.gm_store.specs.Faults.{HasCountedFailure};
 ghost use Rattle.gm_graph_cache.specs.Reading.{IsContentReading, IsFileReading};
 ghost use Rattle.gm_graph_listing.specs.Outcomes.{outcome_view, printed};
 ghost use Rattle.gm_store.specs.Latest.{IsLatest};
@@ -149,7 +150,7 @@ fn latest_outcome<F: Files>(
         (store_state (F.asked files.new) (F.refused files.new))
         result }
     ensures cause { (F.refused files.new ≡ F.refused files.old)
-        ⊎ ((F.fault_count files.old < F.fault_count files.new) ⊎ (F.fault_count files.old ≡ 2 ^ 64 - 1)) }
+        ⊎ HasCountedFailure (F.fault_count files.old) (F.fault_count files.new) }
     ensures later { F.fault_count files.old ≤ F.fault_count files.new }
 {
     let file = FileName::Mod(path.copy(alloc)?, latest.copy(alloc)?);
@@ -187,7 +188,7 @@ fn listed<F: Files>(
     ensures same_store { (name : Name) (reply : Reply)
         → F.may_answer files.new name reply → F.may_answer files.old name reply }
     ensures cause { (F.refused files.new ≡ F.refused files.old)
-        ⊎ ((F.fault_count files.old < F.fault_count files.new) ⊎ (F.fault_count files.old ≡ 2 ^ 64 - 1)) }
+        ⊎ HasCountedFailure (F.fault_count files.old) (F.fault_count files.new) }
     ensures later { F.fault_count files.old ≤ F.fault_count files.new }
 {
     if !path.is_fetchable() {
@@ -241,7 +242,7 @@ pub(crate) fn versions_outcome<F: Files>(
     ensures answers { (name : Name) (reply : Reply)
         → Contains (F.asked files.new) (name, reply) → F.may_answer files.old name reply }
     ensures cause { (F.refused files.new ≡ F.refused files.old)
-        ⊎ ((F.fault_count files.old < F.fault_count files.new) ⊎ (F.fault_count files.old ≡ 2 ^ 64 - 1)) }
+        ⊎ HasCountedFailure (F.fault_count files.old) (F.fault_count files.new) }
     ensures later { F.fault_count files.old ≤ F.fault_count files.new }
 {
     let versions = match listed(alloc, path, files)? {

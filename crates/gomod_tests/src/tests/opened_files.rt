@@ -1,4 +1,4 @@
-//! How often a store over folders of the file system opens files.
+//! Which files a store over folders of the file system opens, how often, and which failures it counts.
 
 use super::OUT_OF_MEMORY;
 use gm_name::ModPath;
@@ -11,7 +11,7 @@ use std::test::Fail;
 use std::{io, rt};
 
 /// A file system that records which files are to be opened. The files in a folder `full` are empty, those in
-/// a folder `broken` can't be opened, and there are no others.
+/// a folder `broken` can't be opened, at those in a folder `starved` memory runs out, and there are no others.
 #[derive(Clone, Copy)]
 struct RecordingSystem<'a> {
     /// The host, which opens the empty file.
@@ -50,6 +50,9 @@ impl rt::Files for RecordingSystem<'_> {
         }
         if path.starts_with("broken/") {
             return Err(io::Error::from(ErrorKind::PermissionDenied));
+        }
+        if path.starts_with("starved/") {
+            return Err(io::Error::from(ErrorKind::OutOfMemory));
         }
         Err(io::Error::from(ErrorKind::NotFound))
     }
@@ -100,51 +103,82 @@ impl rt::Files for RecordingSystem<'_> {
     }
 }
 
-/// Folders with the marks between them, the files that are opened when a list is asked for, and whether the
-/// device fails.
-const ROWS: [(&str, &str, bool); 7] = [
-    ("full", "full/p.io/@v/list ", false),
-    ("full,empty", "full/p.io/@v/list ", false),
-    ("empty,full", "empty/p.io/@v/list full/p.io/@v/list ", false),
+/// The end of a request.
+type Ended = Result<(), AskFault>;
+
+/// Folders with the marks between them, the files that are opened when a list is asked for, how the request ends,
+/// and how many failures of the device are counted. They are counted too where memory runs out after them.
+const ROWS: [(&str, &str, Ended, u64); 10] = [
+    ("full", "full/p.io/@v/list ", Ok(()), 0),
+    ("full,empty", "full/p.io/@v/list ", Ok(()), 0),
+    (
+        "empty,full",
+        "empty/p.io/@v/list full/p.io/@v/list ",
+        Ok(()),
+        0,
+    ),
     (
         "empty|empty",
         "empty/p.io/@v/list empty/p.io/@v/list ",
-        false,
+        Ok(()),
+        0,
     ),
-    ("broken", "broken/p.io/@v/list ", true),
-    ("broken,full", "broken/p.io/@v/list ", true),
+    ("broken", "broken/p.io/@v/list ", Err(AskFault::Device), 1),
+    (
+        "broken,full",
+        "broken/p.io/@v/list ",
+        Err(AskFault::Device),
+        1,
+    ),
     (
         "broken|full",
         "broken/p.io/@v/list full/p.io/@v/list ",
-        false,
+        Ok(()),
+        1,
+    ),
+    (
+        "starved|full",
+        "starved/p.io/@v/list ",
+        Err(AskFault::NoMemory),
+        0,
+    ),
+    (
+        "broken|starved",
+        "broken/p.io/@v/list starved/p.io/@v/list ",
+        Err(AskFault::NoMemory),
+        1,
+    ),
+    (
+        "broken|empty,broken|starved",
+        "broken/p.io/@v/list empty/p.io/@v/list broken/p.io/@v/list starved/p.io/@v/list ",
+        Err(AskFault::NoMemory),
+        2,
     ),
 ];
 
-/// Asks a store over these folders for the list of a module. Says whether the device failed. `None` if memory
-/// runs out.
-fn asks_for_list(system: RecordingSystem<'_>, folders: &str) -> Option<bool> {
+/// Asks a store over these folders for the list of a module. Says how the request ends, and how many failures of
+/// the device are counted. `None` if memory runs out before it.
+fn asks_for_list(system: RecordingSystem<'_>, folders: &str) -> Option<(Ended, u64)> {
     let alloc = system.system.alloc();
     let proxy = ProxyList::read(alloc, folders).ok()?;
     let name = FileName::List(ModPath::parse(alloc, "p.io").ok()?);
     let mut store = DiskFallback::new(system, alloc, String::new(alloc), proxy);
-    match store.ask(&name) {
-        Ok(()) => Some(false),
-        Err(AskFault::Device) => Some(true),
-        Err(AskFault::NoMemory) => None,
-    }
+    let ended = store.ask(&name);
+    Some((ended, store.faults()))
 }
 
 #[test]
 fn each_file_is_opened_once(rt: HostRuntime) -> Result<(), Fail> {
-    for (folders, wanted, fails) in ROWS {
+    for (folders, wanted, end, failures) in ROWS {
         let opened = RefCell::new(String::new(rt.alloc()));
         let system = RecordingSystem {
             system: rt,
             opened: &opened,
         };
-        let failed = asks_for_list(system, folders).ok_or(OUT_OF_MEMORY)?;
+        let (ended, counted) = asks_for_list(system, folders).ok_or(OUT_OF_MEMORY)?;
         assert_eq!(rt; opened.into_inner().as_str(), wanted, "{folders}");
-        assert_eq!(rt; failed, fails, "{folders}");
+        assert_eq!(rt; ended, end, "{folders}");
+        assert_eq!(rt; counted, failures, "{folders}");
     }
     Ok(())
 }
