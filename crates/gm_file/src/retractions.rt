@@ -1,5 +1,5 @@
-//! The retractions of a dependency's file. They are read in a pass of their own, since their faults don't count,
-//! while the loop in `fields` stops at every fault.
+//! The retractions of a dependency's file. Their faults don't count, while the loop in `fields` stops at every fault,
+//! so those of a document are read in a pass of their own.
 
 ghost use Rattle.std.specs.Prelude.{◌≡◌, ◌++◌, IfOk, OnOk};
 ghost use Rattle.std.specs.Option.{option_map, option_to_list};
