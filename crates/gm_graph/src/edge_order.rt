@@ -1,7 +1,7 @@
 //! The edges of a graph in ascending order, and the vertices that they lead to, from its adjacency lists.
 //!
-//! Each opened vertex has one adjacency list, so these are sorted once, by the step that they leave, and nothing else
-//! has to be sorted by texts: the opened vertices are then in ascending order, too.
+//! Each opened vertex has one adjacency list. Once these are sorted by the step that they leave, the opened vertices
+//! are in ascending order, too, and are not sorted again.
 
 ghost use Rattle.std.specs.Prelude.{◌≡◌, ◌++◌, ◌≤◌, IfOk, OnOk, length};
 ghost use Rattle.std.specs.List.{IsDistinct};
