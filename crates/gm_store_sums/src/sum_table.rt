@@ -142,7 +142,7 @@ fn compare_key(line: &SumLine, path: &ModPath, version: &ModVersion) -> Ordering
     ensures { result ≡ key_cmp (triple line.now) (path.now, version.now) }
 {
     let by_path = line.path.as_slice().cmp(path.as_str().as_bytes());
-    by_path.then(line.version.as_slice().cmp(version.as_str().as_bytes()))
+    by_path.then_with(|| line.version.as_slice().cmp(version.as_str().as_bytes()))
 }
 
 /// Whether a line has this hash.
