@@ -1,8 +1,9 @@
 //! Loading a module graph: a loop over the worklist, and the assembly of the result.
 
-ghost use Rattle.std.specs.Prelude.{◌≡◌, ◌<◌, ◌≤◌, ◌⊎◌, ◌^◌, ◌-◌, ◌++◌, [], Contains, IfOk, OnOk, Err, map};
+ghost use Rattle.std.specs.Prelude.{◌≡◌, ◌≤◌, ◌++◌, [], Contains, IfOk, OnOk, Err, map};
 ghost use Rattle.std.specs.Option.{option_copied};
 ghost use Rattle.gm_store.specs.Asked.{Name, Reply, name_of};
+ghost use Rattle.gm_store.specs.Faults.{HasCountedFailure};
 ghost use Rattle.gm_store.specs.declared.files.FileName.{FileName};
 ghost use Rattle.gm_graph_cache.specs.Asking.{MayGrow};
 ghost use Rattle.gm_graph_cache.specs.Cached.{Knows, main_in, sums_in, turns_in};
@@ -62,7 +63,7 @@ fn visit_all<F: Files>(
     ensures refused { F.refused files.new ≡ F.refused files.old ++ refused_in result }
     ensures may { MayGrow (F.may_answer files.old) (F.asked files.old) (F.asked files.new) }
     ensures cause { (name : FileName) → result ≡ Err (LoadFault.Device name)
-        → (F.fault_count files.old < F.fault_count files.new) ⊎ (F.fault_count files.old ≡ 2 ^ 64 - 1) }
+        → HasCountedFailure (F.fault_count files.old) (F.fault_count files.new) }
     ensures later { F.fault_count files.old ≤ F.fault_count files.new }
 {
     let mut at = 0;
@@ -144,7 +145,7 @@ pub fn load<F: Files>(
     ensures may_answer { (name : Name) (reply : Reply) → Contains (F.asked files.new) (name, reply)
         → F.may_answer files.old name reply }
     ensures cause { (name : FileName) → result ≡ Err (LoadFault.Device name)
-        → (F.fault_count files.old < F.fault_count files.new) ⊎ (F.fault_count files.old ≡ 2 ^ 64 - 1) }
+        → HasCountedFailure (F.fault_count files.old) (F.fault_count files.new) }
     ensures later { F.fault_count files.old ≤ F.fault_count files.new }
 {
     let required = kept_requirements(alloc, main)?;

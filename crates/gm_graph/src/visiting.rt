@@ -1,8 +1,9 @@
 //! One visit of the worklist: what reading one vertex adds to the worklist and to the graph.
 
-ghost use Rattle.std.specs.Prelude.{◌≡◌, ◌<◌, ◌≤◌, ◌⊎◌, ◌^◌, ◌-◌, ◌++◌, ◌∷◌, [], not, None, Some, IfOk, OnOk, Ok, Err, true};
+ghost use Rattle.std.specs.Prelude.{◌≡◌, ◌≤◌, ◌++◌, ◌∷◌, [], not, None, Some, IfOk, OnOk, Ok, Err, true};
 ghost use Rattle.std.specs.Option.{option_map};
 ghost use Rattle.gm_store.specs.Asked.{answer_in, name_of};
+ghost use Rattle.gm_store.specs.Faults.{HasCountedFailure};
 ghost use Rattle.gm_store.specs.declared.files.FileName.{FileName};
 ghost use Rattle.gm_graph_cache.specs.Asking.{AsksFor, MayGrow, MayLess};
 ghost use Rattle.gm_graph_cache.specs.Cached.{AddsTurn, IsFinding, Knows, LendsKept, held_of, main_in, turns_in};
@@ -129,7 +130,7 @@ pub(crate) fn visit<F: Files>(
     ensures may { MayGrow (F.may_answer files.old) (F.asked files.old) (F.asked files.new) }
     ensures same_store { MayLess (F.may_answer files.new) (F.may_answer files.old) }
     ensures cause { (name : FileName) → result ≡ Err (LoadFault.Device name)
-        → (F.fault_count files.old < F.fault_count files.new) ⊎ (F.fault_count files.old ≡ 2 ^ 64 - 1) }
+        → HasCountedFailure (F.fault_count files.old) (F.fault_count files.new) }
     ensures later { F.fault_count files.old ≤ F.fault_count files.new }
 {
     let finding = cache.known(files, vertex)?;

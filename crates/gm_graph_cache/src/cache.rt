@@ -3,9 +3,10 @@
 //! It exists so that each file is asked for and parsed once, however many vertices and turns need it. The test of
 //! the declared path depends on the vertex, not on the file alone, and is therefore repeated for each vertex.
 
-ghost use Rattle.std.specs.Prelude.{◌≡◌, ◌<◌, ◌≤◌, ◌⊎◌, ◌^◌, ◌-◌, ◌++◌, ◌∷◌, [], ℕ, List, IfOk, OnOk, OnErr, None, Some, Ok, Err, true};
+ghost use Rattle.std.specs.Prelude.{◌≡◌, ◌≤◌, ◌++◌, ◌∷◌, [], ℕ, List, IfOk, OnOk, OnErr, None, Some, Ok, Err, true};
 ghost use Rattle.std.specs.Option.{option_copied, option_map};
 ghost use Rattle.gm_store.specs.Asked.{Name, Reply, answer_in, name_of, reply_of};
+ghost use Rattle.gm_store.specs.Faults.{HasCountedFailure};
 ghost use Rattle.gm_store.specs.declared.files.FileName.{FileName};
 ghost use Rattle.gm_graph_cache.specs.Main.{ModuleVersion, main_of};
 ghost use Rattle.gm_graph_cache.specs.Marks.{IsNameKey};
@@ -157,7 +158,7 @@ impl<'a> Cache<'a> {
             × (F.refused files.new ≡ F.refused files.old ++ name_of name.now ∷ []) }
         ensures not_refused { (result ≡ Err AskFault.Device → ⊥) → F.refused files.new ≡ F.refused files.old }
         ensures cause { result ≡ Err AskFault.Device
-            → (F.fault_count files.old < F.fault_count files.new) ⊎ (F.fault_count files.old ≡ 2 ^ 64 - 1) }
+            → HasCountedFailure (F.fault_count files.old) (F.fault_count files.new) }
         ensures may { MayGrow (F.may_answer files.old) (F.asked files.old) (F.asked files.new) }
         ensures same_store { MayLess (F.may_answer files.new) (F.may_answer files.old) }
         ensures later { F.fault_count files.old ≤ F.fault_count files.new }
@@ -211,7 +212,7 @@ impl<'a> Cache<'a> {
             × (may_be_asked (name_of name) ≡ true) × (answer_in (F.asked files.old) (name_of name) ≡ None) }
         ensures refused { F.refused files.new ≡ F.refused files.old ++ refused_in result }
         ensures cause { (name : FileName) → result ≡ Err (LoadFault.Device name)
-            → (F.fault_count files.old < F.fault_count files.new) ⊎ (F.fault_count files.old ≡ 2 ^ 64 - 1) }
+            → HasCountedFailure (F.fault_count files.old) (F.fault_count files.new) }
         ensures may { MayGrow (F.may_answer files.old) (F.asked files.old) (F.asked files.new) }
         ensures same_store { MayLess (F.may_answer files.new) (F.may_answer files.old) }
         ensures later { F.fault_count files.old ≤ F.fault_count files.new }
