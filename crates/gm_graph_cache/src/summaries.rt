@@ -3,6 +3,8 @@
 //! Nearly all questions about a file come right after it was read, so the newest entry is kept outside the map, where
 //! it takes no look-up.
 
+ghost use Rattle.std.specs.Prelude.{◌≡◌};
+ghost use Rattle.gm_store.specs.Asked.{name_of, same_name};
 ghost use Rattle.gm_graph_cache.specs.Marks.{IsNameKey};
 
 use crate::name_key::{NameKey, mark_copy};
@@ -31,6 +33,13 @@ pub(crate) enum Place {
     Newest,
     /// It is one of those before the newest, if there is one at all; this is the key of its name.
     Earlier(NameKey),
+}
+
+/// Whether two names are the same: the same kind of file, with equal texts.
+fn is_same(name: &FileName, other: &FileName) -> bool
+    ensures { result ≡ same_name (name_of name.now) (name_of other.now) }
+{
+    *name == *other
 }
 
 /// What was read of files, by their names.
@@ -68,7 +77,7 @@ impl Summaries {
         match &self.newest {
             None => None,
             Some(newest) => {
-                if name.is_same(&newest.key.name) {
+                if is_same(name, &newest.key.name) {
                     Some(&newest.kept)
                 } else {
                     None
