@@ -60,7 +60,8 @@ inner_fates false inner = map Some inner
 
 -- the block that is open at these lines, from its opening on
 abbrev pub begun_by : Bool → List (Line Placed) → Option Begun
-begun_by lost (Open verb suffix ∷ inner) = Some (record { verb = verb; suffix = suffix; inner = inner_fates lost inner })
+begun_by lost (Open verb suffix ∷ inner) =
+    Some (record { verb = verb; suffix = suffix; inner = inner_fates lost inner })
 begun_by lost _ = None
 
 abbrev pub begun_of : Option OpenBlock → List (Line Placed) → Option Begun
@@ -100,6 +101,7 @@ with_loss None = None
 with_loss (Some block) = Some (record { at = block.at; lost = true })
 
 -- the packing after one more line with this fate
-pub record IsNext (after : Bool) (block : Option OpenBlock) (kept : List (Line Placed)) (fate : Fate) (next : Packing) (lines : List (Line Placed)) : Type 0 where
+pub record IsNext (after : Bool) (block : Option OpenBlock) (kept : List (Line Placed)) (fate : Fate)
+    (next : Packing) (lines : List (Line Placed)) : Type 0 where
   pub ends : EndsWithBlock next.block (take next.kept lines)
   pub packed : (fates : List Fate) → packed_by next lines fates ≡ packed_from after block kept (fate ∷ fates)

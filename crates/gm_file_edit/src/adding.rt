@@ -13,7 +13,7 @@ ghost use Rattle.gm_file_edit.specs.Adding.{added, after_first_that, spot_after_
 ghost use Rattle.gm_syntax.specs.Lines.{HasNoLineFeed};
 ghost use Rattle.gm_file_edit.specs.Fates.{directive_at, passes, IsValidAt};
 
-use crate::target::{block_after_line, is_entry_of};
+use crate::targeting::{block_after_line, is_entry_of};
 use gm_syntax::{Line, Token};
 use std::alloc::{AllocError, Global};
 

@@ -21,7 +21,7 @@ mod op;
 mod packing;
 mod part;
 mod renewing;
-mod target;
+mod targeting;
 
 pub use crate::applying::apply;
 pub use crate::editor::Editor;

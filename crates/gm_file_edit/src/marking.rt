@@ -12,7 +12,7 @@ ghost use Rattle.gm_file_edit.specs.Marks.{marks_from};
 ghost use Rattle.gm_file_edit.specs.Views.{edit_of};
 
 use crate::op::Change;
-use crate::target::{block_after_line, is_about_at};
+use crate::targeting::{block_after_line, is_about_at};
 use gm_syntax::Line;
 use std::alloc::{AllocError, Global};
 

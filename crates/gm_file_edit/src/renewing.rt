@@ -20,7 +20,7 @@ ghost use Rattle.gm_file_edit.specs.Views.{edit_of};
 use crate::new_words::{push_replace, push_word};
 use crate::op::Change;
 use crate::packing::pack;
-use crate::target::block_after_line;
+use crate::targeting::block_after_line;
 use gm_file::Replace;
 use gm_syntax::{Line, Token};
 use std::alloc::{AllocError, Global};

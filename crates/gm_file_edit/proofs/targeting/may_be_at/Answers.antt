@@ -3,7 +3,7 @@ use Rattle.gm_file_edit.specs.About.{about}
 use Rattle.gm_file_edit.specs.Fates.{passes}
 use Rattle.gm_file_edit.specs.Views.{edit_of}
 use Rattle.gm_file_edit.proofs.Comments.{blank-holds, comment-holds, open-holds, close-holds}
-use Rattle.gm_file_edit.proofs.target.may_be_at.Goals as goal
+use Rattle.gm_file_edit.proofs.targeting.may_be_at.Goals as goal
 
 pub returns-in-Blank : goal.returns-in-Blank
 returns-in-Blank c = λ off. rw c.in-Blank.is (ap (passes (about (edit_of c.args.change.now))) (blank-holds _))

@@ -3,7 +3,7 @@ use Rattle.std.specs.Str.{bytes_eq}
 use Rattle.gm_syntax.specs.Tokens.{words_of}
 use Rattle.gm_file.specs.Directives.{is_empty_block}
 use Rattle.gm_file_edit.proofs.Targets.{no-words-of, single-of}
-use Rattle.gm_file_edit.proofs.target.is_single_of.Goals as goal
+use Rattle.gm_file_edit.proofs.targeting.is_single_of.Goals as goal
 
 pub returns-in-empty : goal.returns-in-empty
 returns-in-empty c = λ suffix. no-words-of c.args.verb.now c.args.words.now suffix c.in-empty.len_below

@@ -1,7 +1,7 @@
 use Rattle.std.proofs.Common.{sym, ◌∙◌}
 use Rattle.gm_syntax.proofs.NewWords.{value_is}
 use Rattle.gm_file_edit.proofs.Targets.{text-value}
-use Rattle.gm_file_edit.proofs.target.is_text.Goals as goal
+use Rattle.gm_file_edit.proofs.targeting.is_text.Goals as goal
 
 pub returns-in_ok-value-in-Text : goal.returns-in_ok-value-in-Text
 returns-in_ok-value-in-Text c =

@@ -1,7 +1,7 @@
 use Rattle.gm_file_edit.specs.Views.{edit_of}
 use Rattle.gm_file_edit.proofs.Parts.{if-ok}
 use Rattle.gm_file_edit.proofs.Targets.{block-other, no-words-other, words-other}
-use Rattle.gm_file_edit.proofs.target.may_be_entry.Goals as goal
+use Rattle.gm_file_edit.proofs.targeting.may_be_entry.Goals as goal
 
 pub returns-in-Some : goal.returns-in-Some
 returns-in-Some c =

@@ -8,7 +8,7 @@ use Rattle.gm_file_edit.specs.Targets.{begins_with, verb_of}
 use Rattle.gm_file_edit.specs.Views.{edit_of}
 use Rattle.gm_file_edit.proofs.Parts.{if-ok}
 use Rattle.gm_file_edit.proofs.Targets.{other-path, other-verb}
-use Rattle.gm_file_edit.proofs.target.may_be.Goals as goal
+use Rattle.gm_file_edit.proofs.targeting.may_be.Goals as goal
 
 pub returns-then-eq : goal.returns-then-eq
 returns-then-eq c =

@@ -6,7 +6,7 @@ use Rattle.gm_file.specs.DirectiveViews.{IsLineRead}
 use Rattle.gm_file.specs.Directives.{Strict, item_at}
 use Rattle.gm_file_edit.specs.Fates.{directive_at}
 use Rattle.gm_file_edit.proofs.Drops.{line-read, never-wrong}
-use Rattle.gm_file_edit.proofs.target.held_at.Goals as goal
+use Rattle.gm_file_edit.proofs.targeting.held_at.Goals as goal
 
 pub returns-in-Ok : goal.returns-in-Ok
 returns-in-Ok c = line-read c.args.block (line_of c.args.line.now) c.in-Ok.directive c.in-Ok.ensures
