@@ -1,17 +1,19 @@
 #!/usr/bin/env bash
 # Times `gomod list`, `graph` and `chain` over proxy folders of 1,000, 10,000 and 65,000 modules with five
-# requirements each, of 1,000 modules with 200 requirements each, over a chain 65,000 deep and a main file with 65,535
-# requirements, beside `cat` of the same files. Beside it, in the same run, where there is a Rust compiler, a plain
-# Rust program (plain.rs), and where there is a go command, `go list -m all` with a cold module cache (one run) and
-# with a warm one, and whether they print the same bytes.
+# requirements each, of 1,000 modules with 200 requirements each, over a chain 65,000 deep, a main file with 65,535
+# requirements, and one with go 1.17 that requires 2,500 of 10,000 modules, whose files alone are read; beside `cat` of
+# the same files. Beside it, in the same run, where there is a Rust compiler, a plain Rust program (plain.rs), and where
+# there is a go command, `go list -m all` with a cold module cache (one run) and with a warm one, and whether they print
+# the same bytes.
 #
 #   bench/graph.sh
 #
 # It needs what ./build needs, which it runs, and python3 and awk; in the folder for temporary files room for 400,000
 # small files (1.7 GB where each takes 4 KB), and about as much again for the caches of a go command. rustc and go are
-# used where they are there. It prints for each graph its modules and bytes, and then for each command elapsed
-# seconds, those of the processor, peak memory, and the last two for each module: of three runs the one that took
-# least time. The status is 1 where gomod fails.
+# used where they are there, and so is valgrind, to count instructions. It prints for each graph its modules and bytes,
+# and then for each command elapsed seconds, those of the processor, peak memory, and the last two for each module: of
+# three runs the one that took least time; and for gomod and the plain program millions of instructions. The status is 1
+# where gomod fails.
 set -euo pipefail
 cd "$(dirname "$0")/.."
 gomod=$(./build | tail -n 1)
@@ -21,7 +23,7 @@ trap 'rm -rf "$work"' EXIT
 plain=
 if command -v rustc > /dev/null; then
   plain=$work/plain
-  rustc -O -o "$plain" bench/plain.rs
+  rustc --edition 2021 -O -o "$plain" bench/plain.rs
 fi
 
 # The same files at each run. A path has up to three versions, each a module of its own. Requirements stand as the go
@@ -34,22 +36,22 @@ import sys
 work = sys.argv[1]
 
 
-def write(root, path, version, requirements):
+def write(root, path, version, requirements, go=""):
     folder = f"{root}/proxy/{path}/@v"
     os.makedirs(folder, exist_ok=True)
     lines = "".join(f"\t{p} {v}\n" for p, v in sorted(requirements))
     with open(f"{folder}/{version}.mod", "w", encoding="ascii") as out:
-        out.write(f"module {path}\n\nrequire (\n{lines})\n")
+        out.write(f"module {path}\n\n{go}require (\n{lines})\n")
     # the go command wants it; gomod doesn't look at it
     with open(f"{folder}/{version}.info", "w", encoding="ascii") as out:
         out.write(f'{{"Version":"{version}","Time":"2020-01-01T00:00:00Z"}}')
 
 
-def write_main(root, requirements):
+def write_main(root, requirements, go="1.16"):
     os.makedirs(f"{root}/proxy", exist_ok=True)
     lines = "".join(f"\t{p} {v}\n" for p, v in sorted(requirements))
     with open(f"{root}/go.mod", "w", encoding="ascii") as out:
-        out.write(f"module example.com/main\n\ngo 1.16\n\nrequire (\n{lines})\n")
+        out.write(f"module example.com/main\n\ngo {go}\n\nrequire (\n{lines})\n")
 
 
 def scattered(name, count, width):
@@ -75,6 +77,11 @@ flat = [(f"example.com/f{place:05d}", "v1.0.0") for place in range(65_535)]
 for path, version in flat:
     write(f"{work}/flat", path, version, [])
 write_main(f"{work}/flat", flat)
+chance = random.Random(1)
+pruned = [(f"example.com/p{place:05d}", "v1.0.0") for place in range(10_000)]
+for path, version in pruned:
+    write(f"{work}/pruned", path, version, chance.sample(pruned, 5), "go 1.20\n\n")
+write_main(f"{work}/pruned", pruned[:2_500], "1.17")
 PY
 
 # Of three runs the one with the least time.
@@ -95,6 +102,16 @@ show() {
   read -r took busy memory status < <(best - "$@")
   [ "$status" = 0 ] || { echo "$what ended with status $status" >&2; exit 1; }
   tell "$what" "$modules" "$took" "$busy" "$memory"
+}
+
+# The same, and how many instructions it takes.
+count() {
+  local what=$1 modules=$2
+  shift 2
+  show "$what" "$modules" "$@"
+  command -v valgrind > /dev/null || return 0
+  valgrind --tool=callgrind --callgrind-out-file=/dev/null "$@" 2>&1 > /dev/null |
+    awk -v what="$what" '/Collected/ { printf "%-20s %6.0f million instructions\n", what, $NF / 1e6 }'
 }
 
 # Whether a command prints what gomod lists.
@@ -122,17 +139,17 @@ show_go() {
   compare "go list -m all" "$root" "${list[@]}"
 }
 
-for name in 1000 10000 65000 wide deep flat; do
+for name in 1000 10000 65000 wide deep flat pruned; do
   root=$work/$name
   modules=$(find "$root/proxy" -name '*.mod' | wc -l)
   echo "$name: $modules modules, $(find "$root/proxy" -name '*.mod' -printf '%s\n' | awk '{ all += $1 } END { print all }') bytes"
-  show "gomod list" "$modules" "$gomod" list --mod "$root/go.mod" --proxy "$root/proxy"
-  show "gomod graph" "$modules" "$gomod" graph --mod "$root/go.mod" --proxy "$root/proxy"
+  count "gomod list" "$modules" "$gomod" list --mod "$root/go.mod" --proxy "$root/proxy"
+  count "gomod graph" "$modules" "$gomod" graph --mod "$root/go.mod" --proxy "$root/proxy"
   last=$("$gomod" list --mod "$root/go.mod" --proxy "$root/proxy" | tail -n 1 | cut -d ' ' -f 1)
-  show "gomod chain" "$modules" "$gomod" chain "$last" --mod "$root/go.mod" --proxy "$root/proxy"
+  count "gomod chain" "$modules" "$gomod" chain "$last" --mod "$root/go.mod" --proxy "$root/proxy"
   show "cat" "$modules" sh -c 'find "$1" -name "*.mod" -exec cat {} +' cat "$root/proxy"
   if [ -n "$plain" ]; then
-    show "plain program" "$modules" "$plain" "$root/go.mod" "$root/proxy"
+    count "plain program" "$modules" "$plain" "$root/go.mod" "$root/proxy"
     compare "plain program" "$root" "$plain" "$root/go.mod" "$root/proxy"
   fi
   if command -v go > /dev/null; then
