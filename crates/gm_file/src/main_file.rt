@@ -106,6 +106,14 @@ impl<'a> MainFile<'a> {
         &self.doc
     }
 
+    /// The document that was read, without the fields. Takes no memory.
+    pub fn into_doc(self) -> Doc<'a>
+        ensures lines { result ≡ self.entry }
+        ensures sound { fault_of Strict (plain_lines self.entry) ≡ None }
+    {
+        self.doc
+    }
+
     /// The path of the `module` directive.
     pub fn module(&self) -> &ModPath
         ensures { module_of Strict (plain_lines self.now) ≡ Some result.now }
