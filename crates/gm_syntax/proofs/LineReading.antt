@@ -1,21 +1,22 @@
 -- The steps of a reader of lines.
-use Rattle.std.proofs.Common.{◌≡◌, ℕ, ◌+◌, ◌-◌, ◌<◌, ◌≤◌, true, false, List, [], ◌∷◌, ◌++◌, length, drop, Ok, Err, refl, sym, ap, subst, arith}
+use Rattle.std.proofs.Common.{◌≡◌, ℕ, ◌+◌, ◌-◌, ◌<◌, ◌≤◌, true, false, List, [], ◌∷◌, ◌++◌, length, drop, Option, Some, None, Ok, Err, refl, sym, ap, subst, arith}
 use Rattle.std.proofs.lemmas.List.{map_push, length-append}
 use Rattle.gm_syntax.specs.declared.fault.LineFault.{LineFault}
 use Rattle.gm_syntax.specs.declared.fault.LineFault.TheVariants as faults
 use Rattle.gm_syntax.specs.declared.fault.SyntaxKind.TheVariants.{OpenBlock}
 use Rattle.gm_syntax.specs.declared.fault.SyntaxFault.TheVariants as syntax
+use Rattle.gm_syntax.specs.declared.line.Line as declared
 use Rattle.gm_syntax.specs.declared.place.Place.{Place}
 use Rattle.gm_syntax.specs.Words.{Word}
 use Rattle.gm_syntax.specs.Lines.{lines_of, HasNoLineFeed}
 use Rattle.gm_syntax.specs.Tokens.{Placed, AreSlicesBetween, AreNumbered}
 use Rattle.gm_syntax.specs.Document.{Line, start, after}
-use Rattle.gm_syntax.specs.LineViews.{plain, plain_lines, tokens_of, all_tokens}
+use Rattle.gm_syntax.specs.LineViews.{line_of, plain, plain_lines, tokens_of, all_tokens}
 use Rattle.gm_syntax.specs.Placing.{FillsLine, FillLines}
 use Rattle.gm_syntax.specs.Parsed.{IsText, IsParsedAs}
 use Rattle.gm_syntax.specs.Reader.{IsOnlyLine, IsLineReadAs}
 use Rattle.gm_syntax.specs.LineFaults.{fault_at}
-use Rattle.gm_syntax.specs.LineReading.{Unread, TextProgress, HasRead, IsReadDocument}
+use Rattle.gm_syntax.specs.LineReading.{Unread, TextProgress, HasRead, IsReadDocument, IsNextRead}
 use Rattle.gm_syntax.proofs.Places.{suffix_of_suffix, line_stands, lines_numbered_push, stand_widen}
 use Rattle.gm_syntax.proofs.Filling.{lines_fill_more, lines_fill_end}
 use Rattle.gm_syntax.proofs.Counting.{document_counted}
@@ -82,3 +83,11 @@ module _ {left : Unread} {lines : List (Line Placed)} (so : HasRead left lines) 
   -- there is no line left, and the last block is open
   pub read_open : lines_of left.rest ≡ [] → left.at.inside ≡ true → IsParsedAs left.source (Err (syntax.Syntax left.at.opened OpenBlock))
   read_open none inside = (so.is_text, plain_lines lines, text_open so.progress none inside)
+
+-- what the result of a call is, once it is known
+module _ (left : Unread) (lines : List (Line Placed)) (result : Option declared.Line) where
+  pub one_more : (line : declared.Line) → result ≡ Some line → IsNextRead left lines (Ok result) → HasRead left (lines ++ line_of line ∷ [])
+  one_more line is next = subst (λ (r : Option declared.Line). IsNextRead left lines (Ok r)) is next
+
+  pub no_more : result ≡ None → IsNextRead left lines (Ok result) → IsReadDocument left.source lines
+  no_more is next = subst (λ (r : Option declared.Line). IsNextRead left lines (Ok r)) is next

@@ -1,9 +1,19 @@
 use Rattle.std.proofs.Common.{◌+◌, length, sym, subst}
-use Rattle.gm_syntax.specs.Tokens.{comment_of, AreSlicesBetween}
-use Rattle.gm_syntax.specs.LineViews.{line_of, tokens_of}
+use Rattle.std.proofs.lemmas.Result.{err_from_is_err_and}
+use Rattle.gm_syntax.specs.Tokens.{comment_of, words_of, AreSlicesBetween}
+use Rattle.gm_syntax.specs.LineViews.{line_of, plain, tokens_of}
 use Rattle.gm_syntax.proofs.Places.{stand_take}
 use Rattle.gm_syntax.proofs.Filling.{line_filled}
+use Rattle.gm_syntax.proofs.OneLine.{one_line, one_misplaced, read_fault}
 use Rattle.gm_syntax.proofs.line_reader.read_line_at.Goals as goal
+
+pub returns-in_err-parts-clause-read : goal.returns-in_err-parts-clause-read
+returns-in_err-parts-clause-read c =
+    let told = err_from_is_err_and c.from_residual.result c.from_residual.ensures.1 in
+    rw (told.1, told.2) (read_fault c.args.place.inside c.args.text.now c.in_err-parts.field-0.0 c.in_err-parts.ensures.read)
+
+pub returns-in-Ok-clause-read : goal.returns-in-Ok-clause-read
+returns-in-Ok-clause-read c = one_line c.args.place.inside c.args.text.now (words_of c.in_ok-parts.parts.words.items) (comment_of c.in_ok-parts.parts.comment) c.in_ok-parts.ensures.read (plain (line_of c.in-Ok.line)) c.in-Ok.ensures.class
 
 pub returns-in-Ok-clause-placed : goal.returns-in-Ok-clause-placed
 returns-in-Ok-clause-placed c = λ source after whole.
@@ -12,3 +22,6 @@ returns-in-Ok-clause-placed c = λ source after whole.
 
 pub returns-in-Ok-clause-filled : goal.returns-in-Ok-clause-filled
 returns-in-Ok-clause-filled c = line_filled c.args.place.inside c.args.first c.args.text.now c.in_ok-parts.parts.words.items (comment_of c.in_ok-parts.parts.comment) (line_of c.in-Ok.line) c.in-Ok.ensures.class c.in-Ok.ensures.tokens c.in_ok-parts.ensures.filled
+
+pub returns-in-Err-clause-read : goal.returns-in-Err-clause-read
+returns-in-Err-clause-read c = one_misplaced c.args.place.inside c.args.text.now (words_of c.in_ok-parts.parts.words.items) (comment_of c.in_ok-parts.parts.comment) c.in_ok-parts.ensures.read c.in-Err.kind c.in-Err.ensures.class
