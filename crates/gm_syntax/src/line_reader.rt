@@ -62,6 +62,7 @@ impl<'a> LineReader<'a> {
         ensures source { IfOk result (λ reader. reader.source ≡ bytes.now) }
         ensures start { IfOk result (λ reader. HasRead reader []) }
         ensures fault { IfErr result (λ fault. IsParsedAs bytes.now (Err fault)) }
+        ensures memory { result ≡ Err SyntaxFault.NoMemory → ⊥ }
     {
         if bytes.len() > MAX_BYTES {
             return Err(SyntaxFault::TooMany);
