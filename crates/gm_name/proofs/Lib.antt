@@ -2,7 +2,6 @@ pub mod Escapes
 pub mod Majors
 pub mod Marks
 pub mod Numbers
-pub mod PairFaults
 pub mod Paths
 pub mod Stamps
 pub mod Tails
@@ -12,6 +11,7 @@ pub mod NumericIdentifiers
 pub mod NameTests
 pub mod Precedence
 pub mod Bytes
+pub mod Readings
 pub mod Refusals
 pub mod BaseVersions
 pub mod PseudoTexts

@@ -11,6 +11,7 @@ pub mod Path
 pub mod Precedence
 pub mod Pseudo
 pub mod PseudoText
+pub mod Readings
 pub mod Tail
 pub mod Version
 pub mod VersionOrder

@@ -1,10 +1,11 @@
 //! Names that were read before, kept so that a duplicate is neither tested nor stored again.
 
-ghost use Rattle.std.specs.Prelude.{◌≡◌, ◌<◌, ◌≤◌, ◌↔◌, IfOk, IfErr, IfSome, IsErrOf, length};
+ghost use Rattle.std.specs.Prelude.{◌≡◌, ◌≤◌, ◌↔◌, IfOk, IfSome, IsErrOf, IsTrue, Ok, length};
 ghost use Rattle.gm_name.specs.Fingerprint.{fingerprint};
 ghost use Rattle.gm_name.specs.Fit.{Fits};
 ghost use Rattle.gm_name.specs.Kept.{IsWithinRoom, none_kept};
 ghost use Rattle.gm_name.specs.Path.{IsPath};
+ghost use Rattle.gm_name.specs.Readings.{PairReading, PathReading, VersionReading};
 ghost use Rattle.gm_name.specs.Version.{IsNotCanonical, IsSemVer, IsVersion};
 ghost use Rattle.gm_name.specs.PairFaults.{pair_fault_of_path, pair_fault_of_version};
 ghost use Rattle.gm_name.specs.declared.known_names.PairFault.TheVariants as pair;
@@ -118,6 +119,13 @@ fn keep<T: Drop>(
     Ok(())
 }
 
+/// Whether a pair has these texts.
+fn is_pair_of(pair: &ModVer, path: &str, version: &str) -> bool
+    ensures { IsTrue result → PairReading path.now version.now (Ok pair.now) }
+{
+    pair.path().as_str() == path && pair.version().as_str() == version
+}
+
 /// The numbers of a pair's texts, under which they are kept.
 #[derive(Clone, Copy)]
 struct PairNumbers {
@@ -150,9 +158,7 @@ impl KnownNames {
 
     /// The number that a text is kept under: its fingerprint. It isn't computed where there is no room to keep
     /// anything.
-    fn number_of(&self, text: &str) -> u64
-        ensures { 0 < self.now.room → result ≡ fingerprint 0 text.now }
-    {
+    fn number_of(&self, text: &str) -> u64 {
         if self.room == 0 {
             0
         } else {
@@ -160,55 +166,72 @@ impl KnownNames {
         }
     }
 
-    /// The path with this text, if it was kept under this number. Two texts may have the same number, so the texts
-    /// are compared too.
-    fn known_path(&self, number: u64, text: &str) -> Option<&ModPath>
-        ensures { IfSome result (λ path. (path.now ≡ text.now) × IsPath text.now) }
+    /// A copy of the path with this text, if it was kept under this number. Two texts may have the same number, so
+    /// the texts are compared too.
+    fn known_path(&self, alloc: Global, number: u64, text: &str) -> Option<ModPath>
+        ensures within { IsWithinRoom self.now }
+        ensures read { IfSome result (λ path. PathReading text.now (Ok path)) }
     {
         let held = self.paths.get(&number)?;
         if held.as_str() == text {
-            Some(held)
+            held.copy(alloc).ok()
         } else {
             None
         }
     }
 
-    /// The version with this text, if it was kept under this number. The texts are compared too.
-    fn known_version(&self, number: u64, text: &str) -> Option<&ModVersion>
-        ensures { IfSome result (λ version. (version.now ≡ text.now) × IsVersion text.now) }
+    /// A copy of the version with this text, if it was kept under this number. The texts are compared too.
+    fn known_version(&self, alloc: Global, number: u64, text: &str) -> Option<ModVersion>
+        ensures within { IsWithinRoom self.now }
+        ensures read { IfSome result (λ version. VersionReading text.now (Ok version)) }
     {
         let held = self.versions.get(&number)?;
         if held.as_str() == text {
-            Some(held)
+            held.copy(alloc).ok()
         } else {
             None
         }
     }
 
-    /// The pair with these texts, if it was kept under this number. The texts are compared too.
-    fn known_pair(&self, number: u64, path: &str, version: &str) -> Option<&ModVer>
-        ensures pair { IfSome result (λ pair. pair.now ≡ (path.now, version.now)) }
-        ensures path { IfSome result (λ pair. IsPath path.now) }
-        ensures version { IfSome result (λ pair. IsVersion version.now) }
-        ensures fit { IfSome result (λ pair. Fits path.now version.now) }
+    /// A copy of the pair with these texts, if it was kept under this number. The texts are compared too.
+    fn known_pair(&self, alloc: Global, number: u64, path: &str, version: &str) -> Option<ModVer>
         ensures within { IsWithinRoom self.now }
+        ensures read { IfSome result (λ pair. PairReading path.now version.now (Ok pair)) }
     {
         let held = self.pairs.get(&number)?;
-        if held.path().as_str() == path && held.version().as_str() == version {
-            Some(held)
+        if is_pair_of(held, path, version) {
+            held.copy(alloc).ok()
         } else {
             None
         }
     }
 
-    /// Keeps a pair under a number, so that later reads of it find it.
+    /// Keeps a path under a number, so that later reads of its text find it.
+    fn keep_path(&mut self, alloc: Global, number: u64, path: &ModPath) -> Result<(), AllocError>
+        ensures room { self.new.room ≡ self.old.room }
+        ensures within { IsWithinRoom self.new }
+    {
+        keep(&mut self.paths, self.room, number, path.copy(alloc)?)
+    }
+
+    /// Keeps a version under a number, so that later reads of its text find it.
+    fn keep_version(
+        &mut self,
+        alloc: Global,
+        number: u64,
+        version: &ModVersion,
+    ) -> Result<(), AllocError>
+        ensures room { self.new.room ≡ self.old.room }
+        ensures within { IsWithinRoom self.new }
+    {
+        keep(&mut self.versions, self.room, number, version.copy(alloc)?)
+    }
+
+    /// Keeps a pair under a number, so that later reads of its texts find it.
     fn keep_pair(&mut self, alloc: Global, number: u64, pair: &ModVer) -> Result<(), AllocError>
         ensures room { self.new.room ≡ self.old.room }
         ensures within { IsWithinRoom self.new }
     {
-        if self.room == 0 {
-            return Ok(());
-        }
         keep(&mut self.pairs, self.room, number, pair.copy(alloc)?)
     }
 
@@ -230,18 +253,51 @@ impl KnownNames {
         ensures memory { IsErrOf result PairFault.NoMemory → IsPath path.now }
     {
         let numbers = PairNumbers {
-            path: self.number_of(path),
+            path: fingerprint(0, path),
             version: self.number_of(version),
         };
-        if let Some(held) = self.known_pair(numbers.joined(), path, version) {
-            return Ok(held.copy(alloc)?);
+        self.numbered_pair(alloc, numbers, path, version)
+    }
+
+    /// The pair of the names in two texts with these numbers.
+    fn numbered_pair(
+        &mut self,
+        alloc: Global,
+        numbers: PairNumbers,
+        path: &str,
+        version: &str,
+    ) -> Result<ModVer, PairFault>
+        requires { numbers.path ≡ fingerprint 0 path.now }
+        ensures room { self.new.room ≡ self.old.room }
+        ensures within { IsWithinRoom self.new }
+        ensures read { PairReading path.now version.now result }
+    {
+        if let Some(pair) = self.known_pair(alloc, numbers.joined(), path, version) {
+            return Ok(pair);
         }
+        let pair = self.new_pair(alloc, numbers, path, version)?;
+        self.keep_pair(alloc, numbers.joined(), &pair)?;
+        Ok(pair)
+    }
+
+    /// The pair of the names in two texts with these numbers, whether or not it is known.
+    fn new_pair(
+        &mut self,
+        alloc: Global,
+        numbers: PairNumbers,
+        path: &str,
+        version: &str,
+    ) -> Result<ModVer, PairFault>
+        requires { numbers.path ≡ fingerprint 0 path.now }
+        ensures room { self.new.room ≡ self.old.room }
+        ensures within { IsWithinRoom self.new }
+        ensures read { PairReading path.now version.now result }
+    {
         let path = self.numbered_path(alloc, numbers.path, path)?;
         let version = self.numbered_version(alloc, numbers.version, version)?;
         let Some(pair) = ModVer::pair(path, version) else {
             return Err(PairFault::Misfit);
         };
-        self.keep_pair(alloc, numbers.joined(), &pair)?;
         Ok(pair)
     }
 
@@ -255,31 +311,26 @@ impl KnownNames {
         ensures bad { IsErrOf result PathFault.BadPath ↔ ¬ (IsPath text.now) }
         ensures memory { IsErrOf result PathFault.NoMemory → IsPath text.now }
     {
-        self.numbered_path(alloc, self.number_of(text), text)
+        self.numbered_path(alloc, fingerprint(0, text), text)
     }
 
-    /// The module path in a text with this number.
+    /// The module path in a text with this fingerprint.
     fn numbered_path(
         &mut self,
         alloc: Global,
         number: u64,
         text: &str,
     ) -> Result<ModPath, PathFault>
-        requires { 0 < self.old.room → number ≡ fingerprint 0 text.now }
+        requires { number ≡ fingerprint 0 text.now }
         ensures room { self.new.room ≡ self.old.room }
         ensures within { IsWithinRoom self.new }
-        ensures ok { IfOk result (λ path. (path ≡ text.now) × IsPath text.now) }
-        ensures bad { IsErrOf result PathFault.BadPath ↔ ¬ (IsPath text.now) }
-        ensures memory { IsErrOf result PathFault.NoMemory → IsPath text.now }
+        ensures read { PathReading text.now result }
     {
-        if self.room == 0 {
-            return ModPath::parse(alloc, text);
-        }
-        if let Some(held) = self.known_path(number, text) {
-            return Ok(held.copy(alloc)?);
+        if let Some(path) = self.known_path(alloc, number, text) {
+            return Ok(path);
         }
         let path = ModPath::numbered(alloc, number, text)?;
-        keep(&mut self.paths, self.room, number, path.copy(alloc)?)?;
+        self.keep_path(alloc, number, &path)?;
         Ok(path)
     }
 
@@ -308,20 +359,13 @@ impl KnownNames {
     ) -> Result<ModVersion, VersionFault>
         ensures room { self.new.room ≡ self.old.room }
         ensures within { IsWithinRoom self.new }
-        ensures ok { IfOk result (λ version. (version ≡ text.now) × IsVersion text.now) }
-        ensures not_canonical { IsErrOf result VersionFault.NotCanonical
-            → IsNotCanonical text.now × ¬ (IsVersion text.now) }
-        ensures bad { IsErrOf result VersionFault.BadVersion → ¬ (IsVersion text.now) × ¬ (IsNotCanonical text.now) }
-        ensures memory { IsErrOf result VersionFault.NoMemory → IsSemVer text.now }
+        ensures read { VersionReading text.now result }
     {
-        if self.room == 0 {
-            return ModVersion::parse(alloc, text);
+        if let Some(version) = self.known_version(alloc, number, text) {
+            return Ok(version);
         }
-        if let Some(held) = self.known_version(number, text) {
-            return Ok(held.copy(alloc)?);
-        }
-        let version = ModVersion::parse(alloc, text)?;
-        keep(&mut self.versions, self.room, number, version.copy(alloc)?)?;
+        let version = ModVersion::read(alloc, text)?;
+        self.keep_version(alloc, number, &version)?;
         Ok(version)
     }
 }
