@@ -1,6 +1,6 @@
 -- The program's types as contracts see them.
 use Rattle.std.specs.Option.{option_map}
-use Rattle.std.specs.Prelude.{◌≡◌, ℕ, List, map, Some, String, string_bytes, ⊤}
+use Rattle.std.specs.Prelude.{◌≡◌, ℕ, List, map, Some, string_bytes, ⊤}
 use Rattle.gm_syntax.specs.Words.{Word}
 use Rattle.gm_syntax.specs.Document.{Line}
 use Rattle.gm_file.specs.declared.replace.Right as declared
@@ -16,10 +16,6 @@ use Rattle.gm_file.specs.declared.fault.FileFault.{FileFault}
 use Rattle.gm_file.specs.declared.fault.FileFault.TheVariants as fault
 use Rattle.gm_file.specs.Directives.{Mode, Pair, Left, Replacing, Right, Folder, Module}
 use Rattle.gm_file.specs.Faults.{fault_of}
-
--- the bytes of two values
-abbrev pub text_views : {Z : Type 0} → String Z × String Z → Pair
-text_views texts = (string_bytes texts.0, string_bytes texts.1)
 
 -- the texts of the sides of a replace
 abbrev pub left_text_view : LeftText → Left

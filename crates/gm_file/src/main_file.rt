@@ -25,8 +25,6 @@ use std::marker::Model;
 /// were parsed.
 #[derive(Drop)]
 pub struct MainFile<'a> {
-    /// The allocator that the file was read with.
-    alloc: Global,
     /// The document that was read.
     doc: Doc<'a>,
     /// The path of the `module` directive.
@@ -87,7 +85,6 @@ impl<'a> MainFile<'a> {
             });
         };
         Ok(MainFile {
-            alloc,
             doc,
             declared,
             go: go.unwrap_or((1, 16)),

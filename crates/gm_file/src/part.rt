@@ -2,6 +2,7 @@
 //! type, and every refusal into the kind of fault of the line.
 
 ghost use Rattle.std.specs.Prelude.{◌≡◌, IfErr, IfOk, Some};
+ghost use Rattle.std.specs.Option.{option_map};
 ghost use Rattle.std.specs.Cow.{cow_str_bytes};
 ghost use Rattle.std.specs.String.{string_bytes};
 ghost use Rattle.gm_syntax.specs.Document.{is_mark};
@@ -11,7 +12,7 @@ ghost use Rattle.gm_file.specs.Values.{argument, both};
 ghost use Rattle.gm_file.specs.Directives.{ends_of, is_empty_block, one_of, pair, pair_of};
 ghost use Rattle.gm_file.specs.Faults.{ends_kinds, pair_kinds, path_kinds, version_kinds};
 ghost use Rattle.gm_file.specs.Reading.{IsRead, no_kinds};
-ghost use Rattle.gm_file.specs.Views.{interval_view, text_views};
+ghost use Rattle.gm_file.specs.Views.{interval_view};
 
 use crate::fault::{DirectiveKind, LineFault};
 use crate::replace::Interval;
@@ -63,20 +64,6 @@ pub(crate) fn one_value(alloc: Global, words: &[Token]) -> Result<String, LineFa
     ensures { IsRead string_bytes DirectiveKind.WrongArguments no_kinds (one_of (words_of words.now)) result }
 {
     Ok(borrowed_one(alloc, words)?.into_owned(alloc)?)
-}
-
-/// Copies of the values of two arguments.
-pub(crate) fn both_values(
-    alloc: Global,
-    first: &Token,
-    second: &Token,
-) -> Result<(String, String), LineFault>
-    ensures { IsRead text_views DirectiveKind.WrongArguments no_kinds
-        (both pair (argument first.now.word) (argument second.now.word)) result }
-{
-    let first = argument(alloc, first)?;
-    let second = argument(alloc, second)?;
-    Ok((first, second))
 }
 
 /// The module path that a text spells. Any other text is refused with `BadPath`.
@@ -135,6 +122,21 @@ fn pair_of_texts(
     }
 }
 
+/// The path and the version that two words spell.
+fn pair_of_words(
+    alloc: Global,
+    names: &mut KnownNames,
+    path: &Token,
+    version: &Token,
+) -> Result<ModVer, LineFault>
+    ensures { IsRead (λ pair. pair) DirectiveKind.WrongArguments pair_kinds
+        (both pair (argument path.now.word) (argument version.now.word)) result }
+{
+    let path = borrowed_argument(alloc, path)?;
+    let version = borrowed_argument(alloc, version)?;
+    pair_of_texts(alloc, names, path.as_str(), version.as_str())
+}
+
 /// The path and the version of a `require` or an `exclude`. Anything but two arguments is refused with
 /// `WrongArguments`.
 pub(crate) fn read_pair(
@@ -145,11 +147,7 @@ pub(crate) fn read_pair(
     ensures { IsRead (λ pair. pair) DirectiveKind.WrongArguments pair_kinds (pair_of (words_of words.now)) result }
 {
     match words {
-        [path, version] => {
-            let path = borrowed_argument(alloc, path)?;
-            let version = borrowed_argument(alloc, version)?;
-            pair_of_texts(alloc, names, path.as_str(), version.as_str())
-        }
+        [path, version] => pair_of_words(alloc, names, path, version),
         _ => Err(LineFault::Kind(DirectiveKind::WrongArguments)),
     }
 }
@@ -193,6 +191,34 @@ pub(crate) fn is_empty_block(words: &[Token]) -> bool
     }
 }
 
+/// The interval from one version to itself.
+fn single_interval(
+    alloc: Global,
+    names: &mut KnownNames,
+    version: &Token,
+) -> Result<Interval, LineFault>
+    ensures { IsRead interval_view DirectiveKind.WrongArguments ends_kinds
+        (option_map (λ w. pair w w) (argument version.now.word)) result }
+{
+    let text = borrowed_argument(alloc, version)?;
+    interval_of_texts(alloc, names, text.as_str(), text.as_str())
+}
+
+/// The interval between two versions.
+fn interval_between(
+    alloc: Global,
+    names: &mut KnownNames,
+    low: &Token,
+    high: &Token,
+) -> Result<Interval, LineFault>
+    ensures { IsRead interval_view DirectiveKind.WrongArguments ends_kinds
+        (both pair (argument low.now.word) (argument high.now.word)) result }
+{
+    let low = borrowed_argument(alloc, low)?;
+    let high = borrowed_argument(alloc, high)?;
+    interval_of_texts(alloc, names, low.as_str(), high.as_str())
+}
+
 /// The interval of a `retract`: from a single version to itself, or between the two versions in brackets, as in
 /// `[v1.0.0, v1.2.0]` (Go Modules Reference, retract directive). Other words are refused with `WrongArguments`.
 pub(crate) fn read_interval(
@@ -203,16 +229,12 @@ pub(crate) fn read_interval(
     ensures { IsRead interval_view DirectiveKind.WrongArguments ends_kinds (ends_of (words_of words.now)) result }
 {
     match words {
-        [version] => {
-            let text = argument(alloc, version)?;
-            interval_of_texts(alloc, names, text.as_str(), text.as_str())
-        }
+        [version] => single_interval(alloc, names, version),
         [open, low, comma, high, close] => {
             if !(is_mark(b'[', open) && is_mark(b',', comma) && is_mark(b']', close)) {
                 return Err(LineFault::Kind(DirectiveKind::WrongArguments));
             }
-            let (low, high) = both_values(alloc, low, high)?;
-            interval_of_texts(alloc, names, low.as_str(), high.as_str())
+            interval_between(alloc, names, low, high)
         }
         _ => Err(LineFault::Kind(DirectiveKind::WrongArguments)),
     }

@@ -8,7 +8,7 @@ use gm_name::{ModPath, ModVersion};
 use std::alloc::{AllocError, Global};
 
 /// The right side of a `replace`: what is used instead of the module (Go Modules Reference, replace directive).
-#[derive(Drop)]
+#[derive(Debug, Drop, PartialEq, Eq)]
 pub enum Right {
     /// A folder, as written in the file: `.`, `..`, or a text that begins with `./`, `../` or `/`.
     Folder(String),
@@ -35,23 +35,12 @@ impl Right {
     pub(crate) fn is_same(&self, other: &Right) -> bool
         ensures { result ≡ is_same_right (right_view self.now) (right_view other.now) }
     {
-        match self {
-            Right::Folder(text) => match other {
-                Right::Folder(other) => text.as_str() == other.as_str(),
-                Right::Module(_, _) => false,
-            },
-            Right::Module(path, version) => match other {
-                Right::Folder(_) => false,
-                Right::Module(other_path, other_version) => {
-                    *path == *other_path && *version == *other_version
-                }
-            },
-        }
+        *self == *other
     }
 }
 
 /// A `replace`: a module, or one version of it, and its replacement (Go Modules Reference, replace directive).
-#[derive(Drop)]
+#[derive(Debug, Drop, PartialEq, Eq)]
 pub struct Replace {
     /// The path of the replaced module.
     pub left: ModPath,
@@ -63,7 +52,7 @@ pub struct Replace {
 
 /// An interval of retracted versions, by precedence (Go Modules Reference, retract directive). Both ends belong to it.
 /// It is empty if `high` precedes `low`.
-#[derive(Drop)]
+#[derive(Debug, Drop, PartialEq, Eq)]
 pub struct Interval {
     /// The lowest retracted version.
     pub low: ModVersion,

@@ -2,17 +2,18 @@
 //! first, since wrong arguments on either side come before the faults of paths and versions.
 
 ghost use Rattle.std.specs.Prelude.{◌≡◌, ◌+◌, [], length, not, take_while, IfNone, IfSome, Some};
-ghost use Rattle.std.specs.Option.{option_map};
+ghost use Rattle.std.specs.Option.{option_and_then, option_map};
 ghost use Rattle.std.specs.List.{after_first, before_first};
 ghost use Rattle.std.specs.String.{string_bytes};
 ghost use Rattle.gm_syntax.specs.Tokens.{words_of};
-ghost use Rattle.gm_file.specs.Directives.{is_arrow, left_of, replacing, replacing_of, right_of, Folder, Module};
+ghost use Rattle.gm_file.specs.Directives.{folder_right, is_arrow, left_of, left_with, left_without, module_right, pair, replacing, replacing_of, right_of, Folder, Module};
+ghost use Rattle.gm_file.specs.Values.{argument, both};
 ghost use Rattle.gm_file.specs.Faults.{does_left_fit, left_version_kinds, sides_kinds};
 ghost use Rattle.gm_file.specs.Reading.{IsRead, no_kinds, replacing_kinds};
 ghost use Rattle.gm_file.specs.Views.{left_text_view, replace_view, right_text_view};
 
 use crate::fault::{DirectiveKind, LineFault};
-use crate::part::{argument, both_values, read_path, read_version};
+use crate::part::{argument, read_path, read_version};
 use crate::replace::{Replace, Right};
 use crate::verb::{is_arrow, is_folder};
 use gm_name::{KnownNames, ModPath, ModVersion, fits};
@@ -56,51 +57,80 @@ fn split_at_arrow<'w, 'a>(words: &'w [Token<'a>]) -> Option<(&'w [Token<'a>], &'
     }
 }
 
+/// The text of a left side without a version.
+fn left_path(alloc: Global, path: &Token) -> Result<LeftText, LineFault>
+    ensures { IsRead left_text_view DirectiveKind.WrongArguments no_kinds
+        (option_map left_without (argument path.now.word)) result }
+{
+    let path = argument(alloc, path)?;
+    Ok(LeftText {
+        path,
+        version: None,
+    })
+}
+
+/// The texts of a left side with a version.
+fn left_path_and_version(
+    alloc: Global,
+    path: &Token,
+    version: &Token,
+) -> Result<LeftText, LineFault>
+    ensures { IsRead left_text_view DirectiveKind.WrongArguments no_kinds
+        (both left_with (argument path.now.word) (argument version.now.word)) result }
+{
+    let path = argument(alloc, path)?;
+    let version = argument(alloc, version)?;
+    Ok(LeftText {
+        path,
+        version: Some(version),
+    })
+}
+
 /// The texts of the left side: a path, or a path and a version. Other words are refused with `WrongArguments`.
 fn left_text(alloc: Global, words: &[Token]) -> Result<LeftText, LineFault>
     ensures { IsRead left_text_view DirectiveKind.WrongArguments no_kinds (left_of (words_of words.now)) result }
 {
     match words {
-        [path] => {
-            let path = argument(alloc, path)?;
-            Ok(LeftText {
-                path,
-                version: None,
-            })
-        }
-        [path, version] => {
-            let (path, version) = both_values(alloc, path, version)?;
-            Ok(LeftText {
-                path,
-                version: Some(version),
-            })
-        }
+        [path] => left_path(alloc, path),
+        [path, version] => left_path_and_version(alloc, path, version),
         _ => Err(LineFault::Kind(DirectiveKind::WrongArguments)),
     }
 }
 
+/// The text of a right side that is a folder. A module path without a version is refused with `WrongArguments`.
+fn right_folder(alloc: Global, folder: &Token) -> Result<RightText, LineFault>
+    ensures { IsRead right_text_view DirectiveKind.WrongArguments no_kinds
+        (option_and_then folder_right (argument folder.now.word)) result }
+{
+    let text = argument(alloc, folder)?;
+    if !is_folder(text.as_str()) {
+        return Err(LineFault::Kind(DirectiveKind::WrongArguments));
+    }
+    Ok(RightText::Folder(text))
+}
+
+/// The texts of a right side that is a module. A folder with a version is refused with `WrongArguments`.
+fn right_module(alloc: Global, path: &Token, version: &Token) -> Result<RightText, LineFault>
+    ensures { IsRead right_text_view DirectiveKind.WrongArguments no_kinds
+        (option_and_then (λ p. module_right p.0 p.1) (both pair (argument path.now.word) (argument version.now.word)))
+        result }
+{
+    let path = argument(alloc, path)?;
+    let version = argument(alloc, version)?;
+    if is_folder(path.as_str()) {
+        return Err(LineFault::Kind(DirectiveKind::WrongArguments));
+    }
+    Ok(RightText::Module(path, version))
+}
+
 /// The texts of the right side: a folder alone, or a module path with a version. Other words are refused with
-/// `WrongArguments`, and so are a folder with a version and a module path without one.
-#[tactic(auto, unfolding(crate::specs::Values::is_folder_path))]
+/// `WrongArguments`.
 fn right_text(alloc: Global, words: &[Token]) -> Result<RightText, LineFault>
     ensures { IsRead right_text_view DirectiveKind.WrongArguments no_kinds (right_of (words_of words.now)) result }
 {
     match words {
-        [folder] => {
-            let text = argument(alloc, folder)?;
-            if is_folder(text.as_str()) {
-                Ok(RightText::Folder(text))
-            } else {
-                Err(LineFault::Kind(DirectiveKind::WrongArguments))
-            }
-        }
-        [path, version] => {
-            let (path, version) = both_values(alloc, path, version)?;
-            if is_folder(path.as_str()) {
-                return Err(LineFault::Kind(DirectiveKind::WrongArguments));
-            }
-            Ok(RightText::Module(path, version))
-        }
+        [folder] => right_folder(alloc, folder),
+        [path, version] => right_module(alloc, path, version),
         _ => Err(LineFault::Kind(DirectiveKind::WrongArguments)),
     }
 }

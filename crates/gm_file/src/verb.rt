@@ -20,7 +20,7 @@ pub enum Mode {
 }
 
 /// The verb of an entry, as far as reading distinguishes them.
-#[derive(Clone, Copy, Debug, PartialEq, Eq)]
+#[derive(Clone, Copy)]
 pub(crate) enum Verb {
     /// `module`.
     Module,
