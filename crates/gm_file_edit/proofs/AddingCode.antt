@@ -138,19 +138,6 @@ past-in-range lines spot le = elim (cases_Bool spot.inside) [
 pub rest-is : (lines : List declared.Line) (n : ℕ) → take (length lines - n) (drop n lines) ≡ drop n lines
 rest-is lines n = let rest = length-drop n lines in take_all (length lines - n) (drop n lines) (omega (arith, rest))
 
--- ---- inserted lines
-
-pub insert-both : {X : Type 0} (xs : List X) (at : ℕ) (x y : X) → at ≤ length xs → insert (insert xs at y) at x ≡ take at xs ++ (x ∷ y ∷ drop at xs)
-insert-both xs zero x y le = refl
-insert-both [] (suc at) x y le = absurd (omega (arith, le))
-insert-both (z ∷ xs) (suc at) x y le = ap (λ l. z ∷ l) (insert-both xs at x y (omega (arith, le)))
-
-pub both-seen : (lines : List declared.Line) (at : ℕ) (x y : declared.Line) → at ≤ length lines
-    → line_views (insert (insert lines at y) at x) ≡ take at (line_views lines) ++ (line_of x ∷ line_of y ∷ drop at (line_views lines))
-both-seen lines at x y le =
-    ap line_views (insert-both lines at x y le) ∙ map-append line_of (take at lines) (x ∷ y ∷ drop at lines)
-    ∙ rw (take-map line_of at lines, drop-map line_of at lines) refl
-
 -- ---- the lines with new ones
 
 pub if-ok : {X E : Type 0} (r : Result X E) (P Q : X → Type 0) → ((x : X) → P x → Q x) → IfOk r P → IfOk r Q

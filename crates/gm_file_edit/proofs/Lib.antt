@@ -29,3 +29,5 @@ pub mod SectionRenewals
 pub mod Additions
 pub mod GoPlace
 pub mod Twice
+pub mod PassedOver
+pub mod KeyedChanges

@@ -1,11 +1,13 @@
 -- The marks of lines, and what removing marked lines leaves.
-use Rattle.std.proofs.Common.{◌≡◌, ℕ, suc, ◌+◌, ◌<◌, ◌≤◌, not, Bool, true, false, List, [], ◌∷◌, ◌++◌, length, take, set, Option, Some, None, is_some, refl, sym, ap, subst, ◌∙◌, append-nil, append_assoc, arith, inl, inr}
+use Rattle.std.proofs.Common.{◌≡◌, ℕ, suc, ◌+◌, ◌<◌, ◌≤◌, not, Bool, true, false, List, [], ◌∷◌, ◌++◌, length, take, set, Option, Some, None, is_some, refl, sym, ap, subst, ◌∙◌, append-nil, append_assoc, arith, inl, inr, drop, get_or, map}
 use Rattle.std.specs.Prelude.{if◌then◌else◌, take_while}
 use Rattle.std.specs.List.{prefix_len}
-use Rattle.std.specs.Option.{option_to_list}
+use Rattle.std.specs.Option.{option_map, option_to_list}
+use Rattle.std.proofs.Math.ListN.{get_or-map}
+use Rattle.std.proofs.lemmas.List.{length-map}
 use Rattle.std.proofs.lemmas.Bool.{cases_Bool}
 use Rattle.gm_syntax.specs.Tokens.{Placed}
-use Rattle.gm_syntax.specs.Document.{Line}
+use Rattle.gm_syntax.specs.Document.{Line, Blank}
 use Rattle.gm_file.specs.Directives.{Directive, block_after_line, block_after_lines}
 use Rattle.gm_file_edit.specs.Fates.{Fate, IsValidAt, directive_at, dropped, dropping_from, passes, remaining_from, renewed, renewing_from}
 use Rattle.gm_file_edit.specs.About.{about}
@@ -16,7 +18,13 @@ use Rattle.gm_file_edit.specs.Renewing.{made_new}
 use Rattle.gm_file_edit.specs.Marks.{marks_from}
 use Rattle.gm_file_edit.specs.Packs.{fate_by, line_at, marked}
 use Rattle.gm_file_edit.specs.Searching.{is_there_from}
+use Rattle.gm_file_edit.specs.declared.keys.Key.{Key}
+use Rattle.gm_file_edit.specs.Keys.{key_of, may_concern, text_number}
+use Rattle.gm_file_edit.specs.Targets.{path_of}
+use Rattle.gm_file_edit.proofs.Packs.{get_or-default, get_or-other}
+use Rattle.gm_file_edit.proofs.PassedOver.{passed-over}
 use Rattle.gm_file_edit.proofs.Sound.{SoundFrom}
+use Rattle.gm_file_edit.proofs.Walking.{drop-next}
 
 -- ---- the loop that marks lines
 
@@ -41,6 +49,30 @@ mark-more test whole rest more block next_block line marks next mark is behind t
           append_assoc marks (passes test (directive_at block line) ∷ []) (marks_from test (block_after_line block line) more)
           ∙ ap (λ (ls : List (Line Placed)). marks ++ marks_from test block ls) (sym is) ∙ so.left;
     })
+
+here : (whole : List (Line Placed)) (n : ℕ) (line : Line Placed) → n < length whole → line ≡ line_at whole n → drop n whole ≡ line ∷ drop (n + 1) whole
+here whole n line lt is = drop-next whole n line lt (is ∙ get_or-default whole n Blank lt ∙ ap (get_or whole n) (sym is))
+
+pub mark-right-at : (test : Directive → Bool) (whole : List (Line Placed)) (n : ℕ) (block : Option Placed) (line : Line Placed) (marks : List Bool) → n < length whole → line ≡ line_at whole n
+    → IsMarkedTo test whole (drop n whole) block marks → IsValidAt block line
+mark-right-at test whole n block line marks lt is so = mark-right test whole (drop n whole) (drop (n + 1) whole) block line marks (here whole n line lt is) so
+
+-- a line that is read
+pub mark-read : (test : Directive → Bool) (whole : List (Line Placed)) (n : ℕ) (block next_block : Option Placed) (line : Line Placed) (marks next : List Bool) (mark : Bool) → n < length whole → line ≡ line_at whole n
+    → next_block ≡ block_after_line block line → mark ≡ passes test (directive_at block line) → next ≡ marks ++ mark ∷ [] → IsMarkedTo test whole (drop n whole) block marks → IsMarkedTo test whole (drop (n + 1) whole) next_block next
+mark-read test whole n block next_block line marks next mark lt is behind tested pushed so =
+    mark-more test whole (drop n whole) (drop (n + 1) whole) block next_block line marks next mark (here whole n line lt is) behind tested pushed so
+
+-- a line that is passed over for its key
+pub mark-over : (edit : Edit) (number : Option ℕ) (whole : List (Line Placed)) (n : ℕ) (block : Option Placed) (keys : List Key) (key : Key) (marks next : List Bool) → n < length whole → keys ≡ map key_of whole
+    → number ≡ option_map text_number (path_of edit) → may_concern number (get_or keys n key) ≡ false → next ≡ marks ++ false ∷ [] → IsMarkedTo (about edit) whole (drop n whole) block marks → IsMarkedTo (about edit) whole (drop (n + 1) whole) block next
+mark-over edit number whole n block keys key marks next lt are of off pushed so =
+    let line = line_at whole n in
+    let count = length-map whole key_of in
+    let own : get_or keys n key ≡ key_of line =
+    ap (λ (ks : List Key). get_or ks n key) are ∙ get_or-other (map key_of whole) n key (key_of Blank) (omega (arith, lt, count)) ∙ get_or-map key_of whole n Blank in
+    let over = passed-over edit number block line of (ap (may_concern number) (sym own) ∙ off) in
+    mark-read (about edit) whole n block block line marks next false lt refl (sym over.1) (sym over.0) pushed so
 
 pub mark-end : (test : Directive → Bool) (whole rest : List (Line Placed)) (block : Option Placed) (marks : List Bool) → rest ≡ [] → IsMarkedTo test whole rest block marks → marks ≡ marks_from test None whole
 mark-end test whole rest block marks is so = sym (append-nil marks) ∙ ap (λ (ls : List (Line Placed)). marks ++ marks_from test block ls) (sym is) ∙ so.left

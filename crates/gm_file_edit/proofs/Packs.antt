@@ -290,41 +290,40 @@ shorter : (at k : ℕ) (lines : List (Line Placed)) → at ≤ k → take at lin
 shorter at k lines le = sym (take-take-le at k lines le)
 
 -- the bounds of a block within the lines that are kept
-pub block-within : (at k : ℕ) (lines : List declared.Line) → IsOpenedAt at (take k (line_views lines)) → at ≤ k
-block-within at k lines is = block-lines at k (line_views lines) is
+pub block-within : (at k : ℕ) (lines : List (Line Placed)) → IsOpenedAt at (take k lines) → at ≤ k
+block-within at k lines is = block-lines at k lines is
 
-pub close-emptied : (after : Bool) (block : OpenBlock) (k n : ℕ) (lines : List declared.Line) (commented gone : Bool) → IsOpenedAt block.at (take k (line_views lines)) → closing (line_at (line_views lines) n) ≡ Some commented
-    → gone ≡ (not commented && (block.lost && is_bare (line_views (take (k - block.at) (drop block.at lines))))) → gone ≡ true
-    → IsNext after (Some block) (take k (line_views lines)) (Some (line_at (line_views lines) n)) (record { kept = block.at; after = true; block = None }) (line_views lines)
-close-emptied after block k n lines commented gone begun closed tested holds =
+pub close-emptied : (after : Bool) (block : OpenBlock) (k n : ℕ) (lines : List (Line Placed)) (xs : List declared.Line) (commented gone : Bool) → IsOpenedAt block.at (take k lines) → closing (line_at lines n) ≡ Some commented → line_views xs ≡ lines
+    → gone ≡ (not commented && (block.lost && is_bare (line_views (take (k - block.at) (drop block.at xs))))) → gone ≡ true
+    → IsNext after (Some block) (take k lines) (Some (line_at lines n)) (record { kept = block.at; after = true; block = None }) lines
+close-emptied after block k n lines xs commented gone begun closed seen tested holds =
     let le = block-within block.at k lines begun in
-    let line = closed-line (line_at (line_views lines) n) commented closed in
-    let so : (not (is_some line.0) && (block.lost && is_bare (drop block.at (take k (line_views lines))))) ≡ true =
-    ap (λ (b : Bool). not b && (block.lost && is_bare (drop block.at (take k (line_views lines))))) (sym line.2) ∙ ap (λ (ls : List (Line Placed)). not commented && (block.lost && is_bare ls)) (sym (cut-views block.at k lines le)) ∙ sym tested ∙ holds in
-    subst (λ (l : Line Placed). IsNext after (Some block) (take k (line_views lines)) (Some l) (record { kept = block.at; after = true; block = None }) (line_views lines)) (sym line.1)
-    (next-emptied after block (take k (line_views lines)) (line_views lines) line.0 begun (shorter block.at k (line_views lines) le) so)
+    let line = closed-line (line_at lines n) commented closed in
+    let so : (not (is_some line.0) && (block.lost && is_bare (drop block.at (take k lines)))) ≡ true =
+    ap (λ (b : Bool). not b && (block.lost && is_bare (drop block.at (take k lines)))) (sym line.2) ∙ ap (λ (ls : List (Line Placed)). not commented && (block.lost && is_bare ls)) (sym (cut-views block.at k xs le ∙ ap (λ (ls : List (Line Placed)). drop block.at (take k ls)) seen)) ∙ sym tested ∙ holds in
+    subst (λ (l : Line Placed). IsNext after (Some block) (take k lines) (Some l) (record { kept = block.at; after = true; block = None }) lines) (sym line.1)
+    (next-emptied after block (take k lines) lines line.0 begun (shorter block.at k lines le) so)
 
-pub close-kept : (after : Bool) (block : OpenBlock) (k n : ℕ) (lines new : List declared.Line) (commented gone : Bool) → IsOpenedAt block.at (take k (line_views lines)) → closing (line_at (line_views lines) n) ≡ Some commented
-    → gone ≡ (not commented && (block.lost && is_bare (line_views (take (k - block.at) (drop block.at lines))))) → gone ≡ false
-    → take (k + 1) (line_views new) ≡ take k (line_views lines) ++ line_at (line_views lines) n ∷ []
-    → IsNext after (Some block) (take k (line_views lines)) (Some (line_at (line_views lines) n)) (record { kept = k + 1; after = false; block = None }) (line_views new)
-close-kept after block k n lines new commented gone begun closed tested fails moved =
+pub close-kept : (after : Bool) (block : OpenBlock) (k n : ℕ) (lines new : List (Line Placed)) (xs : List declared.Line) (commented gone : Bool) → IsOpenedAt block.at (take k lines) → closing (line_at lines n) ≡ Some commented → line_views xs ≡ lines
+    → gone ≡ (not commented && (block.lost && is_bare (line_views (take (k - block.at) (drop block.at xs))))) → gone ≡ false
+    → take (k + 1) new ≡ take k lines ++ line_at lines n ∷ []
+    → IsNext after (Some block) (take k lines) (Some (line_at lines n)) (record { kept = k + 1; after = false; block = None }) new
+close-kept after block k n lines new xs commented gone begun closed seen tested fails moved =
     let le = block-within block.at k lines begun in
-    let line = closed-line (line_at (line_views lines) n) commented closed in
-    let so : (not (is_some line.0) && (block.lost && is_bare (drop block.at (take k (line_views lines))))) ≡ false =
-    ap (λ (b : Bool). not b && (block.lost && is_bare (drop block.at (take k (line_views lines))))) (sym line.2) ∙ ap (λ (ls : List (Line Placed)). not commented && (block.lost && is_bare ls)) (sym (cut-views block.at k lines le)) ∙ sym tested ∙ fails in
-    subst (λ (l : Line Placed). IsNext after (Some block) (take k (line_views lines)) (Some l) (record { kept = k + 1; after = false; block = None }) (line_views new)) (sym line.1)
-    (next-closed after block (take k (line_views lines)) (line_views new) line.0 k begun so (moved ∙ ap (λ (l : Line Placed). take k (line_views lines) ++ l ∷ []) line.1))
+    let line = closed-line (line_at lines n) commented closed in
+    let so : (not (is_some line.0) && (block.lost && is_bare (drop block.at (take k lines)))) ≡ false =
+    ap (λ (b : Bool). not b && (block.lost && is_bare (drop block.at (take k lines)))) (sym line.2) ∙ ap (λ (ls : List (Line Placed)). not commented && (block.lost && is_bare ls)) (sym (cut-views block.at k xs le ∙ ap (λ (ls : List (Line Placed)). drop block.at (take k ls)) seen)) ∙ sym tested ∙ fails in
+    subst (λ (l : Line Placed). IsNext after (Some block) (take k lines) (Some l) (record { kept = k + 1; after = false; block = None }) new) (sym line.1)
+    (next-closed after block (take k lines) new line.0 k begun so (moved ∙ ap (λ (l : Line Placed). take k lines ++ l ∷ []) line.1))
 
 -- a line that stays outside blocks, at its index
-pub outside-kept : (after : Bool) (k n : ℕ) (lines new : List declared.Line) (block : Option OpenBlock) → k ≤ n → n < length lines → (after && is_blank_source_line (line_at (line_views lines) n)) ≡ false
-    → take (k + 1) (line_views new) ≡ take k (line_views lines) ++ line_at (line_views lines) n ∷ [] → block ≡ opened k (line_at (line_views lines) n)
-    → IsNext after None (take k (line_views lines)) (Some (line_at (line_views lines) n)) (record { kept = k + 1; after = false; block = block }) (line_views new)
+pub outside-kept : (after : Bool) (k n : ℕ) (lines new : List (Line Placed)) (block : Option OpenBlock) → k ≤ n → n < length lines → (after && is_blank_source_line (line_at lines n)) ≡ false
+    → take (k + 1) new ≡ take k lines ++ line_at lines n ∷ [] → block ≡ opened k (line_at lines n)
+    → IsNext after None (take k lines) (Some (line_at lines n)) (record { kept = k + 1; after = false; block = block }) new
 outside-kept after k n lines new block le lt stays moved is =
-    let count = length-map lines line_of in
-    let len : length (take k (line_views lines)) ≡ k = length-take-le k (line_views lines) (omega (arith, le, lt, count)) in
-    subst (λ (o : Option OpenBlock). IsNext after None (take k (line_views lines)) (Some (line_at (line_views lines) n)) (record { kept = k + 1; after = false; block = o }) (line_views new)) (sym is)
-    (next-outside after (take k (line_views lines)) (line_views new) (line_at (line_views lines) n) k len stays moved)
+    let len : length (take k lines) ≡ k = length-take-le k lines (omega (arith, le, lt)) in
+    subst (λ (o : Option OpenBlock). IsNext after None (take k lines) (Some (line_at lines n)) (record { kept = k + 1; after = false; block = o }) new) (sym is)
+    (next-outside after (take k lines) new (line_at lines n) k len stays moved)
 
 blank-line : (line : Line Placed) → is_blank_source_line line ≡ true → line ≡ Blank
 blank-line Blank e = refl
@@ -334,11 +333,11 @@ blank-line (Close suffix) e = absurd cc
 blank-line (Entry words suffix) e = absurd cc
 
 -- a blank line directly after an emptied block, at its index
-pub blank-skipped : (after : Bool) (k n : ℕ) (lines : List declared.Line) → (after && is_blank_source_line (line_at (line_views lines) n)) ≡ true
-    → IsNext after None (take k (line_views lines)) (Some (line_at (line_views lines) n)) (record { kept = k; after = false; block = None }) (line_views lines)
+pub blank-skipped : (after : Bool) (k n : ℕ) (lines : List (Line Placed)) → (after && is_blank_source_line (line_at lines n)) ≡ true
+    → IsNext after None (take k lines) (Some (line_at lines n)) (record { kept = k; after = false; block = None }) lines
 blank-skipped false k n lines both = absurd cc
 blank-skipped true k n lines blank =
-    subst (λ (l : Line Placed). IsNext true None (take k (line_views lines)) (Some l) (record { kept = k; after = false; block = None }) (line_views lines)) (sym (blank-line (line_at (line_views lines) n) blank)) (next-blank-gone k (line_views lines))
+    subst (λ (l : Line Placed). IsNext true None (take k lines) (Some l) (record { kept = k; after = false; block = None }) lines) (sym (blank-line (line_at lines n) blank)) (next-blank-gone k lines)
 
 gone-of : (after : Bool) (block : Option OpenBlock) (k : ℕ) (lines : List (Line Placed)) → EndsWithBlock block (take k lines)
     → IsNext after block (take k lines) None (record { kept = k; after = after; block = with_loss block }) lines
@@ -360,38 +359,23 @@ packed-end after (Some block) ks begun =
 
 -- ---- a line that moves
 
-views-at : (xs : List declared.Line) (n : ℕ) → line_at (line_views xs) n ≡ line_of (get_or xs n variants.Blank)
-views-at xs n = get_or-map line_of xs n variants.Blank
+pub swap-front : (lines : List (Line Placed)) (k n : ℕ) → k < n → n < length lines → take (k + 1) (swap lines k n) ≡ take k lines ++ line_at lines n ∷ []
+swap-front lines k n lt in_range =
+    let low : k < length lines = omega (arith, lt, in_range) in
+    ap (take (k + 1)) (sym (swap_is lines k n Blank low in_range))
+    ∙ take-set-le (k + 1) (set lines k (line_at lines n)) n (line_at lines k) (omega (arith, lt))
+    ∙ take_more_set lines k (line_at lines n) low
 
-swapped-front : (xs : List declared.Line) (k n : ℕ) → k < n → n < length xs → take (k + 1) (swap xs k n) ≡ take k xs ++ get_or xs n variants.Blank ∷ []
-swapped-front xs k n lt in_range =
-    let low : k < length xs = omega (arith, lt, in_range) in
-    ap (take (k + 1)) (sym (swap_is xs k n variants.Blank low in_range))
-    ∙ take-set-le (k + 1) (set xs k (get_or xs n variants.Blank)) n (get_or xs k variants.Blank) (omega (arith, lt))
-    ∙ take_more_set xs k (get_or xs n variants.Blank) low
+pub swap-rest : (lines : List (Line Placed)) (k n : ℕ) → k < n → n < length lines → drop (n + 1) (swap lines k n) ≡ drop (n + 1) lines
+swap-rest lines k n lt in_range =
+    ap (drop (n + 1)) (sym (swap_is lines k n Blank (omega (arith, lt, in_range)) in_range))
+    ∙ drop-set-lt (n + 1) (set lines k (line_at lines n)) n (line_at lines k) (omega arith)
+    ∙ drop-set-lt (n + 1) lines k (line_at lines n) (omega (arith, lt))
 
-swapped-rest : (xs : List declared.Line) (k n : ℕ) → k < n → n < length xs → drop (n + 1) (swap xs k n) ≡ drop (n + 1) xs
-swapped-rest xs k n lt in_range =
-    ap (drop (n + 1)) (sym (swap_is xs k n variants.Blank (omega (arith, lt, in_range)) in_range))
-    ∙ drop-set-lt (n + 1) (set xs k (get_or xs n variants.Blank)) n (get_or xs k variants.Blank) (omega arith)
-    ∙ drop-set-lt (n + 1) xs k (get_or xs n variants.Blank) (omega (arith, lt))
-
-front-views : (xs ys : List declared.Line) (k n : ℕ) → take (k + 1) ys ≡ take k xs ++ get_or xs n variants.Blank ∷ [] → take (k + 1) (line_views ys) ≡ take k (line_views xs) ++ line_at (line_views xs) n ∷ []
-front-views xs ys k n is =
-    take-map line_of (k + 1) ys ∙ ap line_views is ∙ map-append line_of (take k xs) (get_or xs n variants.Blank ∷ [])
-    ∙ ap (λ (ls : List (Line Placed)). ls ++ line_of (get_or xs n variants.Blank) ∷ []) (sym (take-map line_of k xs))
-    ∙ ap (λ (l : Line Placed). take k (line_views xs) ++ l ∷ []) (sym (views-at xs n))
-
-pub swap-front : (xs : List declared.Line) (k n : ℕ) → k < n → n < length xs → take (k + 1) (line_views (swap xs k n)) ≡ take k (line_views xs) ++ line_at (line_views xs) n ∷ []
-swap-front xs k n lt in_range = front-views xs (swap xs k n) k n (swapped-front xs k n lt in_range)
-
-pub swap-rest : (xs : List declared.Line) (k n : ℕ) → k < n → n < length xs → drop (n + 1) (line_views (swap xs k n)) ≡ drop (n + 1) (line_views xs)
-swap-rest xs k n lt in_range = drop-map line_of (n + 1) (swap xs k n) ∙ ap line_views (swapped-rest xs k n lt in_range) ∙ sym (drop-map line_of (n + 1) xs)
-
-pub same-front : (xs : List declared.Line) (k n : ℕ) → k ≤ n → n ≤ k → n < length xs → take (k + 1) (line_views xs) ≡ take k (line_views xs) ++ line_at (line_views xs) n ∷ []
-same-front xs k n le ge in_range =
+pub same-front : (lines : List (Line Placed)) (k n : ℕ) → k ≤ n → n ≤ k → n < length lines → take (k + 1) lines ≡ take k lines ++ line_at lines n ∷ []
+same-front lines k n le ge in_range =
     let e : k ≡ n = omega (arith, le, ge) in
-    subst (λ (m : ℕ). take (k + 1) (line_views xs) ≡ take k (line_views xs) ++ line_at (line_views xs) m ∷ []) e (front-views xs xs k k (take_more xs k variants.Blank (omega (arith, le, in_range))))
+    subst (λ (m : ℕ). take (k + 1) lines ≡ take k lines ++ line_at lines m ∷ []) e (take_more lines k Blank (omega (arith, le, in_range)))
 
 -- ---- the loop
 
@@ -404,7 +388,7 @@ pub record IsPackedTo (marks : List Bool) (whole : List (Line Placed)) (n : ℕ)
   pub rest : drop n lines ≡ drop n whole
   pub left : packed_by packing lines (marked (drop n marks) (drop n whole)) ≡ remaining_from false None (marked marks whole)
 
-get_or-default : {X : Type 0} (xs : List X) (n : ℕ) (d : X) → n < length xs → get_or xs n d ≡ get_or xs n (get_or xs n d)
+pub get_or-default : {X : Type 0} (xs : List X) (n : ℕ) (d : X) → n < length xs → get_or xs n d ≡ get_or xs n (get_or xs n d)
 get_or-default [] n d lt = absurd (omega (arith, lt))
 get_or-default (x ∷ xs) zero d lt = refl
 get_or-default (x ∷ xs) (suc n) d lt = get_or-default xs n d (omega (arith, lt))
@@ -450,7 +434,7 @@ pack-end marks whole n packing lines le so =
 
 -- ---- lines of the program
 
-get_or-other : {X : Type 0} (xs : List X) (n : ℕ) (c d : X) → n < length xs → get_or xs n c ≡ get_or xs n d
+pub get_or-other : {X : Type 0} (xs : List X) (n : ℕ) (c d : X) → n < length xs → get_or xs n c ≡ get_or xs n d
 get_or-other [] n c d lt = absurd (omega (arith, lt))
 get_or-other (x ∷ xs) zero c d lt = refl
 get_or-other (x ∷ xs) (suc n) c d lt = get_or-other xs n c d (omega (arith, lt))

@@ -15,3 +15,4 @@ pub mod Laws
 pub mod EditLaws
 pub mod GoPlace
 pub mod Twice
+pub mod Keys

@@ -13,6 +13,7 @@ ghost use Rattle.gm_file_edit.specs.Adding.{added, after_first_that, spot_after_
 ghost use Rattle.gm_syntax.specs.Lines.{HasNoLineFeed};
 ghost use Rattle.gm_file_edit.specs.Fates.{directive_at, passes, IsValidAt};
 
+use crate::keyed_lines::KeyedLines;
 use crate::targeting::{block_after_line, is_entry_of};
 use gm_syntax::{Line, Token};
 use std::alloc::{AllocError, Global};
@@ -157,60 +158,30 @@ fn entry_at<'a>(
     single(alloc, verb_text(verb), arguments)
 }
 
-/// Inserts a line at an index. If memory runs out, the lines stay as they are.
-fn insert_line<'a>(lines: &mut Vec<Line<'a>>, at: usize, line: Line<'a>) -> Result<(), AllocError>
-    requires { at ≤ length lines.old.items }
-    ensures ok { OnOk result (line_views lines.new.items
-        ≡ insert (line_views lines.old.items) at (line_of line.entry)) }
-    ensures err { OnErr result (line_views lines.new.items ≡ line_views lines.old.items) }
-{
-    lines.insert(at, line)?;
-    Ok(())
-}
-
-/// Inserts a blank line and then `line` at an index. If memory runs out, the lines stay as they are.
-fn insert_after_blank<'a>(
-    lines: &mut Vec<Line<'a>>,
-    at: usize,
-    line: Line<'a>,
-) -> Result<(), AllocError>
-    requires { at ≤ length lines.old.items }
-    ensures ok { OnOk result (line_views lines.new.items
-        ≡ take at (line_views lines.old.items)
-        ++ (Blank ∷ line_of line.entry ∷ drop at (line_views lines.old.items))) }
-    ensures err { OnErr result (line_views lines.new.items ≡ line_views lines.old.items) }
-{
-    // with room for both, neither is inserted alone
-    lines.reserve(2)?;
-    lines.insert(at, line)?;
-    lines.insert(at, Line::Blank)?;
-    Ok(())
-}
-
 /// Adds an entry. It goes directly after the last entry with its verb, in the same block if that one is in a block. If
 /// no entry has the verb, it goes to the end, after a blank line. If memory runs out, the lines stay as they are.
 pub(crate) fn add<'a>(
     alloc: Global,
     verb: AddedVerb,
     arguments: Vec<Token<'a>>,
-    lines: &mut Vec<Line<'a>>,
+    lines: &mut KeyedLines<'a>,
 ) -> Result<(), AllocError>
-    requires document { IsDocument (plain_lines (line_views lines.old.items)) }
-    requires sound { fault_of Strict (plain_lines (line_views lines.old.items)) ≡ None }
-    ensures ok { OnOk result (line_views lines.new.items
-        ≡ added (is_of verb) (verb_text verb) arguments.entry.items (line_views lines.old.items)) }
-    ensures err { OnErr result (line_views lines.new.items ≡ line_views lines.old.items) }
+    requires document { IsDocument (plain_lines lines.old) }
+    requires sound { fault_of Strict (plain_lines lines.old) ≡ None }
+    ensures ok { OnOk result (lines.new
+        ≡ added (is_of verb) (verb_text verb) arguments.entry.items lines.old) }
+    ensures err { OnErr result (lines.new ≡ lines.old) }
 {
-    let spot = last_spot(verb, lines.as_slice());
+    let spot = last_spot(verb, lines.lines());
     match spot {
         Some(spot) => {
             let entry = entry_at(alloc, spot.inside, verb, arguments)?;
-            insert_line(lines, spot.before, entry)
+            lines.insert(spot.before, entry)
         }
         None => {
             let entry = single(alloc, verb_text(verb), arguments)?;
             let end = lines.len();
-            insert_after_blank(lines, end, entry)
+            lines.insert_after_blank(end, entry)
         }
     }
 }
@@ -235,15 +206,15 @@ fn go_index(lines: &[Line]) -> usize
 pub(crate) fn add_go<'a>(
     alloc: Global,
     arguments: Vec<Token<'a>>,
-    lines: &mut Vec<Line<'a>>,
+    lines: &mut KeyedLines<'a>,
 ) -> Result<(), AllocError>
-    requires document { IsDocument (plain_lines (line_views lines.old.items)) }
-    requires sound { fault_of Strict (plain_lines (line_views lines.old.items)) ≡ None }
-    ensures ok { OnOk result (line_views lines.new.items ≡ after_first_that is_module
-        (Blank ∷ single (codes "go") arguments.entry.items ∷ []) (line_views lines.old.items)) }
-    ensures err { OnErr result (line_views lines.new.items ≡ line_views lines.old.items) }
+    requires document { IsDocument (plain_lines lines.old) }
+    requires sound { fault_of Strict (plain_lines lines.old) ≡ None }
+    ensures ok { OnOk result (lines.new ≡ after_first_that is_module
+        (Blank ∷ single (codes "go") arguments.entry.items ∷ []) lines.old) }
+    ensures err { OnErr result (lines.new ≡ lines.old) }
 {
     let line = single(alloc, "go", arguments)?;
-    let at = go_index(lines.as_slice());
-    insert_after_blank(lines, at, line)
+    let at = go_index(lines.lines());
+    lines.insert_after_blank(at, line)
 }

@@ -4,7 +4,7 @@
 
 ghost use Rattle.std.specs.Prelude.{◌≡◌, ◌↔◌, ◌<◌, not, length, take_while, IsErrOf, OnErr, OnOk, None, true, false, is_some};
 ghost use Rattle.gm_syntax.specs.Document.{IsDocument};
-ghost use Rattle.gm_syntax.specs.LineViews.{line_views, plain_lines};
+ghost use Rattle.gm_syntax.specs.LineViews.{plain_lines};
 ghost use Rattle.gm_file.specs.Directives.{Strict};
 ghost use Rattle.gm_file.specs.Faults.{does_left_fit, fault_of};
 ghost use Rattle.gm_name.specs.Names.{does_fit};
@@ -18,14 +18,14 @@ ghost use Rattle.gm_file_edit.specs.Views.{edit_of};
 use crate::adding::{AddedVerb, add, add_go};
 use crate::editor::Editor;
 use crate::fault::EditFault;
+use crate::keyed_lines::KeyedLines;
 use crate::marking::{first_mark, marks};
 use crate::new_words::{interval_words, one_word, pair_words, replace_words};
 use crate::op::{Change, Op};
 use crate::packing::pack;
-use crate::renewing::renew;
+use crate::renewing::{new_line, renew};
 use gm_file::MainFile;
 use gm_name::{ModPath, ModVersion, fits};
-use gm_syntax::Line;
 use std::alloc::{AllocError, Global};
 use std::mem;
 
@@ -90,19 +90,21 @@ fn drops(change: &Change) -> bool
 fn change_lines<'a>(
     alloc: Global,
     change: &Change,
-    lines: &mut Vec<Line<'a>>,
+    lines: &mut KeyedLines<'a>,
     marks: Vec<bool>,
     first: usize,
 ) -> Result<(), AllocError>
     requires written { IsSoundEdit (edit_of change.now) }
-    requires marked { marks.items ≡ marks_from (about (edit_of change.now)) None (line_views lines.old.items) }
+    requires marked { marks.items ≡ marks_from (about (edit_of change.now)) None lines.old }
     requires first { first ≡ length (take_while (λ mark. not mark) marks.items) }
-    requires in_range { first < length lines.old.items }
-    ensures ok { OnOk result (line_views lines.new.items ≡ changed (edit_of change.now) (line_views lines.old.items)) }
-    ensures err { OnErr result (line_views lines.new.items ≡ line_views lines.old.items) }
+    requires in_range { first < length lines.old }
+    ensures ok { OnOk result (lines.new ≡ changed (edit_of change.now) lines.old) }
+    ensures err { OnErr result (lines.new ≡ lines.old) }
 {
     if sets(change) {
-        return renew(alloc, change, lines, marks, first);
+        let line = new_line(alloc, change, lines, first)?;
+        renew(lines, marks, first, line);
+        return Ok(());
     }
     if drops(change) {
         pack(lines, marks.as_slice());
@@ -113,12 +115,12 @@ fn change_lines<'a>(
 
 /// Adds the entry of an operation that targets no line, if it adds one. If memory runs out, the lines stay as they are.
 #[tactic(auto, unfolding(crate::specs::Changes::put_in))]
-fn put_in<'a>(alloc: Global, change: &Change, lines: &mut Vec<Line<'a>>) -> Result<(), AllocError>
+fn put_in<'a>(alloc: Global, change: &Change, lines: &mut KeyedLines<'a>) -> Result<(), AllocError>
     requires written { IsSoundEdit (edit_of change.now) }
-    requires document { IsDocument (plain_lines (line_views lines.old.items)) }
-    requires sound { fault_of Strict (plain_lines (line_views lines.old.items)) ≡ None }
-    ensures ok { OnOk result (line_views lines.new.items ≡ put_in (edit_of change.now) (line_views lines.old.items)) }
-    ensures err { OnErr result (line_views lines.new.items ≡ line_views lines.old.items) }
+    requires document { IsDocument (plain_lines lines.old) }
+    requires sound { fault_of Strict (plain_lines lines.old) ≡ None }
+    ensures ok { OnOk result (lines.new ≡ put_in (edit_of change.now) lines.old) }
+    ensures err { OnErr result (lines.new ≡ lines.old) }
 {
     match change {
         Change::SetGo(text) => add_go(alloc, one_word(alloc, text.as_str())?, lines),
@@ -147,15 +149,15 @@ fn put_in<'a>(alloc: Global, change: &Change, lines: &mut Vec<Line<'a>>) -> Resu
 pub(crate) fn edit_lines<'a>(
     alloc: Global,
     change: &Change,
-    lines: &mut Vec<Line<'a>>,
+    lines: &mut KeyedLines<'a>,
 ) -> Result<(), AllocError>
     requires written { IsSoundEdit (edit_of change.now) }
-    requires document { IsDocument (plain_lines (line_views lines.old.items)) }
-    requires sound { fault_of Strict (plain_lines (line_views lines.old.items)) ≡ None }
-    ensures ok { OnOk result (line_views lines.new.items ≡ edited (edit_of change.now) (line_views lines.old.items)) }
-    ensures err { OnErr result (line_views lines.new.items ≡ line_views lines.old.items) }
+    requires document { IsDocument (plain_lines lines.old) }
+    requires sound { fault_of Strict (plain_lines lines.old) ≡ None }
+    ensures ok { OnOk result (lines.new ≡ edited (edit_of change.now) lines.old) }
+    ensures err { OnErr result (lines.new ≡ lines.old) }
 {
-    let marks = marks(alloc, change, lines.as_slice())?;
+    let marks = marks(alloc, change, lines)?;
     let first = first_mark(marks.as_slice());
     if first < lines.len() {
         return change_lines(alloc, change, lines, marks, first);

@@ -10,6 +10,7 @@ ghost use Rattle.gm_file_edit.specs.Changes.{edited, is_fit};
 
 use crate::applying::{edit_lines, is_fit};
 use crate::fault::EditFault;
+use crate::keyed_lines::KeyedLines;
 use crate::op::Op;
 use gm_file::{FileFault, MainFile};
 use gm_syntax::{Doc, Line};
@@ -23,23 +24,22 @@ pub struct Editor<'a> {
     /// The allocator of the lines.
     alloc: Global,
     /// The lines after the operations so far.
-    lines: Vec<Line<'a>>,
+    lines: KeyedLines<'a>,
 }
 
 impl<'a> Model for Editor<'a> {
     ghost use Rattle.std.specs.Prelude.{List, ◌≡◌, None};
     ghost use Rattle.gm_syntax.specs.Tokens.{Placed};
     ghost use Rattle.gm_syntax.specs.Document.{IsDocument, Line as LineOf};
-    ghost use Rattle.gm_syntax.specs.LineViews.{line_views, plain_lines};
+    ghost use Rattle.gm_syntax.specs.LineViews.{plain_lines};
     ghost use Rattle.gm_file.specs.Directives.{Strict};
     ghost use Rattle.gm_file.specs.Faults.{fault_of};
 
     ghost Value = { List (LineOf Placed) };
 
-    ghost view = { λ e. line_views e.lines.items };
+    ghost view = { λ e. e.lines };
 
-    ghost invariant = { λ e. IsDocument (plain_lines (line_views e.lines.items))
-        × (fault_of Strict (plain_lines (line_views e.lines.items)) ≡ None) };
+    ghost invariant = { λ e. IsDocument (plain_lines e.lines) × (fault_of Strict (plain_lines e.lines) ≡ None) };
 }
 
 /// A copy of the lines.
@@ -54,11 +54,20 @@ fn copy_lines<'a>(alloc: Global, lines: &[Line<'a>]) -> Result<Vec<Line<'a>>, Al
 }
 
 impl<'a> Editor<'a> {
+    /// An editor of a file's lines, which it takes. Fails only if memory runs out.
+    pub fn of(alloc: Global, file: MainFile<'a>) -> Result<Editor<'a>, AllocError>
+        ensures { IfOk result (λ editor. editor ≡ file.entry) }
+    {
+        let lines = KeyedLines::new(alloc, file.into_doc().into_lines())?;
+        Ok(Editor { alloc, lines })
+    }
+
     /// An editor of a copy of a file's lines. Fails only if memory runs out.
     pub fn new(alloc: Global, file: &MainFile<'a>) -> Result<Editor<'a>, AllocError>
         ensures { IfOk result (λ editor. editor ≡ file.now) }
     {
-        let lines = copy_lines(alloc, file.doc().lines())?;
+        let copies = copy_lines(alloc, file.doc().lines())?;
+        let lines = KeyedLines::new(alloc, copies)?;
         Ok(Editor { alloc, lines })
     }
 
@@ -87,7 +96,7 @@ impl<'a> Editor<'a> {
         ensures sound { fault_of Strict (plain_lines self.entry) ≡ None }
     {
         let Editor { alloc: _, lines } = self;
-        Doc::of_lines(lines)
+        Doc::of_lines(lines.into_lines())
     }
 
     /// The file of the lines, with the fields that strict reading gives for them. Fails only if memory runs out.

@@ -4,29 +4,40 @@
 
 ghost use Rattle.std.specs.Prelude.{◌≡◌, not, length, take_while, IfOk, None};
 ghost use Rattle.gm_syntax.specs.Document.{IsDocument};
-ghost use Rattle.gm_syntax.specs.LineViews.{line_views, plain_lines};
+ghost use Rattle.gm_syntax.specs.LineViews.{plain_lines};
 ghost use Rattle.gm_file.specs.Directives.{Strict};
 ghost use Rattle.gm_file.specs.Faults.{fault_of};
 ghost use Rattle.gm_file_edit.specs.About.{about};
 ghost use Rattle.gm_file_edit.specs.Marks.{marks_from};
 ghost use Rattle.gm_file_edit.specs.Views.{edit_of};
 
+use crate::keyed_lines::KeyedLines;
+use crate::keys::may_concern;
 use crate::op::Change;
-use crate::targeting::{block_after_line, is_about_at};
-use gm_syntax::Line;
+use crate::targeting::{block_after_line, is_about_at, path_number};
 use std::alloc::{AllocError, Global};
 
 /// A mark for each line of a valid file: whether it holds a directive that an operation targets.
-pub(crate) fn marks(alloc: Global, change: &Change, lines: &[Line]) -> Result<Vec<bool>, AllocError>
-    requires document { IsDocument (plain_lines (line_views lines.now)) }
-    requires sound { fault_of Strict (plain_lines (line_views lines.now)) ≡ None }
-    ensures { IfOk result (λ v. v.items ≡ marks_from (about (edit_of change.now)) None (line_views lines.now)) }
+pub(crate) fn marks(
+    alloc: Global,
+    change: &Change,
+    lines: &KeyedLines,
+) -> Result<Vec<bool>, AllocError>
+    requires document { IsDocument (plain_lines lines.now) }
+    requires sound { fault_of Strict (plain_lines lines.now) ≡ None }
+    ensures { IfOk result (λ v. v.items ≡ marks_from (about (edit_of change.now)) None lines.now) }
 {
+    let number = path_number(change);
     let mut marks = Vec::with_capacity(alloc, lines.len())?;
     let mut block = None;
-    for line in lines {
-        marks.push(is_about_at(alloc, change, block, line)?)?;
-        block = block_after_line(block, line);
+    for (n, key) in lines.keys().iter().enumerate() {
+        if may_concern(number, *key) {
+            let line = lines.line(n);
+            marks.push(is_about_at(alloc, change, block, line)?)?;
+            block = block_after_line(block, line);
+        } else {
+            marks.push(false)?;
+        }
     }
     Ok(marks)
 }

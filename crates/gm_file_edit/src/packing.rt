@@ -10,6 +10,7 @@ ghost use Rattle.gm_syntax.specs.LineViews.{line_of, line_views};
 ghost use Rattle.gm_file_edit.specs.Fates.{is_blank_source_line, remaining_from};
 ghost use Rattle.gm_file_edit.specs.Packs.{EndsWithBlock, IsNext, IsOpenedAt, closing, fate_by, is_bare, is_uncommented, line_at, marked, opened, with_loss};
 
+use crate::keyed_lines::KeyedLines;
 use gm_syntax::Line;
 
 /// An open block, whose closing bracket hasn't been reached.
@@ -108,13 +109,13 @@ fn is_emptied(block: OpenBlock, commented: bool, lines: &[Line]) -> bool
 }
 
 /// Keeps a line, directly after those that are kept so far.
-fn keep(lines: &mut Vec<Line>, kept: usize, n: usize)
+fn keep(lines: &mut KeyedLines, kept: usize, n: usize)
     requires ordered { kept ≤ n }
-    requires in_range { n < length lines.old.items }
-    ensures front { take (kept + 1) (line_views lines.new.items)
-        ≡ take kept (line_views lines.old.items) ++ line_at (line_views lines.old.items) n ∷ [] }
-    ensures rest { drop (n + 1) (line_views lines.new.items) ≡ drop (n + 1) (line_views lines.old.items) }
-    ensures len { length lines.new.items ≡ length lines.old.items }
+    requires in_range { n < length lines.old }
+    ensures front { take (kept + 1) lines.new
+        ≡ take kept lines.old ++ line_at lines.old n ∷ [] }
+    ensures rest { drop (n + 1) lines.new ≡ drop (n + 1) lines.old }
+    ensures len { length lines.new ≡ length lines.old }
 {
     if kept < n {
         lines.swap(kept, n);
@@ -142,23 +143,23 @@ fn is_skipped(after: bool, line: &Line) -> bool
 }
 
 /// The packing after a line outside blocks that isn't removed. A blank line directly after an emptied block is.
-fn outside(lines: &mut Vec<Line>, kept: usize, after: bool, n: usize) -> Packing
+fn outside(lines: &mut KeyedLines, kept: usize, after: bool, n: usize) -> Packing
     requires ordered { kept ≤ n }
-    requires in_range { n < length lines.old.items }
-    ensures next { IsNext after None (take kept (line_views lines.old.items))
-        (Some (line_at (line_views lines.old.items) n)) result (line_views lines.new.items) }
+    requires in_range { n < length lines.old }
+    ensures next { IsNext after None (take kept lines.old)
+        (Some (line_at lines.old n)) result lines.new }
     ensures bound { result.kept ≤ n + 1 }
-    ensures rest { drop (n + 1) (line_views lines.new.items) ≡ drop (n + 1) (line_views lines.old.items) }
-    ensures len { length lines.new.items ≡ length lines.old.items }
+    ensures rest { drop (n + 1) lines.new ≡ drop (n + 1) lines.old }
+    ensures len { length lines.new ≡ length lines.old }
 {
-    if is_skipped(after, &lines[n]) {
+    if is_skipped(after, lines.line(n)) {
         return Packing {
             kept,
             after: false,
             block: None,
         };
     }
-    let block = opened(kept, &lines[n]);
+    let block = opened(kept, lines.line(n));
     keep(lines, kept, n);
     Packing {
         kept: kept + 1,
@@ -169,23 +170,23 @@ fn outside(lines: &mut Vec<Line>, kept: usize, after: bool, n: usize) -> Packing
 
 /// The packing after the closing bracket of the open block. An emptied block is removed as a whole.
 fn close(
-    lines: &mut Vec<Line>,
+    lines: &mut KeyedLines,
     packing: Packing,
     block: OpenBlock,
     commented: bool,
     n: usize,
 ) -> Packing
     requires ordered { packing.kept ≤ n }
-    requires in_range { n < length lines.old.items }
-    requires open { IsOpenedAt block.at (take packing.kept (line_views lines.old.items)) }
-    requires closing { closing (line_at (line_views lines.old.items) n) ≡ Some commented }
-    ensures next { IsNext packing.after (Some block) (take packing.kept (line_views lines.old.items))
-        (Some (line_at (line_views lines.old.items) n)) result (line_views lines.new.items) }
+    requires in_range { n < length lines.old }
+    requires open { IsOpenedAt block.at (take packing.kept lines.old) }
+    requires closing { closing (line_at lines.old n) ≡ Some commented }
+    ensures next { IsNext packing.after (Some block) (take packing.kept lines.old)
+        (Some (line_at lines.old n)) result lines.new }
     ensures bound { result.kept ≤ n + 1 }
-    ensures rest { drop (n + 1) (line_views lines.new.items) ≡ drop (n + 1) (line_views lines.old.items) }
-    ensures len { length lines.new.items ≡ length lines.old.items }
+    ensures rest { drop (n + 1) lines.new ≡ drop (n + 1) lines.old }
+    ensures len { length lines.new ≡ length lines.old }
 {
-    if is_emptied(block, commented, &lines[block.at..packing.kept]) {
+    if is_emptied(block, commented, &lines.lines()[block.at..packing.kept]) {
         return Packing {
             kept: block.at,
             after: true,
@@ -201,17 +202,17 @@ fn close(
 }
 
 /// The packing after a line of the open block that isn't removed.
-fn inside(lines: &mut Vec<Line>, packing: Packing, block: OpenBlock, n: usize) -> Packing
+fn inside(lines: &mut KeyedLines, packing: Packing, block: OpenBlock, n: usize) -> Packing
     requires ordered { packing.kept ≤ n }
-    requires in_range { n < length lines.old.items }
-    requires open { IsOpenedAt block.at (take packing.kept (line_views lines.old.items)) }
-    ensures next { IsNext packing.after (Some block) (take packing.kept (line_views lines.old.items))
-        (Some (line_at (line_views lines.old.items) n)) result (line_views lines.new.items) }
+    requires in_range { n < length lines.old }
+    requires open { IsOpenedAt block.at (take packing.kept lines.old) }
+    ensures next { IsNext packing.after (Some block) (take packing.kept lines.old)
+        (Some (line_at lines.old n)) result lines.new }
     ensures bound { result.kept ≤ n + 1 }
-    ensures rest { drop (n + 1) (line_views lines.new.items) ≡ drop (n + 1) (line_views lines.old.items) }
-    ensures len { length lines.new.items ≡ length lines.old.items }
+    ensures rest { drop (n + 1) lines.new ≡ drop (n + 1) lines.old }
+    ensures len { length lines.new ≡ length lines.old }
 {
-    match closing(&lines[n]) {
+    match closing(lines.line(n)) {
         Some(commented) => close(lines, packing, block, commented, n),
         None => {
             keep(lines, packing.kept, n);
@@ -225,15 +226,15 @@ fn inside(lines: &mut Vec<Line>, packing: Packing, block: OpenBlock, n: usize) -
 }
 
 /// The packing after one more line, which is removed or not.
-fn pack_line(lines: &mut Vec<Line>, packing: Packing, n: usize, goes: bool) -> Packing
+fn pack_line(lines: &mut KeyedLines, packing: Packing, n: usize, goes: bool) -> Packing
     requires ordered { packing.kept ≤ n }
-    requires in_range { n < length lines.old.items }
-    requires ends { EndsWithBlock packing.block (take packing.kept (line_views lines.old.items)) }
-    ensures next { IsNext packing.after packing.block (take packing.kept (line_views lines.old.items))
-        (fate_by goes (line_at (line_views lines.old.items) n)) result (line_views lines.new.items) }
+    requires in_range { n < length lines.old }
+    requires ends { EndsWithBlock packing.block (take packing.kept lines.old) }
+    ensures next { IsNext packing.after packing.block (take packing.kept lines.old)
+        (fate_by goes (line_at lines.old n)) result lines.new }
     ensures bound { result.kept ≤ n + 1 }
-    ensures rest { drop (n + 1) (line_views lines.new.items) ≡ drop (n + 1) (line_views lines.old.items) }
-    ensures len { length lines.new.items ≡ length lines.old.items }
+    ensures rest { drop (n + 1) lines.new ≡ drop (n + 1) lines.old }
+    ensures len { length lines.new ≡ length lines.old }
 {
     if goes {
         return Packing {
@@ -256,9 +257,9 @@ fn has_mark(marks: &[bool]) -> bool
 }
 
 /// Removes the lines that have a mark, and the blocks that this empties. Takes no memory.
-pub(crate) fn pack(lines: &mut Vec<Line>, marks: &[bool])
-    requires { length marks.now ≡ length lines.old.items }
-    ensures { line_views lines.new.items ≡ remaining_from false None (marked marks.now (line_views lines.old.items)) }
+pub(crate) fn pack(lines: &mut KeyedLines, marks: &[bool])
+    requires { length marks.now ≡ length lines.old }
+    ensures { lines.new ≡ remaining_from false None (marked marks.now lines.old) }
 {
     if !has_mark(marks) {
         return;

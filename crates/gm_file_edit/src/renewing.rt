@@ -2,21 +2,20 @@
 //!
 //! An entry is rewritten in place, so that its comment and its position in a block are kept.
 
-ghost use Rattle.std.specs.Prelude.{◌≡◌, ◌<◌, not, length, take, take_while, slice_set, IfOk, OnErr, OnOk, None};
+ghost use Rattle.std.specs.Prelude.{◌≡◌, ◌<◌, false, length, take, slice_set, IfOk, None};
 ghost use Rattle.std.specs.Option.{option_map};
 ghost use Rattle.gm_syntax.specs.LineViews.{line_of, line_views};
 ghost use Rattle.gm_syntax.specs.Lines.{HasNoLineFeed};
 ghost use Rattle.gm_file.specs.Directives.{block_after_lines};
 ghost use Rattle.gm_file.specs.Views.{replace_view};
-ghost use Rattle.gm_file_edit.specs.About.{about};
-ghost use Rattle.gm_file_edit.specs.Fates.{renewed};
+ghost use Rattle.gm_file_edit.specs.Fates.{remaining_from};
 ghost use Rattle.gm_file_edit.specs.Renewing.{before_arguments, made_new, with_arguments, with_last};
-ghost use Rattle.gm_file_edit.specs.Marks.{marks_from};
 ghost use Rattle.gm_file_edit.specs.NewWords.{replace_words};
-ghost use Rattle.gm_file_edit.specs.Packs.{line_at};
+ghost use Rattle.gm_file_edit.specs.Packs.{line_at, marked};
 ghost use Rattle.gm_file_edit.specs.Sound.{IsSoundEdit, IsSoundRight};
 ghost use Rattle.gm_file_edit.specs.Views.{edit_of};
 
+use crate::keyed_lines::KeyedLines;
 use crate::new_words::{push_replace, push_word};
 use crate::op::Change;
 use crate::packing::pack;
@@ -24,7 +23,6 @@ use crate::targeting::block_after_line;
 use gm_file::Replace;
 use gm_syntax::{Line, Token};
 use std::alloc::{AllocError, Global};
-use std::mem;
 
 /// An entry with its last word replaced. Any other line stays as is.
 fn with_last<'a>(
@@ -117,50 +115,31 @@ fn open_after<'w, 'a>(lines: &'w [Line<'a>]) -> Option<&'w Token<'a>>
 }
 
 /// The line at an index as the operation rewrites it.
-fn new_line<'a>(
+pub(crate) fn new_line<'a>(
     alloc: Global,
     change: &Change,
-    lines: &[Line<'a>],
+    lines: &KeyedLines<'a>,
     at: usize,
 ) -> Result<Line<'a>, AllocError>
     requires written { IsSoundEdit (edit_of change.now) }
     requires in_range { at < length lines.now }
-    ensures { IfOk result (λ l. line_of l ≡ made_new (edit_of change.now)
-        (block_after_lines None (take at (line_views lines.now))) (line_at (line_views lines.now) at)) }
+    ensures { IfOk result (λ l. line_of l
+        ≡ made_new (edit_of change.now) (block_after_lines None (take at lines.now)) (line_at lines.now at)) }
 {
-    let copy = lines[at].copy(alloc)?;
-    made_new(alloc, change, open_after(&lines[..at]), copy)
+    let copy = lines.line(at).copy(alloc)?;
+    made_new(alloc, change, open_after(&lines.lines()[..at]), copy)
 }
 
-/// Puts a line in the place of the one at an index.
-fn put_line<'a>(lines: &mut Vec<Line<'a>>, at: usize, line: Line<'a>)
-    requires { at < length lines.old.items }
-    ensures { line_views lines.new.items ≡ slice_set (line_views lines.old.items) at (line_of line.entry) }
+/// Puts a line in the place of the first that has a mark, which is at an index, and removes the others that have one and
+/// the blocks that this empties.
+pub(crate) fn renew<'a>(lines: &mut KeyedLines<'a>, marks: Vec<bool>, first: usize, line: Line<'a>)
+    requires marks { length marks.items ≡ length lines.old }
+    requires in_range { first < length lines.old }
+    ensures { lines.new ≡ remaining_from false None
+        (marked (slice_set marks.items first false) (slice_set lines.old first (line_of line.entry))) }
 {
-    let _before = mem::replace(&mut lines[at], line);
-}
-
-/// Rewrites the first line that has a mark, which is at an index, and removes the others and the blocks that this
-/// empties. If memory runs out, the lines stay as they are.
-pub(crate) fn renew<'a>(
-    alloc: Global,
-    change: &Change,
-    lines: &mut Vec<Line<'a>>,
-    marks: Vec<bool>,
-    first: usize,
-) -> Result<(), AllocError>
-    requires written { IsSoundEdit (edit_of change.now) }
-    requires marked { marks.items ≡ marks_from (about (edit_of change.now)) None (line_views lines.old.items) }
-    requires first { first ≡ length (take_while (λ mark. not mark) marks.items) }
-    requires in_range { first < length lines.old.items }
-    ensures ok { OnOk result (line_views lines.new.items
-        ≡ renewed (about (edit_of change.now)) (made_new (edit_of change.now)) (line_views lines.old.items)) }
-    ensures err { OnErr result (line_views lines.new.items ≡ line_views lines.old.items) }
-{
-    let line = new_line(alloc, change, lines.as_slice(), first)?;
-    put_line(lines, first, line);
+    lines.put(first, line);
     let mut others = marks;
     others[first] = false;
     pack(lines, others.as_slice());
-    Ok(())
 }

@@ -13,10 +13,12 @@ ghost use Rattle.gm_file.specs.DirectiveViews.{directive_view};
 ghost use Rattle.gm_file.specs.Values.{argument};
 ghost use Rattle.gm_file_edit.specs.About.{about};
 ghost use Rattle.gm_file_edit.specs.Fates.{directive_at, item_of, passes, IsValidAt};
+ghost use Rattle.gm_file_edit.specs.Keys.{text_number};
 ghost use Rattle.gm_file_edit.specs.Targets.{begins_with, is_entry_of, is_text, path_of, verb_of};
 ghost use Rattle.gm_file_edit.specs.Views.{edit_of};
 
 use crate::about::is_about;
+use crate::keys::short;
 use crate::op::Change;
 use gm_file::{Directive, LineFault, Mode, read_line};
 use gm_name::ModPath;
@@ -70,6 +72,16 @@ fn path_of(change: &Change) -> Option<&ModPath>
         Change::SetReplace(replace) => Some(&replace.left),
         Change::DropReplace(side) => Some(&side.path),
         _ => None,
+    }
+}
+
+/// The number of that path.
+pub(crate) fn path_number(change: &Change) -> Option<u16>
+    ensures { result ≡ option_map text_number (path_of (edit_of change.now)) }
+{
+    match path_of(change) {
+        None => None,
+        Some(path) => Some(short(path.fingerprint())),
     }
 }
 

@@ -59,14 +59,14 @@ fn apply_all(
 /// is refused.
 fn edits_outcome(
     alloc: Global,
-    file: &MainFile<'_>,
+    file: MainFile<'_>,
     operations: &[String],
 ) -> Result<Output, NoMemory>
     ensures { IfOk result (λ output. outcome_view output
         ≡ edits_outcome (refusals_from 1 (map string_bytes operations.now))
-        (edited_in_turn (filter_map edit_in (map string_bytes operations.now)) file.now)) }
+        (edited_in_turn (filter_map edit_in (map string_bytes operations.now)) file.entry)) }
 {
-    let mut editor = Editor::new(alloc, file)?;
+    let mut editor = Editor::of(alloc, file)?;
     match apply_all(alloc, &mut editor, operations)? {
         None => Ok(printed(alloc, editor.into_doc().format(alloc)?)),
         Some((number, kind)) => Ok(refused(alloc, edit_line(alloc, number, kind)?)),
@@ -82,7 +82,7 @@ pub(crate) fn edit_outcome(
     ensures { IfOk result (λ output. IsEditOutcome (map string_bytes operations.now) file.now (outcome_view output)) }
 {
     match main_file(alloc, file)? {
-        Ok(main) => edits_outcome(alloc, &main, operations),
+        Ok(main) => edits_outcome(alloc, main, operations),
         Err(output) => Ok(output),
     }
 }

@@ -1,10 +1,9 @@
 use Rattle.std.proofs.Common.{drop}
 use Rattle.std.specs.Option.{option_map}
-use Rattle.gm_syntax.specs.LineViews.{line_views}
 use Rattle.gm_file_edit.specs.About.{about}
 use Rattle.gm_file_edit.specs.Views.{edit_of}
 use Rattle.gm_file_edit.proofs.Marks.{IsMarkedTo}
 use Rattle.gm_file_edit.proofs.marking.marks.Given as goal
 
-abbrev pub invariant-loop-line : goal.invariant-loop-line
-invariant-loop-line l = IsMarkedTo (about (edit_of l.change)) (line_views l.lines) (line_views (drop l.line-index l.lines)) (option_map (λ t. t.now) l.block) l.marks.items
+abbrev pub invariant-loop-n : goal.invariant-loop-n
+invariant-loop-n l = IsMarkedTo (about (edit_of l.change)) l.lines (drop l.n l.lines) (option_map (λ t. t.now) l.block) l.marks.items

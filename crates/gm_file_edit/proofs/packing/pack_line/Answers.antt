@@ -1,7 +1,5 @@
-use Rattle.gm_syntax.specs.LineViews.{line_views}
 use Rattle.gm_file_edit.proofs.Packs.{next-gone}
 use Rattle.gm_file_edit.proofs.packing.pack_line.Goals as goal
 
 pub returns-then-goes-clause-next : goal.returns-then-goes-clause-next
-returns-then-goes-clause-next c =
-    rw (c.if-goes.true, c.with_loss.ensures) (next-gone c.args.packing (line_views c.args.lines.now.items) c.requires.ends)
+returns-then-goes-clause-next c = rw (c.if-goes.true, c.with_loss.ensures) (next-gone c.args.packing c.args.lines.now c.requires.ends)

@@ -7,16 +7,15 @@ use Rattle.gm_file.specs.Directives.{block_after_lines}
 use Rattle.gm_file_edit.specs.Packs.{line_at}
 use Rattle.gm_file_edit.specs.Renewing.{made_new}
 use Rattle.gm_file_edit.specs.Views.{edit_of}
-use Rattle.gm_file_edit.proofs.Packs.{line-at-is}
 use Rattle.gm_file_edit.proofs.Parts.{if-ok}
 use Rattle.gm_file_edit.proofs.renewing.new_line.Goals as goal
 
 pub returns : goal.returns
 returns c =
     let e = edit_of c.args.change.now in
-    let lines = line_views c.args.lines.now in
-    let front : line_views (take c.args.at c.args.lines.now) ≡ take c.args.at lines = sym (take-map line_of c.args.at c.args.lines.now) in
+    let lines = c.args.lines.now in
+    let front : line_views (take c.args.at c.lines.result.now) ≡ take c.args.at lines = sym (take-map line_of c.args.at c.lines.result.now) ∙ ap (take c.args.at) c.lines.ensures.lines in
     let block = c.open_after.ensures ∙ ap (λ (ls : List (Line Placed)). block_after_lines None ls) front in
-    let line = c.in_ok-copy.ensures ∙ line-at-is c.args.lines.now c.args.at c.index-lines-at.result c.requires.in_range c.index-lines-at.is in
+    let line = c.in_ok-copy.ensures ∙ c.line.ensures.line in
     if-ok c.made_new.result _ (λ l. line_of l ≡ made_new e (block_after_lines None (take c.args.at lines)) (line_at lines c.args.at))
     (λ l h. h ∙ ap (λ (b : Option Placed). made_new e b (line_of c.in_ok-copy.copy)) block ∙ ap (made_new e (block_after_lines None (take c.args.at lines))) line) c.made_new.ensures

@@ -2,7 +2,7 @@ use Rattle.std.proofs.Common.{ap, set, ◌∙◌}
 use Rattle.std.proofs.lemmas.List.{map-set}
 use Rattle.gm_syntax.specs.declared.line.Line as declared
 use Rattle.gm_syntax.specs.LineViews.{line_of, line_views}
-use Rattle.gm_file_edit.proofs.renewing.put_line.Goals as goal
+use Rattle.gm_file_edit.proofs.keyed_lines.put_line.Goals as goal
 
 pub returns : goal.returns
 returns c =

@@ -1,0 +1,74 @@
+-- Changes of lines and of their keys.
+use Rattle.std.proofs.Common.{◌≡◌, ℕ, zero, suc, ◌+◌, ◌<◌, ◌≤◌, List, [], ◌∷◌, ◌++◌, length, map, take, drop, set, get_or, refl, sym, ap, ◌∙◌, arith}
+use Rattle.std.specs.Prelude.{insert}
+use Rattle.std.specs.List.{swap}
+use Rattle.std.proofs.lemmas.List.{length-map, map-set, take-map}
+use Rattle.std.proofs.lemmas.List.Edits.{swap_is}
+use Rattle.std.proofs.Math.ListN.{get_or-map}
+use Rattle.gm_syntax.proofs.Edits.{map-insert}
+use Rattle.gm_syntax.specs.declared.line.Line as declared
+use Rattle.gm_syntax.specs.declared.line.Line.TheVariants as variants
+use Rattle.gm_syntax.specs.Document.{Line, Blank}
+use Rattle.gm_syntax.specs.LineViews.{line_of, line_views}
+use Rattle.gm_syntax.specs.Tokens.{Placed}
+use Rattle.gm_file_edit.specs.declared.keys.Key.{Key}
+use Rattle.gm_file_edit.specs.Keys.{key_of}
+
+-- the keys are those of the lines, which are seen as such
+pub record AreKeyed (lines : List declared.Line) (keys : List Key) (seen : List (Line Placed)) : Type 0 where
+  pub view : line_views lines ≡ seen
+  pub numbers : keys ≡ map key_of (line_views lines)
+
+map-swap : {X Y : Type 0} (f : X → Y) (d : X) (xs : List X) (i j : ℕ) → i < length xs → j < length xs → map f (swap xs i j) ≡ swap (map f xs) i j
+map-swap {X} {Y} f d xs i j low high =
+    let count = length-map xs f in
+    ap (map f) (sym (swap_is xs i j d low high))
+    ∙ map-set f (set xs i (get_or xs j d)) j (get_or xs i d)
+    ∙ ap (λ (ys : List Y). set ys j (f (get_or xs i d))) (map-set f xs i (get_or xs j d))
+    ∙ ap (λ (y : Y). set (set (map f xs) i y) j (f (get_or xs i d))) (sym (get_or-map f xs j d))
+    ∙ ap (λ (y : Y). set (set (map f xs) i (get_or (map f xs) j (f d))) j y) (sym (get_or-map f xs i d))
+    ∙ swap_is (map f xs) i j (f d) (omega (arith, low, count)) (omega (arith, high, count))
+
+pub swapped : (lines new : List declared.Line) (keys changed : List Key) (seen : List (Line Placed)) (i j : ℕ) → line_views lines ≡ seen → keys ≡ map key_of (line_views lines)
+    → new ≡ swap lines i j → changed ≡ swap keys i j → i < length seen → j < length seen → AreKeyed new changed (swap seen i j)
+swapped lines new keys changed seen i j view are moved keys_moved low high =
+    let count = length-map lines line_of in
+    let whole = ap length view in
+    let seen_new : line_views new ≡ swap seen i j =
+    ap line_views moved ∙ map-swap line_of variants.Blank lines i j (omega (arith, low, count, whole)) (omega (arith, high, count, whole)) ∙ ap (λ (ls : List (Line Placed)). swap ls i j) view in
+    record {
+      view = seen_new;
+      numbers = keys_moved ∙ ap (λ (ks : List Key). swap ks i j) (are ∙ ap (map key_of) view) ∙ sym (map-swap key_of Blank seen i j low high) ∙ ap (map key_of) (sym seen_new);
+    }
+
+pub taken : (lines new : List declared.Line) (keys changed : List Key) (seen : List (Line Placed)) (n : ℕ) → line_views lines ≡ seen → keys ≡ map key_of (line_views lines)
+    → new ≡ take n lines → changed ≡ take n keys → AreKeyed new changed (take n seen)
+taken lines new keys changed seen n view are cut keys_cut =
+    let seen_new : line_views new ≡ take n seen = ap line_views cut ∙ sym (take-map line_of n lines) ∙ ap (take n) view in
+    record {
+      view = seen_new;
+      numbers = keys_cut ∙ ap (take n) (are ∙ ap (map key_of) view) ∙ take-map key_of n seen ∙ ap (map key_of) (sym seen_new);
+    }
+
+pub inserted : (lines new : List declared.Line) (keys changed : List Key) (seen : List (Line Placed)) (at : ℕ) (line : declared.Line) (key : Key) → line_views lines ≡ seen → keys ≡ map key_of (line_views lines)
+    → key ≡ key_of (line_of line) → new ≡ insert lines at line → changed ≡ insert keys at key → AreKeyed new changed (insert seen at (line_of line))
+inserted lines new keys changed seen at line key view are of put keys_put =
+    let seen_new : line_views new ≡ insert seen at (line_of line) = ap line_views put ∙ map-insert line_of lines at line ∙ ap (λ (ls : List (Line Placed)). insert ls at (line_of line)) view in
+    record {
+      view = seen_new;
+      numbers = keys_put ∙ ap (λ (ks : List Key). insert ks at key) (are ∙ ap (map key_of) view) ∙ ap (insert (map key_of seen) at) of ∙ sym (map-insert key_of seen at (line_of line)) ∙ ap (map key_of) (sym seen_new);
+    }
+
+pub replaced : (lines new : List declared.Line) (keys changed : List Key) (seen : List (Line Placed)) (at : ℕ) (line : Line Placed) (key : Key) → line_views lines ≡ seen → keys ≡ map key_of (line_views lines)
+    → key ≡ key_of line → line_views new ≡ set (line_views lines) at line → changed ≡ set keys at key → AreKeyed new changed (set seen at line)
+replaced lines new keys changed seen at line key view are of put keys_put =
+    let seen_new : line_views new ≡ set seen at line = put ∙ ap (λ (ls : List (Line Placed)). set ls at line) view in
+    record {
+      view = seen_new;
+      numbers = keys_put ∙ ap (λ (ks : List Key). set ks at key) (are ∙ ap (map key_of) view) ∙ ap (set (map key_of seen) at) of ∙ sym (map-set key_of seen at line) ∙ ap (map key_of) (sym seen_new);
+    }
+
+pub insert-both : {X : Type 0} (xs : List X) (at : ℕ) (x y : X) → at ≤ length xs → insert (insert xs at y) at x ≡ take at xs ++ (x ∷ y ∷ drop at xs)
+insert-both xs zero x y le = refl
+insert-both [] (suc at) x y le = absurd (omega (arith, le))
+insert-both (z ∷ xs) (suc at) x y le = ap (λ l. z ∷ l) (insert-both xs at x y (omega (arith, le)))

@@ -1,0 +1,163 @@
+//! The lines of a file with their keys.
+
+ghost use Rattle.std.specs.Prelude.{◌≡◌, ◌+◌, ◌^◌, ◌∷◌, ◌++◌, ◌<◌, ◌≤◌, length, map, take, drop, insert, slice_set, IfOk, OnErr, OnOk};
+ghost use Rattle.std.specs.List.{remove, swap};
+ghost use Rattle.gm_syntax.specs.Document.{Blank};
+ghost use Rattle.gm_syntax.specs.LineViews.{line_of, line_views};
+ghost use Rattle.gm_file_edit.specs.Keys.{key_of};
+ghost use Rattle.gm_file_edit.specs.Packs.{line_at};
+
+use crate::keys::{Key, key_of};
+use gm_syntax::Line;
+use std::alloc::{AllocError, Global};
+use std::marker::Model;
+use std::mem;
+
+/// The lines of a file. Each has a key, kept up to date, in a list of its own that is quick to go over.
+#[derive(Drop)]
+pub(crate) struct KeyedLines<'a> {
+    /// The lines.
+    lines: Vec<Line<'a>>,
+    /// The key of each line.
+    keys: Vec<Key>,
+}
+
+impl<'a> Model for KeyedLines<'a> {
+    ghost use Rattle.std.specs.Prelude.{List, ◌≡◌, map};
+    ghost use Rattle.gm_syntax.specs.Tokens.{Placed};
+    ghost use Rattle.gm_syntax.specs.Document.{Line as LineOf};
+    ghost use Rattle.gm_syntax.specs.LineViews.{line_views};
+    ghost use Rattle.gm_file_edit.specs.Keys.{key_of};
+
+    ghost Value = { List (LineOf Placed) };
+
+    ghost view = { λ l. line_views l.lines.items };
+
+    ghost invariant = { λ l. l.keys.items ≡ map key_of (line_views l.lines.items) };
+}
+
+/// The keys of lines.
+fn keys_of(alloc: Global, lines: &[Line]) -> Result<Vec<Key>, AllocError>
+    ensures { IfOk result (λ v. v.items ≡ map key_of (line_views lines.now)) }
+{
+    let mut keys = Vec::with_capacity(alloc, lines.len())?;
+    for line in lines {
+        keys.push(key_of(line))?;
+    }
+    Ok(keys)
+}
+
+/// Puts a line in the place of the one at an index.
+fn put_line<'a>(lines: &mut Vec<Line<'a>>, at: usize, line: Line<'a>)
+    requires { at < length lines.old.items }
+    ensures { line_views lines.new.items ≡ slice_set (line_views lines.old.items) at (line_of line.entry) }
+{
+    let _before = mem::replace(&mut lines[at], line);
+}
+
+impl<'a> KeyedLines<'a> {
+    /// Lines with their keys. Fails only if memory runs out.
+    pub(crate) fn new(alloc: Global, lines: Vec<Line<'a>>) -> Result<KeyedLines<'a>, AllocError>
+        ensures { IfOk result (λ keyed. keyed ≡ line_views lines.entry.items) }
+    {
+        let keys = keys_of(alloc, lines.as_slice())?;
+        Ok(KeyedLines { lines, keys })
+    }
+
+    /// The lines without their keys.
+    pub(crate) fn into_lines(self) -> Vec<Line<'a>>
+        ensures { line_views result.items ≡ self.entry }
+    {
+        let KeyedLines { lines, keys: _ } = self;
+        lines
+    }
+
+    /// The lines.
+    pub(crate) fn lines(&self) -> &[Line<'a>]
+        ensures lines { line_views result.now ≡ self.now }
+        ensures len { length result.now ≡ length self.now }
+    {
+        self.lines.as_slice()
+    }
+
+    /// The line at an index.
+    pub(crate) fn line(&self, at: usize) -> &Line<'a>
+        requires { at < length self.now }
+        ensures line { line_of result.now ≡ line_at self.now at }
+        ensures small { at + 1 < 2 ^ 64 }
+    {
+        &self.lines[at]
+    }
+
+    /// The keys of the lines.
+    pub(crate) fn keys(&self) -> &[Key]
+        ensures { result.now ≡ map key_of self.now }
+    {
+        self.keys.as_slice()
+    }
+
+    /// The number of lines.
+    pub(crate) fn len(&self) -> usize
+        ensures { result ≡ length self.now }
+    {
+        self.lines.len()
+    }
+
+    /// Inserts a line at an index. If memory runs out, the lines stay as they are.
+    pub(crate) fn insert(&mut self, at: usize, line: Line<'a>) -> Result<(), AllocError>
+        requires { at ≤ length self.old }
+        ensures ok { OnOk result (self.new ≡ insert self.old at (line_of line.entry)) }
+        ensures err { OnErr result (self.new ≡ self.old) }
+    {
+        // with room for the line, its key is not inserted alone
+        self.lines.reserve(1)?;
+        self.keys.insert(at, key_of(&line))?;
+        self.lines.insert(at, line)?;
+        Ok(())
+    }
+
+    /// Inserts a blank line and then `line` at an index. If memory runs out, the lines stay as they are.
+    pub(crate) fn insert_after_blank(&mut self, at: usize, line: Line<'a>) -> Result<(), AllocError>
+        requires { at ≤ length self.old }
+        ensures ok { OnOk result (self.new
+            ≡ take at self.old ++ (Blank ∷ line_of line.entry ∷ drop at self.old)) }
+        ensures err { OnErr result (self.new ≡ self.old) }
+    {
+        // with room for both, neither is inserted alone
+        self.lines.reserve(2)?;
+        self.keys.reserve(2)?;
+        self.keys.insert(at, key_of(&line))?;
+        self.lines.insert(at, line)?;
+        self.keys.insert(at, key_of(&Line::Blank))?;
+        self.lines.insert(at, Line::Blank)?;
+        Ok(())
+    }
+
+    /// Puts a line in the place of the one at an index.
+    pub(crate) fn put(&mut self, at: usize, line: Line<'a>)
+        requires { at < length self.old }
+        ensures { self.new ≡ slice_set self.old at (line_of line.entry) }
+    {
+        self.keys[at] = key_of(&line);
+        put_line(&mut self.lines, at, line);
+    }
+
+    /// Exchanges two lines.
+    pub(crate) fn swap(&mut self, one: usize, other: usize)
+        requires one { one < length self.old }
+        requires other { other < length self.old }
+        ensures lines { self.new ≡ swap self.old one other }
+        ensures len { length self.new ≡ length self.old }
+    {
+        self.lines.swap(one, other);
+        self.keys.swap(one, other);
+    }
+
+    /// Removes the lines from an index on.
+    pub(crate) fn truncate(&mut self, len: usize)
+        ensures { self.new ≡ take len self.old }
+    {
+        self.lines.truncate(len);
+        self.keys.truncate(len);
+    }
+}
