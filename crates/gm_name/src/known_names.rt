@@ -206,11 +206,15 @@ impl KnownNames {
         }
     }
 
-    /// Keeps a path under a number, so that later reads of its text find it.
+    /// Keeps a path under a number, so that later reads of its text find it. Where there is no room, nothing is
+    /// copied.
     fn keep_path(&mut self, alloc: Global, number: u64, path: &ModPath) -> Result<(), AllocError>
         ensures room { self.new.room ≡ self.old.room }
         ensures within { IsWithinRoom self.new }
     {
+        if self.room == 0 {
+            return Ok(());
+        }
         keep(&mut self.paths, self.room, number, path.copy(alloc)?)
     }
 
@@ -224,6 +228,9 @@ impl KnownNames {
         ensures room { self.new.room ≡ self.old.room }
         ensures within { IsWithinRoom self.new }
     {
+        if self.room == 0 {
+            return Ok(());
+        }
         keep(&mut self.versions, self.room, number, version.copy(alloc)?)
     }
 
@@ -232,6 +239,9 @@ impl KnownNames {
         ensures room { self.new.room ≡ self.old.room }
         ensures within { IsWithinRoom self.new }
     {
+        if self.room == 0 {
+            return Ok(());
+        }
         keep(&mut self.pairs, self.room, number, pair.copy(alloc)?)
     }
 
