@@ -1,4 +1,5 @@
 pub mod Asked
+mod Commands
 mod Faults
 mod Limits
 mod Queries

@@ -69,23 +69,23 @@ versions_app =
 abbrev pub required_option_rule : Text → Rule
 required_option_rule name = record (new_rule name) { long = Some name; required = true; value_names = 1 }
 
--- a command over a module graph: `NAME --proxy DIR --mod FILE --sum FILE`
-abbrev pub query_app : Text → App
-query_app name =
-    with_rule (with_rule (with_rule (new_app name) (required_option_rule (codes "proxy")))
+-- a command over a module graph, which takes `--proxy DIR --mod FILE --sum FILE`
+abbrev pub over_graph : App → App
+over_graph app =
+    with_rule (with_rule (with_rule app (required_option_rule (codes "proxy")))
     (default_option_rule (codes "mod") (codes "go.mod"))) (option_rule (codes "sum"))
 
 -- `graph`
 abbrev pub graph_app : App
-graph_app = query_app (codes "graph")
+graph_app = over_graph (new_app (codes "graph"))
 
 -- `list --after PATH --limit N`
 abbrev pub list_app : App
-list_app = with_rule (with_rule (query_app (codes "list")) (option_rule (codes "after"))) (option_rule (codes "limit"))
+list_app = with_rule (with_rule (over_graph (new_app (codes "list"))) (option_rule (codes "after"))) (option_rule (codes "limit"))
 
 -- `chain PATH`
 abbrev pub chain_app : App
-chain_app = with_rule (query_app (codes "chain")) (positional_rule (codes "path"))
+chain_app = with_rule (over_graph (new_app (codes "chain"))) (positional_rule (codes "path"))
 
 -- `gomod`, before its commands are added: it has a version, requires a command, and shows its help without words
 abbrev pub bare_gomod : App

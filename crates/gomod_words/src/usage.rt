@@ -172,8 +172,8 @@ fn with_usage(alloc: Global, text: String, usage: &str) -> UsageFault
     }
 }
 
-/// What the matches of a parse mean, by the name of the command. The parser accepts no other command, but its
-/// types can't say so, and therefore an unknown one is refused with `Line`.
+/// What the matches of a parse mean. The parser accepts no words without a command, but its types can't say so, and
+/// therefore these are refused with `Line`.
 fn read_matches<'a>(
     alloc: Global,
     matches: &ArgMatches<'a>,
@@ -182,13 +182,35 @@ fn read_matches<'a>(
     ensures fault { IfErr result (IsEntriesFault (subcommand_rows_of matches.now)) }
 {
     match matches.subcommand() {
-        Some(("fmt", found)) => read_fmt(alloc, found),
-        Some(("edit", found)) => read_edit(alloc, found),
-        Some(("versions", found)) => read_versions(alloc, found),
-        Some(("graph", found)) => read_graph(alloc, found),
-        Some(("list", found)) => read_list(alloc, found),
-        Some(("chain", found)) => read_chain(alloc, found),
-        _ => Err(line(alloc, "error: no command given", GOMOD_USAGE)),
+        Some((name, found)) => read_command(alloc, name, found),
+        None => Err(no_command(alloc)),
+    }
+}
+
+/// The refusal of words without a command.
+fn no_command(alloc: Global) -> UsageFault
+    ensures { is_line_or_memory result ≡ true }
+{
+    line(alloc, "error: no command given", GOMOD_USAGE)
+}
+
+/// What the words of the command with this name mean. Another name than the parser knows is refused with `Line`.
+fn read_command<'a>(
+    alloc: Global,
+    name: &str,
+    found: &ArgMatches<'a>,
+) -> Result<(Command, Places), UsageFault>
+    ensures read { IfOk result (λ read. Means name.now (rows_of (found_of found.now)) read.0 read.1) }
+    ensures fault { IfErr result (IsEntriesFault (Some (name.now, rows_of (found_of found.now)))) }
+{
+    match name {
+        "fmt" => read_fmt(alloc, found),
+        "edit" => read_edit(alloc, found),
+        "versions" => read_versions(alloc, found),
+        "graph" => read_graph(alloc, found),
+        "list" => read_list(alloc, found),
+        "chain" => read_chain(alloc, found),
+        _ => Err(no_command(alloc)),
     }
 }
 

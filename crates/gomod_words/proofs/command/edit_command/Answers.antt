@@ -1,9 +1,5 @@
-use Rattle.std.proofs.Common.{◌≡◌, ap₂, ◌∙◌, codes}
-use Rattle.clap.specs.Simple.{app_of, new_app, with_rule}
 use Rattle.gomod_words.proofs.command.edit_command.Goals as goal
 
-pub returns-clause-app : goal.returns-clause-app
-returns-clause-app c =
-    let described : app_of c.with_help-described.result ≡ new_app (codes "edit") = c.with_help-described.ensures.app ∙ c.new.ensures.app in
-    c.in_ok-command.ensures.shape c.operation_arguments.ensures.local
-    ∙ ap₂ with_rule (c.in_ok-arg.ensures.shape c.file_argument.ensures.local ∙ ap₂ with_rule described c.file_argument.ensures.rule) c.operation_arguments.ensures.rule
+pub returns : goal.returns
+returns c =
+    c.with_argument.ensures _ _ (c.with_argument-command.ensures _ _ c.described-command.ensures c.positional.ensures.rule) c.operations.ensures.rule
