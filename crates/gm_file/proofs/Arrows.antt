@@ -1,11 +1,12 @@
 -- The two sides of a replace, split at the first arrow.
-use Rattle.std.proofs.Common.{◌≡◌, ℕ, ◌+◌, ◌-◌, ◌<◌, Bool, not, List, [], ◌∷◌, ◌++◌, length, map, take, drop, Option, Some, Err, inl, inr, refl, sym, ap, ◌∙◌, arith}
+use Rattle.std.proofs.Common.{◌≡◌, ℕ, ◌+◌, ◌-◌, ◌<◌, Bool, not, List, [], ◌∷◌, ◌++◌, length, map, take, drop, Option, Some, Err, inl, inr, refl, sym, ap, subst, ◌∙◌, arith}
 use Rattle.std.proofs.Math.ListN.{drop_of_length-le}
 use Rattle.std.proofs.lemmas.Bool.{cases_Bool}
 use Rattle.std.proofs.lemmas.List.{drop-drop, drop-map, take-map, take_rest}
 use Rattle.std.proofs.lemmas.List.Folds.{length-prefix_len}
 use Rattle.std.specs.List.{after_first, before_first, position_or_len, prefix_len, take_while}
 use Rattle.gm_syntax.specs.Tokens.{Placed, words_of}
+use Rattle.gm_file.specs.declared.fault.DirectiveKind.{DirectiveKind}
 use Rattle.gm_file.specs.declared.fault.DirectiveKind.TheVariants.{WrongArguments}
 use Rattle.gm_file.specs.declared.fault.LineFault.{LineFault}
 use Rattle.gm_file.specs.declared.fault.LineFault.TheVariants as line
@@ -56,3 +57,37 @@ right-version-fault left path version p q v (line.Kind k) is-p sound-p is-q soun
     let f : path ≡ q = cc in
     let g : left.version ≡ v = cc in
     rw (e, f, g, sound-p, sound-q, sound-v) (first-append (version_kinds version) _ k told)
+
+-- ---- the faults of the two sides, in the order in which the parts are read
+
+module _ (left : Left) (path version : List ℕ) where
+  -- the kinds up to those of the version on the left
+  abbrev before-right-version : List DirectiveKind
+  before-right-version = path_kinds left.path ++ path_kinds path ++ left_version_kinds left.version
+
+  pub left-path-fault : (fault : LineFault) → IsRead {X = List ℕ} {Y = List ℕ} (λ x. x) WrongArguments path_kinds (Some left.path) (Err fault)
+      → IsRead replace_view WrongArguments replacing_kinds (Some (replacing left (Module path version))) (Err fault)
+  left-path-fault line.NoMemory told = tt
+  left-path-fault (line.Kind k) told =
+      first-append (before-right-version ++ version_kinds version) _ k
+      (first-append before-right-version (version_kinds version) k
+      (first-append (path_kinds left.path ++ path_kinds path) (left_version_kinds left.version) k (first-append (path_kinds left.path) (path_kinds path) k told)))
+
+  pub right-path-fault : (fault : LineFault) → path_kinds left.path ≡ [] → IsRead {X = List ℕ} {Y = List ℕ} (λ x. x) WrongArguments path_kinds (Some path) (Err fault)
+      → IsRead replace_view WrongArguments replacing_kinds (Some (replacing left (Module path version))) (Err fault)
+  right-path-fault line.NoMemory sound told = tt
+  right-path-fault (line.Kind k) sound told =
+      rw sound (first-append (path_kinds path ++ left_version_kinds left.version ++ version_kinds version) _ k
+      (first-append (path_kinds path ++ left_version_kinds left.version) (version_kinds version) k (first-append (path_kinds path) (left_version_kinds left.version) k told)))
+
+  pub left-version-fault : (fault : LineFault) → path_kinds left.path ≡ [] → path_kinds path ≡ [] → IsRead {X = Option (List ℕ)} {Y = Option (List ℕ)} (λ x. x) WrongArguments left_version_kinds (Some left.version) (Err fault)
+      → IsRead replace_view WrongArguments replacing_kinds (Some (replacing left (Module path version))) (Err fault)
+  left-version-fault line.NoMemory sound-p sound-q told = tt
+  left-version-fault (line.Kind k) sound-p sound-q told =
+      rw (sound-p, sound-q) (first-append (left_version_kinds left.version ++ version_kinds version) _ k (first-append (left_version_kinds left.version) (version_kinds version) k told))
+
+-- a part without faults, by what its reader says
+pub sound-part : {X : Type 0} (kinds : X → List DirectiveKind) (part read : X) → Some part ≡ Some read → kinds read ≡ [] → kinds part ≡ []
+sound-part {X} kinds part read same sound =
+    let e : part ≡ read = cc in
+    subst (λ (x : X). kinds x ≡ []) (sym e) sound

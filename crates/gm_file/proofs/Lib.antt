@@ -2,6 +2,7 @@ pub mod SmallNumbers
 pub mod GoTexts
 pub mod PartKinds
 pub mod Arrows
+pub mod Words
 pub mod Entries
 pub mod First
 pub mod Snoc

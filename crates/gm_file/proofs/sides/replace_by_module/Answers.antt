@@ -1,8 +1,30 @@
-use Rattle.std.proofs.Common.{Some, ap, sym, ◌∙◌}
+use Rattle.std.proofs.Common.{◌≡◌, ℕ, List, [], Option, Some, Err, ap, subst, sym, ◌∙◌}
 use Rattle.std.proofs.lemmas.Result.{err_from_is_err_and}
+use Rattle.gm_file.specs.declared.fault.DirectiveKind.TheVariants.{WrongArguments}
+use Rattle.gm_file.specs.Faults.{left_version_kinds, path_kinds}
+use Rattle.gm_file.specs.Reading.{IsRead}
 use Rattle.gm_file.specs.Views.{left_text_view}
-use Rattle.gm_file.proofs.Arrows.{right-version-fault}
+use Rattle.gm_file.proofs.Arrows.{left-path-fault, left-version-fault, right-path-fault, right-version-fault, sound-part}
 use Rattle.gm_file.proofs.sides.replace_by_module.Goals as goal
+
+pub returns-in_err-left_path : goal.returns-in_err-left_path
+returns-in_err-left_path c =
+    let p = err_from_is_err_and c.from_residual.result c.from_residual.ensures.1 in
+    rw (p.1, p.2) (left-path-fault (left_text_view c.args.left.now) c.args.path.now c.args.version.now c.in_err-left_path.field-0.0
+    (subst (λ (text : List ℕ). IsRead {X = List ℕ} {Y = List ℕ} (λ x. x) WrongArguments path_kinds (Some text) (Err c.in_err-left_path.field-0.0)) c.as_str.ensures.value c.in_err-left_path.ensures))
+
+pub returns-in_err-path : goal.returns-in_err-path
+returns-in_err-path c =
+    let p = err_from_is_err_and c.from_residual-in_err-path.result c.from_residual-in_err-path.ensures.1 in
+    rw (p.1, p.2) (right-path-fault (left_text_view c.args.left.now) c.args.path.now c.args.version.now c.in_err-path.field-0.0
+    (sound-part path_kinds _ _ (ap Some (sym c.as_str.ensures.value) ∙ c.in_ok-left_path.ensures.0) c.in_ok-left_path.ensures.1) c.in_err-path.ensures)
+
+pub returns-in_err-left_version : goal.returns-in_err-left_version
+returns-in_err-left_version c =
+    let p = err_from_is_err_and c.from_residual-in_err-left_version.result c.from_residual-in_err-left_version.ensures.1 in
+    rw (p.1, p.2) (left-version-fault (left_text_view c.args.left.now) c.args.path.now c.args.version.now c.in_err-left_version.field-0.0
+    (sound-part path_kinds _ _ (ap Some (sym c.as_str.ensures.value) ∙ c.in_ok-left_path.ensures.0) c.in_ok-left_path.ensures.1)
+    (sound-part path_kinds _ _ c.in_ok-path.ensures.0 c.in_ok-path.ensures.1) c.in_err-left_version.ensures)
 
 pub returns-in_err-version : goal.returns-in_err-version
 returns-in_err-version c =
