@@ -19,7 +19,7 @@ use gm_syntax::{Line, Token};
 use std::alloc::{AllocError, Global};
 
 /// The verb of an entry that is added next to others with the same verb.
-#[derive(Clone, Copy, Debug, PartialEq, Eq)]
+#[derive(Clone, Copy)]
 pub(crate) enum AddedVerb {
     /// The verb `require`.
     Require,

@@ -1,7 +1,8 @@
 //! The lines of a file with their keys.
 
 ghost use Rattle.std.specs.Prelude.{◌≡◌, ◌+◌, ◌^◌, ◌∷◌, ◌++◌, ◌<◌, ◌≤◌, length, map, take, drop, insert, slice_set, IfOk, OnErr, OnOk};
-ghost use Rattle.std.specs.List.{remove, swap};
+ghost use Rattle.std.specs.List.{swap};
+ghost use Rattle.std.specs.Vec.{vec_capacity, vec_len};
 ghost use Rattle.gm_syntax.specs.Document.{Blank};
 ghost use Rattle.gm_syntax.specs.LineViews.{line_of, line_views};
 ghost use Rattle.gm_file_edit.specs.Keys.{key_of};
@@ -45,6 +46,19 @@ fn keys_of(alloc: Global, lines: &[Line]) -> Result<Vec<Key>, AllocError>
         keys.push(key_of(line))?;
     }
     Ok(keys)
+}
+
+/// Inserts an item where the list has room for it.
+fn insert_in_room<T: Drop>(list: &mut Vec<T>, at: usize, item: T)
+    requires in_range { at ≤ vec_len list.old }
+    requires room { vec_len list.old < vec_capacity list.old }
+    ensures items { list.new.items ≡ insert list.old.items at item }
+    ensures len { vec_len list.new ≡ vec_len list.old + 1 }
+    ensures capacity { vec_capacity list.old ≤ vec_capacity list.new }
+{
+    if let Err(refused) = list.insert(at, item) {
+        drop(refused);
+    }
 }
 
 /// Puts a line in the place of the one at an index.
@@ -126,10 +140,10 @@ impl<'a> KeyedLines<'a> {
         // with room for both, neither is inserted alone
         self.lines.reserve(2)?;
         self.keys.reserve(2)?;
-        self.keys.insert(at, key_of(&line))?;
-        self.lines.insert(at, line)?;
-        self.keys.insert(at, key_of(&Line::Blank))?;
-        self.lines.insert(at, Line::Blank)?;
+        insert_in_room(&mut self.keys, at, key_of(&line));
+        insert_in_room(&mut self.lines, at, line);
+        insert_in_room(&mut self.keys, at, key_of(&Line::Blank));
+        insert_in_room(&mut self.lines, at, Line::Blank);
         Ok(())
     }
 
