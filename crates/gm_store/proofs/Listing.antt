@@ -1,6 +1,6 @@
 -- Collecting the versions that may be listed from a list of words.
 use Rattle.std.proofs.Common.{◌≡◌, zero, suc, ◌⊎◌, ℕ, List, [], ◌∷◌, ◌++◌, map, nat_eq, sym, subst, refl, ◌∙◌, ap, inl, inr, true, arith, Bor, Option, Some, None}
-use Rattle.std.specs.Prelude.{◌↔◌, Contains}
+use Rattle.std.specs.Prelude.{Contains}
 use Rattle.std.specs.Cmp.Lexicographic.{nat_list_eq_equiv, pointwise}
 use Rattle.std.specs.List.{dedup}
 use Rattle.std.specs.Option.{IfNone, IfSome}
@@ -15,11 +15,7 @@ use Rattle.std.proofs.lemmas.List.Sorted.{Contains-permutation, IsPermutation-sy
 use Rattle.gm_name.specs.Version.{version_cmp}
 use Rattle.gm_name.specs.VersionOrder.{version_ties, version_total, version-anti}
 use Rattle.gm_store.specs.Lines.{first_word, lines}
-use Rattle.gm_store.specs.Listed.{AreListed, IsListable}
-
--- `versions` has the words that may be listed, and no others
-abbrev pub HoldsListable : List ℕ → List (List ℕ) → List (List ℕ) → Type 0
-HoldsListable path words versions = (version : List ℕ) → Contains versions version ↔ (Contains words version × IsListable path version)
+use Rattle.gm_store.specs.Listed.{AreListed, HoldsListable, IsListable}
 
 Contains-only : (x y : List ℕ) → Contains (x ∷ []) y → x ≡ y
 Contains-only x y (zero, within, is) = is
@@ -73,19 +69,20 @@ listed_from path text found sorted holds moved ordered = record {
 words_more : (lines : List (Bor (List ℕ))) (line : Bor (List ℕ)) → map first_word (map (λ line. line.now) (lines ++ line ∷ [])) ≡ map first_word (map (λ line. line.now) lines) ++ first_word line.now ∷ []
 words_more lines line = ap (map first_word) (map-append (λ (line : Bor (List ℕ)). line.now) lines (line ∷ [])) ∙ map-append first_word (map (λ line. line.now) lines) (line.now ∷ [])
 
--- the same for one more line, whose first word may be listed
-pub line_more : (path : List ℕ) (lines : List (Bor (List ℕ))) (line : Bor (List ℕ)) (versions new : List (List ℕ)) (word version : List ℕ) → HoldsListable path (map first_word (map (λ line. line.now) lines)) versions → word ≡ first_word line.now → (version ≡ word) × IsListable path word → new ≡ versions ++ version ∷ [] → HoldsListable path (map first_word (map (λ line. line.now) (lines ++ line ∷ []))) new
-line_more path lines line versions new word version holds is listable grown =
-    let same : version ≡ first_word line.now = listable.0 ∙ is in
-    let more = holds_more path _ versions (first_word line.now) holds (subst (IsListable path) is listable.1) in
-    subst (λ words. HoldsListable path words new) (sym (words_more lines line))
-    (subst (λ versions. HoldsListable path (map first_word (map (λ line. line.now) lines) ++ first_word line.now ∷ []) versions) (ap (λ v. versions ++ v ∷ []) (sym same) ∙ sym grown) more)
+-- one more line
+pub line_more : (path : List ℕ) (lines : List (Bor (List ℕ))) (line : Bor (List ℕ)) (new : List (List ℕ)) → HoldsListable path (map first_word (map (λ line. line.now) lines) ++ first_word line.now ∷ []) new → HoldsListable path (map first_word (map (λ line. line.now) (lines ++ line ∷ []))) new
+line_more path lines line new holds = subst (λ words. HoldsListable path words new) (sym (words_more lines line)) holds
 
--- the same for one more line, whose first word may not be listed
-pub line_same : (path : List ℕ) (lines : List (Bor (List ℕ))) (line : Bor (List ℕ)) (versions : List (List ℕ)) (word : List ℕ) → HoldsListable path (map first_word (map (λ line. line.now) lines)) versions → word ≡ first_word line.now → ¬ (IsListable path word) → HoldsListable path (map first_word (map (λ line. line.now) (lines ++ line ∷ []))) versions
-line_same path lines line versions word holds is refused =
-    subst (λ words. HoldsListable path words versions) (sym (words_more lines line))
-    (holds_same path _ versions (first_word line.now) holds (subst (λ word. ¬ (IsListable path word)) is refused))
+-- one more word that was read, and it may be listed
+pub pushes_word : (words old new : List (List ℕ)) (path : List ℕ) (read first version : List ℕ) → read ≡ first → (version ≡ read) × IsListable path read → new ≡ old ++ version ∷ [] → HoldsListable path words old → HoldsListable path (words ++ first ∷ []) new
+pushes_word words old new path read first version is listable grown holds =
+    let same : version ≡ first = listable.0 ∙ is in
+    let more = holds_more path words old first holds (subst (IsListable path) is listable.1) in
+    subst (λ versions. HoldsListable path (words ++ first ∷ []) versions) (ap (λ v. old ++ v ∷ []) (sym same) ∙ sym grown) more
+
+-- one more word that was read, and it may not be listed
+pub passes_word : (words old : List (List ℕ)) (path read first : List ℕ) → read ≡ first → ¬ (IsListable path read) → HoldsListable path words old → HoldsListable path (words ++ first ∷ []) old
+passes_word words old path read first is refused holds = holds_same path words old first holds (subst (λ word. ¬ (IsListable path word)) is refused)
 
 pub found_some : (path word : List ℕ) (r : Option (List ℕ)) (version : List ℕ) → r ≡ Some version → IfSome r (λ version. (version ≡ word) × IsListable path word) → (version ≡ word) × IsListable path word
 found_some path word None version e h = cc e

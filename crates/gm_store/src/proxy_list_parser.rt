@@ -2,7 +2,7 @@
 //!
 //! One pass over the characters collects folders and marks together, so the two lists can't disagree.
 
-ghost use Rattle.std.specs.Prelude.{◌≡◌, ◌++◌, ℕ, List, map, true, false, IfOk, IfSome, IfNone, encode_utf8, string_bytes};
+ghost use Rattle.std.specs.Prelude.{◌≡◌, ◌++◌, ℕ, List, [], map, true, false, IfOk, IfSome, IfNone, encode_utf8, string_bytes};
 ghost use Rattle.std.specs.List.{list_all};
 ghost use Rattle.gm_store.specs.Proxies.{folders_in, folders_of, is_folder, is_mark, mark_of, marks_in, marks_of};
 ghost use Rattle.gm_store.specs.Cutting.{IsParsedPrefix};
@@ -62,6 +62,24 @@ fn parse_char(
     Ok(String::new(alloc))
 }
 
+/// Consumes all characters of a text, and returns the folder in progress at its end. The only refusal is `NoMemory`.
+fn parse_chars(
+    alloc: Global,
+    folders: &mut Vec<String>,
+    marks: &mut Vec<Mark>,
+    value: &str,
+) -> Result<String, NoMemory>
+    requires folders { folders.old.items ≡ [] }
+    requires marks { marks.old.items ≡ [] }
+    ensures { IfOk result (IsParsedPrefix value.now folders.new.items marks.new.items) }
+{
+    let mut folder = String::new(alloc);
+    for c in value.chars() {
+        folder = parse_char(alloc, folders, marks, folder, c)?;
+    }
+    Ok(folder)
+}
+
 /// Splits a text at its marks. Folders may be empty here; `has_folders_only` tests them afterwards.
 ///
 /// The only refusal is `NoMemory`.
@@ -71,10 +89,7 @@ pub(crate) fn split_at_marks(alloc: Global, value: &str) -> Result<ProxyList, No
 {
     let mut folders = Vec::new(alloc);
     let mut marks = Vec::new(alloc);
-    let mut folder = String::new(alloc);
-    for c in value.chars() {
-        folder = parse_char(alloc, &mut folders, &mut marks, folder, c)?;
-    }
+    let folder = parse_chars(alloc, &mut folders, &mut marks, value)?;
     folders.push(folder)?;
     Ok(ProxyList { folders, marks })
 }

@@ -5,7 +5,7 @@
 
 ghost use Rattle.gm_store.specs.Pieces.{AddsPiece};
 ghost use Rattle.gm_store.specs.declared.reading.ReadFault.TheVariants as read_fault;
-ghost use Rattle.std.specs.Prelude.{◌≡◌, ◌+◌, ◌≤◌, length, take, drop, Some, IfOk, IfSome, OnOk, vec_len};
+ghost use Rattle.std.specs.Prelude.{◌≡◌, ◌+◌, ◌<◌, ◌≤◌, ℕ, length, take, drop, Some, IfOk, IfSome, OnOk, vec_len};
 
 use std::alloc::{AllocError, Global};
 use std::io::Read;
@@ -69,6 +69,31 @@ fn read_piece<R: Read>(
     Ok(count)
 }
 
+/// Reads once into `piece`, at most up to the limit, and appends the bytes read to `bytes`. Returns their number, which
+/// is 0 at the reader's end. A piece that was filled is followed by a longer one.
+///
+/// `Device` is returned if the read fails, `NoMemory` if memory runs out.
+fn read_next<R: Read>(
+    alloc: Global,
+    reader: &mut R,
+    piece: &mut Vec<u8>,
+    bytes: &mut Vec<u8>,
+) -> Result<usize, ReadFault>
+    requires short { length bytes.old.items ≤ LIMIT }
+    requires room { 0 < vec_len piece.old }
+    ensures adds { IfOk result (λ count. (room : ℕ) × (0 < room) × (length bytes.old.items + room ≤ LIMIT + 1)
+        × AddsPiece (R.remaining reader.old) (R.remaining reader.new)
+        bytes.old.items bytes.new.items room count) }
+    ensures room { OnOk result (0 < vec_len piece.new) }
+{
+    let wanted = (LIMIT + 1 - bytes.len()).min(piece.len());
+    let count = read_piece(reader, &mut piece[..wanted], bytes)?;
+    if count == piece.len() && count < MOST {
+        *piece = piece_of(alloc, (count * GROWTH).min(MOST))?;
+    }
+    Ok(count)
+}
+
 /// Reads all bytes of a reader, or the first `LIMIT + 1` if there are more. A result longer than `LIMIT` tells the
 /// caller that the input is too long. The bytes after the first `LIMIT + 1` are left in the reader.
 ///
@@ -83,13 +108,9 @@ pub fn read_limited<R: Read>(alloc: Global, reader: &mut R) -> Result<Vec<u8>, R
     let mut bytes = Vec::new(alloc);
     let mut piece = piece_of(alloc, FIRST)?;
     'fill: while bytes.len() <= LIMIT {
-        let wanted = (LIMIT + 1 - bytes.len()).min(piece.len());
-        let count = read_piece(reader, &mut piece[..wanted], &mut bytes)?;
+        let count = read_next(alloc, reader, &mut piece, &mut bytes)?;
         if count == 0 {
             return Ok(bytes);
-        }
-        if count == piece.len() && count < MOST {
-            piece = piece_of(alloc, (count * GROWTH).min(MOST))?;
         }
     }
     Ok(bytes)

@@ -3,9 +3,10 @@
 //! The Go Modules Reference doesn't say what to do with lines that hold no version. They are skipped, so one bad
 //! line doesn't hide the other versions.
 
-ghost use Rattle.std.specs.Prelude.{◌≡◌, ◌↔◌, IfOk, IfNone, IfSome, IsTrue};
+ghost use Rattle.std.specs.Prelude.{◌≡◌, ◌↔◌, ◌++◌, ◌∷◌, [], ℕ, List, IfOk, IfNone, IfSome, IsTrue, OnOk};
 ghost use Rattle.gm_name.specs.Version.{IsVersion};
-ghost use Rattle.gm_store.specs.Listed.{AreListed, IsListable, IsPseudoVersion};
+ghost use Rattle.gm_store.specs.Lines.{first_word};
+ghost use Rattle.gm_store.specs.Listed.{AreListed, HoldsListable, IsListable, IsPseudoVersion};
 
 use crate::blanks::first_word;
 use gm_name::{ModPath, ModVersion, NoMemory, VersionFault, fits, pseudo};
@@ -59,6 +60,23 @@ fn listable_in(alloc: Global, path: &ModPath, word: &[u8]) -> Result<Option<ModV
     }
 }
 
+/// Appends the version that a line names, if it is one that may be listed for the module. The only refusal is
+/// `NoMemory`.
+fn push_listable(
+    alloc: Global,
+    path: &ModPath,
+    line: &[u8],
+    versions: &mut Vec<ModVersion>,
+) -> Result<(), NoMemory>
+    ensures { OnOk result ((words : List (List ℕ)) → HoldsListable path.now words versions.old.items
+        → HoldsListable path.now (words ++ first_word line.now ∷ []) versions.new.items) }
+{
+    if let Some(version) = listable_in(alloc, path, first_word(line))? {
+        versions.push(version)?;
+    }
+    Ok(())
+}
+
 /// The versions that a module's list file names, without duplicates, in ascending order (Go Modules Reference,
 /// GOPROXY protocol, `$base/$module/@v/list`).
 ///
@@ -72,9 +90,7 @@ pub fn versions_of(alloc: Global, path: &ModPath, text: &[u8]) -> Result<Vec<Mod
 {
     let mut versions = Vec::new(alloc);
     for line in text.split(|byte| *byte == b'\n') {
-        if let Some(version) = listable_in(alloc, path, first_word(line))? {
-            versions.push(version)?;
-        }
+        push_listable(alloc, path, line, &mut versions)?;
     }
     versions.sort_unstable();
     versions.dedup();

@@ -4,16 +4,13 @@ use Rattle.std.proofs.lemmas.List.Filters.{dedup_is}
 use Rattle.std.proofs.lemmas.Iterator.Consumers.{YieldsList-end}
 use Rattle.std.proofs.lemmas.Iterator.Splits.{YieldsList-from_slice_split}
 use Rattle.gm_store.specs.Lines.{first_word, is_line_end}
-use Rattle.gm_store.proofs.Listing.{HoldsListable, found_none, found_some, line_more, line_same, listed_from}
+use Rattle.gm_store.specs.Listed.{HoldsListable}
+use Rattle.gm_store.proofs.Listing.{line_more, listed_from}
 use Rattle.gm_store.proofs.version_list.versions_of.Goals as goal
-
-pub loop-line-preserved-in-Continue-branch-3 : goal.loop-line-preserved-in-Continue-branch-3
-loop-line-preserved-in-Continue-branch-3 c =
-    line_more c.args.path.now c.loop-line.yielded c.in-Some.line c.loop-line.versions.items _ c.first_word.result.now c.in-Some-2.version c.loop-line.invariant c.first_word.ensures (found_some _ _ c.in_ok-version.field-0 _ c.in-Some-2.is c.in_ok-version.ensures.some) c.in_ok-push.ensures.items
 
 pub loop-line-preserved : goal.loop-line-preserved
 loop-line-preserved c =
-    line_same c.args.path.now c.loop-line.yielded c.in-Some.line c.loop-line.versions.items c.first_word.result.now c.loop-line.invariant c.first_word.ensures (found_none _ _ c.in_ok-version.field-0 c.in_default.is c.in_ok-version.ensures.none)
+    line_more c.args.path.now c.loop-line.yielded c.in-Some.line c.push_listable.new.versions.items (c.in_ok-push_listable.ensures _ c.loop-line.invariant)
 
 pub returns : goal.returns
 returns c =

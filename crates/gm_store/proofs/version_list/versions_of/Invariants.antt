@@ -1,6 +1,6 @@
 use Rattle.std.proofs.Common.{map}
 use Rattle.gm_store.specs.Lines.{first_word}
-use Rattle.gm_store.proofs.Listing.{HoldsListable}
+use Rattle.gm_store.specs.Listed.{HoldsListable}
 use Rattle.gm_store.proofs.version_list.versions_of.Given as goal
 
 -- `versions` has the versions that the lines so far name

@@ -1,7 +1,7 @@
 use Rattle.std.proofs.Common.{subst, sym}
 use Rattle.gm_store.specs.Cutting.{IsParsedPrefix}
 use Rattle.gm_store.proofs.Cuts.{cut_more}
-use Rattle.gm_store.proofs.proxy_list_parser.split_at_marks.Goals as goal
+use Rattle.gm_store.proofs.proxy_list_parser.parse_chars.Goals as goal
 
 pub loop-c-preserved : goal.loop-c-preserved
 loop-c-preserved c =

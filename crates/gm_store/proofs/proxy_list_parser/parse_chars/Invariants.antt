@@ -1,6 +1,6 @@
 use Rattle.std.specs.Prelude.{encode_utf8_all}
 use Rattle.gm_store.specs.Cutting.{IsParsedPrefix}
-use Rattle.gm_store.proofs.proxy_list_parser.split_at_marks.Given as goal
+use Rattle.gm_store.proofs.proxy_list_parser.parse_chars.Given as goal
 
 -- the state after the characters so far
 abbrev pub invariant-loop-c : goal.invariant-loop-c
