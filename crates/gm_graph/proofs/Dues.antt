@@ -1,10 +1,11 @@
 -- Which names are due while a worklist is visited.
-use Rattle.std.proofs.Common.{◌≡◌, ◌+◌, ◌<◌, ℕ, true, List, [], ◌∷◌, ◌++◌, length, take, get_or, Option, None, Result, Ok, Err, Contains, ap, ◌∙◌, sym, refl, subst, inl, inr, arith}
+use Rattle.std.proofs.Common.{◌≡◌, ◌⊎◌, ◌+◌, ◌<◌, ℕ, true, List, [], ◌∷◌, ◌++◌, length, take, get_or, Option, None, Result, Ok, Err, Contains, ap, ◌∙◌, sym, refl, subst, inl, inr, arith}
 use Rattle.std.specs.Result.{IsErr}
 use Rattle.std.proofs.lemmas.List.{take_more, take-append-le}
 use Rattle.gm_store.specs.Asked.{Name, Reply, answer_in}
+use Rattle.gm_store.specs.States.{StoreState}
 use Rattle.gm_store_sums.specs.declared.sum_table.SumTable.{SumTable}
-use Rattle.gm_graph_cache.specs.Asking.{AsksFor, MayGrow}
+use Rattle.gm_graph_cache.specs.Asking.{MayGrow}
 use Rattle.gm_graph_cache.specs.declared.cache.Cache.{Cache}
 use Rattle.gm_graph_cache.specs.declared.depth.Depth.{Depth}
 use Rattle.gm_graph_cache.specs.declared.depth.Turn.{Turn}
@@ -28,6 +29,12 @@ asks_nothing main sums pairs e = subst (λ (ps : List (Name × Reply)). AsksInTu
 pub knows_nothing : (cache : Cache) (pairs : List (Name × Reply)) → pairs ≡ [] → Knows cache [] → Knows cache pairs
 knows_nothing cache pairs e knows = subst (λ (ps : List (Name × Reply)). Knows cache ps) (sym e) knows
 
+-- Nothing was asked for, or only the file of this vertex: `AsksFor` of the pairs of two stores.
+abbrev pub AddsFile : Main → List (Name × Reply) → List (Name × Reply) → ModuleVersion → Type 0
+AddsFile main old new x = (new ≡ old)
+    ⊎ ((is_askable (file_of main x) ≡ true) × (answer_in old (file_of main x) ≡ None)
+    × ((reply : Reply) × (new ≡ old ++ (file_of main x, reply) ∷ [])))
+
 -- The vertex of a turn in the worklist is opened, so its file may be asked for.
 module _ (main : Main) (sums : Option SumTable) (cache : Cache) (main_is : main_in cache ≡ main) (sums_are : sums_in cache ≡ sums) (old : List (Name × Reply)) (knows : Knows cache old)
     (turns : List Turn) (at : ℕ) (x : ModuleVersion) (depth : Depth) (sound : AllValidTurns main (readings_by main (held_of cache)) turns) (below : at < length turns) (here : get_or turns at (turn x depth) ≡ turn x depth) where
@@ -37,12 +44,12 @@ module _ (main : Main) (sums : Option SumTable) (cache : Cache) (main_is : main_
     fresh,
   )
 
-  asks_by : (new : List (Name × Reply)) → AsksInTurn main sums old → AsksFor main old new x → AsksInTurn main sums new
+  asks_by : (new : List (Name × Reply)) → AsksInTurn main sums old → AddsFile main old new x → AsksInTurn main sums new
   asks_by new asks (inl e) = subst (λ (ps : List (Name × Reply)). AsksInTurn main sums ps) (sym e) asks
   asks_by new asks (inr asked) = subst (λ (ps : List (Name × Reply)). AsksInTurn main sums ps) (sym asked.2.1) (more asked.2.0 asks (due (file_of main x) refl asked.0 asked.1))
 
-  pub asks_more : (new : List (Name × Reply)) → AsksInTurn main sums old → AsksFor (main_in cache) old new x → AsksInTurn main sums new
-  asks_more new asks for = asks_by new asks (subst (λ (m : Main). AsksFor m old new x) main_is for)
+  pub asks_more : (new : List (Name × Reply)) → AsksInTurn main sums old → AddsFile (main_in cache) old new x → AsksInTurn main sums new
+  asks_more new asks for = asks_by new asks (subst (λ (m : Main). AddsFile m old new x) main_is for)
 
   pub due_here : (new : List (Name × Reply)) (name : Name) → new ≡ old → name ≡ file_of (main_in cache) x → is_askable name ≡ true → answer_in old name ≡ None → IsDue main sums new name
   due_here new name same is askable none =
@@ -57,13 +64,13 @@ module _ (main : Main) (sums : Option SumTable) (cache : Cache) (main_is : main_
             (subst (λ (m : Main). VisitOverflows m (readings_by m held) worklist.vertices.items x depth) main_is over.3),
       )
 
--- ---- the pairs of a store, and which of them may be answered
+-- ---- the answers of a store, and which of them may be given
 
 none_there : (p : Name × Reply) → Contains [] p → ⊥
 none_there p h = absurd (omega (arith, h.1))
 
--- If there were no pairs before, all pairs may be answered.
-pub may_all : (may : Name → Reply → Type 0) (old new : List (Name × Reply)) → old ≡ [] → MayGrow may old new → (n : Name) (r : Reply) → Contains new (n, r) → may n r
+-- If there were no answers before, all of them may be given.
+pub may_all : (may : Name → Reply → Type 0) (old new : StoreState) → old.asked ≡ [] → MayGrow may old new → (n : Name) (r : Reply) → Contains new.asked (n, r) → may n r
 may_all may old new e grow n r h = elim (grow n r h) [
   | inl there ↦ absurd (none_there (n, r) (subst (λ (ps : List (Name × Reply)). Contains ps (n, r)) e there))
   | inr is ↦ is

@@ -3,7 +3,6 @@ use Rattle.std.proofs.Common.{◌≡◌, ◌+◌, ◌≤◌, ◌<◌, ℕ, List,
 use Rattle.std.proofs.lemmas.List.{take_all}
 use Rattle.gm_store.specs.Asked.{Name, Reply}
 use Rattle.gm_store_sums.specs.declared.sum_table.SumTable.{SumTable}
-use Rattle.gm_graph_cache.specs.Asking.{AsksFor}
 use Rattle.gm_graph_cache.specs.declared.cache.Cache.{Cache}
 use Rattle.gm_graph_cache.specs.declared.depth.Depth.{Depth}
 use Rattle.gm_graph_cache.specs.Cached.{Knows, held_of, main_in, sums_in, turns_in}
@@ -23,7 +22,7 @@ use Rattle.gm_graph.specs.Marks.{IsWorklist}
 use Rattle.gm_graph.specs.Turns.{AreFirstTurns}
 use Rattle.gm_graph.proofs.AddingAll.{no_shorter}
 use Rattle.gm_graph.proofs.Deepening.{IsValidTurn-kept}
-use Rattle.gm_graph.proofs.Dues.{asks_more, asks_nothing, knows_nothing, lent_more}
+use Rattle.gm_graph.proofs.Dues.{AddsFile, asks_more, asks_nothing, knows_nothing, lent_more}
 use Rattle.gm_graph.proofs.BuiltEdges.{IsGatheredTo, edges_exactly, faults_exactly, gathered_more}
 use Rattle.gm_graph.proofs.Leaves.{AreLeaves, ends_exactly, leaves_more, no_leaves}
 use Rattle.gm_graph.proofs.OneGroup.{AreGroups, front_same, front_turn, groups_more, groups_none, left_opened, not_before}
@@ -62,7 +61,7 @@ first_step cache pairs worklist builder none knows lent is bare first are group 
 
 pub step : (main : Main) (sums : Option SumTable) (old new : Cache) (pairs longer : List (Name × Reply)) (worklist opened : Worklist) (before after : GraphBuilder) (at : ℕ) (x : ModuleVersion) (depth : Depth)
     → IsAt main sums old pairs worklist before at → at < length worklist.turns.items → get_or worklist.turns.items at (turn x depth) ≡ turn x depth
-    → Knows new longer → Continues old new → turns_in new ≡ turns_in old ++ turn x depth ∷ [] → IsVisited (main_in new) (readings_in new) worklist opened before after x depth → AsksFor (main_in old) pairs longer x
+    → Knows new longer → Continues old new → turns_in new ≡ turns_in old ++ turn x depth ∷ [] → IsVisited (main_in new) (readings_in new) worklist opened before after x depth → AddsFile (main_in old) pairs longer x
     → IsAt main sums new longer opened after (at + 1)
 step main sums old new pairs longer worklist opened before after at x depth is below here knows continues lent followed for =
     let main_is : main_in new ≡ main = continues.main ∙ is.main_is in

@@ -3,7 +3,7 @@
 ghost use Rattle.std.specs.Prelude.{◌≡◌, ◌≤◌, ◌++◌, [], Contains, IfOk, OnOk, Err, map};
 ghost use Rattle.std.specs.Option.{option_copied};
 ghost use Rattle.gm_store.specs.Asked.{Name, Reply, name_of};
-ghost use Rattle.gm_store.specs.Faults.{HasCountedFailure};
+ghost use Rattle.gm_store.specs.States.{CountsFailure};
 ghost use Rattle.gm_store.specs.declared.files.FileName.{FileName};
 ghost use Rattle.gm_graph_cache.specs.Asking.{MayGrow};
 ghost use Rattle.gm_graph_cache.specs.Cached.{Knows, main_in, sums_in, turns_in};
@@ -45,7 +45,7 @@ fn visit_all<F: Files>(
     worklist: &mut Worklist,
     builder: &mut GraphBuilder,
 ) -> Result<(), LoadFault>
-    requires asked { F.asked files.old ≡ [] }
+    requires asked { (F.state files.old).asked ≡ [] }
     requires knows { Knows cache.old [] }
     requires lent { turns_in cache.old ≡ [] }
     requires worklist { IsWorklist worklist.old }
@@ -54,17 +54,17 @@ fn visit_all<F: Files>(
     requires builder { (readings : Readings)
         → AreGathered (main_in cache.old) readings (edges_in builder.old) (faults_by_vertex builder.old) }
     requires group { IsMainGroup builder.old.leaving.items }
-    ensures opened { OnOk result (IsOpenedIn cache.old cache.new (F.asked files.new) worklist.new builder.new) }
+    ensures opened { OnOk result (IsOpenedIn cache.old cache.new (F.state files.new).asked worklist.new builder.new) }
     ensures too_many { result ≡ Err LoadFault.TooMany
-        → Told (main_in cache.old) (sums_in cache.old) (F.asked files.new) (AreTooMany (main_in cache.old)) }
-    ensures asks { AsksInTurn (main_in cache.old) (sums_in cache.old) (F.asked files.new) }
+        → Told (main_in cache.old) (sums_in cache.old) (F.state files.new).asked (AreTooMany (main_in cache.old)) }
+    ensures asks { AsksInTurn (main_in cache.old) (sums_in cache.old) (F.state files.new).asked }
     ensures device { (name : FileName) → result ≡ Err (LoadFault.Device name)
-        → IsDue (main_in cache.old) (sums_in cache.old) (F.asked files.new) (name_of name) }
-    ensures refused { F.refused files.new ≡ F.refused files.old ++ refused_in result }
-    ensures may { MayGrow (F.may_answer files.old) (F.asked files.old) (F.asked files.new) }
+        → IsDue (main_in cache.old) (sums_in cache.old) (F.state files.new).asked (name_of name) }
+    ensures refused { (F.state files.new).refused ≡ (F.state files.old).refused ++ refused_in result }
+    ensures may { MayGrow (F.may_answer files.old) (F.state files.old) (F.state files.new) }
     ensures cause { (name : FileName) → result ≡ Err (LoadFault.Device name)
-        → HasCountedFailure (F.fault_count files.old) (F.fault_count files.new) }
-    ensures later { F.fault_count files.old ≤ F.fault_count files.new }
+        → CountsFailure (F.state files.old) (F.state files.new) }
+    ensures later { (F.state files.old).faults ≤ (F.state files.new).faults }
 {
     let mut at = 0;
     'turns: while at < worklist.turns.len() {
@@ -132,21 +132,21 @@ pub fn load<F: Files>(
     files: &mut F,
     sums: Option<&SumTable>,
 ) -> Result<Loaded, LoadFault>
-    requires { F.asked files.old ≡ [] }
+    requires { (F.state files.old).asked ≡ [] }
     ensures loaded { IfOk result (λ loaded.
-        Told (main_of main.now) (option_copied sums.entry) (F.asked files.new)
-        (IsLoaded (main_of main.now) (F.asked files.new) loaded)) }
+        Told (main_of main.now) (option_copied sums.entry) (F.state files.new).asked
+        (IsLoaded (main_of main.now) (F.state files.new).asked loaded)) }
     ensures too_many { result ≡ Err LoadFault.TooMany
-        → Told (main_of main.now) (option_copied sums.entry) (F.asked files.new) (AreTooMany (main_of main.now)) }
-    ensures asks { AsksInTurn (main_of main.now) (option_copied sums.entry) (F.asked files.new) }
+        → Told (main_of main.now) (option_copied sums.entry) (F.state files.new).asked (AreTooMany (main_of main.now)) }
+    ensures asks { AsksInTurn (main_of main.now) (option_copied sums.entry) (F.state files.new).asked }
     ensures device { (name : FileName) → result ≡ Err (LoadFault.Device name)
-        → IsDue (main_of main.now) (option_copied sums.entry) (F.asked files.new) (name_of name) }
-    ensures refused { F.refused files.new ≡ F.refused files.old ++ refused_in result }
-    ensures may_answer { (name : Name) (reply : Reply) → Contains (F.asked files.new) (name, reply)
+        → IsDue (main_of main.now) (option_copied sums.entry) (F.state files.new).asked (name_of name) }
+    ensures refused { (F.state files.new).refused ≡ (F.state files.old).refused ++ refused_in result }
+    ensures may_answer { (name : Name) (reply : Reply) → Contains (F.state files.new).asked (name, reply)
         → F.may_answer files.old name reply }
     ensures cause { (name : FileName) → result ≡ Err (LoadFault.Device name)
-        → HasCountedFailure (F.fault_count files.old) (F.fault_count files.new) }
-    ensures later { F.fault_count files.old ≤ F.fault_count files.new }
+        → CountsFailure (F.state files.old) (F.state files.new) }
+    ensures later { (F.state files.old).faults ≤ (F.state files.new).faults }
 {
     let required = kept_requirements(alloc, main)?;
     let mut worklist = first_turns(alloc, main, &required)?;

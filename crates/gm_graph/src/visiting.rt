@@ -2,13 +2,12 @@
 
 ghost use Rattle.std.specs.Prelude.{◌≡◌, ◌≤◌, ◌++◌, ◌∷◌, [], not, None, Some, IfOk, OnOk, Ok, Err, true};
 ghost use Rattle.std.specs.Option.{option_map};
-ghost use Rattle.gm_store.specs.Asked.{answer_in, name_of};
-ghost use Rattle.gm_store.specs.Faults.{HasCountedFailure};
+ghost use Rattle.gm_store.specs.Asked.{name_of};
+ghost use Rattle.gm_store.specs.States.{CountsFailure};
 ghost use Rattle.gm_store.specs.declared.files.FileName.{FileName};
-ghost use Rattle.gm_graph_cache.specs.Asking.{AsksFor, MayGrow, MayLess};
+ghost use Rattle.gm_graph_cache.specs.Asking.{AsksFor, MayGrow, MayLess, StillLacks};
 ghost use Rattle.gm_graph_cache.specs.Cached.{AddsTurn, IsFinding, Knows, LendsKept, held_of, main_in, turns_in};
 ghost use Rattle.gm_graph_cache.specs.Turns.{turn};
-ghost use Rattle.gm_graph_cache.specs.Reading.{file_of, is_askable};
 ghost use Rattle.gm_graph_cache.specs.Refusals.{refused_in};
 ghost use Rattle.gm_graph.specs.Visiting.{Continues, IsVisited, OverflowsAt, lender_of, readings_in};
 ghost use Rattle.gm_graph.specs.Building.{gathers};
@@ -113,25 +112,24 @@ pub(crate) fn visit<F: Files>(
     vertex: &ModVer,
     depth: Depth,
 ) -> Result<(), LoadFault>
-    requires knows { Knows cache.old (F.asked files.old) }
+    requires knows { Knows cache.old (F.state files.old).asked }
     requires worklist { IsWorklist worklist.old }
-    ensures knows { OnOk result (Knows cache.new (F.asked files.new)) }
+    ensures knows { OnOk result (Knows cache.new (F.state files.new).asked) }
     ensures continues { OnOk result (Continues cache.old cache.new) }
     ensures turns { OnOk result (turns_in cache.new ≡ turns_in cache.old ++ turn vertex.now depth ∷ []) }
     ensures followed { OnOk result (IsVisited (main_in cache.new) (readings_in cache.new)
         worklist.old worklist.new builder.old builder.new vertex.now depth) }
     ensures too_many { result ≡ Err LoadFault.TooMany
-        → OverflowsAt cache.old (F.asked files.new) worklist.old vertex.now depth }
-    ensures asks { AsksFor (main_in cache.old) (F.asked files.old) (F.asked files.new) vertex.now }
+        → OverflowsAt cache.old (F.state files.new).asked worklist.old vertex.now depth }
+    ensures asks { AsksFor (main_in cache.old) (F.state files.old) (F.state files.new) vertex.now }
     ensures device { (name : FileName) → result ≡ Err (LoadFault.Device name)
-        → (F.asked files.new ≡ F.asked files.old) × (name_of name ≡ file_of (main_in cache.old) vertex.now)
-        × (is_askable (name_of name) ≡ true) × (answer_in (F.asked files.old) (name_of name) ≡ None) }
-    ensures refused { F.refused files.new ≡ F.refused files.old ++ refused_in result }
-    ensures may { MayGrow (F.may_answer files.old) (F.asked files.old) (F.asked files.new) }
+        → StillLacks (main_in cache.old) (F.state files.old) (F.state files.new) vertex.now (name_of name) }
+    ensures refused { (F.state files.new).refused ≡ (F.state files.old).refused ++ refused_in result }
+    ensures may { MayGrow (F.may_answer files.old) (F.state files.old) (F.state files.new) }
     ensures same_store { MayLess (F.may_answer files.new) (F.may_answer files.old) }
     ensures cause { (name : FileName) → result ≡ Err (LoadFault.Device name)
-        → HasCountedFailure (F.fault_count files.old) (F.fault_count files.new) }
-    ensures later { F.fault_count files.old ≤ F.fault_count files.new }
+        → CountsFailure (F.state files.old) (F.state files.new) }
+    ensures later { (F.state files.old).faults ≤ (F.state files.new).faults }
 {
     let finding = cache.known(files, vertex)?;
     add_requirements(alloc, cache, worklist, builder, vertex, depth, &finding)

@@ -1,24 +1,30 @@
 -- What a store is asked for.
-use Rattle.std.specs.Prelude.{◌≡◌, ◌⊎◌, true, List, [], ◌∷◌, ◌++◌, None, Contains}
+use Rattle.std.specs.Prelude.{◌≡◌, ◌⊎◌, true, None, Contains}
 use Rattle.gm_store.specs.Asked.{Name, Reply, answer_in}
+use Rattle.gm_store.specs.States.{AddsAnswer, StoreState}
 use Rattle.gm_graph_cache.specs.Main.{Main, ModuleVersion}
 use Rattle.gm_graph_cache.specs.Reading.{file_of, is_askable}
 
 -- Nothing was asked for, or only this name, which was not asked for before.
-abbrev pub AsksAtMost : List (Name × Reply) → List (Name × Reply) → Name → Type 0
-AsksAtMost old new name = (new ≡ old)
-    ⊎ ((reply : Reply) × (answer_in old name ≡ None) × (new ≡ old ++ (name, reply) ∷ []))
+abbrev pub AsksAtMost : StoreState → StoreState → Name → Type 0
+AsksAtMost old new name = (new.asked ≡ old.asked)
+    ⊎ ((reply : Reply) × (answer_in old.asked name ≡ None) × AddsAnswer old new name reply)
 
 -- Nothing was asked for, or only the file of this vertex, which may be asked for and was not asked for before.
-abbrev pub AsksFor : Main → List (Name × Reply) → List (Name × Reply) → ModuleVersion → Type 0
-AsksFor main old new x = (new ≡ old)
-    ⊎ ((is_askable (file_of main x) ≡ true) × (answer_in old (file_of main x) ≡ None)
-    × ((reply : Reply) × (new ≡ old ++ (file_of main x, reply) ∷ [])))
+abbrev pub AsksFor : Main → StoreState → StoreState → ModuleVersion → Type 0
+AsksFor main old new x = (new.asked ≡ old.asked)
+    ⊎ ((is_askable (file_of main x) ≡ true) × (answer_in old.asked (file_of main x) ≡ None)
+    × ((reply : Reply) × AddsAnswer old new (file_of main x) reply))
 
--- Each new pair is one that the store may answer.
-abbrev pub MayGrow : (Name → Reply → Type 0) → List (Name × Reply) → List (Name × Reply) → Type 0
-MayGrow may old new = (name : Name) (reply : Reply) → Contains new (name, reply)
-    → Contains old (name, reply) ⊎ may name reply
+-- This name was asked for in vain: it is that of the vertex's file, and may be asked for again.
+abbrev pub StillLacks : Main → StoreState → StoreState → ModuleVersion → Name → Type 0
+StillLacks main old new x name = (new.asked ≡ old.asked) × (name ≡ file_of main x) × (is_askable name ≡ true)
+    × (answer_in old.asked name ≡ None)
+
+-- Each new answer is one that the store may give.
+abbrev pub MayGrow : (Name → Reply → Type 0) → StoreState → StoreState → Type 0
+MayGrow may old new = (name : Name) (reply : Reply) → Contains new.asked (name, reply)
+    → Contains old.asked (name, reply) ⊎ may name reply
 
 -- Every answer that is possible after is possible before, too.
 abbrev pub MayLess : (Name → Reply → Type 0) → (Name → Reply → Type 0) → Type 0

@@ -6,11 +6,11 @@
 ghost use Rattle.std.specs.Prelude.{◌≡◌, ◌≤◌, ◌++◌, ◌∷◌, [], ℕ, List, IfOk, OnOk, OnErr, None, Some, Ok, Err, true};
 ghost use Rattle.std.specs.Option.{option_copied, option_map};
 ghost use Rattle.gm_store.specs.Asked.{Name, Reply, answer_in, name_of, reply_of};
-ghost use Rattle.gm_store.specs.Faults.{HasCountedFailure};
+ghost use Rattle.gm_store.specs.States.{AddsAnswer, CountsFailure};
 ghost use Rattle.gm_store.specs.declared.files.FileName.{FileName};
 ghost use Rattle.gm_graph_cache.specs.Main.{ModuleVersion, main_of};
 ghost use Rattle.gm_graph_cache.specs.Marks.{IsNameKey};
-ghost use Rattle.gm_graph_cache.specs.Asking.{AsksAtMost, AsksFor, MayGrow, MayLess};
+ghost use Rattle.gm_graph_cache.specs.Asking.{AsksAtMost, AsksFor, MayGrow, MayLess, StillLacks};
 ghost use Rattle.gm_graph_cache.specs.Reading.{Held, IsFileReading, KeepsHeld, file_of, is_askable as may_be_asked, is_unpruned, is_unpruned_in, readings_by, vertex_requirements, said_in};
 ghost use Rattle.gm_graph_cache.specs.Refusals.{refused_in};
 ghost use Rattle.gm_graph_cache.specs.Cached.{IsFinding};
@@ -60,9 +60,9 @@ const MOST_KNOWN: usize = 65_536;
 /// The answer to the last request.
 fn last_answer<F: Files>(files: &F) -> &Answer
     requires { (pairs : List (Name × Reply)) × (name : Name) × (reply : Reply)
-        × (F.asked files.now ≡ pairs ++ (name, reply) ∷ []) }
+        × ((F.state files.now).asked ≡ pairs ++ (name, reply) ∷ []) }
     ensures { (pairs : List (Name × Reply)) (name : Name) (reply : Reply)
-        → F.asked files.now ≡ pairs ++ (name, reply) ∷ [] → reply_of result.now ≡ reply }
+        → (F.state files.now).asked ≡ pairs ++ (name, reply) ∷ [] → reply_of result.now ≡ reply }
 {
     files.answer(files.count() - 1)
 }
@@ -146,22 +146,23 @@ impl<'a> Cache<'a> {
 
     /// Asks for the file of a name that was not asked for, and reads it.
     fn read_file<F: Files>(&mut self, files: &mut F, name: &FileName) -> Result<Kept, AskFault>
-        requires { answer_in (F.asked files.old) (name_of name.now) ≡ None }
+        requires { answer_in (F.state files.old).asked (name_of name.now) ≡ None }
         ensures reading { IfOk result (λ kept. (reply : Reply)
-            × (F.asked files.new ≡ F.asked files.old ++ (name_of name.now, reply) ∷ [])
+            × AddsAnswer (F.state files.old) (F.state files.new) (name_of name.now) reply
             × IsFileReading (sums_in self.old) (name_of name.now) reply (summary_reading kept)) }
         ensures kept { IfOk result (IsKept (main_in self.old)) }
         ensures unchanged { IsUnchanged self.old self.new }
-        ensures asks { AsksAtMost (F.asked files.old) (F.asked files.new) (name_of name.now) }
+        ensures asks { AsksAtMost (F.state files.old) (F.state files.new) (name_of name.now) }
         ensures device { result ≡ Err AskFault.Device
-            → (F.asked files.new ≡ F.asked files.old)
-            × (F.refused files.new ≡ F.refused files.old ++ name_of name.now ∷ []) }
-        ensures not_refused { (result ≡ Err AskFault.Device → ⊥) → F.refused files.new ≡ F.refused files.old }
+            → ((F.state files.new).asked ≡ (F.state files.old).asked)
+            × ((F.state files.new).refused ≡ (F.state files.old).refused ++ name_of name.now ∷ []) }
+        ensures not_refused { (result ≡ Err AskFault.Device → ⊥)
+            → (F.state files.new).refused ≡ (F.state files.old).refused }
         ensures cause { result ≡ Err AskFault.Device
-            → HasCountedFailure (F.fault_count files.old) (F.fault_count files.new) }
-        ensures may { MayGrow (F.may_answer files.old) (F.asked files.old) (F.asked files.new) }
+            → CountsFailure (F.state files.old) (F.state files.new) }
+        ensures may { MayGrow (F.may_answer files.old) (F.state files.old) (F.state files.new) }
         ensures same_store { MayLess (F.may_answer files.new) (F.may_answer files.old) }
-        ensures later { F.fault_count files.old ≤ F.fault_count files.new }
+        ensures later { (F.state files.old).faults ≤ (F.state files.new).faults }
     {
         files.ask(name)?;
         let kept = summarize(
@@ -199,23 +200,22 @@ impl<'a> Cache<'a> {
     /// `Device` is returned exactly if the store's device fails in this request. `TooMany` is never returned. After
     /// any refusal the cache is unchanged.
     pub fn known<F: Files>(&mut self, files: &mut F, x: &ModVer) -> Result<Finding, LoadFault>
-        requires { Knows self.old (F.asked files.old) }
-        ensures knows { OnOk result (Knows self.new (F.asked files.new)) }
+        requires { Knows self.old (F.state files.old).asked }
+        ensures knows { OnOk result (Knows self.new (F.state files.new).asked) }
         ensures finding { IfOk result (IsFinding (main_in self.new) (held_of self.new) x.now) }
         ensures lent { LentSame self.old self.new }
         ensures grows { KeepsHeld (held_of self.old) (held_of self.new) }
         ensures err { OnErr result (HoldsSame self.old self.new) }
-        ensures asks { AsksFor (main_in self.old) (F.asked files.old) (F.asked files.new) x.now }
+        ensures asks { AsksFor (main_in self.old) (F.state files.old) (F.state files.new) x.now }
         ensures not_too_many { result ≡ Err LoadFault.TooMany → ⊥ }
         ensures device { (name : FileName) → result ≡ Err (LoadFault.Device name)
-            → (F.asked files.new ≡ F.asked files.old) × (name_of name ≡ file_of (main_in self.old) x.now)
-            × (may_be_asked (name_of name) ≡ true) × (answer_in (F.asked files.old) (name_of name) ≡ None) }
-        ensures refused { F.refused files.new ≡ F.refused files.old ++ refused_in result }
+            → StillLacks (main_in self.old) (F.state files.old) (F.state files.new) x.now (name_of name) }
+        ensures refused { (F.state files.new).refused ≡ (F.state files.old).refused ++ refused_in result }
         ensures cause { (name : FileName) → result ≡ Err (LoadFault.Device name)
-            → HasCountedFailure (F.fault_count files.old) (F.fault_count files.new) }
-        ensures may { MayGrow (F.may_answer files.old) (F.asked files.old) (F.asked files.new) }
+            → CountsFailure (F.state files.old) (F.state files.new) }
+        ensures may { MayGrow (F.may_answer files.old) (F.state files.old) (F.state files.new) }
         ensures same_store { MayLess (F.may_answer files.new) (F.may_answer files.old) }
-        ensures later { F.fault_count files.old ≤ F.fault_count files.new }
+        ensures later { (F.state files.old).faults ≤ (F.state files.new).faults }
     {
         let name = file_name(self.alloc, self.main, x)?;
         if !is_askable(&name) {

@@ -1,10 +1,10 @@
 //! Runs a command over a module graph: reads the two files, loads what the main module's file leads to, and
 //! answers.
 
-ghost use Rattle.std.specs.Prelude.{◌≡◌, ◌≤◌, ◌⊎◌, ◌++◌, [], Contains, IfOk, MatchResult, List};
+ghost use Rattle.std.specs.Prelude.{◌≡◌, ◌≤◌, ◌++◌, [], Contains, IfOk, MatchResult, List};
 ghost use Rattle.std.specs.Option.{option_copied};
 ghost use Rattle.gm_store.specs.Asked.{Name, Reply};
-ghost use Rattle.gm_store.specs.Faults.{HasCountedFailure};
+ghost use Rattle.gm_store.specs.States.{RefusesWithCause};
 ghost use Rattle.gm_graph_cache.specs.Main.{main_of};
 ghost use Rattle.gm_graph.specs.Loading.{AsksInTurn};
 ghost use Rattle.gm_graph_listing.specs.Outcomes.{AsksInOrder, FailsInOrder, IsAnswer, IsRefusedRead, answers, given, outcome_view};
@@ -71,19 +71,19 @@ fn answer_over<F: Files>(
     table: Option<&SumTable>,
     files: &mut F,
 ) -> Result<Output, NoMemory>
-    requires { F.asked files.old ≡ [] }
+    requires { (F.state files.old).asked ≡ [] }
     ensures comes { IfOk result (λ output.
-        (failed : List Name) × (F.refused files.new ≡ F.refused files.old ++ failed)
-        × IsAnswerOver query.entry (main_of main.now) (option_copied table.entry) (answers (F.asked files.new) failed)
+        (failed : List Name) × ((F.state files.new).refused ≡ (F.state files.old).refused ++ failed)
+        × IsAnswerOver query.entry (main_of main.now) (option_copied table.entry)
+        (answers (F.state files.new).asked failed)
         (outcome_view output)) }
-    ensures asks { AsksInTurn (main_of main.now) (option_copied table.entry) (F.asked files.new) }
-    ensures fails { FailsOver (main_of main.now) (option_copied table.entry) (F.asked files.new)
-        (F.refused files.old) (F.refused files.new) }
-    ensures may_answer { (name : Name) (reply : Reply) → Contains (F.asked files.new) (name, reply)
+    ensures asks { AsksInTurn (main_of main.now) (option_copied table.entry) (F.state files.new).asked }
+    ensures fails { FailsOver (main_of main.now) (option_copied table.entry) (F.state files.new).asked
+        (F.state files.old).refused (F.state files.new).refused }
+    ensures may_answer { (name : Name) (reply : Reply) → Contains (F.state files.new).asked (name, reply)
         → F.may_answer files.old name reply }
-    ensures cause { (F.refused files.new ≡ F.refused files.old)
-        ⊎ HasCountedFailure (F.fault_count files.old) (F.fault_count files.new) }
-    ensures later { F.fault_count files.old ≤ F.fault_count files.new }
+    ensures cause { RefusesWithCause (F.state files.old) (F.state files.new) }
+    ensures later { (F.state files.old).faults ≤ (F.state files.new).faults }
 {
     match load(alloc, main, files, table) {
         Ok(loaded) => {
@@ -125,19 +125,18 @@ pub fn answer<F: Files>(
     sums: Option<&[u8]>,
     files: &mut F,
 ) -> Result<Output, NoMemory>
-    requires { F.asked files.old ≡ [] }
+    requires { (F.state files.old).asked ≡ [] }
     ensures comes { IfOk result (λ output.
-        (failed : List Name) × (F.refused files.new ≡ F.refused files.old ++ failed)
-        × IsAnswer query.entry (given file.now (option_copied sums.entry) (answers (F.asked files.new) failed))
+        (failed : List Name) × ((F.state files.new).refused ≡ (F.state files.old).refused ++ failed)
+        × IsAnswer query.entry (given file.now (option_copied sums.entry) (answers (F.state files.new).asked failed))
         (outcome_view output)) }
-    ensures asks { AsksInOrder file.now (option_copied sums.entry) (F.asked files.new) }
-    ensures fails { FailsInOrder file.now (option_copied sums.entry) (F.asked files.new)
-        (F.refused files.old) (F.refused files.new) }
-    ensures may_answer { (name : Name) (reply : Reply) → Contains (F.asked files.new) (name, reply)
+    ensures asks { AsksInOrder file.now (option_copied sums.entry) (F.state files.new).asked }
+    ensures fails { FailsInOrder file.now (option_copied sums.entry) (F.state files.new).asked
+        (F.state files.old).refused (F.state files.new).refused }
+    ensures may_answer { (name : Name) (reply : Reply) → Contains (F.state files.new).asked (name, reply)
         → F.may_answer files.old name reply }
-    ensures cause { (F.refused files.new ≡ F.refused files.old)
-        ⊎ HasCountedFailure (F.fault_count files.old) (F.fault_count files.new) }
-    ensures later { F.fault_count files.old ≤ F.fault_count files.new }
+    ensures cause { RefusesWithCause (F.state files.old) (F.state files.new) }
+    ensures later { (F.state files.old).faults ≤ (F.state files.new).faults }
 {
     let read = match read_files(alloc, file, sums)? {
         Ok(read) => read,

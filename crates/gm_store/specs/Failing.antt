@@ -3,6 +3,8 @@ use Rattle.std.specs.Prelude.{ℕ, ◌-◌, List, map, Option, Some, None}
 use Rattle.gm_store.specs.declared.failing_files.FailingFiles.{FailingFiles}
 use Rattle.gm_store.specs.declared.memory_files.MemoryFiles.{MemoryFiles}
 use Rattle.gm_store.specs.Asked.{Name, name_of}
+use Rattle.gm_store.specs.Memory.{pairs_of}
+use Rattle.gm_store.specs.States.{StoreState}
 
 -- the store that answers the requests that pass
 abbrev pub inside_of : FailingFiles → MemoryFiles
@@ -25,3 +27,11 @@ one_fewer (Some n) = Some (n - 1)
 abbrev pub failures_with : Option ℕ → ℕ
 failures_with None = 1
 failures_with (Some n) = 0
+
+-- what is known of it
+abbrev pub failing_files_state : FailingFiles → StoreState
+failing_files_state store = record {
+  asked = pairs_of (inside_of store);
+  refused = refused_by store;
+  faults = failures_with (asks_left store);
+}

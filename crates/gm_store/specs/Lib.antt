@@ -15,6 +15,7 @@ pub mod Proxies
 pub mod FolderLookups
 pub mod Relative
 pub mod FoldersInMemory
+pub mod States
 pub mod Steps
 pub mod Stops
 pub mod Taken

@@ -1,10 +1,11 @@
 -- Views of a store in memory: its files, and its requests with their answers.
-use Rattle.std.specs.Prelude.{◌≡◌, ℕ, List, map, Option, if◌then◌else◌, Some}
+use Rattle.std.specs.Prelude.{◌≡◌, ℕ, List, [], map, Option, if◌then◌else◌, Some}
 use Rattle.std.specs.Option.{option_map}
 use Rattle.std.specs.Map.{lookup}
 use Rattle.gm_store.specs.declared.files.Asked.{Asked}
 use Rattle.gm_store.specs.declared.memory_files.MemoryFiles.{MemoryFiles}
 use Rattle.gm_store.specs.Asked.{Name, Reply, name_of, reply_of, same_name, reply_for}
+use Rattle.gm_store.specs.States.{StoreState}
 
 -- the names and answers of a list of requests
 abbrev pub pairs : List Asked → List (Name × Reply)
@@ -13,6 +14,10 @@ pairs = map (λ one. (name_of one.name, reply_of one.answer))
 -- the requests of a store, in order
 abbrev pub pairs_of : MemoryFiles → List (Name × Reply)
 pairs_of store = pairs store.asked.items
+
+-- what is known of it: its device never fails
+abbrev pub memory_files_state : MemoryFiles → StoreState
+memory_files_state store = record { asked = pairs_of store; refused = []; faults = 0 }
 
 -- the bytes of the file under a name, if there is one
 abbrev pub held_at : MemoryFiles → Name → Option (List ℕ)

@@ -5,6 +5,7 @@ use Rattle.gm_store.specs.declared.proxy_list.Mark.{Mark}
 use Rattle.gm_store.specs.declared.fallback_walk.Folders.{Ghosts}
 use Rattle.gm_store.specs.Asked.{Name, Reply, name_of}
 use Rattle.gm_store.specs.Memory.{pairs}
+use Rattle.gm_store.specs.States.{StoreState}
 
 -- the folders that requests are looked up in
 abbrev pub folders_under : {F : Type 0} {g : Ghosts F} → FallbackStore F g → F
@@ -25,3 +26,7 @@ refused_by store = map name_of store.refused.items
 -- how often the device has failed
 abbrev pub faults_of : {F : Type 0} {g : Ghosts F} → FallbackStore F g → ℕ
 faults_of store = store.faults
+
+-- what is known of it
+abbrev pub fallback_state : {F : Type 0} {g : Ghosts F} → FallbackStore F g → StoreState
+fallback_state store = record { asked = asked_by store; refused = refused_by store; faults = faults_of store }

@@ -4,9 +4,10 @@
 
 ghost use Rattle.std.specs.Prelude.{◌≡◌, ◌+◌, ◌≤◌, List, [], ◌∷◌, ◌++◌, Some, None, OnOk, OnErr, IsErr};
 ghost use Rattle.gm_store.specs.Asked.{IsWithinLimit, Name, Reply, answer_in, name_of};
-ghost use Rattle.gm_store.specs.Faults.{HasCountedFailure};
+ghost use Rattle.gm_store.specs.States.{AddsAnswer, CountsFailure};
 
-use crate::files::{Answer, AskFault, FileName, Files, copy_name};
+use crate::files::{Answer, AskFault, FileName, Files};
+use crate::keeping::keep_name;
 use crate::memory_files::MemoryFiles;
 
 /// A store in memory that refuses one request, like a device that fails once and then works again.
@@ -43,32 +44,28 @@ impl FailingFiles {
 }
 
 impl Files for FailingFiles {
-    ghost use Rattle.gm_store.specs.Memory.{may_give, pairs_of};
-    ghost use Rattle.gm_store.specs.Failing.{asks_left, failures_with, inside_of, one_fewer, refused_by};
+    ghost use Rattle.gm_store.specs.Memory.{may_give};
+    ghost use Rattle.gm_store.specs.Failing.{asks_left, failing_files_state as state_of, inside_of, one_fewer};
 
-    ghost asked = { λ store. pairs_of (inside_of store) };
-
-    ghost refused = { refused_by };
-
-    ghost fault_count = { λ store. failures_with (asks_left store) };
+    ghost state = { state_of };
 
     ghost may_answer = { λ store. may_give (inside_of store) };
 
     fn ask(&mut self, name: &FileName) -> Result<(), AskFault>
-        requires { answer_in (pairs_of (inside_of self.old)) (name_of name.now) ≡ None }
+        requires { answer_in (state_of self.old).asked (name_of name.now) ≡ None }
         ensures ok { OnOk result ((reply : Reply) × may_give (inside_of self.old) (name_of name.now) reply
-            × (pairs_of (inside_of self.new) ≡ pairs_of (inside_of self.old) ++ (name_of name.now, reply) ∷ [])) }
-        ensures err { OnErr result (pairs_of (inside_of self.new) ≡ pairs_of (inside_of self.old)) }
+            × AddsAnswer (state_of self.old) (state_of self.new) (name_of name.now) reply) }
+        ensures err { OnErr result ((state_of self.new).asked ≡ (state_of self.old).asked) }
         ensures refused { result ≡ Err AskFault.Device
-            → refused_by self.new ≡ refused_by self.old ++ name_of name.now ∷ [] }
-        ensures not_refused { (result ≡ Err AskFault.Device → ⊥) → refused_by self.new ≡ refused_by self.old }
-        ensures cause { result ≡ Err AskFault.Device
-            → HasCountedFailure (failures_with (asks_left self.old)) (failures_with (asks_left self.new)) }
+            → (state_of self.new).refused ≡ (state_of self.old).refused ++ name_of name.now ∷ [] }
+        ensures not_refused { (result ≡ Err AskFault.Device → ⊥)
+            → (state_of self.new).refused ≡ (state_of self.old).refused }
+        ensures cause { result ≡ Err AskFault.Device → CountsFailure (state_of self.old) (state_of self.new) }
         ensures same_store { (name : Name) (reply : Reply)
             → may_give (inside_of self.new) name reply → may_give (inside_of self.old) name reply }
         ensures within_limit { OnOk result ((reply : Reply) × IsWithinLimit reply
-            × (pairs_of (inside_of self.new) ≡ pairs_of (inside_of self.old) ++ (name_of name.now, reply) ∷ [])) }
-        ensures later { failures_with (asks_left self.old) ≤ failures_with (asks_left self.new) }
+            × AddsAnswer (state_of self.old) (state_of self.new) (name_of name.now) reply) }
+        ensures later { (state_of self.old).faults ≤ (state_of self.new).faults }
 
         // The device fails exactly once: when no request is left before the failure.
         ensures fails { asks_left self.old ≡ Some 0 → IsErr result }
@@ -79,8 +76,7 @@ impl Files for FailingFiles {
     {
         match self.left {
             Some(0) => {
-                let copy = copy_name(self.inside.alloc(), name)?;
-                self.refused.push(copy)?;
+                keep_name(self.inside.alloc(), &mut self.refused, name)?;
                 self.left = None;
                 Err(AskFault::Device)
             }

@@ -8,8 +8,9 @@ ghost use Rattle.gm_store.specs.Asked.{Name};
 ghost use Rattle.gm_store.specs.FolderLookups.{marks_for};
 
 use crate::fallback_walk::{Folders, walk};
-use crate::files::{Answer, AskFault, Asked, FileName, Files, copy_name};
+use crate::files::{Answer, AskFault, Asked, FileName, Files};
 use crate::folders_in_memory::marks_for;
+use crate::keeping::{keep_answer, keep_name};
 use crate::proxy_list::Mark;
 use std::alloc::Global;
 
@@ -66,65 +67,61 @@ impl<F: Folders> FallbackStore<F> {
 impl<F: Folders> Files for FallbackStore<F> {
     ghost use Rattle.std.specs.Prelude.{◌≡◌, ◌≤◌, ℕ, [], ◌∷◌, ◌++◌, None, Some, OnOk, OnErr};
     ghost use Rattle.gm_store.specs.Asked.{IsWithinLimit, Reply, answer_in, name_of};
-    ghost use Rattle.gm_store.specs.Faults.{HasCountedFailure};
+    ghost use Rattle.gm_store.specs.States.{AddsAnswer, CountsFailure};
     ghost use Rattle.gm_store.specs.Steps.{HasCounted, MayStop, counted_up};
-    ghost use Rattle.gm_store.specs.Views.{asked_by, faults_of, folders_under, marks_between, refused_by};
+    ghost use Rattle.gm_store.specs.Views.{fallback_state as state_of, folders_under, marks_between};
 
-    ghost asked = { asked_by };
-
-    ghost refused = { refused_by };
-
-    ghost fault_count = { faults_of };
+    ghost state = { state_of };
 
     ghost may_answer = { λ store name reply. (failures : ℕ)
         × MayStop (λ k seen. F.may_find (folders_under store) k name seen)
         (marks_for name (marks_between store)) (Some reply) failures };
 
     fn ask(&mut self, name: &FileName) -> Result<(), AskFault>
-        requires { answer_in (asked_by self.old) (name_of name.now) ≡ None }
+        requires { answer_in (state_of self.old).asked (name_of name.now) ≡ None }
         ensures ok { OnOk result ((reply : Reply)
             × ((failures : ℕ) × MayStop (λ k seen. F.may_find (folders_under self.old) k (name_of name.now) seen)
             (marks_for (name_of name.now) (marks_between self.old)) (Some reply) failures)
-            × (asked_by self.new ≡ asked_by self.old ++ (name_of name.now, reply) ∷ [])) }
-        ensures err { OnErr result (asked_by self.new ≡ asked_by self.old) }
+            × AddsAnswer (state_of self.old) (state_of self.new) (name_of name.now) reply) }
+        ensures err { OnErr result ((state_of self.new).asked ≡ (state_of self.old).asked) }
         ensures refused { result ≡ Err AskFault.Device
-            → refused_by self.new ≡ refused_by self.old ++ name_of name.now ∷ [] }
-        ensures not_refused { (result ≡ Err AskFault.Device → ⊥) → refused_by self.new ≡ refused_by self.old }
-        ensures cause { result ≡ Err AskFault.Device
-            → HasCountedFailure (faults_of self.old) (faults_of self.new) }
+            → (state_of self.new).refused ≡ (state_of self.old).refused ++ name_of name.now ∷ [] }
+        ensures not_refused { (result ≡ Err AskFault.Device → ⊥)
+            → (state_of self.new).refused ≡ (state_of self.old).refused }
+        ensures cause { result ≡ Err AskFault.Device → CountsFailure (state_of self.old) (state_of self.new) }
         ensures same_store { (folders_under self.new ≡ folders_under self.old)
             × (marks_between self.new ≡ marks_between self.old) }
         ensures within_limit { OnOk result ((reply : Reply) × IsWithinLimit reply
-            × (asked_by self.new ≡ asked_by self.old ++ (name_of name.now, reply) ∷ [])) }
-        ensures later { faults_of self.old ≤ faults_of self.new }
+            × AddsAnswer (state_of self.old) (state_of self.new) (name_of name.now) reply) }
+        ensures later { (state_of self.old).faults ≤ (state_of self.new).faults }
 
         // The answer is that of the folder at which `step` stops. The request fails only if `step` stops at a
         // failure of the device. Failures in the folders before are counted too.
         ensures counted { OnOk result ((reply : Reply)
             × (failures : ℕ) × MayStop (λ k seen. F.may_find (folders_under self.old) k (name_of name.now) seen)
             (marks_for (name_of name.now) (marks_between self.old)) (Some reply) failures
-            × (asked_by self.new ≡ asked_by self.old ++ (name_of name.now, reply) ∷ [])
-            × (faults_of self.new ≡ counted_up (faults_of self.old) failures)) }
+            × AddsAnswer (state_of self.old) (state_of self.new) (name_of name.now) reply
+            × ((state_of self.new).faults ≡ counted_up (state_of self.old).faults failures)) }
         ensures device { result ≡ Err AskFault.Device
             → (failures : ℕ) × MayStop (λ k seen. F.may_find (folders_under self.old) k (name_of name.now) seen)
             (marks_for (name_of name.now) (marks_between self.old)) None failures
-            × (faults_of self.new ≡ counted_up (faults_of self.old) failures) }
+            × ((state_of self.new).faults ≡ counted_up (state_of self.old).faults failures) }
         ensures no_memory { result ≡ Err AskFault.NoMemory
             → HasCounted (λ k seen. F.may_find (folders_under self.old) k (name_of name.now) seen)
-            (marks_for (name_of name.now) (marks_between self.old)) (faults_of self.old) (faults_of self.new) }
+            (marks_for (name_of name.now) (marks_between self.old))
+            (state_of self.old).faults (state_of self.new).faults }
     {
         // This read puts the count's range into the proof, also for the early return when memory runs out.
         let _faults = self.faults;
-        let copy = copy_name(self.alloc, name)?;
         let marks = marks_for(name, &self.marks);
         let outcome = walk(&self.folders, marks, name, &mut self.faults)?;
         match outcome {
             Some(answer) => {
-                self.asked.push(Asked { name: copy, answer })?;
+                keep_answer(self.alloc, &mut self.asked, name, answer)?;
                 Ok(())
             }
             None => {
-                self.refused.push(copy)?;
+                keep_name(self.alloc, &mut self.refused, name)?;
                 Err(AskFault::Device)
             }
         }

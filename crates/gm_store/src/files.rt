@@ -3,7 +3,7 @@
 //! Other crates get the files of dependencies only through this trait. A store keeps each answer, so a run is a
 //! function of the answers, and one store can stand in for another.
 
-ghost use Rattle.std.specs.Prelude.{◌≡◌, ◌+◌, ◌<◌, ℕ, List, [], ◌∷◌, ◌++◌, length, slice_get, Some, None, OnOk, OnErr, IfOk};
+ghost use Rattle.std.specs.Prelude.{◌≡◌, ◌+◌, ◌<◌, [], ◌∷◌, ◌++◌, length, slice_get, Some, None, OnOk, OnErr, IfOk};
 ghost use Rattle.gm_store.specs.Asked.{IsWithinLimit, name_of, reply_of};
 ghost use Rattle.gm_store.specs.declared.files.AskFault.TheVariants as ask_fault;
 
@@ -13,7 +13,7 @@ use thiserror::Error;
 
 /// The name of a file that is requested from a store. Names are equal if they are of the same kind, with equal texts
 /// (the law `names_are_equal_by_text`). The maps of memory stores use the derived order.
-#[derive(Debug, Drop, PartialEq, Eq, PartialOrd, Ord, Hash)]
+#[derive(Debug, Drop, PartialEq, Eq, PartialOrd, Ord)]
 pub enum FileName {
     /// The `.mod` file of a module at a version.
     Mod(ModPath, ModVersion),
@@ -89,17 +89,12 @@ impl<T: Drop> From<AllocFailed<T>> for AskFault {
 /// So the files of a run don't change while it lasts, and contracts can refer to all that was read.
 pub trait Files {
     ghost use Rattle.std.specs.Prelude.{◌≤◌};
-    ghost use Rattle.gm_store.specs.Faults.{HasCountedFailure};
     ghost use Rattle.gm_store.specs.Asked.{IsWithinLimit, Name, Reply, name_of, reply_of, names_in, replies_in, answer_in};
+    ghost use Rattle.gm_store.specs.States.{AddsAnswer, CountsFailure, StoreState};
 
-    /// The names requested so far with their answers, in order.
-    ghost asked: { Self → List (Name × Reply) };
-
-    /// The names whose requests were refused because the device failed, in order.
-    ghost refused: { Self → List Name };
-
-    /// How often the device has failed. The count saturates at the greatest `u64`.
-    ghost fault_count: { Self → ℕ };
+    /// The names requested so far with their answers, the names whose requests were refused because the device
+    /// failed, and how often the device has failed. The count saturates at the greatest `u64`.
+    ghost state: { Self → StoreState };
 
     /// The answers that this store may give to a name. For a real device any answer is possible.
     ghost may_answer: { Self → Name → Reply → Type 0 };
@@ -110,18 +105,18 @@ pub trait Files {
     /// `NoMemory` is returned if memory runs out, `Device` if the device fails. A refusal leaves the answers
     /// unchanged, so the file may be requested again.
     fn ask(&mut self, name: &FileName) -> Result<(), AskFault>
-        requires { answer_in (asked self.old) (name_of name.now) ≡ None }
+        requires { answer_in (state self.old).asked (name_of name.now) ≡ None }
         ensures ok { OnOk result ((reply : Reply) × may_answer self.old (name_of name.now) reply
-            × (asked self.new ≡ asked self.old ++ (name_of name.now, reply) ∷ [])) }
-        ensures err { OnErr result (asked self.new ≡ asked self.old) }
+            × AddsAnswer (state self.old) (state self.new) (name_of name.now) reply) }
+        ensures err { OnErr result ((state self.new).asked ≡ (state self.old).asked) }
 
         // A device failure records the name. It is returned only if a failure was counted, or if the count is
         // already at its maximum.
         ensures refused { result ≡ Err AskFault.Device
-            → refused self.new ≡ refused self.old ++ name_of name.now ∷ [] }
-        ensures not_refused { (result ≡ Err AskFault.Device → ⊥) → refused self.new ≡ refused self.old }
-        ensures cause { result ≡ Err AskFault.Device
-            → HasCountedFailure (fault_count self.old) (fault_count self.new) }
+            → (state self.new).refused ≡ (state self.old).refused ++ name_of name.now ∷ [] }
+        ensures not_refused { (result ≡ Err AskFault.Device → ⊥)
+            → (state self.new).refused ≡ (state self.old).refused }
+        ensures cause { result ≡ Err AskFault.Device → CountsFailure (state self.old) (state self.new) }
 
         // A request doesn't add possible answers.
         ensures same_store { (name : Name) (reply : Reply)
@@ -129,25 +124,25 @@ pub trait Files {
 
         // No answer has more than `LIMIT` bytes, and the count of failures never falls.
         ensures within_limit { OnOk result ((reply : Reply) × IsWithinLimit reply
-            × (asked self.new ≡ asked self.old ++ (name_of name.now, reply) ∷ [])) }
-        ensures later { fault_count self.old ≤ fault_count self.new };
+            × AddsAnswer (state self.old) (state self.new) (name_of name.now) reply) }
+        ensures later { (state self.old).faults ≤ (state self.new).faults };
 
     /// The number of requests that were answered.
     fn count(&self) -> usize
-        ensures { result ≡ length (asked self.now) };
+        ensures { result ≡ length (state self.now).asked };
 
     /// The name in answered request number `i`, counted from 0.
     fn name(&self, i: usize) -> &FileName
-        requires { i < length (asked self.now) }
-        ensures { slice_get (names_in (asked self.now)) i ≡ Some (name_of result.now) };
+        requires { i < length (state self.now).asked }
+        ensures { slice_get (names_in (state self.now).asked) i ≡ Some (name_of result.now) };
 
     /// The answer to request number `i`, counted from 0.
     fn answer(&self, i: usize) -> &Answer
-        requires { i < length (asked self.now) }
-        ensures value { slice_get (replies_in (asked self.now)) i ≡ Some (reply_of result.now) }
+        requires { i < length (state self.now).asked }
+        ensures value { slice_get (replies_in (state self.now).asked) i ≡ Some (reply_of result.now) }
         ensures within_limit { IsWithinLimit (reply_of result.now) };
 
     /// How often the device has failed. The count saturates at the greatest `u64`.
     fn faults(&self) -> u64
-        ensures { result ≡ fault_count self.now };
+        ensures { result ≡ (state self.now).faults };
 }

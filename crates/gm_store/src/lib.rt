@@ -24,6 +24,7 @@ mod fallback_store;
 mod fallback_walk;
 mod files;
 mod folders_in_memory;
+mod keeping;
 mod latest_version;
 pub mod laws;
 mod lookup_paths;

@@ -6,7 +6,8 @@
 ghost use Rattle.std.specs.Prelude.{◌≡◌, List, [], ◌∷◌, map, Some, None, OnOk, OnErr, IfOk, if◌then◌else◌};
 ghost use Rattle.gm_store.specs.Asked.{IsWithinLimit, Name, name_of, reply_of, same_name};
 
-use crate::files::{Answer, AskFault, Asked, FileName, Files, copy_name};
+use crate::files::{Answer, AskFault, Asked, FileName, Files};
+use crate::keeping::keep_answer;
 use crate::reading::LIMIT;
 use gm_name::NoMemory;
 use std::alloc::Global;
@@ -82,20 +83,15 @@ pub(crate) fn copy_bytes(content: &Vec<u8>) -> Result<Vec<u8>, NoMemory>
 
 impl Files for MemoryFiles {
     ghost use Rattle.std.specs.Prelude.{◌≡◌};
-    ghost use Rattle.gm_store.specs.Memory.{held_at, pairs_of, may_give};
+    ghost use Rattle.gm_store.specs.Memory.{held_at, may_give, memory_files_state};
 
-    ghost asked = { pairs_of };
-
-    ghost refused = { λ _. [] };
-
-    ghost fault_count = { λ _. 0 };
+    ghost state = { memory_files_state };
 
     ghost may_answer = { may_give };
 
     fn ask(&mut self, name: &FileName) -> Result<(), AskFault> {
         let answer = self.look_up(name)?;
-        let name = copy_name(self.alloc, name)?;
-        self.asked.push(Asked { name, answer })?;
+        keep_answer(self.alloc, &mut self.asked, name, answer)?;
         Ok(())
     }
 

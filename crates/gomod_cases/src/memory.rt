@@ -136,7 +136,7 @@ fn run_over<F: Files>(
     files: &mut F,
     room: Room,
 ) -> Result<InMemory, AllocError>
-    requires unasked { F.asked files.old ≡ [] }
+    requires unasked { (F.state files.old).asked ≡ [] }
     requires no_sums { takes_sums command.now ≡ false → option_map (λ sums. sums.now) sums ≡ None }
 {
     let (mut out, mut report) = room.sinks(alloc)?;

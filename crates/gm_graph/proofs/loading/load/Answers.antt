@@ -5,7 +5,8 @@ use Rattle.gm_store_sums.specs.declared.sum_table.SumTable.{SumTable}
 use Rattle.gm_graph_cache.specs.Cached.{main_in}
 use Rattle.gm_graph_cache.specs.Main.{Main, main_of}
 use Rattle.gm_graph.specs.Loading.{AreTooMany, IsDue, Told}
-use Rattle.gm_graph.proofs.Dues.{asks_nothing}
+use Rattle.gm_graph_cache.proofs.Growing.{may_none}
+use Rattle.gm_graph.proofs.Dues.{asks_nothing, may_all}
 use Rattle.gm_graph.proofs.Loads.{gathered_ends, gathered_rooted, loads_of, too_many_first}
 use Rattle.gm_graph.proofs.loading.load.Goals as goal
 
@@ -20,19 +21,19 @@ returns-in_err-builder-clause-asks g c = asks_nothing _ _ _ c.requires
 
 pub returns-in_err-worklist-clause-too_many : goal.returns-in_err-worklist-clause-too_many
 returns-in_err-worklist-clause-too_many g c = λ e.
-    too_many_first (main_of c.args.main.now) (option_copied c.args.sums) (g.F.Files.asked c.args.files.now) c.deref.result.now c.requires (c.deref.ensures.value ∙ c.in_ok-required.ensures)
+    too_many_first (main_of c.args.main.now) (option_copied c.args.sums) (g.F.Files.state c.args.files.now).asked c.deref.result.now c.requires (c.deref.ensures.value ∙ c.in_ok-required.ensures)
     (c.in_err-worklist.ensures.too_many (ap Err (sym (rw e at c.from_residual-in_err-worklist.ensures.1))))
 
 pub returns-in_err-visit_all-clause-device : goal.returns-in_err-visit_all-clause-device
 returns-in_err-visit_all-clause-device g c = λ name e.
-    let pairs = g.F.Files.asked c.visit_all.new.files in
+    let pairs = (g.F.Files.state c.visit_all.new.files).asked in
     subst (λ (m : Main). IsDue m (option_copied c.args.sums) pairs (name_of name)) c.new-cache.ensures.main
     (subst (λ (s : Option SumTable). IsDue (main_in c.new-cache.result) s pairs (name_of name)) c.new-cache.ensures.sums
     (c.in_err-visit_all.ensures.device name (ap Err (sym (rw e at c.from_residual-in_err-visit_all.ensures.1)))))
 
 pub returns-in_err-visit_all-clause-too_many : goal.returns-in_err-visit_all-clause-too_many
 returns-in_err-visit_all-clause-too_many g c = λ e.
-    let pairs = g.F.Files.asked c.visit_all.new.files in
+    let pairs = (g.F.Files.state c.visit_all.new.files).asked in
     subst (λ (m : Main). Told m (option_copied c.args.sums) pairs (AreTooMany m)) c.new-cache.ensures.main
     (subst (λ (s : Option SumTable). Told (main_in c.new-cache.result) s pairs (AreTooMany (main_in c.new-cache.result))) c.new-cache.ensures.sums
     (c.in_err-visit_all.ensures.too_many (ap Err (sym (rw e at c.from_residual-in_err-visit_all.ensures.1)))))
@@ -50,6 +51,30 @@ assemble-requires g c = record {
 pub returns-clause-loaded : goal.returns-clause-loaded
 returns-clause-loaded g c =
     let told = c.in_ok-assemble.ensures in
-    loads_of c.new-cache.result c.visit_all.new.cache (g.F.Files.asked c.visit_all.new.files) c.visit_all.new.worklist c.visit_all.new.builder c.in_ok-visit_all.ensures.opened
+    loads_of c.new-cache.result c.visit_all.new.cache (g.F.Files.state c.visit_all.new.files).asked c.visit_all.new.worklist c.visit_all.new.builder c.in_ok-visit_all.ensures.opened
     (main_of c.args.main.now) (option_copied c.args.sums) c.new-cache.ensures.main c.new-cache.ensures.sums c.in_ok-assemble.field-0 c.visit_all.ensures.asks
     told.main told.faults told.ordered told.ascending told.edges told.rows told.turns
+
+pub returns-in_err-required-clause-may_answer : goal.returns-in_err-required-clause-may_answer
+returns-in_err-required-clause-may_answer g c =
+    let old = g.F.Files.state c.args.files.now in
+    may_all _ old old c.requires (may_none _ old)
+
+pub returns-in_err-worklist-clause-may_answer : goal.returns-in_err-worklist-clause-may_answer
+returns-in_err-worklist-clause-may_answer g c =
+    let old = g.F.Files.state c.args.files.now in
+    may_all _ old old c.requires (may_none _ old)
+
+pub returns-in_err-builder-clause-may_answer : goal.returns-in_err-builder-clause-may_answer
+returns-in_err-builder-clause-may_answer g c =
+    let old = g.F.Files.state c.args.files.now in
+    may_all _ old old c.requires (may_none _ old)
+
+pub returns-in_err-visit_all-clause-may_answer : goal.returns-in_err-visit_all-clause-may_answer
+returns-in_err-visit_all-clause-may_answer g c = may_all _ (g.F.Files.state c.args.files.now) (g.F.Files.state c.visit_all.new.files) c.requires c.visit_all.ensures.may
+
+pub returns-in_err-assemble-clause-may_answer : goal.returns-in_err-assemble-clause-may_answer
+returns-in_err-assemble-clause-may_answer g c = may_all _ (g.F.Files.state c.args.files.now) (g.F.Files.state c.visit_all.new.files) c.requires c.visit_all.ensures.may
+
+pub returns-clause-may_answer : goal.returns-clause-may_answer
+returns-clause-may_answer g c = may_all _ (g.F.Files.state c.args.files.now) (g.F.Files.state c.visit_all.new.files) c.requires c.visit_all.ensures.may

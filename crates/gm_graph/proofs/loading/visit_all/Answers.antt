@@ -12,8 +12,8 @@ use Rattle.gm_graph.proofs.loading.visit_all.Goals as goal
 
 pub turns-init : goal.turns-init
 turns-init g c = record {
-  state = first_step c.args.cache.now (g.F.Files.asked c.args.files.now) c.args.worklist.now c.args.builder.now c.requires.asked c.requires.knows c.requires.lent c.requires.worklist c.requires.leaves c.requires.first c.requires.builder c.requires.group;
-  may = may_none _ _;
+  state = first_step c.args.cache.now (g.F.Files.state c.args.files.now).asked c.args.worklist.now c.args.builder.now c.requires.asked c.requires.knows c.requires.lent c.requires.worklist c.requires.leaves c.requires.first c.requires.builder c.requires.group;
+  may = may_none _ (g.F.Files.state c.args.files.now);
   same_store = λ n r h. h;
   refused = refl;
   later = omega arith;
@@ -26,16 +26,16 @@ pub turns-preserved : goal.turns-preserved
 turns-preserved g c =
     let here = subst (λ (t : Turn). get_or c.turns.worklist.turns.items c.turns.at t ≡ t) (sym c.in_ok-one.ensures) (sym c.index.ensures) in
     record {
-      state = step (main_in c.args.cache.now) (sums_in c.args.cache.now) c.turns.cache c.visit.new.cache (g.F.Files.asked c.turns.files) (g.F.Files.asked c.visit.new.files) c.turns.worklist c.visit.new.worklist c.turns.builder c.visit.new.builder c.turns.at c.in_ok-one.one.vertex c.in_ok-one.one.depth
+      state = step (main_in c.args.cache.now) (sums_in c.args.cache.now) c.turns.cache c.visit.new.cache (g.F.Files.state c.turns.files).asked (g.F.Files.state c.visit.new.files).asked c.turns.worklist c.visit.new.worklist c.turns.builder c.visit.new.builder c.turns.at c.in_ok-one.one.vertex c.in_ok-one.one.depth
           c.turns.invariant.state (omega arith) here c.in_ok-visit.ensures.knows c.in_ok-visit.ensures.continues c.in_ok-visit.ensures.turns c.in_ok-visit.ensures.followed c.visit.ensures.asks;
-      may = may_along _ _ _ _ _ c.turns.invariant.same_store c.turns.invariant.may c.visit.ensures.may;
+      may = may_along _ _ (g.F.Files.state c.args.files.now) (g.F.Files.state c.turns.files) (g.F.Files.state c.visit.new.files) c.turns.invariant.same_store c.turns.invariant.may c.visit.ensures.may;
       same_store = λ n r h. c.turns.invariant.same_store n r (c.visit.ensures.same_store n r h);
       refused = c.in_ok-visit.ensures.refused ∙ append-nil _ ∙ c.turns.invariant.refused;
       later = later_both _ _ _ c.turns.invariant.later c.visit.ensures.later;
     }
 
 pub returns-clause-opened : goal.returns-clause-opened
-returns-clause-opened g c = last_step c.args.cache.now c.turns.cache (g.F.Files.asked c.turns.files) c.turns.worklist c.turns.builder c.turns.at c.turns.invariant.state (omega arith)
+returns-clause-opened g c = last_step c.args.cache.now c.turns.cache (g.F.Files.state c.turns.files).asked c.turns.worklist c.turns.builder c.turns.at c.turns.invariant.state (omega arith)
 
 pub returns-clause-asks : goal.returns-clause-asks
 returns-clause-asks g c = c.turns.invariant.state.asks
@@ -47,23 +47,23 @@ pub returns-in_err-visit-clause-asks : goal.returns-in_err-visit-clause-asks
 returns-in_err-visit-clause-asks g c =
     let here = subst (λ (t : Turn). get_or c.turns.worklist.turns.items c.turns.at t ≡ t) (sym c.in_ok-one.ensures) (sym c.index.ensures) in
     let state = c.turns.invariant.state in
-    asks_more (main_in c.args.cache.now) (sums_in c.args.cache.now) c.turns.cache state.main_is state.sums_are (g.F.Files.asked c.turns.files) state.knows c.turns.worklist.turns.items c.turns.at c.in_ok-one.one.vertex c.in_ok-one.one.depth state.queue.sound (omega arith) here
-    (g.F.Files.asked c.visit.new.files) state.asks c.visit.ensures.asks
+    asks_more (main_in c.args.cache.now) (sums_in c.args.cache.now) c.turns.cache state.main_is state.sums_are (g.F.Files.state c.turns.files).asked state.knows c.turns.worklist.turns.items c.turns.at c.in_ok-one.one.vertex c.in_ok-one.one.depth state.queue.sound (omega arith) here
+    (g.F.Files.state c.visit.new.files).asked state.asks c.visit.ensures.asks
 
 pub returns-in_err-visit-clause-too_many : goal.returns-in_err-visit-clause-too_many
 returns-in_err-visit-clause-too_many g c = λ e.
     let here = subst (λ (t : Turn). get_or c.turns.worklist.turns.items c.turns.at t ≡ t) (sym c.in_ok-one.ensures) (sym c.index.ensures) in
     let state = c.turns.invariant.state in
-    many_here (main_in c.args.cache.now) (sums_in c.args.cache.now) c.turns.cache state.main_is state.sums_are (g.F.Files.asked c.turns.files) state.knows c.turns.worklist.turns.items c.turns.at c.in_ok-one.one.vertex c.in_ok-one.one.depth state.queue.sound (omega arith) here
-    (g.F.Files.asked c.visit.new.files) c.turns.worklist state.is_opening.turns (c.in_err-visit.ensures.too_many (ap Err (sym (rw e at c.from_residual-in_err-visit.ensures.1))))
+    many_here (main_in c.args.cache.now) (sums_in c.args.cache.now) c.turns.cache state.main_is state.sums_are (g.F.Files.state c.turns.files).asked state.knows c.turns.worklist.turns.items c.turns.at c.in_ok-one.one.vertex c.in_ok-one.one.depth state.queue.sound (omega arith) here
+    (g.F.Files.state c.visit.new.files).asked c.turns.worklist state.is_opening.turns (c.in_err-visit.ensures.too_many (ap Err (sym (rw e at c.from_residual-in_err-visit.ensures.1))))
 
 pub returns-in_err-visit-clause-device : goal.returns-in_err-visit-clause-device
 returns-in_err-visit-clause-device g c = λ name e.
     let here = subst (λ (t : Turn). get_or c.turns.worklist.turns.items c.turns.at t ≡ t) (sym c.in_ok-one.ensures) (sym c.index.ensures) in
     let state = c.turns.invariant.state in
     let said = c.in_err-visit.ensures.device name (ap Err (sym (rw e at c.from_residual-in_err-visit.ensures.1))) in
-    due_here (main_in c.args.cache.now) (sums_in c.args.cache.now) c.turns.cache state.main_is state.sums_are (g.F.Files.asked c.turns.files) state.knows c.turns.worklist.turns.items c.turns.at c.in_ok-one.one.vertex c.in_ok-one.one.depth state.queue.sound (omega arith) here
-    (g.F.Files.asked c.visit.new.files) _ said.0 said.1 said.2 said.3
+    due_here (main_in c.args.cache.now) (sums_in c.args.cache.now) c.turns.cache state.main_is state.sums_are (g.F.Files.state c.turns.files).asked state.knows c.turns.worklist.turns.items c.turns.at c.in_ok-one.one.vertex c.in_ok-one.one.depth state.queue.sound (omega arith) here
+    (g.F.Files.state c.visit.new.files).asked _ said.0 said.1 said.2 said.3
 
 pub returns-in_err-visit-clause-cause : goal.returns-in_err-visit-clause-cause
 returns-in_err-visit-clause-cause g c = λ name e.
@@ -73,11 +73,11 @@ pub returns-in_err-visit-clause-later : goal.returns-in_err-visit-clause-later
 returns-in_err-visit-clause-later g c = later_both _ _ _ c.turns.invariant.later c.visit.ensures.later
 
 pub returns-in_err-visit-clause-may : goal.returns-in_err-visit-clause-may
-returns-in_err-visit-clause-may g c = may_along _ _ _ _ _ c.turns.invariant.same_store c.turns.invariant.may c.visit.ensures.may
+returns-in_err-visit-clause-may g c = may_along _ _ (g.F.Files.state c.args.files.now) (g.F.Files.state c.turns.files) (g.F.Files.state c.visit.new.files) c.turns.invariant.same_store c.turns.invariant.may c.visit.ensures.may
 
 pub returns-in_err-visit-clause-refused : goal.returns-in_err-visit-clause-refused
 returns-in_err-visit-clause-refused g c =
     let same = refused_same c.from_residual-in_err-visit.result c.in_err-visit.field-0.0 (λ f e. rw e at c.from_residual-in_err-visit.ensures.1) c.from_residual-in_err-visit.ensures.0 in
     c.in_err-visit.ensures.refused
     ∙ ap (λ (ns : List Name). ns ++ refused_names c.in_err-visit.field-0.0) c.turns.invariant.refused
-    ∙ ap (λ (ns : List Name). g.F.Files.refused c.args.files.now ++ ns) (sym same)
+    ∙ ap (λ (ns : List Name). (g.F.Files.state c.args.files.now).refused ++ ns) (sym same)

@@ -7,7 +7,7 @@ use Rattle.gm_graph.proofs.Caching.{continues_both, on_ok_two, overflows_at, rea
 use Rattle.gm_graph.proofs.visiting.visit.Goals as goal
 
 pub returns-clause-knows : goal.returns-clause-knows
-returns-clause-knows g c = on_ok_weaker c.add_requirements.result (λ adds. knows_still c.known.new.self c.add_requirements.new.cache (g.F.Files.asked c.known.new.files) adds.holds c.in_ok-finding.ensures.knows) c.add_requirements.ensures.cache
+returns-clause-knows g c = on_ok_weaker c.add_requirements.result (λ adds. knows_still c.known.new.self c.add_requirements.new.cache (g.F.Files.state c.known.new.files).asked adds.holds c.in_ok-finding.ensures.knows) c.add_requirements.ensures.cache
 
 pub returns-clause-continues : goal.returns-clause-continues
 returns-clause-continues g c = on_ok_weaker c.add_requirements.result (λ adds. continues_both c.args.cache.now c.known.new.self c.add_requirements.new.cache c.known.ensures.lent c.known.ensures.grows adds.holds) c.add_requirements.ensures.cache
@@ -20,4 +20,4 @@ returns-clause-followed g c =
 
 pub returns-clause-too_many : goal.returns-clause-too_many
 returns-clause-too_many g c = λ e.
-    overflows_at c.args.cache.now c.known.new.self (g.F.Files.asked c.known.new.files) c.args.worklist.now c.args.vertex.now c.args.depth c.known.ensures.lent c.known.ensures.grows c.in_ok-finding.ensures.knows (c.add_requirements.ensures.too_many e)
+    overflows_at c.args.cache.now c.known.new.self (g.F.Files.state c.known.new.files).asked c.args.worklist.now c.args.vertex.now c.args.depth c.known.ensures.lent c.known.ensures.grows c.in_ok-finding.ensures.knows (c.add_requirements.ensures.too_many e)
