@@ -3,10 +3,17 @@ use Rattle.std.specs.Prelude.{◌≡◌, List, [], ⊤, Option, Some, None, Resu
 use Rattle.std.specs.Option.{option_map}
 use Rattle.gm_file.specs.Fields.{Dependency}
 use Rattle.gm_graph_cache.specs.declared.class.Class.{Class}
+use Rattle.gm_graph_cache.specs.declared.reading.FileReading.{FileReading}
+use Rattle.gm_graph_cache.specs.declared.reading.FileReading.TheVariants as read
 use Rattle.gm_graph_cache.specs.declared.summary.Kept.{Kept}
 use Rattle.gm_graph_cache.specs.declared.summary.Kept.TheVariants.{Valid, Faulty}
 use Rattle.gm_graph_cache.specs.declared.summary.Summary.{Summary}
 use Rattle.gm_graph_cache.specs.Main.{Main, ModuleVersion, without_excluded}
+
+-- what an answer says, as a reading
+abbrev pub reading_of : FileReading → Result Dependency Class
+reading_of (read.Valid file) = Ok file
+reading_of (read.Faulty class) = Err class
 
 -- what is kept of a file, as a reading
 abbrev pub summary_reading : Kept → Result Dependency Class

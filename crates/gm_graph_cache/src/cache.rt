@@ -25,7 +25,7 @@ use crate::load_fault::LoadFault;
 use crate::name_key::{NameKey, mark};
 use crate::naming::{file_name, is_askable};
 use crate::paths::is_right_path;
-use crate::reading::read_answer;
+use crate::reading::{FileReading, read_answer};
 use crate::summaries::Summaries;
 use crate::summary::{Kept, summary_of};
 use gm_file::MainFile;
@@ -81,8 +81,8 @@ fn summarize(
     ensures kept { IfOk result (IsKept (main_of main.now)) }
 {
     match read_answer(alloc, names, sums, name, answer)? {
-        Ok(file) => Ok(Kept::Valid(summary_of(alloc, main, file)?)),
-        Err(class) => Ok(Kept::Faulty(class)),
+        FileReading::Valid(file) => Ok(Kept::Valid(summary_of(alloc, main, file)?)),
+        FileReading::Faulty(class) => Ok(Kept::Faulty(class)),
     }
 }
 

@@ -1,9 +1,11 @@
 //! From a store's answer to the contents of a dependency's file.
 
-ghost use Rattle.std.specs.Prelude.{◌≡◌, IfOk};
+ghost use Rattle.std.specs.Prelude.{◌≡◌, ℕ, List, Err, IfOk};
+ghost use Rattle.gm_file.specs.DepLines.{IsMisread};
 ghost use Rattle.std.specs.Option.{option_copied};
 ghost use Rattle.gm_store.specs.Asked.{name_of, reply_of};
 ghost use Rattle.gm_graph_cache.specs.Reading.{IsContentReading, IsFileReading, class_of_sum, sum_fault};
+ghost use Rattle.gm_graph_cache.specs.Summaries.{reading_of};
 
 use crate::class::{Class, Misreading};
 use gm_file::{DepFile, ReadFault};
@@ -11,6 +13,15 @@ use gm_name::{KnownNames, NoMemory};
 use gm_store::{Answer, FileName};
 use gm_store_sums::{Sum, SumTable, mod_hash};
 use std::alloc::{AllocError, Global};
+
+/// What an answer says of a file.
+#[derive(Drop)]
+pub(crate) enum FileReading {
+    /// The file is valid, and these are its contents.
+    Valid(DepFile),
+    /// The file has this fault.
+    Faulty(Class),
+}
 
 /// The class of a failed hash check, or `None` if the hash is right.
 fn class_of(sum: Sum) -> Option<Class>
@@ -45,25 +56,31 @@ fn sum_fault(
     }
 }
 
-/// The contents of a dependency's file with these bytes, or why they can't be read.
+/// The class of bytes that can't be read for this reason. The only refusal is `NoMemory`.
+fn class_of_misread(fault: ReadFault) -> Result<Class, NoMemory>
+    ensures { IfOk result (λ class. (content : List ℕ) → IsMisread content fault
+        → IsContentReading content (Err class)) }
+{
+    match fault {
+        ReadFault::NoMemory => Err(AllocError),
+        ReadFault::TooMany => Ok(malformed(0, Misreading::TooMany)),
+        ReadFault::NotUtf8 => Ok(malformed(0, Misreading::NotUtf8)),
+        ReadFault::Syntax { line, kind } => Ok(malformed(line, Misreading::Syntax(kind))),
+        ReadFault::Directive { line, kind } => Ok(malformed(line, Misreading::Directive(kind))),
+    }
+}
+
+/// The contents of a dependency's file with these bytes, or why they can't be read. The only refusal is `NoMemory`.
 fn read_bytes(
     alloc: Global,
     names: &mut KnownNames,
     content: &[u8],
-) -> Result<Result<DepFile, Class>, NoMemory>
-    ensures { IfOk result (IsContentReading content.now) }
+) -> Result<FileReading, NoMemory>
+    ensures { IfOk result (λ read. IsContentReading content.now (reading_of read)) }
 {
     match DepFile::read_bytes(alloc, names, content) {
-        Ok(file) => Ok(Ok(file)),
-        Err(ReadFault::NoMemory) => Err(AllocError),
-        Err(ReadFault::TooMany) => Ok(Err(malformed(0, Misreading::TooMany))),
-        Err(ReadFault::NotUtf8) => Ok(Err(malformed(0, Misreading::NotUtf8))),
-        Err(ReadFault::Syntax { line, kind }) => {
-            Ok(Err(malformed(line, Misreading::Syntax(kind))))
-        }
-        Err(ReadFault::Directive { line, kind }) => {
-            Ok(Err(malformed(line, Misreading::Directive(kind))))
-        }
+        Ok(file) => Ok(FileReading::Valid(file)),
+        Err(fault) => Ok(FileReading::Faulty(class_of_misread(fault)?)),
     }
 }
 
@@ -81,14 +98,15 @@ pub(crate) fn read_answer(
     sums: Option<&SumTable>,
     name: &FileName,
     answer: &Answer,
-) -> Result<Result<DepFile, Class>, NoMemory>
-    ensures { IfOk result (IsFileReading (option_copied sums.entry) (name_of name.now) (reply_of answer.now)) }
+) -> Result<FileReading, NoMemory>
+    ensures { IfOk result (λ read.
+        IsFileReading (option_copied sums.entry) (name_of name.now) (reply_of answer.now) (reading_of read)) }
 {
     match answer {
-        Answer::Absent => Ok(Err(Class::Missing)),
-        Answer::TooLong => Ok(Err(Class::TooLong)),
+        Answer::Absent => Ok(FileReading::Faulty(Class::Missing)),
+        Answer::TooLong => Ok(FileReading::Faulty(Class::TooLong)),
         Answer::Bytes(content) => match sum_fault(alloc, sums, name, content)? {
-            Some(class) => Ok(Err(class)),
+            Some(class) => Ok(FileReading::Faulty(class)),
             None => read_bytes(alloc, names, content),
         },
     }
