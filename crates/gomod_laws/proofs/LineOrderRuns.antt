@@ -6,7 +6,8 @@ use Rattle.gm_graph_listing.specs.Outcomes.{Answers, Outcome, answers, given}
 use Rattle.gomod_words.specs.declared.usage.Command.{Command}
 use Rattle.gomod_words.specs.declared.usage.Command.TheVariants.{Fmt, Edit, Versions, Graph, List as Rows, Chain}
 use Rattle.gomod_run.specs.Queries.{IsQueryOutcome, RunsTo}
-use Rattle.gomod_run.specs.Runs.{StoreState, is_query}
+use Rattle.gm_store.specs.States.{StoreState}
+use Rattle.gomod_run.specs.Runs.{is_query}
 use Rattle.gomod_run.proofs.OneStore.{one_for_stores}
 use Rattle.gomod_laws.specs.Runs.{HasOutcome}
 

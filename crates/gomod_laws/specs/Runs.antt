@@ -4,7 +4,7 @@ use Rattle.gm_store.specs.Asked.{Name, Reply}
 use Rattle.gm_graph_listing.specs.Outcomes.{Outcome}
 use Rattle.gomod_words.specs.declared.usage.Command.{Command}
 use Rattle.gomod_run.specs.Queries.{RunsTo}
-use Rattle.gomod_run.specs.Runs.{StoreState}
+use Rattle.gm_store.specs.States.{StoreState}
 
 -- The command, over the bytes of a main file, those of a go.sum where one is given, and a store that gave these
 -- answers and whose device did not fail, has this outcome.

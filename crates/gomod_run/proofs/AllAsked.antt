@@ -16,7 +16,8 @@ use Rattle.gomod_words.specs.declared.usage.Command.{Command}
 use Rattle.gomod_words.specs.declared.usage.Command.TheVariants.{Fmt, Edit, Versions, Graph, List as Rows, Chain}
 use Rattle.gomod_run.specs.Needs.{GraphNeeds}
 use Rattle.gomod_run.specs.Queries.{RunsTo}
-use Rattle.gomod_run.specs.Runs.{AnsweredAll, IsRunOutcome, Needs, StatesOutcome, StoreState}
+use Rattle.gm_store.specs.States.{StoreState}
+use Rattle.gomod_run.specs.Runs.{AnsweredAll, IsRunOutcome, Needs, StatesOutcome}
 use Rattle.gomod_run.specs.Versions.{AnswersByName}
 use Rattle.gomod_run.specs.Written.{IsWritten}
 use Rattle.gm_store.specs.Taken.{SinkState}

@@ -15,7 +15,8 @@ use Rattle.gomod_words.specs.declared.usage.Places.{Places}
 use Rattle.gm_graph_listing.specs.Outcomes.{Outcome, longest}
 use Rattle.gomod_run.specs.Held.{HoldsOne}
 use Rattle.gomod_run.specs.Program.{AreOfOneFile, IsFolderOutcome, IsInputOutcome, IsUnreadableWords, IsProgramOutcome, IsProgramStatus, IsReadOutcome, IsServed, IsWordsOutcome, usage_outcome}
-use Rattle.gomod_run.specs.Runs.{IsRunOutcome, Needs, StatesOutcome, StoreState, is_over_file, is_query}
+use Rattle.gm_store.specs.States.{StoreState}
+use Rattle.gomod_run.specs.Runs.{IsRunOutcome, Needs, StatesOutcome, is_over_file, is_query}
 use Rattle.gomod_run.specs.Queries.{RunsTo}
 use Rattle.gomod_run.proofs.Answering.{answered_in}
 use Rattle.gomod_run.specs.Written.{EndsAsStated}

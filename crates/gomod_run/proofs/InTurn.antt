@@ -6,7 +6,8 @@ use Rattle.gm_graph_cache.specs.Main.{Main}
 use Rattle.gm_graph.specs.Loading.{AsksInTurn, IsDue, nothing, more}
 use Rattle.gm_graph_listing.specs.Outcomes.{AreSums, AsksInOrder, FailsInOrder, IsMainFile}
 use Rattle.gomod_run.specs.Needs.{GraphNeeds}
-use Rattle.gomod_run.specs.Runs.{AskedAfter, AskedInTurn, FailsInTurn, StoreState}
+use Rattle.gm_store.specs.States.{StoreState}
+use Rattle.gomod_run.specs.Runs.{AskedAfter, AskedInTurn, FailsInTurn}
 use Rattle.gomod_run.specs.Versions.{AnswersByName}
 
 abbrev Pairs : Type 0

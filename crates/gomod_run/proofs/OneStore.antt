@@ -9,7 +9,8 @@ use Rattle.gomod_words.specs.declared.usage.Command.{Command}
 use Rattle.gomod_words.specs.declared.usage.Command.TheVariants.{Fmt, Edit, Versions, Graph, List as Rows, Chain}
 use Rattle.gomod_run.specs.Laws.{OneForStores}
 use Rattle.gomod_run.specs.Queries.{AnswersQuery, IsQueryOutcome}
-use Rattle.gomod_run.specs.Runs.{IsRunOutcome, Needs, StatesOutcome, StoreState}
+use Rattle.gm_store.specs.States.{StoreState}
+use Rattle.gomod_run.specs.Runs.{IsRunOutcome, Needs, StatesOutcome}
 use Rattle.gomod_run.specs.Versions.{AnswersByName, IsOutcomeByList, IsListedOutcome, IsVersionsOutcome}
 use Rattle.gomod_run.proofs.Sameness.{one_outcome}
 

@@ -10,7 +10,8 @@ use Rattle.gm_store.specs.declared.reading.ReadFault.{ReadFault}
 use Rattle.gomod_run.specs.Program.{IsQueryRun, IsQueryServed, IsReadOutcome, IsServed, IsSumsServed}
 use Rattle.gomod_words.specs.declared.usage.Places.{Places}
 use Rattle.gomod_run.specs.Queries.{RunsTo}
-use Rattle.gomod_run.specs.Runs.{StoreState, is_query, takes_sums}
+use Rattle.gm_store.specs.States.{StoreState}
+use Rattle.gomod_run.specs.Runs.{is_query, takes_sums}
 
 -- the outcome of such a run follows from what its store answered
 pub query_weaken : (command : Command) (main : List ℕ) (sums : Option (List ℕ)) (old new : StoreState) → is_query command ≡ true → (outcome : Outcome)

@@ -16,7 +16,8 @@ use Rattle.gomod_run.specs.Listing.{IsListState}
 use Rattle.gomod_run.specs.Kinds.{list_line}
 use Rattle.gomod_run.specs.Reading.{IsListRead}
 use Rattle.gm_file_retract.specs.Shown.{shown_of}
-use Rattle.gomod_run.specs.Runs.{AnsweredAll, AskedInTurn, IsRunOutcome, FailsInTurn, StoreState}
+use Rattle.gm_store.specs.States.{StoreState}
+use Rattle.gomod_run.specs.Runs.{AnsweredAll, AskedInTurn, IsRunOutcome, FailsInTurn}
 use Rattle.gomod_run.specs.Versions.{AnswersByName, IsShownOutcome, IsVersionsOutcome, NeedsFile, VersionsNeed, shown_by, versions_line}
 use Rattle.gomod_run.specs.Written.{out_of_memory}
 use Rattle.gomod_run.proofs.Answering.{file_answer, list_answer}

@@ -4,7 +4,7 @@ use Rattle.gm_store.specs.Asked.{Name, Reply, mod_file}
 use Rattle.gm_graph_listing.specs.declared.output.Output.{Output}
 use Rattle.gm_graph_listing.specs.Outcomes.{failed, outcome_view}
 use Rattle.gm_graph_listing.specs.Reports.{device_line}
-use Rattle.gomod_run.specs.Runs.{StoreState}
+use Rattle.gm_store.specs.States.{StoreState}
 use Rattle.gomod_run.specs.Versions.{IsShownOutcome}
 
 -- nothing was answered, and the device failed at this file or at none

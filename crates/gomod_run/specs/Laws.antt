@@ -6,7 +6,8 @@ use Rattle.gomod_words.specs.Usage.{version_line}
 use Rattle.gomod_words.specs.declared.usage.Command.{Command}
 use Rattle.gomod_run.specs.Program.{IsWordsOutcome}
 use Rattle.gomod_run.specs.Queries.{RunsTo}
-use Rattle.gomod_run.specs.Runs.{StatesOutcome, StoreState}
+use Rattle.gm_store.specs.States.{StoreState}
+use Rattle.gomod_run.specs.Runs.{StatesOutcome}
 use Rattle.gomod_run.specs.Versions.{AnswersByName}
 use Rattle.gomod_run.specs.Written.{out_of_memory}
 

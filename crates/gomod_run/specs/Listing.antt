@@ -3,7 +3,7 @@ use Rattle.std.specs.Prelude.{◌≡◌, ◌∷◌, ℕ, List, [], true}
 use Rattle.gm_name.specs.Path.{is_fetchable}
 use Rattle.gm_store.specs.Asked.{Name, Reply, bytes, list_file}
 use Rattle.gm_store.specs.Listed.{AreListed}
-use Rattle.gomod_run.specs.Runs.{StoreState}
+use Rattle.gm_store.specs.States.{StoreState}
 
 -- the store answered with a list, which names these versions
 pub record IsListState (path : List ℕ) (may : Name → Reply → Type 0) (old new : StoreState) (versions : List (List ℕ))

@@ -4,7 +4,8 @@ use Rattle.gm_store.specs.Asked.{Name}
 use Rattle.gm_graph_listing.specs.Outcomes.{Given, IsChainOutcome, IsGraphOutcome, IsListOutcome, Outcome, answers, given}
 use Rattle.gomod_words.specs.declared.usage.Command.{Command}
 use Rattle.gomod_words.specs.declared.usage.Command.TheVariants.{Fmt, Edit, Versions, Graph, List as Rows, Chain}
-use Rattle.gomod_run.specs.Runs.{IsRunOutcome, Needs, StatesOutcome, StoreState}
+use Rattle.gm_store.specs.States.{StoreState}
+use Rattle.gomod_run.specs.Runs.{IsRunOutcome, Needs, StatesOutcome}
 
 -- a query on a module graph, given the files and answers of its run
 abbrev pub IsQueryOutcome : Command → Given → Outcome → Type 0

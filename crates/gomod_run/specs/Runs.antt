@@ -1,5 +1,6 @@
 -- The outcome of a command, given what was read and answered, and the files that it asks a store for.
 use Rattle.std.specs.Prelude.{◌≡◌, ◌⊎◌, ◌++◌, ◌∷◌, ℕ, Bool, List, [], Option, Some, None, Ok, Err, false, true}
+use Rattle.gm_store.specs.States.{StoreState}
 use Rattle.gm_store.specs.Asked.{Name, Reply, answer_in}
 use Rattle.gm_syntax.specs.declared.fault.SyntaxFault.{SyntaxFault}
 use Rattle.gm_syntax.specs.Document.{Line}
@@ -61,14 +62,6 @@ takes_sums (Versions path all) = false
 takes_sums _ = true
 
 -- ---- what a store was asked in a run
-
--- what is known of a store: the files that it was asked for, with its answers, and those at which its device failed
-pub record StoreState : Type 0 where
-  pub asked : List (Name × Reply)
-  pub refused : List Name
-
-abbrev pub store_state : List (Name × Reply) → List Name → StoreState
-store_state asked refused = record { asked = asked; refused = refused }
 
 -- each of the later files was needed by the answers before it, and had not been asked for before
 abbrev pub AskedAfter : (AnswersByName → Name → Type 0) → List (Name × Reply) → List (Name × Reply) → Type 0

@@ -1,10 +1,9 @@
 //! Asking a store for one file. A separate step, because a failing device ends a run with a report of its own.
 
-ghost use Rattle.std.specs.Prelude.{◌≡◌, ◌<◌, ◌≤◌, ◌⊎◌, ◌++◌, ◌∷◌, [], List, None, length};
+ghost use Rattle.std.specs.Prelude.{◌≡◌, ◌<◌, ◌≤◌, ◌++◌, ◌∷◌, [], List, None, length};
 ghost use Rattle.gm_store.specs.Asked.{Name, Reply, answer_in, name_of, reply_of};
-ghost use Rattle.gm_store.specs.Faults.{HasCountedFailure};
+ghost use Rattle.gm_store.specs.States.{RefusesWithCause};
 ghost use Rattle.gomod_run.specs.Asking.{IsAsked};
-ghost use Rattle.gomod_run.specs.Runs.{store_state};
 
 use gm_graph_listing::{Output, device_report, failed};
 use gm_name::NoMemory;
@@ -18,16 +17,14 @@ pub(crate) fn ask_for<F: Files>(
     files: &mut F,
     name: &FileName,
 ) -> Result<Option<Output>, NoMemory>
-    requires { answer_in (F.asked files.old) (name_of name.now) ≡ None }
+    requires { answer_in (F.state files.old).asked (name_of name.now) ≡ None }
     ensures asked { IsAsked (name_of name.now) (F.may_answer files.old)
-        (store_state (F.asked files.old) (F.refused files.old))
-        (store_state (F.asked files.new) (F.refused files.new))
+        (F.state files.old) (F.state files.new)
         result }
     ensures same_store { (name : Name) (reply : Reply)
         → F.may_answer files.new name reply → F.may_answer files.old name reply }
-    ensures cause { (F.refused files.new ≡ F.refused files.old)
-        ⊎ HasCountedFailure (F.fault_count files.old) (F.fault_count files.new) }
-    ensures later { F.fault_count files.old ≤ F.fault_count files.new }
+    ensures cause { RefusesWithCause (F.state files.old) (F.state files.new) }
+    ensures later { (F.state files.old).faults ≤ (F.state files.new).faults }
 {
     match files.ask(name) {
         Ok(()) => Ok(None),
@@ -38,9 +35,9 @@ pub(crate) fn ask_for<F: Files>(
 
 /// The answer to the last ask. The store must have been asked at least once.
 pub(crate) fn last_answer<F: Files>(files: &F) -> &Answer
-    requires { 0 < length (F.asked files.now) }
+    requires { 0 < length (F.state files.now).asked }
     ensures { (before : List (Name × Reply)) (last : Name × Reply)
-        → F.asked files.now ≡ before ++ last ∷ [] → reply_of result.now ≡ last.1 }
+        → (F.state files.now).asked ≡ before ++ last ∷ [] → reply_of result.now ≡ last.1 }
 {
     let count = files.count();
     files.answer(count - 1)

@@ -1,12 +1,12 @@
 //! The outcome of a command. It is complete before anything is written, since a fault that is found late must leave
 //! standard output empty.
 
-ghost use Rattle.std.specs.Prelude.{◌≡◌, ◌≤◌, ◌⊎◌, [], Contains, IfOk};
+ghost use Rattle.std.specs.Prelude.{◌≡◌, ◌≤◌, [], Contains, IfOk};
 ghost use Rattle.std.specs.Option.{option_map};
 ghost use Rattle.gm_store.specs.Asked.{Name, Reply};
-ghost use Rattle.gm_store.specs.Faults.{HasCountedFailure};
+ghost use Rattle.gm_store.specs.States.{RefusesWithCause};
 ghost use Rattle.gm_graph_listing.specs.Outcomes.{outcome_view};
-ghost use Rattle.gomod_run.specs.Runs.{AskedInTurn, FailsInTurn, Needs, store_state};
+ghost use Rattle.gomod_run.specs.Runs.{AskedInTurn, FailsInTurn, Needs};
 ghost use Rattle.gomod_run.specs.Queries.{RunsTo};
 
 use crate::edit::edit_outcome;
@@ -28,21 +28,18 @@ pub(crate) fn outcome<F: Files>(
     sums: Option<&[u8]>,
     files: &mut F,
 ) -> Result<Output, NoMemory>
-    requires { F.asked files.old ≡ [] }
+    requires { (F.state files.old).asked ≡ [] }
     ensures comes { IfOk result (λ output. RunsTo command.now main.now (option_map (λ sums. sums.now) sums.entry)
-        (store_state (F.asked files.old) (F.refused files.old))
-        (store_state (F.asked files.new) (F.refused files.new))
+        (F.state files.old) (F.state files.new)
         (outcome_view output)) }
     ensures in_turn { AskedInTurn (Needs command.now main.now (option_map (λ sums. sums.now) sums.entry))
-        (F.asked files.new) }
+        (F.state files.new).asked }
     ensures fails { FailsInTurn (Needs command.now main.now (option_map (λ sums. sums.now) sums.entry))
-        (store_state (F.asked files.old) (F.refused files.old))
-        (store_state (F.asked files.new) (F.refused files.new)) }
+        (F.state files.old) (F.state files.new) }
     ensures answers { (name : Name) (reply : Reply)
-        → Contains (F.asked files.new) (name, reply) → F.may_answer files.old name reply }
-    ensures cause { (F.refused files.new ≡ F.refused files.old)
-        ⊎ HasCountedFailure (F.fault_count files.old) (F.fault_count files.new) }
-    ensures later { F.fault_count files.old ≤ F.fault_count files.new }
+        → Contains (F.state files.new).asked (name, reply) → F.may_answer files.old name reply }
+    ensures cause { RefusesWithCause (F.state files.old) (F.state files.new) }
+    ensures later { (F.state files.old).faults ≤ (F.state files.new).faults }
 {
     match command {
         Command::Versions { path, all } => versions_outcome(alloc, path, *all, files),

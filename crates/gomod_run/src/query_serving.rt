@@ -30,7 +30,7 @@ fn run_query<F: Store, O: Sink, R: Sink>(
     out: &mut O,
     report: &mut R,
 ) -> Status
-    requires unasked { F.asked files.old ≡ [] }
+    requires unasked { (F.state files.old).asked ≡ [] }
     requires query { is_query command.now ≡ true }
     ensures { EndsAsStated (IsQueryRun command.now main.now (option_map (λ sums. sums.now) sums.entry))
         (O.state out.old) (O.state out.new) (R.state report.old) (R.state report.new)

@@ -1,11 +1,11 @@
 //! Running one command, from bytes that have been read to bytes that are written.
 
-ghost use Rattle.std.specs.Prelude.{◌≡◌, ◌≤◌, ◌⊎◌, [], Contains, None, false};
+ghost use Rattle.std.specs.Prelude.{◌≡◌, ◌≤◌, [], Contains, None, false};
 ghost use Rattle.std.specs.Option.{option_map};
 ghost use Rattle.gm_store.specs.Asked.{Name, Reply, answer_in};
-ghost use Rattle.gm_store.specs.Faults.{HasCountedFailure};
+ghost use Rattle.gm_store.specs.States.{RefusesWithCause};
 ghost use Rattle.gm_graph_listing.specs.Outcomes.{code_of};
-ghost use Rattle.gomod_run.specs.Runs.{AnsweredAll, AskedInTurn, FailsInTurn, Needs, store_state, takes_sums};
+ghost use Rattle.gomod_run.specs.Runs.{AnsweredAll, AskedInTurn, FailsInTurn, Needs, takes_sums};
 ghost use Rattle.gomod_run.specs.Queries.{RunsTo};
 ghost use Rattle.gomod_run.specs.Written.{EndsAsStated};
 
@@ -65,13 +65,12 @@ pub fn run<F: Files, O: Sink, R: Sink>(
     report: &mut R,
 ) -> Status
     // Otherwise the outcome could depend on answers of an earlier run.
-    requires unasked { F.asked files.old ≡ [] }
+    requires unasked { (F.state files.old).asked ≡ [] }
     // A go.sum that such a command ignored would pass for one that was checked.
     requires no_sums { takes_sums command.now ≡ false → option_map (λ sums. sums.now) sums ≡ None }
     // All asks and all allocations come before the first byte is written, so a report never follows part of a text.
     ensures ends { EndsAsStated (RunsTo command.now main.now (option_map (λ sums. sums.now) sums.entry)
-        (store_state (F.asked files.old) (F.refused files.old))
-        (store_state (F.asked files.new) (F.refused files.new)))
+        (F.state files.old) (F.state files.new))
         (O.state out.old) (O.state out.new) (R.state report.old) (R.state report.new)
         (code_of result) }
     // Each file is asked for once, and is needed by the answers before it. `fmt` and `edit` need none. `graph`,
@@ -79,22 +78,20 @@ pub fn run<F: Files, O: Sink, R: Sink>(
     // be parsed (Go Modules Reference, "Minimal version selection" and "Module graph pruning"). This clause and
     // the clauses `fails` and `answers` hold however the run ends.
     ensures in_turn { AskedInTurn (Needs command.now main.now (option_map (λ sums. sums.now) sums.entry))
-        (F.asked files.new) }
+        (F.state files.new).asked }
     // A run that is done has an answer for every file that it needs.
     ensures all_answered { result ≡ Status.Done
         → AnsweredAll (Needs command.now main.now (option_map (λ sums. sums.now) sums.entry))
-        (answer_in (F.asked files.new)) }
+        (answer_in (F.state files.new).asked) }
     // The device fails at one file at most, which is needed by the answers and is not among them.
     ensures fails { FailsInTurn (Needs command.now main.now (option_map (λ sums. sums.now) sums.entry))
-        (store_state (F.asked files.old) (F.refused files.old))
-        (store_state (F.asked files.new) (F.refused files.new)) }
+        (F.state files.old) (F.state files.new) }
     // Each answer is one that the store may give.
     ensures answers { (name : Name) (reply : Reply)
-        → Contains (F.asked files.new) (name, reply) → F.may_answer files.old name reply }
+        → Contains (F.state files.new).asked (name, reply) → F.may_answer files.old name reply }
     // The device fails only where the count of its failures rises in this run, or stood at its maximum before it.
-    ensures cause { (F.refused files.new ≡ F.refused files.old)
-        ⊎ HasCountedFailure (F.fault_count files.old) (F.fault_count files.new) }
-    ensures later { F.fault_count files.old ≤ F.fault_count files.new }
+    ensures cause { RefusesWithCause (F.state files.old) (F.state files.new) }
+    ensures later { (F.state files.old).faults ≤ (F.state files.new).faults }
 {
     match outcome(alloc, command, main, sums, files) {
         Ok(output) => {

@@ -8,14 +8,14 @@ ghost use Rattle.gm_name.specs.Version.{version_cmp};
 ghost use Rattle.gm_file.specs.Views.{interval_views};
 ghost use Rattle.gm_file_retract.specs.Shown.{shown_of};
 ghost use Rattle.gm_store.specs.Asked.{Name, Reply, answer_in, mod_file, reply_of};
-ghost use Rattle.gm_store.specs.Faults.{HasCountedFailure};
+ghost use Rattle.gm_store.specs.States.{RefusesWithCause};
 ghost use Rattle.gm_graph_cache.specs.Reading.{IsContentReading, IsFileReading};
 ghost use Rattle.gm_graph_listing.specs.Outcomes.{outcome_view, printed};
 ghost use Rattle.gm_store.specs.Latest.{IsLatest};
 ghost use Rattle.gomod_run.specs.Asking.{IsLatestAsked};
 ghost use Rattle.gomod_run.specs.Listing.{IsListState};
 ghost use Rattle.gomod_run.specs.Reading.{IsListRead, class_at};
-ghost use Rattle.gomod_run.specs.Runs.{AskedInTurn, IsRunOutcome, FailsInTurn, store_state};
+ghost use Rattle.gomod_run.specs.Runs.{AskedInTurn, IsRunOutcome, FailsInTurn};
 ghost use Rattle.gomod_run.specs.Versions.{IsShownOutcome, IsVersionsOutcome, VersionsNeed, versions_line};
 
 use crate::asking::{ask_for, last_answer};
@@ -144,14 +144,12 @@ fn latest_outcome<F: Files>(
     files: &mut F,
 ) -> Result<Output, NoMemory>
     requires ascending { IsStrictlySortedBy version_cmp versions.now }
-    requires unasked { answer_in (F.asked files.old) (mod_file path.now latest.now) ≡ None }
+    requires unasked { answer_in (F.state files.old).asked (mod_file path.now latest.now) ≡ None }
     ensures asked { IsLatestAsked path.now versions.now latest.now (F.may_answer files.old)
-        (store_state (F.asked files.old) (F.refused files.old))
-        (store_state (F.asked files.new) (F.refused files.new))
+        (F.state files.old) (F.state files.new)
         result }
-    ensures cause { (F.refused files.new ≡ F.refused files.old)
-        ⊎ HasCountedFailure (F.fault_count files.old) (F.fault_count files.new) }
-    ensures later { F.fault_count files.old ≤ F.fault_count files.new }
+    ensures cause { RefusesWithCause (F.state files.old) (F.state files.new) }
+    ensures later { (F.state files.old).faults ≤ (F.state files.new).faults }
 {
     let file = FileName::Mod(path.copy(alloc)?, latest.copy(alloc)?);
     match ask_for(alloc, files, &file)? {
@@ -167,29 +165,25 @@ fn listed<F: Files>(
     path: &ModPath,
     files: &mut F,
 ) -> Result<Result<Vec<ModVersion>, Output>, NoMemory>
-    requires { F.asked files.old ≡ [] }
+    requires { (F.state files.old).asked ≡ [] }
     ensures listed { IfOk result (λ read. IfOk read (λ versions. IsListState path.now (F.may_answer files.old)
-        (store_state (F.asked files.old) (F.refused files.old))
-        (store_state (F.asked files.new) (F.refused files.new))
+        (F.state files.old) (F.state files.new)
         versions.items)) }
     ensures comes { (all : Bool)
         → IfOk result (λ read. IfErr read (λ output. IsRunOutcome
         (VersionsNeed path.now all) (IsVersionsOutcome path.now all)
-        (store_state (F.asked files.old) (F.refused files.old))
-        (store_state (F.asked files.new) (F.refused files.new))
+        (F.state files.old) (F.state files.new)
         (outcome_view output))) }
-    ensures in_turn { (all : Bool) → AskedInTurn (VersionsNeed path.now all) (F.asked files.new) }
+    ensures in_turn { (all : Bool) → AskedInTurn (VersionsNeed path.now all) (F.state files.new).asked }
     ensures fails { (all : Bool)
         → FailsInTurn (VersionsNeed path.now all)
-        (store_state (F.asked files.old) (F.refused files.old))
-        (store_state (F.asked files.new) (F.refused files.new)) }
+        (F.state files.old) (F.state files.new) }
     ensures answers { (name : Name) (reply : Reply)
-        → Contains (F.asked files.new) (name, reply) → F.may_answer files.old name reply }
+        → Contains (F.state files.new).asked (name, reply) → F.may_answer files.old name reply }
     ensures same_store { (name : Name) (reply : Reply)
         → F.may_answer files.new name reply → F.may_answer files.old name reply }
-    ensures cause { (F.refused files.new ≡ F.refused files.old)
-        ⊎ HasCountedFailure (F.fault_count files.old) (F.fault_count files.new) }
-    ensures later { F.fault_count files.old ≤ F.fault_count files.new }
+    ensures cause { RefusesWithCause (F.state files.old) (F.state files.new) }
+    ensures later { (F.state files.old).faults ≤ (F.state files.new).faults }
 {
     if !path.is_fetchable() {
         return Ok(Err(refused(alloc, list_line(alloc, path, "NotFetchable")?)));
@@ -230,20 +224,17 @@ pub(crate) fn versions_outcome<F: Files>(
     all: bool,
     files: &mut F,
 ) -> Result<Output, NoMemory>
-    requires { F.asked files.old ≡ [] }
+    requires { (F.state files.old).asked ≡ [] }
     ensures comes { IfOk result (λ output. IsRunOutcome (VersionsNeed path.now all) (IsVersionsOutcome path.now all)
-        (store_state (F.asked files.old) (F.refused files.old))
-        (store_state (F.asked files.new) (F.refused files.new))
+        (F.state files.old) (F.state files.new)
         (outcome_view output)) }
-    ensures in_turn { AskedInTurn (VersionsNeed path.now all) (F.asked files.new) }
+    ensures in_turn { AskedInTurn (VersionsNeed path.now all) (F.state files.new).asked }
     ensures fails { FailsInTurn (VersionsNeed path.now all)
-        (store_state (F.asked files.old) (F.refused files.old))
-        (store_state (F.asked files.new) (F.refused files.new)) }
+        (F.state files.old) (F.state files.new) }
     ensures answers { (name : Name) (reply : Reply)
-        → Contains (F.asked files.new) (name, reply) → F.may_answer files.old name reply }
-    ensures cause { (F.refused files.new ≡ F.refused files.old)
-        ⊎ HasCountedFailure (F.fault_count files.old) (F.fault_count files.new) }
-    ensures later { F.fault_count files.old ≤ F.fault_count files.new }
+        → Contains (F.state files.new).asked (name, reply) → F.may_answer files.old name reply }
+    ensures cause { RefusesWithCause (F.state files.old) (F.state files.new) }
+    ensures later { (F.state files.old).faults ≤ (F.state files.new).faults }
 {
     let versions = match listed(alloc, path, files)? {
         Ok(versions) => versions,

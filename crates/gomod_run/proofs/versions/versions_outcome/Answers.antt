@@ -1,5 +1,4 @@
 use Rattle.gm_store.proofs.Counts.{cause_both, later_both}
-use Rattle.gomod_run.specs.Runs.{store_state}
 use Rattle.gomod_run.proofs.Steps.{all_comes, latest_allowed, latest_comes, latest_fails, latest_in_turn}
 use Rattle.gomod_run.proofs.versions.versions_outcome.Goals as goal
 
@@ -8,9 +7,9 @@ returns-in-Err-clause-comes g c = rw c.in-Err.is at (c.in_ok-versions.ensures.co
 
 pub returns-in-Some-clause-comes : goal.returns-in-Some-clause-comes
 returns-in-Some-clause-comes g c =
-    let old = store_state (g.F.Files.asked c.args.files.now) (g.F.Files.refused c.args.files.now) in
-    let mid = store_state (g.F.Files.asked c.listed.new.files) (g.F.Files.refused c.listed.new.files) in
-    let new = store_state (g.F.Files.asked c.latest_outcome.new.files) (g.F.Files.refused c.latest_outcome.new.files) in
+    let old = g.F.Files.state c.args.files.now in
+    let mid = g.F.Files.state c.listed.new.files in
+    let new = g.F.Files.state c.latest_outcome.new.files in
     let state = rw c.in-Ok.is at c.in_ok-versions.ensures.listed in
     let latest = rw c.as_slice.ensures.value at c.in-Some.ensures in
     let asked = rw c.as_slice-in-Some.ensures.value at c.latest_outcome.ensures.asked in
@@ -19,9 +18,9 @@ returns-in-Some-clause-comes g c =
 
 pub returns-in-Some-clause-in_turn : goal.returns-in-Some-clause-in_turn
 returns-in-Some-clause-in_turn g c =
-    let old = store_state (g.F.Files.asked c.args.files.now) (g.F.Files.refused c.args.files.now) in
-    let mid = store_state (g.F.Files.asked c.listed.new.files) (g.F.Files.refused c.listed.new.files) in
-    let new = store_state (g.F.Files.asked c.latest_outcome.new.files) (g.F.Files.refused c.latest_outcome.new.files) in
+    let old = g.F.Files.state c.args.files.now in
+    let mid = g.F.Files.state c.listed.new.files in
+    let new = g.F.Files.state c.latest_outcome.new.files in
     let state = rw c.in-Ok.is at c.in_ok-versions.ensures.listed in
     let latest = rw c.as_slice.ensures.value at c.in-Some.ensures in
     let asked = rw c.as_slice-in-Some.ensures.value at c.latest_outcome.ensures.asked in
@@ -30,9 +29,9 @@ returns-in-Some-clause-in_turn g c =
 
 pub returns-in-Some-clause-answers : goal.returns-in-Some-clause-answers
 returns-in-Some-clause-answers g c =
-    let old = store_state (g.F.Files.asked c.args.files.now) (g.F.Files.refused c.args.files.now) in
-    let mid = store_state (g.F.Files.asked c.listed.new.files) (g.F.Files.refused c.listed.new.files) in
-    let new = store_state (g.F.Files.asked c.latest_outcome.new.files) (g.F.Files.refused c.latest_outcome.new.files) in
+    let old = g.F.Files.state c.args.files.now in
+    let mid = g.F.Files.state c.listed.new.files in
+    let new = g.F.Files.state c.latest_outcome.new.files in
     let state = rw c.in-Ok.is at c.in_ok-versions.ensures.listed in
     let asked = rw c.as_slice-in-Some.ensures.value at c.latest_outcome.ensures.asked in
     latest_allowed c.args.path.now c.args.all (g.F.Files.may_answer c.args.files.now) (g.F.Files.may_answer c.listed.new.files) old mid new c.in-Ok.versions.items c.in-Some.latest.now
@@ -40,8 +39,8 @@ returns-in-Some-clause-answers g c =
 
 pub returns-clause-comes : goal.returns-clause-comes
 returns-clause-comes g c =
-    let old = store_state (g.F.Files.asked c.args.files.now) (g.F.Files.refused c.args.files.now) in
-    let mid = store_state (g.F.Files.asked c.listed.new.files) (g.F.Files.refused c.listed.new.files) in
+    let old = g.F.Files.state c.args.files.now in
+    let mid = g.F.Files.state c.listed.new.files in
     let state = rw c.in-Ok.is at c.in_ok-versions.ensures.listed in
     let every = rw c.as_slice.ensures.value at c.in-None.ensures in
     let known = rw c.as_slice-in-None.ensures.value at c.all_outcome.ensures in
@@ -49,9 +48,9 @@ returns-clause-comes g c =
 
 pub returns-in-Some-clause-fails : goal.returns-in-Some-clause-fails
 returns-in-Some-clause-fails g c =
-    let old = store_state (g.F.Files.asked c.args.files.now) (g.F.Files.refused c.args.files.now) in
-    let mid = store_state (g.F.Files.asked c.listed.new.files) (g.F.Files.refused c.listed.new.files) in
-    let new = store_state (g.F.Files.asked c.latest_outcome.new.files) (g.F.Files.refused c.latest_outcome.new.files) in
+    let old = g.F.Files.state c.args.files.now in
+    let mid = g.F.Files.state c.listed.new.files in
+    let new = g.F.Files.state c.latest_outcome.new.files in
     let state = rw c.in-Ok.is at c.in_ok-versions.ensures.listed in
     let latest = rw c.as_slice.ensures.value at c.in-Some.ensures in
     let asked = rw c.as_slice-in-Some.ensures.value at c.latest_outcome.ensures.asked in
@@ -66,7 +65,7 @@ returns-in-Err-clause-fails g c = c.listed.ensures.fails c.args.all
 
 pub returns-in-Some-clause-cause : goal.returns-in-Some-clause-cause
 returns-in-Some-clause-cause g c =
-    cause_both (g.F.Files.refused c.args.files.now) (g.F.Files.refused c.listed.new.files) (g.F.Files.refused c.latest_outcome.new.files) _ _ _ _
+    cause_both (g.F.Files.state c.args.files.now).refused (g.F.Files.state c.listed.new.files).refused (g.F.Files.state c.latest_outcome.new.files).refused _ _ _ _
     c.listed.ensures.later c.latest_outcome.ensures.later c.listed.ensures.cause c.latest_outcome.ensures.cause
 
 pub returns-in-Some-clause-later : goal.returns-in-Some-clause-later
