@@ -35,24 +35,45 @@ fn print_file(rt: &impl Print, file: &MainFile<'_>) -> io::Result<()> {
 /// Applies an operation of `gomod edit` to a file.
 fn edit(alloc: Global, file: &mut MainFile<'_>, operation: &str) -> anyhow::Result<()> {
     let op = Op::parse(alloc, operation)?;
-    apply(alloc, file, &op)?;
+    apply(alloc, file, &op).map_err(anyhow::Error::from)
+}
+
+/// Prints the layout of the example.
+fn show_layout(rt: &impl Print, alloc: Global) -> anyhow::Result<()> {
+    let text = layout(alloc, MAIN)?;
+    print!(rt; "{text}")?;
     Ok(())
 }
 
-/// Formats, reads and edits the example.
-pub(crate) fn show(rt: &impl Print, alloc: Global) -> anyhow::Result<()> {
-    let text = layout(alloc, MAIN)?;
-    print!(rt; "{text}")?;
+/// Prints what is wrong with a go.mod in which a block isn't closed.
+fn show_fault(rt: &impl Print, alloc: Global) -> io::Result<()> {
     if let Err(fault) = layout(alloc, "module example.com/hello\nrequire (\n") {
         println!(rt; "{fault}")?;
     }
-    let mut file = main_file(alloc, MAIN)?;
-    print_file(rt, &file)?;
-    edit(alloc, &mut file, "require=example.com/b@v1.3.0")?;
-    if let Err(fault) = edit(alloc, &mut file, "require=example.com/b@v2.0.0") {
+    Ok(())
+}
+
+/// Edits a file, prints why a second operation is refused, and prints the file.
+fn show_edits(rt: &impl Print, alloc: Global, file: &mut MainFile<'_>) -> anyhow::Result<()> {
+    edit(alloc, file, "require=example.com/b@v1.3.0")?;
+    if let Err(fault) = edit(alloc, file, "require=example.com/b@v2.0.0") {
         println!(rt; "{fault}")?;
     }
     let edited = file.doc().format(alloc)?;
     print!(rt; "{edited}")?;
     Ok(())
+}
+
+/// Prints what a file says, and edits it.
+fn show_file(rt: &impl Print, alloc: Global, file: &mut MainFile<'_>) -> anyhow::Result<()> {
+    print_file(rt, file)?;
+    show_edits(rt, alloc, file)
+}
+
+/// Formats, reads and edits the example.
+pub(crate) fn show(rt: &impl Print, alloc: Global) -> anyhow::Result<()> {
+    show_layout(rt, alloc)?;
+    show_fault(rt, alloc)?;
+    let mut file = main_file(alloc, MAIN)?;
+    show_file(rt, alloc, &mut file)
 }

@@ -23,21 +23,30 @@ fn vertex(alloc: Global, path: &str, version: &str) -> anyhow::Result<ModVer> {
     ModVer::pair(path, version).context("the version does not fit the path")
 }
 
+/// The edges from the main module, one for each of its requirements.
+fn main_edges(alloc: Global, main: &MainFile<'_>) -> Result<Vec<Edge>, NoMemory> {
+    let mut edges = Vec::new(alloc);
+    for required in main.requirements() {
+        let to = required.copy(alloc)?;
+        let from = Step::Main;
+        edges.push(Edge { from, to })?;
+    }
+    Ok(edges)
+}
+
+/// The edge from b to another version of a.
+fn edge_from_b(alloc: Global) -> anyhow::Result<Edge> {
+    let from = Step::Of(vertex(alloc, "example.com/b", "v1.0.0")?);
+    let to = vertex(alloc, "example.com/a", "v1.10.0")?;
+    Ok(Edge { from, to })
+}
+
 /// The edges of the graph, in ascending order, as `chain` requires them.
 fn edges(alloc: Global, main: &MainFile<'_>) -> anyhow::Result<Vec<Edge>>
     ensures { IfOk result (λ edges. IsAscending edge_cmp edges.items) }
 {
-    let mut edges = Vec::new(alloc);
-    for required in main.requirements() {
-        edges.push(Edge {
-            from: Step::Main,
-            to: required.copy(alloc)?,
-        })?;
-    }
-    edges.push(Edge {
-        from: Step::Of(vertex(alloc, "example.com/b", "v1.0.0")?),
-        to: vertex(alloc, "example.com/a", "v1.10.0")?,
-    })?;
+    let mut edges = main_edges(alloc, main)?;
+    edges.push(edge_from_b(alloc)?)?;
     Ok(sorted_edges(edges))
 }
 
@@ -53,9 +62,10 @@ fn ends(alloc: Global, edges: &[Edge]) -> Result<Vec<ModVer>, NoMemory> {
 /// Prints a step: the main module's path, or a path and a version.
 fn print_step(rt: &impl Print, main: &MainFile<'_>, step: &Step) -> io::Result<()> {
     match step {
-        Step::Main => println!(rt; "{}", main.module()),
-        Step::Of(vertex) => println!(rt; "{vertex}"),
+        Step::Main => println!(rt; "{}", main.module())?,
+        Step::Of(vertex) => println!(rt; "{vertex}")?,
     }
+    Ok(())
 }
 
 /// Prints the rows of a build list.
@@ -84,12 +94,24 @@ fn print_chain(
     Ok(())
 }
 
+/// Prints the build list of edges, and a chain in it.
+fn show_edges(
+    rt: &impl Print,
+    alloc: Global,
+    main: &MainFile<'_>,
+    edges: &[Edge],
+) -> anyhow::Result<()>
+    requires { IsAscending edge_cmp edges.now }
+{
+    let rows = build_list(alloc, main, ends(alloc, edges)?)?;
+    print_rows(rt, main, &rows)?;
+    print_chain(rt, alloc, main, edges, &rows)
+}
+
 /// Prints the build list of a graph, and a chain in it.
 fn show_over(rt: &impl Print, alloc: Global, main: &MainFile<'_>) -> anyhow::Result<()> {
     let edges = edges(alloc, main)?;
-    let rows = build_list(alloc, main, ends(alloc, &edges)?)?;
-    print_rows(rt, main, &rows)?;
-    print_chain(rt, alloc, main, &edges, &rows)
+    show_edges(rt, alloc, main, &edges)
 }
 
 /// Selects the build list of the example.
