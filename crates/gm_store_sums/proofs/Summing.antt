@@ -11,7 +11,7 @@ use Rattle.std.specs.List.{list_any, starts_with}
 use Rattle.std.specs.Prelude.{◌↔◌, Contains, nat_eq, if◌then◌else◌}
 use Rattle.std.specs.Str.{bytes_eq}
 use Rattle.gm_store.specs.Lines.{fields, lines}
-use Rattle.gm_store_sums.specs.Shapes.{Gives}
+use Rattle.gm_store_sums.specs.Shapes.{AddsGiven, Gives}
 use Rattle.gm_store_sums.specs.Sums.{HoldsSums, IsSum, Says, is_line_for, is_other_hash}
 use Rattle.gm_store_sums.specs.declared.sum_table.Sum.TheVariants.{Good, Unlisted, Differs}
 
@@ -45,7 +45,7 @@ whole : (n : ℕ) (text : List ℕ) → text ≡ take n text ++ drop n text
 whole n text = grind (arith, common_steps)
 
 -- one more line, which lists a hash
-pub given_more : (given : List (List (List ℕ))) (sums : List Triple) (words : List (List ℕ)) (p v h : List ℕ) → HoldsGiven given sums → Gives words p v h → HoldsGiven (given ++ words ∷ []) (sums ++ (p, v, h) ∷ [])
+given_more : (given : List (List (List ℕ))) (sums : List Triple) (words : List (List ℕ)) (p v h : List ℕ) → HoldsGiven given sums → Gives words p v h → HoldsGiven (given ++ words ∷ []) (sums ++ (p, v, h) ∷ [])
 given_more given sums words p v h holds gives = λ path version hash. (
   λ has. cases (Contains-append_cases sums ((p, v, h) ∷ []) (path, version, hash) has)
       (λ old. let both = (holds path version hash).0 old in (Contains-append_left given (words ∷ []) _ both.0, both.1))
@@ -57,7 +57,7 @@ given_more given sums words p v h holds gives = λ path version hash. (
 )
 
 -- one more line, which lists none
-pub given_same : (given : List (List (List ℕ))) (sums : List Triple) (words : List (List ℕ)) → HoldsGiven given sums → ((p v h : List ℕ) → ¬ (Gives words p v h)) → HoldsGiven (given ++ words ∷ []) sums
+given_same : (given : List (List (List ℕ))) (sums : List Triple) (words : List (List ℕ)) → HoldsGiven given sums → ((p v h : List ℕ) → ¬ (Gives words p v h)) → HoldsGiven (given ++ words ∷ []) sums
 given_same given sums words holds none = λ path version hash. (
   λ has. let both = (holds path version hash).0 has in (Contains-append_left given (words ∷ []) _ both.0, both.1),
   λ has. cases (Contains-append_cases given (words ∷ []) (path ∷ (version ++ codes "/go.mod") ∷ hash ∷ []) has.0)
@@ -68,14 +68,22 @@ given_same given sums words holds none = λ path version hash. (
 words_more : (seen : List (Bor (List ℕ))) (line : Bor (List ℕ)) → map fields (map (λ line. line.now) (seen ++ line ∷ [])) ≡ map fields (map (λ line. line.now) seen) ++ fields line.now ∷ []
 words_more seen line = ap (map fields) (map-append (λ (line : Bor (List ℕ)). line.now) seen (line ∷ [])) ∙ map-append fields (map (λ line. line.now) seen) (line.now ∷ [])
 
-pub line_gives : (seen : List (Bor (List ℕ))) (line : Bor (List ℕ)) (sums new : List Triple) (p v h : List ℕ) → HoldsGiven (map fields (map (λ line. line.now) seen)) sums → Gives (fields line.now) p v h → new ≡ sums ++ (p, v, h) ∷ [] → HoldsGiven (map fields (map (λ line. line.now) (seen ++ line ∷ []))) new
+line_gives : (seen : List (Bor (List ℕ))) (line : Bor (List ℕ)) (sums new : List Triple) (p v h : List ℕ) → HoldsGiven (map fields (map (λ line. line.now) seen)) sums → Gives (fields line.now) p v h → new ≡ sums ++ (p, v, h) ∷ [] → HoldsGiven (map fields (map (λ line. line.now) (seen ++ line ∷ []))) new
 line_gives seen line sums new p v h holds gives grown =
     subst (λ given. HoldsGiven given new) (sym (words_more seen line))
     (subst (HoldsGiven (map fields (map (λ line. line.now) seen) ++ fields line.now ∷ [])) (sym grown) (given_more _ sums (fields line.now) p v h holds gives))
 
-pub line_gives_none : (seen : List (Bor (List ℕ))) (line : Bor (List ℕ)) (sums : List Triple) → HoldsGiven (map fields (map (λ line. line.now) seen)) sums → ((p v h : List ℕ) → ¬ (Gives (fields line.now) p v h)) → HoldsGiven (map fields (map (λ line. line.now) (seen ++ line ∷ []))) sums
+line_gives_none : (seen : List (Bor (List ℕ))) (line : Bor (List ℕ)) (sums : List Triple) → HoldsGiven (map fields (map (λ line. line.now) seen)) sums → ((p v h : List ℕ) → ¬ (Gives (fields line.now) p v h)) → HoldsGiven (map fields (map (λ line. line.now) (seen ++ line ∷ []))) sums
 line_gives_none seen line sums holds none =
     subst (λ given. HoldsGiven given sums) (sym (words_more seen line)) (given_same _ sums (fields line.now) holds none)
+
+-- one more line
+pub line_added : (seen : List (Bor (List ℕ))) (line : Bor (List ℕ)) (sums new : List Triple) → HoldsGiven (map fields (map (λ line. line.now) seen)) sums
+    → AddsGiven (fields line.now) sums new → HoldsGiven (map fields (map (λ line. line.now) (seen ++ line ∷ []))) new
+line_added seen line sums new holds added = elim added [
+  | inl one ↦ line_gives seen line sums new one.0 one.1 one.2 holds one.3 one.4
+  | inr none ↦ subst (HoldsGiven (map fields (map (λ line. line.now) (seen ++ line ∷ [])))) (sym none.1) (line_gives_none seen line sums holds none.0)
+]
 
 pub holds_all : (text : List ℕ) (sums : List Triple) → HoldsGiven (map fields (lines text)) sums → HoldsSums sums text
 holds_all text sums holds = λ path version hash. (λ has. let both = (holds path version hash).0 has in record { line = both.0; kind = both.1 }, λ is. (holds path version hash).1 (is.line, is.kind))

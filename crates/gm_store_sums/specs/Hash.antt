@@ -9,7 +9,10 @@ use Rattle.base64.specs.Engines.{standard}
 abbrev pub summary_line : List ℕ → List ℕ
 summary_line content = encode_lower (sha256 content) ++ codes "  go.mod\n"
 
--- the hash of the go.mod of a module with these bytes: the SHA-256 (FIPS 180-4) of that line, in standard
--- base64 (RFC 4648, section 4)
+-- the hash of a line: its SHA-256 (FIPS 180-4) in standard base64 (RFC 4648, section 4)
+abbrev pub line_hash : List ℕ → List ℕ
+line_hash line = codes "h1:" ++ encode_of standard (sha256 line)
+
+-- the hash of the go.mod of a module with these bytes
 abbrev pub file_hash : List ℕ → List ℕ
-file_hash content = codes "h1:" ++ encode_of standard (sha256 (summary_line content))
+file_hash content = line_hash (summary_line content)

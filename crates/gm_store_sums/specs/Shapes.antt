@@ -1,5 +1,5 @@
 -- The fields of a line, and the hash that a line of a go.sum lists.
-use Rattle.std.specs.Prelude.{◌≡◌, ℕ, nat_eq, true, false, List, [], ◌∷◌, ◌++◌, codes}
+use Rattle.std.specs.Prelude.{◌≡◌, ◌⊎◌, ℕ, nat_eq, true, false, List, [], ◌∷◌, ◌++◌, codes}
 use Rattle.std.specs.List.{starts_with}
 use Rattle.gm_store_sums.specs.declared.sum_lines.Fields.{Fields}
 use Rattle.gm_store_sums.specs.declared.sum_lines.Fields.TheVariants.{Blank, Three, Other}
@@ -16,3 +16,9 @@ AreFields Other fields = (are_valid_fields fields ≡ false)
 abbrev pub Gives : List (List ℕ) → List ℕ → List ℕ → List ℕ → Type 0
 Gives fields path version hash = (fields ≡ path ∷ (version ++ codes "/go.mod") ∷ hash ∷ [])
     × (starts_with nat_eq hash (codes "h1:") ≡ true)
+
+-- the new list has one more line, which the fields list, or is the old one if they list none
+abbrev pub AddsGiven : List (List ℕ) → List (List ℕ × List ℕ × List ℕ) → List (List ℕ × List ℕ × List ℕ) → Type 0
+AddsGiven fields old new =
+    ((path version hash : List ℕ) × Gives fields path version hash × (new ≡ old ++ (path, version, hash) ∷ []))
+    ⊎ (((path version hash : List ℕ) → ¬ (Gives fields path version hash)) × (new ≡ old))

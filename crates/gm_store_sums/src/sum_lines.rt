@@ -1,9 +1,9 @@
 //! The lines of a go.sum: which are valid, and the hashes that they list.
 
-ghost use Rattle.std.specs.Prelude.{◌≡◌, ◌<◌, ◌≤◌, ℕ, List, length, map, IfNone, IfOk, IfSome, MatchOption};
+ghost use Rattle.std.specs.Prelude.{◌≡◌, ◌<◌, ◌≤◌, ℕ, List, length, map, IfNone, IfOk, IfSome, MatchOption, OnOk};
 ghost use Rattle.std.specs.Str.{is_utf8};
 ghost use Rattle.gm_store.specs.Lines.{fields, lines};
-ghost use Rattle.gm_store_sums.specs.Shapes.{AreFields, Gives};
+ghost use Rattle.gm_store_sums.specs.Shapes.{AddsGiven, AreFields, Gives};
 ghost use Rattle.gm_store_sums.specs.Sums.{HasValidLines, HoldsSums, are_valid_fields, lines_before_invalid};
 ghost use Rattle.gm_store_sums.specs.Order.{triple};
 
@@ -75,28 +75,56 @@ pub(crate) fn first_invalid_line(text: &[u8]) -> Option<usize>
         .position(|line| !is_valid_line(line))
 }
 
+/// The hash that a line lists for a module's go.mod.
+#[derive(Clone, Copy)]
+struct ListedSum<'a> {
+    /// The module's path.
+    path: &'a [u8],
+    /// The module's version, without `/go.mod`.
+    version: &'a [u8],
+    /// The hash, with its `h1:`.
+    hash: &'a [u8],
+}
+
 /// The hash that a line lists for a module's go.mod, or `None` if it lists none. Hashes of other kinds than
-/// `h1:` are skipped. Fails only when memory runs out.
-fn sum_in(alloc: Global, line: &[u8]) -> Result<Option<SumLine>, NoMemory>
-    ensures some { IfOk result (λ found. IfSome found (λ sum.
-        Gives (fields line.now) sum.path.items sum.version.items sum.hash.items)) }
-    ensures none { IfOk result (λ found. IfNone found ((path version hash : List ℕ)
-        → ¬ (Gives (fields line.now) path version hash))) }
+/// `h1:` are skipped.
+fn sum_in(line: &[u8]) -> Option<ListedSum<'_>>
+    ensures some { IfSome result (λ sum. Gives (fields line.now) sum.path.now sum.version.now sum.hash.now) }
+    ensures none { IfNone result ((path version hash : List ℕ) → ¬ (Gives (fields line.now) path version hash)) }
 {
     let Fields::Three(path, version, hash) = fields_of(line) else {
-        return Ok(None);
+        return None;
     };
-    let Some(version) = version.strip_suffix(b"/go.mod".as_slice()) else {
-        return Ok(None);
-    };
+    let version = version.strip_suffix(b"/go.mod".as_slice())?;
     if !hash.starts_with(b"h1:") {
-        return Ok(None);
+        return None;
     }
-    Ok(Some(SumLine {
+    Some(ListedSum {
+        path,
+        version,
+        hash,
+    })
+}
+
+/// The line of a table with these fields. Fails only when memory runs out.
+fn line_of(alloc: Global, path: &[u8], version: &[u8], hash: &[u8]) -> Result<SumLine, NoMemory>
+    ensures { IfOk result (λ line. triple line ≡ (path.now, version.now, hash.now)) }
+{
+    Ok(SumLine {
         path: Vec::from_slice(alloc, path)?,
         version: Vec::from_slice(alloc, version)?,
         hash: Vec::from_slice(alloc, hash)?,
-    }))
+    })
+}
+
+/// Appends the hash that a line lists for a go.mod, if it lists one. Fails only when memory runs out.
+fn push_sum(alloc: Global, sums: &mut Vec<SumLine>, line: &[u8]) -> Result<(), NoMemory>
+    ensures { OnOk result (AddsGiven (fields line.now) (map triple sums.old.items) (map triple sums.new.items)) }
+{
+    if let Some(sum) = sum_in(line) {
+        sums.push(line_of(alloc, sum.path, sum.version, sum.hash)?)?;
+    }
+    Ok(())
 }
 
 /// The hashes that the lines of a text list for go.mod files. Fails only when memory runs out.
@@ -105,9 +133,7 @@ pub(crate) fn sums_of(alloc: Global, text: &[u8]) -> Result<Vec<SumLine>, NoMemo
 {
     let mut sums = Vec::new(alloc);
     for line in text.split(|byte| *byte == b'\n') {
-        if let Some(sum) = sum_in(alloc, line)? {
-            sums.push(sum)?;
-        }
+        push_sum(alloc, &mut sums, line)?;
     }
     Ok(sums)
 }

@@ -5,8 +5,7 @@ use Rattle.gm_store_sums.proofs.sum_lines.sum_in.Goals as goal
 
 pub returns-clause-some : goal.returns-clause-some
 returns-clause-some c =
-    let cut = c.in-Some.ensures.cases in
-    let version : c.in-Three.version.now ≡ c.in-Some.version.now ++ codes "/go.mod" = stripped c.in-Three.version.now (codes "/go.mod") c.in-Some.version.now (rw c.as_slice.ensures at cut.0) (rw c.as_slice.ensures at cut.1) in
+    let cut = c.in_ok-version.ensures.cases in
+    let version : c.in-Three.version.now ≡ c.in_ok-version.version.now ++ codes "/go.mod" = stripped c.in-Three.version.now (codes "/go.mod") c.in_ok-version.version.now (rw c.as_slice.ensures at cut.0) (rw c.as_slice.ensures at cut.1) in
     let kind : starts_with nat_eq c.in-Three.hash.now (codes "h1:") ≡ true = search rules in
-    rw (c.in_ok-from_slice.ensures.items, c.in_ok-from_slice-2.ensures.items, c.in_ok-from_slice-3.ensures.items)
     (c.in-Three.ensures ∙ ap (λ version. c.in-Three.path.now ∷ version ∷ c.in-Three.hash.now ∷ []) version, kind)

@@ -1,21 +1,15 @@
-use Rattle.std.proofs.Common.{[], ◌∷◌, map, ap, ◌∙◌, rules, subst, refl}
+use Rattle.std.proofs.Common.{map, rules, subst, refl}
 use borrow.Author.Tests.{tests}
-use Rattle.std.proofs.lemmas.List.{map-append}
 use Rattle.std.proofs.lemmas.Iterator.Consumers.{YieldsList-end}
 use Rattle.std.proofs.lemmas.Iterator.Splits.{YieldsList-from_slice_split}
 use Rattle.gm_store.specs.Lines.{fields, is_line_end}
 use Rattle.gm_store_sums.specs.Order.{triple}
-use Rattle.gm_store_sums.proofs.Summing.{HoldsGiven, holds_all, line_gives, line_gives_none}
+use Rattle.gm_store_sums.proofs.Summing.{HoldsGiven, holds_all, line_added}
 use Rattle.gm_store_sums.proofs.sum_lines.sums_of.Goals as goal
-
-pub loop-line-preserved-in-Continue-branch-3 : goal.loop-line-preserved-in-Continue-branch-3
-loop-line-preserved-in-Continue-branch-3 c =
-    let grown = ap (map triple) c.in_ok-push.ensures.items ∙ map-append triple c.loop-line.sums.items (c.in-Some-2.sum ∷ []) in
-    line_gives c.loop-line.yielded c.in-Some.line (map triple c.loop-line.sums.items) _ _ _ _ c.loop-line.invariant (rw c.in-Some-2.is at c.in_ok-sum.ensures.some) grown
 
 pub loop-line-preserved : goal.loop-line-preserved
 loop-line-preserved c =
-    line_gives_none c.loop-line.yielded c.in-Some.line (map triple c.loop-line.sums.items) c.loop-line.invariant (rw c.in_default.is at c.in_ok-sum.ensures.none)
+    line_added c.loop-line.yielded c.in-Some.line (map triple c.loop-line.sums.items) _ c.loop-line.invariant c.in_ok-push_sum.ensures
 
 pub returns : goal.returns
 returns c =
