@@ -8,7 +8,7 @@ ghost use Rattle.gm_graph_select.specs.Graph.{among, edge_cmp};
 ghost use Rattle.gm_graph_select.specs.Order.{IsAscending};
 ghost use Rattle.gm_graph_select.specs.BuildList.{IsEntryOf, HasEntryFor, entries_of_rows};
 ghost use Rattle.gm_graph_select.specs.Chains.{IsChain, IsReached};
-ghost use Rattle.gm_graph_select.specs.Numbering.{edges_of};
+ghost use Rattle.gm_graph_select.specs.Numbering.{AreSources, edges_of};
 ghost use Rattle.gm_graph_select.specs.Searching.{IsTracedTo};
 ghost use Rattle.gm_graph_select.specs.declared.step.Step.{Step};
 ghost use Rattle.gm_graph_select.specs.declared.step.Step.TheVariants.{Main, Of};
@@ -76,6 +76,23 @@ fn walk_back(
     Ok(steps)
 }
 
+/// The chain to a vertex over numbered steps, or `None` if no edges lead to it from the main module.
+fn chain_over(
+    alloc: Global,
+    sources: &Sources<'_>,
+    goal: &ModVer,
+) -> Result<Option<Vec<Step>>, AllocError>
+    requires { AreSources sources.now }
+    ensures chain { IfOk result (λ chain. IfSome chain (λ steps.
+        IsChain (edges_of sources.now) (Of goal.now) steps.items)) }
+    ensures none { IfOk result (λ chain. IfNone chain (¬ (IsReached (edges_of sources.now) (Of goal.now)))) }
+{
+    let Some(visits) = visits_to(alloc, sources, goal)? else {
+        return Ok(None);
+    };
+    Ok(Some(walk_back(alloc, sources, &visits, goal)?))
+}
+
 /// The chain to a vertex, or `None` if no edges lead to it from the main module.
 fn chain_to_vertex(
     alloc: Global,
@@ -87,11 +104,7 @@ fn chain_to_vertex(
     ensures none { IfOk result (λ chain. IfNone chain (¬ (IsReached (among edges.now) (Of goal.now)))) }
 {
     let sources = Sources::new(alloc, edges)?;
-    let Some(visits) = visits_to(alloc, &sources, goal)? else {
-        return Ok(None);
-    };
-    let steps = walk_back(alloc, &sources, &visits, goal)?;
-    Ok(Some(steps))
+    chain_over(alloc, &sources, goal)
 }
 
 /// The chain to the main module, which is that module alone.

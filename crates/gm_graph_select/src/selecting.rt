@@ -3,7 +3,10 @@
 //! Sorted by path and version, the greatest version of each path is the last vertex of its path, so one pass
 //! selects them all.
 
-ghost use Rattle.std.specs.Prelude.{◌≡◌, ◌∷◌, IfOk, List, map};
+ghost use Rattle.std.specs.Prelude.{◌≡◌, ◌∷◌, ◌++◌, [], IfOk, List, OnOk, if◌then◌else◌, map};
+ghost use Rattle.std.specs.Option.{option_map};
+ghost use Rattle.gm_file.specs.Fields.{replacement_of};
+ghost use Rattle.gm_file.specs.Views.{right_view};
 ghost use Rattle.gm_graph_select.specs.declared.step.Edge.{Edge};
 ghost use Rattle.gm_graph_select.specs.Graph.{AreEnds, among};
 ghost use Rattle.gm_graph_select.specs.Greatest.{begins_with, greatest_of, is_selected};
@@ -12,7 +15,7 @@ ghost use Rattle.gm_graph_select.specs.BuildList.{IsBuildList, entries_of_rows, 
 use crate::row::Row;
 use crate::sorting::sorted;
 use crate::step::Step;
-use gm_file::MainFile;
+use gm_file::{MainFile, Right};
 use gm_name::{ModPath, ModVer, NoMemory};
 use std::alloc::{AllocError, Global};
 
@@ -34,18 +37,59 @@ fn is_selected(main: &ModPath, vertex: &ModVer, behind: &[ModVer]) -> bool
     *vertex.path() != *main && !begins_with(vertex.path(), behind)
 }
 
-/// The row of a vertex, with its replacement.
-fn row_of(alloc: Global, main: &MainFile<'_>, vertex: ModVer) -> Result<Row, AllocError>
-    ensures { IfOk result (λ row. entry_of_row row ≡ entry_of (main_replaces main.now) vertex) }
+/// A copy of the replacement of a vertex in the main file, if it has one.
+fn replacement_of(
+    alloc: Global,
+    main: &MainFile<'_>,
+    vertex: &ModVer,
+) -> Result<Option<Right>, AllocError>
+    ensures { IfOk result (λ right. option_map right_view right ≡ replacement_of (main_replaces main.now) vertex.now) }
 {
-    let right = match main.replacement(&vertex) {
-        Some(right) => Some(right.copy(alloc)?),
-        None => None,
-    };
+    match main.replacement(vertex) {
+        Some(right) => Ok(Some(right.copy(alloc)?)),
+        None => Ok(None),
+    }
+}
+
+/// The row of a vertex, with its replacement.
+fn row_of(alloc: Global, main: &MainFile<'_>, vertex: &ModVer) -> Result<Row, AllocError>
+    ensures { IfOk result (λ row. entry_of_row row ≡ entry_of (main_replaces main.now) vertex.now) }
+{
+    let right = replacement_of(alloc, main, vertex)?;
     Ok(Row {
-        step: Step::Of(vertex),
+        step: Step::Of(vertex.copy(alloc)?),
         right,
     })
+}
+
+/// Appends the row of a vertex if it is selected. `behind` are the vertices after it.
+fn push_selected(
+    alloc: Global,
+    main: &MainFile<'_>,
+    rows: &mut Vec<Row>,
+    vertex: &ModVer,
+    behind: &[ModVer],
+) -> Result<(), AllocError>
+    ensures { OnOk result (entries_of_rows rows.new.items ≡ entries_of_rows rows.old.items
+        ++ (if is_selected (main_path main.now) vertex.now behind.now
+        then entry_of (main_replaces main.now) vertex.now ∷ [] else [])) }
+{
+    if is_selected(main.module(), vertex, behind) {
+        rows.push(row_of(alloc, main, vertex)?)?;
+    }
+    Ok(())
+}
+
+/// The rows of the build list before all vertices: that of the main module.
+fn main_row(alloc: Global) -> Result<Vec<Row>, AllocError>
+    ensures { IfOk result (λ rows. entries_of_rows rows.items ≡ main_entry ∷ []) }
+{
+    let mut rows = Vec::new(alloc);
+    rows.push(Row {
+        step: Step::Main,
+        right: None,
+    })?;
+    Ok(rows)
 }
 
 /// The main module's row, followed by the row of the greatest version of each path. The vertices must be in
@@ -54,16 +98,10 @@ fn rows_of(alloc: Global, main: &MainFile<'_>, ends: &[ModVer]) -> Result<Vec<Ro
     ensures { IfOk result (λ rows. entries_of_rows rows.items
         ≡ main_entry ∷ map (entry_of (main_replaces main.now)) (greatest_of (main_path main.now) ends.now)) }
 {
-    let mut rows = Vec::new(alloc);
-    rows.push(Row {
-        step: Step::Main,
-        right: None,
-    })?;
+    let mut rows = main_row(alloc)?;
     let mut left = ends;
     'ends: while let Some((end, behind)) = left.split_first() {
-        if is_selected(main.module(), end, behind) {
-            rows.push(row_of(alloc, main, end.copy(alloc)?)?)?;
-        }
+        push_selected(alloc, main, &mut rows, end, behind)?;
         left = behind;
     }
     Ok(rows)
