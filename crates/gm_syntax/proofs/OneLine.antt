@@ -4,8 +4,8 @@ use Rattle.gm_syntax.specs.declared.fault.SyntaxKind.{SyntaxKind}
 use Rattle.gm_syntax.specs.declared.fault.LineFault.{LineFault}
 use Rattle.gm_syntax.specs.declared.fault.LineFault.TheVariants as faults
 use Rattle.gm_syntax.specs.Words.{Word}
-use Rattle.gm_syntax.specs.Spelling.{Ending, Nothing, Comment, Fault, Reads, IsSpelledBy, ending_of}
-use Rattle.gm_syntax.specs.Document.{Line, IsLineAt, HasLineFault, class_of}
+use Rattle.gm_syntax.specs.Spelling.{Fault, Reads, IsSpelledBy, ending_of}
+use Rattle.gm_syntax.specs.Document.{Line, HasLineFault, class_of}
 use Rattle.gm_syntax.specs.Reader.{IsOnlyReading, IsOnlyLine, IsReadAs, IsLineReadAs}
 
 -- an ending that is no fault says which comment it has
