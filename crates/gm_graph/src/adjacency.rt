@@ -3,8 +3,8 @@
 //! A step's path may be as long as a file, and so may the list of its requirements. Groups hold and compare the
 //! path once instead of once per edge, and there are far fewer groups to sort than edges.
 
-ghost use Rattle.std.specs.Prelude.{◌≡◌, ◌++◌, IfOk, OnOk};
-ghost use Rattle.gm_graph_select.specs.Graph.{vertex_cmp};
+ghost use Rattle.std.specs.Prelude.{◌≡◌, ◌++◌, ◌∷◌, [], IfOk, OnOk};
+ghost use Rattle.gm_graph_select.specs.Graph.{edge, vertex_cmp};
 ghost use Rattle.gm_graph_select.specs.Order.{HaveSame, IsAscending};
 
 use gm_graph_select::{Edge, Step, sorted};
@@ -30,6 +30,18 @@ fn copies(alloc: Global, list: &[ModVer]) -> Result<Vec<ModVer>, AllocError>
     Ok(copied)
 }
 
+/// Appends a copy of a vertex.
+pub(crate) fn push_vertex(
+    alloc: Global,
+    vertices: &mut Vec<ModVer>,
+    vertex: &ModVer,
+) -> Result<(), AllocError>
+    ensures { OnOk result (vertices.new.items ≡ vertices.old.items ++ vertex.now ∷ []) }
+{
+    vertices.push(vertex.copy(alloc)?)?;
+    Ok(())
+}
+
 /// Appends copies of vertices.
 pub(crate) fn push_copies(
     alloc: Global,
@@ -39,8 +51,22 @@ pub(crate) fn push_copies(
     ensures { OnOk result (vertices.new.items ≡ vertices.old.items ++ list.now) }
 {
     for y in list {
-        vertices.push(y.copy(alloc)?)?;
+        push_vertex(alloc, vertices, y)?;
     }
+    Ok(())
+}
+
+/// Appends the edge from a step to a vertex.
+fn push_edge(
+    alloc: Global,
+    edges: &mut Vec<Edge>,
+    from: &Step,
+    to: ModVer,
+) -> Result<(), AllocError>
+    ensures { OnOk result (edges.new.items ≡ edges.old.items ++ edge from.now to ∷ []) }
+{
+    let from = from.copy(alloc)?;
+    edges.push(Edge { from, to })?;
     Ok(())
 }
 
@@ -66,10 +92,7 @@ impl Adjacency {
     {
         let Adjacency { from, to } = self;
         for y in to {
-            edges.push(Edge {
-                from: from.copy(alloc)?,
-                to: y,
-            })?;
+            push_edge(alloc, edges, &from, y)?;
         }
         Ok(())
     }

@@ -3,12 +3,13 @@
 //! Each opened vertex has one adjacency list. Once these are sorted by the step that they leave, the opened vertices
 //! are in ascending order, too, and are not sorted again.
 
-ghost use Rattle.std.specs.Prelude.{◌≡◌, ◌++◌, ◌≤◌, IfOk, OnOk, length};
+ghost use Rattle.std.specs.Prelude.{◌≡◌, ◌++◌, ◌≤◌, List, IfOk, OnOk, length};
+ghost use Rattle.gm_graph_select.specs.Graph.{Vertex};
 ghost use Rattle.std.specs.List.{IsDistinct};
 ghost use Rattle.std.specs.List.Sorted.{IsPermutation};
-ghost use Rattle.gm_graph.specs.Adjacency.{AreAscending, edges_of, left_by, same_step};
+ghost use Rattle.gm_graph.specs.Adjacency.{AreAscending, edges_of, left_by, same_step, with_vertex};
 
-use crate::adjacency::Adjacency;
+use crate::adjacency::{Adjacency, push_vertex};
 use gm_graph_select::{Edge, Step};
 use gm_name::ModVer;
 use std::alloc::{AllocError, Global};
@@ -23,14 +24,23 @@ pub(crate) fn sorted_groups(mut all: Vec<Adjacency>) -> Vec<Adjacency>
     all
 }
 
+/// Appends a copy of the vertex of a step, unless it is the main module.
+fn push_source(alloc: Global, vertices: &mut Vec<ModVer>, step: &Step) -> Result<(), AllocError>
+    ensures { OnOk result ((rest : List Vertex)
+        → vertices.new.items ++ rest ≡ vertices.old.items ++ with_vertex step.now rest) }
+{
+    if let Step::Of(vertex) = step {
+        push_vertex(alloc, vertices, vertex)?;
+    }
+    Ok(())
+}
+
 /// Appends copies of the vertices that these groups leave.
 fn push_left(alloc: Global, vertices: &mut Vec<ModVer>, all: &[Adjacency]) -> Result<(), AllocError>
     ensures { OnOk result (vertices.new.items ≡ vertices.old.items ++ left_by all.now) }
 {
     for one in all {
-        if let Step::Of(vertex) = &one.from {
-            vertices.push(vertex.copy(alloc)?)?;
-        }
+        push_source(alloc, vertices, &one.from)?;
     }
     Ok(())
 }

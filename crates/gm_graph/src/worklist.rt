@@ -14,7 +14,7 @@ ghost use Rattle.gm_graph.specs.Marks.{IsWorklist, is_marked_at, other_depth};
 ghost use Rattle.gm_graph.specs.WorklistFaults.{load_fault_of};
 ghost use Rattle.gm_graph.specs.declared.worklist.AddFault.TheVariants as add;
 
-use crate::adjacency::push_copies;
+use crate::adjacency::{push_copies, push_vertex};
 use gm_graph_cache::{Depth, LoadFault, Turn};
 use gm_graph_select::VertexSet;
 use gm_name::ModVer;
@@ -187,14 +187,6 @@ impl Worklist {
     {
         self.leaves
     }
-}
-
-/// Appends a copy of a vertex.
-fn push_vertex(alloc: Global, vertices: &mut Vec<ModVer>, vertex: &ModVer) -> Result<(), AllocError>
-    ensures { OnOk result (vertices.new.items ≡ vertices.old.items ++ vertex.now ∷ []) }
-{
-    vertices.push(vertex.copy(alloc)?)?;
-    Ok(())
 }
 
 /// Appends a turn.
