@@ -1,13 +1,10 @@
--- The results of reading lists and files.
-use Rattle.std.specs.Prelude.{◌≡◌, ℕ, List, Option, Some, None, Result, Ok, Err, codes}
+-- The results of reading lists.
+use Rattle.std.specs.Prelude.{◌≡◌, ℕ, List, Result, Ok, Err, codes}
 use Rattle.std.specs.Global.{Vec}
 use Rattle.gm_store.specs.Asked.{Reply, absent, bytes, too_long}
 use Rattle.gm_store.specs.Listed.{AreListed}
-use Rattle.gm_graph_cache.specs.declared.class.Class.{Class}
-use Rattle.gm_graph_cache.specs.declared.class.Class.TheVariants.{Malformed}
 use Rattle.gm_graph_listing.specs.declared.output.Output.{Output}
 use Rattle.gm_graph_listing.specs.Outcomes.{outcome_view, refused}
-use Rattle.gm_graph_listing.specs.Reports.{Place}
 use Rattle.gomod_run.specs.Kinds.{list_line}
 
 -- the answer is a list with these versions, or the output reports that it is no list that can be read
@@ -18,8 +15,3 @@ IsListRead path too_long (Err output) = outcome_view output ≡ refused (list_li
 IsListRead path (bytes list) (Err output) = ⊥
 IsListRead path absent (Ok versions) = ⊥
 IsListRead path too_long (Ok versions) = ⊥
-
--- the class of a file with a fault at this place, if there is one
-abbrev pub class_at : Option Place → Option Class
-class_at None = None
-class_at (Some place) = Some (Malformed place.0 place.1)

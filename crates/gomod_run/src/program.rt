@@ -73,11 +73,24 @@ pub fn status_of<S: Env + Input + Files + Clone + Drop + Alloc<A = Global>, O: S
         (O.state out.old) (O.state out.new) (R.state report.old) (R.state report.new)
         result }
 {
-    let words = match words_of(rt) {
-        Ok(words) => words,
-        Err(fault) => return tell(rt.alloc(), &fault, out, report),
-    };
-    match texts_of(rt.alloc(), words.as_slice()) {
+    match words_of(rt) {
+        Ok(words) => status_of_texts(rt, words.as_slice(), out, report),
+        Err(fault) => tell(rt.alloc(), &fault, out, report),
+    }
+}
+
+/// Does what `status_of_words` does with the words, or reports that memory ran out.
+fn status_of_texts<S: Input + Files + Clone + Drop + Alloc<A = Global>, O: Sink, R: Sink>(
+    rt: &S,
+    words: &[String],
+    out: &mut O,
+    report: &mut R,
+) -> u8
+    ensures { EndsAsStated IsProgramOutcome
+        (O.state out.old) (O.state out.new) (R.state report.old) (R.state report.new)
+        result }
+{
+    match texts_of(rt.alloc(), words) {
         Ok(texts) => status_of_words(rt, texts.as_slice(), out, report),
         Err(_) => end(out, b"", report, NO_MEMORY, Status::Device).code(),
     }
@@ -321,15 +334,24 @@ fn words_of<S: Env + Alloc<A = Global>>(rt: &S) -> Result<Vec<String>, UsageFaul
 {
     let mut words = Vec::new(rt.alloc());
     for number in 0..usize::MAX {
-        let Some(bytes) = word_at(rt, number)? else {
+        let Some(word) = word_of(rt, number)? else {
             break;
         };
-        let word = text_of(rt.alloc(), bytes.as_slice())?;
         if words.push(word).is_err() {
             return Err(UsageFault::NoMemory);
         }
     }
     Ok(words)
+}
+
+/// A word of the command line, or `None` after the last word. One that is not UTF-8 is a usage error.
+fn word_of<S: Env + Alloc<A = Global>>(rt: &S, number: usize) -> Result<Option<String>, UsageFault>
+    ensures { IfErr result IsUnreadableWords }
+{
+    match word_at(rt, number)? {
+        Some(bytes) => Ok(Some(text_of(rt.alloc(), bytes.as_slice())?)),
+        None => Ok(None),
+    }
 }
 
 /// The bytes of a word of the command line, or `None` after the last word. The runtime fills a buffer, which is doubled

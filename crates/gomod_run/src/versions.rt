@@ -1,10 +1,11 @@
 //! The outcome of `versions`: it needs a module's list and then perhaps one go.mod, so the asks of the store are
 //! ordered here.
 
-ghost use Rattle.std.specs.Prelude.{◌≡◌, ◌≤◌, ◌⊎◌, ℕ, [], Bool, Contains, IfErr, IfOk, List, MatchOption, None, Some, false, map, true};
+ghost use Rattle.std.specs.Prelude.{◌≡◌, ◌≤◌, ◌⊎◌, ℕ, [], Bool, Contains, Err, IfErr, IfOk, List, MatchOption, None, Some, false, map, true};
 ghost use Rattle.std.specs.String.{string_bytes};
 ghost use Rattle.std.specs.List.Sorted.{IsStrictlySortedBy};
 ghost use Rattle.gm_name.specs.Version.{version_cmp};
+ghost use Rattle.gm_file.specs.DepLines.{IsMisread};
 ghost use Rattle.gm_file.specs.Views.{interval_views};
 ghost use Rattle.gm_file_retract.specs.Shown.{shown_of};
 ghost use Rattle.gm_store.specs.Asked.{Name, Reply, answer_in, mod_file, reply_of};
@@ -14,19 +15,18 @@ ghost use Rattle.gm_graph_listing.specs.Outcomes.{outcome_view, printed};
 ghost use Rattle.gm_store.specs.Latest.{IsLatest};
 ghost use Rattle.gomod_run.specs.Asking.{IsLatestAsked};
 ghost use Rattle.gomod_run.specs.Listing.{IsListState};
-ghost use Rattle.gomod_run.specs.Reading.{IsListRead, class_at};
+ghost use Rattle.gomod_run.specs.Reading.{IsListRead};
 ghost use Rattle.gomod_run.specs.Runs.{AskedInTurn, IsRunOutcome, FailsInTurn};
 ghost use Rattle.gomod_run.specs.Versions.{IsShownOutcome, IsVersionsOutcome, VersionsNeed, versions_line};
 
 use crate::asking::{ask_for, last_answer};
 use crate::report_lines::list_line;
-use gm_file::{DepFile, Interval};
+use gm_file::{DepFile, Interval, ReadFault};
 use gm_file_retract::shown_versions;
 use gm_graph_cache::{Class, Misreading};
-use gm_graph_listing::{Output, directive_place, fault_report, printed, refused, syntax_place};
+use gm_graph_listing::{Output, fault_report, printed, refused};
 use gm_name::{KnownNames, ModPath, ModVersion, NoMemory};
 use gm_store::{Answer, FileName, Files, latest, versions_of};
-use gm_syntax::Doc;
 use std::alloc::{AllocError, Global};
 
 /// The path and the versions on one line, separated by single spaces.
@@ -78,27 +78,28 @@ fn read_list(
     }
 }
 
-/// The class of a file with a fault at this place. Where there is no place, memory ran out.
-fn malformed(place: Option<(usize, Misreading)>) -> Result<Class, NoMemory>
-    ensures { IfOk result (λ class. class_at place ≡ Some class) }
+/// The class of a file whose bytes have this fault. The only refusal is running out of memory, which is no fault of the
+/// file.
+fn class_of(fault: ReadFault) -> Result<Class, NoMemory>
+    ensures { (file : List ℕ) → IsMisread file fault → IfOk result (λ class. IsContentReading file (Err class)) }
 {
-    match place {
-        Some((line, kind)) => Ok(Class::Malformed { line, kind }),
-        None => Err(AllocError),
-    }
+    let (line, kind) = match fault {
+        ReadFault::NoMemory => return Err(AllocError),
+        ReadFault::TooMany => (0, Misreading::TooMany),
+        ReadFault::NotUtf8 => (0, Misreading::NotUtf8),
+        ReadFault::Syntax { line, kind } => (line, Misreading::Syntax(kind)),
+        ReadFault::Directive { line, kind } => (line, Misreading::Directive(kind)),
+    };
+    Ok(Class::Malformed { line, kind })
 }
 
 /// What the bytes of a dependency's go.mod say, or what is wrong with them.
 fn read_file(alloc: Global, file: &[u8]) -> Result<Result<DepFile, Class>, NoMemory>
     ensures { IfOk result (IsContentReading file.now) }
 {
-    let doc = match Doc::parse(alloc, file) {
-        Ok(doc) => doc,
-        Err(fault) => return Ok(Err(malformed(syntax_place(fault))?)),
-    };
-    match DepFile::read(alloc, &mut KnownNames::new(alloc, 0), &doc) {
+    match DepFile::read_bytes(alloc, &mut KnownNames::new(alloc, 0), file) {
         Ok(dependency) => Ok(Ok(dependency)),
-        Err(fault) => Ok(Err(malformed(directive_place(fault))?)),
+        Err(fault) => Ok(Err(class_of(fault)?)),
     }
 }
 
