@@ -33,6 +33,20 @@ pub struct CaseFile {
 }
 
 impl CaseFile {
+    /// A file with these bytes.
+    pub(crate) fn of_bytes(
+        alloc: Global,
+        name: &str,
+        bytes: Vec<u8>,
+    ) -> Result<CaseFile, AllocError> {
+        let name = String::from_str(alloc, name)?;
+        Ok(CaseFile {
+            name,
+            content: Content::Bytes(bytes),
+            mode: None,
+        })
+    }
+
     /// The bytes of the file, or none where it is a folder or a link.
     pub(crate) fn bytes(&self) -> &[u8] {
         match &self.content {

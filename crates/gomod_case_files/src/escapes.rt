@@ -1,27 +1,7 @@
 //! Escapes of bytes that a line of text can't show.
 
-use std::alloc::{AllocError, AllocFailed, Global};
-
-/// Why escaped text can't be read.
-#[derive(Clone, Copy, Debug, PartialEq, Eq)]
-pub(crate) enum EscapeFault {
-    /// Memory ran out.
-    NoMemory,
-    /// A backslash begins no known escape.
-    NoEscape,
-}
-
-impl From<AllocError> for EscapeFault {
-    fn from(_error: AllocError) -> EscapeFault {
-        EscapeFault::NoMemory
-    }
-}
-
-impl<T: Drop> From<AllocFailed<T>> for EscapeFault {
-    fn from(_error: AllocFailed<T>) -> EscapeFault {
-        EscapeFault::NoMemory
-    }
-}
+use crate::faults::{CaseFault, LineFault, TextFault};
+use std::alloc::Global;
 
 /// What the bytes so far end in.
 #[derive(Clone, Copy)]
@@ -56,13 +36,24 @@ impl Unescaper {
     }
 
     /// Takes a byte outside an escape.
-    pub(crate) fn push(&mut self, byte: u8) -> Result<(), EscapeFault> {
+    pub(crate) fn push(&mut self, byte: u8) -> Result<(), TextFault> {
         self.bytes.push(byte)?;
         Ok(())
     }
 
+    /// Takes a whole text.
+    fn take_text(&mut self, text: &str) -> Result<(), TextFault> {
+        for byte in text.as_bytes() {
+            self.take(*byte)?;
+        }
+        if self.is_inside_escape() {
+            return Err(TextFault::Invalid);
+        }
+        Ok(())
+    }
+
     /// Takes the next byte of the text.
-    pub(crate) fn take(&mut self, byte: u8) -> Result<(), EscapeFault> {
+    pub(crate) fn take(&mut self, byte: u8) -> Result<(), TextFault> {
         match self.state {
             State::Plain if byte == b'\\' => self.state = State::Backslash,
             State::Plain => self.push(byte)?,
@@ -70,7 +61,7 @@ impl Unescaper {
             State::Backslash => self.end(escaped(byte))?,
             State::Hexadecimal => match digit(byte) {
                 Some(first) => self.state = State::FirstDigit(first),
-                None => return Err(EscapeFault::NoEscape),
+                None => return Err(TextFault::Invalid),
             },
             State::FirstDigit(first) => self.end(joined(first, byte))?,
         }
@@ -78,9 +69,9 @@ impl Unescaper {
     }
 
     /// Ends an escape.
-    fn end(&mut self, byte: Option<u8>) -> Result<(), EscapeFault> {
+    fn end(&mut self, byte: Option<u8>) -> Result<(), TextFault> {
         let Some(byte) = byte else {
-            return Err(EscapeFault::NoEscape);
+            return Err(TextFault::Invalid);
         };
         self.state = State::Plain;
         self.push(byte)
@@ -121,13 +112,22 @@ fn joined(first: u8, second: u8) -> Option<u8> {
 }
 
 /// The bytes that escaped text denotes.
-pub(crate) fn unescaped(alloc: Global, text: &str) -> Result<Vec<u8>, EscapeFault> {
+fn unescaped(alloc: Global, text: &str) -> Result<Vec<u8>, TextFault> {
     let mut unescaper = Unescaper::new(alloc);
-    for byte in text.as_bytes() {
-        unescaper.take(*byte)?;
-    }
-    if unescaper.is_inside_escape() {
-        return Err(EscapeFault::NoEscape);
-    }
+    unescaper.take_text(text)?;
     Ok(unescaper.into_bytes())
+}
+
+/// Appends the bytes that escaped text in the line of this number denotes.
+pub(crate) fn push_unescaped(
+    alloc: Global,
+    bytes: &mut Vec<u8>,
+    number: usize,
+    text: &str,
+) -> Result<(), CaseFault> {
+    match unescaped(alloc, text) {
+        Ok(more) => Ok(bytes.extend_from_slice(more.as_slice())?),
+        Err(TextFault::NoMemory) => Err(CaseFault::NoMemory),
+        Err(TextFault::Invalid) => Err(CaseFault::Line(number, LineFault::BadEscape)),
+    }
 }

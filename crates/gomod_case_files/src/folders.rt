@@ -5,16 +5,26 @@ use std::fs::{OpenFile, OpenOptions, Permissions};
 use std::os::unix::fs::PermissionsExt;
 use std::{env, fs, io, process};
 
-/// Makes a new, empty folder.
-pub fn make_folder(rt: &HostRuntime, number: usize) -> io::Result<String> {
+/// The name of the folder of the case with this number, among the temporary files of the system.
+fn folder_of(rt: &HostRuntime, number: usize) -> io::Result<String> {
+    let id = process::id(rt.process());
     let system = env::temp_dir(rt)?;
     let system = system.as_str();
-    let id = process::id(rt.process());
-    let folder = format!(in rt.alloc(); "{system}/gomod_cases_{id}_{number}")?;
-    if fs::exists(rt, folder.as_str())? {
-        fs::remove_dir_all(rt, folder.as_str())?;
+    Ok(format!(in rt.alloc(); "{system}/gomod_cases_{id}_{number}")?)
+}
+
+/// Makes a folder with nothing in it.
+fn make_empty(rt: &HostRuntime, folder: &str) -> io::Result<()> {
+    if fs::exists(rt, folder)? {
+        fs::remove_dir_all(rt, folder)?;
     }
-    fs::create_dir_all(rt, folder.as_str())?;
+    fs::create_dir_all(rt, folder)
+}
+
+/// Makes a new, empty folder.
+pub fn make_folder(rt: &HostRuntime, number: usize) -> io::Result<String> {
+    let folder = folder_of(rt, number)?;
+    make_empty(rt, folder.as_str())?;
     Ok(folder)
 }
 
@@ -29,21 +39,31 @@ pub fn lay_files(rt: &HostRuntime, folder: &str, case: &Case<'_>) -> io::Result<
     Ok(())
 }
 
+/// Writes a file of a case into a folder.
 fn lay_file(rt: &HostRuntime, folder: &str, file: &CaseFile) -> io::Result<()> {
     let name = file.name.as_str();
     let place = format!(in rt.alloc(); "{folder}/{name}")?;
-    let place = place.as_str();
+    lay_at(rt, place.as_str(), file)
+}
+
+/// Writes a file of a case to its place.
+fn lay_at(rt: &HostRuntime, place: &str, file: &CaseFile) -> io::Result<()> {
     if let Some((parent, _)) = place.rsplit_once('/') {
         fs::create_dir_all(rt, parent)?;
     }
-    match &file.content {
-        Content::Bytes(bytes) => fs::write(rt, place, bytes.as_slice())?,
-        Content::Folder => fs::create_dir_all(rt, place)?,
-        Content::Link(to) => std::os::unix::fs::symlink(rt, to.as_str(), place)?,
-        Content::Copy(_) => {}
-    }
+    lay_content(rt, place, &file.content)?;
     if let Some(mode) = file.mode {
         fs::set_permissions(rt, place, Permissions::from_mode(mode))?;
     }
     Ok(())
+}
+
+/// Writes what a case has at a place.
+fn lay_content(rt: &HostRuntime, place: &str, content: &Content) -> io::Result<()> {
+    match content {
+        Content::Bytes(bytes) => fs::write(rt, place, bytes.as_slice()),
+        Content::Folder => fs::create_dir_all(rt, place),
+        Content::Link(to) => std::os::unix::fs::symlink(rt, to.as_str(), place),
+        Content::Copy(_) => Ok(()),
+    }
 }

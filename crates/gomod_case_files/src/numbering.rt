@@ -18,15 +18,23 @@ pub(crate) fn count_of(text: &str) -> Option<usize> {
     }
 }
 
-/// A number with leading zeros, as long as the greatest one.
-fn padded(alloc: Global, number: usize, greatest: usize) -> Result<String, AllocError> {
-    let digits = format!(in alloc; "{number}")?;
-    let width = format!(in alloc; "{greatest}")?.len();
-    let mut text = String::new(alloc);
-    for _ in digits.len()..width {
+/// Appends a number with leading zeros, as long as the greatest one.
+fn push_padded(text: &mut String, number: usize, greatest: usize) -> Result<(), AllocError> {
+    for _ in first_place(number)..first_place(greatest) {
         text.push('0')?;
     }
-    text.push_str(digits.as_str())?;
+    write!(text, "{number}")
+}
+
+/// The power of ten of a number's first digit.
+fn first_place(number: usize) -> u32 {
+    number.checked_ilog10().unwrap_or(0)
+}
+
+/// A number with leading zeros, as long as the greatest one.
+fn padded(alloc: Global, number: usize, greatest: usize) -> Result<String, AllocError> {
+    let mut text = String::new(alloc);
+    push_padded(&mut text, number, greatest)?;
     Ok(text)
 }
 
@@ -41,6 +49,20 @@ pub(crate) fn numbered(
     text.replace(alloc, NUMBER, digits.as_str())
 }
 
+/// Appends a text this many times, each with its number.
+pub(crate) fn push_numbered(
+    alloc: Global,
+    bytes: &mut Vec<u8>,
+    text: &str,
+    count: usize,
+) -> Result<(), AllocError> {
+    for index in 0..count {
+        let text = numbered(alloc, text, index.saturating_add(1), count)?;
+        bytes.extend_from_slice(text.as_str().as_bytes())?;
+    }
+    Ok(())
+}
+
 /// Appends a line this many times, each with its number.
 pub(crate) fn push_repeated(
     alloc: Global,
@@ -48,11 +70,8 @@ pub(crate) fn push_repeated(
     line: &str,
     count: usize,
 ) -> Result<(), AllocError> {
-    for index in 0..count {
-        let line = numbered(alloc, line, index.saturating_add(1), count)?;
-        push_line(bytes, line.as_str())?;
-    }
-    Ok(())
+    let line = format!(in alloc; "{line}\n")?;
+    push_numbered(alloc, bytes, line.as_str(), count)
 }
 
 /// Appends a line with its end.

@@ -1,32 +1,39 @@
 //! The pieces that the files of a case are made of.
 
 use crate::cases::{Case, CaseFile, Content};
-use crate::escapes::unescaped;
+use crate::escapes::push_unescaped;
 use crate::faults::{CaseFault, LineFault};
-use crate::numbering::{NUMBER, count_of, numbered, push_line};
+use crate::numbering::{NUMBER, count_of, numbered, push_line, push_numbered};
 use crate::places::tidied;
-use crate::words::words_of;
+use crate::words::words_of_line;
 use std::alloc::{AllocError, Global};
 
 /// The last line of a file that does not end in a line end.
 pub const NO_LINE_END: &str = "\\ No newline at end of file";
 
-/// What the header of a piece says of its lines.
-#[derive(Drop)]
-enum Kind {
-    /// The lines as is.
-    Plain,
-    /// The lines have escapes.
-    Escaped,
-    /// The lines this many times, each with its number.
-    Repeat(usize),
-    /// A line whose last character is repeated until the line, with its end, has this many bytes.
-    Fill(usize),
-    Folder,
-    Link(String),
-    Copy(String),
-    /// The lines as is, of a file with this mode.
+/// What the words of a header after the name say.
+#[derive(Clone, Copy)]
+enum Kind<'a> {
+    /// A file with lines of this form.
+    Lines(Form),
+    /// A file with this mode.
     Mode(u32),
+    Folder,
+    Link(&'a str),
+    Copy(&'a str),
+}
+
+/// How the lines below a header are read.
+#[derive(Clone, Copy)]
+enum Form {
+    /// As they stand.
+    Plain,
+    /// With escapes.
+    Escaped,
+    /// This many times, each with its number.
+    Repeated(usize),
+    /// As one line, whose last character is repeated until the line, with its end, has this many bytes.
+    Filled(usize),
 }
 
 /// A piece of a file of a case: its header, and the lines below it.
@@ -34,9 +41,9 @@ enum Kind {
 pub(crate) struct Piece {
     /// The number of the header's line.
     line: usize,
-    name: String,
-    kind: Kind,
-    bytes: Vec<u8>,
+    /// The file that it makes or continues, with the bytes of the lines so far.
+    file: CaseFile,
+    form: Form,
     lines: usize,
     /// The number of blank lines at the end, which are not among the bytes yet.
     blanks: usize,
@@ -54,55 +61,110 @@ fn mode_of(text: &str) -> Option<u32> {
 }
 
 /// What the words of a header after the name say.
-fn kind_of(alloc: Global, words: &[String]) -> Result<Option<Kind>, AllocError> {
-    let Some(verb) = words.first() else {
-        return Ok(Some(Kind::Plain));
-    };
-    let argument = words.get(1).map_or("", |word| word.as_str());
-    Ok(match (verb.as_str(), words.len()) {
-        ("escaped", 1) => Some(Kind::Escaped),
-        ("folder", 1) => Some(Kind::Folder),
-        ("repeat", 2) => count_of(argument).map(|count| Kind::Repeat(count)),
-        ("fill", 2) => count_of(argument).map(|count| Kind::Fill(count)),
-        ("mode", 2) => mode_of(argument).map(|mode| Kind::Mode(mode)),
-        ("link", 2) => Some(Kind::Link(String::from_str(alloc, argument)?)),
-        ("copy", 2) => Some(Kind::Copy(String::from_str(alloc, argument)?)),
+fn kind_of(words: &[String]) -> Option<Kind<'_>> {
+    match words {
+        [] => Some(Kind::Lines(Form::Plain)),
+        [verb] => kind_alone(verb.as_str()),
+        [verb, argument] => kind_with(verb.as_str(), argument.as_str()),
         _ => None,
+    }
+}
+
+/// What a word of a header says that has no argument.
+fn kind_alone<'a>(verb: &str) -> Option<Kind<'a>> {
+    match verb {
+        "escaped" => Some(Kind::Lines(Form::Escaped)),
+        "folder" => Some(Kind::Folder),
+        _ => None,
+    }
+}
+
+/// What a word of a header says with its argument.
+fn kind_with<'a>(verb: &str, argument: &'a str) -> Option<Kind<'a>> {
+    match verb {
+        "repeat" => Some(Kind::Lines(Form::Repeated(count_of(argument)?))),
+        "fill" => Some(Kind::Lines(Form::Filled(count_of(argument)?))),
+        "mode" => Some(Kind::Mode(mode_of(argument)?)),
+        "link" => Some(Kind::Link(argument)),
+        "copy" => Some(Kind::Copy(argument)),
+        _ => None,
+    }
+}
+
+/// What a case has at the place of a header, before any line.
+fn content_of(alloc: Global, kind: Kind<'_>) -> Result<Content, AllocError> {
+    Ok(match kind {
+        Kind::Lines(_) | Kind::Mode(_) => Content::Bytes(Vec::new(alloc)),
+        Kind::Folder => Content::Folder,
+        Kind::Link(place) => Content::Link(String::from_str(alloc, place)?),
+        Kind::Copy(file) => Content::Copy(String::from_str(alloc, file)?),
     })
+}
+
+/// Whether a path has a part that leads up.
+fn leads_up(path: &str) -> bool {
+    path.split('/').any(|part| part == "..")
 }
 
 /// Whether the name of a file is the shortest spelling of its place, and leads at most one folder up out of the folder
 /// of its case.
 fn is_place(alloc: Global, name: &str) -> Result<bool, AllocError> {
     let rest = name.strip_prefix("../").unwrap_or(name);
-    if rest.is_empty() || rest.split('/').any(|part| part == "..") {
+    if rest.is_empty() || leads_up(rest) {
         return Ok(false);
     }
     Ok(tidied(alloc, name)?.as_str() == name)
 }
 
+/// The name and the kind in the words of a header.
+fn read_header(
+    alloc: Global,
+    line: usize,
+    words: &[String],
+) -> Result<(&str, Kind<'_>), CaseFault> {
+    if let Some((name, rest)) = words.split_first() {
+        if let Some(kind) = kind_of(rest) {
+            if is_place(alloc, name.as_str())? {
+                return Ok((name.as_str(), kind));
+            }
+        }
+    }
+    Err(CaseFault::Line(line, LineFault::BadHeader))
+}
+
 impl Piece {
     /// The piece that a header begins.
     pub(crate) fn begin(alloc: Global, line: usize, text: &str) -> Result<Piece, CaseFault> {
-        let mut words = match words_of(alloc, text) {
-            Ok(words) => words,
-            Err(fault) => return Err(CaseFault::of_words(line, fault)),
+        let words = words_of_line(alloc, line, text)?;
+        Piece::of_words(alloc, line, words.as_slice())
+    }
+
+    /// The piece that the words of a header begin.
+    fn of_words(alloc: Global, line: usize, words: &[String]) -> Result<Piece, CaseFault> {
+        let (name, kind) = read_header(alloc, line, words)?;
+        Ok(Piece::new(alloc, line, name, kind)?)
+    }
+
+    /// A piece without lines.
+    fn new(alloc: Global, line: usize, name: &str, kind: Kind<'_>) -> Result<Piece, AllocError> {
+        let form = match kind {
+            Kind::Lines(form) => form,
+            _ => Form::Plain,
         };
-        if words.is_empty() {
-            return Err(CaseFault::Line(line, LineFault::BadHeader));
-        }
-        let name = words.remove(0);
-        let Some(kind) = kind_of(alloc, words.as_slice())? else {
-            return Err(CaseFault::Line(line, LineFault::BadHeader));
+        let mode = match kind {
+            Kind::Mode(mode) => Some(mode),
+            _ => None,
         };
-        if !is_place(alloc, name.as_str())? {
-            return Err(CaseFault::Line(line, LineFault::BadHeader));
-        }
+        let content = content_of(alloc, kind)?;
+        let file = CaseFile {
+            name: String::from_str(alloc, name)?,
+            content,
+            mode,
+        };
         Ok(Piece {
             line,
-            name,
-            kind,
-            bytes: Vec::new(alloc),
+            file,
+            form,
             lines: 0,
             blanks: 0,
         })
@@ -121,25 +183,18 @@ impl Piece {
         }
         self.take_blanks(0)?;
         self.lines = self.lines.saturating_add(1);
-        match self.kind {
-            Kind::Folder | Kind::Link(_) | Kind::Copy(_) => {
-                Err(CaseFault::Line(number, LineFault::NoContent))
-            }
-            Kind::Escaped if line != NO_LINE_END => match unescaped(alloc, line) {
-                Ok(bytes) => {
-                    self.bytes.extend_from_slice(bytes.as_slice())?;
-                    Ok(self.bytes.extend_from_slice(b"\n")?)
-                }
-                Err(fault) => Err(CaseFault::of_escapes(number, fault)),
-            },
-            _ => Ok(take_line(&mut self.bytes, line)?),
-        }
+        let Content::Bytes(bytes) = &mut self.file.content else {
+            return Err(CaseFault::Line(number, LineFault::NoContent));
+        };
+        push_formed(alloc, bytes, self.form, number, line)
     }
 
     /// Takes the blank lines at the end, but for this many.
     fn take_blanks(&mut self, left: usize) -> Result<(), AllocError> {
-        for _ in left..self.blanks {
-            push_line(&mut self.bytes, "")?;
+        if let Content::Bytes(bytes) = &mut self.file.content {
+            for _ in left..self.blanks {
+                push_line(bytes, "")?;
+            }
         }
         self.blanks = 0;
         Ok(())
@@ -147,105 +202,111 @@ impl Piece {
 
     /// Adds the piece to the files of its case. One blank line at the end of the last piece belongs to no file.
     pub(crate) fn end(
-        mut self,
+        self,
         alloc: Global,
         case: &mut Case<'_>,
         is_last: bool,
     ) -> Result<(), CaseFault> {
-        self.take_blanks(if is_last { 1 } else { 0 })?;
-        let Piece {
-            line,
-            name,
-            kind,
-            bytes,
-            lines,
-            ..
-        } = self;
-        match kind {
-            Kind::Plain | Kind::Escaped => put(case, name, bytes, None),
-            Kind::Mode(mode) => put(case, name, bytes, Some(mode)),
-            Kind::Folder => put_other(case, name, Content::Folder),
-            Kind::Link(place) => put_other(case, name, Content::Link(place)),
-            Kind::Copy(file) => put_other(case, name, Content::Copy(file)),
-            Kind::Repeat(count) => put_repeated(alloc, case, name, bytes, count),
-            Kind::Fill(count) if lines == 1 => put_filled(case, name, bytes, count),
-            Kind::Fill(_) => Err(CaseFault::Line(line, LineFault::SeveralLines)),
+        let mut piece = self;
+        piece.take_blanks(if is_last { 1 } else { 0 })?;
+        piece.put_into(alloc, case)
+    }
+
+    /// Adds the piece to the files of a case.
+    fn put_into(self, alloc: Global, case: &mut Case<'_>) -> Result<(), CaseFault> {
+        match self.form {
+            Form::Plain | Form::Escaped => put(case, self.file),
+            Form::Repeated(count) => put_repeated(alloc, case, &self.file, count),
+            Form::Filled(count) => put_filled(alloc, case, &self, count),
         }
     }
 }
 
+/// Takes a line of a piece into its bytes.
+fn push_formed(
+    alloc: Global,
+    bytes: &mut Vec<u8>,
+    form: Form,
+    number: usize,
+    line: &str,
+) -> Result<(), CaseFault> {
+    if line == NO_LINE_END || !matches!(form, Form::Escaped) {
+        return take_line(bytes, line);
+    }
+    push_unescaped(alloc, bytes, number, line)?;
+    Ok(bytes.push(b'\n')?)
+}
+
 /// Takes a line into a text.
-pub(crate) fn take_line(text: &mut Vec<u8>, line: &str) -> Result<(), AllocError> {
+pub(crate) fn take_line(text: &mut Vec<u8>, line: &str) -> Result<(), CaseFault> {
     if line == NO_LINE_END {
         let _ = text.pop();
         return Ok(());
     }
-    push_line(text, line)
+    Ok(push_line(text, line)?)
 }
 
-/// Adds a file to a case, or more bytes to one that it has.
-fn put(
-    case: &mut Case<'_>,
-    name: String,
-    bytes: Vec<u8>,
-    mode: Option<u32>,
-) -> Result<(), CaseFault> {
-    for file in &mut case.files {
-        if file.name.as_str() == name.as_str() {
-            return append(file, bytes.as_slice());
+/// Adds a file to a case, or its bytes to those of a file with its name.
+fn put(case: &mut Case<'_>, file: CaseFile) -> Result<(), CaseFault> {
+    if is_continued(&mut case.files, &file)? {
+        return Ok(());
+    }
+    Ok(case.files.push(file)?)
+}
+
+/// Whether some of these files have a name, in which case the first of them gets the bytes of the file with that name.
+fn is_continued(files: &mut [CaseFile], more: &CaseFile) -> Result<bool, AllocError> {
+    let Content::Bytes(bytes) = &more.content else {
+        return Ok(false);
+    };
+    for file in files {
+        if file.name == more.name {
+            append(file, bytes.as_slice())?;
+            return Ok(true);
         }
     }
-    Ok(
-        case.files.push(CaseFile {
-            name,
-            content: Content::Bytes(bytes),
-            mode,
-        })?,
-    )
+    Ok(false)
 }
 
-fn append(file: &mut CaseFile, bytes: &[u8]) -> Result<(), CaseFault> {
+/// Appends bytes to a file, if it has any.
+fn append(file: &mut CaseFile, bytes: &[u8]) -> Result<(), AllocError> {
     if let Content::Bytes(before) = &mut file.content {
         before.extend_from_slice(bytes)?;
     }
     Ok(())
 }
 
-/// Adds a folder, link or copy to a case.
-fn put_other(case: &mut Case<'_>, name: String, content: Content) -> Result<(), CaseFault> {
-    Ok(
-        case.files.push(CaseFile {
-            name,
-            content,
-            mode: None,
-        })?,
-    )
-}
-
-/// Adds this many files to a case, or this many lines to one file.
+/// Adds a file this many times to a case, or its lines this many times to one file.
 fn put_repeated(
     alloc: Global,
     case: &mut Case<'_>,
-    name: String,
-    bytes: Vec<u8>,
+    file: &CaseFile,
     count: usize,
 ) -> Result<(), CaseFault> {
     case.is_large = true;
-    let Ok(text) = String::from_utf8(bytes) else {
+    let Ok(text) = str::from_utf8(file.bytes()) else {
         return Ok(());
     };
-    if name.as_str().contains(NUMBER) {
-        return put_files(alloc, case, name.as_str(), text.as_str(), count);
+    let name = file.name.as_str();
+    if name.contains(NUMBER) {
+        return put_files(alloc, case, name, text, count);
     }
-    let mut bytes = Vec::new(alloc);
-    for index in 0..count {
-        let text = numbered(alloc, text.as_str(), index.saturating_add(1), count)?;
-        bytes.extend_from_slice(text.as_str().as_bytes())?;
-    }
-    put(case, name, bytes, None)
+    put(case, repeated_file(alloc, name, text, count)?)
 }
 
-/// Adds this many files to a case.
+/// A file that has a text this many times, each with its number.
+fn repeated_file(
+    alloc: Global,
+    name: &str,
+    text: &str,
+    count: usize,
+) -> Result<CaseFile, AllocError> {
+    let mut bytes = Vec::new(alloc);
+    push_numbered(alloc, &mut bytes, text, count)?;
+    CaseFile::of_bytes(alloc, name, bytes)
+}
+
+/// Adds this many files to a case, each with its number.
 fn put_files(
     alloc: Global,
     case: &mut Case<'_>,
@@ -254,27 +315,51 @@ fn put_files(
     count: usize,
 ) -> Result<(), CaseFault> {
     for index in 0..count {
-        let number = index.saturating_add(1);
-        let name = numbered(alloc, name, number, count)?;
-        let text = numbered(alloc, text, number, count)?;
-        put_other(case, name, Content::Bytes(text.into_bytes()))?;
+        let file = numbered_file(alloc, name, text, index.saturating_add(1), count)?;
+        case.files.push(file)?;
     }
     Ok(())
 }
 
+/// The file with this number.
+fn numbered_file(
+    alloc: Global,
+    name: &str,
+    text: &str,
+    number: usize,
+    greatest: usize,
+) -> Result<CaseFile, AllocError> {
+    let text = numbered(alloc, text, number, greatest)?;
+    let name = numbered(alloc, name, number, greatest)?;
+    CaseFile::of_bytes(alloc, name.as_str(), text.into_bytes())
+}
+
 /// Adds a file of this many bytes to a case.
 fn put_filled(
+    alloc: Global,
     case: &mut Case<'_>,
-    name: String,
-    bytes: Vec<u8>,
+    piece: &Piece,
     count: usize,
 ) -> Result<(), CaseFault> {
+    if piece.lines != 1 {
+        return Err(CaseFault::Line(piece.line, LineFault::SeveralLines));
+    }
     case.is_large = true;
-    let mut bytes = bytes;
-    let _ = bytes.pop();
-    let last = bytes.last().map_or(b' ', |byte| *byte);
-    let length = count.saturating_sub(1);
-    bytes.resize(length, last)?;
-    bytes.extend_from_slice(b"\n")?;
-    put(case, name, bytes, None)
+    let line = piece.file.bytes();
+    let bytes = filled(alloc, &line[..line.len().saturating_sub(1)], count)?;
+    put(
+        case,
+        CaseFile::of_bytes(alloc, piece.file.name.as_str(), bytes)?,
+    )?;
+    Ok(())
+}
+
+/// A line whose last byte is repeated until the line, with its end, has this many bytes.
+fn filled(alloc: Global, line: &[u8], count: usize) -> Result<Vec<u8>, AllocError> {
+    let last = line.last().map_or(b' ', |byte| *byte);
+    let mut bytes = Vec::new(alloc);
+    bytes.extend_from_slice(line)?;
+    bytes.resize(count.saturating_sub(1), last)?;
+    bytes.push(b'\n')?;
+    Ok(bytes)
 }

@@ -17,19 +17,23 @@ fn parts_of(alloc: Global, path: &str) -> Result<Vec<&str>, AllocError> {
     Ok(parts)
 }
 
-/// A path without parts that lead nowhere. A leading `/` stays.
-pub fn tidied(alloc: Global, path: &str) -> Result<String, AllocError> {
-    let parts = parts_of(alloc, path)?;
-    let mut tidied = String::new(alloc);
-    if path.starts_with('/') {
-        tidied.push('/')?;
-    }
+/// Appends parts with a `/` between them.
+fn push_parts(path: &mut String, parts: &[&str]) -> Result<(), AllocError> {
     for (index, part) in parts.iter().enumerate() {
         if index > 0 {
-            tidied.push('/')?;
+            path.push('/')?;
         }
-        tidied.push_str(part)?;
+        path.push_str(part)?;
     }
+    Ok(())
+}
+
+/// A path without parts that lead nowhere. A leading `/` stays.
+pub fn tidied(alloc: Global, path: &str) -> Result<String, AllocError> {
+    let root = if path.starts_with('/') { "/" } else { "" };
+    let parts = parts_of(alloc, path)?;
+    let mut tidied = String::from_str(alloc, root)?;
+    push_parts(&mut tidied, parts.as_slice())?;
     Ok(tidied)
 }
 

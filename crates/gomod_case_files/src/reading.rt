@@ -1,11 +1,11 @@
 //! Reading files of cases.
 
 use crate::cases::{Case, Run};
-use crate::escapes::unescaped;
+use crate::escapes::push_unescaped;
 use crate::faults::{CaseFault, LineFault};
 use crate::numbering::{count_of, push_repeated};
 use crate::pieces::{Piece, header, take_line};
-use crate::words::words_of;
+use crate::words::words_of_line;
 use std::alloc::Global;
 
 /// The line of a case that is cut at every byte.
@@ -18,10 +18,9 @@ const FILES_ONLY: &str = "% files";
 #[derive(Drop)]
 struct Reader<'a> {
     alloc: Global,
+    /// The cases so far. The next line belongs to the last of them.
     cases: Vec<Case<'a>>,
-    /// The case that the next line belongs to.
-    case: Option<Case<'a>>,
-    /// The piece of a file that it belongs to.
+    /// The piece of a file that the next line belongs to.
     piece: Option<Piece>,
 }
 
@@ -30,66 +29,89 @@ pub fn read_cases<'a>(alloc: Global, text: &'a str) -> Result<Vec<Case<'a>>, Cas
     let mut reader = Reader {
         alloc,
         cases: Vec::new(alloc),
-        case: None,
         piece: None,
     };
-    // what follows the last line end of a text is not a line
-    let text = text.strip_suffix('\n').unwrap_or(text);
-    for (index, line) in text.split('\n').enumerate() {
-        reader.take(index.saturating_add(1), line)?;
-    }
-    reader.end_case()?;
+    reader.take_text(text)?;
     let Reader { cases, .. } = reader;
     Ok(cases)
 }
 
 impl<'a> Reader<'a> {
+    /// Takes a whole text.
+    fn take_text(&mut self, text: &'a str) -> Result<(), CaseFault> {
+        // what follows the last line end of a text is not a line
+        let text = text.strip_suffix('\n').unwrap_or(text);
+        for (index, line) in text.split('\n').enumerate() {
+            self.take(index.saturating_add(1), line)?;
+        }
+        self.end_case()
+    }
+
     /// Takes the next line.
     fn take(&mut self, number: usize, line: &'a str) -> Result<(), CaseFault> {
         if let Some(title) = line.strip_prefix("=== ") {
-            self.end_case()?;
-            self.case = Some(Case::new(self.alloc, number, title));
-            return Ok(());
+            return self.begin_case(number, title);
         }
         if line.starts_with("===") {
             return Err(CaseFault::Line(number, LineFault::NoMark));
         }
-        let Some(case) = &mut self.case else {
+        if self.cases.is_empty() {
             return take_before_cases(number, line);
-        };
+        }
         if let Some(text) = header(line) {
-            self.end_piece(false)?;
-            self.piece = Some(Piece::begin(self.alloc, number, text)?);
+            return self.begin_piece(number, text);
+        }
+        self.take_in_case(number, line)
+    }
+
+    /// Begins the case with a title.
+    fn begin_case(&mut self, number: usize, title: &'a str) -> Result<(), CaseFault> {
+        self.end_case()?;
+        Ok(self.cases.push(Case::new(self.alloc, number, title))?)
+    }
+
+    /// Begins the piece of a file with a header.
+    fn begin_piece(&mut self, number: usize, text: &str) -> Result<(), CaseFault> {
+        self.end_piece(false)?;
+        self.piece = Some(Piece::begin(self.alloc, number, text)?);
+        Ok(())
+    }
+
+    /// Takes a line of a case that is neither its title nor a header.
+    fn take_in_case(&mut self, number: usize, line: &'a str) -> Result<(), CaseFault> {
+        if let Some(piece) = &mut self.piece {
+            return piece.take(self.alloc, number, line);
+        }
+        let Some(case) = self.cases.last_mut() else {
+            return Ok(());
+        };
+        if line == EVERY_BYTE {
+            case.is_cut_everywhere = true;
             return Ok(());
         }
-        match &mut self.piece {
-            Some(piece) => piece.take(self.alloc, number, line),
-            None if line == EVERY_BYTE => {
-                case.is_cut_everywhere = true;
-                Ok(())
-            }
-            None => take_line_of_runs(self.alloc, &mut case.runs, number, line),
-        }
+        take_line_of_runs(self.alloc, &mut case.runs, number, line)
     }
 
     /// Ends the piece that the lines so far belong to.
     fn end_piece(&mut self, is_last: bool) -> Result<(), CaseFault> {
-        if let (Some(piece), Some(case)) = (self.piece.take(), &mut self.case) {
-            piece.end(self.alloc, case, is_last)?;
+        let Some(piece) = self.piece.take() else {
+            return Ok(());
+        };
+        match self.cases.last_mut() {
+            Some(case) => piece.end(self.alloc, case, is_last),
+            None => Ok(()),
         }
-        Ok(())
     }
 
     /// Ends the case that the lines so far belong to.
     fn end_case(&mut self) -> Result<(), CaseFault> {
         self.end_piece(true)?;
-        let Some(case) = self.case.take() else {
-            return Ok(());
-        };
-        if case.runs.is_empty() {
-            return Err(CaseFault::Line(case.line, LineFault::NoCommand));
+        match self.cases.last() {
+            Some(case) if case.runs.is_empty() => {
+                Err(CaseFault::Line(case.line, LineFault::NoCommand))
+            }
+            _ => Ok(()),
         }
-        Ok(self.cases.push(case)?)
     }
 }
 
@@ -117,16 +139,26 @@ fn take_line_of_runs<'a>(
         return Ok(());
     }
     if let Some(command) = line.strip_prefix("$ ") {
-        return match words_of(alloc, command) {
-            Ok(words) if words.is_empty() => Err(CaseFault::Line(number, LineFault::BadWords)),
-            Ok(words) => Ok(runs.push(Run::new(alloc, number, command, words))?),
-            Err(fault) => Err(CaseFault::of_words(number, fault)),
-        };
+        return begin_run(alloc, runs, number, command);
     }
     match runs.last_mut() {
         Some(run) => take_line_of_run(alloc, run, number, line),
         None => Err(CaseFault::Line(number, LineFault::BeforeCommand)),
     }
+}
+
+/// Begins a command of a case.
+fn begin_run<'a>(
+    alloc: Global,
+    runs: &mut Vec<Run<'a>>,
+    number: usize,
+    command: &'a str,
+) -> Result<(), CaseFault> {
+    let words = words_of_line(alloc, number, command)?;
+    if words.is_empty() {
+        return Err(CaseFault::Line(number, LineFault::BadWords));
+    }
+    Ok(runs.push(Run::new(alloc, number, command, words))?)
 }
 
 /// Takes a line of the expected result of a command.
@@ -145,6 +177,11 @@ fn take_line_of_run<'a>(
     if let Some(rest) = line.strip_prefix('@') {
         return take_opened(alloc, run, number, rest);
     }
+    take_about_run(run, number, line)
+}
+
+/// Takes a line that gives the status of a command, or says that it runs over real files alone.
+fn take_about_run(run: &mut Run<'_>, number: usize, line: &str) -> Result<(), CaseFault> {
     if let Some(text) = line.strip_prefix("? ") {
         let Ok(status) = text.parse::<u8>() else {
             return Err(CaseFault::Line(number, LineFault::BadStatus));
@@ -152,11 +189,11 @@ fn take_line_of_run<'a>(
         run.status = status;
         return Ok(());
     }
-    if line == FILES_ONLY {
-        run.is_over_files_only = true;
-        return Ok(());
+    if line != FILES_ONLY {
+        return Err(CaseFault::Line(number, LineFault::NoMark));
     }
-    Err(CaseFault::Line(number, LineFault::NoMark))
+    run.is_over_files_only = true;
+    Ok(())
 }
 
 /// Takes the text after the mark of a line that a command writes.
@@ -167,24 +204,31 @@ fn take_written(
     rest: &str,
 ) -> Result<(), CaseFault> {
     if rest.is_empty() {
-        return Ok(take_line(text, "")?);
+        return take_line(text, "");
     }
     if let Some(line) = rest.strip_prefix(' ') {
-        return Ok(take_line(text, line)?);
+        return take_line(text, line);
     }
     if let Some(line) = rest.strip_prefix("\\ ") {
-        return match unescaped(alloc, line) {
-            Ok(bytes) => Ok(text.extend_from_slice(bytes.as_slice())?),
-            Err(fault) => Err(CaseFault::of_escapes(number, fault)),
-        };
+        return push_unescaped(alloc, text, number, line);
     }
+    take_repeated(alloc, text, number, rest)
+}
+
+/// Takes the text after the mark of a line that a command writes several times.
+fn take_repeated(
+    alloc: Global,
+    text: &mut Vec<u8>,
+    number: usize,
+    rest: &str,
+) -> Result<(), CaseFault> {
     let Some((count, line)) = repetition(rest) else {
         return Err(CaseFault::Line(number, LineFault::NoMark));
     };
-    match count_of(count) {
-        Some(count) => Ok(push_repeated(alloc, text, line, count)?),
-        None => Err(CaseFault::Line(number, LineFault::BadCount)),
-    }
+    let Some(count) = count_of(count) else {
+        return Err(CaseFault::Line(number, LineFault::BadCount));
+    };
+    Ok(push_repeated(alloc, text, line, count)?)
 }
 
 /// The count of lines and the line after a mark and a `*`.
@@ -199,16 +243,12 @@ fn take_opened<'a>(
     number: usize,
     rest: &'a str,
 ) -> Result<(), CaseFault> {
-    let mut opened = match run.opened.take() {
-        Some(opened) => opened,
-        None => Vec::new(alloc),
-    };
-    if !rest.is_empty() {
-        let Some(name) = rest.strip_prefix(' ') else {
-            return Err(CaseFault::Line(number, LineFault::NoMark));
-        };
-        opened.push(name)?;
+    let opened = run.opened.get_or_insert_with(|| Vec::new(alloc));
+    if rest.is_empty() {
+        return Ok(());
     }
-    run.opened = Some(opened);
-    Ok(())
+    let Some(name) = rest.strip_prefix(' ') else {
+        return Err(CaseFault::Line(number, LineFault::NoMark));
+    };
+    Ok(opened.push(name)?)
 }

@@ -1,37 +1,8 @@
 //! The words of a command.
 
-use crate::escapes::{EscapeFault, Unescaper};
-use std::alloc::{AllocError, AllocFailed, Global};
-
-/// Why a text can't be split into words.
-#[derive(Clone, Copy, Debug, PartialEq, Eq)]
-pub(crate) enum WordFault {
-    /// Memory ran out.
-    NoMemory,
-    /// A quote is not closed or is followed by more of the word, an escape is invalid, or a word is not UTF-8.
-    NoWord,
-}
-
-impl From<AllocError> for WordFault {
-    fn from(_error: AllocError) -> WordFault {
-        WordFault::NoMemory
-    }
-}
-
-impl<T: Drop> From<AllocFailed<T>> for WordFault {
-    fn from(_error: AllocFailed<T>) -> WordFault {
-        WordFault::NoMemory
-    }
-}
-
-impl From<EscapeFault> for WordFault {
-    fn from(fault: EscapeFault) -> WordFault {
-        match fault {
-            EscapeFault::NoMemory => WordFault::NoMemory,
-            EscapeFault::NoEscape => WordFault::NoWord,
-        }
-    }
-}
+use crate::escapes::Unescaper;
+use crate::faults::{CaseFault, LineFault, TextFault};
+use std::alloc::Global;
 
 /// Where a byte is in the words.
 #[derive(Clone, Copy, PartialEq, Eq)]
@@ -67,31 +38,45 @@ impl Cutter {
         }
     }
 
-    /// Takes the next byte.
-    fn take(&mut self, byte: u8) -> Result<(), WordFault> {
-        match self.state {
-            State::Between => self.begin(byte)?,
-            State::Bare if byte == b' ' => self.end(State::Between)?,
-            State::Bare => self.word.push(byte)?,
-            State::Single if byte == b'\'' => self.end(State::Closed)?,
-            State::Single => self.word.push(byte)?,
-            State::Double => self.take_escaped(byte)?,
-            State::Closed if byte == b' ' => self.state = State::Between,
-            State::Closed => return Err(WordFault::NoWord),
+    /// Takes a whole text.
+    fn take_text(&mut self, text: &str) -> Result<(), TextFault> {
+        for byte in text.as_bytes() {
+            self.take(*byte)?;
         }
-        Ok(())
+        match self.state {
+            State::Bare => self.end(State::Between),
+            State::Single | State::Double => Err(TextFault::Invalid),
+            State::Between | State::Closed => Ok(()),
+        }
+    }
+
+    /// Takes the next byte.
+    fn take(&mut self, byte: u8) -> Result<(), TextFault> {
+        match self.state {
+            State::Between => self.begin(byte),
+            State::Bare if byte == b' ' => self.end(State::Between),
+            State::Bare => self.word.push(byte),
+            State::Single if byte == b'\'' => self.end(State::Closed),
+            State::Single => self.word.push(byte),
+            State::Double => self.take_escaped(byte),
+            State::Closed if byte == b' ' => {
+                self.state = State::Between;
+                Ok(())
+            }
+            State::Closed => Err(TextFault::Invalid),
+        }
     }
 
     /// Takes the next byte of a word in `"`.
-    fn take_escaped(&mut self, byte: u8) -> Result<(), WordFault> {
+    fn take_escaped(&mut self, byte: u8) -> Result<(), TextFault> {
         if byte == b'"' && !self.word.is_inside_escape() {
             return self.end(State::Closed);
         }
-        Ok(self.word.take(byte)?)
+        self.word.take(byte)
     }
 
     /// Takes a byte between words.
-    fn begin(&mut self, byte: u8) -> Result<(), WordFault> {
+    fn begin(&mut self, byte: u8) -> Result<(), TextFault> {
         match byte {
             b' ' => {}
             b'\'' => self.state = State::Single,
@@ -105,10 +90,10 @@ impl Cutter {
     }
 
     /// Ends a word.
-    fn end(&mut self, state: State) -> Result<(), WordFault> {
+    fn end(&mut self, state: State) -> Result<(), TextFault> {
         let word = std::mem::replace(&mut self.word, Unescaper::new(self.alloc));
         let Ok(word) = String::from_utf8(word.into_bytes()) else {
-            return Err(WordFault::NoWord);
+            return Err(TextFault::Invalid);
         };
         self.words.push(word)?;
         self.state = state;
@@ -117,16 +102,22 @@ impl Cutter {
 }
 
 /// The words of a text.
-pub(crate) fn words_of(alloc: Global, text: &str) -> Result<Vec<String>, WordFault> {
+fn words_of(alloc: Global, text: &str) -> Result<Vec<String>, TextFault> {
     let mut cutter = Cutter::new(alloc);
-    for byte in text.as_bytes() {
-        cutter.take(*byte)?;
-    }
-    match cutter.state {
-        State::Bare => cutter.end(State::Between)?,
-        State::Single | State::Double => return Err(WordFault::NoWord),
-        State::Between | State::Closed => {}
-    }
+    cutter.take_text(text)?;
     let Cutter { words, .. } = cutter;
     Ok(words)
+}
+
+/// The words of a text in the line of this number.
+pub(crate) fn words_of_line(
+    alloc: Global,
+    number: usize,
+    text: &str,
+) -> Result<Vec<String>, CaseFault> {
+    match words_of(alloc, text) {
+        Ok(words) => Ok(words),
+        Err(TextFault::NoMemory) => Err(CaseFault::NoMemory),
+        Err(TextFault::Invalid) => Err(CaseFault::Line(number, LineFault::BadWords)),
+    }
 }
