@@ -1,5 +1,5 @@
 -- A line with a directive adds what the directive adds.
-use Rattle.std.proofs.Common.{◌≡◌, Option, Some, Result, Ok, Err}
+use Rattle.std.proofs.Common.{◌≡◌, Some, Result, Ok, Err}
 use Rattle.gm_file.specs.declared.fault.LineFault.{LineFault}
 use Rattle.gm_file.specs.declared.fault.LineFault.TheVariants as line
 use Rattle.gm_file.specs.declared.fields.Fields.{Fields}

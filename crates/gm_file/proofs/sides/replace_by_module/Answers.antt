@@ -1,7 +1,7 @@
-use Rattle.std.proofs.Common.{◌≡◌, ℕ, List, [], Option, Some, Err, ap, subst, sym, ◌∙◌}
+use Rattle.std.proofs.Common.{ℕ, List, Some, Err, ap, subst, sym, ◌∙◌}
 use Rattle.std.proofs.lemmas.Result.{err_from_is_err_and}
 use Rattle.gm_file.specs.declared.fault.DirectiveKind.TheVariants.{WrongArguments}
-use Rattle.gm_file.specs.Faults.{left_version_kinds, path_kinds}
+use Rattle.gm_file.specs.Faults.{path_kinds}
 use Rattle.gm_file.specs.Reading.{IsRead}
 use Rattle.gm_file.specs.Views.{left_text_view}
 use Rattle.gm_file.proofs.Arrows.{left-path-fault, left-version-fault, right-path-fault, right-version-fault, sound-part}
