@@ -24,7 +24,7 @@ use Rattle.gm_file.specs.Fields.{Dependency}
 use Rattle.gm_file.specs.Holding.{AreFound, AreReadTo, Holds, IsLineAdded}
 use Rattle.gm_file.specs.ReadFaults.{read_by_file, read_by_syntax}
 use Rattle.gm_file.specs.Retracting.{retraction_at}
-use Rattle.gm_file.specs.Views.{fault_at, interval_views}
+use Rattle.gm_file.specs.Views.{file_fault_at, interval_views}
 use Rattle.gm_file.proofs.Lines.{fault-reported, read-more, read-none}
 use Rattle.gm_file.proofs.Retracted.{AreRetracted, retracted-more}
 use Rattle.gm_file.proofs.Whole.{dependency, dependency-is, lax-sound}
@@ -74,7 +74,7 @@ misread-syntax bytes (syntax.Syntax number kind) is = is
 -- where the rest of the text has no fault, that of the line is the fault of the bytes
 pub misread-line : (bytes : List ℕ) (lines : List (Line Placed)) (here : Line Placed) (number : ℕ) (fault : LineFault)
     → number ≡ length (lines ++ here ∷ []) → HasNextFault (plain_lines lines) (plain here) fault → IsRestRead bytes (lines ++ here ∷ []) (Ok tt)
-    → IsMisread bytes (read_by_file (fault_at number fault))
+    → IsMisread bytes (read_by_file (file_fault_at number fault))
 misread-line bytes lines here number line.NoMemory is told rest = tt
 misread-line bytes lines here number (line.Kind kind) is told rest =
     let same : length (plain_lines lines) + 1 ≡ number = omega (arith, is, length-append lines (here ∷ []), length-map lines plain) in (

@@ -14,7 +14,7 @@ use Rattle.gm_file.specs.Directives.{Mode, Directive, block_after_lines, block_a
 use Rattle.gm_file.specs.Faults.{fault_of, faults, item_kinds}
 use Rattle.gm_file.specs.Fields.{first}
 use Rattle.gm_file.specs.Holding.{AreFound, AreReadTo, Holds, IsLineAdded}
-use Rattle.gm_file.specs.Views.{ReportsFault, fault_at}
+use Rattle.gm_file.specs.Views.{ReportsFault, file_fault_at}
 use Rattle.gm_file.proofs.Ordered.{first-reported, item-within}
 use Rattle.gm_file.proofs.Snoc.{directives-snoc, faults-snoc}
 use Rattle.gm_file.proofs.Told.{kinds_at, reported-at}
@@ -51,7 +51,7 @@ read-more mode lines block line old new so found added =
 -- the fault of the next line is reported
 pub fault-reported : (mode : Mode) (lines : List (Line Word)) (block : Option Word) (here : Line Word) (later all : List (Line Word)) (n : ℕ) (old new : Fields) (fault : LineFault)
     → AreReadTo mode lines block old → n ≡ length lines + 1 → all ≡ (lines ++ here ∷ []) ++ later
-    → IsLineAdded mode old new (item_at (block, here)) (Err fault) → ReportsFault mode all (fault_at n fault)
+    → IsLineAdded mode old new (item_at (block, here)) (Err fault) → ReportsFault mode all (file_fault_at n fault)
 fault-reported mode lines block here later all n old new line.NoMemory so number is told = tt
 fault-reported mode lines block here later all n old new (line.Kind k) so number is told =
     let at : item_at (block, here) ≡ item_at (block_after_lines None lines, here) = ap (λ (b : Option Word). item_at (b, here)) so.open_is in

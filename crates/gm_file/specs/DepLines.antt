@@ -15,7 +15,7 @@ use Rattle.gm_file.specs.Directives.{Lax}
 use Rattle.gm_file.specs.Faults.{fault_of}
 use Rattle.gm_file.specs.Fields.{Dependency, dependency_of, lax_retracts_of}
 use Rattle.gm_file.specs.Holding.{AreReadTo}
-use Rattle.gm_file.specs.Views.{ReportsFault, fault_at, interval_views}
+use Rattle.gm_file.specs.Views.{ReportsFault, file_fault_at, interval_views}
 
 -- the bytes are a document without a fault, and these are its fields
 abbrev pub IsDependencyIn : List ℕ → Dependency → Type 0
@@ -39,12 +39,12 @@ pub record AreDepLines (lines : List (Line Word)) (said : DepLines) : Type 0 whe
 -- the next line has this fault, whatever lines follow
 abbrev pub HasNextFault : List (Line Word) → Line Word → LineFault → Type 0
 HasNextFault lines here fault = (later : List (Line Word))
-    → ReportsFault Lax ((lines ++ here ∷ []) ++ later) (fault_at (length lines + 1) fault)
+    → ReportsFault Lax ((lines ++ here ∷ []) ++ later) (file_fault_at (length lines + 1) fault)
 
 -- one more line has been read, or has this fault
-abbrev pub IsNextRead : List (Line Word) → Line Word → DepLines → Result (Unit {0}) LineFault → Type 0
-IsNextRead lines here said (Ok u) = AreDepLines (lines ++ here ∷ []) said
-IsNextRead lines here said (Err fault) = HasNextFault lines here fault
+abbrev pub IsNextLineOf : List (Line Word) → Line Word → DepLines → Result (Unit {0}) LineFault → Type 0
+IsNextLineOf lines here said (Ok u) = AreDepLines (lines ++ here ∷ []) said
+IsNextLineOf lines here said (Err fault) = HasNextFault lines here fault
 
 -- all lines of the bytes have been read
 abbrev pub AreAllRead : List ℕ → DepLines → Type 0

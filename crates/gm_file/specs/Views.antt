@@ -47,6 +47,6 @@ ReportsFault mode lines fault.NoMemory = ⊤
 ReportsFault mode lines (fault.Directive line kind) = fault_of mode lines ≡ Some (line, kind)
 
 -- the fault of a line as one of the file
-abbrev pub fault_at : ℕ → LineFault → FileFault
-fault_at number line.NoMemory = fault.NoMemory
-fault_at number (line.Kind kind) = fault.Directive number kind
+abbrev pub file_fault_at : ℕ → LineFault → FileFault
+file_fault_at number line.NoMemory = fault.NoMemory
+file_fault_at number (line.Kind kind) = fault.Directive number kind

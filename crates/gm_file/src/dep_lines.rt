@@ -7,7 +7,7 @@ ghost use Rattle.gm_syntax.specs.LineReading.{HasRead};
 ghost use Rattle.gm_syntax.specs.LineViews.{line_of, plain, plain_lines};
 ghost use Rattle.gm_syntax.specs.Tokens.{Placed};
 ghost use Rattle.gm_syntax.specs.Words.{Word};
-ghost use Rattle.gm_file.specs.DepLines.{AreAllRead, AreDepLines, HasNextFault, IsMisread, IsNextRead};
+ghost use Rattle.gm_file.specs.DepLines.{AreAllRead, AreDepLines, HasNextFault, IsMisread, IsNextLineOf};
 ghost use Rattle.gm_file.specs.Directives.{block_after_line};
 ghost use Rattle.gm_file.specs.Holding.{AreFound};
 
@@ -80,7 +80,7 @@ impl<'a> DepLines<'a> {
         requires { AreFound self.old.fields }
         ensures found { OnOk result (AreFound self.new.fields) }
         ensures read { (lines : List (LineOf Word)) → AreDepLines lines self.old
-            → IsNextRead lines (plain (line_of line.now)) self.new result }
+            → IsNextLineOf lines (plain (line_of line.now)) self.new result }
     {
         let block = self.block.as_ref();
         self.fields.read_line(alloc, names, Mode::Lax, block, line)?;

@@ -2,7 +2,7 @@
 
 ghost use Rattle.std.specs.Prelude.{◌≡◌};
 ghost use Rattle.gm_file.specs.ReadFaults.{read_by_file, read_by_syntax};
-ghost use Rattle.gm_file.specs.Views.{fault_at};
+ghost use Rattle.gm_file.specs.Views.{file_fault_at};
 ghost use Rattle.gm_file.specs.declared.fault.FileFault.TheVariants as file;
 ghost use Rattle.gm_file.specs.declared.fault.LineFault.TheVariants as line;
 
@@ -115,7 +115,7 @@ impl From<FileFault> for ReadFault {
 impl LineFault {
     /// The same fault as one of the file, at the line with this number.
     pub(crate) fn at_line(self, line: usize) -> FileFault
-        ensures { result ≡ fault_at line self }
+        ensures { result ≡ file_fault_at line self }
     {
         match self {
             LineFault::NoMemory => FileFault::NoMemory,

@@ -20,7 +20,7 @@ use Rattle.gm_file_edit.specs.Packs.{fate_by, line_at, marked}
 use Rattle.gm_file_edit.specs.Searching.{is_there_from}
 use Rattle.gm_file_edit.specs.declared.keys.Key.{Key}
 use Rattle.gm_file_edit.specs.Keys.{key_of, may_concern, text_number}
-use Rattle.gm_file_edit.specs.Targets.{path_of}
+use Rattle.gm_file_edit.specs.Targets.{edited_path}
 use Rattle.gm_file_edit.proofs.Packs.{get_or-default, get_or-other}
 use Rattle.gm_file_edit.proofs.PassedOver.{passed-over}
 use Rattle.gm_file_edit.proofs.Sound.{SoundFrom}
@@ -65,7 +65,7 @@ mark-read test whole n block next_block line marks next mark lt is behind tested
 
 -- a line that is passed over for its key
 pub mark-over : (edit : Edit) (number : Option ℕ) (whole : List (Line Placed)) (n : ℕ) (block : Option Placed) (keys : List Key) (key : Key) (marks next : List Bool) → n < length whole → keys ≡ map key_of whole
-    → number ≡ option_map text_number (path_of edit) → may_concern number (get_or keys n key) ≡ false → next ≡ marks ++ false ∷ [] → IsMarkedTo (about edit) whole (drop n whole) block marks → IsMarkedTo (about edit) whole (drop (n + 1) whole) block next
+    → number ≡ option_map text_number (edited_path edit) → may_concern number (get_or keys n key) ≡ false → next ≡ marks ++ false ∷ [] → IsMarkedTo (about edit) whole (drop n whole) block marks → IsMarkedTo (about edit) whole (drop (n + 1) whole) block next
 mark-over edit number whole n block keys key marks next lt are of off pushed so =
     let line = line_at whole n in
     let count = length-map whole key_of in

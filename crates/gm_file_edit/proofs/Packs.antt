@@ -18,7 +18,7 @@ use Rattle.gm_syntax.specs.Document.{Line, Blank, Comment, Open, Close, Entry}
 use Rattle.gm_file_edit.specs.declared.packing.OpenBlock.{OpenBlock}
 use Rattle.gm_file_edit.specs.declared.packing.Packing.{Packing}
 use Rattle.gm_file_edit.specs.Fates.{Begun, Fate, is_blank_source_line, is_emptied, itself, kept, leaves_nothing, remaining_from, with_line}
-use Rattle.gm_file_edit.specs.Packs.{EndsWithBlock, IsNext, IsOpenedAt, begun_by, begun_of, inner_fates, is_bare, is_bare_block, is_uncommented, closing, line_at, marked, fate_by, opened, packed_by, packed_from, with_loss}
+use Rattle.gm_file_edit.specs.Packs.{EndsWithBlock, IsNext, IsOpenedAt, begun_by, begun_of, inner_fates, is_bare_part, is_bare_block, is_uncommented, closing, line_at, marked, fate_by, opened, packed_by, packed_from, with_loss}
 
 -- ---- what matters of an open block
 
@@ -226,11 +226,11 @@ emptied-is suffix last lost inner = rw (lost-inner lost inner, blank-inner lost 
 
 -- the closing of a block that is emptied
 pub next-emptied : (after : Bool) (block : OpenBlock) (ks lines : List (Line Placed)) (last : Option (List ℕ)) → IsOpenedAt block.at ks → take block.at lines ≡ take block.at ks
-    → (not (is_some last) && (block.lost && is_bare (drop block.at ks))) ≡ true
+    → (not (is_some last) && (block.lost && is_bare_part (drop block.at ks))) ≡ true
     → IsNext after (Some block) ks (Some (Close last)) (record { kept = block.at; after = true; block = None }) lines
 unfolding remaining_from
 next-emptied after block ks lines last begun same gone =
-    let bare : is_bare (drop block.at ks) ≡ is_bare_block begun.suffix begun.inner = ap is_bare begun.opening in
+    let bare : is_bare_part (drop block.at ks) ≡ is_bare_block begun.suffix begun.inner = ap is_bare_part begun.opening in
     let empty : is_emptied begun.suffix (inner_fates block.lost begun.inner) last ≡ true = emptied-is begun.suffix last block.lost begun.inner ∙ ap (λ (b : Bool). not (is_some last) && (block.lost && b)) (sym bare) ∙ gone in
     record {
       ends = tt;
@@ -241,10 +241,10 @@ next-emptied after block ks lines last begun same gone =
 
 -- the closing of any other block
 pub next-closed : (after : Bool) (block : OpenBlock) (ks new : List (Line Placed)) (last : Option (List ℕ)) (k : ℕ) → IsOpenedAt block.at ks
-    → (not (is_some last) && (block.lost && is_bare (drop block.at ks))) ≡ false → take (k + 1) new ≡ ks ++ Close last ∷ []
+    → (not (is_some last) && (block.lost && is_bare_part (drop block.at ks))) ≡ false → take (k + 1) new ≡ ks ++ Close last ∷ []
     → IsNext after (Some block) ks (Some (Close last)) (record { kept = k + 1; after = false; block = None }) new
 next-closed after block ks new last k begun stays is =
-    let bare : is_bare (drop block.at ks) ≡ is_bare_block begun.suffix begun.inner = ap is_bare begun.opening in
+    let bare : is_bare_part (drop block.at ks) ≡ is_bare_block begun.suffix begun.inner = ap is_bare_part begun.opening in
     let full : is_emptied begun.suffix (inner_fates block.lost begun.inner) last ≡ false = emptied-is begun.suffix last block.lost begun.inner ∙ ap (λ (b : Bool). not (is_some last) && (block.lost && b)) (sym bare) ∙ stays in
     record {
       ends = tt;
@@ -294,25 +294,25 @@ pub block-within : (at k : ℕ) (lines : List (Line Placed)) → IsOpenedAt at (
 block-within at k lines is = block-lines at k lines is
 
 pub close-emptied : (after : Bool) (block : OpenBlock) (k n : ℕ) (lines : List (Line Placed)) (xs : List declared.Line) (commented gone : Bool) → IsOpenedAt block.at (take k lines) → closing (line_at lines n) ≡ Some commented → line_views xs ≡ lines
-    → gone ≡ (not commented && (block.lost && is_bare (line_views (take (k - block.at) (drop block.at xs))))) → gone ≡ true
+    → gone ≡ (not commented && (block.lost && is_bare_part (line_views (take (k - block.at) (drop block.at xs))))) → gone ≡ true
     → IsNext after (Some block) (take k lines) (Some (line_at lines n)) (record { kept = block.at; after = true; block = None }) lines
 close-emptied after block k n lines xs commented gone begun closed seen tested holds =
     let le = block-within block.at k lines begun in
     let line = closed-line (line_at lines n) commented closed in
-    let so : (not (is_some line.0) && (block.lost && is_bare (drop block.at (take k lines)))) ≡ true =
-    ap (λ (b : Bool). not b && (block.lost && is_bare (drop block.at (take k lines)))) (sym line.2) ∙ ap (λ (ls : List (Line Placed)). not commented && (block.lost && is_bare ls)) (sym (cut-views block.at k xs le ∙ ap (λ (ls : List (Line Placed)). drop block.at (take k ls)) seen)) ∙ sym tested ∙ holds in
+    let so : (not (is_some line.0) && (block.lost && is_bare_part (drop block.at (take k lines)))) ≡ true =
+    ap (λ (b : Bool). not b && (block.lost && is_bare_part (drop block.at (take k lines)))) (sym line.2) ∙ ap (λ (ls : List (Line Placed)). not commented && (block.lost && is_bare_part ls)) (sym (cut-views block.at k xs le ∙ ap (λ (ls : List (Line Placed)). drop block.at (take k ls)) seen)) ∙ sym tested ∙ holds in
     subst (λ (l : Line Placed). IsNext after (Some block) (take k lines) (Some l) (record { kept = block.at; after = true; block = None }) lines) (sym line.1)
     (next-emptied after block (take k lines) lines line.0 begun (shorter block.at k lines le) so)
 
 pub close-kept : (after : Bool) (block : OpenBlock) (k n : ℕ) (lines new : List (Line Placed)) (xs : List declared.Line) (commented gone : Bool) → IsOpenedAt block.at (take k lines) → closing (line_at lines n) ≡ Some commented → line_views xs ≡ lines
-    → gone ≡ (not commented && (block.lost && is_bare (line_views (take (k - block.at) (drop block.at xs))))) → gone ≡ false
+    → gone ≡ (not commented && (block.lost && is_bare_part (line_views (take (k - block.at) (drop block.at xs))))) → gone ≡ false
     → take (k + 1) new ≡ take k lines ++ line_at lines n ∷ []
     → IsNext after (Some block) (take k lines) (Some (line_at lines n)) (record { kept = k + 1; after = false; block = None }) new
 close-kept after block k n lines new xs commented gone begun closed seen tested fails moved =
     let le = block-within block.at k lines begun in
     let line = closed-line (line_at lines n) commented closed in
-    let so : (not (is_some line.0) && (block.lost && is_bare (drop block.at (take k lines)))) ≡ false =
-    ap (λ (b : Bool). not b && (block.lost && is_bare (drop block.at (take k lines)))) (sym line.2) ∙ ap (λ (ls : List (Line Placed)). not commented && (block.lost && is_bare ls)) (sym (cut-views block.at k xs le ∙ ap (λ (ls : List (Line Placed)). drop block.at (take k ls)) seen)) ∙ sym tested ∙ fails in
+    let so : (not (is_some line.0) && (block.lost && is_bare_part (drop block.at (take k lines)))) ≡ false =
+    ap (λ (b : Bool). not b && (block.lost && is_bare_part (drop block.at (take k lines)))) (sym line.2) ∙ ap (λ (ls : List (Line Placed)). not commented && (block.lost && is_bare_part ls)) (sym (cut-views block.at k xs le ∙ ap (λ (ls : List (Line Placed)). drop block.at (take k ls)) seen)) ∙ sym tested ∙ fails in
     subst (λ (l : Line Placed). IsNext after (Some block) (take k lines) (Some l) (record { kept = k + 1; after = false; block = None }) new) (sym line.1)
     (next-closed after block (take k lines) new line.0 k begun so (moved ∙ ap (λ (l : Line Placed). take k lines ++ l ∷ []) line.1))
 
@@ -439,7 +439,7 @@ get_or-other [] n c d lt = absurd (omega (arith, lt))
 get_or-other (x ∷ xs) zero c d lt = refl
 get_or-other (x ∷ xs) (suc n) c d lt = get_or-other xs n c d (omega (arith, lt))
 
-bare-parts : (first : Line Placed) (inner : List (Line Placed)) → (is_uncommented first && list_all is_blank_source_line inner) ≡ is_bare (first ∷ inner)
+bare-parts : (first : Line Placed) (inner : List (Line Placed)) → (is_uncommented first && list_all is_blank_source_line inner) ≡ is_bare_part (first ∷ inner)
 bare-parts Blank inner = refl
 bare-parts (Comment text) inner = refl
 bare-parts (Open verb None) inner = refl
@@ -450,12 +450,12 @@ bare-parts (Entry words suffix) inner = refl
 pub line-at-is : (xs : List declared.Line) (n : ℕ) (line : declared.Line) → n < length xs → line ≡ get_or xs n line → line_of line ≡ line_at (line_views xs) n
 line-at-is xs n line lt is = ap line_of is ∙ sym (get_or-map line_of xs n line) ∙ get_or-other (line_views xs) n (line_of line) Blank (let e = length-map xs line_of in omega (arith, lt, e))
 
-pub bare-none : (lines : List declared.Line) → length lines < 1 → false ≡ is_bare (line_views lines)
+pub bare-none : (lines : List declared.Line) → length lines < 1 → false ≡ is_bare_part (line_views lines)
 bare-none [] short = refl
 bare-none (line ∷ lines) short = absurd (omega (arith, short))
 
 pub bare-is : (lines : List declared.Line) (first : declared.Line) (uncommented blank : Bool) → 1 ≤ length lines → first ≡ get_or lines 0 first → uncommented ≡ is_uncommented (line_of first)
-    → blank ≡ list_all (λ (line : declared.Line). is_blank_source_line (line_of line)) (take (length lines - 1) (drop 1 lines)) → (uncommented && blank) ≡ is_bare (line_views lines)
+    → blank ≡ list_all (λ (line : declared.Line). is_blank_source_line (line_of line)) (take (length lines - 1) (drop 1 lines)) → (uncommented && blank) ≡ is_bare_part (line_views lines)
 bare-is [] first uncommented blank long is tested all = absurd (omega (arith, long))
 bare-is (line ∷ lines) first uncommented blank long is tested all =
     let rest : take (length (line ∷ lines) - 1) (drop 1 (line ∷ lines)) ≡ lines = take_rest (line ∷ lines) 1 in

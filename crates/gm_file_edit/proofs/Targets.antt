@@ -22,7 +22,7 @@ use Rattle.gm_file_edit.specs.Fates.{IsValidAt, directive_at, item_of, passes}
 use Rattle.gm_file_edit.specs.Adding.{is_exclude, is_of, is_replace, is_require, is_retract, verb_text}
 use Rattle.gm_file_edit.specs.declared.adding.AddedVerb.{AddedVerb}
 use Rattle.gm_file_edit.specs.declared.adding.AddedVerb.TheVariants as verb
-use Rattle.gm_file_edit.specs.Targets.{begins_with, is_entry_of, is_first, is_text, path_of, verb_of}
+use Rattle.gm_file_edit.specs.Targets.{begins_with, is_entry_of, is_first, is_text, edited_path, verb_of}
 
 -- ---- the verb of a directive
 
@@ -291,7 +291,7 @@ same-verb (DropReplace left) = refl
 same-verb (AddRetract ends) = refl
 same-verb (DropRetract ends) = refl
 
-other-begin : (edit : Edit) (words : List Word) → begins_with (path_of edit) words ≡ false → passes (about edit) (directive_of (verb_about edit) words) ≡ false
+other-begin : (edit : Edit) (words : List Word) → begins_with (edited_path edit) words ≡ false → passes (about edit) (directive_of (verb_about edit) words) ≡ false
 unfolding directive_of
 other-begin (SetModule path) words other = absurd cc
 other-begin (SetGo text) words other = absurd cc
@@ -305,7 +305,7 @@ other-begin (AddRetract ends) words other = absurd cc
 other-begin (DropRetract ends) words other = absurd cc
 
 -- an entry with the verb and another first argument isn't targeted
-pub other-path : (edit : Edit) (text : List ℕ) (words : List Word) → bytes_eq text (verb_of edit) ≡ true → begins_with (path_of edit) words ≡ false → passes (about edit) (directive_of (main_verb text) words) ≡ false
+pub other-path : (edit : Edit) (text : List ℕ) (words : List Word) → bytes_eq text (verb_of edit) ≡ true → begins_with (edited_path edit) words ≡ false → passes (about edit) (directive_of (main_verb text) words) ≡ false
 other-path edit text words named other =
     let is : text ≡ verb_of edit = (bytes_eq-Decides text (verb_of edit)).0 named in
     let verb : main_verb text ≡ verb_about edit = ap main_verb is ∙ same-verb edit in

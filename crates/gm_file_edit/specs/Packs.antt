@@ -47,9 +47,9 @@ is_bare_block None inner = list_all is_blank_source_line inner
 is_bare_block (Some comment) inner = false
 
 -- an opening without a comment, and nothing but blank lines
-abbrev pub is_bare : List (Line Placed) → Bool
-is_bare (Open verb suffix ∷ inner) = is_bare_block suffix inner
-is_bare _ = false
+abbrev pub is_bare_part : List (Line Placed) → Bool
+is_bare_part (Open verb suffix ∷ inner) = is_bare_block suffix inner
+is_bare_part _ = false
 
 -- ---- the state of a packing
 

@@ -20,17 +20,17 @@ verb_of (AddRetract ends) = codes "retract"
 verb_of (DropRetract ends) = codes "retract"
 
 -- the path that these directives have as their first argument
-abbrev pub path_of : Edit → Option (List ℕ)
-path_of (SetModule path) = None
-path_of (SetGo text) = None
-path_of (SetRequire p) = Some p.0
-path_of (DropRequire path) = Some path
-path_of (AddExclude p) = Some p.0
-path_of (DropExclude p) = Some p.0
-path_of (SetReplace r) = Some r.0.path
-path_of (DropReplace left) = Some left.path
-path_of (AddRetract ends) = None
-path_of (DropRetract ends) = None
+abbrev pub edited_path : Edit → Option (List ℕ)
+edited_path (SetModule path) = None
+edited_path (SetGo text) = None
+edited_path (SetRequire p) = Some p.0
+edited_path (DropRequire path) = Some path
+edited_path (AddExclude p) = Some p.0
+edited_path (DropExclude p) = Some p.0
+edited_path (SetReplace r) = Some r.0.path
+edited_path (DropReplace left) = Some left.path
+edited_path (AddRetract ends) = None
+edited_path (DropRetract ends) = None
 
 -- whether a word is an argument with this value
 abbrev pub is_text : List ℕ → Option (List ℕ) → Bool

@@ -8,7 +8,7 @@ ghost use Rattle.std.specs.Prelude.{◌≡◌, ◌+◌, ◌∷◌, ◌++◌, ◌
 ghost use Rattle.std.specs.List.{list_all, list_any};
 ghost use Rattle.gm_syntax.specs.LineViews.{line_of, line_views};
 ghost use Rattle.gm_file_edit.specs.Fates.{is_blank_source_line, remaining_from};
-ghost use Rattle.gm_file_edit.specs.Packs.{EndsWithBlock, IsNext, IsOpenedAt, closing, fate_by, is_bare, is_uncommented, line_at, marked, opened, with_loss};
+ghost use Rattle.gm_file_edit.specs.Packs.{EndsWithBlock, IsNext, IsOpenedAt, closing, fate_by, is_bare_part, is_uncommented, line_at, marked, opened, with_loss};
 
 use crate::keyed_lines::KeyedLines;
 use gm_syntax::Line;
@@ -92,7 +92,7 @@ fn is_uncommented(line: &Line) -> bool
 
 /// Whether the lines are an opening without a comment, and nothing but blank lines.
 fn is_bare(lines: &[Line]) -> bool
-    ensures { result ≡ is_bare (line_views lines.now) }
+    ensures { result ≡ is_bare_part (line_views lines.now) }
 {
     match lines {
         [] => false,
@@ -103,7 +103,7 @@ fn is_bare(lines: &[Line]) -> bool
 /// Whether a block is emptied: it lost a line, no comment stands after either bracket, and nothing but blank lines
 /// stays. `lines` are those that are kept of it.
 fn is_emptied(block: OpenBlock, commented: bool, lines: &[Line]) -> bool
-    ensures { result ≡ (not commented && (block.lost && is_bare (line_views lines.now))) }
+    ensures { result ≡ (not commented && (block.lost && is_bare_part (line_views lines.now))) }
 {
     !commented && block.lost && is_bare(lines)
 }

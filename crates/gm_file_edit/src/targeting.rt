@@ -14,7 +14,7 @@ ghost use Rattle.gm_file.specs.Values.{argument};
 ghost use Rattle.gm_file_edit.specs.About.{about};
 ghost use Rattle.gm_file_edit.specs.Fates.{directive_at, item_of, passes, IsValidAt};
 ghost use Rattle.gm_file_edit.specs.Keys.{text_number};
-ghost use Rattle.gm_file_edit.specs.Targets.{begins_with, is_entry_of, is_text, path_of, verb_of};
+ghost use Rattle.gm_file_edit.specs.Targets.{begins_with, is_entry_of, is_text, edited_path, verb_of};
 ghost use Rattle.gm_file_edit.specs.Views.{edit_of};
 
 use crate::about::is_about;
@@ -62,7 +62,7 @@ fn verb_of(change: &Change) -> &'static str
 
 /// The path that these directives have as their first argument, if they have one.
 fn path_of(change: &Change) -> Option<&ModPath>
-    ensures { option_map (λ path. path.now) result ≡ path_of (edit_of change.now) }
+    ensures { option_map (λ path. path.now) result ≡ edited_path (edit_of change.now) }
 {
     match change {
         Change::SetRequire((path, _)) => Some(path),
@@ -77,7 +77,7 @@ fn path_of(change: &Change) -> Option<&ModPath>
 
 /// The number of that path.
 pub(crate) fn path_number(change: &Change) -> Option<u16>
-    ensures { result ≡ option_map text_number (path_of (edit_of change.now)) }
+    ensures { result ≡ option_map text_number (edited_path (edit_of change.now)) }
 {
     match path_of(change) {
         None => None,

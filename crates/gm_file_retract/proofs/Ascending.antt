@@ -11,7 +11,7 @@ use Rattle.std.proofs.lemmas.List.Sorted.{IsPermutation-map, list_any-IsPermutat
 use Rattle.gm_name.specs.Version.{parts_in, precedence, version_cmp}
 use Rattle.gm_name.specs.VersionOrder.{precedence_total, version_total}
 use Rattle.gm_file.specs.Directives.{Pair}
-use Rattle.gm_file_retract.specs.Shown.{holds, is_retracted, is_at_most}
+use Rattle.gm_file_retract.specs.Shown.{holds_version, is_retracted, is_at_most}
 use Rattle.gm_file_retract.specs.Swept.{AreSorted, Ascend, is_reached, ends_view, ends_views}
 use Rattle.gm_file_retract.specs.declared.sweep.Ends.{Ends}
 
@@ -82,8 +82,8 @@ pub sorted_from : (intervals : List Pair) (found sorted : List Ends) → ends_vi
 sorted_from intervals found sorted same moved ordered = record {
   ascend = ascend_from sorted (λ i j d order within. not_below (slice_index_or sorted i d) (slice_index_or sorted j d)
       (sorted_far (λ x y. is_lt (ends_cmp x y)) (ranks_by ends_total (λ (e : Ends). e)) sorted ordered i j d order within));
-  same = λ version. sym (subst (λ ps. list_any (holds version) ps ≡ list_any (holds version) (ends_views sorted)) same
-      (list_any-IsPermutation (holds version) _ _ (IsPermutation-map ends_view found sorted moved)));
+  same = λ version. sym (subst (λ ps. list_any (holds_version version) ps ≡ list_any (holds_version version) (ends_views sorted)) same
+      (list_any-IsPermutation (holds_version version) _ _ (IsPermutation-map ends_view found sorted moved)));
 }
 
 -- the higher of two ends

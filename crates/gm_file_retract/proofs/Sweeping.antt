@@ -7,7 +7,7 @@ use Rattle.std.specs.List.{AllByRecursion, filter, list_all, list_any}
 use Rattle.std.specs.declared.cmp.Ordering.TheVariants.{Less}
 use Rattle.gm_name.specs.Version.{version_cmp}
 use Rattle.gm_file.specs.Directives.{Pair}
-use Rattle.gm_file_retract.specs.Shown.{holds, is_retracted, is_at_most, shown_of}
+use Rattle.gm_file_retract.specs.Shown.{holds_version, is_retracted, is_at_most, shown_of}
 use Rattle.gm_file_retract.specs.Swept.{AreAllSwept, AreSorted, AreSwept, Ascend, is_reached}
 use Rattle.gm_file_retract.proofs.Ascending.{upto_back, upto_less, upto_trans}
 
@@ -59,9 +59,9 @@ swept_later ps v w n reach swept less = record {
 
 -- if all intervals begin at the version or before, one contains the version exactly if one ends at it or later
 held_begun : (v : List ℕ) (qs : List Pair) → list_all (λ (ends : Pair). is_at_most ends.0 v) qs ≡ true
-    → list_any (holds v) qs ≡ list_any (λ (ends : Pair). is_at_most v ends.1) qs
+    → list_any (holds_version v) qs ≡ list_any (λ (ends : Pair). is_at_most v ends.1) qs
 held_begun v [] begun = refl
-held_begun v (q ∷ qs) begun = first (is_at_most q.0 v) (is_at_most v q.1) (list_all (λ (ends : Pair). is_at_most ends.0 v) qs) (list_any (holds v) qs)
+held_begun v (q ∷ qs) begun = first (is_at_most q.0 v) (is_at_most v q.1) (list_all (λ (ends : Pair). is_at_most ends.0 v) qs) (list_any (holds_version v) qs)
     (list_any (λ (ends : Pair). is_at_most v ends.1) qs) begun (held_begun v qs)
   where
     first : (low high all some reached : Bool) → (low && all) ≡ true → (all ≡ true → some ≡ reached) → ((low && high) || some) ≡ (high || reached)
@@ -71,7 +71,7 @@ held_begun v (q ∷ qs) begun = first (is_at_most q.0 v) (is_at_most v q.1) (lis
 
 -- if the first interval begins after the version, all do, and none contains it
 late_all : (v low : List ℕ) → is_at_most low v ≡ false → (qs : List Pair) → AllByRecursion (λ (other : Pair). is_at_most low other.0 ≡ true) qs
-    → list_any (holds v) qs ≡ false
+    → list_any (holds_version v) qs ≡ false
 late_all v low late [] above = refl
 late_all v low late (q ∷ qs) above = first (is_at_most q.0 v) (is_at_most v q.1) _ (late_all v low late qs above.1) (λ begins. let e : true ≡ false = sym (upto_trans low q.0 v above.0 begins) ∙ late in cc)
   where
@@ -79,7 +79,7 @@ late_all v low late (q ∷ qs) above = first (is_at_most q.0 v) (is_at_most v q.
     first true high some e not_begun = absurd (not_begun refl)
     first false high some e not_begun = e
 
-late_rest : (v : List ℕ) (qs : List Pair) → Ascend qs → ((d : Pair) → 0 < length qs → is_at_most (slice_index_or qs 0 d).0 v ≡ false) → list_any (holds v) qs ≡ false
+late_rest : (v : List ℕ) (qs : List Pair) → Ascend qs → ((d : Pair) → 0 < length qs → is_at_most (slice_index_or qs 0 d).0 v ≡ false) → list_any (holds_version v) qs ≡ false
 late_rest v [] ascend late = refl
 late_rest v (q ∷ qs) ascend late = first (is_at_most q.0 v) (is_at_most v q.1) _ (late q (omega arith)) (late_all v q.0 (late q (omega arith)) qs ascend.0)
   where
@@ -98,10 +98,10 @@ late_drop v ps zero late d within = late d within
 late_drop v [] (suc n) late d within = absurd (omega arith)
 late_drop v (p ∷ ps) (suc n) late d within = late_drop v ps n (λ e inside. late e (omega arith)) d within
 
-any_take_drop : (v : List ℕ) (ps : List Pair) (n : ℕ) → list_any (holds v) ps ≡ (list_any (holds v) (take n ps) || list_any (holds v) (drop n ps))
+any_take_drop : (v : List ℕ) (ps : List Pair) (n : ℕ) → list_any (holds_version v) ps ≡ (list_any (holds_version v) (take n ps) || list_any (holds_version v) (drop n ps))
 any_take_drop v ps zero = refl
 any_take_drop v [] (suc n) = refl
-any_take_drop v (p ∷ ps) (suc n) = ap (λ b. holds v p || b) (any_take_drop v ps n) ∙ grouped (holds v p) _ _
+any_take_drop v (p ∷ ps) (suc n) = ap (λ b. holds_version v p || b) (any_take_drop v ps n) ∙ grouped (holds_version v p) _ _
   where
     grouped : (a b c : Bool) → (a || (b || c)) ≡ ((a || b) || c)
     grouped true b c = refl

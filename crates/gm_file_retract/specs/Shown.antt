@@ -11,12 +11,12 @@ abbrev pub is_at_most : List ℕ → List ℕ → Bool
 is_at_most one other = not (is_gt (precedence (parts_in one) (parts_in other)))
 
 -- the interval with these ends contains the version: low end, version and high end ascend
-abbrev pub holds : List ℕ → Pair → Bool
-holds version ends = is_at_most ends.0 version && is_at_most version ends.1
+abbrev pub holds_version : List ℕ → Pair → Bool
+holds_version version ends = is_at_most ends.0 version && is_at_most version ends.1
 
 -- some interval contains the version
 abbrev pub is_retracted : List Pair → List ℕ → Bool
-is_retracted intervals version = list_any (holds version) intervals
+is_retracted intervals version = list_any (holds_version version) intervals
 
 -- the versions that no interval contains, in their order
 abbrev pub shown_of : List Pair → List (List ℕ) → List (List ℕ)

@@ -58,11 +58,11 @@ sum_fault (Some table) (list_file path) content = None
 
 -- The bytes can't be read as a dependency's file: the line, or 0 for the whole file, and the kind of the error
 -- there.
-abbrev pub IsMisread : List ℕ → ℕ → Misreading → Type 0
-IsMisread content line misreading.TooMany = (line ≡ 0) × IsParsedAs content (Err syntax.TooMany)
-IsMisread content line misreading.NotUtf8 = (line ≡ 0) × IsParsedAs content (Err syntax.NotUtf8)
-IsMisread content line (misreading.Syntax kind) = IsParsedAs content (Err (syntax.Syntax line kind))
-IsMisread content line (misreading.Directive kind) = (doc : List (Line Placed)) × IsParsedAs content (Ok doc)
+abbrev pub IsMisreadAt : List ℕ → ℕ → Misreading → Type 0
+IsMisreadAt content line misreading.TooMany = (line ≡ 0) × IsParsedAs content (Err syntax.TooMany)
+IsMisreadAt content line misreading.NotUtf8 = (line ≡ 0) × IsParsedAs content (Err syntax.NotUtf8)
+IsMisreadAt content line (misreading.Syntax kind) = IsParsedAs content (Err (syntax.Syntax line kind))
+IsMisreadAt content line (misreading.Directive kind) = (doc : List (Line Placed)) × IsParsedAs content (Ok doc)
     × (directive_fault Lax (plain_lines doc) ≡ Some (line, kind))
 
 -- The bytes can be read as a dependency's file with these contents.
@@ -73,7 +73,7 @@ IsReadAsDependency content file = (doc : List (Line Placed)) × IsParsedAs conte
 -- the contents of the bytes as a dependency's file, or why they can't be read
 abbrev pub IsContentReading : List ℕ → Result Dependency Class → Type 0
 IsContentReading content (Ok file) = IsReadAsDependency content file
-IsContentReading content (Err (Malformed line kind)) = IsMisread content line kind
+IsContentReading content (Err (Malformed line kind)) = IsMisreadAt content line kind
 IsContentReading content (Err class) = ⊥
 
 -- A fault that was found first takes precedence over the contents of the bytes.

@@ -12,7 +12,7 @@ use Rattle.gm_store.specs.Asked.{Name, Reply, names_in}
 use Rattle.gm_store_sums.specs.Sums.{HasValidLines, IsFirstInvalid, ReadsAs}
 use Rattle.gm_store_sums.specs.declared.sum_table.SumTable.{SumTable}
 use Rattle.gm_graph_cache.specs.Main.{Main, ModuleVersion, main_of}
-use Rattle.gm_graph_cache.specs.Reading.{Held, IsMisread, Readings, Tells, readings_by}
+use Rattle.gm_graph_cache.specs.Reading.{Held, IsMisreadAt, Readings, Tells, readings_by}
 use Rattle.gm_graph_cache.specs.declared.class.Misreading.TheVariants as misreading
 use Rattle.gm_graph_select.specs.declared.step.Step.{Step}
 use Rattle.gm_graph_select.specs.declared.step.Edge.{Edge}
@@ -100,9 +100,9 @@ IsMainFile bytes main = (lines : List (Line Placed)) × IsMainOf bytes lines × 
 -- wrong there. Bytes that are not a document are misread in the same way as a dependency's file; directives are
 -- read strictly.
 abbrev pub IsMalformedMain : List ℕ → Place → Type 0
-IsMalformedMain bytes (number, misreading.TooMany) = IsMisread bytes number misreading.TooMany
-IsMalformedMain bytes (number, misreading.NotUtf8) = IsMisread bytes number misreading.NotUtf8
-IsMalformedMain bytes (number, misreading.Syntax kind) = IsMisread bytes number (misreading.Syntax kind)
+IsMalformedMain bytes (number, misreading.TooMany) = IsMisreadAt bytes number misreading.TooMany
+IsMalformedMain bytes (number, misreading.NotUtf8) = IsMisreadAt bytes number misreading.NotUtf8
+IsMalformedMain bytes (number, misreading.Syntax kind) = IsMisreadAt bytes number (misreading.Syntax kind)
 IsMalformedMain bytes (number, misreading.Directive kind) =
     (lines : List (Line Placed)) × IsParsedAs bytes (Ok lines)
     × (directive_fault Strict (plain_lines lines) ≡ Some (number, kind))

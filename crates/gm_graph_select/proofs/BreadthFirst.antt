@@ -18,9 +18,9 @@ use Rattle.gm_graph_select.specs.declared.numbering.Sources.{Sources}
 use Rattle.gm_graph_select.specs.declared.searching.Visit.{Visit}
 use Rattle.gm_graph_select.specs.Graph.{Vertex, Edges, edge, step_cmp}
 use Rattle.gm_graph_select.specs.Chains.{IsChain, IsLevel, IsPredecessor, IsReached, Leads, along, at_main, begins, goes_on}
-use Rattle.gm_graph_select.specs.Numbering.{AreSources, edges_of, step_at, steps_of}
+use Rattle.gm_graph_select.specs.Numbering.{AreSources, source_edges, step_at, steps_of}
 use Rattle.gm_graph_select.specs.Order.{IsAscending}
-use Rattle.gm_graph_select.specs.Searching.{AreTraced, AreTried, IsDue, IsFollowed, IsSearchedTo, IsTraced, IsTracedTo, IsTurn, IsWithin, State, count_left, first_state, flag, found_at, visit_at, visited}
+use Rattle.gm_graph_select.specs.Searching.{AreTraced, AreTried, IsDue, IsFollowed, IsSearchedTo, IsTraced, IsTracedTo, IsTurn, IsWithin, State, count_left, first_state, flag, is_found_at, visit_at, visited}
 use Rattle.gm_graph_select.proofs.NumberedSteps.{less_number, same_number, source_number}
 
 -- ---- vertices
@@ -135,21 +135,21 @@ module _ (E : Edges) (steps : List Step) (visits : List Visit) (v : Visit) where
 
 -- ---- one more edge
 
-set_true : (found : List Bool) (i j : ℕ) → i < length found → found_at found j ≡ true → found_at (set found i true) j ≡ true
+set_true : (found : List Bool) (i j : ℕ) → i < length found → is_found_at found j ≡ true → is_found_at (set found i true) j ≡ true
 set_true found i j below h = elim (cases_eq j i) [
-  | inl is ↦ subst (λ (k : ℕ). found_at (set found i true) k ≡ true) (sym is) (get_or-set_same found i true false below)
+  | inl is ↦ subst (λ (k : ℕ). is_found_at (set found i true) k ≡ true) (sym is) (get_or-set_same found i true false below)
   | inr ne ↦ get_or-set_other found i j true false ne ∙ h
 ]
 
-count_set : (found : List Bool) (i : ℕ) → i < length found → found_at found i ≡ false → count_left (set found i true) + 1 ≡ count_left found
+count_set : (found : List Bool) (i : ℕ) → i < length found → is_found_at found i ≡ false → count_left (set found i true) + 1 ≡ count_left found
 count_set found i below none =
     let sums = sum_by-set (λ (b : Bool). cond b 0 1) found i true false below in
-    let one : cond (found_at found i) 0 1 ≡ 1 = ap {B = ℕ} (λ (b : Bool). cond b 0 1) none in
+    let one : cond (is_found_at found i) 0 1 ≡ 1 = ap {B = ℕ} (λ (b : Bool). cond b 0 1) none in
     omega (arith, sums, one)
 
 module _ (S : Sources) (goal : Vertex) (level : ℕ) (before : List Bool) (tried : List Edge) where
   -- An edge whose end was found, if it has a number.
-  pub with_edge : (state : State) (e : Edge) → e.to ≢ goal → ((i : ℕ) → i < length (steps_of S) → step_at (steps_of S) i ≡ Of e.to → found_at state.found i ≡ true) → IsFollowed S goal level before tried state → IsFollowed S goal level before (tried ++ e ∷ []) state
+  pub with_edge : (state : State) (e : Edge) → e.to ≢ goal → ((i : ℕ) → i < length (steps_of S) → step_at (steps_of S) i ≡ Of e.to → is_found_at state.found i ≡ true) → IsFollowed S goal level before tried state → IsFollowed S goal level before (tried ++ e ∷ []) state
   with_edge state e miss end f = record {
     size = f.size;
     keeps = f.keeps;
@@ -161,7 +161,7 @@ module _ (S : Sources) (goal : Vertex) (level : ℕ) (before : List Bool) (tried
     once = f.once;
     ends = λ a h. elim (Contains-push_cases tried e a h) [
       | inl old ↦ f.ends a old
-      | inr new ↦ subst (λ (b : Edge). (i : ℕ) → i < length (steps_of S) → step_at (steps_of S) i ≡ Of b.to → found_at state.found i ≡ true) new end
+      | inr new ↦ subst (λ (b : Edge). (i : ℕ) → i < length (steps_of S) → step_at (steps_of S) i ≡ Of b.to → is_found_at state.found i ≡ true) new end
     ];
     misses = λ a h. elim (Contains-push_cases tried e a h) [ inl old ↦ f.misses a old | inr new ↦ subst (λ (b : Edge). b.to ≢ goal) new miss ];
     visits = f.visits;
@@ -169,7 +169,7 @@ module _ (S : Sources) (goal : Vertex) (level : ℕ) (before : List Bool) (tried
   }
 
   -- One more visit.
-  pub with_visit : (found : List Bool) (visits next : List Visit) (v : Visit) → v.number < length (steps_of S) → IsTraced (edges_of S) (steps_of S) visits (length visits) v → IsFollowed S goal level before tried (record { found = found; visits = visits; next = next }) → IsFollowed S goal level before tried (record { found = found; visits = visits ++ v ∷ []; next = next })
+  pub with_visit : (found : List Bool) (visits next : List Visit) (v : Visit) → v.number < length (steps_of S) → IsTraced (source_edges S) (steps_of S) visits (length visits) v → IsFollowed S goal level before tried (record { found = found; visits = visits; next = next }) → IsFollowed S goal level before tried (record { found = found; visits = visits ++ v ∷ []; next = next })
   with_visit found visits next v inside traced f = record {
     size = f.size;
     keeps = f.keeps;
@@ -177,17 +177,17 @@ module _ (S : Sources) (goal : Vertex) (level : ℕ) (before : List Bool) (tried
     inside = f.inside;
     found = f.found;
     on_level = f.on_level;
-    traced = λ w h. traced_more (edges_of S) (steps_of S) visits v w (f.traced w h);
+    traced = λ w h. traced_more (source_edges S) (steps_of S) visits v w (f.traced w h);
     once = f.once;
     ends = f.ends;
     misses = f.misses;
-    visits = all_traced (edges_of S) (steps_of S) visits v inside traced f.visits;
+    visits = all_traced (source_edges S) (steps_of S) visits v inside traced f.visits;
     count = f.count;
   }
 
   -- The end of an edge is found.
   pub with_end : (found : List Bool) (visits next : List Visit) (i place : ℕ) (e : Edge) → AreSources S → IsTurn S level before tried e.from → visited (steps_of S) visits place ≡ e.from → place < length visits → Contains S.edges.now e
-      → i < length (steps_of S) → step_at (steps_of S) i ≡ Of e.to → found_at found i ≡ false → IsFollowed S goal level before tried (record { found = found; visits = visits; next = next })
+      → i < length (steps_of S) → step_at (steps_of S) i ≡ Of e.to → is_found_at found i ≡ false → IsFollowed S goal level before tried (record { found = found; visits = visits; next = next })
       → IsFollowed S goal level before tried (record { found = set found i true; visits = visits; next = next ++ record { number = i; before = place } ∷ [] })
   with_end found visits next i place e are turn here room there inside is none f = record {
     size = length-set found i true ∙ f.size;
@@ -196,16 +196,16 @@ module _ (S : Sources) (goal : Vertex) (level : ℕ) (before : List Bool) (tried
     inside = λ w h. elim (Contains-push_cases next v w h) [ inl old ↦ f.inside w old | inr new ↦ subst (λ (u : Visit). u.number < length (steps_of S)) new inside ];
     found = λ w h. elim (Contains-push_cases next v w h) [
       | inl old ↦ set_true found i w.number below (f.found w old)
-      | inr new ↦ subst (λ (u : Visit). found_at (set found i true) u.number ≡ true) new (get_or-set_same found i true false below)
+      | inr new ↦ subst (λ (u : Visit). is_found_at (set found i true) u.number ≡ true) new (get_or-set_same found i true false below)
     ];
     on_level = λ w h. elim (Contains-push_cases next v w h) [
       | inl old ↦ f.on_level w old
-      | inr new ↦ subst (λ (u : Visit). IsLevel (edges_of S) (step_at (steps_of S) u.number) (suc level)) new
-          (subst (λ (s : Step). IsLevel (edges_of S) s (suc level)) (sym is) further)
+      | inr new ↦ subst (λ (u : Visit). IsLevel (source_edges S) (step_at (steps_of S) u.number) (suc level)) new
+          (subst (λ (s : Step). IsLevel (source_edges S) s (suc level)) (sym is) further)
     ];
     traced = λ w h. elim (Contains-push_cases next v w h) [
       | inl old ↦ f.traced w old
-      | inr new ↦ subst (λ (u : Visit). IsTraced (edges_of S) (steps_of S) visits (length visits) u) new (inr (e.to, is, room, predecessor))
+      | inr new ↦ subst (λ (u : Visit). IsTraced (source_edges S) (steps_of S) visits (length visits) u) new (inr (e.to, is, room, predecessor))
     ];
     once = λ w u h g. elim (Contains-push_cases next v w h) [
       | inl old ↦ elim (Contains-push_cases next v u g) [
@@ -229,14 +229,14 @@ module _ (S : Sources) (goal : Vertex) (level : ℕ) (before : List Bool) (tried
       below : i < length found
       below = let size = f.size in omega (arith, size, inside)
 
-      far : IsWithin (edges_of S) level (Of e.to) → ⊥
-      far w = false≢true (sym none ∙ f.keeps i (turn.full i inside (subst (λ (s : Step). IsWithin (edges_of S) level s) (sym is) w)))
+      far : IsWithin (source_edges S) level (Of e.to) → ⊥
+      far w = false≢true (sym none ∙ f.keeps i (turn.full i inside (subst (λ (s : Step). IsWithin (source_edges S) level s) (sym is) w)))
 
-      further : IsLevel (edges_of S) (Of e.to) (suc level)
-      further = is_further (edges_of S) level e.to far e.from turn.on_level there
+      further : IsLevel (source_edges S) (Of e.to) (suc level)
+      further = is_further (source_edges S) level e.to far e.from turn.on_level there
 
-      predecessor : IsPredecessor (edges_of S) (visited (steps_of S) visits place) e.to
-      predecessor = subst (λ (s : Step). IsPredecessor (edges_of S) s e.to) (sym here) (record {
+      predecessor : IsPredecessor (source_edges S) (visited (steps_of S) visits place) e.to
+      predecessor = subst (λ (s : Step). IsPredecessor (source_edges S) s e.to) (sym here) (record {
         is_edge = there;
         level = level;
         nearer = turn.on_level;
@@ -244,7 +244,7 @@ module _ (S : Sources) (goal : Vertex) (level : ℕ) (before : List Bool) (tried
         least = λ t h l. is_false (is_lt (step_cmp t e.from)) (λ low. false≢true (sym none ∙ f.ends (edge t e.to) (turn.lower t e.to h l low) i inside is));
       })
 
-      news : (j : ℕ) → found_at (set found i true) j ≡ true → (found_at before j ≡ true) ⊎ ((w : Visit) × Contains (next ++ v ∷ []) w × (w.number ≡ j))
+      news : (j : ℕ) → is_found_at (set found i true) j ≡ true → (is_found_at before j ≡ true) ⊎ ((w : Visit) × Contains (next ++ v ∷ []) w × (w.number ≡ j))
       news j h = elim (cases_eq j i) [
         | inl same ↦ inr (v, Contains-push next v, sym same)
         | inr ne ↦ elim (f.news j (sym (get_or-set_other found i j true false ne) ∙ h)) [
@@ -254,15 +254,15 @@ module _ (S : Sources) (goal : Vertex) (level : ℕ) (before : List Bool) (tried
       ]
 
       unlike : (w u : Visit) → Contains next w → v ≡ u → w.number ≡ u.number → ⊥
-      unlike w u old new same = false≢true (sym none ∙ ap (found_at found) (ap (λ (x : Visit). x.number) new ∙ sym same) ∙ f.found w old)
+      unlike w u old new same = false≢true (sym none ∙ ap (is_found_at found) (ap (λ (x : Visit). x.number) new ∙ sym same) ∙ f.found w old)
 
   -- The goal is found.
-  pub goal_found : (state : State) (s : Step) → edges_of S s goal → IsTurn S level before tried s → (IsWithin (edges_of S) level (Of goal) → ⊥) → IsFollowed S goal level before tried state → IsPredecessor (edges_of S) s goal
+  pub goal_found : (state : State) (s : Step) → source_edges S s goal → IsTurn S level before tried s → (IsWithin (source_edges S) level (Of goal) → ⊥) → IsFollowed S goal level before tried state → IsPredecessor (source_edges S) s goal
   goal_found state s there turn far f = record {
     is_edge = there;
     level = level;
     nearer = turn.on_level;
-    further = is_further (edges_of S) level goal far s turn.on_level there;
+    further = is_further (source_edges S) level goal far s turn.on_level there;
     least = λ t h l. is_false (is_lt (step_cmp t s)) (λ low. f.misses (edge t goal) (turn.lower t goal h l low) refl);
   }
 
@@ -275,15 +275,15 @@ module _ (S : Sources) (goal : Vertex) (level : ℕ) (before : List Bool) (tried
 
   -- The goal is found by an edge that leaves the last visited step.
   pub found_here : (state : State) (old : List Visit) (v : Visit) (e : Edge) → state.visits ≡ old ++ v ∷ [] → e.to ≡ goal → Contains S.edges.now e → e.from ≡ step_at (steps_of S) v.number
-      → IsTurn S level before tried (step_at (steps_of S) v.number) → (IsWithin (edges_of S) level (Of goal) → ⊥) → IsFollowed S goal level before tried state → IsTracedTo S goal state.visits
+      → IsTurn S level before tried (step_at (steps_of S) v.number) → (IsWithin (source_edges S) level (Of goal) → ⊥) → IsFollowed S goal level before tried state → IsTracedTo S goal state.visits
   found_here state old v e visits to there from turn far f = record {
     each = f.visits;
     some = let long = ap length visits in omega (arith, long, length-append old (v ∷ []));
-    last = subst (λ (s : Step). IsPredecessor (edges_of S) s goal) (sym last) (goal_found state (step_at (steps_of S) v.number) here turn far f);
+    last = subst (λ (s : Step). IsPredecessor (source_edges S) s goal) (sym last) (goal_found state (step_at (steps_of S) v.number) here turn far f);
   }
     where
-      here : edges_of S (step_at (steps_of S) v.number) goal
-      here = subst (λ (s : Step). edges_of S s goal) from (subst (λ (y : Vertex). edges_of S e.from y) to there)
+      here : source_edges S (step_at (steps_of S) v.number) goal
+      here = subst (λ (s : Step). source_edges S s goal) from (subst (λ (y : Vertex). source_edges S e.from y) to there)
 
       place : length state.visits - 1 ≡ length old
       place = let long = ap length visits in omega (arith, long, length-append old (v ∷ []))
@@ -305,11 +305,11 @@ last_visit steps visits v all p is at = (
 
 -- ---- one more visit of a level
 
-pub one_tried : (S : Sources) (v : Visit) (more : List Edge) → ((y : Vertex) → edges_of S (step_at (steps_of S) v.number) y → Contains more (edge (step_at (steps_of S) v.number) y)) → AreTried S (v ∷ []) more
+pub one_tried : (S : Sources) (v : Visit) (more : List Edge) → ((y : Vertex) → source_edges S (step_at (steps_of S) v.number) y → Contains more (edge (step_at (steps_of S) v.number) y)) → AreTried S (v ∷ []) more
 one_tried S v more all w (k, inside, at) y e = elim (cases_eq k 0) [
   | inl nil ↦
       let same : v ≡ w = subst (λ (n : ℕ). get_or (v ∷ []) n w ≡ w) nil at in
-      subst (λ (u : Visit). edges_of S (step_at (steps_of S) u.number) y → Contains more (edge (step_at (steps_of S) u.number) y)) same (all y) e
+      subst (λ (u : Visit). source_edges S (step_at (steps_of S) u.number) y → Contains more (edge (step_at (steps_of S) u.number) y)) same (all y) e
   | inr ne ↦ absurd (omega (arith, inside, ne))
 ]
 
@@ -349,7 +349,7 @@ level_begins S goal level start due h = record {
 
 -- A visit of the level is due after those before it.
 pub due_next : (S : Sources) (goal : Vertex) (level : ℕ) (start state : State) (due : List Visit) (tried : List Edge) (i : ℕ) (v : Visit) → AreSources S → IsSearchedTo S goal level start due → i < length due → v ≡ get_or due i v → AreTried S (take i due) tried
-    → IsTraced (edges_of S) (steps_of S) state.visits (length state.visits) v → IsFollowed S goal level start.found tried state → IsDue S goal level start.found tried state v
+    → IsTraced (source_edges S) (steps_of S) state.visits (length state.visits) v → IsFollowed S goal level start.found tried state → IsDue S goal level start.found tried state v
 due_next S goal level start state due tried i v are h below is all traced f = record {
   turn = record { on_level = h.on_level v member; lower = lower; full = λ j inside w. (h.found j inside).1 w };
   far = h.far;
@@ -360,14 +360,14 @@ due_next S goal level start state due tried i v are h below is all traced f = re
     member : Contains due v
     member = (i, below, sym is)
 
-    lower : (t : Step) (y : Vertex) → edges_of S t y → IsLevel (edges_of S) t level → is_lt (step_cmp t (step_at (steps_of S) v.number)) ≡ true → Contains tried (edge t y)
+    lower : (t : Step) (y : Vertex) → source_edges S t y → IsLevel (source_edges S) t level → is_lt (step_cmp t (step_at (steps_of S) v.number)) ≡ true → Contains tried (edge t y)
     lower t y e l low =
         let (j, inside, at) = source_number S.edges.now S.list.items are.left t y e in
-        let (w, (p, room, found), number) = h.listed j inside (subst (λ (s : Step). IsLevel (edges_of S) s level) (sym at) l) in
+        let (w, (p, room, found), number) = h.listed j inside (subst (λ (s : Step). IsLevel (source_edges S) s level) (sym at) l) in
         let less : j < v.number = less_number (steps_of S) are.left.ascending j v.number inside (h.inside v member) (subst (λ (s : Step). is_lt (step_cmp s (step_at (steps_of S) v.number)) ≡ true) (sym at) low) in
         let same : step_at (steps_of S) w.number ≡ t = ap (step_at (steps_of S)) number ∙ at in
         subst (λ (s : Step). Contains tried (edge s y)) same (elim (cases_lt p i) [
-          | inl lt ↦ all w (p, omega (arith, length-take-le i due (omega (arith, below)), lt), get_or-take i due p w lt ∙ found) y (subst (λ (s : Step). edges_of S s y) (sym same) e)
+          | inl lt ↦ all w (p, omega (arith, length-take-le i due (omega (arith, below)), lt), get_or-take i due p w lt ∙ found) y (subst (λ (s : Step). source_edges S s y) (sym same) e)
           | inr ge ↦ absurd (
               let here : (visit_at due i).number ≡ v.number = ap (λ (u : Visit). u.number) (get_or_default due i (record { number = 0; before = 0 }) v below ∙ sym is) in
               let there : (visit_at due p).number ≡ j = ap (λ (u : Visit). u.number) (get_or_default due p (record { number = 0; before = 0 }) w room ∙ found) ∙ number in
@@ -384,27 +384,27 @@ due_next S goal level start state due tried i v are h below is all traced f = re
 
 module _ (S : Sources) (goal : Vertex) (level : ℕ) (start : State) (due : List Visit) (tried : List Edge) (state : State) (are : AreSources S) (h : IsSearchedTo S goal level start due) (all : AreTried S due tried) (f : IsFollowed S goal level start.found tried state) where
   E : Edges
-  E = edges_of S
+  E = source_edges S
 
-  tried_edge : (s : Step) (y : Vertex) → IsLevel (edges_of S) s level → edges_of S s y → Contains tried (edge s y)
+  tried_edge : (s : Step) (y : Vertex) → IsLevel (source_edges S) s level → source_edges S s y → Contains tried (edge s y)
   tried_edge s y l e =
       let (i, inside, at) = source_number S.edges.now S.list.items are.left s y e in
-      let (v, there, number) = h.listed i inside (subst (λ (t : Step). IsLevel (edges_of S) t level) (sym at) l) in
+      let (v, there, number) = h.listed i inside (subst (λ (t : Step). IsLevel (source_edges S) t level) (sym at) l) in
       let same : step_at (steps_of S) v.number ≡ s = ap (step_at (steps_of S)) number ∙ at in
-      subst (λ (t : Step). Contains tried (edge t y)) same (all v there y (subst (λ (t : Step). edges_of S t y) (sym same) e))
+      subst (λ (t : Step). Contains tried (edge t y)) same (all v there y (subst (λ (t : Step). source_edges S t y) (sym same) e))
 
-  found_old : (i : ℕ) → i < length (steps_of S) → IsWithin (edges_of S) level (step_at (steps_of S) i) → found_at state.found i ≡ true
+  found_old : (i : ℕ) → i < length (steps_of S) → IsWithin (source_edges S) level (step_at (steps_of S) i) → is_found_at state.found i ≡ true
   found_old i inside w = f.keeps i ((h.found i inside).1 w)
 
-  found_next : (i : ℕ) → i < length (steps_of S) → IsWithin (edges_of S) (suc level) (step_at (steps_of S) i) → found_at state.found i ≡ true
-  found_next i inside w = by_true (found_at state.found i) (λ none. go none (step_at (steps_of S) i) refl)
+  found_next : (i : ℕ) → i < length (steps_of S) → IsWithin (source_edges S) (suc level) (step_at (steps_of S) i) → is_found_at state.found i ≡ true
+  found_next i inside w = by_true (is_found_at state.found i) (λ none. go none (step_at (steps_of S) i) refl)
     where
-      go : found_at state.found i ≡ false → (s : Step) → step_at (steps_of S) i ≡ s → ⊥
-      go none Main is = false≢true (sym none ∙ found_old i inside (subst (λ (s : Step). IsWithin (edges_of S) level s) (sym is) (0, omega arith, at_main)))
-      go none (Of y) is = not_further (edges_of S) level y
-          (λ g. false≢true (sym none ∙ found_old i inside (subst (λ (s : Step). IsWithin (edges_of S) level s) (sym is) g)))
+      go : is_found_at state.found i ≡ false → (s : Step) → step_at (steps_of S) i ≡ s → ⊥
+      go none Main is = false≢true (sym none ∙ found_old i inside (subst (λ (s : Step). IsWithin (source_edges S) level s) (sym is) (0, omega arith, at_main)))
+      go none (Of y) is = not_further (source_edges S) level y
+          (λ g. false≢true (sym none ∙ found_old i inside (subst (λ (s : Step). IsWithin (source_edges S) level s) (sym is) g)))
           (λ s l e. false≢true (sym none ∙ f.ends (edge s y) (tried_edge s y l e) i inside is))
-          (subst (λ (s : Step). IsWithin (edges_of S) (suc level) s) is w)
+          (subst (λ (s : Step). IsWithin (source_edges S) (suc level) s) is w)
 
   pub level_more : (next : List Visit) → ((v : Visit) → Contains state.next v ↔ Contains next v) → ((i j : ℕ) → i < j → j < length next → (visit_at next i).number < (visit_at next j).number)
       → IsSearchedTo S goal (suc level) (record { found = state.found; visits = state.visits; next = [] }) next
@@ -417,17 +417,17 @@ module _ (S : Sources) (goal : Vertex) (level : ℕ) (start : State) (due : List
     traced = λ v there. f.traced v ((same v).1 there);
     ascending = up;
     visits = f.visits;
-    far = not_further (edges_of S) level goal h.far (λ s l e. f.misses (edge s goal) (tried_edge s goal l e) refl);
+    far = not_further (source_edges S) level goal h.far (λ s l e. f.misses (edge s goal) (tried_edge s goal l e) refl);
     none = refl;
   }
     where
-      within : (i : ℕ) → i < length (steps_of S) → found_at state.found i ≡ true → IsWithin (edges_of S) (suc level) (step_at (steps_of S) i)
+      within : (i : ℕ) → i < length (steps_of S) → is_found_at state.found i ≡ true → IsWithin (source_edges S) (suc level) (step_at (steps_of S) i)
       within i inside g = elim (f.news i g) [
         | inl old ↦ let (k, low, l) = (h.found i inside).0 old in (k, omega (arith, low), l)
-        | inr (v, there, number) ↦ (suc level, omega arith, subst (λ (n : ℕ). Leads (edges_of S) (step_at (steps_of S) n) (suc level)) number (f.on_level v there).leads)
+        | inr (v, there, number) ↦ (suc level, omega arith, subst (λ (n : ℕ). Leads (source_edges S) (step_at (steps_of S) n) (suc level)) number (f.on_level v there).leads)
       ]
 
-      dues : (i : ℕ) → i < length (steps_of S) → IsLevel (edges_of S) (step_at (steps_of S) i) (suc level) → (v : Visit) × Contains next v × (v.number ≡ i)
+      dues : (i : ℕ) → i < length (steps_of S) → IsLevel (source_edges S) (step_at (steps_of S) i) (suc level) → (v : Visit) × Contains next v × (v.number ≡ i)
       dues i inside l = elim (f.news i (found_next i inside (suc level, omega arith, l.leads))) [
         | inl old ↦ absurd (let (k, low, g) = (h.found i inside).0 old in let high = l.least k g in omega (arith, low, high))
         | inr (v, there, number) ↦ (v, (same v).0 there, number)
@@ -441,30 +441,30 @@ level_taken S goal level found new_found visits new_visits next due same alike n
     (subst (λ (vs : List Visit). IsSearchedTo S goal level (record { found = found; visits = visits; next = vs }) due) (sym none) h))
 
 -- Where a level has no steps, nothing more is found.
-pub not_reached : (S : Sources) (goal : Vertex) (level : ℕ) (state : State) (due : List Visit) → AreSources S → IsSearchedTo S goal level state due → due ≡ [] → IsReached (edges_of S) (Of goal) → ⊥
+pub not_reached : (S : Sources) (goal : Vertex) (level : ℕ) (state : State) (due : List Visit) → AreSources S → IsSearchedTo S goal level state due → due ≡ [] → IsReached (source_edges S) (Of goal) → ⊥
 not_reached S goal level state due are h empty (n, leads) = last n leads
   where
-    no_level : (s : Step) (y : Vertex) → IsLevel (edges_of S) s level → edges_of S s y → ⊥
+    no_level : (s : Step) (y : Vertex) → IsLevel (source_edges S) s level → source_edges S s y → ⊥
     no_level s y l e =
         let (i, inside, at) = source_number S.edges.now S.list.items are.left s y e in
-        let (v, there, number) = h.listed i inside (subst (λ (t : Step). IsLevel (edges_of S) t level) (sym at) l) in
+        let (v, there, number) = h.listed i inside (subst (λ (t : Step). IsLevel (source_edges S) t level) (sym at) l) in
         let (k, below, is) = subst (λ (vs : List Visit). Contains vs v) empty there in
         omega (arith, below)
 
-    all_found : (s : Step) (k : ℕ) → Leads (edges_of S) s k → (y : Vertex) → edges_of S s y → IsWithin (edges_of S) level s
+    all_found : (s : Step) (k : ℕ) → Leads (source_edges S) s k → (y : Vertex) → source_edges S s y → IsWithin (source_edges S) level s
     all_found _ _ at_main y e = (0, omega arith, at_main)
     all_found _ _ (along {s} {y = z} {n = k} l a) y e =
         let (m, low, near) = all_found s k l z a in
         let (i, inside, at) = source_number S.edges.now S.list.items are.left (Of z) y e in
-        let to_found : IsWithin (edges_of S) level (Of z) → found_at state.found i ≡ true = λ w. (h.found i inside).1 (subst (λ (t : Step). IsWithin (edges_of S) level t) (sym at) w) in
-        let found : found_at state.found i ≡ true = by_true (found_at state.found i) (λ none.
-        not_further (edges_of S) level z (λ w. false≢true (sym none ∙ to_found w)) (λ t l2 e2. no_level t z l2 e2) (suc m, omega (arith, low), along near a)) in
-        subst (λ (t : Step). IsWithin (edges_of S) level t) at ((h.found i inside).0 found)
+        let to_found : IsWithin (source_edges S) level (Of z) → is_found_at state.found i ≡ true = λ w. (h.found i inside).1 (subst (λ (t : Step). IsWithin (source_edges S) level t) (sym at) w) in
+        let found : is_found_at state.found i ≡ true = by_true (is_found_at state.found i) (λ none.
+        not_further (source_edges S) level z (λ w. false≢true (sym none ∙ to_found w)) (λ t l2 e2. no_level t z l2 e2) (suc m, omega (arith, low), along near a)) in
+        subst (λ (t : Step). IsWithin (source_edges S) level t) at ((h.found i inside).0 found)
 
-    last : (n : ℕ) → Leads (edges_of S) (Of goal) n → ⊥
+    last : (n : ℕ) → Leads (source_edges S) (Of goal) n → ⊥
     last _ (along {s} {n = k} l e) =
         let (m, low, near) = all_found s k l goal e in
-        not_further (edges_of S) level goal h.far (λ t l2 e2. no_level t goal l2 e2) (suc m, omega (arith, low), along near e)
+        not_further (source_edges S) level goal h.far (λ t l2 e2. no_level t goal l2 e2) (suc m, omega (arith, low), along near e)
 
 -- ---- the first level
 
@@ -472,13 +472,13 @@ pub first_level : (S : Sources) (goal : Vertex) (due : List Visit) → AreSource
 first_level S goal due are some main is = subst (λ (d : List Visit). IsSearchedTo S goal 0 (first_state (length (steps_of S))) d) (sym is) (record {
   size = length-set none 0 true ∙ length-replicate (length (steps_of S)) false;
   found = λ i inside. (from i inside, to i inside);
-  listed = λ i inside l. (v, (0, omega arith, refl), sym (only i inside (leads_none (edges_of S) (step_at (steps_of S) i) l.leads)));
+  listed = λ i inside l. (v, (0, omega arith, refl), sym (only i inside (leads_none (source_edges S) (step_at (steps_of S) i) l.leads)));
   inside = λ w there. subst (λ (u : Visit). u.number < length (steps_of S)) (one w there) some;
-  on_level = λ w there. subst (λ (u : Visit). IsLevel (edges_of S) (step_at (steps_of S) u.number) 0) (one w there) (subst (λ (s : Step). IsLevel (edges_of S) s 0) (sym main) (main_level (edges_of S)));
+  on_level = λ w there. subst (λ (u : Visit). IsLevel (source_edges S) (step_at (steps_of S) u.number) 0) (one w there) (subst (λ (s : Step). IsLevel (source_edges S) s 0) (sym main) (main_level (source_edges S)));
   traced = λ w there. inl (subst (λ (u : Visit). step_at (steps_of S) u.number ≡ Main) (one w there) main);
   ascending = λ i j lt below. absurd (omega (arith, lt, below));
   visits = record { inside = λ k below. absurd (omega (arith, below)); traced = λ k below. absurd (omega (arith, below)) };
-  far = λ w. absurd (let same : Of goal ≡ Main = within_none (edges_of S) (Of goal) w in cc same);
+  far = λ w. absurd (let same : Of goal ≡ Main = within_none (source_edges S) (Of goal) w in cc same);
   none = refl;
 })
   where
@@ -500,24 +500,24 @@ first_level S goal due are some main is = subst (λ (d : List Visit). IsSearched
     only : (i : ℕ) → i < length (steps_of S) → step_at (steps_of S) i ≡ Main → i ≡ 0
     only i inside at = same_number (steps_of S) are.left.ascending i 0 inside some (at ∙ sym main)
 
-    from : (i : ℕ) → i < length (steps_of S) → found_at (set none 0 true) i ≡ true → IsWithin (edges_of S) 0 (step_at (steps_of S) i)
+    from : (i : ℕ) → i < length (steps_of S) → is_found_at (set none 0 true) i ≡ true → IsWithin (source_edges S) 0 (step_at (steps_of S) i)
     from i inside g = elim (cases_eq i 0) [
-      | inl nil ↦ subst (λ (n : ℕ). IsWithin (edges_of S) 0 (step_at (steps_of S) n)) (sym nil) (subst (λ (s : Step). IsWithin (edges_of S) 0 s) (sym main) (0, omega arith, at_main))
+      | inl nil ↦ subst (λ (n : ℕ). IsWithin (source_edges S) 0 (step_at (steps_of S) n)) (sym nil) (subst (λ (s : Step). IsWithin (source_edges S) 0 s) (sym main) (0, omega arith, at_main))
       | inr ne ↦ absurd (false≢true (sym (get_or-set_other none 0 i true false ne ∙ get_or-replicate (length (steps_of S)) i false false inside) ∙ g))
     ]
 
-    to : (i : ℕ) → i < length (steps_of S) → IsWithin (edges_of S) 0 (step_at (steps_of S) i) → found_at (set none 0 true) i ≡ true
-    to i inside w = subst (λ (n : ℕ). found_at (set none 0 true) n ≡ true) (sym (only i inside (within_none (edges_of S) (step_at (steps_of S) i) w))) (get_or-set_same none 0 true false below)
+    to : (i : ℕ) → i < length (steps_of S) → IsWithin (source_edges S) 0 (step_at (steps_of S) i) → is_found_at (set none 0 true) i ≡ true
+    to i inside w = subst (λ (n : ℕ). is_found_at (set none 0 true) n ≡ true) (sym (only i inside (within_none (source_edges S) (step_at (steps_of S) i) w))) (get_or-set_same none 0 true false below)
 
 -- Where no edge leaves the main module, nothing is reached.
-pub main_left : (S : Sources) (goal : Vertex) → ((y : Vertex) → edges_of S Main y → ⊥) → IsReached (edges_of S) (Of goal) → ⊥
+pub main_left : (S : Sources) (goal : Vertex) → ((y : Vertex) → source_edges S Main y → ⊥) → IsReached (source_edges S) (Of goal) → ⊥
 main_left S goal none (n, leads) = last n leads
   where
-    from_main : (s : Step) (k : ℕ) → Leads (edges_of S) s k → (y : Vertex) → edges_of S s y → ⊥
+    from_main : (s : Step) (k : ℕ) → Leads (source_edges S) s k → (y : Vertex) → source_edges S s y → ⊥
     from_main _ _ at_main y e = none y e
     from_main _ _ (along {s} {y = z} {n = k} l a) y e = from_main s k l z a
 
-    last : (n : ℕ) → Leads (edges_of S) (Of goal) n → ⊥
+    last : (n : ℕ) → Leads (source_edges S) (Of goal) n → ⊥
     last _ (along {s} {n = k} l e) = from_main s k l goal e
 
 -- ---- the visits to the next level in order

@@ -17,7 +17,7 @@ use Rattle.gm_file.specs.Directives.{Replacing}
 use Rattle.gm_graph_select.specs.declared.step.Step.TheVariants.{Main}
 use Rattle.gm_graph_select.specs.BuildList.{IsBuildList, entry_of, main_entry, path_cmp}
 use Rattle.gm_graph_select.specs.Graph.{Vertex, vertex_cmp}
-use Rattle.gm_graph_select.specs.Greatest.{begins_with, greatest_of, is_selected}
+use Rattle.gm_graph_select.specs.Greatest.{first_has_path, greatest_of, is_selected}
 use Rattle.gm_graph_select.specs.Order.{IsAscending}
 use Rattle.gm_graph_select.proofs.Ascending.{less_itself, member_cases, member_head, member_tail, no_member, pairs_head, pairs_tail}
 use Rattle.gm_graph_select.proofs.Greatest.{ending, equal_itself}
@@ -57,7 +57,7 @@ lower_path x y h apart = elim (below_parts x y h) [
 
 -- ---- after the last vertex of a path come other paths
 
-other_paths : (z : Vertex) (zs : List Vertex) → IsAscending vertex_cmp (z ∷ zs) → begins_with z.0 zs ≡ false → (y : Vertex) → Contains zs y → y.0 ≢ z.0
+other_paths : (z : Vertex) (zs : List Vertex) → IsAscending vertex_cmp (z ∷ zs) → first_has_path z.0 zs ≡ false → (y : Vertex) → Contains zs y → y.0 ≢ z.0
 other_paths z [] up e y h same = no_member y h
 other_paths z (next ∷ zs) up e y h same = elim (member_cases next y zs h) [
   | inl is ↦ apart (ap (λ (v : Vertex). v.0) is ∙ same)
@@ -100,7 +100,7 @@ IsGreatestOf main xs x = (x.0 ≢ main) × Contains xs x × ((y : Vertex) → Co
 -- one more vertex at the beginning
 selected_first : (main : List ℕ) (z : Vertex) (zs : List Vertex) → IsAscending vertex_cmp (z ∷ zs) → is_selected main z zs ≡ true → IsGreatestOf main (z ∷ zs) z
 selected_first main z zs up e =
-    let two = neither (bytes_eq z.0 main) (begins_with z.0 zs) e in (
+    let two = neither (bytes_eq z.0 main) (first_has_path z.0 zs) e in (
       texts_differ z.0 main two.0,
       member_head z zs,
       (λ y there same. elim (member_cases z y zs there) [
@@ -133,7 +133,7 @@ selected_is main [] up x h = absurd (no_member x h)
 selected_is main (z ∷ zs) up x h = selected_by main z zs up (λ y there. selected_is main zs (pairs_tail Below z zs up) y there) x (is_selected main z zs) refl h
 
 -- No vertex of the same path comes after the greatest version.
-last_of_path : (z : Vertex) (zs : List Vertex) → IsAscending vertex_cmp (z ∷ zs) → ((y : Vertex) → Contains zs y → y.0 ≡ z.0 → is_gt (version_cmp y.1 z.1) ≡ false) → begins_with z.0 zs ≡ false
+last_of_path : (z : Vertex) (zs : List Vertex) → IsAscending vertex_cmp (z ∷ zs) → ((y : Vertex) → Contains zs y → y.0 ≡ z.0 → is_gt (version_cmp y.1 z.1) ≡ false) → first_has_path z.0 zs ≡ false
 last_of_path z [] up top = refl
 last_of_path z (next ∷ zs) up top = apart_texts next.0 z.0 (λ same.
     let less = lower_version z next (pairs_head Below z next (next ∷ zs) up (member_head next zs)) (sym same) in
@@ -148,7 +148,7 @@ is_selected_in main (z ∷ zs) up x is = elim (member_cases z x zs is.1) [
 ]
   where
     kept : z ≡ x → is_selected main x zs ≡ true
-    kept first = both_not (bytes_eq x.0 main) (begins_with x.0 zs) (apart_texts x.0 main is.0)
+    kept first = both_not (bytes_eq x.0 main) (first_has_path x.0 zs) (apart_texts x.0 main is.0)
         (last_of_path x zs (subst (λ (v : Vertex). IsAscending vertex_cmp (v ∷ zs)) first up) (λ y there. is.2 y (member_tail z y zs there)))
 
     here : z ≡ x → (b : Bool) → b ≡ true → Contains (if b then z ∷ greatest_of main zs else greatest_of main zs) x
@@ -170,7 +170,7 @@ pairs_more x xs low up (suc i) (suc j) d lt below = up i j d (omega (arith, lt))
 ascend_by : (main : List ℕ) (z : Vertex) (zs : List Vertex) → IsAscending vertex_cmp (z ∷ zs) → IsAscending path_cmp (greatest_of main zs) → (b : Bool) → is_selected main z zs ≡ b → IsAscending path_cmp (if b then z ∷ greatest_of main zs else greatest_of main zs)
 ascend_by main z zs up behind true e = pairs_more z (greatest_of main zs)
     (λ y h. let there = (selected_is main zs (pairs_tail Below z zs up) y h).1 in
-    lower_path z y (pairs_head Below z y zs up there) (other_paths z zs up (neither (bytes_eq z.0 main) (begins_with z.0 zs) e).1 y there)) behind
+    lower_path z y (pairs_head Below z y zs up there) (other_paths z zs up (neither (bytes_eq z.0 main) (first_has_path z.0 zs) e).1 y there)) behind
 ascend_by main z zs up behind false e = behind
 
 selected_ascend : (main : List ℕ) (xs : List Vertex) → IsAscending vertex_cmp xs → IsAscending path_cmp (greatest_of main xs)

@@ -4,13 +4,13 @@ use Rattle.std.specs.Str.{bytes_eq}
 use Rattle.gm_graph_select.specs.Graph.{Vertex}
 
 -- Whether the first of these vertices has the path.
-abbrev pub begins_with : List ℕ → List Vertex → Bool
-begins_with path [] = false
-begins_with path (first ∷ rest) = bytes_eq first.0 path
+abbrev pub first_has_path : List ℕ → List Vertex → Bool
+first_has_path path [] = false
+first_has_path path (first ∷ rest) = bytes_eq first.0 path
 
 -- Whether the path is not the main module's, and the vertices after this one don't begin with the same path.
 abbrev pub is_selected : List ℕ → Vertex → List Vertex → Bool
-is_selected main x behind = not (bytes_eq x.0 main) && not (begins_with x.0 behind)
+is_selected main x behind = not (bytes_eq x.0 main) && not (first_has_path x.0 behind)
 
 abbrev pub greatest_of : List ℕ → List Vertex → List Vertex
 greatest_of main [] = []

@@ -24,8 +24,8 @@ abbrev pub step_at : List Step → ℕ → Step
 step_at steps number = slice_index_or steps number Main
 
 -- the edges, of which each leaves one of the steps
-abbrev pub edges_of : Sources → Edges
-edges_of sources = among sources.edges.now
+abbrev pub source_edges : Sources → Edges
+source_edges sources = among sources.edges.now
 
 -- These are exactly the steps that the edges leave, in ascending order, each with exactly its edges.
 pub record AreLeft (edges : List Edge) (sources : List Source) : Type 0 where
@@ -55,10 +55,10 @@ AreNumberedTo steps count numbers = (key : SourceKey)
     → HasNumberTo steps count key.vertex.now (get source_key_cmp numbers key)
 
 -- The map has the number of each vertex.
-abbrev pub AreNumbered : List Step → BTreeMap SourceKey ℕ → Type 0
-AreNumbered steps = AreNumberedTo steps (length steps)
+abbrev pub AreStepNumbers : List Step → BTreeMap SourceKey ℕ → Type 0
+AreStepNumbers steps = AreNumberedTo steps (length steps)
 
 -- both
 pub record AreSources (sources : Sources) : Type 0 where
   pub left : AreLeft sources.edges.now sources.list.items
-  pub numbered : AreNumbered (steps_of sources) sources.numbers
+  pub numbered : AreStepNumbers (steps_of sources) sources.numbers

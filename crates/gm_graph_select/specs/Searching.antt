@@ -9,7 +9,7 @@ use Rattle.gm_graph_select.specs.declared.searching.Visit.{Visit}
 use Rattle.gm_graph_select.specs.declared.searching.Search.{Search}
 use Rattle.gm_graph_select.specs.Graph.{Vertex, Edges, edge, step_cmp}
 use Rattle.gm_graph_select.specs.Chains.{IsLevel, IsPredecessor, Leads}
-use Rattle.gm_graph_select.specs.Numbering.{edges_of, step_at, steps_of}
+use Rattle.gm_graph_select.specs.Numbering.{source_edges, step_at, steps_of}
 
 -- A path of at most that many edges leads from the main module to the step.
 abbrev pub IsWithin : Edges → ℕ → Step → Type 0
@@ -37,9 +37,9 @@ pub record AreTraced (edges : Edges) (steps : List Step) (visits : List Visit) :
 
 -- The last visit is of the goal's predecessor.
 pub record IsTracedTo (sources : Sources) (goal : Vertex) (visits : List Visit) : Type 0 where
-  pub each : AreTraced (edges_of sources) (steps_of sources) visits
+  pub each : AreTraced (source_edges sources) (steps_of sources) visits
   pub some : 0 < length visits
-  pub last : IsPredecessor (edges_of sources) (visited (steps_of sources) visits (length visits - 1)) goal
+  pub last : IsPredecessor (source_edges sources) (visited (steps_of sources) visits (length visits - 1)) goal
 
 -- No two of the visits are to the same step.
 abbrev pub AreOnce : List Visit → Type 0
@@ -60,8 +60,8 @@ state_of search = record { found = search.is_found.items; visits = search.visits
 abbrev pub first_state : ℕ → State
 first_state count = record { found = slice_set (replicate count false) 0 true; visits = []; next = [] }
 
-abbrev pub found_at : List Bool → ℕ → Bool
-found_at found number = slice_index_or found number false
+abbrev pub is_found_at : List Bool → ℕ → Bool
+is_found_at found number = slice_index_or found number false
 
 -- how many steps were not found
 abbrev pub count_left : List Bool → ℕ
@@ -78,18 +78,18 @@ pub record IsSearchedTo (sources : Sources) (goal : Vertex) (level : ℕ) (state
     (due : List Visit) : Type 0 where
   pub size : length state.found ≡ length (steps_of sources)
   pub found : (i : ℕ) → i < length (steps_of sources)
-      → (found_at state.found i ≡ true) ↔ IsWithin (edges_of sources) level (step_at (steps_of sources) i)
+      → (is_found_at state.found i ≡ true) ↔ IsWithin (source_edges sources) level (step_at (steps_of sources) i)
   pub listed : (i : ℕ) → i < length (steps_of sources)
-      → IsLevel (edges_of sources) (step_at (steps_of sources) i) level
+      → IsLevel (source_edges sources) (step_at (steps_of sources) i) level
       → (v : Visit) × Contains due v × (v.number ≡ i)
   pub inside : (v : Visit) → Contains due v → v.number < length (steps_of sources)
   pub on_level : (v : Visit) → Contains due v
-      → IsLevel (edges_of sources) (step_at (steps_of sources) v.number) level
+      → IsLevel (source_edges sources) (step_at (steps_of sources) v.number) level
   pub traced : (v : Visit) → Contains due v
-      → IsTraced (edges_of sources) (steps_of sources) state.visits (length state.visits) v
+      → IsTraced (source_edges sources) (steps_of sources) state.visits (length state.visits) v
   pub ascending : (i j : ℕ) → i < j → j < length due → (visit_at due i).number < (visit_at due j).number
-  pub visits : AreTraced (edges_of sources) (steps_of sources) state.visits
-  pub far : IsWithin (edges_of sources) level (Of goal) → ⊥
+  pub visits : AreTraced (source_edges sources) (steps_of sources) state.visits
+  pub far : IsWithin (source_edges sources) level (Of goal) → ⊥
   pub none : state.next ≡ []
 
 -- Some edges that leave steps of the level were followed, none of them to the goal: the steps found are those found
@@ -97,41 +97,41 @@ pub record IsSearchedTo (sources : Sources) (goal : Vertex) (level : ℕ) (state
 pub record IsFollowed (sources : Sources) (goal : Vertex) (level : ℕ) (before : List Bool) (tried : List Edge)
     (state : State) : Type 0 where
   pub size : length state.found ≡ length (steps_of sources)
-  pub keeps : (i : ℕ) → found_at before i ≡ true → found_at state.found i ≡ true
-  pub news : (i : ℕ) → found_at state.found i ≡ true
-      → (found_at before i ≡ true) ⊎ ((v : Visit) × Contains state.next v × (v.number ≡ i))
+  pub keeps : (i : ℕ) → is_found_at before i ≡ true → is_found_at state.found i ≡ true
+  pub news : (i : ℕ) → is_found_at state.found i ≡ true
+      → (is_found_at before i ≡ true) ⊎ ((v : Visit) × Contains state.next v × (v.number ≡ i))
   pub inside : (v : Visit) → Contains state.next v → v.number < length (steps_of sources)
-  pub found : (v : Visit) → Contains state.next v → found_at state.found v.number ≡ true
+  pub found : (v : Visit) → Contains state.next v → is_found_at state.found v.number ≡ true
   pub on_level : (v : Visit) → Contains state.next v
-      → IsLevel (edges_of sources) (step_at (steps_of sources) v.number) (suc level)
+      → IsLevel (source_edges sources) (step_at (steps_of sources) v.number) (suc level)
   pub traced : (v : Visit) → Contains state.next v
-      → IsTraced (edges_of sources) (steps_of sources) state.visits (length state.visits) v
+      → IsTraced (source_edges sources) (steps_of sources) state.visits (length state.visits) v
   pub once : AreOnce state.next
   pub ends : (e : Edge) → Contains tried e → (i : ℕ) → i < length (steps_of sources)
-      → step_at (steps_of sources) i ≡ Of e.to → found_at state.found i ≡ true
+      → step_at (steps_of sources) i ≡ Of e.to → is_found_at state.found i ≡ true
   pub misses : (e : Edge) → Contains tried e → e.to ≢ goal
-  pub visits : AreTraced (edges_of sources) (steps_of sources) state.visits
+  pub visits : AreTraced (source_edges sources) (steps_of sources) state.visits
   pub count : count_left state.found + length state.next ≡ count_left before
 
 -- It is a step's turn: it is on the level, and all edges of the level's lesser steps were followed. All steps up to
 -- the level were found.
 pub record IsTurn (sources : Sources) (level : ℕ) (before : List Bool) (tried : List Edge) (s : Step) : Type 0 where
-  pub on_level : IsLevel (edges_of sources) s level
-  pub lower : (t : Step) (y : Vertex) → edges_of sources t y → IsLevel (edges_of sources) t level
+  pub on_level : IsLevel (source_edges sources) s level
+  pub lower : (t : Step) (y : Vertex) → source_edges sources t y → IsLevel (source_edges sources) t level
       → is_lt (step_cmp t s) ≡ true → Contains tried (edge t y)
   pub full : (i : ℕ) → i < length (steps_of sources)
-      → IsWithin (edges_of sources) level (step_at (steps_of sources) i) → found_at before i ≡ true
+      → IsWithin (source_edges sources) level (step_at (steps_of sources) i) → is_found_at before i ≡ true
 
 -- The visit comes next, after those whose edges were followed.
 pub record IsDue (sources : Sources) (goal : Vertex) (level : ℕ) (before : List Bool) (tried : List Edge)
     (state : State) (visit : Visit) : Type 0 where
   pub turn : IsTurn sources level before tried (step_at (steps_of sources) visit.number)
-  pub far : IsWithin (edges_of sources) level (Of goal) → ⊥
-  pub traced : IsTraced (edges_of sources) (steps_of sources) state.visits (length state.visits) visit
+  pub far : IsWithin (source_edges sources) level (Of goal) → ⊥
+  pub traced : IsTraced (source_edges sources) (steps_of sources) state.visits (length state.visits) visit
   pub followed : IsFollowed sources goal level before tried state
 
 -- The edges that were followed include those that leave the visited steps.
 abbrev pub AreTried : Sources → List Visit → List Edge → Type 0
 AreTried sources visits tried = (v : Visit) → Contains visits v → (y : Vertex)
-    → edges_of sources (step_at (steps_of sources) v.number) y
+    → source_edges sources (step_at (steps_of sources) v.number) y
     → Contains tried (edge (step_at (steps_of sources) v.number) y)

@@ -8,7 +8,7 @@ ghost use Rattle.gm_graph_select.specs.Graph.{among, edge_cmp};
 ghost use Rattle.gm_graph_select.specs.Order.{IsAscending};
 ghost use Rattle.gm_graph_select.specs.BuildList.{IsEntryOf, HasEntryFor, entries_of_rows};
 ghost use Rattle.gm_graph_select.specs.Chains.{IsChain, IsReached};
-ghost use Rattle.gm_graph_select.specs.Numbering.{AreSources, edges_of};
+ghost use Rattle.gm_graph_select.specs.Numbering.{AreSources, source_edges};
 ghost use Rattle.gm_graph_select.specs.Searching.{IsTracedTo};
 ghost use Rattle.gm_graph_select.specs.declared.step.Step.{Step};
 ghost use Rattle.gm_graph_select.specs.declared.step.Step.TheVariants.{Main, Of};
@@ -62,7 +62,7 @@ fn walk_back(
     goal: &ModVer,
 ) -> Result<Vec<Step>, AllocError>
     requires { IsTracedTo sources.now goal.now visits.now }
-    ensures { IfOk result (λ steps. IsChain (edges_of sources.now) (Of goal.now) steps.items) }
+    ensures { IfOk result (λ steps. IsChain (source_edges sources.now) (Of goal.now) steps.items) }
 {
     let mut steps = Vec::new(alloc);
     steps.push(Step::Of(goal.copy(alloc)?))?;
@@ -84,8 +84,8 @@ fn chain_over(
 ) -> Result<Option<Vec<Step>>, AllocError>
     requires { AreSources sources.now }
     ensures chain { IfOk result (λ chain. IfSome chain (λ steps.
-        IsChain (edges_of sources.now) (Of goal.now) steps.items)) }
-    ensures none { IfOk result (λ chain. IfNone chain (¬ (IsReached (edges_of sources.now) (Of goal.now)))) }
+        IsChain (source_edges sources.now) (Of goal.now) steps.items)) }
+    ensures none { IfOk result (λ chain. IfNone chain (¬ (IsReached (source_edges sources.now) (Of goal.now)))) }
 {
     let Some(visits) = visits_to(alloc, sources, goal)? else {
         return Ok(None);

@@ -12,7 +12,7 @@ ghost use Rattle.gm_graph_select.specs.declared.step.Step.{Step};
 ghost use Rattle.gm_graph_select.specs.declared.step.Step.TheVariants.{Main};
 ghost use Rattle.gm_graph_select.specs.Graph.{Vertex, edge_cmp, step_cmp};
 ghost use Rattle.gm_graph_select.specs.Order.{IsAscending};
-ghost use Rattle.gm_graph_select.specs.Numbering.{AreLeft, AreNumbered, AreNumberedTo, AreSources, HasNumber, edges_of, step_at, steps_in, steps_of};
+ghost use Rattle.gm_graph_select.specs.Numbering.{AreLeft, AreStepNumbers, AreNumberedTo, AreSources, HasNumber, source_edges, step_at, steps_in, steps_of};
 
 use crate::step::{Edge, Step};
 use gm_name::ModVer;
@@ -103,7 +103,7 @@ fn numbers_of<'a>(
     alloc: Global,
     sources: &[Source<'a>],
 ) -> Result<BTreeMap<SourceKey<'a>, usize>, AllocError>
-    ensures { IfOk result (λ numbers. AreNumbered (steps_in sources.now) numbers) }
+    ensures { IfOk result (λ numbers. AreStepNumbers (steps_in sources.now) numbers) }
 {
     let mut numbers = BTreeMap::new(alloc);
     for (number, source) in sources.iter().enumerate() {
@@ -151,7 +151,7 @@ impl<'a> Sources<'a> {
     pub(crate) fn begins_with_main(&self) -> bool
         requires { AreSources self.now }
         ensures yes { result ≡ true → (0 < length (steps_of self.now)) × (step_at (steps_of self.now) 0 ≡ Main) }
-        ensures no { result ≡ false → (y : Vertex) → edges_of self.now Main y → ⊥ }
+        ensures no { result ≡ false → (y : Vertex) → source_edges self.now Main y → ⊥ }
     {
         match self.list.first() {
             Some(source) => matches!(source.step, Step::Main),

@@ -10,7 +10,7 @@ ghost use Rattle.gm_graph_select.specs.declared.step.Step.TheVariants.{Of};
 ghost use Rattle.gm_graph_select.specs.Graph.{Vertex};
 ghost use Rattle.gm_graph_select.specs.Order.{HaveSame};
 ghost use Rattle.gm_graph_select.specs.Chains.{IsReached};
-ghost use Rattle.gm_graph_select.specs.Numbering.{AreSources, edges_of, step_at, steps_of};
+ghost use Rattle.gm_graph_select.specs.Numbering.{AreSources, source_edges, step_at, steps_of};
 ghost use Rattle.gm_graph_select.specs.Searching.{AreOnce, AreTried, IsDue, IsFollowed, IsSearchedTo, IsTracedTo, IsTurn, first_state, state_of, visit_at, visited};
 
 use crate::numbering::Sources;
@@ -162,7 +162,7 @@ pub(crate) fn visits_to(
 ) -> Result<Option<Vec<Visit>>, AllocError>
     requires { AreSources sources.now }
     ensures found { IfOk result (λ visits. IfSome visits (λ visits. IsTracedTo sources.now goal.now visits.items)) }
-    ensures none { IfOk result (λ visits. IfNone visits (IsReached (edges_of sources.now) (Of goal.now) → ⊥)) }
+    ensures none { IfOk result (λ visits. IfNone visits (IsReached (source_edges sources.now) (Of goal.now) → ⊥)) }
 {
     if !sources.begins_with_main() {
         return Ok(None);

@@ -9,7 +9,7 @@ ghost use Rattle.gm_file.specs.Fields.{replacement_of};
 ghost use Rattle.gm_file.specs.Views.{right_view};
 ghost use Rattle.gm_graph_select.specs.declared.step.Edge.{Edge};
 ghost use Rattle.gm_graph_select.specs.Graph.{AreEnds, among};
-ghost use Rattle.gm_graph_select.specs.Greatest.{begins_with, greatest_of, is_selected};
+ghost use Rattle.gm_graph_select.specs.Greatest.{first_has_path, greatest_of, is_selected};
 ghost use Rattle.gm_graph_select.specs.BuildList.{IsBuildList, entries_of_rows, entry_of, entry_of_row, main_entry, main_path, main_replaces};
 
 use crate::row::Row;
@@ -21,7 +21,7 @@ use std::alloc::{AllocError, Global};
 
 /// Whether the first of these vertices has the path.
 fn begins_with(path: &ModPath, vertices: &[ModVer]) -> bool
-    ensures { result ≡ begins_with path.now vertices.now }
+    ensures { result ≡ first_has_path path.now vertices.now }
 {
     match vertices {
         [] => false,

@@ -12,14 +12,14 @@ use Rattle.std.specs.Prelude.{encode_utf8_all}
 use Rattle.std.specs.Str.{IsUtf8, chars}
 use Rattle.std.specs.String.{string_bytes}
 use Rattle.gm_store.specs.Cutting.{IsParsedPrefix}
-use Rattle.gm_store.specs.Proxies.{is_mark, mark_of}
+use Rattle.gm_store.specs.Proxies.{is_proxy_mark, mark_of}
 use Rattle.gm_store.specs.declared.proxy_list.Mark.{Mark}
 use Rattle.gm_store.proofs.Splits.{glue, glue-last, not_false, split-append, split_plain}
 
-high : (b : ℕ) → 128 ≤ b → not (is_mark b) ≡ true
+high : (b : ℕ) → 128 ≤ b → not (is_proxy_mark b) ≡ true
 high b le = grind (arith, nat_tests)
 
-no_mark : (c : ℕ) → is_mark c ≡ false → list_all (λ b. not (is_mark b)) (encode_utf8 c) ≡ true
+no_mark : (c : ℕ) → is_proxy_mark c ≡ false → list_all (λ b. not (is_proxy_mark b)) (encode_utf8 c) ≡ true
 unfolding encode_utf8
 no_mark c apart = elim (cases_lt c 128) [
   | inl one ↦ rw (lt-ltb c 128 one, apart) refl
@@ -32,54 +32,54 @@ no_mark c apart = elim (cases_lt c 128) [
   ]
 ]
 
-filter_plain : (xs : List ℕ) → list_all (λ b. not (is_mark b)) xs ≡ true → filter is_mark xs ≡ []
+filter_plain : (xs : List ℕ) → list_all (λ b. not (is_proxy_mark b)) xs ≡ true → filter is_proxy_mark xs ≡ []
 filter_plain [] e = refl
-filter_plain (x ∷ xs) e = rw (not_false (is_mark x) (first_so (not (is_mark x)) (list_all (λ b. not (is_mark b)) xs) e)) (filter_plain xs (second_so (not (is_mark x)) (list_all (λ b. not (is_mark b)) xs) e))
+filter_plain (x ∷ xs) e = rw (not_false (is_proxy_mark x) (first_so (not (is_proxy_mark x)) (list_all (λ b. not (is_proxy_mark b)) xs) e)) (filter_plain xs (second_so (not (is_proxy_mark x)) (list_all (λ b. not (is_proxy_mark b)) xs) e))
 
-filter-joined : (xs ys : List ℕ) → filter is_mark (xs ++ ys) ≡ filter is_mark xs ++ filter is_mark ys
-filter-joined xs ys = filter-append is_mark xs ys
+filter-joined : (xs ys : List ℕ) → filter is_proxy_mark (xs ++ ys) ≡ filter is_proxy_mark xs ++ filter is_proxy_mark ys
+filter-joined xs ys = filter-append is_proxy_mark xs ys
 
-small_mark : (c : ℕ) → is_mark c ≡ true → c < 128
+small_mark : (c : ℕ) → is_proxy_mark c ≡ true → c < 128
 small_mark c e = grind (arith, nat_tests)
 
 -- one more character, not a mark: it is appended to the folder in progress
 pub push_plain : (text : List ℕ) (folders : List (String Global)) (marks : List Mark) (folder next : String Global) (c : ℕ)
-    → is_mark c ≡ false → string_bytes next ≡ string_bytes folder ++ encode_utf8 c → IsParsedPrefix text folders marks folder → IsParsedPrefix (text ++ encode_utf8 c) folders marks next
+    → is_proxy_mark c ≡ false → string_bytes next ≡ string_bytes folder ++ encode_utf8 c → IsParsedPrefix text folders marks folder → IsParsedPrefix (text ++ encode_utf8 c) folders marks next
 push_plain text folders marks folder next c plain grown cut =
     let none = no_mark c plain in
     record {
-      folders_so_far = split-append is_mark text (encode_utf8 c)
-          ∙ ap (glue (slice_split is_mark text)) (split_plain is_mark (encode_utf8 c) none)
+      folders_so_far = split-append is_proxy_mark text (encode_utf8 c)
+          ∙ ap (glue (slice_split is_proxy_mark text)) (split_plain is_proxy_mark (encode_utf8 c) none)
           ∙ ap (λ fs. glue fs (encode_utf8 c ∷ [])) cut.folders_so_far
           ∙ glue-last (map string_bytes folders) (string_bytes folder) (encode_utf8 c) []
           ∙ ap (λ last. map string_bytes folders ++ last ∷ []) (sym grown);
-      marks_so_far = ap (map mark_of) (filter-joined text (encode_utf8 c) ∙ ap (λ more. filter is_mark text ++ more) (filter_plain (encode_utf8 c) none) ∙ append-nil (filter is_mark text)) ∙ cut.marks_so_far;
+      marks_so_far = ap (map mark_of) (filter-joined text (encode_utf8 c) ∙ ap (λ more. filter is_proxy_mark text ++ more) (filter_plain (encode_utf8 c) none) ∙ append-nil (filter is_proxy_mark text)) ∙ cut.marks_so_far;
       between = cut.between;
     }
 
-split_mark : (c : ℕ) → is_mark c ≡ true → slice_split is_mark (c ∷ []) ≡ [] ∷ [] ∷ []
+split_mark : (c : ℕ) → is_proxy_mark c ≡ true → slice_split is_proxy_mark (c ∷ []) ≡ [] ∷ [] ∷ []
 split_mark c e = rw e refl
 
-filter_mark : (c : ℕ) → is_mark c ≡ true → filter is_mark (c ∷ []) ≡ c ∷ []
+filter_mark : (c : ℕ) → is_proxy_mark c ≡ true → filter is_proxy_mark (c ∷ []) ≡ c ∷ []
 filter_mark c e = rw e refl
 
 -- one more character, a mark: it ends the folder in progress
 pub push_mark : (text : List ℕ) (folders ended : List (String Global)) (marks more : List Mark) (folder next : String Global) (c : ℕ)
-    → is_mark c ≡ true → ended ≡ folders ++ folder ∷ [] → more ≡ marks ++ mark_of c ∷ [] → string_bytes next ≡ [] → IsParsedPrefix text folders marks folder → IsParsedPrefix (text ++ encode_utf8 c) ended more next
+    → is_proxy_mark c ≡ true → ended ≡ folders ++ folder ∷ [] → more ≡ marks ++ mark_of c ∷ [] → string_bytes next ≡ [] → IsParsedPrefix text folders marks folder → IsParsedPrefix (text ++ encode_utf8 c) ended more next
 push_mark text folders ended marks more folder next c mark end grown empty cut =
     let one : encode_utf8 c ≡ c ∷ [] = encode_ascii c (small_mark c mark) in
     record {
-      folders_so_far = split-append is_mark text (encode_utf8 c)
-          ∙ ap (λ cs. glue (slice_split is_mark text) (slice_split is_mark cs)) one
-          ∙ ap (glue (slice_split is_mark text)) (split_mark c mark)
+      folders_so_far = split-append is_proxy_mark text (encode_utf8 c)
+          ∙ ap (λ cs. glue (slice_split is_proxy_mark text) (slice_split is_proxy_mark cs)) one
+          ∙ ap (glue (slice_split is_proxy_mark text)) (split_mark c mark)
           ∙ ap (λ fs. glue fs ([] ∷ [] ∷ [])) cut.folders_so_far
           ∙ glue-last (map string_bytes folders) (string_bytes folder) [] ([] ∷ [])
           ∙ ap (λ last. map string_bytes folders ++ last ∷ [] ∷ []) (append-nil (string_bytes folder))
           ∙ sym (append_assoc (map string_bytes folders) (string_bytes folder ∷ []) ([] ∷ []))
           ∙ ap (λ fs. fs ++ [] ∷ []) (sym (ap (map string_bytes) end ∙ map-append string_bytes folders (folder ∷ [])))
           ∙ ap (λ last. map string_bytes ended ++ last ∷ []) (sym empty);
-      marks_so_far = ap (map mark_of) (ap (λ cs. filter is_mark (text ++ cs)) one ∙ filter-joined text (c ∷ []) ∙ ap (λ more. filter is_mark text ++ more) (filter_mark c mark))
-          ∙ map-append mark_of (filter is_mark text) (c ∷ []) ∙ ap (λ ms. ms ++ mark_of c ∷ []) cut.marks_so_far ∙ sym grown;
+      marks_so_far = ap (map mark_of) (ap (λ cs. filter is_proxy_mark (text ++ cs)) one ∙ filter-joined text (c ∷ []) ∙ ap (λ more. filter is_proxy_mark text ++ more) (filter_mark c mark))
+          ∙ map-append mark_of (filter is_proxy_mark text) (c ∷ []) ∙ ap (λ ms. ms ++ mark_of c ∷ []) cut.marks_so_far ∙ sym grown;
       between = ap length end ∙ length-append folders (folder ∷ []) ∙ ap (λ n. n + 1) cut.between ∙ sym (length-append marks (mark_of c ∷ [])) ∙ sym (ap length grown);
     }
 

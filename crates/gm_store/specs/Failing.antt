@@ -15,8 +15,8 @@ abbrev pub asks_left : FailingFiles → Option ℕ
 asks_left store = store.left
 
 -- the names whose requests were refused because the device failed, in order
-abbrev pub refused_by : FailingFiles → List Name
-refused_by store = map name_of store.refused.items
+abbrev pub refusals_of : FailingFiles → List Name
+refusals_of store = map name_of store.refused.items
 
 -- one request fewer, if the device has not failed yet
 abbrev pub one_fewer : Option ℕ → Option ℕ
@@ -32,6 +32,6 @@ failures_with (Some n) = 0
 abbrev pub failing_files_state : FailingFiles → StoreState
 failing_files_state store = record {
   asked = pairs_of (inside_of store);
-  refused = refused_by store;
+  refused = refusals_of store;
   faults = failures_with (asks_left store);
 }

@@ -10,8 +10,8 @@ use Rattle.gm_store.specs.declared.proxy_list.ProxyList.{ProxyList}
 -- ---- the text of a proxy list
 
 -- a ',' or a '|', which separate folders
-abbrev pub is_mark : ℕ → Bool
-is_mark b = b == 44 || b == 124
+abbrev pub is_proxy_mark : ℕ → Bool
+is_proxy_mark b = b == 44 || b == 124
 
 -- the mark that a separator byte stands for
 abbrev pub mark_of : ℕ → Mark
@@ -23,11 +23,11 @@ is_folder text = nat_lt 0 (length text) && not (bytes_eq text (codes "direct")) 
 
 -- the folders that a text names: the parts between its marks
 abbrev pub folders_of : List ℕ → List (List ℕ)
-folders_of value = slice_split is_mark value
+folders_of value = slice_split is_proxy_mark value
 
 -- the marks of a text, in order
 abbrev pub marks_of : List ℕ → List Mark
-marks_of value = map mark_of (filter is_mark value)
+marks_of value = map mark_of (filter is_proxy_mark value)
 
 -- the folders of a parsed list, and its marks
 abbrev pub folders_in : ProxyList → List (List ℕ)

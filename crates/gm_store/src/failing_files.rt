@@ -22,7 +22,7 @@ pub struct FailingFiles {
 }
 
 impl FailingFiles {
-    ghost use Rattle.gm_store.specs.Failing.{asks_left, inside_of, refused_by};
+    ghost use Rattle.gm_store.specs.Failing.{asks_left, inside_of, refusals_of};
 
     /// A store that passes the first `asks` requests to `inside`, refuses the next one with `AskFault::Device`,
     /// and passes all later ones.
@@ -32,7 +32,7 @@ impl FailingFiles {
     pub fn after(inside: MemoryFiles, asks: u64) -> FailingFiles
         ensures inside { inside_of result ≡ inside }
         ensures left { asks_left result ≡ Some asks }
-        ensures refused { refused_by result ≡ [] }
+        ensures refused { refusals_of result ≡ [] }
     {
         let refused = Vec::new(inside.alloc());
         FailingFiles {

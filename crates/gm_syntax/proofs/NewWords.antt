@@ -9,7 +9,7 @@ use Rattle.gm_syntax.specs.declared.word.Punct.{Punct}
 use Rattle.gm_syntax.specs.declared.word.Punct.TheVariants.{LeftParen, RightParen, LeftBracket, RightBracket, Comma, Arrow}
 use Rattle.gm_syntax.specs.Bytes.{is_bracket_or_comma}
 use Rattle.gm_syntax.specs.Lines.{HasNoLineFeed}
-use Rattle.gm_syntax.specs.Words.{Word, IsBare, IsString, HasShape, HasValue, escaped, mark_text}
+use Rattle.gm_syntax.specs.Words.{Word, IsBare, IsString, HasShape, HasValue, escaped_value, mark_text}
 use Rattle.gm_syntax.specs.Bare.{can_be_bare, in_quotes, new_word}
 use Rattle.gm_syntax.specs.Values.{all_but_last, string_value, unescaped, value_of, value_of_kind}
 use Rattle.gm_syntax.specs.Spelling.{IsWord}
@@ -36,13 +36,13 @@ escape-by b rest true s eq es = refl
 escape-by b rest false true eq es = refl
 escape-by b rest false false eq es = unescaped-plain b rest (sym es)
 
-pub unescaped-escaped : (value : List ℕ) → unescaped (escaped value) ≡ value
+pub unescaped-escaped : (value : List ℕ) → unescaped (escaped_value value) ≡ value
 unescaped-escaped [] = refl
 unescaped-escaped (b ∷ value) =
-    escape-by b (escaped value) (b == 34) (b == 92) refl refl ∙ ap (λ (t : List ℕ). b ∷ t) (unescaped-escaped value)
+    escape-by b (escaped_value value) (b == 34) (b == 92) refl refl ∙ ap (λ (t : List ℕ). b ∷ t) (unescaped-escaped value)
 
 string_is : (text value : List ℕ) → IsString text value → string_value text ≡ value
-string_is text value (inl e) = ap string_value e ∙ ap unescaped (last-cut (escaped value) 34) ∙ unescaped-escaped value
+string_is text value (inl e) = ap string_value e ∙ ap unescaped (last-cut (escaped_value value) 34) ∙ unescaped-escaped value
 string_is text value (inr e) = ap string_value e.0 ∙ last-cut value 96
 
 shape_is : (kind : Kind) (text value : List ℕ) → HasShape kind text value → value_of_kind kind text ≡ value
@@ -61,16 +61,16 @@ bare_is_tested text = (is_bare_word text, bare_word_is text)
 pub not_bare_tested : (text : List ℕ) → can_be_bare text ≡ false → ¬ IsBare text
 not_bare_tested text e h = true≢false (sym (bare_word_is text h) ∙ e)
 
-plain_escaped : (value : List ℕ) → HasNoLineFeed value → HasNoLineFeed (escaped value)
+plain_escaped : (value : List ℕ) → HasNoLineFeed value → HasNoLineFeed (escaped_value value)
 plain_escaped [] h = tt
-plain_escaped (b ∷ value) h = plain_append (if (b == 34) || (b == 92) then 92 ∷ b ∷ [] else b ∷ []) (escaped value) (piece ((b == 34) || (b == 92))) (plain_escaped value h.1)
+plain_escaped (b ∷ value) h = plain_append (if (b == 34) || (b == 92) then 92 ∷ b ∷ [] else b ∷ []) (escaped_value value) (piece ((b == 34) || (b == 92))) (plain_escaped value h.1)
   where
     piece : (x : Bool) → HasNoLineFeed (if x then 92 ∷ b ∷ [] else b ∷ [])
     piece true = (omega arith, (h.0, tt))
     piece false = (h.0, tt)
 
 pub plain_quoted : (value : List ℕ) → HasNoLineFeed value → HasNoLineFeed (in_quotes value)
-plain_quoted value h = (omega arith, plain_append (escaped value) (34 ∷ []) (plain_escaped value h) (omega arith, tt))
+plain_quoted value h = (omega arith, plain_append (escaped_value value) (34 ∷ []) (plain_escaped value h) (omega arith, tt))
 
 -- the function and the relation describe the same word
 pub new_word_is : (value : List ℕ) (t : Placed) → IsNewWord value t → t ≡ record { word = new_word value; line = 0; span = None }

@@ -8,7 +8,7 @@ use Rattle.gm_syntax.specs.declared.word.Span.{Span}
 use Rattle.gm_syntax.specs.declared.word.Kind.{Kind}
 use Rattle.gm_syntax.specs.declared.word.Kind.TheVariants.{Bare, Text, Mark}
 use Rattle.gm_syntax.specs.Bytes.{is_blank}
-use Rattle.gm_syntax.specs.Words.{Word, AllBlank, HasShape, IsShaped, escaped}
+use Rattle.gm_syntax.specs.Words.{Word, AllBlank, HasShape, IsShaped, escaped_value}
 use Rattle.gm_syntax.specs.Lines.{lines_of}
 use Rattle.gm_syntax.specs.Tokens.{Placed, words_of}
 use Rattle.gm_syntax.specs.Spelling.{Ending, Reads, ending_of}
@@ -32,7 +32,7 @@ record Solid (text : List ℕ) : Type 0 where
 shape_solid : (kind : Kind) (text value : List ℕ) → HasShape kind text value → Solid text
 shape_solid Bare [] value (bare, e) = absurd (bare.filled refl)
 shape_solid Bare (b ∷ text) value (bare, e) = record { byte = b; more = text; parts = refl; solid = (word_not_others b bare.word_bytes.0).0 }
-shape_solid Text text value (inl e) = record { byte = 34; more = escaped value ++ 34 ∷ []; parts = e; solid = (quote_not_others 34 quote_quote).0 }
+shape_solid Text text value (inl e) = record { byte = 34; more = escaped_value value ++ 34 ∷ []; parts = e; solid = (quote_not_others 34 quote_quote).0 }
 shape_solid Text text value (inr (e, none)) = record { byte = 96; more = value ++ 96 ∷ []; parts = e; solid = (quote_not_others 96 grave_quote).0 }
 shape_solid Mark text value (inl (b, bracket, e), same) = record { byte = b; more = []; parts = e; solid = bracket_not_blank b bracket }
 shape_solid Mark text value (inr e, same) = record { byte = 61; more = 62 ∷ []; parts = e; solid = (word_not_others 61 equals_word).0 }

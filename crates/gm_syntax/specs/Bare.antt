@@ -2,7 +2,7 @@
 use Rattle.std.specs.Prelude.{length, ℕ, suc, ◌==◌, ◌||◌, ◌&&◌, Bool, false, not, List, [], ◌∷◌, ◌++◌, if◌then◌else◌}
 use Rattle.gm_syntax.specs.declared.word.Kind.TheVariants.{Bare, Text}
 use Rattle.gm_syntax.specs.Bytes.{is_word_byte}
-use Rattle.gm_syntax.specs.Words.{Word, escaped}
+use Rattle.gm_syntax.specs.Words.{Word, escaped_value}
 
 -- the text begins with this byte
 abbrev pub begins : ℕ → List ℕ → Bool
@@ -31,7 +31,7 @@ can_be_bare bytes = not (length bytes == 0) && (not (begins_arrow bytes) && (bar
 
 -- the value in quotes
 abbrev pub in_quotes : List ℕ → List ℕ
-in_quotes value = 34 ∷ (escaped value ++ 34 ∷ [])
+in_quotes value = 34 ∷ (escaped_value value ++ 34 ∷ [])
 
 -- the word that an edit makes for a value: bare if possible, otherwise in quotes
 abbrev pub new_word : List ℕ → Word

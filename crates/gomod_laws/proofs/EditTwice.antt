@@ -16,7 +16,7 @@ use Rattle.gomod_run.specs.Editing.{IsEditOutcome, edited_in_turn, edits_outcome
 use Rattle.gomod_run.specs.Kinds.{edit_line}
 use Rattle.gomod_run.proofs.Sameness.{one_outcome}
 use Rattle.gomod_laws.specs.EditTwiceLaws.{LastTwiceIsOnce, RefuseALater, RepeatsOne, TwiceIsOnceOrRefused, TwicePrintsAsOnce}
-use Rattle.gomod_laws.specs.Runs.{HasOutcome, Prints}
+use Rattle.gomod_laws.specs.Runs.{HasOutcome, HasPrinted}
 use Rattle.gomod_laws.proofs.EditListSteps.{is_edit}
 use Rattle.gomod_laws.proofs.FormattingProofs.{AreSoundLines, edit_states, edited_sound, no_refusal, numbered, read_sound, texts_utf8}
 
@@ -197,10 +197,10 @@ runs_alike once twice file first second repeats one two =
     let same : found.second ≡ second = one_outcome (Edit twice) file None (λ name. None) found.second second states (edit_states twice file second two) in
     subst (AreAlike repeats.earlier repeats.operation repeats.later first) same found.alike
 
-not_both : (outcome : Outcome) (report : List ℕ) → outcome ≡ refused report → Prints outcome → ⊥
+not_both : (outcome : Outcome) (report : List ℕ) → outcome ≡ refused report → HasPrinted outcome → ⊥
 not_both outcome report is prints = let e : 1 ≡ 0 = sym (ap (λ (o : Outcome). o.status) is) ∙ prints in omega (arith, e)
 
-none_refused : (number : ℕ) (first second : Outcome) → RefuseALater number first second → Prints first ⊎ Prints second → ⊥
+none_refused : (number : ℕ) (first second : Outcome) → RefuseALater number first second → HasPrinted first ⊎ HasPrinted second → ⊥
 none_refused number first second later (inl prints) = not_both first (edit_line later.refusal) later.refused_once prints
 none_refused number first second later (inr prints) = not_both second (edit_line (one_later later.refusal)) later.refused_twice prints
 

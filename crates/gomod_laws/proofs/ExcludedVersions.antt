@@ -22,7 +22,7 @@ use Rattle.gomod_words.specs.declared.usage.Command.TheVariants.{Fmt, Edit, Vers
 use Rattle.gomod_run.specs.Queries.{IsQueryOutcome}
 use Rattle.gomod_run.specs.Runs.{is_query}
 use Rattle.gomod_laws.specs.ExclusionLaws.{IsAllowed, NamesNoVersion, NoFaultIsExcluded, NoFieldIsExcluded, NoRowIsExcluded, NoStepIsExcluded}
-use Rattle.gomod_laws.specs.Runs.{Prints}
+use Rattle.gomod_laws.specs.Runs.{HasPrinted}
 use Rattle.gomod_laws.proofs.PrintedRuns.{Pairs, printed_by, query_by_answers}
 use Rattle.gomod_laws.proofs.VersionRuns.{refusal_prints_nothing}
 
@@ -111,7 +111,7 @@ rest_member : (main : List ℕ) (rows : List Entry) (path : List ℕ) (rest : Li
 rest_member main rows path rest (entry, at) row there =
     subst (λ (es : List Entry). Contains es row) (sym at.parts) (Contains-append_right at.before (entry ∷ rest) row (member_tail entry row rest there))
 
-printed_rows : (main : Main) (rows : List Entry) (after : Option (List ℕ)) (limit : Option ℕ) (outcome : Outcome) → Prints outcome → PrintsRows main rows after limit outcome
+printed_rows : (main : Main) (rows : List Entry) (after : Option (List ℕ)) (limit : Option ℕ) (outcome : Outcome) → HasPrinted outcome → PrintsRows main rows after limit outcome
     → (shown : List Entry) × (outcome ≡ printed (list_text main.path shown)) × ((row : Entry) → Contains shown row → Contains rows row)
 printed_rows main rows None limit outcome prints says = (limited limit rows, says, λ row there. limited_member limit rows row there)
 printed_rows main rows (Some path) limit outcome prints (inl (rest, is, says)) =
@@ -121,7 +121,7 @@ printed_rows main rows (Some path) limit outcome prints (inr (none, says)) = abs
 -- ---- what is printed
 
 printed_of : (prints : PrintsBy) (file : List ℕ) (main : Main) (sums : Option (List ℕ)) (asked : Pairs) (outcome : Outcome) → IsMainFile file main
-    → IsOutcome prints (given file sums (answers asked [])) outcome → Prints outcome → (held : Held) × prints main (readings_by main held) outcome
+    → IsOutcome prints (given file sums (answers asked [])) outcome → HasPrinted outcome → (held : Held) × prints main (readings_by main held) outcome
 printed_of prints file main sums asked outcome reads is done =
     let (again, held, valid, says) = printed_by prints (given file sums (answers asked [])) outcome is done in
     (held, subst (λ (m : Main). prints m (readings_by m held) outcome) (one_main file again main valid.read.main_file reads) says)

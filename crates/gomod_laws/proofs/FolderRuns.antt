@@ -27,7 +27,7 @@ use Rattle.gomod_run.proofs.Answering.{answered_in}
 use Rattle.gomod_run.proofs.OneStore.{one_for_stores}
 use Rattle.gomod_run.proofs.Uniqueness.{latest_once, listed_once, none_latest}
 use Rattle.gomod_laws.specs.FolderLaws.{MayAnswer, MoreFoldersChangeNothing}
-use Rattle.gomod_laws.specs.Runs.{HasOutcome, Prints}
+use Rattle.gomod_laws.specs.Runs.{HasOutcome, HasPrinted}
 use Rattle.gomod_laws.proofs.FolderWalks.{found_again}
 use Rattle.gomod_laws.proofs.PrintedRuns.{Pairs, valid_files}
 use Rattle.gomod_laws.proofs.VersionRuns.{by_answers, list_answered, refusal_prints_nothing}
@@ -82,7 +82,7 @@ versions_grow path all one other keeps name (may, inl is) = (may, inl is)
 versions_grow path all one other keeps name (may, inr (list, versions, latest, some, answered, listed, greatest, is)) =
     (may, inr (list, versions, latest, some, keeps (list_file path) (bytes list) answered, listed, greatest, is))
 
-module _ (path : List ℕ) (all : Bool) (told : AnswersByName) (outcome : Outcome) (prints : Prints outcome) where
+module _ (path : List ℕ) (all : Bool) (told : AnswersByName) (outcome : Outcome) (prints : HasPrinted outcome) where
   shown_from_file : (versions : List (List ℕ)) (latest : List ℕ) (reply : Reply) → IsShownOutcome path versions latest reply outcome → IsFile reply
   shown_from_file versions latest reply shows = by shows.reading shows.says shows.outcome_is
     where
@@ -172,21 +172,21 @@ same_outcome command main sums asked told a b alike run again =
     subst (λ (pairs : Pairs). AnswerAlike run.new.asked pairs) (sym again.asked_are) (subst (λ (pairs : Pairs). AnswerAlike pairs told) (sym run.asked_are) alike) in
     one_for_stores command main sums run.old run.new again.old again.new a b all run.none_failed again.none_failed run.run again.run
 
-all_answered : (command : Command) (main : List ℕ) (sums : Option (List ℕ)) (asked : Pairs) (outcome : Outcome) → HasOutcome command main sums asked outcome → Prints outcome
+all_answered : (command : Command) (main : List ℕ) (sums : Option (List ℕ)) (asked : Pairs) (outcome : Outcome) → HasOutcome command main sums asked outcome → HasPrinted outcome
     → AnsweredAll (Needs command main sums) (answer_in asked)
 all_answered command main sums asked outcome run prints =
     subst (λ (pairs : Pairs). AnsweredAll (Needs command main sums) (answer_in pairs)) run.asked_are (done_answers command main sums run.old run.new outcome run.run prints)
 
 module _ (main : List ℕ) (sums : Option (List ℕ)) where
   -- what a query asked for is what it needed, and was read
-  query_is_file : (command : Command) (asked : Pairs) (outcome : Outcome) → is_query command ≡ true → HasOutcome command main sums asked outcome → Prints outcome
+  query_is_file : (command : Command) (asked : Pairs) (outcome : Outcome) → is_query command ≡ true → HasOutcome command main sums asked outcome → HasPrinted outcome
       → (name : Name) (reply : Reply) → answer_in asked name ≡ Some reply → IsFile reply
   query_is_file command asked outcome query run prints name reply e =
       let (says, held, valid) = valid_files command main sums asked outcome query run prints in
       opened_is_file (given main sums (answers asked [])) says held valid name reply e
 
   -- a run that prints was answered with a file wherever it asked
-  each_is_file : (command : Command) (asked : Pairs) (outcome : Outcome) → HasOutcome command main sums asked outcome → AskedInTurn (Needs command main sums) asked → Prints outcome
+  each_is_file : (command : Command) (asked : Pairs) (outcome : Outcome) → HasOutcome command main sums asked outcome → AskedInTurn (Needs command main sums) asked → HasPrinted outcome
       → (name : Name) (reply : Reply) → answer_in asked name ≡ Some reply → IsFile reply
   each_is_file Fmt asked outcome run turn prints name reply e = absurd (needed_after (Needs Fmt main sums) (λ one other keeps n need. need) [] asked turn name (answered_name asked name reply e))
   each_is_file (Edit operations) asked outcome run turn prints name reply e =
@@ -198,16 +198,16 @@ module _ (main : List ℕ) (sums : Option (List ℕ)) where
   each_is_file (Rows after limit) asked outcome run turn prints name reply e = query_is_file (Rows after limit) asked outcome refl run prints name reply e
   each_is_file (Chain path) asked outcome run turn prints name reply e = query_is_file (Chain path) asked outcome refl run prints name reply e
 
-  query_names : (command : Command) (asked told : Pairs) (a b : Outcome) → is_query command ≡ true → AnswerAlike asked told → HasOutcome command main sums asked a → Prints a
-      → HasOutcome command main sums told b → Prints b → (name : Name) → Contains (names_in asked) name → Contains (names_in told) name
+  query_names : (command : Command) (asked told : Pairs) (a b : Outcome) → is_query command ≡ true → AnswerAlike asked told → HasOutcome command main sums asked a → HasPrinted a
+      → HasOutcome command main sums told b → HasPrinted b → (name : Name) → Contains (names_in asked) name → Contains (names_in told) name
   query_names command asked told a b query alike run prints again also name there =
       let (says, held, valid) = valid_files command main sums asked a query run prints in
       let (tells, next, too) = valid_files command main sums told b query again also in
       names_into main sums asked told says tells held next alike valid too name there
 
   -- a file that one run asked for is one that the other asked for
-  names_in_other : (command : Command) (asked told : Pairs) (a b : Outcome) → AnswerAlike asked told → AskedInTurn (Needs command main sums) asked → HasOutcome command main sums asked a → Prints a
-      → HasOutcome command main sums told b → Prints b → (name : Name) → Contains (names_in asked) name → Contains (names_in told) name
+  names_in_other : (command : Command) (asked told : Pairs) (a b : Outcome) → AnswerAlike asked told → AskedInTurn (Needs command main sums) asked → HasOutcome command main sums asked a → HasPrinted a
+      → HasOutcome command main sums told b → HasPrinted b → (name : Name) → Contains (names_in asked) name → Contains (names_in told) name
   names_in_other Fmt asked told a b alike turn run prints again also name there = absurd (needed_after (Needs Fmt main sums) (λ one other keeps n need. need) [] asked turn name there)
   names_in_other (Edit operations) asked told a b alike turn run prints again also name there =
       absurd (needed_after (Needs (Edit operations) main sums) (λ one other keeps n need. need) [] asked turn name there)
@@ -233,7 +233,7 @@ more_folders_change_nothing command main sums folders others marks more asked to
     is ∙ sym (found_again folders others marks more grows name content b may (again.answers name b (answered_in told name b f))) in
     let back : AnswerAlike told asked = alike_back asked told alike in
     let same : other ≡ one = same_outcome command main sums told asked other one back again.ends run.ends in
-    let also : Prints other = ap (λ (o : Outcome). o.status) same ∙ prints in (
+    let also : HasPrinted other = ap (λ (o : Outcome). o.status) same ∙ prints in (
       same,
       λ name. (
         names_in_other main sums command told asked other one back again.in_turn again.ends also run.ends prints name,

@@ -15,7 +15,7 @@ use Rattle.gm_syntax.specs.Document.{Line, Blank, Comment, Open, Close, Entry}
 use Rattle.gm_syntax.specs.LineViews.{plain, plain_lines}
 use Rattle.gm_syntax.specs.Tokens.{Placed}
 use Rattle.gm_syntax.specs.Scan.{plain_len}
-use Rattle.gm_syntax.specs.Words.{Word, escaped}
+use Rattle.gm_syntax.specs.Words.{Word, escaped_value}
 use Rattle.gm_syntax.proofs.Spelled.{BeginsMark, escaped_mark, escaped_parts, plain_front}
 use Rattle.gm_name.specs.Names.{is_path, is_version}
 use Rattle.gm_name.specs.Path.{is_byte_of_path}
@@ -183,14 +183,14 @@ mark_ascii : (text : List ℕ) → BeginsMark text → BeginsAscii text
 mark_ascii [] h = tt
 mark_ascii (b ∷ text) h = mark_low b text h
 
-after_utf8 : (after : List ℕ) → BeginsMark after → IsUtf8 after → ((more : List ℕ) → length more < length after → IsUtf8 more → IsUtf8 (escaped more)) → IsUtf8 (escaped after)
+after_utf8 : (after : List ℕ) → BeginsMark after → IsUtf8 after → ((more : List ℕ) → length more < length after → IsUtf8 more → IsUtf8 (escaped_value more)) → IsUtf8 (escaped_value after)
 after_utf8 [] marked utf8 rest = IsUtf8-nil
 after_utf8 (b ∷ more) marked utf8 rest =
     let low : b < 128 = mark_low b more marked in
     subst IsUtf8 (sym (escaped_mark (b ∷ more) (omega arith) marked))
-    (ascii_before 92 (b ∷ escaped more) (omega arith) (ascii_before b (escaped more) low (rest more (omega arith) (after_ascii b more low utf8))))
+    (ascii_before 92 (b ∷ escaped_value more) (omega arith) (ascii_before b (escaped_value more) low (rest more (omega arith) (after_ascii b more low utf8))))
 
-escaped_by : (value : List ℕ) → IsUtf8 value → ((more : List ℕ) → length more < length value → IsUtf8 more → IsUtf8 (escaped more)) → IsUtf8 (escaped value)
+escaped_by : (value : List ℕ) → IsUtf8 value → ((more : List ℕ) → length more < length value → IsUtf8 more → IsUtf8 (escaped_value more)) → IsUtf8 (escaped_value value)
 escaped_by value utf8 rest =
     let f = plain_front value in
     let front : f.front ≡ take (plain_len value) value = sym (ap (take (plain_len value)) f.parts ∙ take_at f.front f.after (plain_len value) (sym f.len)) in
@@ -198,15 +198,15 @@ escaped_by value utf8 rest =
     let cut = before_ascii f.front f.after (mark_ascii f.after f.marked) (subst IsUtf8 f.parts utf8) in
     let shorter : length f.after ≤ length value = omega (arith, ap length f.parts, length-append f.front f.after) in
     subst IsUtf8 (sym (escaped_parts value f.front f.after front after))
-    (IsUtf8-append f.front (escaped f.after) cut.front (after_utf8 f.after f.marked cut.back (λ more less u. rest more (omega (arith, less, shorter)) u)))
+    (IsUtf8-append f.front (escaped_value f.after) cut.front (after_utf8 f.after f.marked cut.back (λ more less u. rest more (omega (arith, less, shorter)) u)))
 
-escaped_up_to : (n : ℕ) (value : List ℕ) → length value ≤ n → IsUtf8 value → IsUtf8 (escaped value)
+escaped_up_to : (n : ℕ) (value : List ℕ) → length value ≤ n → IsUtf8 value → IsUtf8 (escaped_value value)
 escaped_up_to zero value low utf8 = escaped_by value utf8 (λ more less u. absurd (omega (arith, less, low)))
 escaped_up_to (suc n) value low utf8 = escaped_by value utf8 (λ more less u. escaped_up_to n more (omega (arith, less, low)) u)
 
 quoted_utf8 : (value : List ℕ) → IsUtf8 value → IsUtf8 (in_quotes value)
 quoted_utf8 value utf8 =
-    ascii_before 34 (escaped value ++ 34 ∷ []) (omega arith) (IsUtf8-append (escaped value) (34 ∷ []) (escaped_up_to (length value) value (omega arith) utf8) (one_ascii 34 (omega arith)))
+    ascii_before 34 (escaped_value value ++ 34 ∷ []) (omega arith) (IsUtf8-append (escaped_value value) (34 ∷ []) (escaped_up_to (length value) value (omega arith) utf8) (one_ascii 34 (omega arith)))
 
 new_utf8 : (value : List ℕ) → IsUtf8 value → IsUtf8 (made_word value).word.spelling
 new_utf8 value utf8 = by_test (can_be_bare value)

@@ -11,7 +11,7 @@ use Rattle.gomod_words.specs.declared.usage.Command.{Command}
 use Rattle.gomod_words.specs.declared.usage.Command.TheVariants.{Fmt, Edit, Versions, Graph, List as Rows, Chain}
 use Rattle.gomod_run.specs.Queries.{AnswersQuery, IsQueryOutcome, RunsTo}
 use Rattle.gomod_run.specs.Runs.{is_query}
-use Rattle.gomod_laws.specs.Runs.{HasOutcome, Prints}
+use Rattle.gomod_laws.specs.Runs.{HasOutcome, HasPrinted}
 
 abbrev pub Pairs : Type 0
 Pairs = List (Name × Reply)
@@ -39,7 +39,7 @@ query_by_answers command file sums asked outcome is run = by command is run.run
     by (Chain path) is runs = over (Chain path) runs
 
 -- what a query that prints is based on
-pub printed_by : (prints : PrintsBy) (run : Given) (outcome : Outcome) → IsOutcome prints run outcome → Prints outcome
+pub printed_by : (prints : PrintsBy) (run : Given) (outcome : Outcome) → IsOutcome prints run outcome → HasPrinted outcome
     → (main : Main) × (held : Held) × AllFilesAreValid run main held × prints main (readings_by main held) outcome
 printed_by prints run outcome (inl (inl misread, unasked)) done =
     let code = ap (λ (o : Outcome). o.status) misread.2 in absurd (omega (arith, code, done))
@@ -55,7 +55,7 @@ printed_by prints run outcome (inr (main, table, read, inr (held, known, sound, 
     (main, held, record { table = table; read = read; known = known; sound = sound }, says)
 
 -- the same for any query
-pub valid_files : (command : Command) (file : List ℕ) (sums : Option (List ℕ)) (asked : Pairs) (outcome : Outcome) → is_query command ≡ true → HasOutcome command file sums asked outcome → Prints outcome
+pub valid_files : (command : Command) (file : List ℕ) (sums : Option (List ℕ)) (asked : Pairs) (outcome : Outcome) → is_query command ≡ true → HasOutcome command file sums asked outcome → HasPrinted outcome
     → (main : Main) × (held : Held) × AllFilesAreValid (given file sums (answers asked [])) main held
 valid_files command file sums asked outcome is run done = by command is (query_by_answers command file sums asked outcome is run)
   where

@@ -20,7 +20,7 @@ use Rattle.gomod_words.specs.declared.usage.Command.TheVariants.{Versions}
 use Rattle.gomod_run.specs.Runs.{IsRunOutcome, Needs, StatesOutcome}
 use Rattle.gomod_run.specs.Versions.{AnswersByName, IsListedOutcome, IsOutcomeByList, IsVersionsOutcome, shown_by, versions_line}
 use Rattle.gomod_run.proofs.Uniqueness.{listed_once}
-use Rattle.gomod_laws.specs.Runs.{HasOutcome, Prints}
+use Rattle.gomod_laws.specs.Runs.{HasOutcome, HasPrinted}
 use Rattle.gomod_laws.specs.VersionLaws.{AreUnretracted, AreVersionsOf, PrintsVersionsOfPath, RetractedAreLeftOut, Retracts}
 
 abbrev Pairs : Type 0
@@ -29,7 +29,7 @@ Pairs = List (Name × Reply)
 -- ---- a run
 
 -- a refusal prints nothing
-pub refusal_prints_nothing : (outcome : Outcome) (report : List ℕ) → outcome ≡ refused report → Prints outcome → ⊥
+pub refusal_prints_nothing : (outcome : Outcome) (report : List ℕ) → outcome ≡ refused report → HasPrinted outcome → ⊥
 refusal_prints_nothing outcome report is prints = let one : 1 ≡ 0 = sym (ap {B = ℕ} (λ (o : Outcome). o.status) is) ∙ prints in cc one
 
 one_more : (old new : List Name) (name : Name) → new ≡ old ++ name ∷ [] → new ≡ old → ⊥
@@ -56,7 +56,7 @@ pub record IsAnswered (path : List ℕ) (answers : AnswersByName) (versions : Li
   pub listed : AreListed path list versions
 
 -- where `versions` prints, its list was answered
-pub list_answered : (path : List ℕ) (all : Bool) (answers : AnswersByName) (outcome : Outcome) → Prints outcome → IsVersionsOutcome path all answers outcome
+pub list_answered : (path : List ℕ) (all : Bool) (answers : AnswersByName) (outcome : Outcome) → HasPrinted outcome → IsVersionsOutcome path all answers outcome
     → (versions : List (List ℕ)) × IsAnswered path answers versions × IsListedOutcome path all answers versions outcome
 list_answered path all answers outcome prints (inl (isnt, says)) = absurd (refusal_prints_nothing outcome _ says prints)
 list_answered path all answers outcome prints (inr (reply, fetchable, answered, is)) = by reply answered is
@@ -76,7 +76,7 @@ AreShown path all asked versions shown =
     × Retracts asked path latest intervals
     × (shown ≡ shown_of intervals versions))
 
-shown_printed : (path : List ℕ) (all : Bool) (asked : Pairs) (versions : List (List ℕ)) (outcome : Outcome) → Prints outcome → IsListedOutcome path all (answer_in asked) versions outcome
+shown_printed : (path : List ℕ) (all : Bool) (asked : Pairs) (versions : List (List ℕ)) (outcome : Outcome) → HasPrinted outcome → IsListedOutcome path all (answer_in asked) versions outcome
     → (shown : List (List ℕ)) × AreShown path all asked versions shown × (outcome ≡ printed (versions_line path shown))
 shown_printed path all asked versions outcome prints (inl (every, says)) = (versions, inl (every, refl), says)
 shown_printed path all asked versions outcome prints (inr (latest, reply, some, is, answered, shows)) = by shows.reading shows.says shows.outcome_is

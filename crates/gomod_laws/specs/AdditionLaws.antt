@@ -15,7 +15,7 @@ use Rattle.gm_graph_listing.specs.Outcomes.{AreRows, IsMainFile, Outcome, answer
 use Rattle.gm_graph_listing.specs.Texts.{graph_text, list_text}
 use Rattle.gomod_words.specs.declared.usage.Command.{Command}
 use Rattle.gomod_words.specs.declared.usage.Command.TheVariants.{Graph, List as Rows}
-use Rattle.gomod_laws.specs.Runs.{HasOutcome, Prints}
+use Rattle.gomod_laws.specs.Runs.{HasOutcome, HasPrinted}
 
 -- ---- what is printed
 
@@ -69,13 +69,13 @@ AreNotLower rows others = (x : ModuleVersion) (right : Option Right) → Contain
 -- Where `list` prints over a main file that says more, it prints over the other, and lowers no row of it.
 abbrev pub ListLowersNothing : Type 0
 ListLowersNothing = (file more : List ℕ) (sums : Option (List ℕ)) (first second : Main) (one next : Outcome)
-    (runs : AreTwoRuns (Rows None None) file more sums first second one next) → SaysMore first second → Prints next
+    (runs : AreTwoRuns (Rows None None) file more sums first second one next) → SaysMore first second → HasPrinted next
     → (rows : List Entry) × (others : List Entry) × ShowsRows file sums runs.asked first rows one
     × ShowsRows more sums runs.later second others next × AreNotLower rows others
 
 -- Where `graph` prints over a main file that says more, it prints over the other, and each line of that is one of it.
 abbrev pub GraphKeepsLines : Type 0
 GraphKeepsLines = (file more : List ℕ) (sums : Option (List ℕ)) (first second : Main) (one next : Outcome)
-    (runs : AreTwoRuns Graph file more sums first second one next) → SaysMore first second → Prints next
+    (runs : AreTwoRuns Graph file more sums first second one next) → SaysMore first second → HasPrinted next
     → (edges : List Edge) × (others : List Edge) × ShowsEdges file sums runs.asked first edges one
     × ShowsEdges more sums runs.later second others next × ((e : Edge) → Contains edges e → Contains others e)

@@ -21,7 +21,7 @@ use Rattle.gomod_words.specs.declared.usage.Command.{Command}
 use Rattle.gomod_words.specs.declared.usage.Command.TheVariants.{Graph, List as Rows, Chain}
 use Rattle.gomod_run.specs.Runs.{is_query}
 use Rattle.gomod_laws.specs.FormattingLaws.{IsEdited}
-use Rattle.gomod_laws.specs.Runs.{HasOutcome, Prints}
+use Rattle.gomod_laws.specs.Runs.{HasOutcome, HasPrinted}
 
 -- ---- operations that change no build
 
@@ -68,7 +68,7 @@ RequiredIsListed = (operations : Vec (String Global)) (path version file text : 
     (sums : Option (List ℕ)) (asked : List (Name × Reply)) (list : Outcome)
     → PrintsAfter operations (SetRequire (pair path version)) file text → IsMainFile text main
     → path ≢ main.path → is_excluded main (path, version) ≡ false
-    → HasOutcome (Rows None None) text sums asked list → Prints list
+    → HasOutcome (Rows None None) text sums asked list → HasPrinted list
     → (rows : List Entry) × (list ≡ printed (list_text main.path rows)) × HasRowFrom rows path version
 
 -- After `module=PATH`, where `list` prints, its first line is that path.
@@ -76,7 +76,7 @@ abbrev pub ModuleIsFirst : Type 0
 ModuleIsFirst = (operations : Vec (String Global)) (path file text : List ℕ)
     (sums : Option (List ℕ)) (asked : List (Name × Reply)) (list : Outcome)
     → PrintsAfter operations (SetModule path) file text
-    → HasOutcome (Rows None None) text sums asked list → Prints list
+    → HasOutcome (Rows None None) text sums asked list → HasPrinted list
     → (others : List ℕ) × (list ≡ printed (line path ++ others))
 
 -- After `droprequire=PATH`, where `graph` prints, no line leads from the main module to that path.
@@ -84,7 +84,7 @@ abbrev pub DroppedHasNoEdge : Type 0
 DroppedHasNoEdge = (operations : Vec (String Global)) (path file text : List ℕ) (main : Main)
     (sums : Option (List ℕ)) (asked : List (Name × Reply)) (graph : Outcome)
     → PrintsAfter operations (DropRequire path) file text → IsMainFile text main
-    → HasOutcome Graph text sums asked graph → Prints graph
+    → HasOutcome Graph text sums asked graph → HasPrinted graph
     → (edges : List Edge) × (graph ≡ printed (graph_text main.path edges))
     × ((version : List ℕ) → ¬ (Contains edges (edge FromMain (path, version))))
 
@@ -93,7 +93,7 @@ abbrev pub DroppedIsFar : Type 0
 DroppedIsFar = (operations : Vec (String Global)) (path file text : List ℕ) (main : Main)
     (sums : Option (List ℕ)) (asked : List (Name × Reply)) (chain : Outcome)
     → PrintsAfter operations (DropRequire path) file text → IsMainFile text main → path ≢ main.path
-    → HasOutcome (Chain path) text sums asked chain → Prints chain
+    → HasOutcome (Chain path) text sums asked chain → HasPrinted chain
     → (steps : List Step) × (chain ≡ printed (chain_text main.path steps)) × (3 ≤ length steps)
 
 -- After `exclude=PATH@VERSION` no row that `list` prints is of that version,
@@ -102,7 +102,7 @@ ExcludedHasNoRow = (operations : Vec (String Global)) (path version file text : 
     (after : Option (List ℕ)) (limit : Option ℕ) (sums : Option (List ℕ)) (asked : List (Name × Reply))
     (list : Outcome)
     → PrintsAfter operations (AddExclude (pair path version)) file text → IsMainFile text main
-    → HasOutcome (Rows after limit) text sums asked list → Prints list
+    → HasOutcome (Rows after limit) text sums asked list → HasPrinted list
     → (rows : List Entry) × (list ≡ printed (list_text main.path rows))
     × ((row : Entry) → Contains rows row → row.0 ≢ Of (path, version))
 
@@ -111,7 +111,7 @@ abbrev pub ExcludedHasNoField : Type 0
 ExcludedHasNoField = (operations : Vec (String Global)) (path version file text : List ℕ) (main : Main)
     (sums : Option (List ℕ)) (asked : List (Name × Reply)) (graph : Outcome)
     → PrintsAfter operations (AddExclude (pair path version)) file text → IsMainFile text main
-    → HasOutcome Graph text sums asked graph → Prints graph
+    → HasOutcome Graph text sums asked graph → HasPrinted graph
     → (edges : List Edge) × (graph ≡ printed (graph_text main.path edges))
     × ((one : Edge) → Contains edges one → (one.from ≢ Of (path, version)) × (one.to ≢ (path, version)))
 
@@ -120,7 +120,7 @@ abbrev pub ExcludedHasNoStep : Type 0
 ExcludedHasNoStep = (operations : Vec (String Global)) (path version file text target : List ℕ) (main : Main)
     (sums : Option (List ℕ)) (asked : List (Name × Reply)) (chain : Outcome)
     → PrintsAfter operations (AddExclude (pair path version)) file text → IsMainFile text main
-    → HasOutcome (Chain target) text sums asked chain → Prints chain
+    → HasOutcome (Chain target) text sums asked chain → HasPrinted chain
     → (steps : List Step) × (chain ≡ printed (chain_text main.path steps))
     × ((step : Step) → Contains steps step → step ≢ Of (path, version))
 
@@ -129,7 +129,7 @@ abbrev pub ReplacedVersionIsShown : Type 0
 ReplacedVersionIsShown = (operations : Vec (String Global)) (path version file text : List ℕ) (right : Right)
     (main : Main) (sums : Option (List ℕ)) (asked : List (Name × Reply)) (list : Outcome)
     → PrintsAfter operations (SetReplace (replacing (left_with path version) right)) file text → IsMainFile text main
-    → HasOutcome (Rows None None) text sums asked list → Prints list
+    → HasOutcome (Rows None None) text sums asked list → HasPrinted list
     → (rows : List Entry) × (list ≡ printed (list_text main.path rows))
     × ((its : Option Right) → Contains rows (Of (path, version), its) → its ≡ Some right)
 
@@ -138,7 +138,7 @@ abbrev pub ReplacedPathIsShown : Type 0
 ReplacedPathIsShown = (operations : Vec (String Global)) (path file text : List ℕ) (right : Right)
     (main : Main) (sums : Option (List ℕ)) (asked : List (Name × Reply)) (list : Outcome)
     → PrintsAfter operations (SetReplace (replacing (left_without path) right)) file text → IsMainFile text main
-    → HasOutcome (Rows None None) text sums asked list → Prints list
+    → HasOutcome (Rows None None) text sums asked list → HasPrinted list
     → (rows : List Entry) × (list ≡ printed (list_text main.path rows))
     × ((version : List ℕ) (its : Option Right) → Contains rows (Of (path, version), its) → its ≡ Some right)
 

@@ -5,7 +5,7 @@ use Rattle.gm_graph_listing.specs.Outcomes.{Outcome, refused}
 use Rattle.gomod_words.specs.Usage.{texts_in}
 use Rattle.gomod_words.specs.declared.usage.Command.TheVariants.{Edit}
 use Rattle.gomod_run.specs.Kinds.{edit_line}
-use Rattle.gomod_laws.specs.Runs.{HasOutcome, Prints}
+use Rattle.gomod_laws.specs.Runs.{HasOutcome, HasPrinted}
 
 -- The second operations are the first, with one of them twice, directly one after the other.
 pub record RepeatsOne (once twice : Vec (String Global)) : Type 0 where
@@ -20,7 +20,7 @@ abbrev pub TwicePrintsAsOnce : Type 0
 TwicePrintsAsOnce = (once twice : Vec (String Global)) (file : List ℕ) (first second : Outcome)
     → RepeatsOne once twice
     → HasOutcome (Edit once) file None [] first → HasOutcome (Edit twice) file None [] second
-    → Prints first ⊎ Prints second → first ≡ second
+    → HasPrinted first ⊎ HasPrinted second → first ≡ second
 
 -- Whether it prints or refuses, it does the same with both, if the operation is the last one.
 abbrev pub LastTwiceIsOnce : Type 0

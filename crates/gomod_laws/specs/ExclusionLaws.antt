@@ -20,7 +20,7 @@ use Rattle.gm_graph_listing.specs.Texts.{chain_text, graph_text, list_text}
 use Rattle.gomod_words.specs.declared.usage.Command.{Command}
 use Rattle.gomod_words.specs.declared.usage.Command.TheVariants.{Graph, List as Rows, Chain}
 use Rattle.gomod_run.specs.Runs.{is_query}
-use Rattle.gomod_laws.specs.Runs.{HasOutcome, Prints}
+use Rattle.gomod_laws.specs.Runs.{HasOutcome, HasPrinted}
 
 -- ---- an excluded version is nowhere
 
@@ -33,7 +33,7 @@ IsAllowed main (Of x) = is_excluded main x ≡ false
 abbrev pub NoRowIsExcluded : Type 0
 NoRowIsExcluded = (after : Option (List ℕ)) (limit : Option ℕ) (file : List ℕ) (main : Main)
     (sums : Option (List ℕ)) (asked : List (Name × Reply)) (outcome : Outcome)
-    → IsMainFile file main → HasOutcome (Rows after limit) file sums asked outcome → Prints outcome
+    → IsMainFile file main → HasOutcome (Rows after limit) file sums asked outcome → HasPrinted outcome
     → (rows : List Entry) × (outcome ≡ printed (list_text main.path rows))
     × ((row : Entry) → Contains rows row → IsAllowed main row.0)
 
@@ -41,7 +41,7 @@ NoRowIsExcluded = (after : Option (List ℕ)) (limit : Option ℕ) (file : List 
 abbrev pub NoFieldIsExcluded : Type 0
 NoFieldIsExcluded = (file : List ℕ) (main : Main) (sums : Option (List ℕ)) (asked : List (Name × Reply))
     (outcome : Outcome)
-    → IsMainFile file main → HasOutcome Graph file sums asked outcome → Prints outcome
+    → IsMainFile file main → HasOutcome Graph file sums asked outcome → HasPrinted outcome
     → (edges : List Edge) × (outcome ≡ printed (graph_text main.path edges))
     × ((edge : Edge) → Contains edges edge → IsAllowed main edge.from × IsAllowed main (Of edge.to))
 
@@ -49,7 +49,7 @@ NoFieldIsExcluded = (file : List ℕ) (main : Main) (sums : Option (List ℕ)) (
 abbrev pub NoStepIsExcluded : Type 0
 NoStepIsExcluded = (path file : List ℕ) (main : Main) (sums : Option (List ℕ)) (asked : List (Name × Reply))
     (outcome : Outcome)
-    → IsMainFile file main → HasOutcome (Chain path) file sums asked outcome → Prints outcome
+    → IsMainFile file main → HasOutcome (Chain path) file sums asked outcome → HasPrinted outcome
     → (steps : List Step) × (outcome ≡ printed (chain_text main.path steps))
     × ((step : Step) → Contains steps step → IsAllowed main step)
 

@@ -9,7 +9,7 @@ use Rattle.gm_store.specs.Steps.{MayStop}
 use Rattle.gm_graph_listing.specs.Outcomes.{Outcome}
 use Rattle.gomod_words.specs.declared.usage.Command.{Command}
 use Rattle.gomod_run.specs.Runs.{AskedInTurn, Needs}
-use Rattle.gomod_laws.specs.Runs.{HasOutcome, Prints}
+use Rattle.gomod_laws.specs.Runs.{HasOutcome, HasPrinted}
 
 -- the answers that folders in memory may give to a name, with these marks between the proxy folders
 abbrev pub MayAnswer : FoldersInMemory → List Mark → Name → Reply → Type 0
@@ -39,6 +39,6 @@ MoreFoldersChangeNothing = (command : Command) (main : List ℕ) (sums : Option 
     (folders others : FoldersInMemory) (marks more : List Mark) (asked told : List (Name × Reply))
     (one other : Outcome)
     → HasOneMore folders others marks more
-    → RunsOver command main sums folders marks asked one → Prints one
+    → RunsOver command main sums folders marks asked one → HasPrinted one
     → RunsOver command main sums others more told other
     → (other ≡ one) × ((name : Name) → Contains (names_in told) name ↔ Contains (names_in asked) name)

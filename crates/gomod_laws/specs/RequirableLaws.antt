@@ -14,7 +14,7 @@ use Rattle.gm_graph_listing.specs.Laws.{AnswerAlike}
 use Rattle.gm_graph_listing.specs.Outcomes.{Outcome, printed}
 use Rattle.gomod_words.specs.Usage.{texts_in}
 use Rattle.gomod_words.specs.declared.usage.Command.TheVariants.{Edit, List as Rows}
-use Rattle.gomod_laws.specs.Runs.{HasOutcome, Prints}
+use Rattle.gomod_laws.specs.Runs.{HasOutcome, HasPrinted}
 use Rattle.gomod_laws.specs.AdditionLaws.{AreTwoRuns, ShowsEdges, ShowsRows}
 
 -- ---- main files that require different modules
@@ -60,7 +60,7 @@ VerticesCanBeRequired = (file more : List ℕ) (sums : Option (List ℕ)) (first
     (seen : List (Name × Reply)) (graph one next : Outcome)
     (runs : AreTwoRuns (Rows None None) file more sums first second one next) → AnswerAlike seen runs.asked
     → ShowsEdges file sums seen first edges graph → is_pruned_by first.go ≡ false
-    → RequiresAlso first second (StandsSecond edges) → Prints one × (next ≡ one)
+    → RequiresAlso first second (StandsSecond edges) → HasPrinted one × (next ≡ one)
 
 -- So it does, whether the main file is pruned or not, where modules that stand first in a line are also required.
 abbrev pub OpenedCanBeRequired : Type 0
@@ -68,7 +68,7 @@ OpenedCanBeRequired = (file more : List ℕ) (sums : Option (List ℕ)) (first s
     (seen : List (Name × Reply)) (graph one next : Outcome)
     (runs : AreTwoRuns (Rows None None) file more sums first second one next) → AnswerAlike seen runs.asked
     → ShowsEdges file sums seen first edges graph → RequiresAlso first second (StandsFirst edges)
-    → Prints one × (next ≡ one)
+    → HasPrinted one × (next ≡ one)
 
 -- Where the main file is not pruned and `list` prints, it prints the same where each row is required, and besides the
 -- rows any of what was required before.
@@ -95,5 +95,5 @@ EditedRowsStay = (operations : Vec (String Global)) (file text : List ℕ) (sums
     (rows : List Entry) (asked later : List (Name × Reply)) (one next : Outcome) → AnswerAlike asked later
     → ShowsRows file sums asked main rows one → is_pruned_by main.go ≡ false
     → RequireTheRows rows (texts_in operations) → HasOutcome (Edit operations) file None [] (printed text)
-    → HasOutcome (Rows None None) file sums asked one → HasOutcome (Rows None None) text sums later next → Prints next
+    → HasOutcome (Rows None None) file sums asked one → HasOutcome (Rows None None) text sums later next → HasPrinted next
     → next ≡ one

@@ -9,7 +9,7 @@ use Rattle.gm_graph_listing.specs.Outcomes.{IsMainFile, Outcome, PrintsRows, pri
 use Rattle.gm_graph_listing.specs.Reports.{not_listed_line}
 use Rattle.gm_graph_listing.specs.Texts.{line, step_text}
 use Rattle.gomod_words.specs.declared.usage.Command.TheVariants.{Graph, List as Rows, Chain}
-use Rattle.gomod_laws.specs.Runs.{HasOutcome, Prints}
+use Rattle.gomod_laws.specs.Runs.{HasOutcome, HasPrinted}
 
 -- these lines, each with the line feed that ends it
 abbrev pub text_of : List (List ℕ) → List ℕ
@@ -35,7 +35,7 @@ pub record IsExplained (main : List ℕ) (rows : List Entry) (edges : List (List
 abbrev pub EachRowIsExplained : Type 0
 EachRowIsExplained = (after : Option (List ℕ)) (limit : Option ℕ) (file : List ℕ) (sums : Option (List ℕ))
     (asked others : List (Name × Reply)) (list graph : Outcome) → AnswerAlike asked others
-    → HasOutcome (Rows after limit) file sums asked list → HasOutcome Graph file sums others graph → Prints list
+    → HasOutcome (Rows after limit) file sums asked list → HasOutcome Graph file sums others graph → HasPrinted list
     → (main : Main) × (rows : List Entry) × (edges : List (List ℕ)) × IsMainFile file main
     × PrintsRows main rows after limit list × (graph ≡ printed (text_of edges))
     × ((path : List ℕ) (third : List (Name × Reply)) (chain : Outcome) → AnswerAlike asked third

@@ -17,5 +17,5 @@ pub record HasOutcome (command : Command) (main : List ℕ) (sums : Option (List
   pub none_failed : new.refused ≡ old.refused
 
 -- the command prints: its status is 0, and nothing is reported
-abbrev pub Prints : Outcome → Type 0
-Prints outcome = outcome.status ≡ 0
+abbrev pub HasPrinted : Outcome → Type 0
+HasPrinted outcome = outcome.status ≡ 0

@@ -8,14 +8,14 @@ use Rattle.gm_graph_listing.specs.Laws.{AnswerAlike}
 use Rattle.gm_graph_listing.specs.Outcomes.{Outcome, longest}
 use Rattle.gomod_words.specs.declared.usage.Command.{Command}
 use Rattle.gomod_run.specs.Needs.{GraphNeeds}
-use Rattle.gomod_laws.specs.Runs.{HasOutcome, Prints}
+use Rattle.gomod_laws.specs.Runs.{HasOutcome, HasPrinted}
 
 -- What a command prints with a go.sum, it prints without one.
 abbrev pub OnlyRefuses : Type 0
 OnlyRefuses = (command : Command) (main sums : List ℕ) (asked others : List (Name × Reply))
     (checked unchecked : Outcome) → AnswerAlike asked others
     → HasOutcome command main (Some sums) asked checked → HasOutcome command main None others unchecked
-    → Prints checked → unchecked ≡ checked
+    → HasPrinted checked → unchecked ≡ checked
 
 -- The go.sum is valid. For each file of a proxy that a run with these answers and no go.sum needs, it has a line with
 -- the hash of that file, under the file's own path and version, and no line with another hash.

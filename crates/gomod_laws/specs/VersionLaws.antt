@@ -13,7 +13,7 @@ use Rattle.gm_graph_listing.specs.Laws.{AnswerAlike}
 use Rattle.gm_graph_listing.specs.Outcomes.{Outcome, printed}
 use Rattle.gomod_words.specs.declared.usage.Command.TheVariants.{Versions}
 use Rattle.gomod_run.specs.Versions.{versions_line}
-use Rattle.gomod_laws.specs.Runs.{HasOutcome, Prints}
+use Rattle.gomod_laws.specs.Runs.{HasOutcome, HasPrinted}
 
 -- Each of the versions is canonical, fits the path and is no pseudo-version. They ascend, so each stands once.
 pub record AreVersionsOf (path : List ℕ) (versions : List (List ℕ)) : Type 0 where
@@ -24,7 +24,7 @@ pub record AreVersionsOf (path : List ℕ) (versions : List (List ℕ)) : Type 0
 abbrev pub PrintsVersionsOfPath : Type 0
 PrintsVersionsOfPath = (path : List ℕ) (all : Bool) (main : List ℕ) (sums : Option (List ℕ))
     (asked : List (Name × Reply)) (outcome : Outcome)
-    → HasOutcome (Versions path all) main sums asked outcome → Prints outcome
+    → HasOutcome (Versions path all) main sums asked outcome → HasPrinted outcome
     → (versions : List (List ℕ)) × AreVersionsOf path versions × (outcome ≡ printed (versions_line path versions))
 
 -- The store answered with a go.mod of the version that can be read, and that retracts these intervals.
@@ -50,7 +50,7 @@ AreUnretracted asked path versions shown =
 abbrev pub RetractedAreLeftOut : Type 0
 RetractedAreLeftOut = (path main : List ℕ) (sums : Option (List ℕ)) (asked told : List (Name × Reply))
     (one other : Outcome)
-    → HasOutcome (Versions path false) main sums asked one → Prints one
+    → HasOutcome (Versions path false) main sums asked one → HasPrinted one
     → HasOutcome (Versions path true) main sums told other → AnswerAlike asked told
     → (versions shown : List (List ℕ))
     × (one ≡ printed (versions_line path shown))

@@ -2,7 +2,7 @@ use Rattle.std.proofs.Common.{◌≡◌, ◌∙◌, ◌++◌, ◌∷◌, [], Lis
 use Rattle.gm_graph_select.specs.declared.step.Step.{Step}
 use Rattle.gm_graph_select.specs.declared.step.Step.TheVariants.{Main, Of}
 use Rattle.gm_graph_select.specs.Graph.{Vertex}
-use Rattle.gm_graph_select.specs.Numbering.{edges_of, steps_of}
+use Rattle.gm_graph_select.specs.Numbering.{source_edges, steps_of}
 use Rattle.gm_graph_select.specs.Searching.{visited}
 use Rattle.gm_graph_select.proofs.BreadthFirst.{back_begins, back_done, back_longer, back_more}
 use Rattle.gm_graph_select.proofs.chaining.walk_back.Goals as goal
@@ -12,12 +12,12 @@ back-init c =
     let first : c.push.new.self.items ≡ Of c.args.goal.now ∷ [] = c.in_ok-push.ensures.items ∙ ap (λ (l : List Step). l ++ Of c.in_ok-copy.field-0 ∷ []) c.new-steps.ensures.items ∙ ap (λ (x : Vertex). Of x ∷ []) c.in_ok-copy.ensures in
     record {
       inside = let some = c.requires.some in omega (arith, some);
-      chain = back_begins (edges_of c.args.sources.now) (steps_of c.args.sources.now) c.args.visits.now c.args.goal.now _ c.push.new.self.items first c.requires.last;
+      chain = back_begins (source_edges c.args.sources.now) (steps_of c.args.sources.now) c.args.visits.now c.args.goal.now _ c.push.new.self.items first c.requires.last;
     }
 
 pub back-preserved : goal.back-preserved
 back-preserved c =
-    let E = edges_of c.args.sources.now in
+    let E = source_edges c.args.sources.now in
     let steps = steps_of c.args.sources.now in
     let visits = c.args.visits.now in
     let k = c.back.place in
@@ -30,7 +30,7 @@ back-preserved c =
 
 pub returns : goal.returns
 returns c =
-    let E = edges_of c.args.sources.now in
+    let E = source_edges c.args.sources.now in
     let steps = steps_of c.args.sources.now in
     let visits = c.args.visits.now in
     let all : c.reverse.new.self.items ≡ reverse (c.back.steps.items ++ Main ∷ []) = c.reverse.ensures.items ∙ ap reverse c.in_ok-push-3.ensures.items in

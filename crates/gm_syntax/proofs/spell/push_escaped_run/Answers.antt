@@ -3,7 +3,7 @@ use Rattle.std.specs.Str.{IsCharBoundary}
 use Rattle.std.specs.String.{string_bytes}
 use Rattle.std.proofs.iter.FirstChar.{cut}
 use Rattle.std.proofs.lemmas.Bool.{eqb-false}
-use Rattle.gm_syntax.specs.Words.{escaped}
+use Rattle.gm_syntax.specs.Words.{escaped_value}
 use Rattle.gm_syntax.specs.Scan.{plain_len}
 use Rattle.gm_syntax.proofs.Spelled.{BeginsMark, plain_boundary, mark_boundary, after_marked, escaped_parts, escaped_mark}
 use Rattle.gm_syntax.proofs.spell.push_escaped_run.Goals as goal
@@ -12,7 +12,7 @@ use Rattle.gm_syntax.proofs.spell.push_escaped_run.Goals.{After-split_at}
 len_is : (c : After-split_at) → c.plain_len.result ≡ plain_len c.args.rest.now
 len_is c = c.plain_len.ensures.value ∙ ap plain_len c.as_bytes.ensures.value
 
-parts : (c : After-split_at) → escaped c.args.rest.now ≡ c.split_at.result.0.now ++ escaped c.split_at.result.1.now
+parts : (c : After-split_at) → escaped_value c.args.rest.now ≡ c.split_at.result.0.now ++ escaped_value c.split_at.result.1.now
 parts c = escaped_parts c.args.rest.now c.split_at.result.0.now c.split_at.result.1.now (c.split_at.ensures.front ∙ ap (λ (n : ℕ). take n c.args.rest.now) (len_is c)) (c.split_at.ensures.back ∙ ap (λ (n : ℕ). drop n c.args.rest.now) (len_is c))
 
 marked : (c : After-split_at) → BeginsMark c.split_at.result.1.now
@@ -24,8 +24,8 @@ split_at-requires c = subst (IsCharBoundary c.args.rest.now) (sym (c.plain_len.e
 pub returns-then-is_empty-clause-pushed : goal.returns-then-is_empty-clause-pushed
 returns-then-is_empty-clause-pushed c =
     let old = string_bytes c.args.out.now in
-    ap (λ l. l ++ escaped c.split_at.result.1.now) c.in_ok-push_str.ensures.bytes
-    ∙ append_assoc old c.split_at.result.0.now (escaped c.split_at.result.1.now)
+    ap (λ l. l ++ escaped_value c.split_at.result.1.now) c.in_ok-push_str.ensures.bytes
+    ∙ append_assoc old c.split_at.result.0.now (escaped_value c.split_at.result.1.now)
     ∙ ap (λ l. old ++ l) (sym (parts (goal.at.returns-then-is_empty-clause-pushed c).After-split_at))
 
 pub split_at-requires-2 : goal.split_at-requires-2
@@ -46,11 +46,11 @@ returns-clause-pushed c =
     let pushed : string_bytes c.push_str-3.new.self ≡ ((old ++ plain) ++ slash) ++ mark =
     c.in_ok-push_str-3.ensures.bytes ∙ ap (λ l. l ++ mark) (c.in_ok-push_str-2.ensures.bytes ∙ ap (λ l. l ++ slash) c.in_ok-push_str.ensures.bytes) in
     let filled : 0 < length after = omega (arith, eqb-false _ 0 (sym c.is_empty.ensures ∙ c.if-is_empty.false)) in
-    let escape : slash ++ (mark ++ escaped next) ≡ escaped after =
-    ap (λ (m : List ℕ). slash ++ (m ++ escaped next)) c.split_at-2.ensures.front ∙ ap (λ (n : List ℕ). slash ++ (take 1 after ++ escaped n)) c.split_at-2.ensures.back ∙ sym (escaped_mark after filled (marked k)) in
-    ap (λ l. l ++ escaped next) pushed
-    ∙ append_assoc ((old ++ plain) ++ slash) mark (escaped next)
-    ∙ append_assoc (old ++ plain) slash (mark ++ escaped next)
-    ∙ append_assoc old plain (slash ++ (mark ++ escaped next))
+    let escape : slash ++ (mark ++ escaped_value next) ≡ escaped_value after =
+    ap (λ (m : List ℕ). slash ++ (m ++ escaped_value next)) c.split_at-2.ensures.front ∙ ap (λ (n : List ℕ). slash ++ (take 1 after ++ escaped_value n)) c.split_at-2.ensures.back ∙ sym (escaped_mark after filled (marked k)) in
+    ap (λ l. l ++ escaped_value next) pushed
+    ∙ append_assoc ((old ++ plain) ++ slash) mark (escaped_value next)
+    ∙ append_assoc (old ++ plain) slash (mark ++ escaped_value next)
+    ∙ append_assoc old plain (slash ++ (mark ++ escaped_value next))
     ∙ ap (λ (l : List ℕ). old ++ (plain ++ l)) escape
     ∙ ap (λ (l : List ℕ). old ++ l) (sym (parts k))

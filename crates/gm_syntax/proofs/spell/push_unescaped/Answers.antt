@@ -4,7 +4,7 @@ use Rattle.std.specs.String.{string_bytes}
 use Rattle.std.proofs.iter.FirstChar.{cut}
 use Rattle.std.proofs.lemmas.Bool.{eqb-true, eqb-false}
 use Rattle.std.proofs.lemmas.List.{append-nil, nil_from_length}
-use Rattle.gm_syntax.specs.Words.{escaped}
+use Rattle.gm_syntax.specs.Words.{escaped_value}
 use Rattle.gm_syntax.specs.Scan.{plain_len}
 use Rattle.gm_syntax.proofs.Spelled.{BeginsMark, EscapeAt, Escape, escape_at, escape_of, next_marked, escape_pushed, plain_boundary, mark_boundary, after_marked}
 use Rattle.gm_syntax.proofs.spell.push_unescaped.Goals as goal
@@ -16,7 +16,7 @@ len_is c = c.plain_len.ensures.value ∙ ap plain_len c.as_bytes.ensures.value
 marked : (c : After-split_at) → BeginsMark c.split_at.result.1.now
 marked c = after_marked c.args.rest.now c.split_at.result.0.now c.split_at.result.1.now (c.split_at.ensures.front ∙ ap (λ (n : ℕ). take n c.args.rest.now) (len_is c)) (c.split_at.ensures.back ∙ ap (λ (n : ℕ). drop n c.args.rest.now) (len_is c))
 
-escape : (c : After-split_at) (value : List ℕ) → c.args.rest.now ≡ escaped value → EscapeAt value c.split_at.result.0.now c.split_at.result.1.now
+escape : (c : After-split_at) (value : List ℕ) → c.args.rest.now ≡ escaped_value value → EscapeAt value c.split_at.result.0.now c.split_at.result.1.now
 escape c value e = escape_at c.args.rest.now c.split_at.result.0.now c.split_at.result.1.now (c.split_at.ensures.front ∙ ap (λ (n : ℕ). take n c.args.rest.now) (len_is c)) (c.split_at.ensures.back ∙ ap (λ (n : ℕ). drop n c.args.rest.now) (len_is c)) value e
 
 pub split_at-requires : goal.split_at-requires
@@ -40,7 +40,7 @@ split_at-requires-2 c =
     let k = (goal.at.split_at-requires-2 c).After-split_at in
     mark_boundary c.split_at.result.1.now (after_utf8 k) (omega (arith, eqb-false _ 0 (sym c.is_empty.ensures ∙ c.if-is_empty.false))) (marked k)
 
-here : (c : After-split_at) (value : List ℕ) → c.args.rest.now ≡ escaped value → 0 < length c.split_at.result.1.now → Escape value c.split_at.result.0.now c.split_at.result.1.now
+here : (c : After-split_at) (value : List ℕ) → c.args.rest.now ≡ escaped_value value → 0 < length c.split_at.result.1.now → Escape value c.split_at.result.0.now c.split_at.result.1.now
 here c value e filled = escape_of value c.split_at.result.0.now c.split_at.result.1.now filled (escape c value e)
 
 pub split_at-requires-3 : goal.split_at-requires-3

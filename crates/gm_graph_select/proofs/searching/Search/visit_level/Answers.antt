@@ -3,7 +3,7 @@ use Rattle.std.proofs.lemmas.Grind.{common_steps}
 use Rattle.std.proofs.lemmas.List.{get_or_default}
 use Rattle.std.proofs.lemmas.List.Elements.{Contains-get_or}
 use Rattle.gm_graph_select.specs.declared.searching.Visit.{Visit}
-use Rattle.gm_graph_select.specs.Numbering.{edges_of, steps_of}
+use Rattle.gm_graph_select.specs.Numbering.{source_edges, steps_of}
 use Rattle.gm_graph_select.specs.Searching.{AreTried, IsTraced, state_of, visit_at}
 use Rattle.gm_graph_select.proofs.BreadthFirst.{due_next, level_begins, traced_more, tried_more, tried_none}
 use Rattle.gm_graph_select.proofs.searching.Search.visit_level.Goals as goal
@@ -37,8 +37,8 @@ returns-then-branch-clause-found c = λ e.
 pub loop-visit-preserved : goal.loop-visit-preserved
 loop-visit-preserved c = record {
   size = c.visit.ensures.size;
-  traced = λ w h. subst (λ (vs : List Visit). IsTraced (edges_of c.args.sources.now) (steps_of c.args.sources.now) vs (length vs) w) (sym c.in_ok-visit.ensures.visits)
-      (traced_more (edges_of c.args.sources.now) (steps_of c.args.sources.now) c.loop-visit.self.visits.items (visit_at c.args.due.now c.loop-visit.visit-index) w (c.loop-visit.invariant.traced w h));
+  traced = λ w h. subst (λ (vs : List Visit). IsTraced (source_edges c.args.sources.now) (steps_of c.args.sources.now) vs (length vs) w) (sym c.in_ok-visit.ensures.visits)
+      (traced_more (source_edges c.args.sources.now) (steps_of c.args.sources.now) c.loop-visit.self.visits.items (visit_at c.args.due.now c.loop-visit.visit-index) w (c.loop-visit.invariant.traced w h));
   followed = λ level h.
       let (tried, all, f) = c.loop-visit.invariant.followed level h in
       let due = c.args.due.now in
