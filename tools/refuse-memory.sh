@@ -54,6 +54,12 @@ if [ ${#crates[@]} -eq 0 ]; then
   done < <(sed -n 's/^ *\([a-z0-9_]*\).*:.*/\1/p' crates.txt)
 fi
 
+# Whether a test that ended with this status failed, and not by a crash or a time limit, and says that memory ran out:
+# in words, or by the name of the fault that it got. An assertion ends a test by SIGABRT (134).
+says_no_memory() {
+  { [ "$1" -lt 124 ] || [ "$1" -eq 134 ]; } && grep -qE 'out of memory|NoMemory' "$work/out" "$work/err"
+}
+
 # Runs one test of a binary with allocation N refused, for N from 1 until none is met. Prints each failure.
 refuse_each() {
   local binary=$1 test=$2 n status bad=0
@@ -61,7 +67,7 @@ refuse_each() {
     status=0
     (cd "$work" && REFUSE_AT=$n LD_PRELOAD=$work/refuse_memory.so timeout 60 "$binary" "$test" >out 2>err) || status=$?
     runs=$((runs + 1))
-    if [ "$status" -ne 0 ] && ! { [ "$status" -lt 124 ] && grep -q 'out of memory' "$work/out" "$work/err"; }; then
+    if [ "$status" -ne 0 ] && ! says_no_memory "$status"; then
       bad=$((bad + 1))
       echo "$crate: $test: allocation $n refused: status $status: $(grep -v 'all allocations passed' "$work/err" | head -1)"
     fi

@@ -1,10 +1,8 @@
 //! Tests of readers, writers, stores and documents. The worked examples of the program are cases of the crate
 //! `run_cases`.
 //!
-//! The tests run with ample memory. A test that runs out of it anyway fails, and says that this is the
-//! reason.
+//! The tests run with ample memory. A test that runs out of it anyway ends, and says that this is the reason.
 
-mod caches;
 mod documents;
 mod known_names;
 mod loading;
@@ -12,63 +10,81 @@ mod opened_files;
 mod projects;
 mod readers;
 mod rounds;
-mod running;
 mod sinks;
 mod stores;
 
-ghost use Rattle.std.specs.Prelude.{◌≡◌, [], IfSome};
+ghost use Rattle.std.specs.Prelude.{◌≡◌, []};
 ghost use Rattle.gm_store.specs.Memory.{pairs_of};
 
 use gm_file::MainFile;
-use gm_name::{ModPath, ModVer, ModVersion};
+use gm_name::{ModPath, ModVersion};
 use gm_store::{FileName, MemoryFiles};
 use gm_syntax::Doc;
 use std::alloc::Global;
+use std::fmt::{Debug, Display};
+use std::process::Abort;
 
-/// The failure message of a test that runs out of memory.
+/// The message of a test that runs out of memory.
 const OUT_OF_MEMORY: &str = "out of memory";
 
 /// The path and version of a module, or a folder and an empty version, followed by the content of its file.
 type File = (&'static str, &'static str, &'static str);
 
-/// The name of a module's file, or of the file in a folder if the version is empty. `None` if memory runs
-/// out.
-fn file_name(alloc: Global, path: &str, version: &str) -> Option<FileName> {
-    if version.is_empty() {
-        return Some(FileName::Folder(String::from_str(alloc, path).ok()?));
+/// Ends the test, with a title and both values, if it got another value than wanted.
+fn assert_same<T: PartialEq + Debug>(
+    rt: &impl Abort,
+    title: impl Display + Drop,
+    got: &T,
+    wanted: &T,
+) {
+    assert_eq!(rt; *got, *wanted, "{title}");
+}
+
+/// A text of its own.
+fn text(rt: &impl Abort, alloc: Global, text: &str) -> String {
+    String::from_str(alloc, text).expect(rt, OUT_OF_MEMORY)
+}
+
+/// A module path.
+fn path(rt: &impl Abort, alloc: Global, text: &str) -> ModPath {
+    ModPath::parse(alloc, text).expect(rt, text)
+}
+
+/// A version.
+fn version(rt: &impl Abort, alloc: Global, text: &str) -> ModVersion {
+    ModVersion::parse(alloc, text).expect(rt, text)
+}
+
+/// The name of a module's file, or of the file in a folder if the version is empty.
+fn file_name(rt: &impl Abort, alloc: Global, module: &str, at: &str) -> FileName {
+    if at.is_empty() {
+        return FileName::Folder(text(rt, alloc, module));
     }
-    let path = ModPath::parse(alloc, path).ok()?;
-    Some(FileName::Mod(path, ModVersion::parse(alloc, version).ok()?))
+    FileName::Mod(path(rt, alloc, module), version(rt, alloc, at))
 }
 
-/// A module at a version. `None` if memory runs out.
-fn vertex(alloc: Global, path: &str, version: &str) -> Option<ModVer> {
-    let path = ModPath::parse(alloc, path).ok()?;
-    ModVer::pair(path, ModVersion::parse(alloc, version).ok()?)
-}
-
-/// Puts a file into a store. `None` if memory runs out.
-fn put(alloc: Global, store: &mut MemoryFiles, file: File) -> Option<()>
+/// Puts a file into a store.
+fn put(rt: &impl Abort, alloc: Global, store: &mut MemoryFiles, file: File)
     ensures { pairs_of store.new ≡ pairs_of store.old }
 {
-    let name = file_name(alloc, file.0, file.1)?;
-    let content = Vec::from_slice(alloc, file.2.as_bytes()).ok()?;
-    store.put(name, content).ok()
+    let name = file_name(rt, alloc, file.0, file.1);
+    let content = Vec::from_slice(alloc, file.2.as_bytes()).expect(rt, OUT_OF_MEMORY);
+    store.put(name, content).expect(rt, OUT_OF_MEMORY);
 }
 
-/// A store of these files that was not asked for anything yet. `None` if memory runs out.
-fn store_of(alloc: Global, files: &'static [File]) -> Option<MemoryFiles>
-    ensures { IfSome result (λ store. pairs_of store ≡ []) }
+/// A store of these files that was not asked for anything yet.
+fn store_of(rt: &impl Abort, alloc: Global, files: &'static [File]) -> MemoryFiles
+    ensures { pairs_of result ≡ [] }
 {
     let mut store = MemoryFiles::new(alloc);
     for file in files {
-        put(alloc, &mut store, *file)?;
+        put(rt, alloc, &mut store, *file);
     }
-    Some(store)
+    store
 }
 
-/// A main module's file. `None` if memory runs out.
-fn main_file<'a>(alloc: Global, text: &'a str) -> Option<MainFile<'a>> {
-    let doc = Doc::parse(alloc, text.as_bytes()).ok()?;
-    MainFile::read(alloc, doc).ok()
+/// A main module's file.
+fn main_file<'a>(rt: &impl Abort, alloc: Global, text: &'a str) -> MainFile<'a> {
+    let doc = Doc::parse(alloc, text.as_bytes()).expect(rt, text);
+    MainFile::read(alloc, doc).expect(rt, text)
 }

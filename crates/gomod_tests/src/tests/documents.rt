@@ -5,18 +5,18 @@ ghost use Rattle.gm_syntax.specs.Lines.{HasNoLineFeed};
 ghost use Rattle.gm_syntax.specs.Document.{is_level};
 ghost use Rattle.gm_syntax.specs.LineViews.{line_of, plain};
 
-use super::{OUT_OF_MEMORY, file_name, main_file};
+use super::{OUT_OF_MEMORY, assert_same, file_name, main_file};
 use gm_file::MainFile;
 use gm_file_edit::{EditFault, Op, apply};
 use gm_store::copy_name;
 use gm_syntax::{Doc, Kind, Line, Punct, Token};
 use std::alloc::{AllocError, Global};
-use std::test::Fail;
+use std::process::Abort;
 
 // ---- words
 
 /// Each mark with its spelling.
-const MARKS: [(Punct, &str); 6] = [
+const MARKS: &'static [(Punct, &'static str)] = &[
     (Punct::LeftParen, "("),
     (Punct::RightParen, ")"),
     (Punct::LeftBracket, "["),
@@ -33,15 +33,19 @@ fn is_mark(token: &Token<'_>, spelling: &str) -> bool {
         && token.span().is_none()
 }
 
+/// Makes a mark and copies it, and looks at both.
+fn copy_mark(rt: &impl Abort, alloc: Global, punct: Punct, spelling: &str) {
+    let token = Token::mark(alloc, punct).expect(rt, OUT_OF_MEMORY);
+    let copy = token.copy(alloc).expect(rt, OUT_OF_MEMORY);
+    let got = (is_mark(&token, spelling), is_mark(&copy, spelling));
+    assert_same(rt, spelling, &got, &(true, true));
+}
+
 #[test]
-fn marks_are_made_and_copied(rt: HostRuntime) -> Result<(), Fail> {
+fn marks_are_made_and_copied(rt: HostRuntime) {
     for (punct, spelling) in MARKS {
-        let token = Token::mark(rt.alloc(), punct).ok().ok_or(OUT_OF_MEMORY)?;
-        let copy = token.copy(rt.alloc()).ok().ok_or(OUT_OF_MEMORY)?;
-        assert!(rt; is_mark(&token, spelling), "{spelling}");
-        assert!(rt; is_mark(&copy, spelling), "{spelling}");
+        copy_mark(&rt, rt.alloc(), *punct, spelling);
     }
-    Ok(())
 }
 
 // ---- lines
@@ -81,47 +85,47 @@ fn drop_first(doc: &mut Doc<'_>) -> bool {
     true
 }
 
-/// The text of a document in its layout. `None` if memory runs out.
-fn layout(alloc: Global, doc: &Doc<'_>) -> Option<String> {
-    doc.format(alloc).ok()
+/// A document.
+fn doc<'a>(rt: &impl Abort, alloc: Global, text: &'a str) -> Doc<'a> {
+    Doc::parse(alloc, text.as_bytes()).expect(rt, text)
+}
+
+/// Compares the layout of a document with a text.
+fn assert_layout(rt: &impl Abort, alloc: Global, title: &str, doc: &Doc<'_>, wanted: &str) {
+    let text = doc.format(alloc).expect(rt, OUT_OF_MEMORY);
+    assert_same(rt, title, &text.as_str(), &wanted);
 }
 
 #[test]
-fn lines_go_in_and_out(rt: HostRuntime) -> Result<(), Fail> {
-    let doc = Doc::parse(rt.alloc(), TEXT.as_bytes())
-        .ok()
-        .ok_or(OUT_OF_MEMORY)?;
-    let mut copy = doc.copy(rt.alloc()).ok().ok_or(OUT_OF_MEMORY)?;
-    add_entry(rt.alloc(), &mut copy, "x y")
-        .ok()
-        .ok_or(OUT_OF_MEMORY)?;
-    assert!(rt; drop_first(&mut copy));
-    assert!(rt; !drop_first(&mut copy));
-    let changed = layout(rt.alloc(), &copy).ok_or(OUT_OF_MEMORY)?;
-    assert_eq!(rt; changed.as_str(), "b (\n\t\"c d\"\n)\n\"x y\"\n");
-    let kept = layout(rt.alloc(), &doc).ok_or(OUT_OF_MEMORY)?;
-    assert_eq!(rt; kept.as_str(), TEXT);
-    Ok(())
+fn lines_go_in_and_out(rt: HostRuntime) {
+    let doc = doc(&rt, rt.alloc(), TEXT);
+    let mut copy = doc.copy(rt.alloc()).expect(&rt, OUT_OF_MEMORY);
+    add_entry(rt.alloc(), &mut copy, "x y").expect(&rt, OUT_OF_MEMORY);
+    let drops = (drop_first(&mut copy), drop_first(&mut copy));
+    assert_same(&rt, "drops", &drops, &(true, false));
+    assert_layout(
+        &rt,
+        rt.alloc(),
+        "changed",
+        &copy,
+        "b (\n\t\"c d\"\n)\n\"x y\"\n",
+    );
+    assert_layout(&rt, rt.alloc(), "as it was", &doc, TEXT);
 }
 
 // ---- names
 
-/// Whether a file's name is equal to its copy. `None` if memory runs out.
-fn is_copied(alloc: Global, path: &str, version: &str) -> Option<bool> {
-    let name = file_name(alloc, path, version)?;
-    let copy = copy_name(alloc, &name).ok()?;
-    Some(copy == name)
+/// Copies the name of a file, and compares both.
+fn copy_file_name(rt: &impl Abort, alloc: Global, path: &str, version: &str) {
+    let name = file_name(rt, alloc, path, version);
+    let copy = copy_name(alloc, &name).expect(rt, OUT_OF_MEMORY);
+    assert_same(rt, path, &copy, &name);
 }
 
 #[test]
-fn names_are_copied(rt: HostRuntime) -> Result<(), Fail> {
-    for (path, version) in [("example.com/p/v2", "v2.0.0-rc.1"), ("../p", "")] {
-        assert!(rt;
-            is_copied(rt.alloc(), path, version).ok_or(OUT_OF_MEMORY)?,
-            "{path}"
-        );
-    }
-    Ok(())
+fn names_are_copied(rt: HostRuntime) {
+    copy_file_name(&rt, rt.alloc(), "example.com/p/v2", "v2.0.0-rc.1");
+    copy_file_name(&rt, rt.alloc(), "../p", "");
 }
 
 // ---- an operation that is refused
@@ -129,22 +133,21 @@ fn names_are_copied(rt: HostRuntime) -> Result<(), Fail> {
 /// A main module's file in its layout, with a comment that a rewrite could lose.
 const MAIN: &str = "module example.com/m\n\nrequire example.com/p v1.0.0 // kept\n";
 
-/// The result of applying an operation. `None` if the text of the operation can't be parsed.
-fn applied<'a>(
+/// What comes of an operation.
+fn applied(
+    rt: &impl Abort,
     alloc: Global,
-    file: &mut MainFile<'a>,
+    file: &mut MainFile<'_>,
     text: &str,
-) -> Option<Result<(), EditFault>> {
-    let op = Op::parse(alloc, text).ok()?;
-    Some(apply(alloc, file, &op))
+) -> Result<(), EditFault> {
+    let op = Op::parse(alloc, text).expect(rt, text);
+    apply(alloc, file, &op)
 }
 
 #[test]
-fn a_refused_operation_leaves_the_file(rt: HostRuntime) -> Result<(), Fail> {
-    let mut file = main_file(rt.alloc(), MAIN).ok_or(OUT_OF_MEMORY)?;
-    let got = applied(rt.alloc(), &mut file, "require=example.com/p@v2.0.0").ok_or(OUT_OF_MEMORY)?;
-    assert_eq!(rt; got, Err(EditFault::Misfit));
-    let kept = layout(rt.alloc(), file.doc()).ok_or(OUT_OF_MEMORY)?;
-    assert_eq!(rt; kept.as_str(), MAIN);
-    Ok(())
+fn a_refused_operation_leaves_the_file(rt: HostRuntime) {
+    let mut file = main_file(&rt, rt.alloc(), MAIN);
+    let got = applied(&rt, rt.alloc(), &mut file, "require=example.com/p@v2.0.0");
+    assert_same(&rt, "refused", &got, &Err(EditFault::Misfit));
+    assert_layout(&rt, rt.alloc(), "as it was", file.doc(), MAIN);
 }

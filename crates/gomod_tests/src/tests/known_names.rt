@@ -1,13 +1,13 @@
 //! Names that were read before, and names for which there is no more room.
 
-use super::OUT_OF_MEMORY;
+use super::assert_same;
 use gm_name::{KnownNames, ModVer, PairFault};
 use std::alloc::Global;
-use std::test::Fail;
+use std::process::Abort;
 
 /// A path, a version, and what is wrong with them. Pairs that occur a second time are known by then, if there
 /// was room for them.
-const PAIRS: [(&'static str, &'static str, Option<PairFault>); 10] = [
+const PAIRS: &'static [(&'static str, &'static str, Option<PairFault>)] = &[
     ("a.io", "v1.0.0", None),
     ("a.io", "v1.0.1", None),
     ("b.io", "v1.0.0", None),
@@ -38,31 +38,23 @@ fn fault_of(
     }
 }
 
-/// The first pair of texts that is read incorrectly when there is room for this many names, with the fault
-/// that was given. `None` if all are read correctly.
-fn first_wrong(
-    alloc: Global,
-    room: usize,
-) -> Option<(&'static str, &'static str, Option<PairFault>)> {
+/// Reads all pairs where there is room for this many names, and compares what is wrong with each.
+fn read_all(rt: &impl Abort, alloc: Global, room: usize) {
     let mut names = KnownNames::new(alloc, room);
     for (path, version, wanted) in PAIRS {
-        let (fault, is_other) = fault_of(alloc, &mut names, path, version);
-        if is_other || fault != wanted {
-            return Some((path, version, fault));
-        }
+        let got = fault_of(alloc, &mut names, path, version);
+        assert_same(
+            rt,
+            format_args!("{path} {version} with room for {room}"),
+            &got,
+            &(*wanted, false),
+        );
     }
-    None
 }
 
 #[test]
-fn names_are_read_whatever_the_room(rt: HostRuntime) -> Result<(), Fail> {
-    for room in [0, 1, 8] {
-        if let Some((path, version, fault)) = first_wrong(rt.alloc(), room) {
-            if fault == Some(PairFault::NoMemory) {
-                return Err(Fail::new(OUT_OF_MEMORY));
-            }
-            return Err(Fail::new(format_args!("{path} {version} with room for {room}: {fault:?}")));
-        }
-    }
-    Ok(())
+fn names_are_read_whatever_the_room(rt: HostRuntime) {
+    read_all(&rt, rt.alloc(), 0);
+    read_all(&rt, rt.alloc(), 1);
+    read_all(&rt, rt.alloc(), 8);
 }

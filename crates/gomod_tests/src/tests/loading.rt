@@ -3,14 +3,13 @@
 
 use super::projects::{PROJECTS, Project};
 use super::rounds::{RoundsResult, load_in_rounds};
-use super::{OUT_OF_MEMORY, main_file, store_of};
+use super::{OUT_OF_MEMORY, assert_same, main_file, store_of};
 use gm_file::{MainFile, Right};
 use gm_graph::{Loaded, load};
 use gm_graph_cache::{Depth, Turn};
 use gm_graph_select::Row;
-use gm_name::NoMemory;
 use std::alloc::Global;
-use std::test::Fail;
+use std::process::Abort;
 
 /// The path and version of a replacement, or its folder and no version. Empty if there is no replacement.
 fn replacement_parts(right: &Option<Right>) -> (&str, &str) {
@@ -22,78 +21,23 @@ fn replacement_parts(right: &Option<Right>) -> (&str, &str) {
 }
 
 /// The rows of a build list, one per line.
-fn rows_text(alloc: Global, rows: &[Row]) -> Result<String, NoMemory> {
+fn rows_text(rt: &impl Abort, alloc: Global, rows: &[Row]) -> String {
     let mut text = String::new(alloc);
     for row in rows {
         let (path, version) = replacement_parts(&row.right);
-        let line = format!(in alloc; "{:?} => {path} {version}\n", row.step)?;
-        text.push_str(line.as_str())?;
-    }
-    Ok(text)
-}
-
-/// The rows by worklist and the rows by rounds. Both are empty if a module has a fault, as there is no build
-/// list then.
-fn both_rows(
-    alloc: Global,
-    loaded: &Loaded,
-    plain: &RoundsResult,
-) -> Result<(String, String), NoMemory> {
-    if !loaded.faults().is_empty() {
-        return Ok((String::new(alloc), String::new(alloc)));
-    }
-    let rows = rows_text(alloc, loaded.build_list())?;
-    Ok((rows, rows_text(alloc, &plain.rows)?))
-}
-
-/// What both ways of loading find for a project, with the rows as text.
-#[derive(Drop)]
-struct Found {
-    /// What the worklist finds.
-    loaded: Loaded,
-    /// What the rounds find.
-    plain: RoundsResult,
-    /// The rows of both, in this order.
-    rows: (String, String),
-}
-
-/// What both ways of loading find, over a main file that was read. `None` if memory runs out.
-fn find_over(alloc: Global, main: &MainFile<'_>, project: Project) -> Option<Found> {
-    let mut store = store_of(alloc, project.files)?;
-    let loaded = load(alloc, main, &mut store, None).ok()?;
-    let plain = load_in_rounds(alloc, main, project.files).ok()?;
-    let rows = both_rows(alloc, &loaded, &plain).ok()?;
-    Some(Found {
-        loaded,
-        plain,
-        rows,
-    })
-}
-
-/// What both ways of loading find for a project. `None` if memory runs out.
-fn find(alloc: Global, project: Project) -> Option<Found> {
-    let main = main_file(alloc, project.main)?;
-    find_over(alloc, &main, project)
-}
-
-#[test]
-fn a_queue_and_rounds_find_the_same(rt: HostRuntime) -> Result<(), Fail> {
-    for project in PROJECTS {
-        let found = find(rt.alloc(), *project).ok_or(OUT_OF_MEMORY)?;
-        let title = project.title;
-        assert_eq!(rt;
-            found.loaded.faults(),
-            found.plain.faults.as_slice(),
-            "{title}"
+        let line = format!(in alloc; "{:?} => {path} {version}\n", row.step).expect(
+            rt,
+            OUT_OF_MEMORY,
         );
-        assert_eq!(rt;
-            found.loaded.edges(),
-            found.plain.edges.as_slice(),
-            "{title}"
-        );
-        assert_eq!(rt; found.rows.0, found.rows.1, "{title}");
+        text.push_str(&line).expect(rt, OUT_OF_MEMORY);
     }
-    Ok(())
+    text
+}
+
+/// What the worklist finds for a project, over its main file.
+fn load_project(rt: &impl Abort, alloc: Global, main: &MainFile<'_>, project: &Project) -> Loaded {
+    let mut store = store_of(rt, alloc, project.files);
+    load(alloc, main, &mut store, None).expect(rt, OUT_OF_MEMORY)
 }
 
 /// Whether exactly one of these turns takes a module to this depth.
@@ -117,18 +61,56 @@ fn are_taken(turns: &[Turn], wanted: &'static [(&'static str, Depth)]) -> bool {
     turns.len() == wanted.len()
 }
 
-#[test]
-fn no_module_is_read_more_often_than_needed(rt: HostRuntime) -> Result<(), Fail> {
-    for project in PROJECTS {
-        if let Some(wanted) = project.turns {
-            let found = find(rt.alloc(), *project).ok_or(OUT_OF_MEMORY)?;
-            let turns = found.loaded.turns();
-            let title = project.title;
-            assert!(rt;
-                are_taken(turns, wanted),
-                "{title}: {turns:?} and not {wanted:?}"
-            );
-        }
+/// Compares the turns of the worklist with the expected ones, where a project has them.
+fn compare_turns(rt: &impl Abort, project: &Project, turns: &[Turn]) {
+    if let Some(wanted) = project.turns {
+        let title = project.title;
+        assert!(rt;
+            are_taken(turns, wanted),
+            "{title}: {turns:?} and not {wanted:?}"
+        );
     }
-    Ok(())
+}
+
+/// Compares the rows of the worklist with others. It has none where a module has a fault.
+fn compare_rows(rt: &impl Abort, alloc: Global, title: &str, loaded: &Loaded, wanted: &[Row]) {
+    if loaded.faults().is_empty() {
+        let rows = rows_text(rt, alloc, loaded.build_list());
+        assert_same(rt, title, &rows, &rows_text(rt, alloc, wanted));
+    }
+}
+
+/// Compares what the worklist and the rounds find.
+fn compare_finds(
+    rt: &impl Abort,
+    alloc: Global,
+    title: &str,
+    loaded: &Loaded,
+    plain: &RoundsResult,
+) {
+    assert_same(rt, title, &loaded.faults(), &plain.faults.as_slice());
+    assert_same(rt, title, &loaded.edges(), &plain.edges.as_slice());
+    compare_rows(rt, alloc, title, loaded, &plain.rows);
+}
+
+/// Loads a project both ways, over its main file, and compares what they find and the turns.
+fn load_both(rt: &impl Abort, alloc: Global, main: &MainFile<'_>, project: &Project) {
+    let loaded = load_project(rt, alloc, main, project);
+    compare_turns(rt, project, loaded.turns());
+    let plain = load_in_rounds(rt, alloc, main, project.files);
+    compare_finds(rt, alloc, project.title, &loaded, &plain);
+}
+
+/// Loads a project both ways, and compares what they find and the turns.
+fn compare(rt: &impl Abort, alloc: Global, project: &Project) {
+    let main = main_file(rt, alloc, project.main);
+    load_both(rt, alloc, &main, project);
+}
+
+// One test for all that is compared: each loop over the table is proved anew.
+#[test]
+fn a_queue_and_rounds_find_the_same(rt: HostRuntime) {
+    for project in PROJECTS {
+        compare(&rt, rt.alloc(), project);
+    }
 }

@@ -1,13 +1,12 @@
 //! Which files a store over folders of the file system opens, how often, and which failures it counts.
 
-use super::OUT_OF_MEMORY;
-use gm_name::ModPath;
+use super::{OUT_OF_MEMORY, assert_same, path};
 use gm_store::{AskFault, DiskFallback, FileName, Files, ProxyList};
 use std::alloc::{AllocError, Allocator};
 use std::cell::RefCell;
 use std::fs::{File, Metadata, OpenOptions};
 use std::io::ErrorKind;
-use std::test::Fail;
+use std::process::Abort;
 use std::{io, rt};
 
 /// A file system that records which files are to be opened. The files in a folder `full` are empty, those in
@@ -106,79 +105,110 @@ impl rt::Files for RecordingSystem<'_> {
 /// The end of a request.
 type Ended = Result<(), AskFault>;
 
-/// Folders with the marks between them, the files that are opened when a list is asked for, how the request ends,
-/// and how many failures of the device are counted. They are counted too where memory runs out after them.
-const ROWS: [(&str, &str, Ended, u64); 10] = [
-    ("full", "full/p.io/@v/list ", Ok(()), 0),
-    ("full,empty", "full/p.io/@v/list ", Ok(()), 0),
-    (
-        "empty,full",
-        "empty/p.io/@v/list full/p.io/@v/list ",
-        Ok(()),
-        0,
-    ),
-    (
-        "empty|empty",
-        "empty/p.io/@v/list empty/p.io/@v/list ",
-        Ok(()),
-        0,
-    ),
-    ("broken", "broken/p.io/@v/list ", Err(AskFault::Device), 1),
-    (
-        "broken,full",
-        "broken/p.io/@v/list ",
-        Err(AskFault::Device),
-        1,
-    ),
-    (
-        "broken|full",
-        "broken/p.io/@v/list full/p.io/@v/list ",
-        Ok(()),
-        1,
-    ),
-    (
-        "starved|full",
-        "starved/p.io/@v/list ",
-        Err(AskFault::NoMemory),
-        0,
-    ),
-    (
-        "broken|starved",
-        "broken/p.io/@v/list starved/p.io/@v/list ",
-        Err(AskFault::NoMemory),
-        1,
-    ),
-    (
-        "broken|empty,broken|starved",
-        "broken/p.io/@v/list empty/p.io/@v/list broken/p.io/@v/list starved/p.io/@v/list ",
-        Err(AskFault::NoMemory),
-        2,
-    ),
+/// A request for the list of a module.
+struct Request {
+    /// Folders with the marks between them.
+    folders: &'static str,
+    /// The files that are opened.
+    opened: &'static str,
+    /// How the request ends.
+    ended: Ended,
+    /// How many failures of the device are counted. They are counted too where memory runs out after them.
+    faults: u64,
+}
+
+/// Requests over one folder or more.
+const REQUESTS: &'static [Request] = &[
+    Request {
+        folders: "full",
+        opened: "full/p.io/@v/list ",
+        ended: Ok(()),
+        faults: 0,
+    },
+    Request {
+        folders: "full,empty",
+        opened: "full/p.io/@v/list ",
+        ended: Ok(()),
+        faults: 0,
+    },
+    Request {
+        folders: "empty,full",
+        opened: "empty/p.io/@v/list full/p.io/@v/list ",
+        ended: Ok(()),
+        faults: 0,
+    },
+    Request {
+        folders: "empty|empty",
+        opened: "empty/p.io/@v/list empty/p.io/@v/list ",
+        ended: Ok(()),
+        faults: 0,
+    },
+    Request {
+        folders: "broken",
+        opened: "broken/p.io/@v/list ",
+        ended: Err(AskFault::Device),
+        faults: 1,
+    },
+    Request {
+        folders: "broken,full",
+        opened: "broken/p.io/@v/list ",
+        ended: Err(AskFault::Device),
+        faults: 1,
+    },
+    Request {
+        folders: "broken|full",
+        opened: "broken/p.io/@v/list full/p.io/@v/list ",
+        ended: Ok(()),
+        faults: 1,
+    },
+    Request {
+        folders: "starved|full",
+        opened: "starved/p.io/@v/list ",
+        ended: Err(AskFault::NoMemory),
+        faults: 0,
+    },
+    Request {
+        folders: "broken|starved",
+        opened: "broken/p.io/@v/list starved/p.io/@v/list ",
+        ended: Err(AskFault::NoMemory),
+        faults: 1,
+    },
+    Request {
+        folders: "broken|empty,broken|starved",
+        opened: "broken/p.io/@v/list empty/p.io/@v/list broken/p.io/@v/list starved/p.io/@v/list ",
+        ended: Err(AskFault::NoMemory),
+        faults: 2,
+    },
 ];
 
 /// Asks a store over these folders for the list of a module. Says how the request ends, and how many failures of
-/// the device are counted. `None` if memory runs out before it.
-fn asks_for_list(system: RecordingSystem<'_>, folders: &str) -> Option<(Ended, u64)> {
+/// the device are counted.
+fn ask_for_list(rt: &impl Abort, system: RecordingSystem<'_>, folders: &str) -> (Ended, u64) {
     let alloc = system.system.alloc();
-    let proxy = ProxyList::read(alloc, folders).ok()?;
-    let name = FileName::List(ModPath::parse(alloc, "p.io").ok()?);
+    let proxy = ProxyList::read(alloc, folders).expect(rt, OUT_OF_MEMORY);
+    let name = FileName::List(path(rt, alloc, "p.io"));
     let mut store = DiskFallback::new(system, alloc, String::new(alloc), proxy);
     let ended = store.ask(&name);
-    Some((ended, store.faults()))
+    (ended, store.faults())
+}
+
+/// Makes a request, and compares what comes of it.
+fn make(rt: &impl Abort, host: HostRuntime, request: &Request) {
+    let opened = RefCell::new(String::new(host.alloc()));
+    let system = RecordingSystem {
+        system: host,
+        opened: &opened,
+    };
+    let (ended, faults) = ask_for_list(rt, system, request.folders);
+    let opened = opened.into_inner();
+    let got = (opened.as_str(), ended, faults);
+    let wanted = (request.opened, request.ended, request.faults);
+    assert_same(rt, request.folders, &got, &wanted);
 }
 
 #[test]
-fn each_file_is_opened_once(rt: HostRuntime) -> Result<(), Fail> {
-    for (folders, wanted, end, failures) in ROWS {
-        let opened = RefCell::new(String::new(rt.alloc()));
-        let system = RecordingSystem {
-            system: rt,
-            opened: &opened,
-        };
-        let (ended, counted) = asks_for_list(system, folders).ok_or(OUT_OF_MEMORY)?;
-        assert_eq!(rt; opened.into_inner().as_str(), wanted, "{folders}");
-        assert_eq!(rt; ended, end, "{folders}");
-        assert_eq!(rt; counted, failures, "{folders}");
+fn each_file_is_opened_once(rt: HostRuntime) {
+    for request in REQUESTS {
+        make(&rt, rt, request);
     }
-    Ok(())
 }

@@ -1,11 +1,11 @@
 //! Readers that fail, that give few bytes per call, or that have more bytes than are read.
 
-use super::OUT_OF_MEMORY;
+use super::{OUT_OF_MEMORY, assert_same};
 use gm_store::{LIMIT, ReadFault, read_limited};
 use std::alloc::Global;
 use std::io;
 use std::io::{ErrorKind, Read};
-use std::test::Fail;
+use std::process::Abort;
 
 /// A reader over bytes in memory. It gives at most `step` bytes per call, and fails after `calls` calls.
 #[derive(Clone, Copy)]
@@ -38,34 +38,29 @@ impl Read for LimitedReader<'_> {
 /// As a number of calls or bytes: without limit.
 const NEVER: usize = usize::MAX;
 
-/// This many bytes `x`. `None` if memory runs out.
-fn letters(alloc: Global, length: usize) -> Option<Vec<u8>> {
-    vec![in alloc; b'x'; length].ok()
+/// This many bytes `x`, followed by six others.
+fn long_file(rt: &impl Abort, alloc: Global, length: usize) -> Vec<u8> {
+    let mut bytes = vec![in alloc; b'x'; length].expect(rt, OUT_OF_MEMORY);
+    bytes.extend_from_slice(b"abcdef").expect(rt, OUT_OF_MEMORY);
+    bytes
 }
 
-/// Whether reading the first `length` of these bytes, at most `step` of them per call, takes exactly the
-/// first `taken` of them and leaves the rest. `None` if memory runs out.
-fn takes_front(
-    alloc: Global,
-    bytes: &[u8],
-    length: usize,
-    step: usize,
-    taken: usize,
-) -> Option<bool> {
-    let (bytes, _) = bytes.split_at_checked(length)?;
+/// Reads bytes, at most `step` of them per call. Says whether these were the first ones, how many they were,
+/// and how many the reader has left.
+fn read_front(rt: &impl Abort, alloc: Global, bytes: &[u8], step: usize) -> (bool, usize, usize) {
     let mut reader = LimitedReader {
         bytes,
         step,
         calls: NEVER,
         fault: ErrorKind::Other,
     };
-    let read = read_limited(alloc, &mut reader).ok()?;
-    let (front, rest) = bytes.split_at_checked(taken)?;
-    Some(read.as_slice() == front && reader.bytes == rest)
+    let read = read_limited(alloc, &mut reader).expect(rt, OUT_OF_MEMORY);
+    let is_front = bytes.starts_with(&read) && bytes.ends_with(reader.bytes);
+    (is_front, read.len(), reader.bytes.len())
 }
 
 /// The lengths of files, how many bytes a call gives, and how many bytes are read.
-const LENGTHS: [(usize, usize, usize); 8] = [
+const LENGTHS: &'static [(usize, usize, usize)] = &[
     (0, NEVER, 0),
     (1, 1, 1),
     (1_000, 1, 1_000),
@@ -76,47 +71,71 @@ const LENGTHS: [(usize, usize, usize); 8] = [
     (LIMIT + 6, 4_099, LIMIT + 1),
 ];
 
+/// Reads the first `length` of these bytes, and compares what is read with the first `taken` of them.
+fn read_part(
+    rt: &impl Abort,
+    alloc: Global,
+    bytes: &[u8],
+    length: usize,
+    step: usize,
+    taken: usize,
+) {
+    let (part, _) = bytes
+        .split_at_checked(length)
+        .expect(rt, "the file is long enough");
+    let got = read_front(rt, alloc, part, step);
+    let wanted = (true, taken, length.saturating_sub(taken));
+    assert_same(rt, format_args!("{length} bytes by {step}"), &got, &wanted);
+}
+
 #[test]
-fn reads_up_to_the_limit_and_leaves_the_rest(rt: HostRuntime) -> Result<(), Fail> {
-    let mut bytes = letters(rt.alloc(), LIMIT).ok_or(OUT_OF_MEMORY)?;
-    bytes
-        .extend_from_slice(b"abcdef")
-        .ok()
-        .ok_or(OUT_OF_MEMORY)?;
+fn reads_up_to_the_limit_and_leaves_the_rest(rt: HostRuntime) {
+    let bytes = long_file(&rt, rt.alloc(), LIMIT);
     for (length, step, taken) in LENGTHS {
-        let takes = takes_front(rt.alloc(), &bytes, length, step, taken).ok_or(OUT_OF_MEMORY)?;
-        assert!(rt; takes, "of {length} bytes by {step} not the first {taken}");
+        read_part(&rt, rt.alloc(), &bytes, *length, *step, *taken);
     }
-    Ok(())
 }
 
-/// The result of reading: the number of bytes, or the fault.
-fn outcome(alloc: Global, source: LimitedReader<'_>) -> Result<usize, ReadFault> {
-    let mut reader = source;
-    Ok(read_limited(alloc, &mut reader)?.len())
+/// Reads ten bytes, two per call, from a reader that fails in this way after this many calls, and compares the
+/// number of bytes, or the fault.
+fn read_until(
+    rt: &impl Abort,
+    alloc: Global,
+    fault: ErrorKind,
+    calls: usize,
+    wanted: Result<usize, ReadFault>,
+) {
+    let mut reader = LimitedReader {
+        bytes: b"0123456789",
+        step: 2,
+        calls,
+        fault,
+    };
+    let got = read_limited(alloc, &mut reader).map(|bytes| bytes.len());
+    assert_same(
+        rt,
+        format_args!("{fault:?} after {calls} reads"),
+        &got,
+        &wanted,
+    );
 }
+
+/// The number of calls after which a reader fails, and what comes of it. The call after the fifth finds the end.
+const CALLS: &'static [(usize, Result<usize, ReadFault>)] = &[
+    (0, Err(ReadFault::Device)),
+    (1, Err(ReadFault::Device)),
+    (2, Err(ReadFault::Device)),
+    (3, Err(ReadFault::Device)),
+    (4, Err(ReadFault::Device)),
+    (5, Err(ReadFault::Device)),
+    (6, Ok(10)),
+    (7, Ok(10)),
+];
 
 #[test]
-fn fails_where_a_read_fails(rt: HostRuntime) -> Result<(), Fail> {
-    for fault in [ErrorKind::Interrupted, ErrorKind::Other] {
-        for calls in 0..8 {
-            let source = LimitedReader {
-                bytes: b"0123456789",
-                step: 2,
-                calls,
-                fault,
-            };
-            let wanted = if calls < 6 {
-                Err(ReadFault::Device)
-            } else {
-                Ok(10)
-            };
-            let got = outcome(rt.alloc(), source);
-            if got == Err(ReadFault::NoMemory) {
-                return Err(Fail::new(OUT_OF_MEMORY));
-            }
-            assert_eq!(rt; got, wanted, "{fault:?} after {calls} reads");
-        }
+fn fails_where_a_read_fails(rt: HostRuntime) {
+    for (calls, wanted) in CALLS {
+        read_until(&rt, rt.alloc(), ErrorKind::Interrupted, *calls, *wanted);
+        read_until(&rt, rt.alloc(), ErrorKind::Other, *calls, *wanted);
     }
-    Ok(())
 }

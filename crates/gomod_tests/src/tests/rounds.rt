@@ -1,14 +1,15 @@
 //! A plain implementation of loading, without a worklist, marks or a cache. It repeats rounds over the list
 //! of deeply opened modules, and each round reads every file again. It ignores the go.sum.
 
-use super::File;
+use super::{File, OUT_OF_MEMORY};
 use gm_file::{DepFile, FileFault, MainFile, Right};
 use gm_graph::Fault;
 use gm_graph_cache::{Class, Misreading};
 use gm_graph_select::{Edge, Row, Step};
-use gm_name::{KnownNames, ModVer, NoMemory};
+use gm_name::{KnownNames, ModVer};
 use gm_syntax::Doc;
-use std::alloc::{AllocError, Global};
+use std::alloc::Global;
+use std::process::Abort;
 
 /// What loading finds.
 #[derive(Drop)]
@@ -52,17 +53,15 @@ fn content(files: &'static [File], path: &str, version: &str) -> Option<&'static
 }
 
 /// What a file says, or what is wrong with it. Every file of these projects is a valid document.
-fn read(alloc: Global, text: &str) -> Result<Result<DepFile, Class>, NoMemory> {
-    let Ok(doc) = Doc::parse(alloc, text.as_bytes()) else {
-        return Err(AllocError);
-    };
+fn read(rt: &impl Abort, alloc: Global, text: &str) -> Result<DepFile, Class> {
+    let doc = Doc::parse(alloc, text.as_bytes()).expect(rt, text);
     match DepFile::read(alloc, &mut KnownNames::new(alloc, 0), &doc) {
-        Ok(file) => Ok(Ok(file)),
-        Err(FileFault::NoMemory) => Err(AllocError),
-        Err(FileFault::Directive { line, kind }) => {
-            let kind = Misreading::Directive(kind);
-            Ok(Err(Class::Malformed { line, kind }))
-        }
+        Ok(file) => Ok(file),
+        Err(FileFault::NoMemory) => panic!(rt; "{OUT_OF_MEMORY}"),
+        Err(FileFault::Directive { line, kind }) => Err(Class::Malformed {
+            line,
+            kind: Misreading::Directive(kind),
+        }),
     }
 }
 
@@ -90,42 +89,51 @@ struct Given<'a, 'b> {
 
 /// What the file of a module says, or what is wrong with it.
 fn read_module_file(
+    rt: &impl Abort,
     given: &Given<'_, '_>,
     vertex: &ModVer,
-) -> Result<Result<DepFile, Class>, NoMemory> {
+) -> Result<DepFile, Class> {
     if !is_fetchable(given.main, vertex) {
-        return Ok(Err(Class::NotFetchable));
+        return Err(Class::NotFetchable);
     }
     let (path, version) = store_key(given.main, vertex);
     let Some(text) = content(given.files, path, version) else {
-        return Ok(Err(Class::Missing));
+        return Err(Class::Missing);
     };
-    let file = read(given.alloc, text)?;
-    if let Ok(file) = &file {
-        if !has_right_path(given.main, vertex, file) {
-            return Ok(Err(Class::WrongPath));
-        }
+    let file = read(rt, given.alloc, text)?;
+    if !has_right_path(given.main, vertex, &file) {
+        return Err(Class::WrongPath);
     }
     Ok(file)
 }
 
+/// A copy of a module at a version.
+fn copy(rt: &impl Abort, alloc: Global, vertex: &ModVer) -> ModVer {
+    vertex.copy(alloc).expect(rt, OUT_OF_MEMORY)
+}
+
+/// Adds an item to a list.
+fn add<T: Drop>(rt: &impl Abort, list: &mut Vec<T>, item: T) {
+    list.push(item).expect(rt, OUT_OF_MEMORY);
+}
+
 /// Those of the modules that the main module's file does not exclude.
-fn kept(given: &Given<'_, '_>, required: &[ModVer]) -> Result<Vec<ModVer>, NoMemory> {
+fn kept(rt: &impl Abort, given: &Given<'_, '_>, required: &[ModVer]) -> Vec<ModVer> {
     let mut kept = Vec::new(given.alloc);
     for vertex in required {
         if !given.main.excluded(vertex) {
-            kept.push(vertex.copy(given.alloc)?)?;
+            add(rt, &mut kept, copy(rt, given.alloc, vertex));
         }
     }
-    Ok(kept)
+    kept
 }
 
 /// What a module requires. A module with a fault requires nothing.
-fn requirements(given: &Given<'_, '_>, vertex: &ModVer) -> Result<Vec<ModVer>, NoMemory> {
-    if let Ok(file) = read_module_file(given, vertex)? {
-        return Ok(kept(given, file.requirements())?);
+fn requirements(rt: &impl Abort, given: &Given<'_, '_>, vertex: &ModVer) -> Vec<ModVer> {
+    match read_module_file(rt, given, vertex) {
+        Ok(file) => kept(rt, given, file.requirements()),
+        Err(_) => Vec::new(given.alloc),
     }
-    Ok(Vec::new(given.alloc))
 }
 
 /// Whether a module with this go version has its requirements pruned: from 1.17 on.
@@ -134,106 +142,98 @@ fn is_pruned(go: (u32, u32)) -> bool {
 }
 
 /// Whether the file of a module has no fault and is not pruned.
-fn is_unpruned(given: &Given<'_, '_>, vertex: &ModVer) -> Result<bool, NoMemory> {
-    if let Ok(file) = read_module_file(given, vertex)? {
-        return Ok(!is_pruned(file.go()));
+fn is_unpruned(rt: &impl Abort, given: &Given<'_, '_>, vertex: &ModVer) -> bool {
+    match read_module_file(rt, given, vertex) {
+        Ok(file) => !is_pruned(file.go()),
+        Err(_) => false,
     }
-    Ok(false)
 }
 
 // ---- which modules are opened
 
 /// Adds modules to a list, which stays in ascending order and without duplicates.
-fn add_all(alloc: Global, list: &mut Vec<ModVer>, others: &[ModVer]) -> Result<(), NoMemory> {
+fn add_all(rt: &impl Abort, alloc: Global, list: &mut Vec<ModVer>, others: &[ModVer]) {
     for vertex in others {
-        list.push(vertex.copy(alloc)?)?;
+        add(rt, list, copy(rt, alloc, vertex));
     }
     list.sort_unstable();
     list.dedup();
-    Ok(())
 }
 
 /// What the modules of a list require.
-fn required_by(given: &Given<'_, '_>, list: &[ModVer]) -> Result<Vec<ModVer>, NoMemory> {
+fn required_by(rt: &impl Abort, given: &Given<'_, '_>, list: &[ModVer]) -> Vec<ModVer> {
     let mut all = Vec::new(given.alloc);
     for vertex in list {
-        let required = requirements(given, vertex)?;
-        add_all(given.alloc, &mut all, &required)?;
+        add_all(rt, given.alloc, &mut all, &requirements(rt, given, vertex));
     }
-    Ok(all)
+    all
 }
 
 /// The modules that are deeply opened before any requirement of theirs is followed. If the main module's file
 /// is not pruned, these are all modules that it requires. Otherwise they are what the modules among them
 /// require whose files are not pruned.
-fn initial_deep(given: &Given<'_, '_>, top: &[ModVer]) -> Result<Vec<ModVer>, NoMemory> {
+fn initial_deep(rt: &impl Abort, given: &Given<'_, '_>, top: &[ModVer]) -> Vec<ModVer> {
     if !is_pruned(given.main.go()) {
-        return Ok(kept(given, top)?);
+        return kept(rt, given, top);
     }
     let mut unpruned = Vec::new(given.alloc);
     for vertex in top {
-        if is_unpruned(given, vertex)? {
-            unpruned.push(vertex.copy(given.alloc)?)?;
+        if is_unpruned(rt, given, vertex) {
+            add(rt, &mut unpruned, copy(rt, given.alloc, vertex));
         }
     }
-    required_by(given, &unpruned)
+    required_by(rt, given, &unpruned)
 }
 
 /// More rounds than any path through one of these projects has steps.
 const ROUNDS: usize = 10;
 
 /// The modules that are opened, if the main module requires these.
-fn opened(given: &Given<'_, '_>, top: &[ModVer]) -> Result<Vec<ModVer>, NoMemory> {
-    let mut list = initial_deep(given, top)?;
+fn opened(rt: &impl Abort, given: &Given<'_, '_>, top: &[ModVer]) -> Vec<ModVer> {
+    let mut list = initial_deep(rt, given, top);
     for _ in 0..ROUNDS {
-        let required = required_by(given, &list)?;
-        add_all(given.alloc, &mut list, &required)?;
+        let required = required_by(rt, given, &list);
+        add_all(rt, given.alloc, &mut list, &required);
     }
-    add_all(given.alloc, &mut list, top)?;
-    Ok(list)
+    add_all(rt, given.alloc, &mut list, top);
+    list
 }
 
 // ---- what follows from the opened modules
 
 /// The opened modules that have faults.
-fn faults(given: &Given<'_, '_>, opened: &[ModVer]) -> Result<Vec<Fault>, NoMemory> {
+fn faults(rt: &impl Abort, given: &Given<'_, '_>, opened: &[ModVer]) -> Vec<Fault> {
     let mut faults = Vec::new(given.alloc);
     for vertex in opened {
-        if let Err(class) = read_module_file(given, vertex)? {
-            let vertex = vertex.copy(given.alloc)?;
-            faults.push(Fault { vertex, class })?;
+        if let Err(class) = read_module_file(rt, given, vertex) {
+            let vertex = copy(rt, given.alloc, vertex);
+            add(rt, &mut faults, Fault { vertex, class });
         }
     }
-    Ok(faults)
+    faults
 }
 
 /// Adds an edge to each of these vertices.
-fn add_edges(
-    alloc: Global,
-    edges: &mut Vec<Edge>,
-    from: &Step,
-    ends: &[ModVer],
-) -> Result<(), NoMemory> {
+fn add_edges(rt: &impl Abort, alloc: Global, edges: &mut Vec<Edge>, from: &Step, ends: &[ModVer]) {
     for to in ends {
-        let from = from.copy(alloc)?;
-        let to = to.copy(alloc)?;
-        edges.push(Edge { from, to })?;
+        let from = from.copy(alloc).expect(rt, OUT_OF_MEMORY);
+        let to = copy(rt, alloc, to);
+        add(rt, edges, Edge { from, to });
     }
-    Ok(())
 }
 
 /// The edges that leave the main module and the opened modules.
-fn edges(given: &Given<'_, '_>, top: &[ModVer], opened: &[ModVer]) -> Result<Vec<Edge>, NoMemory> {
+fn edges(rt: &impl Abort, given: &Given<'_, '_>, top: &[ModVer], opened: &[ModVer]) -> Vec<Edge> {
     let mut edges = Vec::new(given.alloc);
-    add_edges(given.alloc, &mut edges, &Step::Main, top)?;
+    add_edges(rt, given.alloc, &mut edges, &Step::Main, top);
     for vertex in opened {
-        let required = requirements(given, vertex)?;
-        let from = Step::Of(vertex.copy(given.alloc)?);
-        add_edges(given.alloc, &mut edges, &from, &required)?;
+        let required = requirements(rt, given, vertex);
+        let from = Step::Of(copy(rt, given.alloc, vertex));
+        add_edges(rt, given.alloc, &mut edges, &from, &required);
     }
     edges.sort_unstable();
     edges.dedup();
-    Ok(edges)
+    edges
 }
 
 /// Whether a module is in the build list: none of these vertices is a greater version of it, and its path is
@@ -248,44 +248,43 @@ fn is_selected(given: &Given<'_, '_>, ends: &[ModVer], vertex: &ModVer) -> bool 
 }
 
 /// The row of a module in the build list, with its replacement, if any.
-fn row(given: &Given<'_, '_>, vertex: &ModVer) -> Result<Row, NoMemory> {
+fn row(rt: &impl Abort, given: &Given<'_, '_>, vertex: &ModVer) -> Row {
     let right = match given.main.replacement(vertex) {
-        Some(right) => Some(right.copy(given.alloc)?),
+        Some(right) => Some(right.copy(given.alloc).expect(rt, OUT_OF_MEMORY)),
         None => None,
     };
-    let step = Step::Of(vertex.copy(given.alloc)?);
-    Ok(Row { step, right })
+    let step = Step::Of(copy(rt, given.alloc, vertex));
+    Row { step, right }
 }
 
 /// The build list, if the edges lead to these vertices.
-fn rows(given: &Given<'_, '_>, ends: &[ModVer]) -> Result<Vec<Row>, NoMemory> {
+fn rows(rt: &impl Abort, given: &Given<'_, '_>, ends: &[ModVer]) -> Vec<Row> {
     let mut rows = Vec::new(given.alloc);
-    rows.push(Row {
-        step: Step::Main,
-        right: None,
-    })?;
+    let (step, right) = (Step::Main, None);
+    add(rt, &mut rows, Row { step, right });
     for vertex in ends {
         if is_selected(given, ends, vertex) {
-            rows.push(row(given, vertex)?)?;
+            add(rt, &mut rows, row(rt, given, vertex));
         }
     }
-    Ok(rows)
+    rows
 }
 
 /// What loading finds. The rows are meaningful only if no module has a fault.
 pub(super) fn load_in_rounds(
+    rt: &impl Abort,
     alloc: Global,
     main: &MainFile<'_>,
     files: &'static [File],
-) -> Result<RoundsResult, NoMemory> {
+) -> RoundsResult {
     let given = Given { alloc, main, files };
-    let top = kept(&given, main.requirements())?;
-    let opened = opened(&given, &top)?;
-    let mut ends = required_by(&given, &opened)?;
-    add_all(alloc, &mut ends, &top)?;
-    Ok(RoundsResult {
-        faults: faults(&given, &opened)?,
-        edges: edges(&given, &top, &opened)?,
-        rows: rows(&given, &ends)?,
-    })
+    let top = kept(rt, &given, main.requirements());
+    let opened = opened(rt, &given, &top);
+    let mut ends = required_by(rt, &given, &opened);
+    add_all(rt, alloc, &mut ends, &top);
+    RoundsResult {
+        faults: faults(rt, &given, &opened),
+        edges: edges(rt, &given, &top, &opened),
+        rows: rows(rt, &given, &ends),
+    }
 }

@@ -1,42 +1,61 @@
 //! Sinks that fail in mid-stream: sinks in memory without room, and writers that take few bytes per call.
 
-use super::OUT_OF_MEMORY;
+use super::{OUT_OF_MEMORY, assert_same};
 use gm_store::{MemorySink, Sink, StdSink, WriteFault, write_all};
+use std::alloc::Global;
 use std::io;
 use std::io::{ErrorKind, Write};
-use std::test::Fail;
+use std::process::Abort;
 
 /// The text that is written.
 const TEXT: &[u8] = b"example.com/p v1.9.0 v1.10.0-rc.1 v1.10.0\n";
 
-#[test]
-fn a_sink_in_memory_takes_what_fits(rt: HostRuntime) -> Result<(), Fail> {
-    for room in 0..TEXT.len() + 2 {
-        let mut sink = MemorySink::new(rt.alloc(), room).ok().ok_or(OUT_OF_MEMORY)?;
-        let written = write_all(&mut sink, TEXT);
-        let taken = room.min(TEXT.len());
-        assert_eq!(rt; written.is_ok(), room >= TEXT.len(), "with room for {room}");
-        assert_eq!(rt; sink.bytes(), &TEXT[..taken], "with room for {room}");
-        assert_eq!(rt;
-            sink.faults(),
-            u64::from(written.is_err()),
-            "with room for {room}"
-        );
-    }
-    Ok(())
+/// Whether a text was written, what was taken of it, and how many writes were refused.
+type Written<'a> = (bool, &'a [u8], u64);
+
+/// Writes the text to a sink with room for this many bytes, and compares what comes of it.
+fn write_with_room(rt: &impl Abort, alloc: Global, room: usize) {
+    let mut sink = MemorySink::new(alloc, room).expect(rt, OUT_OF_MEMORY);
+    let is_written = write_all(&mut sink, TEXT).is_ok();
+    let got: Written<'_> = (is_written, sink.bytes(), sink.faults());
+    let fits = room >= TEXT.len();
+    let wanted: Written<'_> = (fits, &TEXT[..room.min(TEXT.len())], u64::from(!fits));
+    assert_same(rt, format_args!("with room for {room}"), &got, &wanted);
 }
 
 #[test]
-fn a_sink_in_memory_fails_again(rt: HostRuntime) -> Result<(), Fail> {
-    let mut sink = MemorySink::new(rt.alloc(), 1).ok().ok_or(OUT_OF_MEMORY)?;
-    assert_eq!(rt; sink.write(b"xyz"), Ok(1));
-    assert_eq!(rt; sink.write(b""), Ok(0));
-    assert_eq!(rt; sink.write(b"y"), Err(WriteFault));
-    assert_eq!(rt; sink.write(b"y"), Err(WriteFault));
-    assert_eq!(rt; sink.faults(), 2);
-    assert_eq!(rt; sink.bytes(), b"x".as_slice());
+fn a_sink_in_memory_takes_what_fits(rt: HostRuntime) {
+    for room in 0..TEXT.len() + 2 {
+        write_with_room(&rt, rt.alloc(), room);
+    }
+}
+
+#[test]
+fn a_sink_in_memory_fails_again(rt: HostRuntime) {
+    let mut sink = MemorySink::new(rt.alloc(), 1).expect(&rt, OUT_OF_MEMORY);
+    let writes = [
+        sink.write(b"xyz"),
+        sink.write(b""),
+        sink.write(b"y"),
+        sink.write(b"y"),
+    ];
+    assert_same(
+        &rt,
+        "writes",
+        &writes,
+        &[Ok(1), Ok(0), Err(WriteFault), Err(WriteFault)],
+    );
+    assert_same(
+        &rt,
+        "what is left of them",
+        &(sink.bytes(), sink.faults()),
+        &(b"x".as_slice(), 2),
+    );
+}
+
+#[test]
+fn no_sink_has_room_for_all_bytes(rt: HostRuntime) {
     assert!(rt; MemorySink::new(rt.alloc(), usize::MAX).is_err());
-    Ok(())
 }
 
 /// The most bytes that a writer takes per call.
@@ -75,43 +94,41 @@ impl Write for LimitedWriter {
     }
 }
 
+/// Writes the text, and then nothing, to a sink over a writer. Says whether the text was written, and how many
+/// writes were refused.
+fn write_over(rt: &impl Abort, writer: &mut LimitedWriter) -> (bool, u64) {
+    let mut sink = StdSink::new(writer);
+    let is_written = write_all(&mut sink, TEXT).is_ok();
+    assert_same(rt, "nothing is written", &sink.write(b""), &Ok(0));
+    (is_written, sink.faults())
+}
+
+/// Writes the text to a writer that fails in this way after this many calls, and compares what comes of it.
+fn write_until(rt: &impl Abort, alloc: Global, fault: Option<ErrorKind>, calls: usize) {
+    let bytes = Vec::with_capacity(alloc, TEXT.len()).expect(rt, OUT_OF_MEMORY);
+    let mut writer = LimitedWriter {
+        bytes,
+        calls,
+        fault,
+    };
+    let (is_written, faults) = write_over(rt, &mut writer);
+    let got: Written<'_> = (is_written, writer.bytes.as_slice(), faults);
+    let taken = TEXT.len().min(STEP.saturating_mul(calls));
+    let fits = taken == TEXT.len();
+    let wanted: Written<'_> = (fits, &TEXT[..taken], u64::from(!fits));
+    assert_same(
+        rt,
+        format_args!("{fault:?} after {calls} calls"),
+        &got,
+        &wanted,
+    );
+}
+
 #[test]
-fn a_writer_fails_after_each_call(rt: HostRuntime) -> Result<(), Fail> {
-    for fault in [
-        None,
-        Some(ErrorKind::Interrupted),
-        Some(ErrorKind::BrokenPipe),
-    ] {
-        for calls in 0..TEXT.len() / STEP + 2 {
-            let bytes = Vec::with_capacity(rt.alloc(), TEXT.len())
-                .ok()
-                .ok_or(OUT_OF_MEMORY)?;
-            let mut drain = LimitedWriter {
-                bytes,
-                calls,
-                fault,
-            };
-            let mut sink = StdSink::new(&mut drain);
-            let is_written = write_all(&mut sink, TEXT).is_ok();
-            assert_eq!(rt; sink.write(b""), Ok(0));
-            let faults = sink.faults();
-            let taken = TEXT.len().min(STEP * calls);
-            assert_eq!(rt;
-                is_written,
-                taken == TEXT.len(),
-                "{fault:?} after {calls} calls"
-            );
-            assert_eq!(rt;
-                faults,
-                u64::from(!is_written),
-                "{fault:?} after {calls} calls"
-            );
-            assert_eq!(rt;
-                drain.bytes.as_slice(),
-                &TEXT[..taken],
-                "{fault:?} after {calls} calls"
-            );
-        }
+fn a_writer_fails_after_each_call(rt: HostRuntime) {
+    for calls in 0..TEXT.len() / STEP + 2 {
+        write_until(&rt, rt.alloc(), None, calls);
+        write_until(&rt, rt.alloc(), Some(ErrorKind::Interrupted), calls);
+        write_until(&rt, rt.alloc(), Some(ErrorKind::BrokenPipe), calls);
     }
-    Ok(())
 }

@@ -1,15 +1,14 @@
 //! Stores of several folders in memory, and stores whose device fails.
 
-ghost use Rattle.std.specs.Prelude.{◌≡◌, [], IfSome};
+ghost use Rattle.std.specs.Prelude.{◌≡◌, []};
 ghost use Rattle.gm_store.specs.Views.{asked_by};
 
-use super::{File, OUT_OF_MEMORY, store_of};
-use gm_name::{ModPath, ModVersion};
+use super::{File, OUT_OF_MEMORY, assert_same, path, store_of, text, version};
 use gm_store::{
     Answer, AskFault, FailingFiles, FileName, Files, Held, Mark, MemoryFallback, MemoryFolder,
 };
 use std::alloc::Global;
-use std::test::Fail;
+use std::process::Abort;
 
 /// One file of a module at a version, and one in a folder.
 const FILES: &'static [File] = &[
@@ -22,85 +21,73 @@ fn counts(store: &FailingFiles) -> (usize, u64) {
     (store.count(), store.faults())
 }
 
-/// The counts after the first ask, after the second, on which the device fails, and after a retry of the
-/// second. `None` if memory runs out.
-fn fails_once(alloc: Global) -> Option<[(usize, u64); 3]> {
-    let mut store = FailingFiles::after(store_of(alloc, FILES)?, 1);
-    let path = ModPath::parse(alloc, "a.io").ok()?;
-    let name = FileName::Mod(path, ModVersion::parse(alloc, "v1.0.0").ok()?);
-    let other = FileName::Folder(String::from_str(alloc, "../b").ok()?);
-    store.ask(&name).ok()?;
-    let first = counts(&store);
-    let Err(fault) = store.ask(&other) else {
-        return Some([first, counts(&store), counts(&store)]);
-    };
-    if fault == AskFault::NoMemory {
-        return None;
-    }
-    let second = counts(&store);
-    store.ask(&other).ok()?;
-    Some([first, second, counts(&store)])
-}
-
 #[test]
-fn a_failing_store_refuses_one_ask(rt: HostRuntime) -> Result<(), Fail> {
-    let got = fails_once(rt.alloc()).ok_or(OUT_OF_MEMORY)?;
-    assert_eq!(rt; got, [(1, 0), (1, 1), (2, 1)]);
-    Ok(())
+fn a_failing_store_refuses_one_ask(rt: HostRuntime) {
+    let mut store = FailingFiles::after(store_of(&rt, rt.alloc(), FILES), 1);
+    let module = path(&rt, rt.alloc(), "a.io");
+    let name = FileName::Mod(module, version(&rt, rt.alloc(), "v1.0.0"));
+    let other = FileName::Folder(text(&rt, rt.alloc(), "../b"));
+    store.ask(&name).expect(&rt, OUT_OF_MEMORY);
+    let first = counts(&store);
+    let fault = store.ask(&other).expect_err(&rt, "the device fails");
+    let second = counts(&store);
+    store.ask(&other).expect(&rt, OUT_OF_MEMORY);
+    let third = counts(&store);
+    assert_same(&rt, "the fault", &fault, &AskFault::Device);
+    assert_same(
+        &rt,
+        "counts",
+        &[first, second, third],
+        &[(1, 0), (1, 1), (2, 1)],
+    );
 }
 
-/// A folder that has the list of a module, or one where the device fails on that list. `None` if memory runs
-/// out.
-fn shelf(alloc: Global, list: Option<&str>) -> Option<MemoryFolder> {
+/// The list of a module.
+const LIST: &[u8] = b"v1.0.0\n";
+
+/// A folder that holds this under the name of a module's list.
+fn shelf(rt: &impl Abort, alloc: Global, held: Held) -> MemoryFolder {
     let mut shelf = MemoryFolder::new(alloc);
-    let name = FileName::List(ModPath::parse(alloc, "p.io").ok()?);
-    let held = match list {
-        Some(text) => Held::Content(Vec::from_slice(alloc, text.as_bytes()).ok()?),
-        None => Held::Broken,
-    };
-    shelf.put(name, held).ok()?;
-    Some(shelf)
+    let name = FileName::List(path(rt, alloc, "p.io"));
+    shelf.put(name, held).expect(rt, OUT_OF_MEMORY);
+    shelf
 }
 
 /// A store that was not asked for anything yet, over a folder where the device fails and one that has a list.
-/// `None` if memory runs out.
-fn broken_then_working(alloc: Global, mark: Mark) -> Option<MemoryFallback>
-    ensures { IfSome result (λ store. asked_by store ≡ []) }
+fn broken_then_working(rt: &impl Abort, alloc: Global, mark: Mark) -> MemoryFallback
+    ensures { asked_by result ≡ [] }
 {
-    let mut proxies = Vec::new(alloc);
-    proxies.push(shelf(alloc, None)?).ok()?;
-    proxies.push(shelf(alloc, Some("v1.0.0\n"))?).ok()?;
-    let mut marks = Vec::new(alloc);
-    marks.push(mark).ok()?;
-    Some(MemoryFallback::in_memory(alloc, proxies, marks, MemoryFolder::new(alloc)))
-}
-
-/// Whether a store answered with the content of the second folder, and how often a device failed. `None` if
-/// memory runs out.
-fn answer_after(alloc: Global, mark: Mark) -> Option<(bool, u64)> {
-    let mut store = broken_then_working(alloc, mark)?;
-    let name = FileName::List(ModPath::parse(alloc, "p.io").ok()?);
-    let has_answered = match store.ask(&name) {
-        Ok(()) => is_list(store.answer(0)),
-        Err(AskFault::Device) => false,
-        Err(AskFault::NoMemory) => return None,
-    };
-    Some((has_answered, store.faults()))
+    let broken = shelf(rt, alloc, Held::Broken);
+    let list = Vec::from_slice(alloc, LIST).expect(rt, OUT_OF_MEMORY);
+    let working = shelf(rt, alloc, Held::Content(list));
+    let proxies = vec![in alloc; broken, working].expect(rt, OUT_OF_MEMORY);
+    let marks = vec![in alloc; mark].expect(rt, OUT_OF_MEMORY);
+    MemoryFallback::in_memory(alloc, proxies, marks, MemoryFolder::new(alloc))
 }
 
 /// Whether an answer is the list of the second folder.
 fn is_list(answer: &Answer) -> bool {
     match answer {
-        Answer::Bytes(bytes) => bytes.as_slice() == b"v1.0.0\n".as_slice(),
+        Answer::Bytes(bytes) => bytes.as_slice() == LIST,
         _ => false,
     }
 }
 
+/// What came of an ask for the list, and how often a device failed. `Ok` says whether the answer is the list of the
+/// second folder.
+fn list_after(rt: &impl Abort, alloc: Global, mark: Mark) -> (Result<bool, AskFault>, u64) {
+    let mut store = broken_then_working(rt, alloc, mark);
+    let asked = match store.ask(&FileName::List(path(rt, alloc, "p.io"))) {
+        Ok(()) => Ok(is_list(store.answer(0))),
+        Err(fault) => Err(fault),
+    };
+    (asked, store.faults())
+}
+
 #[test]
-fn a_bar_passes_over_a_folder_that_fails(rt: HostRuntime) -> Result<(), Fail> {
-    for (mark, wanted) in [(Mark::Comma, (false, 1)), (Mark::Bar, (true, 1))] {
-        let got = answer_after(rt.alloc(), mark).ok_or(OUT_OF_MEMORY)?;
-        assert_eq!(rt; got, wanted, "{mark:?}");
-    }
-    Ok(())
+fn a_bar_passes_over_a_folder_that_fails(rt: HostRuntime) {
+    let comma = list_after(&rt, rt.alloc(), Mark::Comma);
+    assert_same(&rt, "a comma", &comma, &(Err(AskFault::Device), 1));
+    let bar = list_after(&rt, rt.alloc(), Mark::Bar);
+    assert_same(&rt, "a bar", &bar, &(Ok(true), 1));
 }

@@ -3,4 +3,4 @@ use Rattle.gm_store.specs.Memory.{pairs_of}
 use Rattle.gomod_tests.proofs.tests.store_of.Given as goal
 
 abbrev pub invariant-loop-file : goal.invariant-loop-file
-invariant-loop-file l = pairs_of l.store ≡ []
+invariant-loop-file g l = pairs_of l.store ≡ []
