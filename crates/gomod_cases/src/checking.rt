@@ -1,13 +1,13 @@
 //! Whether the commands of a case have the results that it states.
 
-use crate::calls::call;
+use crate::counting::Count;
 use crate::differences::Differences;
-use crate::memory::{InMemory, outcome_in_memory};
+use crate::memory::InMemory;
 use crate::outcomes::{Outcome, Room};
 use crate::parsing::{ParsedRun, parsed_runs};
-use crate::stores::Form;
 use crate::sweeping::sweep;
-use crate::workspace::{Workspace, are_opened, is_each_opened_once};
+use crate::workspace::{Real, Workspace, are_opened, is_each_opened_once};
+use gomod_case_calls::call;
 use gomod_case_files::{Case, Run, View, lay_files, make_folder};
 use std::alloc::{AllocError, Global};
 use std::{fs, io};
@@ -23,37 +23,51 @@ pub(crate) fn room_for(run: &Run<'_>) -> Room {
     }
 }
 
-/// Checks the commands of a case, and reports how their results differ from those that the case states.
+/// Checks the commands of a case, reports how their results differ from those that the case states, and counts the
+/// runs.
 pub(crate) fn check_case(
     rt: &HostRuntime,
     number: usize,
     case: &Case<'_>,
+    count: &Count,
     differences: &mut Differences,
 ) -> io::Result<()> {
     let root = make_folder(rt, number)?;
     let root = root.as_str();
-    let folder = format!(in rt.alloc(); "{root}/main")?;
-    let checked = check_in(rt, folder.as_str(), case, differences);
-    fs::remove_dir_all(rt, root)?;
-    checked
+    let checked = check_below(rt, root, case, count, differences);
+    let removed = fs::remove_dir_all(rt, root);
+    checked?;
+    removed
 }
 
-fn check_in(
+/// Checks the commands of a case in a folder below this one.
+fn check_below(
     rt: &HostRuntime,
-    folder: &str,
+    root: &str,
     case: &Case<'_>,
+    count: &Count,
     differences: &mut Differences,
 ) -> io::Result<()> {
+    let folder = format!(in rt.alloc(); "{root}/main")?;
+    let folder = folder.as_str();
     lay_files(rt, folder, case)?;
     let workspace = Workspace {
         system: *rt,
         folder,
+        case,
         input: case.input(),
+        count,
     };
-    let runs = parsed_runs(rt.alloc(), case)?;
-    check_runs(&workspace, case, runs.as_slice(), differences)?;
-    if differences.is_empty() && !case.is_large {
-        sweep(&workspace, case, runs.as_slice(), differences)?;
+    check_in(&workspace, differences)
+}
+
+/// Checks the commands of a case in its workspace.
+fn check_in(workspace: &Workspace<'_>, differences: &mut Differences) -> io::Result<()> {
+    let runs = parsed_runs(workspace.alloc(), workspace.case)?;
+    let runs = runs.as_slice();
+    check_runs(workspace, runs, differences)?;
+    if differences.is_empty() && !workspace.case.is_large {
+        sweep(workspace, runs, differences)?;
     }
     Ok(())
 }
@@ -61,53 +75,64 @@ fn check_in(
 /// Checks the commands of a case.
 fn check_runs(
     workspace: &Workspace<'_>,
-    case: &Case<'_>,
     runs: &[ParsedRun<'_>],
     differences: &mut Differences,
-) -> io::Result<()> {
+) -> Result<(), AllocError> {
     for run in runs {
-        check_run(workspace, case, run, differences)?;
+        check_run(workspace, run, differences)?;
     }
     Ok(())
 }
 
+/// Checks a command of a case.
 fn check_run(
     workspace: &Workspace<'_>,
-    case: &Case<'_>,
     parsed_run: &ParsedRun<'_>,
     differences: &mut Differences,
-) -> io::Result<()> {
+) -> Result<(), AllocError> {
     let run = parsed_run.run;
     if !run.is_command_line() {
-        check_call(workspace, case, run, differences)?;
-        return Ok(());
+        return check_call(workspace, run, differences);
     }
     check_real(workspace, run, differences)?;
-    check_in_memory(workspace, case, parsed_run, differences)?;
-    Ok(())
+    check_in_memory(workspace, parsed_run, differences)
+}
+
+/// What a call of a library function gives, or none if there is no such call.
+fn text_of_call(workspace: &Workspace<'_>, run: &Run<'_>) -> Result<Option<String>, AllocError> {
+    let words = run.texts(workspace.alloc())?;
+    workspace.count.add();
+    call(
+        workspace.alloc(),
+        &View::whole(workspace.case),
+        words.as_slice(),
+    )
 }
 
 /// Checks a call of a library function.
 fn check_call(
     workspace: &Workspace<'_>,
-    case: &Case<'_>,
     run: &Run<'_>,
     differences: &mut Differences,
-) -> io::Result<()> {
-    let alloc = workspace.system.alloc();
-    let words = run.texts(alloc)?;
-    let Some(text) = call(alloc, &View::whole(case), words.as_slice())? else {
-        differences.command(run, "as a call")?;
-        differences.line("  there is no such call, or a file that it names is not there")?;
-        return Ok(());
-    };
-    if text.as_slice() != run.out.as_slice() {
-        differences.command(run, "as a call")?;
-        differences.line("  got:")?;
-        differences.text(">", text.as_slice())?;
-        differences.wanted(run)?;
+) -> Result<(), AllocError> {
+    match text_of_call(workspace, run)? {
+        Some(text) => check_text(run, text.as_str(), differences),
+        None => {
+            differences.command(run, "as a call");
+            differences.line("  there is no such call, or a file that it names is not there");
+        }
     }
     Ok(())
+}
+
+/// Checks what a call gave.
+fn check_text(run: &Run<'_>, text: &str, differences: &mut Differences) {
+    if text.as_bytes() != run.out.as_slice() {
+        differences.command(run, "as a call");
+        differences.line("  got:");
+        differences.text(">", text.as_bytes());
+        differences.wanted(run);
+    }
 }
 
 /// Checks a command line over real files.
@@ -115,89 +140,91 @@ fn check_real(
     workspace: &Workspace<'_>,
     run: &Run<'_>,
     differences: &mut Differences,
-) -> io::Result<()> {
-    let alloc = workspace.system.alloc();
+) -> Result<(), AllocError> {
     let real = workspace.outcome(run, room_for(run))?;
+    check_result(workspace.alloc(), run, &real, differences)
+}
+
+/// Checks the result of a command line over real files.
+fn check_result(
+    alloc: Global,
+    run: &Run<'_>,
+    real: &Real,
+    differences: &mut Differences,
+) -> Result<(), AllocError> {
     if !is_wanted(run, &real.outcome) {
-        differences.command(run, "over real files")?;
-        return Ok(report_difference(run, &real.outcome, differences)?);
+        differences.command(run, "over real files");
+        report_difference(run, &real.outcome, differences);
+        return Ok(());
     }
     if !opens_right(alloc, run, real.opened.as_slice())? {
-        differences.command(run, "the files that it opens")?;
-        differences.line("  got:")?;
-        differences.opened(real.opened.as_slice())?;
+        differences.command(run, "the files that it opens");
+        differences.line("  got:");
+        differences.opened(real.opened.as_slice());
     }
     Ok(())
 }
 
 /// Whether a command opened the files that the case lists, or, where it lists none, no file twice.
 fn opens_right(alloc: Global, run: &Run<'_>, opened: &[String]) -> Result<bool, AllocError> {
-    Ok(match &run.opened {
-        Some(names) => are_opened(alloc, opened, names.as_slice())?,
-        None => is_each_opened_once(alloc, opened)?,
-    })
+    match &run.opened {
+        Some(names) => are_opened(alloc, opened, names.as_slice()),
+        None => is_each_opened_once(alloc, opened),
+    }
 }
 
 /// Checks a command line over a store in memory. Where the result differs there, or the command can't be run in memory,
 /// the case has to say so.
 fn check_in_memory(
     workspace: &Workspace<'_>,
-    case: &Case<'_>,
     parsed_run: &ParsedRun<'_>,
     differences: &mut Differences,
-) -> io::Result<()> {
-    let run = parsed_run.run;
-    let found = found_in_memory(workspace.system.alloc(), case, parsed_run)?;
-    let is_needless = match &found {
-        Some(found) => is_wanted(run, &found.outcome),
-        // a usage error, or a request for help
-        None => parsed_run.parsed.is_none(),
-    };
-    if run.is_over_files_only && is_needless {
-        differences.command(run, "in memory")?;
-        differences.line("  its line % files is not needed")?;
-    }
-    if !run.is_over_files_only && !is_needless {
-        differences.command(run, "in memory")?;
-        report_in_memory(run, &found, differences)?;
-    }
+) -> Result<(), AllocError> {
+    let found = workspace
+        .memory()
+        .found(parsed_run, room_for(parsed_run.run))?;
+    check_found(parsed_run, &found, differences);
     Ok(())
 }
 
-/// The result of a command over a store in memory, if it can be run there.
-fn found_in_memory(
-    alloc: Global,
-    case: &Case<'_>,
+/// Whether a command has the stated result in memory, or is a usage error or a request for help.
+fn is_needless(parsed_run: &ParsedRun<'_>, found: &Option<InMemory>) -> bool {
+    match found {
+        Some(found) => is_wanted(parsed_run.run, &found.outcome),
+        None => parsed_run.parsed.is_none(),
+    }
+}
+
+/// Checks the result of a command line over a store in memory, if it can be run there.
+fn check_found(
     parsed_run: &ParsedRun<'_>,
-) -> Result<Option<InMemory>, AllocError> {
-    let Some(parsed) = &parsed_run.parsed else {
-        return Ok(None);
-    };
-    let view = View::whole(case);
-    outcome_in_memory(alloc, &view, parsed, Form::Named, room_for(parsed_run.run))
+    found: &Option<InMemory>,
+    differences: &mut Differences,
+) {
+    let run = parsed_run.run;
+    let is_needless = is_needless(parsed_run, found);
+    if run.is_over_files_only && is_needless {
+        differences.command(run, "in memory");
+        differences.line("  its line % files is not needed");
+    }
+    if !run.is_over_files_only && !is_needless {
+        differences.command(run, "in memory");
+        report_in_memory(run, found, differences);
+    }
 }
 
 /// Reports that a command has another result in memory, or none.
-fn report_in_memory(
-    run: &Run<'_>,
-    found: &Option<InMemory>,
-    differences: &mut Differences,
-) -> Result<(), AllocError> {
+fn report_in_memory(run: &Run<'_>, found: &Option<InMemory>, differences: &mut Differences) {
     match found {
-        Some(found) => report_difference(run, &found.outcome, differences)?,
-        None => differences.line("  has no form in memory: say so by a line % files")?,
+        Some(found) => report_difference(run, &found.outcome, differences),
+        None => differences.line("  has no form in memory: say so by a line % files"),
     }
-    Ok(())
 }
 
 /// Reports the result that a command had, and the one that it should have.
-fn report_difference(
-    run: &Run<'_>,
-    outcome: &Outcome,
-    differences: &mut Differences,
-) -> Result<(), AllocError> {
-    differences.outcome(outcome)?;
-    differences.wanted(run)
+fn report_difference(run: &Run<'_>, outcome: &Outcome, differences: &mut Differences) {
+    differences.outcome(outcome);
+    differences.wanted(run);
 }
 
 /// Whether a command had the result that the case states.

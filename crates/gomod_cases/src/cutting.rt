@@ -1,20 +1,37 @@
 //! Commands over files of which one is cut off.
 
 use crate::differences::Differences;
-use crate::memory::{layout, outcome_in_memory};
+use crate::memory::Memory;
 use crate::outcomes::{DEVICE, Outcome, Room};
 use crate::parsing::ParsedRun;
-use crate::stores::Form;
 use crate::workspace::Workspace;
-use gomod_case_files::{Case, Run, View};
-use std::alloc::{AllocError, Global};
-use std::io;
+use gomod_case_files::{Run, View};
+use std::alloc::AllocError;
 
 /// The room of the outputs of a command over a file that is cut off.
 const AMPLE: Room = Room {
     out: 16_384,
     report: 16_384,
 };
+
+/// The greatest length of a text that is cut at every byte. A longer one is cut at its line ends alone, unless the case
+/// says that it is cut at every byte.
+const MOST: usize = 600;
+
+/// Whether a text of this length is cut at every byte.
+pub(crate) fn is_short(length: usize) -> bool {
+    length <= MOST
+}
+
+/// Whether a line of a text begins at this place.
+pub(crate) fn begins_line(text: &[u8], at: usize) -> bool {
+    at == 0 || text.get(at.saturating_sub(1)) == Some(&b'\n')
+}
+
+/// Whether a text is cut at this place.
+pub(crate) fn is_cut(text: &[u8], at: usize, is_cut_everywhere: bool) -> bool {
+    is_cut_everywhere || begins_line(text, at)
+}
 
 /// A file that is cut off, and what is left of it.
 #[derive(Clone, Copy)]
@@ -30,15 +47,25 @@ pub(crate) struct Cut<'a> {
 /// command over it reports the same.
 pub(crate) fn check_cut(
     workspace: &Workspace<'_>,
-    case: &Case<'_>,
     runs: &[ParsedRun<'_>],
     cut: &Cut<'_>,
     differences: &mut Differences,
-) -> io::Result<()> {
-    let layout = layout_of(workspace.system.alloc(), runs, cut)?;
+) -> Result<(), AllocError> {
+    let layout = layout_of(workspace, runs, cut)?;
+    check_runs_over_cut(workspace, runs, cut, &layout, differences)
+}
+
+/// Runs the commands of a case over a file that is cut off, whose layout is this.
+fn check_runs_over_cut(
+    workspace: &Workspace<'_>,
+    runs: &[ParsedRun<'_>],
+    cut: &Cut<'_>,
+    layout: &Option<Outcome>,
+    differences: &mut Differences,
+) -> Result<(), AllocError> {
     for parsed_run in runs {
         if differences.is_empty() && parsed_run.run.is_command_line() {
-            check_run_over_cut(workspace, case, parsed_run, cut, &layout, differences)?;
+            check_run_over_cut(workspace, parsed_run, cut, layout, differences)?;
         }
     }
     Ok(())
@@ -47,53 +74,75 @@ pub(crate) fn check_cut(
 /// Runs a command in memory, if it runs there, and over real files where the real file is cut off.
 fn check_run_over_cut(
     workspace: &Workspace<'_>,
-    case: &Case<'_>,
     parsed_run: &ParsedRun<'_>,
     cut: &Cut<'_>,
     layout: &Option<Outcome>,
     differences: &mut Differences,
-) -> io::Result<()> {
-    let run = parsed_run.run;
-    let found = found_in_memory(workspace.system.alloc(), case, parsed_run, cut)?;
-    if let Some(found) = &found {
-        if let Some(fault) = unsound(layout, parsed_run, cut, found) {
-            return Ok(report_cut(run, fault, cut, found, differences)?);
-        }
-    }
-    if !cut.is_real {
-        return Ok(());
-    }
-    let real = workspace.outcome(run, AMPLE)?.outcome;
-    let fault = match &found {
-        Some(found) if found.is_same(&real) => None,
-        Some(_) => Some("otherwise than in memory"),
-        None => unsound(layout, parsed_run, cut, &real),
-    };
-    if let Some(fault) = fault {
-        report_cut(run, fault, cut, &real, differences)?;
+) -> Result<(), AllocError> {
+    let found = cut_memory(workspace, cut).found_outcome(parsed_run, AMPLE)?;
+    check_found(parsed_run, cut, layout, &found, differences);
+    if differences.is_empty() && cut.is_real {
+        check_real(workspace, parsed_run, cut, layout, &found, differences)?;
     }
     Ok(())
 }
 
-/// The result of a command in memory, if it runs there.
-fn found_in_memory(
-    alloc: Global,
-    case: &Case<'_>,
+/// Checks the result of a command in memory, if it runs there.
+fn check_found(
     parsed_run: &ParsedRun<'_>,
     cut: &Cut<'_>,
-) -> Result<Option<Outcome>, AllocError> {
-    let view = View {
-        case,
-        cut: Some((cut.name, cut.bytes)),
+    layout: &Option<Outcome>,
+    found: &Option<Outcome>,
+    differences: &mut Differences,
+) {
+    let Some(found) = found else {
+        return;
     };
-    let Some(parsed) = &parsed_run.parsed else {
-        return Ok(None);
-    };
-    if parsed_run.run.is_over_files_only {
-        return Ok(None);
+    if let Some(fault) = unsound(layout, parsed_run, cut, found) {
+        report_cut(parsed_run.run, fault, cut, found, differences);
     }
-    let found = outcome_in_memory(alloc, &view, parsed, Form::Named, AMPLE)?;
-    Ok(found.map(|found| found.outcome))
+}
+
+/// Runs a command over real files, and checks its result by the one in memory, if it runs there.
+fn check_real(
+    workspace: &Workspace<'_>,
+    parsed_run: &ParsedRun<'_>,
+    cut: &Cut<'_>,
+    layout: &Option<Outcome>,
+    found: &Option<Outcome>,
+    differences: &mut Differences,
+) -> Result<(), AllocError> {
+    let real = workspace.outcome(parsed_run.run, AMPLE)?;
+    let real = &real.outcome;
+    let fault = match found {
+        Some(found) => otherwise(found, real),
+        None => unsound(layout, parsed_run, cut, real),
+    };
+    if let Some(fault) = fault {
+        report_cut(parsed_run.run, fault, cut, real, differences);
+    }
+    Ok(())
+}
+
+/// How the result of a command over real files differs from the one in memory.
+fn otherwise(found: &Outcome, real: &Outcome) -> Option<&'static str> {
+    if found.is_same(real) {
+        None
+    } else {
+        Some("otherwise than in memory")
+    }
+}
+
+/// The files of a case in memory, of which one is cut off.
+fn cut_memory<'a>(workspace: &Workspace<'a>, cut: &Cut<'a>) -> Memory<'a> {
+    Memory {
+        alloc: workspace.alloc(),
+        view: View {
+            case: workspace.case,
+            cut: Some((cut.name, cut.bytes)),
+        },
+        count: workspace.count,
+    }
 }
 
 /// Reports what is wrong with the result of a command over a file that is cut off.
@@ -103,23 +152,23 @@ fn report_cut(
     cut: &Cut<'_>,
     outcome: &Outcome,
     differences: &mut Differences,
-) -> Result<(), AllocError> {
-    differences.command(run, fault)?;
-    differences.line(cut.name)?;
-    differences.number("  cut off after so many bytes", cut.bytes.len())?;
-    differences.outcome(outcome)
+) {
+    differences.command(run, fault);
+    differences.line(cut.name);
+    differences.number("  cut off after so many bytes", cut.bytes.len());
+    differences.outcome(outcome);
 }
 
 /// The result of `fmt` over a file that is cut off, if a command of the case reads it as a main file.
 fn layout_of(
-    alloc: Global,
+    workspace: &Workspace<'_>,
     runs: &[ParsedRun<'_>],
     cut: &Cut<'_>,
 ) -> Result<Option<Outcome>, AllocError> {
     if !runs.iter().any(|run| run.reads_main(cut.name)) {
         return Ok(None);
     }
-    Ok(Some(layout(alloc, cut.bytes, AMPLE)?))
+    Ok(Some(workspace.memory().layout(cut.bytes, AMPLE)?))
 }
 
 /// How a command differs from what `fmt` reports of its main file, where `fmt` refuses that.

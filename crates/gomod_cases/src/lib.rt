@@ -2,19 +2,16 @@
 //! of the files.
 #![tactic(auto)]
 
-mod call_faults;
-mod calls;
 mod checking;
+mod counting;
 mod cutting;
 mod differences;
-mod file_calls;
 mod memory;
-mod name_calls;
 mod outcomes;
+mod outputs;
 mod parsing;
 mod program;
 mod refusals;
-mod store_calls;
 mod stores;
 mod sweeping;
 mod workspace;

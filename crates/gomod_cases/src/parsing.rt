@@ -26,12 +26,8 @@ impl Parsed {
 
     /// A command and the places of its files.
     fn of_places(alloc: Global, command: Command, places: Places) -> Result<Parsed, AllocError> {
-        let Places { main, proxy, sums } = places;
-        let main = tidied(alloc, main.as_str())?;
-        let sums = match sums {
-            Some(sums) => Some(tidied(alloc, sums.as_str())?),
-            None => None,
-        };
+        let (main, sums) = tidied_places(alloc, &places)?;
+        let Places { proxy, .. } = places;
         Ok(Parsed {
             command,
             main,
@@ -54,6 +50,21 @@ impl Parsed {
     }
 }
 
+/// The places of the main file and of the go.sum, each in its shortest spelling.
+fn tidied_places(alloc: Global, places: &Places) -> Result<(String, Option<String>), AllocError> {
+    let sums = tidied_sums(alloc, &places.sums)?;
+    let main = tidied(alloc, places.main.as_str())?;
+    Ok((main, sums))
+}
+
+/// The place of the go.sum in its shortest spelling, if there is one.
+fn tidied_sums(alloc: Global, sums: &Option<String>) -> Result<Option<String>, AllocError> {
+    match sums {
+        Some(sums) => Ok(Some(tidied(alloc, sums.as_str())?)),
+        None => Ok(None),
+    }
+}
+
 /// A command of a case, and what it asks the program for.
 #[derive(Drop)]
 pub(crate) struct ParsedRun<'a> {
@@ -63,12 +74,9 @@ pub(crate) struct ParsedRun<'a> {
 }
 
 impl<'a> ParsedRun<'a> {
+    /// A command of a case.
     fn of(alloc: Global, run: &'a Run<'a>) -> Result<ParsedRun<'a>, AllocError> {
-        if !run.is_command_line() {
-            return Ok(ParsedRun { run, parsed: None });
-        }
-        let words = run.texts(alloc)?;
-        let parsed = Parsed::of(alloc, words.as_slice())?;
+        let parsed = parsed_words(alloc, run)?;
         Ok(ParsedRun { run, parsed })
     }
 
@@ -79,6 +87,15 @@ impl<'a> ParsedRun<'a> {
             None => false,
         }
     }
+}
+
+/// What a command of a case asks the program for.
+fn parsed_words(alloc: Global, run: &Run<'_>) -> Result<Option<Parsed>, AllocError> {
+    if !run.is_command_line() {
+        return Ok(None);
+    }
+    let words = run.texts(alloc)?;
+    Parsed::of(alloc, words.as_slice())
 }
 
 /// The commands of a case, and what each of them asks for.

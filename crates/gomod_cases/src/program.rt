@@ -1,8 +1,9 @@
 //! The program over files of cases.
 
 use crate::checking::check_case;
+use crate::counting::Count;
 use crate::differences::Differences;
-use gomod_case_files::{Case, CaseFault, CaseFile, Content, read_cases};
+use gomod_case_files::{Case, CaseFault, CaseFile, Content, LineFault, read_cases};
 use std::process::ExitCode;
 use std::{env, fs, io};
 
@@ -15,33 +16,22 @@ pub enum Stream {
     Stdout,
 }
 
-/// The numbers of cases that passed and failed.
-#[derive(Clone, Copy)]
-struct Tally {
-    passed: usize,
-    failed: usize,
-}
-
-impl Tally {
-    fn count(&mut self, passes: bool) {
-        if passes {
-            self.passed = self.passed.saturating_add(1);
-        } else {
-            self.failed = self.failed.saturating_add(1);
-        }
-    }
-}
-
 /// The ending of the words that name files of cases.
 const ENDING: &str = ".txt";
 
-/// The program. Its words that end in `.txt` name files of cases, and all others choose the cases whose titles contain
-/// one of them. It runs these cases, reports how each that fails differs, and prints how many passed and failed. The
-/// status is 0 if all passed, 1 if one failed, and 3 if a file of cases can't be read or the cases can't be run.
+/// Whether a word names a file of cases.
+fn names_file(word: &str) -> bool {
+    word.ends_with(ENDING)
+}
+
+/// The program. Its words that end in `.txt` name files of cases, and all others choose the cases whose titles
+/// contain one of them. It runs these cases, reports how each that fails differs, and prints how many passed and
+/// failed, and if all passed how many runs were made. The status is 0 if all passed, 1 if one failed, and 3 if a file
+/// of cases can't be read or the cases can't be run.
 pub fn exit_code(rt: &HostRuntime, stream: Stream) -> ExitCode {
-    match run_files(rt, stream) {
-        Ok(Tally { failed: 0, .. }) => ExitCode::SUCCESS,
-        Ok(_) => ExitCode::from(1),
+    match all_pass(rt, stream) {
+        Ok(true) => ExitCode::SUCCESS,
+        Ok(false) => ExitCode::from(1),
         Err(error) => {
             let _ = eprintln!(rt; "run_cases: {error}");
             ExitCode::from(3)
@@ -49,72 +39,139 @@ pub fn exit_code(rt: &HostRuntime, stream: Stream) -> ExitCode {
     }
 }
 
-fn run_files(rt: &HostRuntime, stream: Stream) -> io::Result<Tally> {
-    let mut tally = Tally {
+/// The words of the command line.
+fn words(rt: &HostRuntime) -> io::Result<Vec<String>> {
+    Ok(env::args(rt)?.skip(1).collect(rt.alloc())?)
+}
+
+/// Runs the cases, and says whether all passed.
+fn all_pass(rt: &HostRuntime, stream: Stream) -> io::Result<bool> {
+    let words = words(rt)?;
+    let mut session = Session {
+        system: *rt,
+        stream,
+        words: words.as_slice(),
+        count: Count::new(),
         passed: 0,
         failed: 0,
     };
-    let words: Vec<String> = env::args(rt)?.skip(1).collect(rt.alloc())?;
-    for word in &words {
-        if word.as_str().ends_with(ENDING) {
-            run_file(rt, stream, word.as_str(), words.as_slice(), &mut tally)?;
-        }
-    }
-    let Tally { passed, failed } = tally;
-    println!(rt; "{passed} passed, {failed} failed")?;
-    Ok(tally)
+    session.run_files()?;
+    Ok(session.failed == 0)
 }
 
-/// Runs the cases of a file.
-fn run_file(
-    rt: &HostRuntime,
+/// What the program was asked for, and how many cases passed and failed so far.
+#[derive(Drop)]
+struct Session<'a> {
+    system: HostRuntime,
     stream: Stream,
-    name: &str,
-    words: &[String],
-    tally: &mut Tally,
-) -> io::Result<()> {
-    match fs::read_to_string(rt, name) {
-        Ok(text) => run_text(rt, stream, name, text.as_str(), words, tally)?,
-        Err(error) => {
-            tally.count(false);
-            let line = format!(in rt.alloc(); "{name}: {error}\n")?;
-            report(rt, stream, line.as_str())?;
-        }
-    }
-    Ok(())
+    words: &'a [String],
+    count: Count,
+    passed: usize,
+    failed: usize,
 }
 
-/// Runs the cases of a text.
-fn run_text(
-    rt: &HostRuntime,
-    stream: Stream,
-    name: &str,
-    text: &str,
-    words: &[String],
-    tally: &mut Tally,
-) -> io::Result<()> {
-    match read_cases(rt.alloc(), text) {
-        Ok(cases) => {
-            let cases = with_copies(rt, cases)?;
-            run_cases(rt, stream, name, cases.as_slice(), words, tally)?;
+impl Session<'_> {
+    /// Runs the cases of all files, and prints how many passed.
+    fn run_files(&mut self) -> io::Result<()> {
+        for word in self.words {
+            if names_file(word.as_str()) {
+                self.run_file(word.as_str())?;
+            }
         }
-        Err(CaseFault::Line(number, fault)) => {
-            tally.count(false);
-            let line = format!(in rt.alloc(); "{name}:{number}: {fault}\n")?;
-            report(rt, stream, line.as_str())?;
-        }
-        Err(CaseFault::NoMemory) => return Err(io::Error::from(io::ErrorKind::OutOfMemory)),
+        self.report_tally()
     }
-    Ok(())
-}
 
-/// The same cases, with the files that they copy.
-fn with_copies<'a>(rt: &HostRuntime, cases: Vec<Case<'a>>) -> io::Result<Vec<Case<'a>>> {
-    let mut cases = cases;
-    for case in &mut cases {
-        read_copies(rt, case)?;
+    /// Prints how many cases passed and failed, and how many runs were made if all passed. A case that fails is not run
+    /// further, so its number of runs says nothing.
+    fn report_tally(&self) -> io::Result<()> {
+        let (passed, failed) = (self.passed, self.failed);
+        if failed > 0 {
+            return println!(&self.system; "{passed} passed, {failed} failed");
+        }
+        let runs = self.count.runs();
+        println!(&self.system; "{passed} passed, {failed} failed, {runs} runs")
     }
-    Ok(cases)
+
+    /// Runs the cases of a file.
+    fn run_file(&mut self, name: &str) -> io::Result<()> {
+        match fs::read_to_string(&self.system, name) {
+            Ok(text) => self.run_text(name, text.as_str()),
+            Err(error) => self.fail_unread(name, &error),
+        }
+    }
+
+    /// Reports a file of cases that can't be read.
+    fn fail_unread(&mut self, name: &str, error: &io::Error) -> io::Result<()> {
+        let line = format!(in self.system.alloc(); "{name}: {error}\n")?;
+        self.fail(line.as_str())
+    }
+
+    /// Runs the cases of a text.
+    fn run_text(&mut self, name: &str, text: &str) -> io::Result<()> {
+        match read_cases(self.system.alloc(), text) {
+            Ok(cases) => self.run_copied(name, cases),
+            Err(CaseFault::Line(number, fault)) => self.fail_line(name, number, fault),
+            Err(CaseFault::NoMemory) => Err(io::Error::from(io::ErrorKind::OutOfMemory)),
+        }
+    }
+
+    /// Reports a line that belongs to no case.
+    fn fail_line(&mut self, name: &str, number: usize, fault: LineFault) -> io::Result<()> {
+        let line = format!(in self.system.alloc(); "{name}:{number}: {fault}\n")?;
+        self.fail(line.as_str())
+    }
+
+    /// Runs cases after it reads the files that they copy.
+    fn run_copied(&mut self, name: &str, cases: Vec<Case<'_>>) -> io::Result<()> {
+        let mut cases = cases;
+        for case in &mut cases {
+            read_copies(&self.system, case)?;
+        }
+        self.run_cases(name, cases.as_slice())
+    }
+
+    /// Runs those of the cases that the words choose.
+    fn run_cases(&mut self, name: &str, cases: &[Case<'_>]) -> io::Result<()> {
+        for (number, case) in cases.iter().enumerate() {
+            if is_chosen(case, self.words) {
+                self.run_case(name, number, case)?;
+            }
+        }
+        Ok(())
+    }
+
+    /// Runs a case.
+    fn run_case(&mut self, name: &str, number: usize, case: &Case<'_>) -> io::Result<()> {
+        let mut differences = Differences::new(self.system.alloc());
+        check_case(&self.system, number, case, &self.count, &mut differences)?;
+        self.end_case(name, case, differences.finished()?)
+    }
+
+    /// Counts a case, and reports how it differs, if it does.
+    fn end_case(&mut self, name: &str, case: &Case<'_>, differences: &str) -> io::Result<()> {
+        if differences.is_empty() {
+            self.passed = self.passed.saturating_add(1);
+            return Ok(());
+        }
+        let (line, title) = (case.line, case.title);
+        let head = format!(in self.system.alloc(); "{name}:{line}: {title}\n")?;
+        self.fail(head.as_str())?;
+        self.report(differences)
+    }
+
+    /// Counts a failure, and reports it.
+    fn fail(&mut self, line: &str) -> io::Result<()> {
+        self.failed = self.failed.saturating_add(1);
+        self.report(line)
+    }
+
+    /// Reports a text.
+    fn report(&self, text: &str) -> io::Result<()> {
+        match self.stream {
+            Stream::Stderr => eprint!(&self.system; "{text}"),
+            Stream::Stdout => print!(&self.system; "{text}"),
+        }
+    }
 }
 
 /// Reads the files that a case copies.
@@ -135,48 +192,11 @@ fn read_copy(rt: &HostRuntime, file: &mut CaseFile) -> io::Result<()> {
     Ok(())
 }
 
-fn run_cases(
-    rt: &HostRuntime,
-    stream: Stream,
-    name: &str,
-    cases: &[Case<'_>],
-    words: &[String],
-    tally: &mut Tally,
-) -> io::Result<()> {
-    for (number, case) in cases.iter().enumerate() {
-        if !is_chosen(case, words) {
-            continue;
-        }
-        let mut differences = Differences::new(rt.alloc());
-        check_case(rt, number, case, &mut differences)?;
-        tally.count(differences.is_empty());
-        if !differences.is_empty() {
-            report_case(rt, stream, name, case, differences.as_str())?;
-        }
-    }
-    Ok(())
-}
-
-/// Reports how a case of this file differs.
-fn report_case(
-    rt: &HostRuntime,
-    stream: Stream,
-    name: &str,
-    case: &Case<'_>,
-    differences: &str,
-) -> io::Result<()> {
-    let line = case.line;
-    let title = case.title;
-    let head = format!(in rt.alloc(); "{name}:{line}: {title}\n")?;
-    report(rt, stream, head.as_str())?;
-    report(rt, stream, differences)
-}
-
 /// Whether the words choose a case. Where no word chooses titles, all cases are chosen.
 fn is_chosen(case: &Case<'_>, words: &[String]) -> bool {
     let mut chooses = false;
     for word in words {
-        if !word.as_str().ends_with(ENDING) {
+        if !names_file(word.as_str()) {
             chooses = true;
             if case.title.contains(word.as_str()) {
                 return true;
@@ -184,12 +204,4 @@ fn is_chosen(case: &Case<'_>, words: &[String]) -> bool {
         }
     }
     !chooses
-}
-
-fn report(rt: &HostRuntime, stream: Stream, text: &str) -> io::Result<()> {
-    match stream {
-        Stream::Stderr => eprint!(rt; "{text}")?,
-        Stream::Stdout => print!(rt; "{text}")?,
-    }
-    Ok(())
 }

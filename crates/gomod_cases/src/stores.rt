@@ -3,7 +3,7 @@
 ghost use Rattle.std.specs.Prelude.{◌≡◌, [], IfSome};
 ghost use Rattle.gm_store.specs.Views.{asked_by};
 
-use gm_file::{MainFile, Right};
+use gm_file::{MainFile, Replace, Right};
 use gm_name::{ModPath, ModVersion, unescape};
 use gm_store::{
     FileName, Held, Mark, MemoryFallback, MemoryFolder, ProxyList, copy_name, folder_of,
@@ -33,56 +33,85 @@ pub(crate) struct Folders {
 }
 
 impl Folders {
-    /// No files: one proxy folder, and the folder beside the main file.
-    pub(crate) fn new(alloc: Global) -> Result<Folders, AllocError> {
-        let mut folders = Folders {
+    /// No proxy folder, and no file beside the main file.
+    pub(crate) fn new(alloc: Global) -> Folders {
+        Folders {
             proxies: Vec::new(alloc),
             marks: Vec::new(alloc),
             beside: MemoryFolder::new(alloc),
-        };
-        folders.proxies.push(MemoryFolder::new(alloc))?;
-        Ok(folders)
+        }
     }
 
-    /// The folders that the words name, with the files that a case has in them.
-    pub(crate) fn named(
+    /// Adds a folder that holds a module's list of versions.
+    pub(crate) fn put_list(
+        &mut self,
+        alloc: Global,
+        path: &ModPath,
+        bytes: &[u8],
+    ) -> Result<(), AllocError> {
+        self.proxies.push(MemoryFolder::new(alloc))?;
+        let content = Held::Content(copied(alloc, bytes)?);
+        self.put(FileName::List(path.copy(alloc)?), content)
+    }
+
+    /// Adds the folders that the words name, with the files that a case has in them.
+    pub(crate) fn put_proxies(
+        &mut self,
         alloc: Global,
         view: &View<'_>,
         list: &ProxyList,
         form: Form<'_>,
-    ) -> Result<Folders, AllocError> {
-        let mut folders = Folders {
-            proxies: Vec::new(alloc),
-            marks: Vec::new(alloc),
-            beside: MemoryFolder::new(alloc),
-        };
+    ) -> Result<(), AllocError> {
         if let (Form::Divided, [folder]) = (form, list.folders()) {
-            for part in 0..2usize {
-                let shelf = filled(alloc, view, folder.as_str(), Some(part))?;
-                folders.proxies.push(shelf)?;
-            }
-            folders.marks.push(Mark::Comma)?;
-            return Ok(folders);
+            return self.put_divided(alloc, view, folder.as_str());
         }
         for folder in list.folders() {
-            let shelf = filled(alloc, view, folder.as_str(), None)?;
-            folders.proxies.push(shelf)?;
+            self.put_proxy(alloc, view, folder.as_str(), None)?;
         }
         for mark in list.marks() {
-            folders.marks.push(*mark)?;
+            self.marks.push(*mark)?;
         }
-        Ok(folders)
+        Ok(())
+    }
+
+    /// Adds two folders, with the files of one divided between them.
+    fn put_divided(
+        &mut self,
+        alloc: Global,
+        view: &View<'_>,
+        folder: &str,
+    ) -> Result<(), AllocError> {
+        self.put_proxy(alloc, view, folder, Some(0))?;
+        self.put_proxy(alloc, view, folder, Some(1))?;
+        Ok(self.marks.push(Mark::Comma)?)
+    }
+
+    /// Adds a folder with all files that a case has in it, or of each two the first or the second.
+    fn put_proxy(
+        &mut self,
+        alloc: Global,
+        view: &View<'_>,
+        folder: &str,
+        part: Option<usize>,
+    ) -> Result<(), AllocError> {
+        let shelf = filled(alloc, view, folder, part)?;
+        Ok(self.proxies.push(shelf)?)
+    }
+
+    /// The folder that a file is put into: the first proxy folder, or the folder of the main file.
+    fn shelf_of(&mut self, name: &FileName) -> Option<&mut MemoryFolder> {
+        match name {
+            FileName::Folder(_) => Some(&mut self.beside),
+            _ => self.proxies.first_mut(),
+        }
     }
 
     /// Adds a file to the first proxy folder, or to the folder of the main file.
-    pub(crate) fn put(&mut self, name: FileName, held: Held) -> Result<(), AllocError> {
-        if matches!(name, FileName::Folder(_)) {
-            return self.beside.put(name, held);
+    fn put(&mut self, name: FileName, held: Held) -> Result<(), AllocError> {
+        match self.shelf_of(&name) {
+            Some(shelf) => shelf.put(name, held),
+            None => Ok(()),
         }
-        if let Some(shelf) = self.proxies.first_mut() {
-            shelf.put(name, held)?;
-        }
-        Ok(())
     }
 
     /// Makes the device fail at a file.
@@ -93,7 +122,7 @@ impl Folders {
         Ok(())
     }
 
-    /// Adds the go.mod files of the folders by which a main file replaces modules.
+    /// Adds the go.mod files of the folders by which a main file replaces modules, if it can be read.
     pub(crate) fn put_replacements(
         &mut self,
         alloc: Global,
@@ -101,35 +130,68 @@ impl Folders {
         main: &str,
         bytes: &[u8],
     ) -> Result<(), AllocError> {
-        let folder = folder_of(alloc, main)?;
-        let Ok(doc) = Doc::parse(alloc, bytes) else {
-            return Ok(());
-        };
-        let Ok(file) = MainFile::read(alloc, doc) else {
-            return Ok(());
-        };
-        for replace in file.replaces() {
-            if let Right::Folder(text) = &replace.right {
-                self.put_folder(alloc, view, folder.as_str(), text.as_str())?;
-            }
+        match Doc::parse(alloc, bytes) {
+            Ok(doc) => self.put_replacements_of(alloc, view, main, doc),
+            Err(_) => Ok(()),
         }
-        Ok(())
     }
 
-    /// Adds the go.mod of a folder to the folder of the main file, if the case has it.
-    fn put_folder(
+    /// Adds the go.mod files of the folders by which a document replaces modules, if it can be read as a main file.
+    fn put_replacements_of(
         &mut self,
         alloc: Global,
         view: &View<'_>,
         main: &str,
-        text: &str,
+        doc: Doc<'_>,
     ) -> Result<(), AllocError> {
-        let name = FileName::Folder(String::from_str(alloc, text)?);
-        let place = place_beside(alloc, main, &name)?;
-        if let Some(bytes) = view.named(place.as_str()) {
-            self.put(name, Held::Content(copied(alloc, bytes)?))?;
+        match MainFile::read(alloc, doc) {
+            Ok(file) => self.put_replaced(alloc, view, main, file.replaces()),
+            Err(_) => Ok(()),
+        }
+    }
+
+    /// Adds the go.mod files of the folders that are the right sides of the replacements of a main file.
+    fn put_replaced(
+        &mut self,
+        alloc: Global,
+        view: &View<'_>,
+        main: &str,
+        replaces: &[Replace],
+    ) -> Result<(), AllocError> {
+        let folder = folder_of(alloc, main)?;
+        for replace in replaces {
+            self.put_right(alloc, view, folder.as_str(), &replace.right)?;
         }
         Ok(())
+    }
+
+    /// Adds the go.mod of the right side of a replacement, if that is a folder and the case has it.
+    fn put_right(
+        &mut self,
+        alloc: Global,
+        view: &View<'_>,
+        folder: &str,
+        right: &Right,
+    ) -> Result<(), AllocError> {
+        match right {
+            Right::Folder(text) => self.put_folder(alloc, view, folder, text.as_str()),
+            Right::Module(..) => Ok(()),
+        }
+    }
+
+    /// Adds the go.mod of a folder, as a main file in another folder names it, if the case has it.
+    fn put_folder(
+        &mut self,
+        alloc: Global,
+        view: &View<'_>,
+        folder: &str,
+        text: &str,
+    ) -> Result<(), AllocError> {
+        let place = place_beside(alloc, folder, text)?;
+        match view.named(place.as_str()) {
+            Some(bytes) => put_content(alloc, &mut self.beside, folder_name(alloc, text)?, bytes),
+            None => Ok(()),
+        }
     }
 
     /// The store over these folders, if there is one more folder than marks.
@@ -158,38 +220,76 @@ fn filled(
 ) -> Result<MemoryFolder, AllocError> {
     let folder = tidied(alloc, folder)?;
     let mut shelf = MemoryFolder::new(alloc);
-    let mut count = 0usize;
-    for file in &view.case.files {
-        let Some((name, bytes)) = held_in(alloc, view, folder.as_str(), file) else {
-            continue;
-        };
-        count = count.saturating_add(1);
-        if part.is_none_or(|part| part == count % 2) {
-            shelf.put(name, Held::Content(copied(alloc, bytes)?))?;
-        }
-    }
+    fill(alloc, view, folder.as_str(), part, &mut shelf)?;
     Ok(shelf)
 }
 
-/// The name that a proxy folder has for a file of a case, and its bytes, if it is in that folder.
-fn held_in<'a>(
+/// Adds the files of a case in a proxy folder: all of them, or of each two the first or the second.
+fn fill(
     alloc: Global,
-    view: &View<'a>,
+    view: &View<'_>,
     folder: &str,
-    file: &'a CaseFile,
-) -> Option<(FileName, &'a [u8])> {
-    let bytes = view.bytes(file)?;
-    let name = name_in(alloc, folder, file.name.as_str())?;
-    Some((name, bytes))
+    part: Option<usize>,
+    shelf: &mut MemoryFolder,
+) -> Result<(), AllocError> {
+    let mut count = 0usize;
+    for file in &view.case.files {
+        if let Some(bytes) = view.bytes(file) {
+            put_file(alloc, shelf, folder, file, bytes, part, &mut count)?;
+        }
+    }
+    Ok(())
 }
 
-/// The place of the file with this name beside a main file in a folder, in its shortest spelling.
-fn place_beside(alloc: Global, main: &str, name: &FileName) -> Result<String, AllocError> {
-    let relative = relative_name(alloc, name)?;
-    if relative.as_str().starts_with('/') {
-        return tidied(alloc, relative.as_str());
+/// Adds a file with these bytes, if it is in the proxy folder and, by the count of those that are, in this part.
+fn put_file(
+    alloc: Global,
+    shelf: &mut MemoryFolder,
+    folder: &str,
+    file: &CaseFile,
+    bytes: &[u8],
+    part: Option<usize>,
+    count: &mut usize,
+) -> Result<(), AllocError> {
+    let Some(name) = name_in(alloc, folder, file.name.as_str()) else {
+        return Ok(());
+    };
+    *count = count.saturating_add(1);
+    match part {
+        Some(part) if part != *count % 2 => Ok(()),
+        _ => put_content(alloc, shelf, name, bytes),
     }
-    let joined = format!(in alloc; "{main}/{relative}")?;
+}
+
+/// Adds a file with these bytes to a folder.
+fn put_content(
+    alloc: Global,
+    shelf: &mut MemoryFolder,
+    name: FileName,
+    bytes: &[u8],
+) -> Result<(), AllocError> {
+    let content = Held::Content(copied(alloc, bytes)?);
+    shelf.put(name, content)
+}
+
+/// The name of the go.mod of a folder.
+fn folder_name(alloc: Global, text: &str) -> Result<FileName, AllocError> {
+    Ok(FileName::Folder(String::from_str(alloc, text)?))
+}
+
+/// The place of the go.mod of a folder, as a main file in another folder names it, in its shortest spelling.
+fn place_beside(alloc: Global, folder: &str, text: &str) -> Result<String, AllocError> {
+    let name = folder_name(alloc, text)?;
+    let relative = relative_name(alloc, &name)?;
+    place_in(alloc, folder, relative.as_str())
+}
+
+/// The place of a file in a folder, in its shortest spelling.
+fn place_in(alloc: Global, folder: &str, relative: &str) -> Result<String, AllocError> {
+    if relative.starts_with('/') {
+        return tidied(alloc, relative);
+    }
+    let joined = format!(in alloc; "{folder}/{relative}")?;
     tidied(alloc, joined.as_str())
 }
 
@@ -213,11 +313,22 @@ fn rest_in<'a>(folder: &str, place: &'a str) -> Option<&'a str> {
 /// Which file of a proxy is at a place, if that is in this folder.
 fn name_in(alloc: Global, folder: &str, place: &str) -> Option<FileName> {
     let (path, file) = rest_in(folder, place)?.split_once("/@v/")?;
-    let path = path_of(alloc, path)?;
-    if file == "list" {
-        return Some(FileName::List(path));
+    match file {
+        "list" => list_name(alloc, path),
+        _ => mod_name(alloc, path, file.strip_suffix(".mod")?),
     }
-    let version = version_of(alloc, file.strip_suffix(".mod")?)?;
+}
+
+/// The list of the versions of a module whose path is escaped.
+fn list_name(alloc: Global, path: &str) -> Option<FileName> {
+    let path = path_of(alloc, path)?;
+    Some(FileName::List(path))
+}
+
+/// The go.mod of a module whose path and version are escaped.
+fn mod_name(alloc: Global, path: &str, version: &str) -> Option<FileName> {
+    let path = path_of(alloc, path)?;
+    let version = version_of(alloc, version)?;
     Some(FileName::Mod(path, version))
 }
 

@@ -1,16 +1,20 @@
 //! Commands over real files.
 
+use crate::counting::Count;
+use crate::memory::Memory;
 use crate::outcomes::{Outcome, Room};
-use gomod_case_files::{CaseRuntime, Log, Run, tidied};
+use gomod_case_files::{Case, CaseRuntime, Log, Run, View, tidied};
 use gomod_run::status_of_words;
 use std::alloc::{AllocError, Global};
 
-/// A real folder with the files of a case, and what its commands read from standard input.
+/// A case, a real folder with its files, and what its commands read from standard input.
 #[derive(Clone, Copy)]
 pub(crate) struct Workspace<'a> {
     pub(crate) system: HostRuntime,
     pub(crate) folder: &'a str,
+    pub(crate) case: &'a Case<'a>,
     pub(crate) input: &'a [u8],
+    pub(crate) count: &'a Count,
 }
 
 /// The result of a command over real files, and the names of the files that it opened, in order.
@@ -20,10 +24,24 @@ pub(crate) struct Real {
     pub(crate) opened: Vec<String>,
 }
 
-impl Workspace<'_> {
+impl<'a> Workspace<'a> {
+    /// Where its texts and lists are.
+    pub(crate) fn alloc(&self) -> Global {
+        self.system.alloc()
+    }
+
+    /// The files of the case in memory.
+    pub(crate) fn memory(&self) -> Memory<'a> {
+        Memory {
+            alloc: self.alloc(),
+            view: View::whole(self.case),
+            count: self.count,
+        }
+    }
+
     /// Runs a command over outputs with this room.
     pub(crate) fn outcome(&self, run: &Run<'_>, room: Room) -> Result<Real, AllocError> {
-        let log = Log::new(self.system.alloc(), None);
+        let log = Log::new(self.alloc(), None);
         self.logged(run, room, &log)
     }
 
@@ -34,29 +52,47 @@ impl Workspace<'_> {
         room: Room,
         left: usize,
     ) -> Result<Real, AllocError> {
-        let log = Log::new(self.system.alloc(), Some(left));
+        let log = Log::new(self.alloc(), Some(left));
         self.logged(run, room, &log)
     }
 
+    /// Runs a command, with a record of the files that it opens.
     fn logged(&self, run: &Run<'_>, room: Room, log: &Log) -> Result<Real, AllocError> {
-        let alloc = self.system.alloc();
-        let words = run.texts(alloc)?;
-        let (mut out, mut report) = room.sinks(alloc)?;
+        let words = run.texts(self.alloc())?;
+        let outcome = self.outcome_of_words(words.as_slice(), room, log)?;
+        let opened = log.take(self.alloc());
+        Ok(Real { outcome, opened })
+    }
+
+    /// Runs the command that words ask for.
+    fn outcome_of_words(
+        &self,
+        words: &[&str],
+        room: Room,
+        log: &Log,
+    ) -> Result<Outcome, AllocError> {
+        let (mut out, mut report) = room.sinks(self.alloc())?;
         let runtime = CaseRuntime {
             system: self.system,
             folder: self.folder,
             input: self.input,
             log,
         };
-        let status = status_of_words(&runtime, words.as_slice(), &mut out, &mut report);
-        let outcome = Outcome {
+        self.count.add();
+        let status = status_of_words(&runtime, words, &mut out, &mut report);
+        Ok(Outcome {
             out,
             report,
             status,
-        };
-        let opened = log.take(alloc);
-        Ok(Real { outcome, opened })
+        })
     }
+}
+
+/// Whether two names are of the same place.
+fn is_same_place(alloc: Global, one: &str, other: &str) -> Result<bool, AllocError> {
+    let one = tidied(alloc, one)?;
+    let other = tidied(alloc, other)?;
+    Ok(one == other)
 }
 
 /// Whether exactly these files were opened, in this order.
@@ -69,22 +105,26 @@ pub(crate) fn are_opened(
         return Ok(false);
     }
     for (one, other) in opened.iter().zip(wanted) {
-        let one = tidied(alloc, one.as_str())?;
-        let other = tidied(alloc, other)?;
-        if one != other {
+        if !is_same_place(alloc, one.as_str(), other)? {
             return Ok(false);
         }
     }
     Ok(true)
 }
 
+/// Names in ascending order.
+fn sorted(alloc: Global, names: &[String]) -> Result<Vec<&str>, AllocError> {
+    let mut sorted = Vec::new(alloc);
+    for name in names {
+        sorted.push(name.as_str())?;
+    }
+    sorted.sort()?;
+    Ok(sorted)
+}
+
 /// Whether no file was opened twice.
 pub(crate) fn is_each_opened_once(alloc: Global, opened: &[String]) -> Result<bool, AllocError> {
-    let mut names = Vec::new(alloc);
-    for name in opened {
-        names.push(name.as_str())?;
-    }
-    names.sort()?;
+    let names = sorted(alloc, opened)?;
     for pair in names.as_slice().windows(2) {
         if pair.first() == pair.last() {
             return Ok(false);

@@ -8,7 +8,7 @@ use gm_syntax::{SyntaxFault, SyntaxKind};
 use std::alloc::{AllocError, Global};
 
 /// Why a call gives no value. All but the first two are named in what it prints.
-#[derive(Clone, Copy, Debug, PartialEq, Eq)]
+#[derive(Clone, Copy, Debug)]
 pub(crate) enum CallFault {
     /// Memory ran out.
     NoMemory,
@@ -39,16 +39,22 @@ pub(crate) enum CallFault {
 impl CallFault {
     /// The line that names it, or none where there is no such call.
     pub(crate) fn line(self, alloc: Global) -> Result<Option<String>, AllocError> {
-        let line = match self {
-            CallFault::NoMemory => return Err(AllocError),
-            CallFault::NoCall => return Ok(None),
-            CallFault::TooMany | CallFault::NotUtf8 => format!(in alloc; "0 {self:?}\n")?,
-            CallFault::Syntax(line, kind) => format!(in alloc; "{line} {kind:?}\n")?,
-            CallFault::Directive(line, kind) => format!(in alloc; "{line} {kind:?}\n")?,
-            CallFault::BadSum(line) => format!(in alloc; "{line} BadSum\n")?,
-            _ => format!(in alloc; "{self:?}\n")?,
-        };
-        Ok(Some(line))
+        match self {
+            CallFault::NoMemory => Err(AllocError),
+            CallFault::NoCall => Ok(None),
+            _ => Ok(Some(self.named(alloc)?)),
+        }
+    }
+
+    /// The line that names it.
+    fn named(self, alloc: Global) -> Result<String, AllocError> {
+        match self {
+            CallFault::TooMany | CallFault::NotUtf8 => format!(in alloc; "0 {self:?}\n"),
+            CallFault::Syntax(line, kind) => format!(in alloc; "{line} {kind:?}\n"),
+            CallFault::Directive(line, kind) => format!(in alloc; "{line} {kind:?}\n"),
+            CallFault::BadSum(line) => format!(in alloc; "{line} BadSum\n"),
+            _ => format!(in alloc; "{self:?}\n"),
+        }
     }
 }
 

@@ -1,16 +1,16 @@
 //! Calls about hashes and sums, lists of versions, and the places of files.
 
 use crate::call_faults::CallFault;
+use crate::name_calls::line_of;
 use gm_name::{ModPath, ModVersion};
 use gm_store::{FileName, Looked, Mark};
 use gm_store_sums::SumTable;
-use std::alloc::Global;
+use std::alloc::{AllocError, Global};
 
 /// The hash of a file as the go.mod of a module.
 pub(crate) fn hash(alloc: Global, bytes: &[u8]) -> Result<String, CallFault> {
-    let mut text = gm_store_sums::mod_hash(alloc, bytes)?;
-    text.push('\n')?;
-    Ok(text)
+    let text = gm_store_sums::mod_hash(alloc, bytes)?;
+    line_of(alloc, text.as_str())
 }
 
 /// What a go.sum says of a hash.
@@ -30,58 +30,73 @@ pub(crate) fn check(
 /// The versions of a list file.
 pub(crate) fn listed(alloc: Global, path: &str, bytes: &[u8]) -> Result<String, CallFault> {
     let path = ModPath::parse(alloc, path)?;
+    let versions = gm_store::versions_of(alloc, &path, bytes)?;
     let mut text = String::new(alloc);
-    for version in &gm_store::versions_of(alloc, &path, bytes)? {
+    push_versions(&mut text, versions.as_slice())?;
+    Ok(text)
+}
+
+/// Appends versions, one a line.
+fn push_versions(text: &mut String, versions: &[ModVersion]) -> Result<(), AllocError> {
+    for version in versions {
         writeln!(text, "{version}")?;
     }
-    Ok(text)
+    Ok(())
 }
 
 /// The latest version of a list file.
 pub(crate) fn latest(alloc: Global, path: &str, bytes: &[u8]) -> Result<String, CallFault> {
     let path = ModPath::parse(alloc, path)?;
     let versions = gm_store::versions_of(alloc, &path, bytes)?;
-    match gm_store::latest(versions.as_slice()) {
-        Some(version) => Ok(format!(in alloc; "{version}\n")?),
-        None => Ok(String::from_str(alloc, "none\n")?),
+    latest_of(alloc, versions.as_slice())
+}
+
+/// The line with the latest of these versions.
+fn latest_of(alloc: Global, versions: &[ModVersion]) -> Result<String, CallFault> {
+    match gm_store::latest(versions) {
+        Some(version) => line_of(alloc, version.as_str()),
+        None => line_of(alloc, "none"),
     }
 }
 
 /// The place of the file of a name.
 fn place(alloc: Global, name: &FileName) -> Result<String, CallFault> {
-    let mut text = gm_store::relative_name(alloc, name)?;
-    text.push('\n')?;
-    Ok(text)
+    let text = gm_store::relative_name(alloc, name)?;
+    line_of(alloc, text.as_str())
 }
 
 /// The place of the .mod file of a version.
-pub(crate) fn place_of_version(
-    alloc: Global,
-    path: &str,
-    version: &str,
-) -> Result<String, CallFault> {
-    let path = ModPath::parse(alloc, path)?;
-    let version = ModVersion::parse(alloc, version)?;
+pub(crate) fn place_of_version(alloc: Global, pair: (&str, &str)) -> Result<String, CallFault> {
+    let path = ModPath::parse(alloc, pair.0)?;
+    let version = ModVersion::parse(alloc, pair.1)?;
     place(alloc, &FileName::Mod(path, version))
 }
 
+/// The place of a file of another kind.
+pub(crate) fn place_named(alloc: Global, kind: &str, name: &str) -> Result<String, CallFault> {
+    match kind {
+        "list" => place_of_list(alloc, name),
+        "folder" => place_in_folder(alloc, name),
+        _ => Err(CallFault::NoCall),
+    }
+}
+
 /// The place of the list of a module's versions.
-pub(crate) fn place_of_list(alloc: Global, path: &str) -> Result<String, CallFault> {
+fn place_of_list(alloc: Global, path: &str) -> Result<String, CallFault> {
     let path = ModPath::parse(alloc, path)?;
     place(alloc, &FileName::List(path))
 }
 
 /// The place of the go.mod of a folder.
-pub(crate) fn place_in_folder(alloc: Global, folder: &str) -> Result<String, CallFault> {
+fn place_in_folder(alloc: Global, folder: &str) -> Result<String, CallFault> {
     let folder = String::from_str(alloc, folder)?;
     place(alloc, &FileName::Folder(folder))
 }
 
 /// The folder of a file.
 pub(crate) fn folder_of(alloc: Global, file: &str) -> Result<String, CallFault> {
-    let mut text = gm_store::folder_of(alloc, file)?;
-    text.push('\n')?;
-    Ok(text)
+    let text = gm_store::folder_of(alloc, file)?;
+    line_of(alloc, text.as_str())
 }
 
 /// What a lookup in a folder found, by its name.

@@ -1,71 +1,92 @@
 //! Calls about what a go.mod says: its lines, its words, and its directives.
 
 use crate::call_faults::CallFault;
-use crate::name_calls::{pair, yes_or_no};
+use crate::name_calls;
+use crate::name_calls::{line_of, yes_or_no};
 use gm_file::{DepFile, Interval, MainFile, Replace, Right};
 use gm_name::{KnownNames, ModPath, ModVer};
 use gm_syntax::{Doc, Line, Text, Token};
 use std::alloc::{AllocError, Global};
 use std::slice;
 
-/// The document of some bytes, read as a main file.
+/// What some bytes say as a main file.
 fn main_file<'a>(alloc: Global, bytes: &'a [u8]) -> Result<MainFile<'a>, CallFault> {
     let doc = Doc::parse(alloc, bytes)?;
     Ok(MainFile::read(alloc, doc)?)
 }
 
-/// Appends the comment after the words of a line, if there is one.
-fn push_comment(text: &mut String, comment: &Option<Text>) -> Result<(), AllocError> {
-    if let Some(comment) = comment {
-        text.push(' ')?;
-        text.push_str(comment.as_str())?;
-    }
-    Ok(())
+/// Appends a word or a comment after a space.
+fn push_spaced(text: &mut String, word: &str) -> Result<(), AllocError> {
+    text.push(' ')?;
+    text.push_str(word)
 }
 
 /// Appends words, each as it is spelled.
 fn push_words(text: &mut String, words: &[Token]) -> Result<(), AllocError> {
     for word in words {
-        text.push(' ')?;
-        text.push_str(word.spelling())?;
+        push_spaced(text, word.spelling())?;
     }
     Ok(())
 }
 
+/// What kind of line of a document it is.
+fn kind_of(line: &Line) -> &'static str {
+    match line {
+        Line::Blank => "Blank",
+        Line::Comment(_) => "Comment",
+        Line::Open(..) => "Open",
+        Line::Close(_) => "Close",
+        Line::Entry(..) => "Entry",
+    }
+}
+
+/// The comment of a line, if it has one.
+fn comment_of<'a, 'b>(line: &'b Line<'a>) -> Option<&'b Text<'a>> {
+    match line {
+        Line::Comment(comment) => Some(comment),
+        Line::Open(_, comment) | Line::Close(comment) | Line::Entry(_, comment) => comment.as_ref(),
+        Line::Blank => None,
+    }
+}
+
+/// The words of a line but for the parentheses of a block.
+fn words_of<'a, 'b>(line: &'b Line<'a>) -> &'b [Token<'a>] {
+    match line {
+        Line::Open(verb, _) => slice::from_ref(verb),
+        Line::Entry(words, _) => words.as_slice(),
+        _ => &[],
+    }
+}
+
 /// Appends the description of a line of a document.
 fn push_line(text: &mut String, line: &Line) -> Result<(), AllocError> {
-    match line {
-        Line::Blank => text.push_str("Blank")?,
-        Line::Comment(comment) => {
-            text.push_str("Comment ")?;
-            text.push_str(comment.as_str())?;
-        }
-        Line::Open(verb, comment) => {
-            text.push_str("Open ")?;
-            text.push_str(verb.spelling())?;
-            push_comment(text, comment)?;
-        }
-        Line::Close(comment) => {
-            text.push_str("Close")?;
-            push_comment(text, comment)?;
-        }
-        Line::Entry(words, comment) => {
-            text.push_str("Entry")?;
-            push_words(text, words.as_slice())?;
-            push_comment(text, comment)?;
-        }
+    text.push_str(kind_of(line))?;
+    push_words(text, words_of(line))?;
+    if let Some(comment) = comment_of(line) {
+        push_spaced(text, comment.as_str())?;
     }
     text.push('\n')
+}
+
+/// Appends the descriptions of lines.
+fn push_lines(text: &mut String, lines: &[Line]) -> Result<(), AllocError> {
+    for line in lines {
+        push_line(text, line)?;
+    }
+    Ok(())
+}
+
+/// What lines are.
+fn text_of_lines(alloc: Global, lines: &[Line]) -> Result<String, CallFault> {
+    let mut text = String::new(alloc);
+    push_lines(&mut text, lines)?;
+    Ok(text)
 }
 
 /// What the lines of a file are.
 pub(crate) fn document(alloc: Global, bytes: &[u8]) -> Result<String, CallFault> {
     let doc = Doc::parse(alloc, bytes)?;
-    let mut text = String::new(alloc);
-    for line in doc.lines() {
-        push_line(&mut text, line)?;
-    }
-    Ok(text)
+    text_of_lines(alloc, doc.lines())
 }
 
 /// Appends the place of a word, and the word.
@@ -78,15 +99,6 @@ fn push_place(text: &mut String, word: &Token) -> Result<(), AllocError> {
     writeln!(text, "{line} {first}..{after} {spelling}")
 }
 
-/// The words of a line but for the parentheses of a block.
-fn words_of<'a, 'b>(line: &'b Line<'a>) -> &'b [Token<'a>] {
-    match line {
-        Line::Open(verb, _) => slice::from_ref(verb),
-        Line::Entry(words, _) => words.as_slice(),
-        _ => &[],
-    }
-}
-
 /// Appends the places of words.
 fn push_places(text: &mut String, words: &[Token]) -> Result<(), AllocError> {
     for word in words {
@@ -95,14 +107,25 @@ fn push_places(text: &mut String, words: &[Token]) -> Result<(), AllocError> {
     Ok(())
 }
 
+/// Appends the places of the words of lines.
+fn push_places_in(text: &mut String, lines: &[Line]) -> Result<(), AllocError> {
+    for line in lines {
+        push_places(text, words_of(line))?;
+    }
+    Ok(())
+}
+
+/// The places of the words of lines.
+fn places_in(alloc: Global, lines: &[Line]) -> Result<String, CallFault> {
+    let mut text = String::new(alloc);
+    push_places_in(&mut text, lines)?;
+    Ok(text)
+}
+
 /// The places of the words of a file.
 pub(crate) fn spans(alloc: Global, bytes: &[u8]) -> Result<String, CallFault> {
     let doc = Doc::parse(alloc, bytes)?;
-    let mut text = String::new(alloc);
-    for line in doc.lines() {
-        push_places(&mut text, words_of(line))?;
-    }
-    Ok(text)
+    places_in(alloc, doc.lines())
 }
 
 /// The word with a value, or none where the value has a line feed.
@@ -111,8 +134,7 @@ pub(crate) fn spell(alloc: Global, value: &str) -> Result<String, CallFault> {
         return Ok(String::from_str(alloc, "none\n")?);
     }
     let word = Token::spell(alloc, value)?;
-    let spelling = word.spelling();
-    Ok(format!(in alloc; "{spelling}\n")?)
+    line_of(alloc, word.spelling())
 }
 
 /// Appends the directives that have a path and a version after their verb.
@@ -124,11 +146,16 @@ fn push_pairs(text: &mut String, verb: &str, pairs: &[ModVer]) -> Result<(), All
     Ok(())
 }
 
+/// Appends a retraction.
+fn push_retraction(text: &mut String, interval: &Interval) -> Result<(), AllocError> {
+    let (low, high) = (interval.low.as_str(), interval.high.as_str());
+    writeln!(text, "retract [{low}, {high}]")
+}
+
 /// Appends retractions.
 fn push_retractions(text: &mut String, intervals: &[Interval]) -> Result<(), AllocError> {
     for interval in intervals {
-        let (low, high) = (&interval.low, &interval.high);
-        writeln!(text, "retract [{low}, {high}]")?;
+        push_retraction(text, interval)?;
     }
     Ok(())
 }
@@ -183,11 +210,16 @@ fn push_main(text: &mut String, file: &MainFile) -> Result<(), AllocError> {
 }
 
 /// What a main file says.
+fn text_of_main(alloc: Global, file: &MainFile) -> Result<String, CallFault> {
+    let mut text = String::new(alloc);
+    push_main(&mut text, file)?;
+    Ok(text)
+}
+
+/// What a file says as a main file.
 pub(crate) fn strict(alloc: Global, bytes: &[u8]) -> Result<String, CallFault> {
     let file = main_file(alloc, bytes)?;
-    let mut text = String::new(alloc);
-    push_main(&mut text, &file)?;
-    Ok(text)
+    text_of_main(alloc, &file)
 }
 
 /// Appends what a dependency's file says.
@@ -201,12 +233,28 @@ fn push_dependency(text: &mut String, file: &DepFile) -> Result<(), AllocError> 
 }
 
 /// What a dependency's file says.
+fn text_of_dependency(alloc: Global, file: &DepFile) -> Result<String, CallFault> {
+    let mut text = String::new(alloc);
+    push_dependency(&mut text, file)?;
+    Ok(text)
+}
+
+/// A document read as a dependency's file.
+fn dependency(alloc: Global, doc: &Doc) -> Result<DepFile, CallFault> {
+    let mut names = KnownNames::new(alloc, 0);
+    Ok(DepFile::read(alloc, &mut names, doc)?)
+}
+
+/// What a document says as a dependency's file.
+fn lax_text(alloc: Global, doc: &Doc) -> Result<String, CallFault> {
+    let file = dependency(alloc, doc)?;
+    text_of_dependency(alloc, &file)
+}
+
+/// What a file says as a dependency's file.
 pub(crate) fn lax(alloc: Global, bytes: &[u8]) -> Result<String, CallFault> {
     let doc = Doc::parse(alloc, bytes)?;
-    let file = DepFile::read(alloc, &mut KnownNames::new(alloc, 0), &doc)?;
-    let mut text = String::new(alloc);
-    push_dependency(&mut text, &file)?;
-    Ok(text)
+    lax_text(alloc, &doc)
 }
 
 /// Appends a right side, or that there is none.
@@ -218,29 +266,41 @@ fn push_found(text: &mut String, right: Option<&Right>) -> Result<(), AllocError
     text.push('\n')
 }
 
+/// The line with a right side, or that there is none.
+fn line_of_right(alloc: Global, right: Option<&Right>) -> Result<String, CallFault> {
+    let mut text = String::new(alloc);
+    push_found(&mut text, right)?;
+    Ok(text)
+}
+
 /// The replacement of a version in a main file.
 pub(crate) fn replacement(
     alloc: Global,
     bytes: &[u8],
-    path: &str,
-    version: &str,
+    pair: (&str, &str),
 ) -> Result<String, CallFault> {
-    let pair = pair(alloc, path, version)?;
+    let pair = name_calls::pair(alloc, pair)?;
+    replacement_of(alloc, bytes, &pair)
+}
+
+/// The replacement of a pair in a main file.
+fn replacement_of(alloc: Global, bytes: &[u8], pair: &ModVer) -> Result<String, CallFault> {
     let file = main_file(alloc, bytes)?;
-    let mut text = String::new(alloc);
-    push_found(&mut text, file.replacement(&pair))?;
-    Ok(text)
+    line_of_right(alloc, file.replacement(pair))
 }
 
 /// Whether a main file excludes a version.
 pub(crate) fn excluded(
     alloc: Global,
     bytes: &[u8],
-    path: &str,
-    version: &str,
+    pair: (&str, &str),
 ) -> Result<String, CallFault> {
-    let pair = pair(alloc, path, version)?;
+    let pair = name_calls::pair(alloc, pair)?;
+    excludes(alloc, bytes, &pair)
+}
+
+/// Whether a main file excludes a pair.
+fn excludes(alloc: Global, bytes: &[u8], pair: &ModVer) -> Result<String, CallFault> {
     let file = main_file(alloc, bytes)?;
-    let answer = yes_or_no(file.excluded(&pair));
-    Ok(format!(in alloc; "{answer}\n")?)
+    yes_or_no(alloc, file.excluded(pair))
 }

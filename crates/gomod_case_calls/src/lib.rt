@@ -1,0 +1,11 @@
+//! Calls: commands of a case that call a function of a library below the command line, for rules that no command line
+//! shows by itself. docs/CASES.md says what each of them gives.
+#![tactic(auto)]
+
+mod call_faults;
+mod calls;
+mod file_calls;
+mod name_calls;
+mod store_calls;
+
+pub use crate::calls::call;
