@@ -65,7 +65,7 @@ refuse_each() {
   local binary=$1 test=$2 n status bad=0
   for ((n = 1; n <= most; n++)); do
     status=0
-    (cd "$work" && REFUSE_AT=$n LD_PRELOAD=$work/refuse_memory.so timeout 60 "$binary" "$test" >out 2>err) || status=$?
+    (cd "$work" && REFUSE_AT=$n LD_PRELOAD=$work/refuse_memory.so timeout 60 "$binary" "$test" >out 2>err) 2>/dev/null || status=$?
     runs=$((runs + 1))
     if [ "$status" -ne 0 ] && ! says_no_memory "$status"; then
       bad=$((bad + 1))
