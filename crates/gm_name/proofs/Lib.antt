@@ -1,4 +1,3 @@
-pub mod Escapes
 pub mod Majors
 pub mod Marks
 pub mod Numbers

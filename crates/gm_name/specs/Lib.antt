@@ -1,5 +1,4 @@
 pub mod Element
-pub mod Escape
 pub mod Fingerprint
 pub mod Fit
 pub mod Kept

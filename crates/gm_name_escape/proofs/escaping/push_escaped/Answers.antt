@@ -1,7 +1,7 @@
 use Rattle.std.proofs.Common.{List, ℕ, ◌++◌, ◌∙◌, ap, sym}
 use Rattle.std.specs.Prelude.{string_bytes}
-use Rattle.gm_name.proofs.Escapes.{escaped-lower}
-use Rattle.gm_name.proofs.escaping.push_escaped.Goals as goal
+use Rattle.gm_name_escape.proofs.Escapes.{escaped-lower}
+use Rattle.gm_name_escape.proofs.escaping.push_escaped.Goals as goal
 
 pub returns : goal.returns
 returns c =

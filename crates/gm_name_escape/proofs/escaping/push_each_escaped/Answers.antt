@@ -1,8 +1,8 @@
 use Rattle.std.proofs.lemmas.Iterator.{YieldsList-from_chars}
 use Rattle.std.proofs.lemmas.Iterator.Consumers.{YieldsList-end}
 use Rattle.std.specs.Prelude.{string_bytes}
-use Rattle.gm_name.proofs.Escapes.{escaped-more, escaped-whole}
-use Rattle.gm_name.proofs.escaping.push_each_escaped.Goals as goal
+use Rattle.gm_name_escape.proofs.Escapes.{escaped-more, escaped-whole}
+use Rattle.gm_name_escape.proofs.escaping.push_each_escaped.Goals as goal
 
 pub loop-c-preserved : goal.loop-c-preserved
 loop-c-preserved c =
