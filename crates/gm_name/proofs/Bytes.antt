@@ -11,7 +11,7 @@ use Rattle.std.specs.List.{join_with_byte, list_all}
 use Rattle.semver.specs.Grammar.{is_build_identifier, is_identifier_byte, is_pre_identifier, is_pre_release}
 use Rattle.semver.specs.Identifiers.{marked}
 use Rattle.semver.specs.Order.{parts}
-use Rattle.gm_name.specs.Element.{is_element, is_path_byte}
+use Rattle.gm_name.specs.Element.{elements, is_element, is_path_byte}
 use Rattle.gm_name_escape.specs.Escape.{has_no_bang}
 use Rattle.gm_name.specs.Path.{IsPath, is_byte_of_path}
 use Rattle.gm_name.specs.Version.{IsVersion, is_byte_of_version}
@@ -38,6 +38,12 @@ all-join p c (x ∷ y ∷ rest) mark each =
 
 path-byte : (b : ℕ) → is_path_byte b ≡ true → is_byte_of_path b ≡ true
 path-byte b h = rw h refl
+
+-- the bytes of elements and of the slashes between them
+pub elements-bytes : (text : List ℕ) → list_all is_element (elements text) ≡ true → list_all is_byte_of_path text ≡ true
+elements-bytes text all =
+    let each = weaker is_element (λ e. list_all is_byte_of_path e) (λ e h. weaker is_path_byte is_byte_of_path path-byte e (element-bytes e h)) (elements text) all in
+    rw (join_with_byte-slice_split 47 text) at (all-join is_byte_of_path 47 (elements text) refl each)
 
 -- a path has only letters, digits, `-`, `.`, `_`, `~` and `/`
 pub path-bytes : (text : List ℕ) → IsPath text → list_all is_byte_of_path text ≡ true

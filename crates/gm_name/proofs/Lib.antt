@@ -14,3 +14,4 @@ pub mod Readings
 pub mod Refusals
 pub mod BaseVersions
 pub mod PseudoTexts
+pub mod Fronts

@@ -1,0 +1,223 @@
+-- The front of a text: its bytes up to the first that no element can have.
+use Rattle.std.proofs.Common.{◌≡◌, ◌≢◌, ℕ, ◌+◌, ◌-◌, ◌<◌, ◌≤◌, ◌==◌, ◌&&◌, ◌||◌, Bool, not, true, false, List, [], ◌∷◌, length, get_or, take, drop, refl, sym, ap, ◌∙◌, inl, inr, arith, length-drop, length-take-le}
+use Rattle.std.proofs.lemmas.Bool.{and_left, cases_eq, cases_lt, eqb-true, false_from_ne_true, ne_eqb, or_cases, or_parts}
+use Rattle.std.proofs.lemmas.Bool.Decides.{nat_tests}
+use Rattle.std.proofs.lemmas.List.{drop-drop, get_or-drop, get_or-take, take-take, take_all, take_rest}
+use Rattle.std.proofs.lemmas.List.Folds.{length-prefix_len}
+use Rattle.std.proofs.lemmas.List.Splits.{join_with_byte-slice_split, slice_split_first, slice_split_none}
+use Rattle.std.proofs.lemmas.List.Sums.{AllPass-from_list_all, list_all-from_AllPass, passes_at_first, position_or_len_is, prefix_len-le-length, prefix_len_is, prefix_len_passes, prefix_len_stops}
+use Rattle.std.specs.List.{list_all, position_or_len, prefix_len, take_while}
+use Rattle.gm_name.specs.Element.{elements, is_element, is_path_byte, is_stem_byte, stem}
+use Rattle.gm_name.specs.Path.{first_element, is_byte_of_path, is_host_byte}
+use Rattle.gm_name.proofs.Bytes.{elements-bytes}
+
+-- ---- bytes
+
+stem_byte-path : (b : ℕ) → is_stem_byte b ≡ true → is_path_byte b ≡ true
+stem_byte-path b h = grind (arith, nat_tests)
+
+stem_byte-no_dot : (b : ℕ) → is_stem_byte b ≡ true → (b == 46) ≡ false
+stem_byte-no_dot b h = grind (arith, nat_tests)
+
+dot-from : (b : ℕ) → is_path_byte b ≡ true → is_stem_byte b ≡ false → (b == 46) ≡ true
+dot-from b path apart = grind (arith, nat_tests)
+
+path_byte-no_slash : (b : ℕ) → is_path_byte b ≡ true → (b == 47) ≡ false
+path_byte-no_slash b h = grind (arith, nat_tests)
+
+neither : (b : ℕ) → is_path_byte b ≡ false → b ≢ 47 → is_byte_of_path b ≡ false
+neither b bad other = grind (arith, nat_tests)
+
+and-true : (b : Bool) → (b && true) ≡ b
+and-true true = refl
+and-true false = refl
+
+true_ne_false : true ≢ false
+true_ne_false e = cc e
+
+-- ---- the parts of the front
+
+-- the bytes of a front pass its test
+pub while-passes : (p : ℕ → Bool) (text : List ℕ) → list_all p (take_while p text) ≡ true
+while-passes p text = list_all-from_AllPass p (take_while p text) (λ k d lt.
+    let len = length-prefix_len p text in
+    let within : k < prefix_len p text = omega arith in
+    rw (get_or-take (prefix_len p text) text k d within) (prefix_len_passes p text k d within))
+
+-- the bytes before its first dot are among its bytes
+pub stem-within : (text : List ℕ) → prefix_len is_stem_byte text ≤ prefix_len is_path_byte text
+stem-within text = elim (cases_lt (prefix_len is_path_byte text) (prefix_len is_stem_byte text)) [
+  | inl beyond ↦
+      let bound = prefix_len-le-length is_stem_byte text in
+      let stops = prefix_len_stops is_path_byte text 0 (omega arith) in
+      let passes = stem_byte-path (get_or text (prefix_len is_path_byte text) 0) (prefix_len_passes is_stem_byte text (prefix_len is_path_byte text) 0 beyond) in
+      absurd (true_ne_false (sym passes ∙ stops))
+  | inr within ↦ within
+]
+
+-- its bytes are counted from the first dot on
+pub front-len : (text : List ℕ) → prefix_len is_stem_byte text + prefix_len is_path_byte (drop (prefix_len is_stem_byte text) text) ≡ prefix_len is_path_byte text
+front-len text =
+    let m = prefix_len is_stem_byte text in
+    let after = drop m text in
+    let j = prefix_len is_path_byte after in
+    let size = length-drop m text in
+    let bound = prefix_len-le-length is_stem_byte text in
+    let rest = prefix_len-le-length is_path_byte after in
+    sym (prefix_len_is is_path_byte text (m + j) 0 (omega arith)
+    (λ k lt. elim (cases_lt k m) [
+      | inl inside ↦ stem_byte-path (get_or text k 0) (prefix_len_passes is_stem_byte text k 0 inside)
+      | inr beyond ↦
+          let e : m + (k - m) ≡ k = omega arith in
+          let passes = prefix_len_passes is_path_byte after (k - m) 0 (omega arith) in
+          rw (get_or-drop m text (k - m) 0, e) at passes
+    ])
+    (λ lt.
+    let stops = prefix_len_stops is_path_byte after 0 (omega arith) in
+    rw (get_or-drop m text j 0) at stops))
+
+-- its stem ends at its first dot
+pub front-stem : (text : List ℕ) → take (prefix_len is_stem_byte text) text ≡ stem (take_while is_path_byte text)
+unfolding stem
+front-stem text =
+    let m = prefix_len is_stem_byte text in
+    let n = prefix_len is_path_byte text in
+    let within = stem-within text in
+    let len = length-prefix_len is_path_byte text in
+    let first : position_or_len (λ b. b == 46) (take n text) ≡ m =
+    position_or_len_is (λ b. b == 46) (take n text) m 0 (omega arith)
+    (λ k lt.
+    let inside : k < n = omega arith in
+    rw (get_or-take n text k 0 inside) (stem_byte-no_dot _ (prefix_len_passes is_stem_byte text k 0 lt)))
+    (λ lt.
+    let inside : m < n = omega arith in
+    let bound = prefix_len-le-length is_path_byte text in
+    rw (get_or-take n text m 0 inside) (dot-from _ (prefix_len_passes is_path_byte text m 0 inside) (prefix_len_stops is_stem_byte text 0 (omega arith)))) in
+    rw first (sym (take-take m n text within))
+
+-- ---- the elements of a text, by its front
+
+-- the front is the whole text
+pub at-end : (text : List ℕ) → length text ≤ prefix_len is_path_byte text → list_all is_element (elements text) ≡ is_element (take_while is_path_byte text)
+at-end text end =
+    let whole = take_all (prefix_len is_path_byte text) text end in
+    let one = slice_split_none (λ b. b == 47) text (λ k d lt. path_byte-no_slash _ (prefix_len_passes is_path_byte text k d (omega arith))) in
+    rw (one, whole) (and-true (is_element text))
+
+-- a slash follows the front
+pub at-slash : (text : List ℕ) → prefix_len is_path_byte text < length text → get_or text (prefix_len is_path_byte text) 0 ≡ 47
+    → list_all is_element (elements text) ≡ (is_element (take_while is_path_byte text) && list_all is_element (elements (drop (prefix_len is_path_byte text + 1) text)))
+at-slash text inside slash =
+    let n = prefix_len is_path_byte text in
+    let first : position_or_len (λ b. b == 47) text ≡ n =
+    position_or_len_is (λ b. b == 47) text n 0 (omega arith) (λ k lt. path_byte-no_slash _ (prefix_len_passes is_path_byte text k 0 lt)) (λ lt. rw slash refl) in
+    let cut = slice_split_first (λ b. b == 47) text 0 (rw first inside) in
+    ap (λ (pieces : List (List ℕ)). list_all is_element pieces) (rw first at cut)
+
+-- another byte follows it
+pub at-other : (text : List ℕ) → prefix_len is_path_byte text < length text → get_or text (prefix_len is_path_byte text) 0 ≢ 47
+    → list_all is_element (elements text) ≡ false
+at-other text inside other = false_from_ne_true (list_all is_element (elements text)) (λ all.
+    let byte = AllPass-from_list_all is_byte_of_path text (elements-bytes text all) (prefix_len is_path_byte text) 0 inside in
+    let bad = neither _ (prefix_len_stops is_path_byte text 0 inside) other in
+    absurd (true_ne_false (sym byte ∙ bad)))
+
+-- the front is no element
+pub no-element : (text : List ℕ) → is_element (take_while is_path_byte text) ≡ false → list_all is_element (elements text) ≡ false
+no-element text bad = elim (cases_lt (prefix_len is_path_byte text) (length text)) [
+  | inl inside ↦ elim (cases_eq (get_or text (prefix_len is_path_byte text) 0) 47) [
+    | inl slash ↦ at-slash text inside slash ∙ and_left _ _ bad
+    | inr other ↦ at-other text inside other
+  ]
+  | inr end ↦ at-end text end ∙ bad
+]
+
+-- ---- the host name at the front of a path
+
+host_byte-no_slash : (b : ℕ) → is_host_byte b ≡ true → (b == 47) ≡ false
+host_byte-no_slash b h = grind (arith, nat_tests)
+
+-- up to a slash or the end
+pub host-ends : (text : List ℕ) → (prefix_len is_host_byte text < length text → get_or text (prefix_len is_host_byte text) 0 ≡ 47)
+    → (first_element text ≡ take_while is_host_byte text) × (list_all is_host_byte (take_while is_host_byte text) ≡ true)
+host-ends text next =
+    let n = prefix_len is_host_byte text in
+    let first : position_or_len (λ b. b == 47) text ≡ n =
+    position_or_len_is (λ b. b == 47) text n 0 (prefix_len-le-length is_host_byte text) (λ k lt. host_byte-no_slash _ (prefix_len_passes is_host_byte text k 0 lt)) (λ lt. rw (next lt) refl) in
+    (ap (λ (k : ℕ). take k text) first, while-passes is_host_byte text)
+
+-- another byte follows it
+pub host-broken : (text : List ℕ) → prefix_len is_host_byte text < length text → get_or text (prefix_len is_host_byte text) 0 ≢ 47
+    → list_all is_host_byte (first_element text) ≡ false
+host-broken text inside other = false_from_ne_true (list_all is_host_byte (first_element text)) (λ all.
+    let n = prefix_len is_host_byte text in
+    let slash = position_or_len (λ b. b == 47) text in
+    let stops = prefix_len_stops is_host_byte text 0 inside in
+    let bound = prefix_len-le-length (λ b. not (b == 47)) text in
+    let len : length (take slash text) ≡ slash = length-take-le slash text bound in
+    elim (cases_lt n slash) [
+      | inl before ↦
+          let passes = AllPass-from_list_all is_host_byte (take slash text) all n 0 (omega arith) in
+          absurd (true_ne_false (sym (rw (get_or-take slash text n 0 before) at passes) ∙ stops))
+      | inr after ↦ elim (cases_eq slash n) [
+        | inl same ↦
+            let found = passes_at_first (λ b. b == 47) text 0 (omega arith) in
+            other (eqb-true _ _ (rw same at found))
+        | inr apart ↦
+            let passes = prefix_len_passes is_host_byte text slash 0 (omega arith) in
+            let found = passes_at_first (λ b. b == 47) text 0 (omega arith) in
+            let apart = host_byte-no_slash (get_or text slash 0) passes in
+            absurd (true_ne_false (sym found ∙ apart))
+      ]
+    ])
+
+-- ---- the text after a front
+
+-- its first byte
+pub rest-first : (text rest : List ℕ) (n : ℕ) → rest ≡ drop n text → (length rest == 0) ≡ false
+    → (n < length text) × (get_or rest 0 0 ≡ get_or text n 0)
+rest-first text rest n e some =
+    let filled : 0 < length rest = grind (arith, nat_tests) in
+    let size = length-drop n text in
+    let same : length rest ≡ length (drop n text) = ap length e in
+    let end : n + 0 ≡ n = omega arith in
+    (omega arith, rw e (rw end at (get_or-drop n text 0 0)))
+
+-- there is none
+pub rest-none : (text rest : List ℕ) (n : ℕ) → rest ≡ drop n text → (length rest == 0) ≡ true → length text ≤ n
+rest-none text rest n e none =
+    let empty : length rest ≡ 0 = eqb-true _ _ none in
+    let size = length-drop n text in
+    let same : length rest ≡ length (drop n text) = ap length e in
+    omega arith
+
+-- the text after its first byte
+pub rest-after : (text rest : List ℕ) (n : ℕ) → rest ≡ drop n text → take (length rest - 1) (drop 1 rest) ≡ drop (n + 1) text
+rest-after text rest n e = take_rest rest 1 ∙ ap (λ (xs : List ℕ). drop 1 xs) e ∙ drop-drop 1 n text
+
+-- ---- the host name, by the text after it
+
+-- the first element is the front
+pub host-all : (text rest : List ℕ) → rest ≡ drop (prefix_len is_host_byte text) text → ((length rest == 0) || (get_or rest 0 0 == 47)) ≡ true
+    → (first_element text ≡ take_while is_host_byte text) × (list_all is_host_byte (first_element text) ≡ true)
+host-all text rest e end =
+    let cut = host-ends text (λ inside.
+    let size = length-drop (prefix_len is_host_byte text) text in
+    let same : length rest ≡ length (drop (prefix_len is_host_byte text) text) = ap length e in
+    let some : (length rest == 0) ≡ false = ne_eqb _ _ (λ none. absurd (omega arith)) in
+    let first = rest-first text rest (prefix_len is_host_byte text) e some in
+    elim (or_cases _ _ end) [
+      | inl none ↦ absurd (true_ne_false (sym none ∙ some))
+      | inr slash ↦ sym first.1 ∙ eqb-true _ _ slash
+    ]) in
+    (cut.0, rw cut.0 cut.1)
+
+-- it is longer
+pub host-some : (text rest : List ℕ) → rest ≡ drop (prefix_len is_host_byte text) text → ((length rest == 0) || (get_or rest 0 0 == 47)) ≡ false
+    → list_all is_host_byte (first_element text) ≡ false
+host-some text rest e goes =
+    let parts = or_parts _ _ goes in
+    let first = rest-first text rest (prefix_len is_host_byte text) e parts.0 in
+    host-broken text first.0 (λ slash.
+    let at : (get_or rest 0 0 == 47) ≡ true = rw (first.1 ∙ slash) refl in
+    true_ne_false (sym at ∙ parts.1))
