@@ -8,7 +8,7 @@ ghost use Rattle.gm_store.specs.Steps.{result_of, step_of};
 use crate::proxy_list::Mark;
 
 /// The result of a lookup in one folder.
-#[derive(Debug, Drop)]
+#[derive(Debug, Drop, PartialEq, Eq)]
 pub enum Looked {
     /// The file's bytes, at most `LIMIT`.
     Found(Vec<u8>),

@@ -13,7 +13,7 @@ use thiserror::Error;
 
 /// The name of a file that is requested from a store. Names are equal if they are of the same kind, with equal texts
 /// (the law `names_are_equal_by_text`). The maps of memory stores use the derived order.
-#[derive(Debug, Drop, PartialEq, Eq, PartialOrd, Ord)]
+#[derive(Debug, Drop, PartialEq, Eq, PartialOrd, Ord, Hash)]
 pub enum FileName {
     /// The `.mod` file of a module at a version.
     Mod(ModPath, ModVersion),

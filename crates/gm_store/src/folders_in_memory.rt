@@ -14,7 +14,7 @@ use crate::proxy_list::Mark;
 use gm_name::NoMemory;
 
 /// Folders in memory: the proxy folders, and the folder beside the main file.
-#[derive(Debug, Drop)]
+#[derive(Debug, Drop, PartialEq, Eq)]
 pub struct FoldersInMemory {
     /// The proxy folders, in order. They hold the files of modules.
     pub proxies: Vec<MemoryFolder>,

@@ -40,7 +40,7 @@ impl From<AllocError> for ProxyFault {
 }
 
 /// One or more proxy folders, with a mark between each two.
-#[derive(Debug, Drop)]
+#[derive(Debug, Drop, PartialEq, Eq)]
 pub struct ProxyList {
     /// The folders, in order; at least one.
     pub(crate) folders: Vec<String>,
