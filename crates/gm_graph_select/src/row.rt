@@ -14,7 +14,7 @@ use std::marker::Model;
 use thiserror::Error;
 
 /// A row of the build list: the main module or the selected version of a path, with its replacement.
-#[derive(Drop)]
+#[derive(Debug, Drop, PartialEq, Eq)]
 pub struct Row {
     /// The main module, or a path at its selected version.
     pub step: Step,
