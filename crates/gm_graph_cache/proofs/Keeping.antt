@@ -1,5 +1,6 @@
 -- What stays when more is asked for, and when a cache returns requirements.
-use Rattle.std.proofs.Common.{◌≡◌, ◌∙◌, Bool, true, false, cond, List, [], ◌∷◌, ◌++◌, Option, Some, None, Result, sym, ap, subst, refl}
+use Rattle.std.proofs.Common.{◌≡◌, ◌∙◌, Bool, true, false, cond, List, [], ◌∷◌, ◌++◌, Option, Some, None, Result, Ok, Err, append-nil, sym, ap, subst, refl}
+use Rattle.std.specs.Prelude.{IsErrAnd, OnErr}
 use Rattle.std.specs.Option.{option_map}
 use Rattle.std.specs.Map.{lookup}
 use Rattle.gm_file.specs.Fields.{Dependency}
@@ -13,7 +14,10 @@ use Rattle.gm_graph_cache.specs.Main.{Main, ModuleVersion, main_of, replacement_
 use Rattle.gm_graph_cache.specs.Marks.{is_key_of}
 use Rattle.gm_graph_cache.specs.Reading.{Held, IsTold, Keeps, KeepsHeld, Tells, file_of, is_askable, reading_if, readings_by, with_right_path}
 use Rattle.gm_graph_cache.specs.Summaries.{IsKept, summary_reading}
-use Rattle.gm_graph_cache.specs.Cached.{HoldsSame, Knows, held_of, main_in, sums_in}
+use Rattle.gm_graph_cache.specs.Cached.{HoldsSame, IsUnchanged, Knows, LentSame, held_of, main_in, sums_in}
+use Rattle.gm_graph_cache.specs.Refusals.{refused_in, refused_names}
+use Rattle.gm_graph_cache.specs.declared.load_fault.LoadFault.{LoadFault}
+use Rattle.gm_graph_cache.specs.declared.load_fault.LoadFault.TheVariants as load
 use Rattle.gm_graph_cache.proofs.OneReading.{one_reading}
 
 -- ---- readings are unique
@@ -106,3 +110,29 @@ knows_still old new pairs same knows = record {
   lends = λ name one e. subst (λ (m : Main). IsKept m one) (sym (main_same old new same))
       (knows.lends name one (ap (λ (es : List (NameKey × Kept)). lookup (is_key_of name) es) (sym same.entries) ∙ e));
 }
+
+pub holds_after : (old mid new : Cache) → HoldsSame old mid → HoldsSame mid new → HoldsSame old new
+holds_after old mid new one two = record { main = two.main ∙ one.main; sums = two.sums ∙ one.sums; entries = two.entries ∙ one.entries }
+
+pub keeps_same : (old new : Cache) → HoldsSame old new → KeepsHeld (held_of old) (held_of new)
+keeps_same old new same name reading e = ap (λ (held : Held). held name) (held_same old new same) ∙ e
+
+pub lent_same : (old new : Cache) → IsUnchanged old new → LentSame old new
+lent_same old new same = record { main = same.holds.main; sums = same.holds.sums; turns = same.turns }
+
+pub lent_after : (old mid new : Cache) → IsUnchanged old mid → LentSame mid new → LentSame old new
+lent_after old mid new same lent = record { main = lent.main ∙ same.holds.main; sums = lent.sums ∙ same.holds.sums; turns = lent.turns ∙ same.turns }
+
+-- ---- refusals
+
+pub any_err : {T E P : Type 0} (result : Result T E) → P → OnErr result P
+any_err (Ok value) p = tt
+any_err (Err fault) p = p
+
+names_none : (fault : LoadFault) → fault ≡ load.NoMemory → refused_names fault ≡ []
+names_none fault is = ap refused_names is
+
+-- Where memory runs out, no name is refused.
+pub none_refused : {T : Type 0} (result : Result T LoadFault) (old new : List Name) → IsErrAnd result (λ fault. fault ≡ load.NoMemory) → new ≡ old → new ≡ old ++ refused_in result
+none_refused (Ok value) old new given same = absurd given
+none_refused (Err fault) old new given same = same ∙ sym (append-nil old) ∙ ap (λ (names : List Name). old ++ names) (sym (names_none fault given))

@@ -9,12 +9,12 @@ use Rattle.gm_graph_cache.specs.declared.class.Class.{Class}
 use Rattle.gm_graph_cache.specs.declared.summary.Kept.{Kept}
 use Rattle.gm_graph_cache.specs.declared.cache.Cache.{Cache}
 use Rattle.gm_graph_cache.specs.Main.{Main, main_of}
-use Rattle.gm_graph_cache.specs.Reading.{Held, IsFileReading, IsTold, Tells}
+use Rattle.gm_graph_cache.specs.Reading.{Held, IsFileReading, IsTold, KeepsHeld, Tells}
 use Rattle.std.specs.Map.{lookup}
 use Rattle.gm_graph_cache.specs.declared.name_key.NameKey.{NameKey}
 use Rattle.gm_graph_cache.specs.Entries.{AddsSummary}
 use Rattle.gm_graph_cache.specs.Marks.{is_key_of}
-use Rattle.gm_graph_cache.proofs.Keeping.{knows_still, main_same}
+use Rattle.gm_graph_cache.proofs.Keeping.{held_same, knows_still, main_same}
 use Rattle.gm_graph_cache.specs.Summaries.{IsKept, summary_reading}
 use Rattle.gm_graph_cache.specs.Cached.{HoldsSame, Knows, LentSame, held_of, main_in, summary_at, sums_in}
 
@@ -112,3 +112,15 @@ last_answered all pairs name reply found count e c at =
     let place : count - 1 ≡ length pairs = omega (arith, ap length e, length-append pairs ((name, reply) ∷ [])) in
     let here : Some found ≡ Some reply = sym at ∙ ap (λ (i : ℕ). slice_get (replies_in all) i) place ∙ ap (λ (ps : List (Name × Reply)). slice_get (replies_in ps) (length pairs)) e ∙ last_reply pairs (name, reply) in
     cc
+
+stays : {R : Type 0} (b : Bool) (v r : R) (old new : Option R) → new ≡ cond b (Some v) old → (b ≡ true → old ≡ None) → old ≡ Some r → new ≡ Some r
+stays true v r old new is none e = let never = sym (none refl) ∙ e in absurd (cc never)
+stays false v r old new is none e = is ∙ e
+
+-- What is held stays when what was read of one more file is added.
+pub keeps_read : (old mid new : Cache) (name : Name) (one : Kept) → HoldsSame old mid → summary_at old name ≡ None → AddsSummary mid.summaries new.summaries name one
+    → KeepsHeld (held_of old) (held_of new)
+keeps_read old mid new name one same none adds other reading e =
+    stays (same_name other name) (summary_reading one) reading (held_of old other) (held_of new other)
+    (held_with mid new name one adds other ∙ ap (λ (held : Held). cond (same_name other name) (Some (summary_reading one)) (held other)) (held_same old mid same))
+    (λ is. ap (held_of old) (names_equal other name is) ∙ said_none (summary_at old name) none) e

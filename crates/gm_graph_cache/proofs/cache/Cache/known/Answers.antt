@@ -1,4 +1,4 @@
-use Rattle.std.proofs.Common.{◌≡◌, ◌∙◌, sym, ap, subst, rules, Err, Bor, Option}
+use Rattle.std.proofs.Common.{◌≡◌, ◌∙◌, sym, ap, append-nil, refl, subst, Err, Bor, Option}
 use Rattle.std.specs.Option.{option_copied, option_map}
 use Rattle.gm_store.specs.Asked.{name_of}
 use Rattle.gm_store.specs.declared.files.FileName.{FileName}
@@ -6,10 +6,11 @@ use Rattle.gm_graph_cache.specs.declared.summary.Kept.{Kept}
 use Rattle.gm_graph_cache.specs.Asking.{StillLacks}
 use Rattle.gm_graph_cache.specs.Cached.{main_in}
 use Rattle.gm_graph_cache.specs.Entries.{found_in}
-use Rattle.gm_graph_cache.specs.Reading.{Held}
+use Rattle.gm_graph_cache.specs.Reading.{Held, is_askable}
 use Rattle.gm_graph_cache.specs.Summaries.{summary_reading}
 use Rattle.gm_graph_cache.proofs.Growing.{asks_file}
-use Rattle.gm_graph_cache.proofs.Telling.{knows_read, not_asked}
+use Rattle.gm_graph_cache.proofs.Keeping.{any_err, holds_after, keeps_same, lent_after, lent_same, none_refused}
+use Rattle.gm_graph_cache.proofs.Telling.{keeps_read, knows_read, not_asked}
 use Rattle.gm_graph_cache.proofs.cache.Cache.known.Goals as goal
 
 pub returns-in-Some-clause-finding : goal.returns-in-Some-clause-finding
@@ -31,26 +32,106 @@ returns-in-Err-Device-clause-device g c = λ name e.
     subst (λ (n : FileName). StillLacks (main_in c.args.self.now) (g.F.Files.state c.args.files.now) (g.F.Files.state c.read_file.new.files) c.args.x.now (name_of n)) same (
       (c.in-Err-Device.ensures.device (ap Err c.in-Err-Device.field-0-is)).0,
       c.mark-key.ensures.name ∙ c.in_ok-name.ensures,
-      search rules,
+      ap is_askable c.mark-key.ensures.name ∙ sym c.is_askable.ensures ∙ c.if-not-is_askable.false,
       not_asked c.args.self.now (g.F.Files.state c.args.files.now).asked (name_of c.mark-key.result.name) c.requires none,
     )
 
 pub returns-in-Err-Device-clause-asks : goal.returns-in-Err-Device-clause-asks
 returns-in-Err-Device-clause-asks g c =
     asks_file (main_in c.args.self.now) (g.F.Files.state c.args.files.now) (g.F.Files.state c.read_file.new.files) c.args.x.now (name_of c.mark-key.result.name)
-    (c.mark-key.ensures.name ∙ c.in_ok-name.ensures) (search rules) c.read_file.ensures.asks
+    (c.mark-key.ensures.name ∙ c.in_ok-name.ensures) (ap is_askable c.mark-key.ensures.name ∙ sym c.is_askable.ensures ∙ c.if-not-is_askable.false) c.read_file.ensures.asks
 
 pub returns-in-Err-NoMemory-clause-asks : goal.returns-in-Err-NoMemory-clause-asks
 returns-in-Err-NoMemory-clause-asks g c =
     asks_file (main_in c.args.self.now) (g.F.Files.state c.args.files.now) (g.F.Files.state c.read_file.new.files) c.args.x.now (name_of c.mark-key.result.name)
-    (c.mark-key.ensures.name ∙ c.in_ok-name.ensures) (search rules) c.read_file.ensures.asks
+    (c.mark-key.ensures.name ∙ c.in_ok-name.ensures) (ap is_askable c.mark-key.ensures.name ∙ sym c.is_askable.ensures ∙ c.if-not-is_askable.false) c.read_file.ensures.asks
 
 pub returns-in_ok-keep-in-Ok-clause-asks : goal.returns-in_ok-keep-in-Ok-clause-asks
 returns-in_ok-keep-in-Ok-clause-asks g c =
     asks_file (main_in c.args.self.now) (g.F.Files.state c.args.files.now) (g.F.Files.state c.read_file.new.files) c.args.x.now (name_of c.mark-key.result.name)
-    (c.mark-key.ensures.name ∙ c.in_ok-name.ensures) (search rules) c.read_file.ensures.asks
+    (c.mark-key.ensures.name ∙ c.in_ok-name.ensures) (ap is_askable c.mark-key.ensures.name ∙ sym c.is_askable.ensures ∙ c.if-not-is_askable.false) c.read_file.ensures.asks
 
 pub returns-in_err-keep-in-Ok-clause-asks : goal.returns-in_err-keep-in-Ok-clause-asks
 returns-in_err-keep-in-Ok-clause-asks g c =
     asks_file (main_in c.args.self.now) (g.F.Files.state c.args.files.now) (g.F.Files.state c.read_file.new.files) c.args.x.now (name_of c.mark-key.result.name)
-    (c.mark-key.ensures.name ∙ c.in_ok-name.ensures) (search rules) c.read_file.ensures.asks
+    (c.mark-key.ensures.name ∙ c.in_ok-name.ensures) (ap is_askable c.mark-key.ensures.name ∙ sym c.is_askable.ensures ∙ c.if-not-is_askable.false) c.read_file.ensures.asks
+
+-- ---- memory ran out before anything was asked for
+
+pub returns-in_err-name-clause-err : goal.returns-in_err-name-clause-err
+returns-in_err-name-clause-err g c = any_err c.from_residual.result (record { main = refl; sums = refl; entries = refl })
+
+pub returns-in_err-name-clause-not_too_many : goal.returns-in_err-name-clause-not_too_many
+returns-in_err-name-clause-not_too_many g c = λ e. cc (rw e at c.from_residual.ensures.1)
+
+pub returns-in_err-name-clause-device : goal.returns-in_err-name-clause-device
+returns-in_err-name-clause-device g c = λ name e. absurd (cc (rw e at c.from_residual.ensures.1))
+
+pub returns-in_err-name-clause-cause : goal.returns-in_err-name-clause-cause
+returns-in_err-name-clause-cause g c = λ name e. absurd (cc (rw e at c.from_residual.ensures.1))
+
+pub returns-in_err-name-clause-refused : goal.returns-in_err-name-clause-refused
+returns-in_err-name-clause-refused g c = none_refused c.from_residual.result (g.F.Files.state c.args.files.now).refused _ c.from_residual.ensures.1 refl
+
+-- ---- what was read is kept
+
+pub returns-in_ok-keep-in-Ok-clause-lent : goal.returns-in_ok-keep-in-Ok-clause-lent
+returns-in_ok-keep-in-Ok-clause-lent g c = lent_after c.args.self.now c.read_file.new.self c.keep.new.self c.read_file.ensures.unchanged c.keep.ensures.lent
+
+pub returns-in_ok-keep-in-Ok-clause-grows : goal.returns-in_ok-keep-in-Ok-clause-grows
+returns-in_ok-keep-in-Ok-clause-grows g c =
+    keeps_read c.args.self.now c.read_file.new.self c.keep.new.self (name_of c.mark-key.result.name) c.in-Ok.kept c.read_file.ensures.unchanged.holds
+    (sym c.find.ensures ∙ ap (λ (o : Option (Bor Kept)). option_copied o) c.in_default.is) c.in_ok-keep-in-Ok.ensures.adds
+
+pub returns-in_ok-keep-in-Ok-clause-refused : goal.returns-in_ok-keep-in-Ok-clause-refused
+returns-in_ok-keep-in-Ok-clause-refused g c = c.in-Ok.ensures.not_refused (λ e. cc e) ∙ sym (append-nil _)
+
+-- ---- memory ran out when it was to be kept
+
+pub returns-in_err-keep-in-Ok-clause-lent : goal.returns-in_err-keep-in-Ok-clause-lent
+returns-in_err-keep-in-Ok-clause-lent g c = lent_after c.args.self.now c.read_file.new.self c.keep.new.self c.read_file.ensures.unchanged c.keep.ensures.lent
+
+pub returns-in_err-keep-in-Ok-clause-grows : goal.returns-in_err-keep-in-Ok-clause-grows
+returns-in_err-keep-in-Ok-clause-grows g c =
+    keeps_same c.args.self.now c.keep.new.self (holds_after c.args.self.now c.read_file.new.self c.keep.new.self c.read_file.ensures.unchanged.holds c.in_err-keep-in-Ok.ensures.err)
+
+pub returns-in_err-keep-in-Ok-clause-err : goal.returns-in_err-keep-in-Ok-clause-err
+returns-in_err-keep-in-Ok-clause-err g c =
+    any_err c.from_residual-in_err-keep-in-Ok.result (holds_after c.args.self.now c.read_file.new.self c.keep.new.self c.read_file.ensures.unchanged.holds c.in_err-keep-in-Ok.ensures.err)
+
+pub returns-in_err-keep-in-Ok-clause-not_too_many : goal.returns-in_err-keep-in-Ok-clause-not_too_many
+returns-in_err-keep-in-Ok-clause-not_too_many g c = λ e. cc (rw e at c.from_residual-in_err-keep-in-Ok.ensures.1)
+
+pub returns-in_err-keep-in-Ok-clause-device : goal.returns-in_err-keep-in-Ok-clause-device
+returns-in_err-keep-in-Ok-clause-device g c = λ name e. absurd (cc (rw e at c.from_residual-in_err-keep-in-Ok.ensures.1))
+
+pub returns-in_err-keep-in-Ok-clause-cause : goal.returns-in_err-keep-in-Ok-clause-cause
+returns-in_err-keep-in-Ok-clause-cause g c = λ name e. absurd (cc (rw e at c.from_residual-in_err-keep-in-Ok.ensures.1))
+
+pub returns-in_err-keep-in-Ok-clause-refused : goal.returns-in_err-keep-in-Ok-clause-refused
+returns-in_err-keep-in-Ok-clause-refused g c =
+    none_refused c.from_residual-in_err-keep-in-Ok.result (g.F.Files.state c.args.files.now).refused _ c.from_residual-in_err-keep-in-Ok.ensures.1 (c.in-Ok.ensures.not_refused (λ e. cc e))
+
+-- ---- memory ran out when the file was asked for, or the device failed
+
+pub returns-in-Err-NoMemory-clause-lent : goal.returns-in-Err-NoMemory-clause-lent
+returns-in-Err-NoMemory-clause-lent g c = lent_same c.args.self.now c.read_file.new.self c.read_file.ensures.unchanged
+
+pub returns-in-Err-NoMemory-clause-grows : goal.returns-in-Err-NoMemory-clause-grows
+returns-in-Err-NoMemory-clause-grows g c = keeps_same c.args.self.now c.read_file.new.self c.read_file.ensures.unchanged.holds
+
+pub returns-in-Err-NoMemory-clause-refused : goal.returns-in-Err-NoMemory-clause-refused
+returns-in-Err-NoMemory-clause-refused g c =
+    c.in-Err-NoMemory.ensures.not_refused (λ e. let never = sym (ap Err c.in-Err-NoMemory.field-0-is) ∙ e in cc never) ∙ sym (append-nil _)
+
+pub returns-in-Err-Device-clause-lent : goal.returns-in-Err-Device-clause-lent
+returns-in-Err-Device-clause-lent g c = lent_same c.args.self.now c.read_file.new.self c.read_file.ensures.unchanged
+
+pub returns-in-Err-Device-clause-grows : goal.returns-in-Err-Device-clause-grows
+returns-in-Err-Device-clause-grows g c = keeps_same c.args.self.now c.read_file.new.self c.read_file.ensures.unchanged.holds
+
+pub returns-in-Err-Device-clause-refused : goal.returns-in-Err-Device-clause-refused
+returns-in-Err-Device-clause-refused g c = (c.in-Err-Device.ensures.device (ap Err c.in-Err-Device.field-0-is)).1
+
+pub returns-in-Err-Device-clause-cause : goal.returns-in-Err-Device-clause-cause
+returns-in-Err-Device-clause-cause g c = λ name e. c.in-Err-Device.ensures.cause (ap Err c.in-Err-Device.field-0-is)
