@@ -3,6 +3,7 @@ pub mod Fingerprint
 pub mod Fit
 pub mod Kept
 pub mod Laws
+pub mod NameText
 pub mod Names
 pub mod Number
 pub mod PairFaults

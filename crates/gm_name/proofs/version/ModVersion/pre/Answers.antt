@@ -1,11 +1,11 @@
-use Rattle.std.specs.Prelude.{string_bytes}
+use Rattle.gm_name.specs.NameText.{text_bytes}
 use Rattle.semver.specs.Identifiers.{parts_of}
 use Rattle.gm_name.proofs.Versions.{parts-read, version-parts}
 use Rattle.gm_name.proofs.version.ModVersion.pre.Goals as goal
 
 pub returns-clause-valid : goal.returns-clause-valid
 returns-clause-valid c =
-    let text = string_bytes c.self.inside.shared.value.text in
+    let text = text_bytes c.self.inside.shared.value.text in
     let valid = (version-parts text c.self.invariant.0).0 in
     let same = parts-read text (parts_of c.self.inside.shared.value.read) c.self.invariant.1 in
     rw (c.as_str.ensures, c.deref.ensures) (rw same at valid.3)
