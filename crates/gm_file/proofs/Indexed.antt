@@ -1,6 +1,6 @@
 -- The index of right sides after one more line.
-use Rattle.std.proofs.Common.{◌≡◌, ℕ, ◌&&◌, ◌||◌, not, Bool, true, false, cond, List, [], ◌∷◌, ◌++◌, Option, Some, None, Ok, refl, sym, ap, subst, ◌∙◌, inl, inr}
-use Rattle.std.specs.Prelude.{find, if◌then◌else◌}
+use Rattle.std.proofs.Common.{◌≡◌, ℕ, ◌&&◌, ◌||◌, not, Bool, true, false, cond, List, [], ◌∷◌, ◌++◌, Option, Some, None, Result, Ok, Err, refl, sym, ap, subst, ◌∙◌, inl, inr}
+use Rattle.std.specs.Prelude.{find, if◌then◌else◌, IfErr, OnOk}
 use Rattle.std.specs.Option.{option_map, option_or}
 use Rattle.std.proofs.lemmas.Bool.{cases_Bool}
 use Rattle.std.proofs.lemmas.List.Folds.{find-append, list_any-append}
@@ -14,13 +14,15 @@ use Rattle.std.specs.Str.{bytes_eq}
 use Rattle.std.specs.declared.cmp.Ordering.{Ordering}
 use Rattle.std.proofs.lemmas.Map.Text.{is_eq-slice_cmp}
 use Rattle.std.specs.Cmp.Lexicographic.{slice_cmp}
+use Rattle.gm_file.specs.declared.fault.LineFault.{LineFault}
+use Rattle.gm_file.specs.declared.fault.LineFault.TheVariants as fault
 use Rattle.gm_file.specs.declared.replace.Replace.{Replace}
 use Rattle.gm_file.proofs.Sets.{pair-ties}
 use Rattle.gm_file.specs.declared.replace.Right as declared
 use Rattle.gm_file.specs.Directives.{Pair, pair, Left, Right, Folder, Module, Replacing, replacing, left_with, left_without}
 use Rattle.gm_file.specs.Faults.{is_conflict, is_same_left, is_same_right, is_same_version}
 use Rattle.gm_file.specs.Fields.{right_for}
-use Rattle.gm_file.specs.Indexes.{IndexLines, IsNoted, differs, pair_cmp, right_at}
+use Rattle.gm_file.specs.Indexes.{IndexLines, IsInserted, IsNoted, ReportsConflict, differs, pair_cmp, right_at}
 use Rattle.gm_file.specs.Views.{replace_view, replace_views, right_view}
 
 and_both : (a b : Bool) → (a && b) ≡ true → (a ≡ true) × (b ≡ true)
@@ -133,12 +135,25 @@ module _ {K : Type 0} (cmp : K → K → Ordering) (left : K → Left) (ties : (
   -- the index after one more line
   pub noted : IsNoted cmp old new key right (Ok tt) → (q : K) → right_at cmp new q ≡ right_for (rs ++ line ∷ []) (left q)
   noted (inl n) q = kept n.0 n.1 n.3 q
-  noted (inr n) q = put n.0 n.1 n.2 n.3 q
+  noted (inr (none, n)) q = put n.0 n.1 none n.2 q
 
   -- the line's right side does not differ from an earlier one
   pub noted-agrees : IsNoted cmp old new key right (Ok tt) → differs right (right_for rs (left key)) ≡ false
   noted-agrees (inl n) = ap (differs right) (sym (were key) ∙ n.1) ∙ ap not n.2
-  noted-agrees (inr n) = ap (differs right) (sym (were key) ∙ n.2)
+  noted-agrees (inr (none, n)) = ap (differs right) (sym (were key) ∙ none)
+
+  -- whether the line conflicts with an earlier one
+  pub noted-conflict : ((x : Replacing) → list_any (is_conflict x) rs ≡ differs x.1 (right_for rs x.0)) → (r : Result (Unit {0}) LineFault) → IsNoted cmp old new key right r → ReportsConflict line rs r
+  noted-conflict agree (Ok u) n = agree line ∙ noted-agrees n
+  noted-conflict agree (Err fault.NoMemory) n = tt
+  noted-conflict agree (Err (fault.Kind kind)) n = (n.0, agree line ∙ ap (differs right) (sym (were key)) ∙ n.1)
+
+-- a key that had no right side
+pub inserted-noted : {K : Type 0} (cmp : K → K → Ordering) (old new : map.BTreeMap K declared.Right) (key : K) (right : Right) (r : Result (Unit {0}) LineFault)
+    → right_at cmp old key ≡ None → OnOk r (IsInserted cmp old new key right) → IfErr r (λ f. f ≡ fault.NoMemory) → IsNoted cmp old new key right r
+inserted-noted cmp old new key right (Ok u) none put memory = inr (none, put)
+inserted-noted cmp old new key right (Err fault.NoMemory) none put memory = tt
+inserted-noted cmp old new key right (Err (fault.Kind kind)) none put memory = absurd cc
 
 or-false : (a : Bool) → (a || false) ≡ a
 or-false true = refl
@@ -210,24 +225,51 @@ path-lines rs ov op np key right index told = record {
   agree = agree-snoc rs (left_without key, right) index.agree (noted-agrees (slice_cmp nat_cmp) left_without path-left-ties op np rs key right index.paths told);
 }
 
--- one more line, which replaces one version
-pub version-indexed : (old new : List Replace) (replace : Replace) (version : List ℕ) (ov nv : map.BTreeMap Pair declared.Right) (op : map.BTreeMap (List ℕ) declared.Right) (key : Pair)
-    → new ≡ old ++ replace ∷ [] → replace.version ≡ Some version → key ≡ pair replace.left version → IndexLines (replace_views old) ov op
-    → IsNoted pair_cmp ov nv key (right_view replace.right) (Ok tt) → IndexLines (replace_views new) nv op
-version-indexed old new replace version ov nv op key is-new is-version is-key index told =
-    let lines = version-lines (replace_views old) ov nv op key (right_view replace.right) index told in
+-- the line that replaces one version
+version-line : (replace : Replace) (version : List ℕ) (key : Pair) → replace.version ≡ Some version → key ≡ pair replace.left version
+    → replacing (left_with key.0 key.1) (right_view replace.right) ≡ replace_view replace
+version-line replace version key is-version is-key =
     let right = right_view replace.right in
-    let e : replacing (left_with key.0 key.1) right ≡ replace_view replace =
-    ap (λ (k : Pair). replacing (left_with k.0 k.1) right) is-key ∙ ap (λ (v : Option (List ℕ)). replacing (left_by replace.left v) right) (sym is-version) in
-    subst (λ (rs : List Replacing). IndexLines rs nv op) (ap (λ (x : Replacing). replace_views old ++ x ∷ []) e ∙ sym (seen-snoc old replace) ∙ ap replace_views (sym is-new)) lines
+    ap (λ (k : Pair). replacing (left_with k.0 k.1) right) is-key ∙ ap (λ (v : Option (List ℕ)). replacing (left_by replace.left v) right) (sym is-version)
+
+-- the line that replaces a whole path
+path-line : (replace : Replace) (key : List ℕ) → replace.version ≡ None → key ≡ replace.left → replacing (left_without key) (right_view replace.right) ≡ replace_view replace
+path-line replace key is-version is-key =
+    let right = right_view replace.right in
+    ap (λ (k : List ℕ). replacing (left_without k) right) is-key ∙ ap (λ (v : Option (List ℕ)). replacing (left_by replace.left v) right) (sym is-version)
+
+-- one more line, which replaces one version
+pub version-indexed : (old : List Replace) (replace : Replace) (version : List ℕ) (ov nv : map.BTreeMap Pair declared.Right) (op : map.BTreeMap (List ℕ) declared.Right) (key : Pair) (r : Result (Unit {0}) LineFault)
+    → replace.version ≡ Some version → key ≡ pair replace.left version → IndexLines (replace_views old) ov op
+    → IsNoted pair_cmp ov nv key (right_view replace.right) r → OnOk r (IndexLines (replace_views old ++ replace_view replace ∷ []) nv op)
+version-indexed old replace version ov nv op key (Err f) is-version is-key index told = tt
+version-indexed old replace version ov nv op key (Ok u) is-version is-key index told =
+    subst (λ (x : Replacing). IndexLines (replace_views old ++ x ∷ []) nv op) (version-line replace version key is-version is-key)
+    (version-lines (replace_views old) ov nv op key (right_view replace.right) index told)
+
+pub version-conflict : (old : List Replace) (replace : Replace) (version : List ℕ) (ov nv : map.BTreeMap Pair declared.Right) (op : map.BTreeMap (List ℕ) declared.Right) (key : Pair) (r : Result (Unit {0}) LineFault)
+    → replace.version ≡ Some version → key ≡ pair replace.left version → IndexLines (replace_views old) ov op
+    → IsNoted pair_cmp ov nv key (right_view replace.right) r → ReportsConflict (replace_view replace) (replace_views old) r
+version-conflict old replace version ov nv op key r is-version is-key index told =
+    subst (λ (x : Replacing). ReportsConflict x (replace_views old) r) (version-line replace version key is-version is-key)
+    (noted-conflict pair_cmp (λ q. left_with q.0 q.1) pair-left-ties ov nv (replace_views old) key (right_view replace.right) index.versions index.agree r told)
 
 -- one more line, which replaces a whole path
-pub path-indexed : (old new : List Replace) (replace : Replace) (ov : map.BTreeMap Pair declared.Right) (op np : map.BTreeMap (List ℕ) declared.Right) (key : List ℕ)
-    → new ≡ old ++ replace ∷ [] → replace.version ≡ None → key ≡ replace.left → IndexLines (replace_views old) ov op
-    → IsNoted (slice_cmp nat_cmp) op np key (right_view replace.right) (Ok tt) → IndexLines (replace_views new) ov np
-path-indexed old new replace ov op np key is-new is-version is-key index told =
-    let lines = path-lines (replace_views old) ov op np key (right_view replace.right) index told in
-    let right = right_view replace.right in
-    let e : replacing (left_without key) right ≡ replace_view replace =
-    ap (λ (k : List ℕ). replacing (left_without k) right) is-key ∙ ap (λ (v : Option (List ℕ)). replacing (left_by replace.left v) right) (sym is-version) in
-    subst (λ (rs : List Replacing). IndexLines rs ov np) (ap (λ (x : Replacing). replace_views old ++ x ∷ []) e ∙ sym (seen-snoc old replace) ∙ ap replace_views (sym is-new)) lines
+pub path-indexed : (old : List Replace) (replace : Replace) (ov : map.BTreeMap Pair declared.Right) (op np : map.BTreeMap (List ℕ) declared.Right) (key : List ℕ) (r : Result (Unit {0}) LineFault)
+    → replace.version ≡ None → key ≡ replace.left → IndexLines (replace_views old) ov op
+    → IsNoted (slice_cmp nat_cmp) op np key (right_view replace.right) r → OnOk r (IndexLines (replace_views old ++ replace_view replace ∷ []) ov np)
+path-indexed old replace ov op np key (Err f) is-version is-key index told = tt
+path-indexed old replace ov op np key (Ok u) is-version is-key index told =
+    subst (λ (x : Replacing). IndexLines (replace_views old ++ x ∷ []) ov np) (path-line replace key is-version is-key)
+    (path-lines (replace_views old) ov op np key (right_view replace.right) index told)
+
+pub path-conflict : (old : List Replace) (replace : Replace) (ov : map.BTreeMap Pair declared.Right) (op np : map.BTreeMap (List ℕ) declared.Right) (key : List ℕ) (r : Result (Unit {0}) LineFault)
+    → replace.version ≡ None → key ≡ replace.left → IndexLines (replace_views old) ov op
+    → IsNoted (slice_cmp nat_cmp) op np key (right_view replace.right) r → ReportsConflict (replace_view replace) (replace_views old) r
+path-conflict old replace ov op np key r is-version is-key index told =
+    subst (λ (x : Replacing). ReportsConflict x (replace_views old) r) (path-line replace key is-version is-key)
+    (noted-conflict (slice_cmp nat_cmp) left_without path-left-ties op np (replace_views old) key (right_view replace.right) index.paths index.agree r told)
+
+-- the lines with one more
+pub seen-more : (old same new : List Replace) (replace : Replace) → same ≡ old → new ≡ same ++ replace ∷ [] → replace_views new ≡ replace_views old ++ replace_view replace ∷ []
+seen-more old same new replace kept more = ap replace_views (more ∙ ap (λ (rs : List Replace). rs ++ replace ∷ []) kept) ∙ seen-snoc old replace

@@ -1,6 +1,8 @@
 -- The retractions of a dependency's file.
-use Rattle.std.proofs.Common.{◌≡◌, ℕ, ◌||◌, not, Bool, true, false, List, [], ◌∷◌, ◌++◌, codes, Option, Some, None, refl, sym, ap, ◌∙◌, append-nil}
-use Rattle.std.specs.Prelude.{if◌then◌else◌, option_and_then}
+use Rattle.std.proofs.Common.{◌≡◌, ℕ, ◌||◌, not, Bool, true, false, List, [], ◌∷◌, ◌++◌, length, codes, Option, Some, None, Ok, Err, refl, sym, ap, ◌∙◌, append-nil, arith, inl, inr}
+use Rattle.std.specs.Prelude.{◌==◌, if◌then◌else◌, option_and_then}
+use Rattle.std.proofs.lemmas.Bool.{cases_Bool}
+use Rattle.std.proofs.lemmas.Bool.Decides.{Decides-eqb}
 use Rattle.std.specs.Option.{option_map, option_to_list}
 use Rattle.std.proofs.lemmas.List.Elements.{filter_map-append}
 use Rattle.std.specs.Cmp.Lexicographic.{same_text}
@@ -9,7 +11,12 @@ use Rattle.std.specs.Str.{bytes_eq}
 use Rattle.gm_syntax.specs.Words.{Word}
 use Rattle.gm_syntax.specs.Document.{Line}
 use Rattle.gm_file.specs.Directives.{Strict, Verb, ForModule, ForGo, ForRequire, ForExclude, ForReplace, ForRetract, ForNothing, Unknown, Pair, Directive, DeclaresModule, DeclaresGo, Requires, Excludes, Replaces, Retracts, Item, Silent, Opening, Saying, block_after_lines, block_after_line, directive_in, directive_of, directives, ends_of, item_at, main_verb, one_of, pair_of, replacing_of}
-use Rattle.gm_file.specs.Fields.{lax_retracts_of, valid_ends, valid_interval}
+use Rattle.gm_file.specs.declared.fault.DirectiveKind.{DirectiveKind}
+use Rattle.gm_file.specs.declared.fault.DirectiveKind.TheVariants.{WrongArguments}
+use Rattle.gm_file.specs.declared.fault.LineFault.TheVariants as line
+use Rattle.gm_file.specs.Faults.{ends_kinds}
+use Rattle.gm_file.specs.Fields.{first, lax_retracts_of, valid_ends, valid_interval}
+use Rattle.gm_file.specs.Reading.{IsRead}
 use Rattle.gm_file.specs.Retracting.{retraction_at, retraction_in}
 use Rattle.gm_file.specs.declared.replace.Interval.{Interval}
 use Rattle.gm_file.specs.Views.{interval_view, interval_views}
@@ -117,3 +124,20 @@ pushed-more items more interval o r is some seen =
 pub kept-more : (items : List Interval) (o : Option Interval) (r : Option Pair) → o ≡ None → option_map interval_view o ≡ r → interval_views items ≡ interval_views items ++ option_to_list r
 kept-more items o r none seen =
     sym (append-nil (interval_views items)) ∙ ap (λ (q : Option Pair). interval_views items ++ option_to_list q) (ap (option_map interval_view) (sym none) ∙ seen)
+
+-- an interval that was read
+pub ends-read : (part : Option Pair) (interval : Interval) → IsRead interval_view WrongArguments ends_kinds part (Ok interval) → Some (interval_view interval) ≡ option_and_then valid_ends part
+ends-read part interval read =
+    sym (ap (option_and_then valid_ends) read.0 ∙ ap (λ (ks : List DirectiveKind). if length ks == 0 then Some (interval_view interval) else None) read.1)
+
+-- an interval that was refused
+pub ends-refused : (part : Option Pair) (kind : DirectiveKind) → IsRead {Y = Interval} interval_view WrongArguments ends_kinds part (Err (line.Kind kind)) → None ≡ option_and_then valid_ends part
+ends-refused None kind read = refl
+ends-refused (Some ends) kind read = by (ends_kinds ends) read
+  where
+    by : (ks : List DirectiveKind) → first ks ≡ Some kind → None ≡ (if length ks == 0 then Some ends else None)
+    by [] e = absurd cc
+    by (k ∷ ks) e = elim (cases_Bool (length (k ∷ ks) == 0)) [
+      | inl none ↦ absurd (let is = (Decides-eqb (length (k ∷ ks)) 0).0 none in omega (arith, is))
+      | inr some ↦ rw some refl
+    ]

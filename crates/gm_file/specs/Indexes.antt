@@ -37,6 +37,12 @@ abbrev pub differs : Right → Option Right → Bool
 differs right None = false
 differs right (Some other) = not (is_same_right right other)
 
+-- the key has this right side, newly inserted
+abbrev pub IsInserted : {K : Type 0} → (K → K → Ordering) → map.BTreeMap K declared.Right
+    → map.BTreeMap K declared.Right → K → Right → Type 0
+IsInserted cmp old new key right = (held : declared.Right) × (right_view held ≡ right)
+    × map.Updates cmp old new key (Some held)
+
 -- the key has this right side, either from before or newly inserted; or this one is refused, since the key has a
 -- different one
 abbrev pub IsNoted : {K : Type 0} → (K → K → Ordering) → map.BTreeMap K declared.Right → map.BTreeMap K declared.Right
@@ -44,8 +50,7 @@ abbrev pub IsNoted : {K : Type 0} → (K → K → Ordering) → map.BTreeMap K 
 IsNoted cmp old new key right (Ok u) =
     ((other : Right) × (right_at cmp old key ≡ Some other) × (is_same_right right other ≡ true)
     × map.IsUnchanged old new)
-    ⊎ ((held : declared.Right) × (right_view held ≡ right) × (right_at cmp old key ≡ None)
-    × map.Updates cmp old new key (Some held))
+    ⊎ ((right_at cmp old key ≡ None) × IsInserted cmp old new key right)
 IsNoted cmp old new key right (Err line.NoMemory) = ⊤
 IsNoted cmp old new key right (Err (line.Kind kind)) = (kind ≡ ConflictingReplace)
     × (differs right (right_at cmp old key) ≡ true)

@@ -103,6 +103,28 @@ fn fault_of_all(reader: &mut LineReader, fault: LineFault) -> ReadFault
     }
 }
 
+/// Reads every line, so that what no lines say becomes what all lines say.
+fn read_all<'a>(
+    alloc: Global,
+    names: &mut KnownNames,
+    reader: &mut LineReader<'a>,
+    said: &mut DepLines<'a>,
+) -> Result<(), ReadFault>
+    requires start { HasRead reader.old [] }
+    requires lines { AreDepLines [] said.old }
+    requires found { AreFound said.old.fields }
+    ensures ok { OnOk result (AreAllRead reader.old.source said.new) }
+    ensures fault { IfErr result (IsMisread reader.old.source) }
+{
+    while let Some(line) = reader.next()? {
+        if let Err(fault) = said.read_line(alloc, names, &line) {
+            return Err(fault_of_all(reader, fault));
+        }
+        reader.recycle(line);
+    }
+    Ok(())
+}
+
 /// What all lines say, or the fault of the bytes.
 pub(crate) fn read_dep_lines<'a>(
     alloc: Global,
@@ -114,11 +136,6 @@ pub(crate) fn read_dep_lines<'a>(
     ensures fault { IfErr result (IsMisread reader.old.source) }
 {
     let mut said = DepLines::new(alloc);
-    while let Some(line) = reader.next()? {
-        if let Err(fault) = said.read_line(alloc, names, &line) {
-            return Err(fault_of_all(reader, fault));
-        }
-        reader.recycle(line);
-    }
+    read_all(alloc, names, reader, &mut said)?;
     Ok(said)
 }

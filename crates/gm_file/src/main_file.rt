@@ -6,6 +6,7 @@ ghost use Rattle.gm_syntax.specs.LineViews.{plain_lines};
 ghost use Rattle.gm_file.specs.Directives.{Strict};
 ghost use Rattle.gm_file.specs.Faults.{fault_of};
 ghost use Rattle.gm_file.specs.Fields.{excludes_of, go_of, module_of, replacement_of, replaces_of, requirements_of, retracts_of};
+ghost use Rattle.gm_file.specs.Holding.{AreRead};
 ghost use Rattle.gm_file.specs.Views.{ReportsFault, interval_views, replace_views, right_view};
 
 use crate::exclusions::Exclusions;
@@ -70,6 +71,16 @@ impl<'a> MainFile<'a> {
         ensures fault { IfErr result (ReportsFault Strict (plain_lines doc.entry)) }
     {
         let mut names = KnownNames::new(alloc, 0);
+        let fields = read_lines(alloc, &mut names, Mode::Strict, doc.lines())?;
+        MainFile::of_fields(doc, fields)
+    }
+
+    /// The file of a document with these fields. Without a `module` it is refused with `NoModule` at line 0.
+    fn of_fields(doc: Doc<'a>, fields: Fields) -> Result<MainFile<'a>, FileFault>
+        requires { AreRead Strict (plain_lines doc) fields }
+        ensures ok { IfOk result (λ file. (file ≡ doc.entry) × (fault_of Strict (plain_lines doc.entry) ≡ None)) }
+        ensures fault { IfErr result (ReportsFault Strict (plain_lines doc.entry)) }
+    {
         let Fields {
             declared,
             go,
@@ -77,7 +88,7 @@ impl<'a> MainFile<'a> {
             excludes,
             replaces,
             retracts,
-        } = read_lines(alloc, &mut names, Mode::Strict, doc.lines())?;
+        } = fields;
         let Some(declared) = declared else {
             return Err(FileFault::Directive {
                 line: 0,

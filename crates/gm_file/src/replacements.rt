@@ -1,17 +1,18 @@
 //! The index of the replacements, for lookups in logarithmic time. Two maps, by version and by whole path, let the
 //! lookups work without building keys, so that they allocate nothing.
 
-ghost use Rattle.std.specs.Prelude.{◌≡◌, ◌++◌, ◌∷◌, [], OnOk, true};
+ghost use Rattle.std.specs.Prelude.{◌≡◌, ◌++◌, ◌∷◌, [], IfErr, IfOk, OnOk, true};
 ghost use Rattle.std.specs.Option.{option_map};
+ghost use Rattle.gm_name.specs.Names.{does_fit};
 ghost use Rattle.gm_file.specs.Faults.{does_left_fit};
 ghost use Rattle.gm_file.specs.Fields.{replacement_of};
-ghost use Rattle.gm_file.specs.Indexes.{AreIndexed, IsNoted, ReportsConflict};
+ghost use Rattle.gm_file.specs.Indexes.{AreIndexed, IndexLines, IsInserted, IsNoted, ReportsConflict};
 ghost use Rattle.gm_file.specs.Views.{replace_view, replace_views, right_view};
 
 use crate::fault::{DirectiveKind, LineFault};
 use crate::replace::{Replace, Right};
 use gm_name::{ModPath, ModVer, ModVersion};
-use std::alloc::Global;
+use std::alloc::{AllocError, Global};
 use std::collections::BTreeMap;
 
 /// The `replace` lines, in order, and maps from what they replace to their right sides.
@@ -23,6 +24,20 @@ pub(crate) struct Replacements {
     by_version: BTreeMap<ModVer, Right>,
     /// The right side of each path that is replaced as a whole.
     by_path: BTreeMap<ModPath, Right>,
+}
+
+/// Inserts a copy of a right side at a key. The only refusal is `NoMemory`.
+fn insert_copy<K: Ord + Drop>(
+    alloc: Global,
+    index: &mut BTreeMap<K, Right>,
+    key: K,
+    right: &Right,
+) -> Result<(), LineFault>
+    ensures inserted { OnOk result (IsInserted K.cmp index.old index.new key (right_view right.now)) }
+    ensures memory { IfErr result (λ fault. fault ≡ LineFault.NoMemory) }
+{
+    index.insert(key, right.copy(alloc)?)?;
+    Ok(())
 }
 
 /// Inserts a copy of a right side at a key, unless the key has an equal one. A key with a different one is refused with
@@ -41,8 +56,19 @@ fn note<K: Ord + Drop>(
         }
         return Err(LineFault::Kind(DirectiveKind::ConflictingReplace));
     }
-    index.insert(key, right.copy(alloc)?)?;
-    Ok(())
+    insert_copy(alloc, index, key, right)
+}
+
+/// A copy of a path and of a version that fits it, as a key.
+fn copied_pair(alloc: Global, path: &ModPath, version: &ModVersion) -> Result<ModVer, AllocError>
+    requires { does_fit path.now version.now ≡ true }
+    ensures { IfOk result (λ key. key ≡ (path.now, version.now)) }
+{
+    let path = path.copy(alloc)?;
+    match ModVer::pair(path, version.copy(alloc)?) {
+        Some(key) => Ok(key),
+        None => unreachable!(),
+    }
 }
 
 impl Replacements {
@@ -58,6 +84,27 @@ impl Replacements {
         }
     }
 
+    /// Notes the right side of the next line at what the line replaces. Refuses what `add` refuses.
+    fn note_line(&mut self, alloc: Global, replace: &Replace) -> Result<(), LineFault>
+        requires indexed { AreIndexed self.old }
+        requires fits { does_left_fit replace.now.left replace.now.version ≡ true }
+        ensures lines { self.new.lines.items ≡ self.old.lines.items }
+        ensures indexed { OnOk result (IndexLines (replace_views self.old.lines.items ++ replace_view replace.now ∷ [])
+            self.new.by_version self.new.by_path) }
+        ensures conflict { ReportsConflict (replace_view replace.now) (replace_views self.old.lines.items) result }
+    {
+        match &replace.version {
+            Some(version) => {
+                let key = copied_pair(alloc, &replace.left, version)?;
+                note(alloc, &mut self.by_version, key, &replace.right)
+            }
+            None => {
+                let key = replace.left.copy(alloc)?;
+                note(alloc, &mut self.by_path, key, &replace.right)
+            }
+        }
+    }
+
     /// Adds the next line. It is refused with `ConflictingReplace` if an earlier line has the same left side and a
     /// different right side, and with `NoMemory` if memory runs out.
     pub(crate) fn add(&mut self, alloc: Global, replace: Replace) -> Result<(), LineFault>
@@ -68,21 +115,7 @@ impl Replacements {
         ensures indexed { OnOk result (AreIndexed self.new) }
         ensures conflict { ReportsConflict (replace_view replace) (replace_views self.old.lines.items) result }
     {
-        match &replace.version {
-            Some(version) => {
-                let pair = ModVer::pair(replace.left.copy(alloc)?, version.copy(alloc)?);
-                match pair {
-                    Some(key) => note(alloc, &mut self.by_version, key, &replace.right)?,
-                    None => return Err(LineFault::Kind(DirectiveKind::Misfit)),
-                }
-            }
-            None => note(
-                alloc,
-                &mut self.by_path,
-                replace.left.copy(alloc)?,
-                &replace.right,
-            )?,
-        }
+        self.note_line(alloc, &replace)?;
         self.lines.push(replace)?;
         Ok(())
     }

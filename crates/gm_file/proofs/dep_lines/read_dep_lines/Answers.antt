@@ -1,33 +1,7 @@
-use Rattle.std.proofs.Common.{ℕ, List, [], ◌∷◌, ◌++◌, Err, ap, subst, sym, ◌∙◌}
-use Rattle.std.proofs.lemmas.List.{map_push}
 use Rattle.std.proofs.lemmas.Result.{err_from_is_err_and}
-use Rattle.gm_syntax.specs.Words.{Word}
-use Rattle.gm_syntax.specs.Document.{Line}
-use Rattle.gm_syntax.specs.LineReading.{HasRead, Unread}
-use Rattle.gm_syntax.specs.LineViews.{line_of, plain}
-use Rattle.gm_syntax.specs.Parsed.{IsParsedAs}
-use Rattle.gm_file.specs.DepLines.{AreDepLines}
-use Rattle.gm_file.proofs.DepReading.{misread-syntax}
 use Rattle.gm_file.proofs.dep_lines.read_dep_lines.Goals as goal
 
-pub returns-in_err-line-clause-fault : goal.returns-in_err-line-clause-fault
-returns-in_err-line-clause-fault c =
-    let so = c.loop-said.invariant.read in
-    let parsed = subst (λ (s : List ℕ). IsParsedAs s (Err c.in_err-line.field-0.0)) (c.in_err-line.ensures.source ∙ c.loop-said.invariant.source) (c.in_err-line.ensures.next so.0 so.1) in
+pub returns-in_err-read_all-clause-fault : goal.returns-in_err-read_all-clause-fault
+returns-in_err-read_all-clause-fault c =
     let p = err_from_is_err_and c.from_residual.result c.from_residual.ensures.1 in
-    rw (p.1, p.2) (misread-syntax c.args.reader.now.source c.in_err-line.field-0.0 parsed)
-
-pub loop-said-preserved : goal.loop-said-preserved
-loop-said-preserved c =
-    let so = c.loop-said.invariant.read in
-    let line = line_of c.in-Some.line in
-    let read = rw c.in-Some.is at (c.in_ok-line.ensures.next so.0 so.1) in
-    record {
-      source = ap (λ (u : Unread). u.source) c.recycle.ensures ∙ c.in_ok-line.ensures.source ∙ c.loop-said.invariant.source;
-      found = c.in_default-read_line.ensures.found;
-      read = (
-        so.0 ++ line ∷ [],
-        subst (λ (u : Unread). HasRead u (so.0 ++ line ∷ [])) (sym c.recycle.ensures) read,
-        subst (λ (ls : List (Line Word)). AreDepLines ls c.read_line.new.self) (sym (map_push plain so.0 line)) (c.in_default-read_line.ensures.read _ so.2),
-      );
-    }
+    rw (p.1, p.2) c.in_err-read_all.ensures.fault

@@ -5,14 +5,14 @@ use Rattle.gm_syntax.specs.LineReading.{HasRead}
 use Rattle.gm_syntax.specs.LineViews.{plain_lines}
 use Rattle.gm_file.specs.DepLines.{AreDepLines}
 use Rattle.gm_file.specs.Holding.{AreFound}
-use Rattle.gm_file.proofs.dep_lines.read_dep_lines.Given as goal
+use Rattle.gm_file.proofs.dep_lines.read_all.Given as goal
 
-abbrev pub invariant-loop-said : goal.invariant-loop-said
-invariant-loop-said l = record {
+abbrev pub invariant-loop-line : goal.invariant-loop-line
+invariant-loop-line l = record {
   source : l.reader.source ≡ l.initial.reader.source;
   found : AreFound l.said.fields;
   read : (lines : List (Line Placed)) × HasRead l.reader lines × AreDepLines (plain_lines lines) l.said;
 }
 
-abbrev pub decreases-loop-said : goal.decreases-loop-said
-decreases-loop-said l = length l.reader.rest
+abbrev pub decreases-loop-line : goal.decreases-loop-line
+decreases-loop-line l = length l.reader.rest
