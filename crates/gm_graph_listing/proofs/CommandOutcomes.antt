@@ -1,8 +1,9 @@
 -- What the commands do with what was found.
-use Rattle.std.proofs.Common.{◌≡◌, ◌∙◌, ◌++◌, ◌<◌, ◌-◌, ◌^◌, ◌⊎◌, ℕ, List, [], ◌∷◌, Option, Some, Result, Ok, Err, IfOk, MatchResult, sym, refl, subst, inl, inr, append-nil}
+use Rattle.std.proofs.Common.{◌≡◌, ◌∙◌, ◌++◌, ℕ, List, [], ◌∷◌, Option, Some, Result, Ok, Err, IfOk, MatchResult, sym, refl, subst, inl, inr, append-nil}
 use Rattle.gm_syntax.specs.Document.{Line}
 use Rattle.gm_syntax.specs.Tokens.{Placed}
 use Rattle.gm_store.specs.Asked.{Name, Reply, name_of}
+use Rattle.gm_store.specs.States.{CountsFailure, RefusesWithCause, StoreState}
 use Rattle.gm_store.specs.declared.files.FileName.{FileName}
 use Rattle.gm_store_sums.specs.declared.sum_table.SumTable.{SumTable}
 use Rattle.gm_graph_cache.specs.Main.{Main, main_of}
@@ -34,42 +35,42 @@ rest_printed main rows rest path limit (Ok output) is says = inl (rest, is, says
 rest_printed main rows rest path limit (Err e) is says = tt
 
 -- the outcome when both files are valid, with the names on which the store's device failed
-abbrev pub Answered : Query → Main → Option SumTable → List (Name × Reply) → List Name → List Name → Outcome → Type 0
-Answered query main table asked before after outcome =
-    (failed : List Name) × (after ≡ before ++ failed) × IsAnswerOver query main table (answers asked failed) outcome
+abbrev pub Answered : Query → Main → Option SumTable → StoreState → StoreState → Outcome → Type 0
+Answered query main table old new outcome =
+    (failed : List Name) × (new.refused ≡ old.refused ++ failed) × IsAnswerOver query main table (answers new.asked failed) outcome
 
-pub not_loaded : (query : Query) (main : Main) (table : Option SumTable) (asked : List (Name × Reply)) (before after : List Name) (fault : LoadFault) (outcome : Outcome)
-    → (fault ≡ load.TooMany → Told main table asked (AreTooMany main))
-    → ((name : FileName) → fault ≡ load.Device name → IsDue main table asked (name_of name))
-    → after ≡ before ++ refused_names fault → IsLoadReport fault outcome
-    → Answered query main table asked before after outcome
-not_loaded query main table asked before after load.NoMemory outcome many due failed report = absurd report
-not_loaded query main table asked before after load.TooMany outcome many due failed report = ([], failed, inl (too_many (many refl) refl report))
-not_loaded query main table asked before after (load.Device name) outcome many due failed report =
+pub not_loaded : (query : Query) (main : Main) (table : Option SumTable) (old new : StoreState) (fault : LoadFault) (outcome : Outcome)
+    → (fault ≡ load.TooMany → Told main table new.asked (AreTooMany main))
+    → ((name : FileName) → fault ≡ load.Device name → IsDue main table new.asked (name_of name))
+    → new.refused ≡ old.refused ++ refused_names fault → IsLoadReport fault outcome
+    → Answered query main table old new outcome
+not_loaded query main table old new load.NoMemory outcome many due failed report = absurd report
+not_loaded query main table old new load.TooMany outcome many due failed report = ([], failed, inl (too_many (many refl) refl report))
+not_loaded query main table old new (load.Device name) outcome many due failed report =
     (name_of name ∷ [], failed, inl (device (name_of name) (due name refl) refl report))
 
 -- the device failed on the file that loading names
-pub load_fails : {T : Type 0} (main : Main) (table : Option SumTable) (asked : List (Name × Reply)) (before after : List Name) (result : Result T LoadFault)
-    → after ≡ before ++ refused_in result → ((name : FileName) → result ≡ Err (load.Device name) → IsDue main table asked (name_of name))
-    → FailsOver main table asked before after
-load_fails main table asked before after (Ok loaded) grown due = inl (grown ∙ append-nil before)
-load_fails main table asked before after (Err load.NoMemory) grown due = inl (grown ∙ append-nil before)
-load_fails main table asked before after (Err load.TooMany) grown due = inl (grown ∙ append-nil before)
-load_fails main table asked before after (Err (load.Device name)) grown due = inr (name_of name, due name refl, grown)
+pub load_fails : {T : Type 0} (main : Main) (table : Option SumTable) (old new : StoreState) (result : Result T LoadFault)
+    → new.refused ≡ old.refused ++ refused_in result → ((name : FileName) → result ≡ Err (load.Device name) → IsDue main table new.asked (name_of name))
+    → FailsOver main table old new
+load_fails main table old new (Ok loaded) grown due = inl (grown ∙ append-nil old.refused)
+load_fails main table old new (Err load.NoMemory) grown due = inl (grown ∙ append-nil old.refused)
+load_fails main table old new (Err load.TooMany) grown due = inl (grown ∙ append-nil old.refused)
+load_fails main table old new (Err (load.Device name)) grown due = inr (name_of name, due name refl, grown)
 
 -- a failure is recorded only where the count of failures rose, or was at its greatest value
-pub load_counts : {T : Type 0} (before after : List Name) (old new : ℕ) (result : Result T LoadFault)
-    → after ≡ before ++ refused_in result → ((name : FileName) → result ≡ Err (load.Device name) → (old < new) ⊎ (old ≡ 2 ^ 64 - 1))
-    → (after ≡ before) ⊎ ((old < new) ⊎ (old ≡ 2 ^ 64 - 1))
-load_counts before after old new (Ok loaded) grown cause = inl (grown ∙ append-nil before)
-load_counts before after old new (Err load.NoMemory) grown cause = inl (grown ∙ append-nil before)
-load_counts before after old new (Err load.TooMany) grown cause = inl (grown ∙ append-nil before)
-load_counts before after old new (Err (load.Device name)) grown cause = inr (cause name refl)
+pub load_counts : {T : Type 0} (old new : StoreState) (result : Result T LoadFault)
+    → new.refused ≡ old.refused ++ refused_in result → ((name : FileName) → result ≡ Err (load.Device name) → CountsFailure old new)
+    → RefusesWithCause old new
+load_counts old new (Ok loaded) grown cause = inl (grown ∙ append-nil old.refused)
+load_counts old new (Err load.NoMemory) grown cause = inl (grown ∙ append-nil old.refused)
+load_counts old new (Err load.TooMany) grown cause = inl (grown ∙ append-nil old.refused)
+load_counts old new (Err (load.Device name)) grown cause = inr (cause name refl)
 
-pub over_fails : (file : List ℕ) (sums : Option (List ℕ)) (main : Main) (table : Option SumTable) (asked : List (Name × Reply)) (before after : List Name)
-    → FilesReadAs file sums main table → FailsOver main table asked before after → FailsInOrder file sums asked before after
-over_fails file sums main table asked before after read (inl none) = inl none
-over_fails file sums main table asked before after (main_file, sums_are) (inr (name, due, grown)) = inr (main, table, name, main_file, sums_are, due, grown)
+pub over_fails : (file : List ℕ) (sums : Option (List ℕ)) (main : Main) (table : Option SumTable) (old new : StoreState)
+    → FilesReadAs file sums main table → FailsOver main table old new → FailsInOrder file sums old new
+over_fails file sums main table old new read (inl none) = inl none
+over_fails file sums main table old new (main_file, sums_are) (inr (name, due, grown)) = inr (main, table, name, main_file, sums_are, due, grown)
 
 -- the files of the opened modules are known
 pub known : (main : Main) (table : Option SumTable) (asked : List (Name × Reply)) (loaded : Loaded) (held : Held) → Tells table asked held
@@ -85,18 +86,18 @@ prints_for (Chain path) main asked loaded readings outcome is (inl (s, steps, en
     (loaded.rows, is.rows, inl (s, steps, entry, same_chain (among loaded.edges) (IsEdge main readings) (λ t y. is.edges.each (edge t y)) chain, says))
 prints_for (Chain path) main asked loaded readings outcome is (inr unlisted) = (loaded.rows, is.rows, inr unlisted)
 
-pub by_faults : (query : Query) (main : Main) (table : Option SumTable) (asked : List (Name × Reply)) (before after : List Name) (loaded : Loaded) (faults : List Fault) (outcome : Outcome)
-    → Told main table asked (IsLoaded main asked loaded) → after ≡ before ++ [] → faults ≡ loaded.faults
-    → ReportsFaultsOr faults (PrintsFound query main loaded outcome) outcome → Answered query main table asked before after outcome
-by_faults query main table asked before after loaded [] outcome (held, tells, is) failed same told = (
+pub by_faults : (query : Query) (main : Main) (table : Option SumTable) (old new : StoreState) (loaded : Loaded) (faults : List Fault) (outcome : Outcome)
+    → Told main table new.asked (IsLoaded main new.asked loaded) → new.refused ≡ old.refused ++ [] → faults ≡ loaded.faults
+    → ReportsFaultsOr faults (PrintsFound query main loaded outcome) outcome → Answered query main table old new outcome
+by_faults query main table old new loaded [] outcome (held, tells, is) failed same told = (
   [],
   failed,
-  inr (held, known main table asked loaded held tells is, subst (AreFaults main (readings_by main held)) (sym same) is.faults, prints_for query main asked loaded (readings_by main held) outcome is told),
+  inr (held, known main table new.asked loaded held tells is, subst (AreFaults main (readings_by main held)) (sym same) is.faults, prints_for query main new.asked loaded (readings_by main held) outcome is told),
 )
-by_faults query main table asked before after loaded (first ∷ others) outcome (held, tells, is) failed same told = (
+by_faults query main table old new loaded (first ∷ others) outcome (held, tells, is) failed same told = (
   [],
   failed,
-  inl (faulty held first others (known main table asked loaded held tells is) (subst (AreFaults main (readings_by main held)) (sym same) is.faults) told),
+  inl (faulty held first others (known main table new.asked loaded held tells is) (subst (AreFaults main (readings_by main held)) (sym same) is.faults) told),
 )
 
 -- ---- what was read
@@ -140,15 +141,10 @@ pub sums_refused : (file : List ℕ) (sums : Option (List ℕ)) (main : Main) (o
 sums_refused file sums main outcome is (report, misread, says) = inr (main, report, is, misread, says)
 
 -- the outcome of a whole run, with the names on which the store's device failed
-abbrev pub AnsweredOf : Query → List ℕ → Option (List ℕ) → List (Name × Reply) → List Name → List Name → Outcome → Type 0
-AnsweredOf query file sums asked before after outcome =
-    (failed : List Name) × (after ≡ before ++ failed) × IsAnswer query (given file sums (answers asked failed)) outcome
+abbrev pub AnsweredOf : Query → List ℕ → Option (List ℕ) → StoreState → StoreState → Outcome → Type 0
+AnsweredOf query file sums old new outcome =
+    (failed : List Name) × (new.refused ≡ old.refused ++ failed) × IsAnswer query (given file sums (answers new.asked failed)) outcome
 
-pub refused_read : (query : Query) (file : List ℕ) (sums : Option (List ℕ)) (asked : List (Name × Reply)) (names : List Name) (outcome : Outcome) → asked ≡ []
-    → IsRefusedRead file sums outcome → AnsweredOf query file sums asked names names outcome
-refused_read query file sums asked names outcome none is = ([], sym (append-nil names), inl (is, (none, refl)))
-
-pub answered : (query : Query) (file : List ℕ) (sums : Option (List ℕ)) (main : Main) (table : Option SumTable) (asked : List (Name × Reply)) (before after : List Name) (outcome : Outcome)
-    → FilesReadAs file sums main table → Answered query main table asked before after outcome → AnsweredOf query file sums asked before after outcome
-answered query file sums main table asked before after outcome (main_file, sums_are) (failed, is, over) =
-    (failed, is, inr (main, table, record { main_file = main_file; sums = sums_are }, over))
+pub refused_read : (query : Query) (file : List ℕ) (sums : Option (List ℕ)) (state : StoreState) (outcome : Outcome) → state.asked ≡ []
+    → IsRefusedRead file sums outcome → AnsweredOf query file sums state state outcome
+refused_read query file sums state outcome none is = ([], sym (append-nil state.refused), inl (is, (none, refl)))

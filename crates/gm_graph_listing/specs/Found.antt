@@ -1,7 +1,8 @@
 -- What loading found, what is reported when it stops early, and what the commands do with its result.
 use Rattle.std.specs.Prelude.{◌≡◌, ◌⊎◌, ◌++◌, ℕ, List, [], ◌∷◌, Option}
 use Rattle.std.specs.Option.{option_copied}
-use Rattle.gm_store.specs.Asked.{Name, Reply, name_of}
+use Rattle.gm_store.specs.Asked.{Name, name_of}
+use Rattle.gm_store.specs.States.{StoreState}
 use Rattle.gm_store_sums.specs.declared.sum_table.SumTable.{SumTable}
 use Rattle.gm_graph_cache.specs.Main.{Main}
 use Rattle.gm_graph_cache.specs.declared.load_fault.LoadFault.{LoadFault}
@@ -60,7 +61,7 @@ abbrev pub IsAnswerOver : Query → Main → Option SumTable → Answers → Out
 IsAnswerOver query main table told outcome = IsOutcomeOver (PrintsFor query) main table told outcome
 
 -- When both files are valid: the device failed on no file, or on one that was due under the answers.
-abbrev pub FailsOver : Main → Option SumTable → List (Name × Reply) → List Name → List Name → Type 0
-FailsOver main table asked before after =
-    (after ≡ before)
-    ⊎ ((name : Name) × IsDue main table asked name × (after ≡ before ++ name ∷ []))
+abbrev pub FailsOver : Main → Option SumTable → StoreState → StoreState → Type 0
+FailsOver main table old new =
+    (new.refused ≡ old.refused)
+    ⊎ ((name : Name) × IsDue main table new.asked name × (new.refused ≡ old.refused ++ name ∷ []))

@@ -9,6 +9,7 @@ use Rattle.gm_syntax.specs.Parsed.{IsParsedAs}
 use Rattle.gm_file.specs.Directives.{Strict}
 use Rattle.gm_file.specs.Faults.{fault_of as directive_fault}
 use Rattle.gm_store.specs.Asked.{Name, Reply, names_in}
+use Rattle.gm_store.specs.States.{StoreState}
 use Rattle.gm_store_sums.specs.Sums.{HasValidLines, IsFirstInvalid, ReadsAs}
 use Rattle.gm_store_sums.specs.declared.sum_table.SumTable.{SumTable}
 use Rattle.gm_graph_cache.specs.Main.{Main, ModuleVersion, main_of}
@@ -259,8 +260,8 @@ AsksInOrder file sums asked =
 
 -- The device failed on no file; or the main module's file and the go.sum are valid, and it failed on one
 -- file, which was due under the answers.
-abbrev pub FailsInOrder : List ℕ → Option (List ℕ) → List (Name × Reply) → List Name → List Name → Type 0
-FailsInOrder file sums asked before after =
-    (after ≡ before)
+abbrev pub FailsInOrder : List ℕ → Option (List ℕ) → StoreState → StoreState → Type 0
+FailsInOrder file sums old new =
+    (new.refused ≡ old.refused)
     ⊎ ((main : Main) × (table : Option SumTable) × (name : Name) × IsMainFile file main × AreSums sums table
-    × IsDue main table asked name × (after ≡ before ++ name ∷ []))
+    × IsDue main table new.asked name × (new.refused ≡ old.refused ++ name ∷ []))

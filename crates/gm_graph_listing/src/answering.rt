@@ -78,8 +78,7 @@ fn answer_over<F: Files>(
         (answers (F.state files.new).asked failed)
         (outcome_view output)) }
     ensures asks { AsksInTurn (main_of main.now) (option_copied table.entry) (F.state files.new).asked }
-    ensures fails { FailsOver (main_of main.now) (option_copied table.entry) (F.state files.new).asked
-        (F.state files.old).refused (F.state files.new).refused }
+    ensures fails { FailsOver (main_of main.now) (option_copied table.entry) (F.state files.old) (F.state files.new) }
     ensures may_answer { (name : Name) (reply : Reply) → Contains (F.state files.new).asked (name, reply)
         → F.may_answer files.old name reply }
     ensures cause { RefusesWithCause (F.state files.old) (F.state files.new) }
@@ -131,8 +130,7 @@ pub fn answer<F: Files>(
         × IsAnswer query.entry (given file.now (option_copied sums.entry) (answers (F.state files.new).asked failed))
         (outcome_view output)) }
     ensures asks { AsksInOrder file.now (option_copied sums.entry) (F.state files.new).asked }
-    ensures fails { FailsInOrder file.now (option_copied sums.entry) (F.state files.new).asked
-        (F.state files.old).refused (F.state files.new).refused }
+    ensures fails { FailsInOrder file.now (option_copied sums.entry) (F.state files.old) (F.state files.new) }
     ensures may_answer { (name : Name) (reply : Reply) → Contains (F.state files.new).asked (name, reply)
         → F.may_answer files.old name reply }
     ensures cause { RefusesWithCause (F.state files.old) (F.state files.new) }

@@ -46,10 +46,8 @@ in_turn file sums asked (inl none) = subst (λ (pairs : Pairs). AskedInTurn (Gra
 in_turn file sums asked (inr (main, table, main_reads, sums_read, asks)) = due_in_turn file sums main table main_reads sums_read asks
 
 -- the file at which the device failed is needed
-pub fails_in_turn : (file : List ℕ) (sums : Option (List ℕ)) (asked : Pairs) (old new : StoreState) → new.asked ≡ asked → FailsInOrder file sums asked old.refused new.refused
-    → FailsInTurn (GraphNeeds file sums) old new
-fails_in_turn file sums asked old new same (inl none) = inl none
-fails_in_turn file sums asked old new same (inr (main, table, name, main_reads, sums_read, due, grown)) =
-    let wanted : IsWanted (GraphNeeds file sums) name new.asked =
-    subst (IsWanted (GraphNeeds file sums) name) (sym same) (due_needed file sums main table main_reads sums_read asked name due) in
+pub fails_in_turn : (file : List ℕ) (sums : Option (List ℕ)) (old new : StoreState) → FailsInOrder file sums old new → FailsInTurn (GraphNeeds file sums) old new
+fails_in_turn file sums old new (inl none) = inl none
+fails_in_turn file sums old new (inr (main, table, name, main_reads, sums_read, due, grown)) =
+    let wanted = due_needed file sums main table main_reads sums_read new.asked name due in
     inr (name, wanted.0, wanted.1, grown)

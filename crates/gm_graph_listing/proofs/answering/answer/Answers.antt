@@ -6,19 +6,19 @@ use Rattle.gm_graph_listing.proofs.answering.answer.Goals as goal
 
 pub returns-in-Err-clause-comes : goal.returns-in-Err-clause-comes
 returns-in-Err-clause-comes g c =
-    refused_read c.args.query c.args.file.now (option_copied c.args.sums) (g.F.Files.state c.args.files.now).asked (g.F.Files.state c.args.files.now).refused (outcome_view c.in-Err.output)
+    refused_read c.args.query c.args.file.now (option_copied c.args.sums) (g.F.Files.state c.args.files.now) (outcome_view c.in-Err.output)
     c.requires (both_err c.args.file.now (option_copied c.args.sums) c.in_ok-read.field-0 c.in-Err.output c.in-Err.is c.in_ok-read.ensures)
 
 pub returns-in_err-output-clause-fails : goal.returns-in_err-output-clause-fails
 returns-in_err-output-clause-fails g c =
-    over_fails c.args.file.now (option_copied c.args.sums) (main_of c.in-Ok.read.main) c.in-Ok.read.table (g.F.Files.state c.answer_over.new.files).asked
-    (g.F.Files.state c.args.files.now).refused (g.F.Files.state c.answer_over.new.files).refused
+    over_fails c.args.file.now (option_copied c.args.sums) (main_of c.in-Ok.read.main) c.in-Ok.read.table
+    (g.F.Files.state c.args.files.now) (g.F.Files.state c.answer_over.new.files)
     (both_ok c.args.file.now (option_copied c.args.sums) c.in_ok-read.field-0 c.in-Ok.read c.in-Ok.is c.in_ok-read.ensures)
     (rw c.as_ref.ensures.value at c.answer_over.ensures.fails)
 
 pub returns-clause-fails : goal.returns-clause-fails
 returns-clause-fails g c =
-    over_fails c.args.file.now (option_copied c.args.sums) (main_of c.in-Ok.read.main) c.in-Ok.read.table (g.F.Files.state c.answer_over.new.files).asked
-    (g.F.Files.state c.args.files.now).refused (g.F.Files.state c.answer_over.new.files).refused
+    over_fails c.args.file.now (option_copied c.args.sums) (main_of c.in-Ok.read.main) c.in-Ok.read.table
+    (g.F.Files.state c.args.files.now) (g.F.Files.state c.answer_over.new.files)
     (both_ok c.args.file.now (option_copied c.args.sums) c.in_ok-read.field-0 c.in-Ok.read c.in-Ok.is c.in_ok-read.ensures)
     (rw c.as_ref.ensures.value at c.answer_over.ensures.fails)

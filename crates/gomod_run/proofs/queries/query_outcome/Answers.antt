@@ -1,4 +1,3 @@
-use Rattle.std.proofs.Common.{refl}
 use Rattle.std.specs.Option.{option_map}
 use Rattle.gomod_run.proofs.InTurn.{fails_in_turn, in_turn}
 use Rattle.gomod_run.proofs.queries.query_outcome.Goals as goal
@@ -13,10 +12,10 @@ returns-clause-in_turn g c =
 
 pub returns-in_err-output-clause-fails : goal.returns-in_err-output-clause-fails
 returns-in_err-output-clause-fails g c =
-    fails_in_turn c.args.main.now (option_map (λ sums. sums.now) c.args.sums) (g.F.Files.state c.answer.new.files).asked
-    (g.F.Files.state c.args.files.now) (g.F.Files.state c.answer.new.files) refl c.answer.ensures.fails
+    fails_in_turn c.args.main.now (option_map (λ sums. sums.now) c.args.sums)
+    (g.F.Files.state c.args.files.now) (g.F.Files.state c.answer.new.files) c.answer.ensures.fails
 
 pub returns-clause-fails : goal.returns-clause-fails
 returns-clause-fails g c =
-    fails_in_turn c.args.main.now (option_map (λ sums. sums.now) c.args.sums) (g.F.Files.state c.answer.new.files).asked
-    (g.F.Files.state c.args.files.now) (g.F.Files.state c.answer.new.files) refl c.answer.ensures.fails
+    fails_in_turn c.args.main.now (option_map (λ sums. sums.now) c.args.sums)
+    (g.F.Files.state c.args.files.now) (g.F.Files.state c.answer.new.files) c.answer.ensures.fails
