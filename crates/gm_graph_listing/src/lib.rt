@@ -33,7 +33,7 @@ pub use crate::output::{Output, Status, failed, printed, refused};
 pub use crate::query::Query;
 pub use crate::reading::main_file;
 pub use crate::report::{
-    TOO_MANY, device_report, directive_place, directive_report, fault_report, faults_text,
-    not_listed_report, sum_report, syntax_place, syntax_report,
+    TOO_MANY, device_report, directive_report, fault_report, faults_text, not_listed_report,
+    sum_report, syntax_report,
 };
 pub use crate::row_lines::list_text;

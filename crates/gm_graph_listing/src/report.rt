@@ -102,7 +102,7 @@ pub fn faults_text(alloc: Global, faults: &[Fault]) -> Result<String, NoMemory>
 
 /// The line and the kind of what is wrong with bytes that are not a document. The line is 0 when the whole
 /// file is at fault. `None` when memory ran out, which says nothing about the bytes.
-pub fn syntax_place(fault: SyntaxFault) -> Option<(usize, Misreading)>
+fn syntax_place(fault: SyntaxFault) -> Option<(usize, Misreading)>
     ensures { result ≡ syntax_place fault }
 {
     match fault {
@@ -115,7 +115,7 @@ pub fn syntax_place(fault: SyntaxFault) -> Option<(usize, Misreading)>
 
 /// The line and the kind of what is wrong with a document that has an invalid directive. `None` when memory
 /// ran out, which says nothing about the document.
-pub fn directive_place(fault: FileFault) -> Option<(usize, Misreading)>
+fn directive_place(fault: FileFault) -> Option<(usize, Misreading)>
     ensures { result ≡ directive_place fault }
 {
     match fault {
