@@ -34,17 +34,12 @@ pub struct CaseFile {
 
 impl CaseFile {
     /// A file with these bytes.
-    pub(crate) fn of_bytes(
-        alloc: Global,
-        name: &str,
-        bytes: Vec<u8>,
-    ) -> Result<CaseFile, AllocError> {
-        let name = String::from_str(alloc, name)?;
-        Ok(CaseFile {
+    pub(crate) fn of_bytes(name: String, bytes: Vec<u8>) -> CaseFile {
+        CaseFile {
             name,
             content: Content::Bytes(bytes),
             mode: None,
-        })
+        }
     }
 
     /// The bytes of the file, or none where it is a folder or a link.
@@ -94,9 +89,7 @@ impl<'a> Run<'a> {
 
     /// Whether it is a command line of the program and not a call.
     pub fn is_command_line(&self) -> bool {
-        self.words
-            .first()
-            .is_some_and(|word| word.as_str() == PROGRAM)
+        matches!(self.words.first(), Some(word) if word.as_str() == PROGRAM)
     }
 
     /// Its words as texts.

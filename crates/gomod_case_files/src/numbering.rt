@@ -18,24 +18,15 @@ pub(crate) fn count_of(text: &str) -> Option<usize> {
     }
 }
 
-/// Appends a number with leading zeros, as long as the greatest one.
-fn push_padded(text: &mut String, number: usize, greatest: usize) -> Result<(), AllocError> {
-    for _ in first_place(number)..first_place(greatest) {
-        text.push('0')?;
-    }
-    write!(text, "{number}")
-}
-
-/// The power of ten of a number's first digit.
-fn first_place(number: usize) -> u32 {
-    number.checked_ilog10().unwrap_or(0)
+/// How many digits a number has.
+fn digit_count(number: usize) -> u32 {
+    number.checked_ilog10().unwrap_or(0).saturating_add(1)
 }
 
 /// A number with leading zeros, as long as the greatest one.
 fn padded(alloc: Global, number: usize, greatest: usize) -> Result<String, AllocError> {
-    let mut text = String::new(alloc);
-    push_padded(&mut text, number, greatest)?;
-    Ok(text)
+    let width = digit_count(greatest) as usize;
+    format!(in alloc; "{number:0width$}")
 }
 
 /// A text with a number in it.

@@ -147,17 +147,15 @@ impl Piece {
 
     /// A piece without lines.
     fn new(alloc: Global, line: usize, name: &str, kind: Kind<'_>) -> Result<Piece, AllocError> {
-        let form = match kind {
-            Kind::Lines(form) => form,
-            _ => Form::Plain,
+        let (form, mode) = match kind {
+            Kind::Lines(form) => (form, None),
+            Kind::Mode(mode) => (Form::Plain, Some(mode)),
+            Kind::Folder | Kind::Link(_) | Kind::Copy(_) => (Form::Plain, None),
         };
-        let mode = match kind {
-            Kind::Mode(mode) => Some(mode),
-            _ => None,
-        };
+        let name = String::from_str(alloc, name)?;
         let content = content_of(alloc, kind)?;
         let file = CaseFile {
-            name: String::from_str(alloc, name)?,
+            name,
             content,
             mode,
         };
@@ -192,9 +190,8 @@ impl Piece {
     /// Takes the blank lines at the end, but for this many.
     fn take_blanks(&mut self, left: usize) -> Result<(), AllocError> {
         if let Content::Bytes(bytes) = &mut self.file.content {
-            for _ in left..self.blanks {
-                push_line(bytes, "")?;
-            }
+            let count = self.blanks.saturating_sub(left);
+            bytes.resize(bytes.len().saturating_add(count), b'\n')?;
         }
         self.blanks = 0;
         Ok(())
@@ -303,7 +300,7 @@ fn repeated_file(
 ) -> Result<CaseFile, AllocError> {
     let mut bytes = Vec::new(alloc);
     push_numbered(alloc, &mut bytes, text, count)?;
-    CaseFile::of_bytes(alloc, name, bytes)
+    Ok(CaseFile::of_bytes(String::from_str(alloc, name)?, bytes))
 }
 
 /// Adds this many files to a case, each with its number.
@@ -329,9 +326,9 @@ fn numbered_file(
     number: usize,
     greatest: usize,
 ) -> Result<CaseFile, AllocError> {
-    let text = numbered(alloc, text, number, greatest)?;
     let name = numbered(alloc, name, number, greatest)?;
-    CaseFile::of_bytes(alloc, name.as_str(), text.into_bytes())
+    let text = numbered(alloc, text, number, greatest)?;
+    Ok(CaseFile::of_bytes(name, text.into_bytes()))
 }
 
 /// Adds a file of this many bytes to a case.
@@ -346,12 +343,9 @@ fn put_filled(
     }
     case.is_large = true;
     let line = piece.file.bytes();
+    let name = String::from_str(alloc, piece.file.name.as_str())?;
     let bytes = filled(alloc, &line[..line.len().saturating_sub(1)], count)?;
-    put(
-        case,
-        CaseFile::of_bytes(alloc, piece.file.name.as_str(), bytes)?,
-    )?;
-    Ok(())
+    put(case, CaseFile::of_bytes(name, bytes))
 }
 
 /// A line whose last byte is repeated until the line, with its end, has this many bytes.

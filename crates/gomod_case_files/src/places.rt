@@ -40,6 +40,6 @@ pub fn tidied(alloc: Global, path: &str) -> Result<String, AllocError> {
 /// Whether a path leads at most one folder up out of the folder of a case.
 pub(crate) fn is_near(alloc: Global, path: &str) -> Result<bool, AllocError> {
     let parts = parts_of(alloc, path)?;
-    let ups = parts.iter().filter(|part| **part == "..").count();
-    Ok(ups <= 1)
+    // the parts that lead up come first
+    Ok(parts.get(1) != Some(&".."))
 }

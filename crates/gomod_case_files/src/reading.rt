@@ -243,7 +243,7 @@ fn take_opened<'a>(
     number: usize,
     rest: &'a str,
 ) -> Result<(), CaseFault> {
-    let opened = run.opened.get_or_insert_with(|| Vec::new(alloc));
+    let opened = run.opened.get_or_insert(Vec::new(alloc));
     if rest.is_empty() {
         return Ok(());
     }
