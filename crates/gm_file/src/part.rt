@@ -74,7 +74,7 @@ pub(crate) fn read_path(
 ) -> Result<ModPath, LineFault>
     ensures { IsRead (λ path. path) DirectiveKind.WrongArguments path_kinds (Some text.now) result }
 {
-    match names.path(alloc, text) {
+    match names.path(text) {
         Ok(path) => Ok(path),
         Err(fault) => match fault {
             PathFault::NoMemory => Err(LineFault::NoMemory),
@@ -91,7 +91,7 @@ pub(crate) fn read_version(
 ) -> Result<ModVersion, LineFault>
     ensures { IsRead (λ version. version) DirectiveKind.WrongArguments version_kinds (Some text.now) result }
 {
-    match names.version(alloc, text) {
+    match names.version(text) {
         Ok(version) => Ok(version),
         Err(fault) => match fault {
             VersionFault::NoMemory => Err(LineFault::NoMemory),
@@ -111,7 +111,7 @@ fn pair_of_texts(
 ) -> Result<ModVer, LineFault>
     ensures { IsRead (λ pair. pair) DirectiveKind.WrongArguments pair_kinds (Some (path.now, version.now)) result }
 {
-    match names.pair(alloc, path, version) {
+    match names.pair(path, version) {
         Ok(pair) => Ok(pair),
         Err(fault) => match fault {
             PairFault::NoMemory => Err(LineFault::NoMemory),

@@ -73,9 +73,12 @@ impl From<VersionFault> for PairFault {
 /// Reading through a `KnownNames` gives the same results as `ModPath::parse` and `ModVersion::parse`. One name
 /// is kept under each fingerprint, so a lookup among n names takes log n comparisons of numbers and one of
 /// texts, whatever the names are. Contracts see how many names of each kind are kept, which is never more than
-/// there is room for. Where there is no room, no text is hashed to be looked up.
+/// there is room for. Where there is no room, no text is hashed to be looked up. All memory comes from the
+/// allocator that it was made with.
 #[derive(Drop)]
 pub struct KnownNames {
+    /// The allocator of the names, and of the maps that keep them.
+    alloc: Global,
     /// How many names each of the three maps may grow to.
     room: usize,
     /// Paths by fingerprint.
@@ -149,6 +152,7 @@ impl KnownNames {
         ensures { result ≡ none_kept room }
     {
         KnownNames {
+            alloc,
             room,
             paths: BTreeMap::new(alloc),
             versions: BTreeMap::new(alloc),
@@ -168,39 +172,39 @@ impl KnownNames {
 
     /// A copy of the path with this text, if it was kept under this number. Two texts may have the same number, so
     /// the texts are compared too.
-    fn known_path(&self, alloc: Global, number: u64, text: &str) -> Option<ModPath>
+    fn known_path(&self, number: u64, text: &str) -> Option<ModPath>
         ensures within { IsWithinRoom self.now }
         ensures read { IfSome result (λ path. PathReading text.now (Ok path)) }
     {
         let held = self.paths.get(&number)?;
         if held.as_str() == text {
-            held.copy(alloc).ok()
+            held.copy(self.alloc).ok()
         } else {
             None
         }
     }
 
     /// A copy of the version with this text, if it was kept under this number. The texts are compared too.
-    fn known_version(&self, alloc: Global, number: u64, text: &str) -> Option<ModVersion>
+    fn known_version(&self, number: u64, text: &str) -> Option<ModVersion>
         ensures within { IsWithinRoom self.now }
         ensures read { IfSome result (λ version. VersionReading text.now (Ok version)) }
     {
         let held = self.versions.get(&number)?;
         if held.as_str() == text {
-            held.copy(alloc).ok()
+            held.copy(self.alloc).ok()
         } else {
             None
         }
     }
 
     /// A copy of the pair with these texts, if it was kept under this number. The texts are compared too.
-    fn known_pair(&self, alloc: Global, number: u64, path: &str, version: &str) -> Option<ModVer>
+    fn known_pair(&self, number: u64, path: &str, version: &str) -> Option<ModVer>
         ensures within { IsWithinRoom self.now }
         ensures read { IfSome result (λ pair. PairReading path.now version.now (Ok pair)) }
     {
         let held = self.pairs.get(&number)?;
         if is_pair_of(held, path, version) {
-            held.copy(alloc).ok()
+            held.copy(self.alloc).ok()
         } else {
             None
         }
@@ -208,41 +212,41 @@ impl KnownNames {
 
     /// Keeps a path under a number, so that later reads of its text find it. Where there is no room, nothing is
     /// copied.
-    fn keep_path(&mut self, alloc: Global, number: u64, path: &ModPath) -> Result<(), AllocError>
+    fn keep_path(&mut self, number: u64, path: &ModPath) -> Result<(), AllocError>
         ensures room { self.new.room ≡ self.old.room }
         ensures within { IsWithinRoom self.new }
     {
         if self.room == 0 {
             return Ok(());
         }
-        keep(&mut self.paths, self.room, number, path.copy(alloc)?)
+        keep(&mut self.paths, self.room, number, path.copy(self.alloc)?)
     }
 
     /// Keeps a version under a number, so that later reads of its text find it.
-    fn keep_version(
-        &mut self,
-        alloc: Global,
-        number: u64,
-        version: &ModVersion,
-    ) -> Result<(), AllocError>
+    fn keep_version(&mut self, number: u64, version: &ModVersion) -> Result<(), AllocError>
         ensures room { self.new.room ≡ self.old.room }
         ensures within { IsWithinRoom self.new }
     {
         if self.room == 0 {
             return Ok(());
         }
-        keep(&mut self.versions, self.room, number, version.copy(alloc)?)
+        keep(
+            &mut self.versions,
+            self.room,
+            number,
+            version.copy(self.alloc)?,
+        )
     }
 
     /// Keeps a pair under a number, so that later reads of its texts find it.
-    fn keep_pair(&mut self, alloc: Global, number: u64, pair: &ModVer) -> Result<(), AllocError>
+    fn keep_pair(&mut self, number: u64, pair: &ModVer) -> Result<(), AllocError>
         ensures room { self.new.room ≡ self.old.room }
         ensures within { IsWithinRoom self.new }
     {
         if self.room == 0 {
             return Ok(());
         }
-        keep(&mut self.pairs, self.room, number, pair.copy(alloc)?)
+        keep(&mut self.pairs, self.room, number, pair.copy(self.alloc)?)
     }
 
     /// The pair of the path in one text and the version in another, as `path` and `version` read them and
@@ -251,7 +255,7 @@ impl KnownNames {
     /// `BadPath` exactly when the first text isn't a module path. Otherwise `BadVersion` if the second isn't a
     /// version, and `Misfit` if both are names but the version doesn't fit the path. If the first text is a
     /// path, `NoMemory` may come in place of any other result.
-    pub fn pair(&mut self, alloc: Global, path: &str, version: &str) -> Result<ModVer, PairFault>
+    pub fn pair(&mut self, path: &str, version: &str) -> Result<ModVer, PairFault>
         ensures room { self.new.room ≡ self.old.room }
         ensures within { IsWithinRoom self.new }
         ensures pair { IfOk result (λ pair. pair ≡ (path.now, version.now)) }
@@ -266,13 +270,12 @@ impl KnownNames {
             path: fingerprint(0, path),
             version: self.number_of(version),
         };
-        self.numbered_pair(alloc, numbers, path, version)
+        self.numbered_pair(numbers, path, version)
     }
 
     /// The pair of the names in two texts with these numbers.
     fn numbered_pair(
         &mut self,
-        alloc: Global,
         numbers: PairNumbers,
         path: &str,
         version: &str,
@@ -282,65 +285,43 @@ impl KnownNames {
         ensures within { IsWithinRoom self.new }
         ensures read { PairReading path.now version.now result }
     {
-        if let Some(pair) = self.known_pair(alloc, numbers.joined(), path, version) {
+        if let Some(pair) = self.known_pair(numbers.joined(), path, version) {
             return Ok(pair);
         }
-        let pair = self.new_pair(alloc, numbers, path, version)?;
-        self.keep_pair(alloc, numbers.joined(), &pair)?;
-        Ok(pair)
-    }
-
-    /// The pair of the names in two texts with these numbers, whether or not it is known.
-    fn new_pair(
-        &mut self,
-        alloc: Global,
-        numbers: PairNumbers,
-        path: &str,
-        version: &str,
-    ) -> Result<ModVer, PairFault>
-        requires { numbers.path ≡ fingerprint 0 path.now }
-        ensures room { self.new.room ≡ self.old.room }
-        ensures within { IsWithinRoom self.new }
-        ensures read { PairReading path.now version.now result }
-    {
-        let path = self.numbered_path(alloc, numbers.path, path)?;
-        let version = self.numbered_version(alloc, numbers.version, version)?;
+        let path = self.numbered_path(numbers.path, path)?;
+        let version = self.numbered_version(numbers.version, version)?;
         let Some(pair) = ModVer::pair(path, version) else {
             return Err(PairFault::Misfit);
         };
+        self.keep_pair(numbers.joined(), &pair)?;
         Ok(pair)
     }
 
     /// The module path in a text, as `ModPath::parse` reads it.
     ///
     /// `BadPath` exactly when the text isn't a module path; `NoMemory` only if it is one.
-    pub fn path(&mut self, alloc: Global, text: &str) -> Result<ModPath, PathFault>
+    pub fn path(&mut self, text: &str) -> Result<ModPath, PathFault>
         ensures room { self.new.room ≡ self.old.room }
         ensures within { IsWithinRoom self.new }
         ensures ok { IfOk result (λ path. (path ≡ text.now) × IsPath text.now) }
         ensures bad { IsErrOf result PathFault.BadPath ↔ ¬ (IsPath text.now) }
         ensures memory { IsErrOf result PathFault.NoMemory → IsPath text.now }
     {
-        self.numbered_path(alloc, fingerprint(0, text), text)
+        self.numbered_path(fingerprint(0, text), text)
     }
 
     /// The module path in a text with this fingerprint.
-    fn numbered_path(
-        &mut self,
-        alloc: Global,
-        number: u64,
-        text: &str,
-    ) -> Result<ModPath, PathFault>
+    fn numbered_path(&mut self, number: u64, text: &str) -> Result<ModPath, PathFault>
         requires { number ≡ fingerprint 0 text.now }
         ensures room { self.new.room ≡ self.old.room }
         ensures within { IsWithinRoom self.new }
         ensures read { PathReading text.now result }
     {
-        if let Some(path) = self.known_path(alloc, number, text) {
+        if let Some(path) = self.known_path(number, text) {
             return Ok(path);
         }
-        let path = ModPath::numbered(alloc, number, text)?;
-        self.keep_path(alloc, number, &path)?;
+        let path = ModPath::numbered(self.alloc, number, text)?;
+        self.keep_path(number, &path)?;
         Ok(path)
     }
 
@@ -348,7 +329,7 @@ impl KnownNames {
     ///
     /// `NotCanonical` and `BadVersion` come in the same cases as there. `NoMemory` comes only on `v` and a
     /// SemVer version, with any build.
-    pub fn version(&mut self, alloc: Global, text: &str) -> Result<ModVersion, VersionFault>
+    pub fn version(&mut self, text: &str) -> Result<ModVersion, VersionFault>
         ensures room { self.new.room ≡ self.old.room }
         ensures within { IsWithinRoom self.new }
         ensures ok { IfOk result (λ version. (version ≡ text.now) × IsVersion text.now) }
@@ -357,25 +338,20 @@ impl KnownNames {
         ensures bad { IsErrOf result VersionFault.BadVersion → ¬ (IsVersion text.now) × ¬ (IsNotCanonical text.now) }
         ensures memory { IsErrOf result VersionFault.NoMemory → IsSemVer text.now }
     {
-        self.numbered_version(alloc, self.number_of(text), text)
+        self.numbered_version(self.number_of(text), text)
     }
 
     /// The version in a text with this number.
-    fn numbered_version(
-        &mut self,
-        alloc: Global,
-        number: u64,
-        text: &str,
-    ) -> Result<ModVersion, VersionFault>
+    fn numbered_version(&mut self, number: u64, text: &str) -> Result<ModVersion, VersionFault>
         ensures room { self.new.room ≡ self.old.room }
         ensures within { IsWithinRoom self.new }
         ensures read { VersionReading text.now result }
     {
-        if let Some(version) = self.known_version(alloc, number, text) {
+        if let Some(version) = self.known_version(number, text) {
             return Ok(version);
         }
-        let version = ModVersion::read(alloc, text)?;
-        self.keep_version(alloc, number, &version)?;
+        let version = ModVersion::read(self.alloc, text)?;
+        self.keep_version(number, &version)?;
         Ok(version)
     }
 }

@@ -26,13 +26,8 @@ fn has_texts(pair: &ModVer, path: &str, version: &str) -> bool {
 }
 
 /// What is wrong with two texts, if anything, and whether a different pair was read in their place.
-fn fault_of(
-    alloc: Global,
-    names: &mut KnownNames,
-    path: &str,
-    version: &str,
-) -> (Option<PairFault>, bool) {
-    match names.pair(alloc, path, version) {
+fn fault_of(names: &mut KnownNames, path: &str, version: &str) -> (Option<PairFault>, bool) {
+    match names.pair(path, version) {
         Ok(pair) => (None, !has_texts(&pair, path, version)),
         Err(fault) => (Some(fault), false),
     }
@@ -42,7 +37,7 @@ fn fault_of(
 fn read_all(rt: &impl Abort, alloc: Global, room: usize) {
     let mut names = KnownNames::new(alloc, room);
     for (path, version, wanted) in PAIRS {
-        let got = fault_of(alloc, &mut names, path, version);
+        let got = fault_of(&mut names, path, version);
         assert_same(
             rt,
             format_args!("{path} {version} with room for {room}"),
