@@ -44,7 +44,7 @@ fn read_module(alloc: Global, names: &mut KnownNames, words: &[Token]) -> Result
     ensures { IsRead (λ path. path) DirectiveKind.WrongArguments path_kinds (one_of (words_of words.now)) result }
 {
     let path = borrowed_one(alloc, words)?;
-    read_path(alloc, names, path.as_str())
+    read_path(names, path.as_str())
 }
 
 /// The directive of an entry with this verb and these arguments, or the first fault that it has by itself.

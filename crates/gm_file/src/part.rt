@@ -67,11 +67,7 @@ pub(crate) fn one_value(alloc: Global, words: &[Token]) -> Result<String, LineFa
 }
 
 /// The module path that a text spells. Any other text is refused with `BadPath`.
-pub(crate) fn read_path(
-    alloc: Global,
-    names: &mut KnownNames,
-    text: &str,
-) -> Result<ModPath, LineFault>
+pub(crate) fn read_path(names: &mut KnownNames, text: &str) -> Result<ModPath, LineFault>
     ensures { IsRead (λ path. path) DirectiveKind.WrongArguments path_kinds (Some text.now) result }
 {
     match names.path(text) {
@@ -84,11 +80,7 @@ pub(crate) fn read_path(
 }
 
 /// The canonical version that a text spells. Any other text is refused with `BadVersion`.
-pub(crate) fn read_version(
-    alloc: Global,
-    names: &mut KnownNames,
-    text: &str,
-) -> Result<ModVersion, LineFault>
+pub(crate) fn read_version(names: &mut KnownNames, text: &str) -> Result<ModVersion, LineFault>
     ensures { IsRead (λ version. version) DirectiveKind.WrongArguments version_kinds (Some text.now) result }
 {
     match names.version(text) {
@@ -103,12 +95,7 @@ pub(crate) fn read_version(
 
 /// The path and the version that two texts spell. The texts are refused with `BadPath`, then with `BadVersion`,
 /// then with `Misfit` if the version doesn't fit the path.
-fn pair_of_texts(
-    alloc: Global,
-    names: &mut KnownNames,
-    path: &str,
-    version: &str,
-) -> Result<ModVer, LineFault>
+fn pair_of_texts(names: &mut KnownNames, path: &str, version: &str) -> Result<ModVer, LineFault>
     ensures { IsRead (λ pair. pair) DirectiveKind.WrongArguments pair_kinds (Some (path.now, version.now)) result }
 {
     match names.pair(path, version) {
@@ -134,7 +121,7 @@ fn pair_of_words(
 {
     let path = borrowed_argument(alloc, path)?;
     let version = borrowed_argument(alloc, version)?;
-    pair_of_texts(alloc, names, path.as_str(), version.as_str())
+    pair_of_texts(names, path.as_str(), version.as_str())
 }
 
 /// The path and the version of a `require` or an `exclude`. Anything but two arguments is refused with
@@ -153,16 +140,11 @@ pub(crate) fn read_pair(
 }
 
 /// The interval between the versions that two texts spell.
-fn interval_of_texts(
-    alloc: Global,
-    names: &mut KnownNames,
-    low: &str,
-    high: &str,
-) -> Result<Interval, LineFault>
+fn interval_of_texts(names: &mut KnownNames, low: &str, high: &str) -> Result<Interval, LineFault>
     ensures { IsRead interval_view DirectiveKind.WrongArguments ends_kinds (Some (low.now, high.now)) result }
 {
-    let low = read_version(alloc, names, low)?;
-    let high = read_version(alloc, names, high)?;
+    let low = read_version(names, low)?;
+    let high = read_version(names, high)?;
     Ok(Interval { low, high })
 }
 
@@ -201,7 +183,7 @@ fn single_interval(
         (option_map (λ w. pair w w) (argument version.now.word)) result }
 {
     let text = borrowed_argument(alloc, version)?;
-    interval_of_texts(alloc, names, text.as_str(), text.as_str())
+    interval_of_texts(names, text.as_str(), text.as_str())
 }
 
 /// The interval between two versions.
@@ -216,7 +198,7 @@ fn interval_between(
 {
     let low = borrowed_argument(alloc, low)?;
     let high = borrowed_argument(alloc, high)?;
-    interval_of_texts(alloc, names, low.as_str(), high.as_str())
+    interval_of_texts(names, low.as_str(), high.as_str())
 }
 
 /// The interval of a `retract`: from a single version to itself, or between the two versions in brackets, as in

@@ -137,7 +137,6 @@ fn right_text(alloc: Global, words: &[Token]) -> Result<RightText, LineFault>
 
 /// The version of the left side, if it has one.
 fn read_left_version(
-    alloc: Global,
     names: &mut KnownNames,
     version: &Option<String>,
 ) -> Result<Option<ModVersion>, LineFault>
@@ -145,7 +144,7 @@ fn read_left_version(
         (Some (option_map string_bytes version.now)) result }
 {
     match version {
-        Some(text) => Ok(Some(read_version(alloc, names, text.as_str())?)),
+        Some(text) => Ok(Some(read_version(names, text.as_str())?)),
         None => Ok(None),
     }
 }
@@ -162,7 +161,6 @@ fn does_left_fit(path: &ModPath, version: &Option<ModVersion>) -> bool
 
 /// The replacement of these texts by a folder.
 fn replace_by_folder(
-    alloc: Global,
     names: &mut KnownNames,
     left: &LeftText,
     folder: String,
@@ -170,8 +168,8 @@ fn replace_by_folder(
     ensures { IsRead replace_view DirectiveKind.WrongArguments replacing_kinds
         (Some (replacing (left_text_view left.now) (Folder (string_bytes folder)))) result }
 {
-    let path = read_path(alloc, names, left.path.as_str())?;
-    let version = read_left_version(alloc, names, &left.version)?;
+    let path = read_path(names, left.path.as_str())?;
+    let version = read_left_version(names, &left.version)?;
     if !does_left_fit(&path, &version) {
         return Err(LineFault::Kind(DirectiveKind::Misfit));
     }
@@ -185,7 +183,6 @@ fn replace_by_folder(
 /// The replacement of these texts by a version of a module. Both paths are read before both versions, since `BadPath`
 /// comes before `BadVersion`. The version on the right need not fit its path.
 fn replace_by_module(
-    alloc: Global,
     names: &mut KnownNames,
     left: &LeftText,
     path: &str,
@@ -194,10 +191,10 @@ fn replace_by_module(
     ensures { IsRead replace_view DirectiveKind.WrongArguments replacing_kinds
         (Some (replacing (left_text_view left.now) (Module path.now version.now))) result }
 {
-    let left_path = read_path(alloc, names, left.path.as_str())?;
-    let path = read_path(alloc, names, path)?;
-    let left_version = read_left_version(alloc, names, &left.version)?;
-    let version = read_version(alloc, names, version)?;
+    let left_path = read_path(names, left.path.as_str())?;
+    let path = read_path(names, path)?;
+    let left_version = read_left_version(names, &left.version)?;
+    let version = read_version(names, version)?;
     if !does_left_fit(&left_path, &left_version) {
         return Err(LineFault::Kind(DirectiveKind::Misfit));
     }
@@ -210,7 +207,6 @@ fn replace_by_module(
 
 /// The replacement that the texts of both sides spell.
 fn replace_of_texts(
-    alloc: Global,
     names: &mut KnownNames,
     left: &LeftText,
     right: RightText,
@@ -219,9 +215,9 @@ fn replace_of_texts(
         (Some (replacing (left_text_view left.now) (right_text_view right))) result }
 {
     match right {
-        RightText::Folder(folder) => replace_by_folder(alloc, names, left, folder),
+        RightText::Folder(folder) => replace_by_folder(names, left, folder),
         RightText::Module(path, version) => {
-            replace_by_module(alloc, names, left, path.as_str(), version.as_str())
+            replace_by_module(names, left, path.as_str(), version.as_str())
         }
     }
 }
@@ -241,5 +237,5 @@ pub(crate) fn read_replace(
     };
     let left = left_text(alloc, before)?;
     let right = right_text(alloc, after)?;
-    replace_of_texts(alloc, names, &left, right)
+    replace_of_texts(names, &left, right)
 }
