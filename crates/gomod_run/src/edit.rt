@@ -68,7 +68,7 @@ fn edits_outcome(
 {
     let mut editor = Editor::of(alloc, file)?;
     match apply_all(alloc, &mut editor, operations)? {
-        None => Ok(printed(alloc, editor.into_doc().format(alloc)?)),
+        None => Ok(printed(alloc, editor.into_doc().format()?)),
         Some((number, kind)) => Ok(refused(alloc, edit_line(alloc, number, kind)?)),
     }
 }

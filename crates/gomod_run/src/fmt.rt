@@ -14,7 +14,7 @@ pub(crate) fn fmt_outcome(alloc: Global, file: &[u8]) -> Result<Output, NoMemory
     ensures { IfOk result (λ output. IsFmtOutcome file.now (outcome_view output)) }
 {
     match Doc::parse(alloc, file) {
-        Ok(doc) => Ok(printed(alloc, doc.format(alloc)?)),
+        Ok(doc) => Ok(printed(alloc, doc.format()?)),
         Err(fault) => Ok(refused(alloc, syntax_report(alloc, fault)?)),
     }
 }

@@ -13,7 +13,7 @@ const MAIN: &str =
 /// The layout of a go.mod text.
 fn layout(alloc: Global, text: &str) -> Result<String, SyntaxFault> {
     let doc = Doc::parse(alloc, text.as_bytes())?;
-    Ok(doc.format(alloc)?)
+    Ok(doc.format()?)
 }
 
 /// Reads the go.mod text of a main module.
@@ -59,7 +59,7 @@ fn show_edits(rt: &impl Print, alloc: Global, file: &mut MainFile<'_>) -> anyhow
     if let Err(fault) = edit(alloc, file, "require=example.com/b@v2.0.0") {
         println!(rt; "{fault}")?;
     }
-    let edited = file.doc().format(alloc)?;
+    let edited = file.doc().format()?;
     print!(rt; "{edited}")?;
     Ok(())
 }

@@ -91,26 +91,20 @@ fn doc<'a>(rt: &impl Abort, alloc: Global, text: &'a str) -> Doc<'a> {
 }
 
 /// Compares the layout of a document with a text.
-fn assert_layout(rt: &impl Abort, alloc: Global, title: &str, doc: &Doc<'_>, wanted: &str) {
-    let text = doc.format(alloc).expect(rt, OUT_OF_MEMORY);
+fn assert_layout(rt: &impl Abort, title: &str, doc: &Doc<'_>, wanted: &str) {
+    let text = doc.format().expect(rt, OUT_OF_MEMORY);
     assert_same(rt, title, &text.as_str(), &wanted);
 }
 
 #[test]
 fn lines_go_in_and_out(rt: HostRuntime) {
     let doc = doc(&rt, rt.alloc(), TEXT);
-    let mut copy = doc.copy(rt.alloc()).expect(&rt, OUT_OF_MEMORY);
+    let mut copy = doc.copy().expect(&rt, OUT_OF_MEMORY);
     add_entry(rt.alloc(), &mut copy, "x y").expect(&rt, OUT_OF_MEMORY);
     let drops = (drop_first(&mut copy), drop_first(&mut copy));
     assert_same(&rt, "drops", &drops, &(true, false));
-    assert_layout(
-        &rt,
-        rt.alloc(),
-        "changed",
-        &copy,
-        "b (\n\t\"c d\"\n)\n\"x y\"\n",
-    );
-    assert_layout(&rt, rt.alloc(), "as it was", &doc, TEXT);
+    assert_layout(&rt, "changed", &copy, "b (\n\t\"c d\"\n)\n\"x y\"\n");
+    assert_layout(&rt, "as it was", &doc, TEXT);
 }
 
 // ---- names
@@ -149,5 +143,5 @@ fn a_refused_operation_leaves_the_file(rt: HostRuntime) {
     let mut file = main_file(&rt, rt.alloc(), MAIN);
     let got = applied(&rt, rt.alloc(), &mut file, "require=example.com/p@v2.0.0");
     assert_same(&rt, "refused", &got, &Err(EditFault::Misfit));
-    assert_layout(&rt, rt.alloc(), "as it was", file.doc(), MAIN);
+    assert_layout(&rt, "as it was", file.doc(), MAIN);
 }
