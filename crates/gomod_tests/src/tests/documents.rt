@@ -53,14 +53,14 @@ fn marks_are_made_and_copied(rt: HostRuntime) {
 /// A document with a comment, a block and a quoted word. It is already in its layout.
 const TEXT: &str = "a // c\nb (\n\t\"c d\"\n)\n";
 
-/// Appends an entry of one new word. If memory runs out, the document stays as it is.
+/// Inserts an entry of one new word before the last line. If memory runs out, the document stays as it is.
 fn add_entry(alloc: Global, doc: &mut Doc<'_>, value: &str) -> Result<(), AllocError>
     requires { HasNoLineFeed value.now }
 {
     let mut words = Vec::new(alloc);
     words.push(Token::spell(alloc, value)?)?;
-    let end = doc.lines().len();
-    doc.insert_line(end, Line::Entry(words, None))
+    let last = doc.lines().len().saturating_sub(1);
+    doc.insert_line(last, Line::Entry(words, None))
 }
 
 /// Whether a line neither opens nor closes a block.
@@ -103,7 +103,7 @@ fn lines_go_in_and_out(rt: HostRuntime) {
     add_entry(rt.alloc(), &mut copy, "x y").expect(&rt, OUT_OF_MEMORY);
     let drops = (drop_first(&mut copy), drop_first(&mut copy));
     assert_same(&rt, "drops", &drops, &(true, false));
-    assert_layout(&rt, "changed", &copy, "b (\n\t\"c d\"\n)\n\"x y\"\n");
+    assert_layout(&rt, "changed", &copy, "b (\n\t\"c d\"\n\t\"x y\"\n)\n");
     assert_layout(&rt, "as it was", &doc, TEXT);
 }
 

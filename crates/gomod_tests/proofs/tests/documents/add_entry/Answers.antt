@@ -1,4 +1,4 @@
-use Rattle.std.proofs.Common.{◌≡◌, false, List, [], ◌∷◌, ◌++◌, length, None, insert, refl, ap, subst, sym, ◌∙◌, arith}
+use Rattle.std.proofs.Common.{◌≡◌, false, List, [], ◌∷◌, ◌++◌, None, insert, refl, ap, subst, sym, ◌∙◌, arith}
 use Rattle.gm_syntax.specs.Tokens.{Placed, words_of}
 use Rattle.gm_syntax.specs.Document.{Line, Entry, IsDocument, IsEntry}
 use Rattle.gm_syntax.specs.LineViews.{plain, plain_lines}
@@ -14,7 +14,7 @@ pub insert_line-requires-clause-document : goal.insert_line-requires-clause-docu
 insert_line-requires-clause-document c =
     let w : Placed = c.in_ok-spell.field-0 in
     let new = c.in_ok-spell.ensures.is_new in
-    let end = length c.lines-end.result.now in
+    let last = c.saturating_sub-last.result in
     let items : c.push.new.self.items ≡ w ∷ [] = c.in_ok-push.ensures.items ∙ ap (λ (l : List Placed). l ++ w ∷ []) c.new-words.ensures.items in
     let entry : IsEntry (words_of (w ∷ [])) None = record {
       are_words = ((new_word_stands c.args.value.now w c.requires new).0, tt);
@@ -23,6 +23,6 @@ insert_line-requires-clause-document c =
       opens_nothing = new_word_no_mark 40 c.args.value.now w new;
       closes_nothing = new_word_no_mark 41 c.args.value.now w new;
     } in
-    let document : IsDocument (plain_lines c.args.doc.now) = c.lines-end.ensures.document in
-    let put = level_line_goes_in_at (plain_lines c.args.doc.now) end (plain (entry_of (w ∷ []))) false document refl (entry_stands false (words_of (w ∷ [])) None entry) in
-    subst IsDocument (sym (ap (λ (l : List Placed). plain_lines (insert c.args.doc.now end (entry_of l))) items ∙ map-insert plain c.args.doc.now end (entry_of (w ∷ [])))) put
+    let document : IsDocument (plain_lines c.args.doc.now) = c.lines.ensures.document in
+    let put = level_line_goes_in_at (plain_lines c.args.doc.now) last (plain (entry_of (w ∷ []))) false document refl (entry_stands false (words_of (w ∷ [])) None entry) in
+    subst IsDocument (sym (ap (λ (l : List Placed). plain_lines (insert c.args.doc.now last (entry_of l))) items ∙ map-insert plain c.args.doc.now last (entry_of (w ∷ [])))) put
