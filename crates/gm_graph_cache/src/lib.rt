@@ -32,3 +32,4 @@ pub use crate::class::{Class, Misreading};
 pub use crate::depth::{Depth, Turn};
 pub use crate::finding::Finding;
 pub use crate::load_fault::LoadFault;
+pub use crate::reading::FileReading;

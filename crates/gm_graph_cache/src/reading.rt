@@ -14,13 +14,29 @@ use gm_store::{Answer, FileName};
 use gm_store_sums::{Sum, SumTable, mod_hash};
 use std::alloc::{AllocError, Global};
 
-/// What an answer says of a file.
+/// What a file says, or what is wrong with it.
 #[derive(Drop)]
-pub(crate) enum FileReading {
+pub enum FileReading {
     /// The file is valid, and these are its contents.
     Valid(DepFile),
     /// The file has this fault.
     Faulty(Class),
+}
+
+impl FileReading {
+    /// What a dependency's file with these bytes says, or why they can't be read. The only refusal is `NoMemory`.
+    pub fn of_bytes(
+        alloc: Global,
+        names: &mut KnownNames,
+        content: &[u8],
+    ) -> Result<FileReading, NoMemory>
+        ensures { IfOk result (λ read. IsContentReading content.now (reading_of read)) }
+    {
+        match DepFile::read_bytes(alloc, names, content) {
+            Ok(file) => Ok(FileReading::Valid(file)),
+            Err(fault) => Ok(FileReading::Faulty(class_of_misread(fault)?)),
+        }
+    }
 }
 
 /// The class of a failed hash check, or `None` if the hash is right.
@@ -70,20 +86,6 @@ fn class_of_misread(fault: ReadFault) -> Result<Class, NoMemory>
     }
 }
 
-/// The contents of a dependency's file with these bytes, or why they can't be read. The only refusal is `NoMemory`.
-fn read_bytes(
-    alloc: Global,
-    names: &mut KnownNames,
-    content: &[u8],
-) -> Result<FileReading, NoMemory>
-    ensures { IfOk result (λ read. IsContentReading content.now (reading_of read)) }
-{
-    match DepFile::read_bytes(alloc, names, content) {
-        Ok(file) => Ok(FileReading::Valid(file)),
-        Err(fault) => Ok(FileReading::Faulty(class_of_misread(fault)?)),
-    }
-}
-
 /// The class of bytes that can't be read.
 fn malformed(line: usize, kind: Misreading) -> Class
     ensures { result ≡ Class.Malformed line kind }
@@ -107,7 +109,7 @@ pub(crate) fn read_answer(
         Answer::TooLong => Ok(FileReading::Faulty(Class::TooLong)),
         Answer::Bytes(content) => match sum_fault(alloc, sums, name, content)? {
             Some(class) => Ok(FileReading::Faulty(class)),
-            None => read_bytes(alloc, names, content),
+            None => FileReading::of_bytes(alloc, names, content),
         },
     }
 }

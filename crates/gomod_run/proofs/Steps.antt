@@ -7,7 +7,9 @@ use Rattle.gm_store.specs.Latest.{IsLatest}
 use Rattle.gm_store.specs.Listed.{AreListed}
 use Rattle.gm_file.specs.Fields.{Dependency}
 use Rattle.gm_graph_cache.specs.declared.class.Class.{Class}
+use Rattle.gm_graph_cache.specs.declared.reading.FileReading.{FileReading}
 use Rattle.gm_graph_cache.specs.Reading.{IsContentReading, IsFileReading}
+use Rattle.gm_graph_cache.specs.Summaries.{reading_of}
 use Rattle.gm_graph_listing.specs.declared.output.Output.{Output}
 use Rattle.gm_graph_listing.specs.Outcomes.{Outcome, failed, outcome_view, printed, refused}
 use Rattle.gm_graph_listing.specs.Reports.{device_line}
@@ -296,10 +298,10 @@ module _ {E : Type 0} (path : List ℕ) (all : Bool) (may later : Name → Reply
   latest_fails (Err e) state some is (inr a) = inl (a.1.2 ∙ state.unrefused)
 
 -- what an answer says, by what its bytes say
-pub answer_says : {E : Type 0} (name : Name) (reply : Reply) (content : List ℕ) (result : Result (Result Dependency Class) E) → reply ≡ bytes content
-    → IfOk result (IsContentReading content) → IfOk result (IsFileReading None name reply)
+pub answer_says : {E : Type 0} (name : Name) (reply : Reply) (content : List ℕ) (result : Result FileReading E) → reply ≡ bytes content
+    → IfOk result (λ read. IsContentReading content (reading_of read)) → IfOk result (λ read. IsFileReading None name reply (reading_of read))
 answer_says name reply content (Err e) is says = tt
-answer_says name reply content (Ok reading) is says = subst (λ (r : Reply). IsFileReading None name r reading) (sym is) says
+answer_says name reply content (Ok read) is says = subst (λ (r : Reply). IsFileReading None name r (reading_of read)) (sym is) says
 
 -- the outcome by what the latest version's go.mod says, or what is wrong with it
 pub shown_read : (path : List ℕ) (versions : List (List ℕ)) (latest : List ℕ) (reply : Reply) (read reading : Result Dependency Class) (outcome : Outcome)

@@ -1,16 +1,16 @@
 //! The outcome of `versions`: it needs a module's list and then perhaps one go.mod, so the asks of the store are
 //! ordered here.
 
-ghost use Rattle.std.specs.Prelude.{◌≡◌, ◌≤◌, ◌⊎◌, ℕ, [], Bool, Contains, Err, IfErr, IfOk, List, MatchOption, None, Some, false, map, true};
+ghost use Rattle.std.specs.Prelude.{◌≡◌, ◌≤◌, ◌⊎◌, [], Bool, Contains, IfErr, IfOk, MatchOption, None, Some, false, map, true};
 ghost use Rattle.std.specs.String.{string_bytes};
 ghost use Rattle.std.specs.List.Sorted.{IsStrictlySortedBy};
 ghost use Rattle.gm_name.specs.Version.{version_cmp};
-ghost use Rattle.gm_file.specs.DepLines.{IsMisread};
 ghost use Rattle.gm_file.specs.Views.{interval_views};
 ghost use Rattle.gm_file_retract.specs.Shown.{shown_of};
 ghost use Rattle.gm_store.specs.Asked.{Name, Reply, answer_in, mod_file, reply_of};
 ghost use Rattle.gm_store.specs.States.{RefusesWithCause};
-ghost use Rattle.gm_graph_cache.specs.Reading.{IsContentReading, IsFileReading};
+ghost use Rattle.gm_graph_cache.specs.Reading.{IsFileReading};
+ghost use Rattle.gm_graph_cache.specs.Summaries.{reading_of};
 ghost use Rattle.gm_graph_listing.specs.Outcomes.{outcome_view, printed};
 ghost use Rattle.gm_store.specs.Latest.{IsLatest};
 ghost use Rattle.gomod_run.specs.Asking.{IsLatestAsked};
@@ -21,13 +21,13 @@ ghost use Rattle.gomod_run.specs.Versions.{IsShownOutcome, IsVersionsOutcome, Ve
 
 use crate::asking::{ask_for, last_answer};
 use crate::report_lines::list_line;
-use gm_file::{DepFile, Interval, ReadFault};
+use gm_file::Interval;
 use gm_file_retract::shown_versions;
-use gm_graph_cache::{Class, Misreading};
+use gm_graph_cache::{Class, FileReading};
 use gm_graph_listing::{Output, fault_report, printed, refused};
 use gm_name::{KnownNames, ModPath, ModVersion, NoMemory};
 use gm_store::{Answer, FileName, Files, latest, versions_of};
-use std::alloc::{AllocError, Global};
+use std::alloc::Global;
 
 /// The path and the versions on one line, separated by single spaces.
 fn versions_line(
@@ -78,39 +78,17 @@ fn read_list(
     }
 }
 
-/// The class of a file whose bytes have this fault. The only refusal is running out of memory, which is no fault of the
-/// file.
-fn class_of(fault: ReadFault) -> Result<Class, NoMemory>
-    ensures { (file : List ℕ) → IsMisread file fault → IfOk result (λ class. IsContentReading file (Err class)) }
-{
-    let (line, kind) = match fault {
-        ReadFault::NoMemory => return Err(AllocError),
-        ReadFault::TooMany => (0, Misreading::TooMany),
-        ReadFault::NotUtf8 => (0, Misreading::NotUtf8),
-        ReadFault::Syntax { line, kind } => (line, Misreading::Syntax(kind)),
-        ReadFault::Directive { line, kind } => (line, Misreading::Directive(kind)),
-    };
-    Ok(Class::Malformed { line, kind })
-}
-
-/// What the bytes of a dependency's go.mod say, or what is wrong with them.
-fn read_file(alloc: Global, file: &[u8]) -> Result<Result<DepFile, Class>, NoMemory>
-    ensures { IfOk result (IsContentReading file.now) }
-{
-    match DepFile::read_bytes(alloc, &mut KnownNames::new(alloc, 0), file) {
-        Ok(dependency) => Ok(Ok(dependency)),
-        Err(fault) => Ok(Err(class_of(fault)?)),
-    }
-}
-
 /// What the answer for a go.mod says, or what is wrong with it. No hash is checked.
-fn read_answer(alloc: Global, answer: &Answer) -> Result<Result<DepFile, Class>, NoMemory>
-    ensures { (name : Name) → IfOk result (IsFileReading None name (reply_of answer.now)) }
+fn read_answer(alloc: Global, answer: &Answer) -> Result<FileReading, NoMemory>
+    ensures { (name : Name) → IfOk result (λ read.
+        IsFileReading None name (reply_of answer.now) (reading_of read)) }
 {
     match answer {
-        Answer::Bytes(file) => read_file(alloc, file.as_slice()),
-        Answer::Absent => Ok(Err(Class::Missing)),
-        Answer::TooLong => Ok(Err(Class::TooLong)),
+        Answer::Bytes(file) => {
+            FileReading::of_bytes(alloc, &mut KnownNames::new(alloc, 0), file.as_slice())
+        }
+        Answer::Absent => Ok(FileReading::Faulty(Class::Missing)),
+        Answer::TooLong => Ok(FileReading::Faulty(Class::TooLong)),
     }
 }
 
@@ -127,11 +105,13 @@ fn shown_outcome(
         IsShownOutcome path.now versions.now latest.now (reply_of answer.now) (outcome_view output)) }
 {
     match read_answer(alloc, answer)? {
-        Ok(dependency) => {
+        FileReading::Valid(dependency) => {
             let line = shown_line(alloc, path, versions, dependency.retracts())?;
             Ok(printed(alloc, line))
         }
-        Err(class) => Ok(refused(alloc, fault_report(alloc, path, latest, class)?)),
+        FileReading::Faulty(class) => {
+            Ok(refused(alloc, fault_report(alloc, path, latest, class)?))
+        }
     }
 }
 
