@@ -1,14 +1,14 @@
 -- The front of a text: its bytes up to the first that no element can have.
-use Rattle.std.proofs.Common.{◌≡◌, ◌≢◌, ℕ, ◌+◌, ◌-◌, ◌<◌, ◌≤◌, ◌==◌, ◌&&◌, ◌||◌, Bool, not, true, false, List, [], ◌∷◌, length, get_or, take, drop, refl, sym, ap, ◌∙◌, inl, inr, arith, length-drop, length-take-le}
-use Rattle.std.proofs.lemmas.Bool.{and_left, cases_eq, cases_lt, eqb-true, false_from_ne_true, ne_eqb, or_cases, or_parts}
+use Rattle.std.proofs.Common.{◌≡◌, ◌≢◌, ℕ, ◌+◌, ◌-◌, ◌<◌, ◌≤◌, ◌==◌, ◌&&◌, Bool, true, false, List, length, get_or, take, drop, refl, sym, ap, ◌∙◌, inl, inr, arith, length-drop}
+use Rattle.std.proofs.lemmas.Bool.{and_left, cases_eq, cases_lt, eqb-true, false_from_ne_true}
 use Rattle.std.proofs.lemmas.Bool.Decides.{nat_tests}
 use Rattle.std.proofs.lemmas.List.{drop-drop, get_or-drop, get_or-take, take-take, take_all, take_rest}
 use Rattle.std.proofs.lemmas.List.Folds.{length-prefix_len}
-use Rattle.std.proofs.lemmas.List.Splits.{join_with_byte-slice_split, slice_split_first, slice_split_none}
-use Rattle.std.proofs.lemmas.List.Sums.{AllPass-from_list_all, list_all-from_AllPass, passes_at_first, position_or_len_is, prefix_len-le-length, prefix_len_is, prefix_len_passes, prefix_len_stops}
+use Rattle.std.proofs.lemmas.List.Splits.{slice_split_first, slice_split_none}
+use Rattle.std.proofs.lemmas.List.Sums.{AllPass-from_list_all, list_all-from_AllPass, position_or_len_is, prefix_len-le-length, prefix_len_is, prefix_len_passes, prefix_len_stops}
 use Rattle.std.specs.List.{list_all, position_or_len, prefix_len, take_while}
 use Rattle.gm_name.specs.Element.{elements, is_element, is_path_byte, is_stem_byte, stem}
-use Rattle.gm_name.specs.Path.{first_element, is_byte_of_path, is_host_byte}
+use Rattle.gm_name.specs.Path.{is_byte_of_path}
 use Rattle.gm_name.proofs.Bytes.{elements-bytes}
 
 -- ---- bytes
@@ -132,45 +132,6 @@ no-element text bad = elim (cases_lt (prefix_len is_path_byte text) (length text
   | inr end ↦ at-end text end ∙ bad
 ]
 
--- ---- the host name at the front of a path
-
-host_byte-no_slash : (b : ℕ) → is_host_byte b ≡ true → (b == 47) ≡ false
-host_byte-no_slash b h = grind (arith, nat_tests)
-
--- up to a slash or the end
-pub host-ends : (text : List ℕ) → (prefix_len is_host_byte text < length text → get_or text (prefix_len is_host_byte text) 0 ≡ 47)
-    → (first_element text ≡ take_while is_host_byte text) × (list_all is_host_byte (take_while is_host_byte text) ≡ true)
-host-ends text next =
-    let n = prefix_len is_host_byte text in
-    let first : position_or_len (λ b. b == 47) text ≡ n =
-    position_or_len_is (λ b. b == 47) text n 0 (prefix_len-le-length is_host_byte text) (λ k lt. host_byte-no_slash _ (prefix_len_passes is_host_byte text k 0 lt)) (λ lt. rw (next lt) refl) in
-    (ap (λ (k : ℕ). take k text) first, while-passes is_host_byte text)
-
--- another byte follows it
-pub host-broken : (text : List ℕ) → prefix_len is_host_byte text < length text → get_or text (prefix_len is_host_byte text) 0 ≢ 47
-    → list_all is_host_byte (first_element text) ≡ false
-host-broken text inside other = false_from_ne_true (list_all is_host_byte (first_element text)) (λ all.
-    let n = prefix_len is_host_byte text in
-    let slash = position_or_len (λ b. b == 47) text in
-    let stops = prefix_len_stops is_host_byte text 0 inside in
-    let bound = prefix_len-le-length (λ b. not (b == 47)) text in
-    let len : length (take slash text) ≡ slash = length-take-le slash text bound in
-    elim (cases_lt n slash) [
-      | inl before ↦
-          let passes = AllPass-from_list_all is_host_byte (take slash text) all n 0 (omega arith) in
-          absurd (true_ne_false (sym (rw (get_or-take slash text n 0 before) at passes) ∙ stops))
-      | inr after ↦ elim (cases_eq slash n) [
-        | inl same ↦
-            let found = passes_at_first (λ b. b == 47) text 0 (omega arith) in
-            other (eqb-true _ _ (rw same at found))
-        | inr apart ↦
-            let passes = prefix_len_passes is_host_byte text slash 0 (omega arith) in
-            let found = passes_at_first (λ b. b == 47) text 0 (omega arith) in
-            let apart = host_byte-no_slash (get_or text slash 0) passes in
-            absurd (true_ne_false (sym found ∙ apart))
-      ]
-    ])
-
 -- ---- the text after a front
 
 -- its first byte
@@ -194,30 +155,3 @@ rest-none text rest n e none =
 -- the text after its first byte
 pub rest-after : (text rest : List ℕ) (n : ℕ) → rest ≡ drop n text → take (length rest - 1) (drop 1 rest) ≡ drop (n + 1) text
 rest-after text rest n e = take_rest rest 1 ∙ ap (λ (xs : List ℕ). drop 1 xs) e ∙ drop-drop 1 n text
-
--- ---- the host name, by the text after it
-
--- the first element is the front
-pub host-all : (text rest : List ℕ) → rest ≡ drop (prefix_len is_host_byte text) text → ((length rest == 0) || (get_or rest 0 0 == 47)) ≡ true
-    → (first_element text ≡ take_while is_host_byte text) × (list_all is_host_byte (first_element text) ≡ true)
-host-all text rest e end =
-    let cut = host-ends text (λ inside.
-    let size = length-drop (prefix_len is_host_byte text) text in
-    let same : length rest ≡ length (drop (prefix_len is_host_byte text) text) = ap length e in
-    let some : (length rest == 0) ≡ false = ne_eqb _ _ (λ none. absurd (omega arith)) in
-    let first = rest-first text rest (prefix_len is_host_byte text) e some in
-    elim (or_cases _ _ end) [
-      | inl none ↦ absurd (true_ne_false (sym none ∙ some))
-      | inr slash ↦ sym first.1 ∙ eqb-true _ _ slash
-    ]) in
-    (cut.0, rw cut.0 cut.1)
-
--- it is longer
-pub host-some : (text rest : List ℕ) → rest ≡ drop (prefix_len is_host_byte text) text → ((length rest == 0) || (get_or rest 0 0 == 47)) ≡ false
-    → list_all is_host_byte (first_element text) ≡ false
-host-some text rest e goes =
-    let parts = or_parts _ _ goes in
-    let first = rest-first text rest (prefix_len is_host_byte text) e parts.0 in
-    host-broken text first.0 (λ slash.
-    let at : (get_or rest 0 0 == 47) ≡ true = rw (first.1 ∙ slash) refl in
-    true_ne_false (sym at ∙ parts.1))

@@ -1,7 +1,7 @@
 //! Fingerprints of texts: hashes to look names up by, because numbers compare faster than texts.
 
 ghost use Rattle.std.specs.Prelude.{◌≡◌};
-ghost use Rattle.gm_name.specs.Fingerprint.{fingerprint, with_byte};
+ghost use Rattle.gm_name.specs.Fingerprint.{fingerprint};
 
 /// The 64-bit Fowler-Noll-Vo hash FNV-1a of a text's bytes, computed from the number `start` in place of the usual
 /// offset basis. To hash two texts in a row, pass the first one's fingerprint as the `start` of the second.
@@ -13,27 +13,10 @@ pub fn fingerprint(start: u64, text: &str) -> u64
     ensures { result ≡ fingerprint start text.now }
 {
     let mut number = start;
-    let mut rest = text.as_bytes();
-    // Four bytes at a time, since the test for the end would take as long as the hash of a byte.
-    while rest.len() >= 4 {
-        let (four, after) = rest.split_at(4);
-        number = with_byte(number, four[0]);
-        number = with_byte(number, four[1]);
-        number = with_byte(number, four[2]);
-        number = with_byte(number, four[3]);
-        rest = after;
-    }
-    for byte in rest {
-        number = with_byte(number, *byte);
+    for byte in text.as_bytes() {
+        number = (number ^ u64::from(*byte)).wrapping_mul(PRIME);
     }
     number
-}
-
-/// The fingerprint of a text that is continued by a byte.
-fn with_byte(number: u64, byte: u8) -> u64
-    ensures { result ≡ with_byte number byte }
-{
-    (number ^ u64::from(byte)).wrapping_mul(PRIME)
 }
 
 /// The 64-bit prime of FNV-1a.
