@@ -1,5 +1,5 @@
 -- Where an operation puts a new entry.
-use Rattle.std.proofs.Common.{◌≡◌, ℕ, ◌||◌, Bool, true, false, List, [], ◌∷◌, ◌++◌, length, Option, Some, None, is_some, refl, sym, ap, subst, ◌∙◌}
+use Rattle.std.proofs.Common.{◌≡◌, ℕ, ◌||◌, Bool, true, false, List, [], ◌∷◌, ◌++◌, length, Option, Some, None, is_some, refl, ap, subst, ◌∙◌}
 use Rattle.std.specs.Prelude.{suc, insert}
 use Rattle.std.specs.List.{list_any}
 use Rattle.gm_syntax.specs.Tokens.{Placed}
@@ -12,7 +12,7 @@ use Rattle.gm_file_edit.specs.Edits.{Edit, SetModule, SetGo, SetRequire, DropReq
 use Rattle.gm_file_edit.specs.About.{about}
 use Rattle.gm_file_edit.specs.Adding.{added, added_at, entry_at, is_of, single, spot_after_last, verb_text}
 use Rattle.gm_file_edit.specs.Changes.{edited, put_in}
-use Rattle.gm_file_edit.specs.EditLaws.{AdditionFollowsItsVerb, AdditionOfANewVerbIsLast, IsLastOfVerb, arguments_added, holds, verb_added}
+use Rattle.gm_file_edit.specs.EditLaws.{AdditionFollowsItsVerb, AdditionOfANewVerbIsLast, arguments_added, verb_added}
 use Rattle.gm_file_edit.specs.Fates.{directive_at, passes}
 use Rattle.gm_file_edit.specs.Laws.{directives_of}
 use Rattle.gm_file_edit.specs.Searching.{is_there, is_there_from}

@@ -7,14 +7,14 @@ use Rattle.std.proofs.lemmas.List.{take-append-drop}
 use Rattle.std.proofs.lemmas.List.Elements.{filter-append, filter_map-append}
 use Rattle.gm_syntax.specs.Tokens.{Placed}
 use Rattle.gm_syntax.specs.Document.{Line, Blank, Comment, Open, Close, Entry}
-use Rattle.gm_file.specs.Directives.{Directive, block_after_line, item_at}
+use Rattle.gm_file.specs.Directives.{Directive, item_at}
 use Rattle.gm_file_edit.specs.Edits.{Edit, SetModule, SetGo, SetRequire, DropRequire, AddExclude, DropExclude, SetReplace, DropReplace, AddRetract, DropRetract}
 use Rattle.gm_file_edit.specs.About.{about}
 use Rattle.gm_file_edit.specs.Adding.{added, added_at, after_first_that, entry_at, insert_at_spot, past_block, single, spot_after_first, spot_after_last}
 use Rattle.gm_file_edit.specs.declared.adding.Spot.{Spot}
 use Rattle.gm_file_edit.specs.Changes.{changed, edited, put_in}
 use Rattle.gm_file_edit.specs.EditLaws.{CommentLinesStay, is_comment_line}
-use Rattle.gm_file_edit.specs.Fates.{Begun, Fate, begin, directive_at, dropped, dropping_from, is_blank_source_line, is_emptied, itself, kept, leaves_nothing, passes, remaining_from, renewed, renewing_from, with_line}
+use Rattle.gm_file_edit.specs.Fates.{Begun, Fate, begin, directive_at, dropped, dropping_from, is_emptied, itself, kept, leaves_nothing, passes, remaining_from, renewed, renewing_from, with_line}
 use Rattle.gm_file_edit.specs.NewWords.{made_word}
 use Rattle.gm_file_edit.specs.Renewing.{made_new}
 use Rattle.gm_file_edit.specs.Searching.{is_there}

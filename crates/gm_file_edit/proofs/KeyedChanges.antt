@@ -2,7 +2,7 @@
 use Rattle.std.proofs.Common.{◌≡◌, ℕ, zero, suc, ◌+◌, ◌<◌, ◌≤◌, List, [], ◌∷◌, ◌++◌, length, map, take, drop, set, get_or, refl, sym, ap, ◌∙◌, arith}
 use Rattle.std.specs.Prelude.{insert}
 use Rattle.std.specs.List.{swap}
-use Rattle.std.proofs.lemmas.List.{length-map, map-set, take-map}
+use Rattle.std.proofs.lemmas.List.{length-map, map-set, map_more, map_push, take-map}
 use Rattle.std.proofs.lemmas.List.Edits.{swap_is}
 use Rattle.std.proofs.Math.ListN.{get_or-map}
 use Rattle.gm_syntax.proofs.Edits.{map-insert}
@@ -50,25 +50,49 @@ taken lines new keys changed seen n view are cut keys_cut =
       numbers = keys_cut ∙ ap (take n) (are ∙ ap (map key_of) view) ∙ take-map key_of n seen ∙ ap (map key_of) (sym seen_new);
     }
 
-pub inserted : (lines new : List declared.Line) (keys changed : List Key) (seen : List (Line Placed)) (at : ℕ) (line : declared.Line) (key : Key) → line_views lines ≡ seen → keys ≡ map key_of (line_views lines)
-    → key ≡ key_of (line_of line) → new ≡ insert lines at line → changed ≡ insert keys at key → AreKeyed new changed (insert seen at (line_of line))
-inserted lines new keys changed seen at line key view are of put keys_put =
+pub inserted : (lines new : List declared.Line) (keys changed : List Key) (seen : List (Line Placed)) (at : ℕ) (line : declared.Line) → line_views lines ≡ seen → keys ≡ map key_of (line_views lines)
+    → new ≡ insert lines at line → changed ≡ insert keys at (key_of (line_of line)) → AreKeyed new changed (insert seen at (line_of line))
+inserted lines new keys changed seen at line view are put keys_put =
     let seen_new : line_views new ≡ insert seen at (line_of line) = ap line_views put ∙ map-insert line_of lines at line ∙ ap (λ (ls : List (Line Placed)). insert ls at (line_of line)) view in
     record {
       view = seen_new;
-      numbers = keys_put ∙ ap (λ (ks : List Key). insert ks at key) (are ∙ ap (map key_of) view) ∙ ap (insert (map key_of seen) at) of ∙ sym (map-insert key_of seen at (line_of line)) ∙ ap (map key_of) (sym seen_new);
+      numbers = keys_put ∙ ap (λ (ks : List Key). insert ks at (key_of (line_of line))) (are ∙ ap (map key_of) view) ∙ sym (map-insert key_of seen at (line_of line)) ∙ ap (map key_of) (sym seen_new);
     }
 
-pub replaced : (lines new : List declared.Line) (keys changed : List Key) (seen : List (Line Placed)) (at : ℕ) (line : Line Placed) (key : Key) → line_views lines ≡ seen → keys ≡ map key_of (line_views lines)
-    → key ≡ key_of line → line_views new ≡ set (line_views lines) at line → changed ≡ set keys at key → AreKeyed new changed (set seen at line)
+pub replaced : (lines new : List declared.Line) (keys changed : List Key) (seen : List (Line Placed)) (at : ℕ) (line : declared.Line) (key : Key) → line_views lines ≡ seen → keys ≡ map key_of (line_views lines)
+    → key ≡ key_of (line_of line) → new ≡ set lines at line → changed ≡ set keys at key → AreKeyed new changed (set seen at (line_of line))
 replaced lines new keys changed seen at line key view are of put keys_put =
-    let seen_new : line_views new ≡ set seen at line = put ∙ ap (λ (ls : List (Line Placed)). set ls at line) view in
+    let seen_new : line_views new ≡ set seen at (line_of line) = ap line_views put ∙ map-set line_of lines at line ∙ ap (λ (ls : List (Line Placed)). set ls at (line_of line)) view in
     record {
       view = seen_new;
-      numbers = keys_put ∙ ap (λ (ks : List Key). set ks at key) (are ∙ ap (map key_of) view) ∙ ap (set (map key_of seen) at) of ∙ sym (map-set key_of seen at line) ∙ ap (map key_of) (sym seen_new);
+      numbers = keys_put ∙ ap (λ (ks : List Key). set ks at key) (are ∙ ap (map key_of) view) ∙ ap (set (map key_of seen) at) of ∙ sym (map-set key_of seen at (line_of line)) ∙ ap (map key_of) (sym seen_new);
     }
 
 pub insert-both : {X : Type 0} (xs : List X) (at : ℕ) (x y : X) → at ≤ length xs → insert (insert xs at y) at x ≡ take at xs ++ (x ∷ y ∷ drop at xs)
 insert-both xs zero x y le = refl
 insert-both [] (suc at) x y le = absurd (omega (arith, le))
 insert-both (z ∷ xs) (suc at) x y le = ap (λ l. z ∷ l) (insert-both xs at x y (omega (arith, le)))
+
+-- a blank line and then a line
+pub after-blank : (lines between new : List declared.Line) (keys changed all : List Key) (seen : List (Line Placed)) (at : ℕ) (line : declared.Line) → line_views lines ≡ seen → keys ≡ map key_of (line_views lines)
+    → between ≡ insert lines at line → changed ≡ insert keys at (key_of (line_of line)) → new ≡ insert between at variants.Blank → all ≡ insert changed at (key_of Blank) → at ≤ length seen
+    → AreKeyed new all (take at seen ++ (Blank ∷ line_of line ∷ drop at seen))
+after-blank lines between new keys changed all seen at line view are put keys_put blank keys_blank le =
+    let one = inserted lines between keys changed seen at line view are put keys_put in
+    let both = inserted between new changed all (insert seen at (line_of line)) at variants.Blank one.view one.numbers blank keys_blank in
+    record { view = both.view ∙ insert-both seen at Blank (line_of line) le; numbers = both.numbers }
+
+-- the keys of the lines up to and including the next one
+pub keys-next : (lines : List declared.Line) (n : ℕ) (line : declared.Line) (keys more : List Key) (key : Key) → n < length lines → line ≡ get_or lines n line → keys ≡ map key_of (line_views (take n lines))
+    → key ≡ key_of (line_of line) → more ≡ keys ++ key ∷ [] → more ≡ map key_of (line_views (take (n + 1) lines))
+keys-next lines n line keys more key lt is are of pushed =
+    pushed ∙ ap (λ (ks : List Key). ks ++ key ∷ []) are
+    ∙ ap (λ (k : Key). map key_of (line_views (take n lines)) ++ k ∷ []) (of ∙ ap (λ (l : declared.Line). key_of (line_of l)) is)
+    ∙ sym (ap (map key_of) (map_more line_of lines n line lt) ∙ map_push key_of (line_views (take n lines)) (line_of (get_or lines n line)))
+
+-- copies of the lines up to and including the next one
+pub copies-next : (lines : List declared.Line) (n : ℕ) (line copy : declared.Line) (copies more : List declared.Line) → n < length lines → line ≡ get_or lines n line → line_views copies ≡ line_views (take n lines)
+    → line_of copy ≡ line_of line → more ≡ copies ++ copy ∷ [] → line_views more ≡ line_views (take (n + 1) lines)
+copies-next lines n line copy copies more lt is are same pushed =
+    ap line_views pushed ∙ map_push line_of copies copy ∙ ap (λ (ls : List (Line Placed)). ls ++ line_of copy ∷ []) are
+    ∙ ap (λ (l : Line Placed). line_views (take n lines) ++ l ∷ []) (same ∙ ap line_of is) ∙ sym (map_more line_of lines n line lt)

@@ -6,7 +6,6 @@ use Rattle.std.specs.List.{swap}
 use Rattle.std.proofs.Math.ListN.{get_or-map}
 use Rattle.std.proofs.lemmas.List.Edits.{swap_is}
 use Rattle.gm_syntax.specs.declared.line.Line as declared
-use Rattle.gm_syntax.specs.declared.line.Line.TheVariants as variants
 use Rattle.gm_syntax.specs.LineViews.{line_of, line_views}
 use Rattle.gm_file_edit.proofs.Untouched.{all-lines-stay, all_stay}
 use Rattle.gm_file_edit.proofs.Walking.{drop-next}

@@ -1,5 +1,5 @@
 -- What the key of a line says of the line.
-use Rattle.std.proofs.Common.{◌≡◌, ◌==◌, ◌||◌, ℕ, Bool, true, false, List, [], ◌∷◌, map, Option, Some, None, refl, sym, ap, subst, ◌∙◌, arith, inl, inr}
+use Rattle.std.proofs.Common.{◌≡◌, ◌==◌, ◌||◌, ℕ, true, false, List, [], ◌∷◌, Option, Some, None, refl, sym, ap, ◌∙◌, arith, inl, inr}
 use Rattle.std.specs.Prelude.{slice_get}
 use Rattle.std.specs.Option.{option_map}
 use Rattle.std.specs.Str.{bytes_eq}
@@ -12,11 +12,11 @@ use Rattle.gm_syntax.specs.Words.{Word}
 use Rattle.gm_syntax.specs.Tokens.{Placed, words_of}
 use Rattle.gm_syntax.specs.Document.{Line, Blank, Comment, Open, Close, Entry}
 use Rattle.gm_file.specs.Directives.{block_after_line, directive_of, main_verb}
-use Rattle.gm_file.specs.Values.{argument, argument_of_kind}
+use Rattle.gm_file.specs.Values.{argument_of_kind}
 use Rattle.gm_file_edit.specs.About.{about}
 use Rattle.gm_file_edit.specs.Edits.{Edit}
 use Rattle.gm_file_edit.specs.Fates.{directive_at, passes}
-use Rattle.gm_file_edit.specs.Keys.{key_of, may_concern, may_name, number_at, number_by_kind, text_number, word_number, words_key}
+use Rattle.gm_file_edit.specs.Keys.{key_of, may_concern, may_name, number_at, number_by_kind, text_number}
 use Rattle.gm_file_edit.specs.Targets.{begins_with, is_first, is_text, edited_path, verb_of}
 use Rattle.gm_file_edit.proofs.Comments.{blank-holds, comment-holds}
 use Rattle.gm_file_edit.proofs.Targets.{block-other, loose-other, no-words-other, other-path, other-verb}

@@ -1,6 +1,7 @@
 -- The operations that rewrite an entry.
 use Rattle.std.proofs.Common.{◌≡◌, ℕ, ◌&&◌, not, Bool, true, false, List, [], ◌∷◌, ◌++◌, Option, Some, None, is_some, refl, sym, ap, subst, ◌∙◌, arith, inl, inr}
-use Rattle.std.specs.List.{list_any}
+use Rattle.std.specs.Option.{option_map}
+use Rattle.std.specs.List.{after_first, before_first, list_any}
 use Rattle.std.specs.Str.{bytes_eq}
 use Rattle.std.proofs.lemmas.Bool.{cases_Bool, true≢false}
 use Rattle.std.proofs.lemmas.Slice.Eq.{bytes_eq-Decides}
@@ -17,9 +18,9 @@ use Rattle.gm_syntax.proofs.NewWords.{mark_stands}
 use Rattle.gm_syntax.proofs.Changes.{standing_entry}
 use Rattle.gm_name.proofs.NameTests.{and_both}
 use Rattle.gm_name.specs.Names.{does_fit, is_path}
-use Rattle.gm_file.specs.Values.{argument}
+use Rattle.gm_file.specs.Values.{argument, both}
 use Rattle.gm_file.specs.GoVersions.{strict_go}
-use Rattle.gm_file.specs.Directives.{Strict, Pair, Left, Right, Folder, Module, Replacing, Directive, DeclaresModule, DeclaresGo, Requires, Excludes, Replaces, Retracts, Kept, Verb, ForModule, ForGo, ForRequire, ForReplace, directive_of, is_arrow, main_verb, one_of, pair_of}
+use Rattle.gm_file.specs.Directives.{Strict, Pair, Left, Right, Folder, Module, Replacing, Directive, DeclaresModule, DeclaresGo, Requires, Excludes, Replaces, Retracts, Kept, Verb, ForModule, ForGo, ForRequire, ForReplace, directive_of, is_arrow, left_of, main_verb, one_of, pair_of, replacing, right_of}
 use Rattle.gm_file.specs.Faults.{conflicts, directive_kinds, does_left_fit, is_go, is_module, is_same_left, is_same_right, is_same_version, left_version_kinds, path_kinds, pair_kinds, right_path_kinds, right_version_kinds, sides_kinds, unless}
 use Rattle.gm_file_edit.specs.About.{is_covered_by, is_replaced_by, requires_path}
 use Rattle.gm_file_edit.specs.Fates.{directive_at}
@@ -284,17 +285,30 @@ replace-kinds r left right fit earlier clear = both-nil (sides_kinds r.0 r.1) (u
 no-arrow : (value : List ℕ) → is_arrow (new_word value) ≡ false
 no-arrow value = elim (cases_Bool (can_be_bare value)) [ inl e ↦ rw e refl | inr e ↦ rw e refl ]
 
+-- the words before and after the arrow
+arrow-splits : (path : List ℕ) (version : Option (List ℕ)) (rest : List Placed) → (before_first is_arrow (words_of (left_words_of path version ++ made_mark Arrow ∷ rest)) ≡ words_of (left_words_of path version))
+    × (after_first is_arrow (words_of (left_words_of path version ++ made_mark Arrow ∷ rest)) ≡ words_of rest)
+arrow-splits path None rest = rw (no-arrow path) (refl, refl)
+arrow-splits path (Some version) rest = rw (no-arrow path, no-arrow version) (refl, refl)
+
+left-says : (path : List ℕ) (version : Option (List ℕ)) → is_path path ≡ true → IsSoundVersion version → left_of (words_of (left_words_of path version)) ≡ Some (record { path = path; version = version })
+left-says path None p v = rw (made-value path (path-feed path p)) refl
+left-says path (Some version) p v = rw (made-value path (path-feed path p), made-value version (version-feed version v)) refl
+
+right-says : (right : Right) → IsSoundRight right → right_of (words_of (right_words right)) ≡ Some right
+right-says (Folder text) r = rw (made-value text (byte-feed text r.1), r.0) refl
+right-says (Module q w) r = rw (made-value q (path-feed q r.0), made-value w (version-feed w r.1), path-no-folder q r.0) refl
+
 replace-says-of : (path : List ℕ) (version : Option (List ℕ)) (right : Right) → is_path path ≡ true → IsSoundVersion version → IsSoundRight right
     → directive_of ForReplace (words_of (left_words_of path version ++ made_mark Arrow ∷ right_words right)) ≡ Some (Replaces (record { path = path; version = version }, right))
 unfolding directive_of
-replace-says-of path None (Folder text) p v r =
-    rw (no-arrow path, made-value path (path-feed path p), made-value text (byte-feed text r.1), r.0) refl
-replace-says-of path None (Module q w) p v r =
-    rw (no-arrow path, made-value path (path-feed path p), made-value q (path-feed q r.0), made-value w (version-feed w r.1), path-no-folder q r.0) refl
-replace-says-of path (Some version) (Folder text) p v r =
-    rw (no-arrow path, no-arrow version, made-value path (path-feed path p), made-value version (version-feed version v), made-value text (byte-feed text r.1), r.0) refl
-replace-says-of path (Some version) (Module q w) p v r =
-    rw (no-arrow path, no-arrow version, made-value path (path-feed path p), made-value version (version-feed version v), made-value q (path-feed q r.0), made-value w (version-feed w r.1), path-no-folder q r.0) refl
+replace-says-of path version right p v r =
+    let parts = arrow-splits path version (right_words right) in
+    let after : List Word = after_first is_arrow (words_of (left_words_of path version ++ made_mark Arrow ∷ right_words right)) in
+    ap (λ (ws : List Word). option_map Replaces (both replacing (left_of ws) (right_of after))) parts.0
+    ∙ ap (λ (ws : List Word). option_map Replaces (both replacing (left_of (words_of (left_words_of path version))) (right_of ws))) parts.1
+    ∙ ap (λ (o : Option Left). option_map Replaces (both replacing o (right_of (words_of (right_words right))))) (left-says path version p v)
+    ∙ ap (λ (o : Option Right). option_map Replaces (both replacing (Some (record { path = path; version = version })) o)) (right-says right r)
 
 pub replace-says : (r : Replacing) → IsSoundLeft r.0 → IsSoundRight r.1 → directive_of ForReplace (words_of (replace_words r)) ≡ Some (Replaces r)
 replace-says r left right = replace-says-of r.0.path r.0.version r.1 left.0 left.1 right

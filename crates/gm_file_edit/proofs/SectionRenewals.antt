@@ -9,8 +9,8 @@ use Rattle.gm_file_edit.specs.Edits.{Edit, SetModule, SetGo, SetRequire, DropReq
 use Rattle.gm_file_edit.specs.About.{about}
 use Rattle.gm_file_edit.specs.Changes.{changed, edited}
 use Rattle.gm_file_edit.specs.EditLaws.{Block, Section, SettingLeavesSections, Single, holds, is_loose, is_section, lines_of_sections, renewed_inside, section_lines, sections_renewed, sections_without}
-use Rattle.gm_file_edit.specs.Fates.{Begun, Fate, directive_at, dropping_from, is_emptied, kept, leaves_nothing, passes, remaining_from, renewed, renewing_from}
-use Rattle.gm_file_edit.specs.Laws.{directives_of, set_by}
+use Rattle.gm_file_edit.specs.Fates.{Fate, directive_at, dropping_from, is_emptied, kept, leaves_nothing, passes, remaining_from, renewing_from}
+use Rattle.gm_file_edit.specs.Laws.{set_by}
 use Rattle.gm_file_edit.specs.Renewing.{made_new}
 use Rattle.gm_file_edit.specs.Searching.{is_there}
 use Rattle.gm_file_edit.proofs.Comments.{blank-holds, close-holds, comment-holds, open-holds}

@@ -1,19 +1,18 @@
 -- What a drop leaves of the sections of a file.
-use Rattle.std.proofs.Common.{◌≡◌, ℕ, ◌&&◌, not, if◌then◌else◌, Bool, true, false, List, [], ◌∷◌, ◌++◌, map, Option, Some, None, is_none, is_some, refl, sym, ap, subst, ◌∙◌, append-nil, append_assoc, inl, inr}
-use Rattle.std.specs.Prelude.{filter}
+use Rattle.std.proofs.Common.{◌≡◌, ℕ, ◌&&◌, if◌then◌else◌, Bool, true, false, List, [], ◌∷◌, ◌++◌, map, Option, Some, None, is_none, refl, sym, ap, ◌∙◌, append-nil, append_assoc, inl, inr}
 use Rattle.std.specs.List.{flat_map, list_all, list_any}
 use Rattle.std.proofs.lemmas.Bool.{cases_Bool, true≢false}
 use Rattle.gm_syntax.specs.Tokens.{Placed}
-use Rattle.gm_syntax.specs.Document.{Line, Blank, Comment, Open, Close, Entry, IsDocument, inside_after_all, start}
-use Rattle.gm_syntax.specs.LineViews.{plain, plain_lines}
+use Rattle.gm_syntax.specs.Document.{Line, Blank, Comment, Open, Close, Entry, inside_after_all, start}
+use Rattle.gm_syntax.specs.LineViews.{plain_lines}
 use Rattle.gm_syntax.proofs.Alternation.{line_fits}
 use Rattle.gm_syntax.proofs.Changes.{AreValidFrom, lines_stand, open_outside}
-use Rattle.gm_file.specs.Directives.{Directive, block_after_line}
+use Rattle.gm_file.specs.Directives.{Directive}
 use Rattle.gm_file_edit.specs.Edits.{Edit, SetModule, SetGo, SetRequire, DropRequire, AddExclude, DropExclude, SetReplace, DropReplace, AddRetract, DropRetract}
 use Rattle.gm_file_edit.specs.About.{about}
 use Rattle.gm_file_edit.specs.Changes.{changed, edited}
-use Rattle.gm_file_edit.specs.EditLaws.{Block, ConsistOfSections, DocumentsConsistOfSections, DropLeavesSections, Emptied, Remains, Section, Single, Stays, empties, holds, is_loose, is_section, left_inside, lines_of_sections, remains_of, section_lines, sections_without, without_emptied}
-use Rattle.gm_file_edit.specs.Fates.{Begun, Fate, begin, block_lines, directive_at, dropped, dropping_from, fate_of, is_blank_source_line, is_emptied, kept, leaves_nothing, passes, remaining_from, with_line}
+use Rattle.gm_file_edit.specs.EditLaws.{Block, ConsistOfSections, DocumentsConsistOfSections, DropLeavesSections, Emptied, Remains, Section, Single, empties, holds, is_loose, is_section, left_inside, lines_of_sections, remains_of, section_lines, sections_without, without_emptied}
+use Rattle.gm_file_edit.specs.Fates.{Begun, Fate, block_lines, directive_at, dropped, dropping_from, fate_of, is_blank_source_line, is_emptied, kept, leaves_nothing, passes, remaining_from, with_line}
 use Rattle.gm_file_edit.specs.Laws.{is_drop}
 use Rattle.gm_file_edit.specs.Searching.{is_there}
 use Rattle.gm_file_edit.proofs.Comments.{blank-holds, close-holds, comment-holds, open-holds}

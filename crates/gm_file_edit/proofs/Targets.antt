@@ -498,3 +498,12 @@ pub no-words-of : (text : List ℕ) (words : List Placed) (suffix : Option (List
 unfolding item_at
 no-words-of text [] suffix short = refl
 no-words-of text (word ∷ words) suffix short = absurd (omega (arith, short))
+
+-- whether words begin with a path
+pub begins-none : (path : List ℕ) (words : List Placed) → length words < 1 → false ≡ begins_with (Some path) (words_of words)
+begins-none path [] short = refl
+begins-none path (word ∷ words) short = absurd (omega (arith, short))
+
+pub begins-one : (path : List ℕ) (words : List Placed) (first : Placed) → 1 ≤ length words → first ≡ get_or words 0 first → is_text path (argument first.word) ≡ begins_with (Some path) (words_of words)
+begins-one path [] first long is = absurd (omega (arith, long))
+begins-one path (word ∷ words) first long is = ap (λ (w : Placed). is_text path (argument w.word)) is

@@ -11,9 +11,11 @@ ghost use Rattle.gm_file.specs.Directives.{Strict, block_after_line};
 ghost use Rattle.gm_file.specs.Faults.{fault_of, is_module};
 ghost use Rattle.gm_file_edit.specs.Adding.{added, after_first_that, spot_after_first, spot_after_last, close_len, entry_at, is_of, past_block, single, verb_text};
 ghost use Rattle.gm_syntax.specs.Lines.{HasNoLineFeed};
+ghost use Rattle.gm_file_edit.specs.NewWords.{made_word};
 ghost use Rattle.gm_file_edit.specs.Fates.{directive_at, passes, IsValidAt};
 
 use crate::keyed_lines::KeyedLines;
+use crate::new_words::one_word;
 use crate::targeting::{block_after_line, is_entry_of};
 use gm_syntax::{Line, Token};
 use std::alloc::{AllocError, Global};
@@ -158,6 +160,24 @@ fn entry_at<'a>(
     single(alloc, verb_text(verb), arguments)
 }
 
+/// Inserts a blank line and an entry outside blocks at an index. If memory runs out, the lines stay as they are.
+fn insert_single<'a>(
+    alloc: Global,
+    verb: &str,
+    arguments: Vec<Token<'a>>,
+    at: usize,
+    lines: &mut KeyedLines<'a>,
+) -> Result<(), AllocError>
+    requires verb { HasNoLineFeed verb.now }
+    requires in_range { at ≤ length lines.old }
+    ensures ok { OnOk result (lines.new
+        ≡ take at lines.old ++ (Blank ∷ single verb.now arguments.entry.items ∷ drop at lines.old)) }
+    ensures err { OnErr result (lines.new ≡ lines.old) }
+{
+    let entry = single(alloc, verb, arguments)?;
+    lines.insert_after_blank(at, entry)
+}
+
 /// Adds an entry. It goes directly after the last entry with its verb, in the same block if that one is in a block. If
 /// no entry has the verb, it goes to the end, after a blank line. If memory runs out, the lines stay as they are.
 pub(crate) fn add<'a>(
@@ -172,16 +192,14 @@ pub(crate) fn add<'a>(
         ≡ added (is_of verb) (verb_text verb) arguments.entry.items lines.old) }
     ensures err { OnErr result (lines.new ≡ lines.old) }
 {
-    let spot = last_spot(verb, lines.lines());
-    match spot {
+    match last_spot(verb, lines.lines()) {
         Some(spot) => {
             let entry = entry_at(alloc, spot.inside, verb, arguments)?;
             lines.insert(spot.before, entry)
         }
         None => {
-            let entry = single(alloc, verb_text(verb), arguments)?;
             let end = lines.len();
-            lines.insert_after_blank(end, entry)
+            insert_single(alloc, verb_text(verb), arguments, end, lines)
         }
     }
 }
@@ -201,20 +219,20 @@ fn go_index(lines: &[Line]) -> usize
     }
 }
 
-/// Adds a blank line and a go directive after the module directive, or after its block if it is in one. If there is no
-/// module directive, both go to the end. If memory runs out, the lines stay as they are.
+/// Adds a blank line and a go directive with this version after the module directive, or after its block if it is in
+/// one. If there is no module directive, both go to the end. If memory runs out, the lines stay as they are.
 pub(crate) fn add_go<'a>(
     alloc: Global,
-    arguments: Vec<Token<'a>>,
+    version: &str,
     lines: &mut KeyedLines<'a>,
 ) -> Result<(), AllocError>
+    requires version { HasNoLineFeed version.now }
     requires document { IsDocument (plain_lines lines.old) }
     requires sound { fault_of Strict (plain_lines lines.old) ≡ None }
     ensures ok { OnOk result (lines.new ≡ after_first_that is_module
-        (Blank ∷ single (codes "go") arguments.entry.items ∷ []) lines.old) }
+        (Blank ∷ single (codes "go") (made_word version.now ∷ []) ∷ []) lines.old) }
     ensures err { OnErr result (lines.new ≡ lines.old) }
 {
-    let line = single(alloc, "go", arguments)?;
     let at = go_index(lines.lines());
-    lines.insert_after_blank(at, line)
+    insert_single(alloc, "go", one_word(alloc, version)?, at, lines)
 }

@@ -9,9 +9,11 @@ ghost use Rattle.gm_file.specs.Directives.{Strict};
 ghost use Rattle.gm_file.specs.Faults.{does_left_fit, fault_of};
 ghost use Rattle.gm_name.specs.Names.{does_fit};
 ghost use Rattle.gm_file_edit.specs.About.{about};
+ghost use Rattle.gm_file_edit.specs.Adding.{added, is_of, verb_text};
 ghost use Rattle.gm_file_edit.specs.Changes.{changed, edited, is_fit, put_in};
 ghost use Rattle.gm_file_edit.specs.Laws.{is_drop, set_by};
 ghost use Rattle.gm_file_edit.specs.Marks.{marks_from};
+ghost use Rattle.gm_file_edit.specs.NewWords.{pair_words};
 ghost use Rattle.gm_file_edit.specs.Sound.{IsSoundEdit};
 ghost use Rattle.gm_file_edit.specs.Views.{edit_of};
 
@@ -20,7 +22,7 @@ use crate::editor::Editor;
 use crate::fault::EditFault;
 use crate::keyed_lines::KeyedLines;
 use crate::marking::{first_mark, marks};
-use crate::new_words::{interval_words, one_word, pair_words, replace_words};
+use crate::new_words::{interval_words, pair_words, replace_words};
 use crate::op::{Change, Op};
 use crate::packing::pack;
 use crate::renewing::{new_line, renew};
@@ -113,6 +115,24 @@ fn change_lines<'a>(
     Ok(())
 }
 
+/// Adds an entry of a path and a version. If memory runs out, the lines stay as they are.
+fn add_pair<'a>(
+    alloc: Global,
+    verb: AddedVerb,
+    path: &ModPath,
+    version: &ModVersion,
+    lines: &mut KeyedLines<'a>,
+) -> Result<(), AllocError>
+    requires document { IsDocument (plain_lines lines.old) }
+    requires sound { fault_of Strict (plain_lines lines.old) ≡ None }
+    ensures ok { OnOk result (lines.new
+        ≡ added (is_of verb) (verb_text verb) (pair_words (path.now, version.now)) lines.old) }
+    ensures err { OnErr result (lines.new ≡ lines.old) }
+{
+    let words = pair_words(alloc, path, version)?;
+    add(alloc, verb, words, lines)
+}
+
 /// Adds the entry of an operation that targets no line, if it adds one. If memory runs out, the lines stay as they are.
 #[tactic(auto, unfolding(crate::specs::Changes::put_in))]
 fn put_in<'a>(alloc: Global, change: &Change, lines: &mut KeyedLines<'a>) -> Result<(), AllocError>
@@ -123,14 +143,12 @@ fn put_in<'a>(alloc: Global, change: &Change, lines: &mut KeyedLines<'a>) -> Res
     ensures err { OnErr result (lines.new ≡ lines.old) }
 {
     match change {
-        Change::SetGo(text) => add_go(alloc, one_word(alloc, text.as_str())?, lines),
+        Change::SetGo(text) => add_go(alloc, text.as_str(), lines),
         Change::SetRequire((path, version)) => {
-            let words = pair_words(alloc, path, version)?;
-            add(alloc, AddedVerb::Require, words, lines)
+            add_pair(alloc, AddedVerb::Require, path, version, lines)
         }
         Change::AddExclude((path, version)) => {
-            let words = pair_words(alloc, path, version)?;
-            add(alloc, AddedVerb::Exclude, words, lines)
+            add_pair(alloc, AddedVerb::Exclude, path, version, lines)
         }
         Change::SetReplace(replace) => {
             let words = replace_words(alloc, replace)?;

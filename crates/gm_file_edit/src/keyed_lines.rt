@@ -61,12 +61,46 @@ fn insert_in_room<T: Drop>(list: &mut Vec<T>, at: usize, item: T)
     }
 }
 
-/// Puts a line in the place of the one at an index.
-fn put_line<'a>(lines: &mut Vec<Line<'a>>, at: usize, line: Line<'a>)
-    requires { at < length lines.old.items }
-    ensures { line_views lines.new.items ≡ slice_set (line_views lines.old.items) at (line_of line.entry) }
+/// Puts an item in the place of the one at an index.
+fn put_item<T: Drop>(list: &mut Vec<T>, at: usize, item: T)
+    requires { at < length list.old.items }
+    ensures { list.new.items ≡ slice_set list.old.items at item }
 {
-    let _before = mem::replace(&mut lines[at], line);
+    let _before = mem::replace(&mut list[at], item);
+}
+
+/// Makes room for that many more lines and their keys, which stay as they are.
+fn make_room<'a>(
+    lines: &mut Vec<Line<'a>>,
+    keys: &mut Vec<Key>,
+    count: usize,
+) -> Result<(), AllocError>
+    ensures lines { lines.new.items ≡ lines.old.items }
+    ensures keys { keys.new.items ≡ keys.old.items }
+    ensures len_of_lines { vec_len lines.new ≡ vec_len lines.old }
+    ensures len_of_keys { vec_len keys.new ≡ vec_len keys.old }
+    ensures room_of_lines { OnOk result (vec_len lines.new + count ≤ vec_capacity lines.new) }
+    ensures room_of_keys { OnOk result (vec_len keys.new + count ≤ vec_capacity keys.new) }
+{
+    lines.reserve(count)?;
+    keys.reserve(count)
+}
+
+/// Inserts a line and its key where there is room for both.
+fn insert_keyed<'a>(lines: &mut Vec<Line<'a>>, keys: &mut Vec<Key>, at: usize, line: Line<'a>)
+    requires line_in_range { at ≤ vec_len lines.old }
+    requires key_in_range { at ≤ vec_len keys.old }
+    requires room_of_lines { vec_len lines.old < vec_capacity lines.old }
+    requires room_of_keys { vec_len keys.old < vec_capacity keys.old }
+    ensures lines { lines.new.items ≡ insert lines.old.items at line.entry }
+    ensures keys { keys.new.items ≡ insert keys.old.items at (key_of (line_of line.entry)) }
+    ensures len_of_lines { vec_len lines.new ≡ vec_len lines.old + 1 }
+    ensures len_of_keys { vec_len keys.new ≡ vec_len keys.old + 1 }
+    ensures capacity_of_lines { vec_capacity lines.old ≤ vec_capacity lines.new }
+    ensures capacity_of_keys { vec_capacity keys.old ≤ vec_capacity keys.new }
+{
+    insert_in_room(keys, at, key_of(&line));
+    insert_in_room(lines, at, line);
 }
 
 impl<'a> KeyedLines<'a> {
@@ -123,10 +157,9 @@ impl<'a> KeyedLines<'a> {
         ensures ok { OnOk result (self.new ≡ insert self.old at (line_of line.entry)) }
         ensures err { OnErr result (self.new ≡ self.old) }
     {
-        // with room for the line, its key is not inserted alone
-        self.lines.reserve(1)?;
-        self.keys.insert(at, key_of(&line))?;
-        self.lines.insert(at, line)?;
+        // with room for both, neither is inserted alone
+        make_room(&mut self.lines, &mut self.keys, 1)?;
+        insert_keyed(&mut self.lines, &mut self.keys, at, line);
         Ok(())
     }
 
@@ -137,13 +170,9 @@ impl<'a> KeyedLines<'a> {
             ≡ take at self.old ++ (Blank ∷ line_of line.entry ∷ drop at self.old)) }
         ensures err { OnErr result (self.new ≡ self.old) }
     {
-        // with room for both, neither is inserted alone
-        self.lines.reserve(2)?;
-        self.keys.reserve(2)?;
-        insert_in_room(&mut self.keys, at, key_of(&line));
-        insert_in_room(&mut self.lines, at, line);
-        insert_in_room(&mut self.keys, at, key_of(&Line::Blank));
-        insert_in_room(&mut self.lines, at, Line::Blank);
+        make_room(&mut self.lines, &mut self.keys, 2)?;
+        insert_keyed(&mut self.lines, &mut self.keys, at, line);
+        insert_keyed(&mut self.lines, &mut self.keys, at, Line::Blank);
         Ok(())
     }
 
@@ -153,7 +182,7 @@ impl<'a> KeyedLines<'a> {
         ensures { self.new ≡ slice_set self.old at (line_of line.entry) }
     {
         self.keys[at] = key_of(&line);
-        put_line(&mut self.lines, at, line);
+        put_item(&mut self.lines, at, line);
     }
 
     /// Exchanges two lines.

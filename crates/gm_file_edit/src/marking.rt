@@ -31,13 +31,13 @@ pub(crate) fn marks(
     let mut marks = Vec::with_capacity(alloc, lines.len())?;
     let mut block = None;
     for (n, key) in lines.keys().iter().enumerate() {
+        let mut mark = false;
         if may_concern(number, *key) {
             let line = lines.line(n);
-            marks.push(is_about_at(alloc, change, block, line)?)?;
+            mark = is_about_at(alloc, change, block, line)?;
             block = block_after_line(block, line);
-        } else {
-            marks.push(false)?;
         }
+        marks.push(mark)?;
     }
     Ok(marks)
 }

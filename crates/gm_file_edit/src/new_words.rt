@@ -13,6 +13,14 @@ use gm_name::{ModPath, ModVersion};
 use gm_syntax::{Punct, Token};
 use std::alloc::{AllocError, Global};
 
+/// Appends a word.
+fn push_token<'a>(words: &mut Vec<Token<'a>>, word: Token<'a>) -> Result<(), AllocError>
+    ensures { OnOk result (words.new.items ≡ words.old.items ++ word.entry ∷ []) }
+{
+    words.push(word)?;
+    Ok(())
+}
+
 /// Appends the word with this value.
 pub(crate) fn push_word<'a>(
     alloc: Global,
@@ -22,16 +30,14 @@ pub(crate) fn push_word<'a>(
     requires { HasNoLineFeed value.now }
     ensures { OnOk result (words.new.items ≡ words.old.items ++ made_word value.now ∷ []) }
 {
-    words.push(Token::spell(alloc, value)?)?;
-    Ok(())
+    push_token(words, Token::spell(alloc, value)?)
 }
 
 /// Appends a punctuation mark.
 fn push_mark<'a>(alloc: Global, words: &mut Vec<Token<'a>>, punct: Punct) -> Result<(), AllocError>
     ensures { OnOk result (words.new.items ≡ words.old.items ++ made_mark punct ∷ []) }
 {
-    words.push(Token::mark(alloc, punct)?)?;
-    Ok(())
+    push_token(words, Token::mark(alloc, punct)?)
 }
 
 /// Appends a path.
@@ -149,6 +155,19 @@ pub(crate) fn replace_words<'a>(
     Ok(words)
 }
 
+/// Appends a punctuation mark and a version.
+fn push_marked<'a>(
+    alloc: Global,
+    words: &mut Vec<Token<'a>>,
+    punct: Punct,
+    version: &ModVersion,
+) -> Result<(), AllocError>
+    ensures { OnOk result (words.new.items ≡ words.old.items ++ made_mark punct ∷ made_word version.now ∷ []) }
+{
+    push_mark(alloc, words, punct)?;
+    push_version(alloc, words, version)
+}
+
 /// Appends two versions in brackets, with a comma between them.
 fn push_ends<'a>(
     alloc: Global,
@@ -160,10 +179,8 @@ fn push_ends<'a>(
         ≡ words.old.items ++ made_mark Punct.LeftBracket ∷ made_word low.now ∷ made_mark Punct.Comma
         ∷ made_word high.now ∷ made_mark Punct.RightBracket ∷ []) }
 {
-    push_mark(alloc, words, Punct::LeftBracket)?;
-    push_version(alloc, words, low)?;
-    push_mark(alloc, words, Punct::Comma)?;
-    push_version(alloc, words, high)?;
+    push_marked(alloc, words, Punct::LeftBracket, low)?;
+    push_marked(alloc, words, Punct::Comma, high)?;
     push_mark(alloc, words, Punct::RightBracket)
 }
 

@@ -2,10 +2,11 @@
 //!
 //! An entry is rewritten in place, so that its comment and its position in a block are kept.
 
-ghost use Rattle.std.specs.Prelude.{◌≡◌, ◌<◌, false, length, take, slice_set, IfOk, None};
+ghost use Rattle.std.specs.Prelude.{◌≡◌, ◌<◌, Option, false, length, take, slice_set, IfOk, OnOk, None};
 ghost use Rattle.std.specs.Option.{option_map};
 ghost use Rattle.gm_syntax.specs.LineViews.{line_of, line_views};
 ghost use Rattle.gm_syntax.specs.Lines.{HasNoLineFeed};
+ghost use Rattle.gm_syntax.specs.Tokens.{Placed};
 ghost use Rattle.gm_file.specs.Directives.{block_after_lines};
 ghost use Rattle.gm_file.specs.Views.{replace_view};
 ghost use Rattle.gm_file_edit.specs.Fates.{remaining_from};
@@ -24,26 +25,19 @@ use gm_file::Replace;
 use gm_syntax::{Line, Token};
 use std::alloc::{AllocError, Global};
 
-/// An entry with its last word replaced. Any other line stays as is.
-fn with_last<'a>(
-    alloc: Global,
-    block: Option<&Token<'a>>,
-    line: Line<'a>,
-    value: &str,
-) -> Result<Line<'a>, AllocError>
+/// Replaces the last word of an entry. Any other line stays as it is. If memory runs out, the word may be gone.
+fn set_last<'a>(alloc: Global, line: &mut Line<'a>, value: &str) -> Result<(), AllocError>
     requires { HasNoLineFeed value.now }
-    ensures { IfOk result (λ l. line_of l
-        ≡ with_last value.now (option_map (λ t. t.now) block.entry) (line_of line.entry)) }
+    ensures { (block : Option Placed) → OnOk result (line_of line.new ≡ with_last value.now block (line_of line.old)) }
 {
     match line {
-        Line::Blank => Ok(Line::Blank),
-        Line::Comment(text) => Ok(Line::Comment(text)),
-        Line::Open(verb, suffix) => Ok(Line::Open(verb, suffix)),
-        Line::Close(suffix) => Ok(Line::Close(suffix)),
-        Line::Entry(mut words, suffix) => {
+        Line::Blank => Ok(()),
+        Line::Comment(_) => Ok(()),
+        Line::Open(_, _) => Ok(()),
+        Line::Close(_) => Ok(()),
+        Line::Entry(words, _) => {
             words.pop();
-            push_word(alloc, &mut words, value)?;
-            Ok(Line::Entry(words, suffix))
+            push_word(alloc, words, value)
         }
     }
 }
@@ -58,48 +52,48 @@ fn before_arguments(block: Option<&Token>) -> usize
     }
 }
 
-/// An entry with the words of a `replace` as its arguments. Any other line stays as is.
-fn with_replace<'a>(
+/// Replaces the arguments of an entry by the words of a `replace`. Any other line stays as it is. If memory runs out,
+/// some of the arguments may be missing.
+fn set_arguments<'a>(
     alloc: Global,
-    block: Option<&Token<'a>>,
-    line: Line<'a>,
+    block: Option<&Token>,
+    line: &mut Line<'a>,
     replace: &Replace,
-) -> Result<Line<'a>, AllocError>
+) -> Result<(), AllocError>
     requires { IsSoundRight (replace_view replace.now).1 }
-    ensures { IfOk result (λ l. line_of l
+    ensures { OnOk result (line_of line.new
         ≡ with_arguments (replace_words (replace_view replace.now)) (option_map (λ t. t.now) block.entry)
-        (line_of line.entry)) }
+        (line_of line.old)) }
 {
     match line {
-        Line::Blank => Ok(Line::Blank),
-        Line::Comment(text) => Ok(Line::Comment(text)),
-        Line::Open(verb, suffix) => Ok(Line::Open(verb, suffix)),
-        Line::Close(suffix) => Ok(Line::Close(suffix)),
-        Line::Entry(mut words, suffix) => {
+        Line::Blank => Ok(()),
+        Line::Comment(_) => Ok(()),
+        Line::Open(_, _) => Ok(()),
+        Line::Close(_) => Ok(()),
+        Line::Entry(words, _) => {
             words.truncate(before_arguments(block));
-            push_replace(alloc, &mut words, replace)?;
-            Ok(Line::Entry(words, suffix))
+            push_replace(alloc, words, replace)
         }
     }
 }
 
-/// A targeted line as the operation rewrites it.
-fn made_new<'a>(
+/// Rewrites a targeted line as the operation does. If memory runs out, some of its words may be missing.
+fn rewrite<'a>(
     alloc: Global,
     change: &Change,
-    block: Option<&Token<'a>>,
-    line: Line<'a>,
-) -> Result<Line<'a>, AllocError>
+    block: Option<&Token>,
+    line: &mut Line<'a>,
+) -> Result<(), AllocError>
     requires { IsSoundEdit (edit_of change.now) }
-    ensures { IfOk result (λ l. line_of l
-        ≡ made_new (edit_of change.now) (option_map (λ t. t.now) block.entry) (line_of line.entry)) }
+    ensures { OnOk result (line_of line.new
+        ≡ made_new (edit_of change.now) (option_map (λ t. t.now) block.entry) (line_of line.old)) }
 {
     match change {
-        Change::SetModule(path) => with_last(alloc, block, line, path.as_str()),
-        Change::SetGo(text) => with_last(alloc, block, line, text.as_str()),
-        Change::SetRequire((_, version)) => with_last(alloc, block, line, version.as_str()),
-        Change::SetReplace(replace) => with_replace(alloc, block, line, replace),
-        _ => Ok(line),
+        Change::SetModule(path) => set_last(alloc, line, path.as_str()),
+        Change::SetGo(text) => set_last(alloc, line, text.as_str()),
+        Change::SetRequire((_, version)) => set_last(alloc, line, version.as_str()),
+        Change::SetReplace(replace) => set_arguments(alloc, block, line, replace),
+        _ => Ok(()),
     }
 }
 
@@ -126,8 +120,9 @@ pub(crate) fn new_line<'a>(
     ensures { IfOk result (λ l. line_of l
         ≡ made_new (edit_of change.now) (block_after_lines None (take at lines.now)) (line_at lines.now at)) }
 {
-    let copy = lines.line(at).copy(alloc)?;
-    made_new(alloc, change, open_after(&lines.lines()[..at]), copy)
+    let mut line = lines.line(at).copy(alloc)?;
+    rewrite(alloc, change, open_after(&lines.lines()[..at]), &mut line)?;
+    Ok(line)
 }
 
 /// Puts a line in the place of the first that has a mark, which is at an index, and removes the others that have one and

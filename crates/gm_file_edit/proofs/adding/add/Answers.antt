@@ -9,24 +9,24 @@ use Rattle.gm_file_edit.proofs.adding.add.Goals as goal
 
 pub insert-requires : goal.insert-requires
 insert-requires c =
-    let told = c.last_spot-spot.ensures ∙ ap (spot_after_last (is_of c.args.verb) None) c.lines.ensures.lines in
+    let told = c.last_spot.ensures ∙ ap (spot_after_last (is_of c.args.verb) None) c.lines.ensures.lines in
     last-in-range c.args.verb c.args.lines.now c.in-Some.spot (sym told ∙ c.in-Some.is)
 
 pub returns-in_ok-entry-in-Some-clause-ok : goal.returns-in_ok-entry-in-Some-clause-ok
 returns-in_ok-entry-in-Some-clause-ok c =
-    let told = c.last_spot-spot.ensures ∙ ap (spot_after_last (is_of c.args.verb) None) c.lines.ensures.lines in
+    let told = c.last_spot.ensures ∙ ap (spot_after_last (is_of c.args.verb) None) c.lines.ensures.lines in
     let lines = c.args.lines.now in
     subst (λ (ls : List (Line Placed)). OnOk c.insert.result (c.insert.new.self ≡ ls))
-    (add-there (is_of c.args.verb) (verb_text c.args.verb) c.args.arguments.items lines lines (line_of c.in_ok-entry-in-Some.entry) c.last_spot-spot.result c.in-Some.spot told c.in-Some.is refl c.in_ok-entry-in-Some.ensures)
+    (add-there (is_of c.args.verb) (verb_text c.args.verb) c.args.arguments.items lines lines (line_of c.in_ok-entry-in-Some.entry) c.last_spot.result c.in-Some.spot told c.in-Some.is refl c.in_ok-entry-in-Some.ensures)
     c.insert.ensures.ok
 
-pub returns-in_ok-entry-in-None-clause-ok : goal.returns-in_ok-entry-in-None-clause-ok
-returns-in_ok-entry-in-None-clause-ok c =
-    let told = c.last_spot-spot.ensures ∙ ap (spot_after_last (is_of c.args.verb) None) c.lines.ensures.lines in
+pub returns-in-None-clause-ok : goal.returns-in-None-clause-ok
+returns-in-None-clause-ok c =
+    let told = c.last_spot.ensures ∙ ap (spot_after_last (is_of c.args.verb) None) c.lines.ensures.lines in
     let lines = c.args.lines.now in
-    let entry : Line Placed = line_of c.in_ok-entry-in-None.entry in
-    subst (λ (ls : List (Line Placed)). OnOk c.insert_after_blank.result (c.insert_after_blank.new.self ≡ ls))
+    let entry : Line Placed = single c.verb_text.result.now c.args.arguments.items in
+    subst (λ (ls : List (Line Placed)). OnOk c.insert_single.result (c.insert_single.new.lines ≡ ls))
     (at-end lines (Blank ∷ entry ∷ []) c.len-end.result c.len-end.ensures
-    ∙ add-last (is_of c.args.verb) (verb_text c.args.verb) c.args.arguments.items lines lines entry c.last_spot-spot.result told c.in-None.is refl
-    (c.in_ok-entry-in-None.ensures ∙ ap (λ (text : List ℕ). single text c.args.arguments.items) c.verb_text.ensures.text))
-    c.insert_after_blank.ensures.ok
+    ∙ add-last (is_of c.args.verb) (verb_text c.args.verb) c.args.arguments.items lines lines entry c.last_spot.result told c.in-None.is refl
+    (ap (λ (text : List ℕ). single text c.args.arguments.items) c.verb_text.ensures.text))
+    c.insert_single.ensures.ok

@@ -1,4 +1,3 @@
-use Rattle.std.proofs.Common.{drop, take, ◌-◌}
 use Rattle.gm_file_edit.proofs.Packs.{close-emptied, close-kept}
 use Rattle.gm_file_edit.proofs.packing.close.Goals as goal
 

@@ -4,10 +4,8 @@ use Rattle.gm_syntax.specs.Document.{Line}
 use Rattle.gm_syntax.specs.LineViews.{line_of, line_views}
 use Rattle.gm_syntax.specs.Tokens.{Placed}
 use Rattle.gm_file.specs.Directives.{block_after_lines}
-use Rattle.gm_file_edit.specs.Packs.{line_at}
 use Rattle.gm_file_edit.specs.Renewing.{made_new}
 use Rattle.gm_file_edit.specs.Views.{edit_of}
-use Rattle.gm_file_edit.proofs.Parts.{if-ok}
 use Rattle.gm_file_edit.proofs.renewing.new_line.Goals as goal
 
 pub returns : goal.returns
@@ -16,6 +14,5 @@ returns c =
     let lines = c.args.lines.now in
     let front : line_views (take c.args.at c.lines.result.now) ≡ take c.args.at lines = sym (take-map line_of c.args.at c.lines.result.now) ∙ ap (take c.args.at) c.lines.ensures.lines in
     let block = c.open_after.ensures ∙ ap (λ (ls : List (Line Placed)). block_after_lines None ls) front in
-    let line = c.in_ok-copy.ensures ∙ c.line.ensures.line in
-    if-ok c.made_new.result _ (λ l. line_of l ≡ made_new e (block_after_lines None (take c.args.at lines)) (line_at lines c.args.at))
-    (λ l h. h ∙ ap (λ (b : Option Placed). made_new e b (line_of c.in_ok-copy.copy)) block ∙ ap (made_new e (block_after_lines None (take c.args.at lines))) line) c.made_new.ensures
+    let line = c.in_ok-line.ensures ∙ c.line.ensures.line in
+    c.in_ok-rewrite.ensures ∙ ap (λ (b : Option Placed). made_new e b (line_of c.in_ok-line.line)) block ∙ ap (made_new e (block_after_lines None (take c.args.at lines))) line
