@@ -103,7 +103,3 @@ edges_permuted old new same e = (along old new same, along new old (IsPermutatio
   where
     along : (a b : List Adjacency) → IsPermutation a b → Contains (edges_of a) e → Contains (edges_of b) e
     along a b is h = let (one, there, at) = edges_only a e h in edges_each b one e (Contains-permutation a b one is there) at
-
--- The edges of the lists in another order are those of the lists before.
-pub sorted_same : (old new : List Adjacency) (edges : List Edge) → IsPermutation old new → edges ≡ edges_of new → HaveSame (edges_of old) edges
-sorted_same old new edges same are = subst (λ (es : List Edge). HaveSame (edges_of old) es) (sym are) (edges_permuted old new same)

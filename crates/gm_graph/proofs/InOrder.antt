@@ -1,5 +1,5 @@
 -- The edges of ascending adjacency lists, one after another, are in ascending order.
-use Rattle.std.proofs.Common.{◌≡◌, ◌+◌, ◌<◌, ℕ, List, [], ◌∷◌, ◌++◌, Bool, true, false, length, take, get_or, Contains, ap, ap₂, ◌∙◌, sym, refl, inl, inr, arith}
+use Rattle.std.proofs.Common.{◌≡◌, ◌+◌, ◌<◌, ℕ, List, [], ◌∷◌, ◌++◌, Bool, true, false, length, take, drop, get_or, Contains, ap, ap₂, ◌∙◌, sym, refl, inl, inr, arith}
 use Rattle.std.specs.Prelude.{All, AllPairs}
 use Rattle.std.specs.declared.cmp.Ordering.{Ordering}
 use Rattle.std.specs.declared.cmp.Ordering.TheVariants.{Less, Equal, Greater}
@@ -10,7 +10,7 @@ use Rattle.std.specs.Ordering.{is_eq, is_lt, ordering_reverse, ordering_then}
 use Rattle.std.proofs.lemmas.Map.Keys.{apart_from_distinct}
 use Rattle.gm_graph_select.specs.StepOrder.{step_total}
 use Rattle.gm_graph_select.proofs.Sorts.{from_adjacent}
-use Rattle.std.proofs.lemmas.List.{get_or-map, length-append, length-map, take_more}
+use Rattle.std.proofs.lemmas.List.{drop_more, get_or-map, length-append, length-map, take_more}
 use Rattle.std.proofs.lemmas.List.Elements.{Contains-append_cases, Contains-get_or}
 use Rattle.std.proofs.lemmas.List.Kept.{AllPairs-cons}
 use Rattle.gm_graph_cache.specs.Main.{ModuleVersion}
@@ -20,7 +20,7 @@ use Rattle.gm_graph_select.specs.Order.{IsAscending}
 use Rattle.gm_graph_select.proofs.Ascending.{member_head, member_tail, pairs_head, pairs_tail}
 use Rattle.gm_graph_select.proofs.Ranges.{step_itself}
 use Rattle.gm_graph.specs.declared.adjacency.Adjacency.{Adjacency}
-use Rattle.gm_graph.specs.Adjacency.{AreAscending, edges_from, edges_of, same_step}
+use Rattle.gm_graph.specs.Adjacency.{AreAscending, edges_from, edges_of, left_by, same_step, with_vertex}
 use Rattle.gm_graph.proofs.EdgesAndFaults.{edges_only, edges_push, from_only}
 
 -- pairs within two lists and between them
@@ -94,3 +94,7 @@ pub first_lower : (r s : Ordering) → is_lt (ordering_then r s) ≡ false → i
 first_lower Less s e = e
 first_lower Equal s e = refl
 first_lower Greater s e = refl
+
+-- the vertices that are left from one adjacency list on
+pub left_here : (all : List Adjacency) (i : ℕ) (x : Adjacency) → i < length all → x ≡ get_or all i x → with_vertex x.from (left_by (drop (i + 1) all)) ≡ left_by (drop i all)
+left_here all i x below is = ap (λ (one : Adjacency). with_vertex one.from (left_by (drop (i + 1) all))) is ∙ ap left_by (sym (drop_more all i x below))

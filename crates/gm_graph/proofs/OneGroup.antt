@@ -24,12 +24,10 @@ use Rattle.gm_graph_select.specs.declared.step.Edge.{Edge}
 use Rattle.gm_graph_select.specs.Graph.{AreEnds, among}
 use Rattle.gm_graph_select.specs.StepOrder.{step_equiv, step-anti}
 use Rattle.gm_graph.specs.declared.adjacency.Adjacency.{Adjacency}
-use Rattle.gm_graph.specs.Adjacency.{AddsGroup, IsMainGroup, edges_of, left_by, same_step, with_vertex}
+use Rattle.gm_graph.specs.Adjacency.{AddsGroup, IsMainGroup, left_by, same_step, with_vertex}
 use Rattle.gm_graph.specs.Building.{gathers}
 use Rattle.gm_graph.specs.Turns.{AreTurnsOf, Extends, same_turn}
 use Rattle.gm_graph.proofs.BuiltEdges.{gathers_before}
-use Rattle.gm_graph.proofs.EdgesAndFaults.{sorted_same}
-use Rattle.gm_graph.proofs.Rooted.{ends_along}
 use Rattle.gm_graph.proofs.Sameness.{exact_turn, turns_equivalence}
 
 -- ---- the vertices that adjacency lists leave
@@ -80,15 +78,6 @@ pub ends_permuted : (old new : List Adjacency) (leaves : List ModuleVersion) (ed
 ends_permuted old new leaves edges same are y =
     let front = front_same (left_by old) (left_by new) leaves (left_permuted old new same) y in
     ((λ h. (are y).0 (front.1 h)), (λ end. front.0 ((are y).1 end)))
-
--- The same for the edges of the lists in the other order, where the ends were made of these lists and of the leaves.
-pub sorted_ends : (old new given : List Adjacency) (leaves taken ends : List ModuleVersion) (edges : List Edge) → IsPermutation old new → edges ≡ edges_of new
-    → given ≡ new → taken ≡ leaves → ends ≡ left_by given ++ taken → AreEnds (left_by old ++ leaves) (among (edges_of old)) → AreEnds ends (among edges)
-sorted_ends old new given leaves taken ends edges same edges_are given_is taken_is ends_are are =
-    let whole : ends ≡ left_by new ++ leaves =
-    ends_are ∙ ap (λ (all : List Adjacency). left_by all ++ taken) given_is ∙ ap (λ (ys : List ModuleVersion). left_by new ++ ys) taken_is in
-    let along = ends_along (left_by old ++ leaves) (edges_of old) edges (sorted_same old new edges same edges_are) are in
-    subst (λ (all : List ModuleVersion). AreEnds all (among edges)) (sym whole) (ends_permuted old new leaves edges same along)
 
 -- ---- one adjacency list for each vertex
 

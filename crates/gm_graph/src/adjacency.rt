@@ -3,7 +3,7 @@
 //! A step's path may be as long as a file, and so may the list of its requirements. Groups hold and compare the
 //! path once instead of once per edge, and there are far fewer groups to sort than edges.
 
-ghost use Rattle.std.specs.Prelude.{◌≡◌, ◌++◌, ◌∷◌, [], IfOk, OnOk};
+ghost use Rattle.std.specs.Prelude.{◌≡◌, ◌++◌, ◌∷◌, [], IfOk, OnOk, map};
 ghost use Rattle.gm_graph_select.specs.Graph.{edge, vertex_cmp};
 ghost use Rattle.gm_graph_select.specs.Order.{HaveSame, IsAscending};
 
@@ -70,6 +70,21 @@ fn push_edge(
     Ok(())
 }
 
+/// Appends the edges from a step to each of these vertices.
+fn push_edges_to(
+    alloc: Global,
+    edges: &mut Vec<Edge>,
+    from: &Step,
+    to: Vec<ModVer>,
+) -> Result<(), AllocError>
+    ensures { OnOk result (edges.new.items ≡ edges.old.items ++ map (λ y. edge from.now y) to.items) }
+{
+    for y in to {
+        push_edge(alloc, edges, from, y)?;
+    }
+    Ok(())
+}
+
 impl Adjacency {
     ghost use Rattle.gm_graph.specs.Adjacency.{edges_from};
 
@@ -91,9 +106,6 @@ impl Adjacency {
         ensures { OnOk result (edges.new.items ≡ edges.old.items ++ edges_from self) }
     {
         let Adjacency { from, to } = self;
-        for y in to {
-            push_edge(alloc, edges, &from, y)?;
-        }
-        Ok(())
+        push_edges_to(alloc, edges, &from, to)
     }
 }

@@ -72,13 +72,25 @@ fn count(all: &[Adjacency]) -> usize
     edges
 }
 
+/// Appends all edges of these groups, in the same order.
+fn push_all_edges(
+    alloc: Global,
+    edges: &mut Vec<Edge>,
+    all: Vec<Adjacency>,
+) -> Result<(), AllocError>
+    ensures { OnOk result (edges.new.items ≡ edges.old.items ++ edges_of all.items) }
+{
+    for one in all {
+        one.push_edges(alloc, edges)?;
+    }
+    Ok(())
+}
+
 /// All edges of these groups, in the same order.
 pub(crate) fn all_edges(alloc: Global, all: Vec<Adjacency>) -> Result<Vec<Edge>, AllocError>
     ensures { IfOk result (λ edges. edges.items ≡ edges_of all.items) }
 {
     let mut edges = Vec::with_capacity(alloc, count(&all))?;
-    for one in all {
-        one.push_edges(alloc, &mut edges)?;
-    }
+    push_all_edges(alloc, &mut edges, all)?;
     Ok(edges)
 }

@@ -10,13 +10,13 @@ ghost use Rattle.gm_graph_cache.specs.Cached.{Knows, main_in, sums_in, turns_in}
 ghost use Rattle.gm_graph_cache.specs.Reading.{Readings};
 ghost use Rattle.gm_graph_cache.specs.Refusals.{refused_in};
 ghost use Rattle.gm_graph_cache.specs.Main.{main_of};
-ghost use Rattle.gm_graph_select.specs.BuildList.{IsBuildList};
+ghost use Rattle.gm_graph_select.specs.BuildList.{IsBuildList, entries_of_rows};
 ghost use Rattle.gm_graph_select.specs.Chains.{IsRooted};
 ghost use Rattle.gm_graph_select.specs.Graph.{AreEnds, among, edge_cmp, vertex_cmp};
 ghost use Rattle.gm_graph_select.specs.Order.{HaveSame, IsAscending};
 ghost use Rattle.std.specs.BTreeMap as tree;
 ghost use Rattle.std.specs.List.{IsDistinct};
-ghost use Rattle.gm_graph.specs.Adjacency.{IsMainGroup, left_by, same_step};
+ghost use Rattle.gm_graph.specs.Adjacency.{IsMainGroup, edges_of, left_by, same_step};
 ghost use Rattle.gm_graph.specs.Visiting.{IsOpenedIn, readings_in};
 ghost use Rattle.gm_graph.specs.Building.{AreGathered, edges_in, fault, faults_by_vertex};
 ghost use Rattle.gm_graph.specs.Loading.{AreTooMany, AsksInTurn, IsDue, Told};
@@ -24,6 +24,7 @@ ghost use Rattle.gm_graph.specs.Marks.{IsWorklist};
 ghost use Rattle.gm_graph.specs.Outcome.{IsLoaded};
 ghost use Rattle.gm_graph.specs.Turns.{AreFirstTurns};
 
+use crate::adjacency::Adjacency;
 use crate::edge_order::{all_edges, all_ends, sorted_groups};
 use crate::graph_builder::{GraphBuilder, fault_list, main_edges};
 use crate::loaded::Loaded;
@@ -31,8 +32,9 @@ use crate::starting::{first_turns, kept_requirements};
 use crate::visiting::visit;
 use crate::worklist::{Worklist, copy_turn};
 use gm_file::MainFile;
-use gm_graph_cache::{Cache, LoadFault, main_view};
-use gm_graph_select::build_list;
+use gm_graph_cache::{Cache, LoadFault, Turn, main_view};
+use gm_graph_select::{Edge, Row, build_list};
+use gm_name::ModVer;
 use gm_store::Files;
 use gm_store_sums::SumTable;
 use std::alloc::{AllocError, Global};
@@ -83,17 +85,48 @@ fn visit_all<F: Files>(
     Ok(())
 }
 
+/// What is selected of a graph.
+#[derive(Drop)]
+struct Selection {
+    /// The edges, in strictly ascending order.
+    edges: Vec<Edge>,
+    /// The build list.
+    rows: Vec<Row>,
+}
+
+/// The edges of these groups, sorted, and the build list of the vertices that they lead to: those that groups leave,
+/// and the leaves.
+fn select(
+    alloc: Global,
+    main: &MainFile,
+    leaving: Vec<Adjacency>,
+    leaves: Vec<ModVer>,
+) -> Result<Selection, AllocError>
+    requires once { IsDistinct same_step leaving.items }
+    requires ends { AreEnds (left_by leaving.items ++ leaves.items) (among (edges_of leaving.items)) }
+    ensures ascending { IfOk result (λ selection. IsAscending edge_cmp selection.edges.items) }
+    ensures edges { IfOk result (λ selection. HaveSame (edges_of leaving.items) selection.edges.items) }
+    ensures rows { IfOk result (λ selection. IsBuildList (main_of main.now).path (main_of main.now).replaces
+        (among selection.edges.items) (entries_of_rows selection.rows.items)) }
+{
+    let groups = sorted_groups(leaving);
+    let ends = all_ends(alloc, &groups, leaves)?;
+    let rows = build_list(alloc, main, ends)?;
+    let edges = all_edges(alloc, groups)?;
+    Ok(Selection { edges, rows })
+}
+
 /// The loaded graph, with its edges sorted and the build list of its vertices.
 fn assemble(
     alloc: Global,
     main: &MainFile,
-    cache: Cache<'_>,
-    worklist: Worklist,
+    turns: Vec<Turn>,
+    leaves: Vec<ModVer>,
     builder: GraphBuilder,
 ) -> Result<Loaded, AllocError>
     requires rooted { IsRooted (among (edges_in builder)) }
     requires once { IsDistinct same_step builder.leaving.items }
-    requires ends { AreEnds (left_by builder.leaving.items ++ worklist.leaves.items) (among (edges_in builder)) }
+    requires ends { AreEnds (left_by builder.leaving.items ++ leaves.items) (among (edges_in builder)) }
     ensures main { IfOk result (λ loaded. loaded.main ≡ (main_of main.now).path) }
     ensures faults { IfOk result (λ loaded. loaded.faults
         ≡ map (λ entry. fault entry.0 entry.1) builder.faults.entries) }
@@ -102,18 +135,13 @@ fn assemble(
     ensures edges { IfOk result (λ loaded. HaveSame (edges_in builder) loaded.edges) }
     ensures rows { IfOk result (λ loaded.
         IsBuildList (main_of main.now).path (main_of main.now).replaces (among loaded.edges) loaded.rows) }
-    ensures turns { IfOk result (λ loaded. loaded.turns ≡ turns_in cache.entry) }
+    ensures turns { IfOk result (λ loaded. loaded.turns ≡ turns.items) }
 {
     let GraphBuilder { leaving, faults } = builder;
-    let path = main_view::path(main).copy(alloc)?;
     let faults = fault_list(alloc, faults)?;
-    // The summaries are dropped here, before the list of edges takes its memory.
-    let turns = cache.into_turns();
-    let groups = sorted_groups(leaving);
-    let ends = all_ends(alloc, &groups, worklist.into_leaves())?;
-    let rows = build_list(alloc, main, ends)?;
-    let edges = all_edges(alloc, groups)?;
-    Ok(Loaded::new(path, faults, edges, rows, turns))
+    let selection = select(alloc, main, leaving, leaves)?;
+    let path = main_view::path(main).copy(alloc)?;
+    Ok(Loaded::new(path, faults, selection.edges, selection.rows, turns))
 }
 
 /// Loads the module graph of a main module's file: finds the faults of the opened vertices, the edges of the graph
@@ -153,5 +181,7 @@ pub fn load<F: Files>(
     let mut builder = main_edges(alloc, &required)?;
     let mut cache = Cache::new(alloc, main, sums);
     visit_all(alloc, &mut cache, files, &mut worklist, &mut builder)?;
-    Ok(assemble(alloc, main, cache, worklist, builder)?)
+    // The summaries are dropped here, before the list of edges takes its memory.
+    let turns = cache.into_turns();
+    Ok(assemble(alloc, main, turns, worklist.into_leaves(), builder)?)
 }

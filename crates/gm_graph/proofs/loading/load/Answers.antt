@@ -1,9 +1,12 @@
-use Rattle.std.proofs.Common.{◌∙◌, Err, Option, sym, ap, subst}
+use Rattle.std.proofs.Common.{◌∙◌, ◌++◌, Err, List, Option, sym, ap, subst}
 use Rattle.std.specs.Option.{option_copied}
 use Rattle.gm_store.specs.Asked.{name_of}
 use Rattle.gm_store_sums.specs.declared.sum_table.SumTable.{SumTable}
 use Rattle.gm_graph_cache.specs.Cached.{main_in}
-use Rattle.gm_graph_cache.specs.Main.{Main, main_of}
+use Rattle.gm_graph_cache.specs.Main.{Main, ModuleVersion, main_of}
+use Rattle.gm_graph_select.specs.Graph.{AreEnds, among}
+use Rattle.gm_graph.specs.Adjacency.{left_by}
+use Rattle.gm_graph.specs.Building.{edges_in}
 use Rattle.gm_graph.specs.Loading.{AreTooMany, IsDue, Told}
 use Rattle.gm_graph_cache.proofs.Growing.{may_none}
 use Rattle.gm_graph.proofs.Dues.{asks_nothing, may_all}
@@ -45,7 +48,8 @@ pub assemble-requires : goal.assemble-requires
 assemble-requires g c = record {
   once = c.in_ok-visit_all.ensures.opened.once;
   rooted = gathered_rooted _ _ _ c.visit_all.new.worklist c.visit_all.new.builder c.in_ok-visit_all.ensures.opened;
-  ends = gathered_ends _ _ _ c.visit_all.new.worklist c.visit_all.new.builder c.in_ok-visit_all.ensures.opened;
+  ends = subst (λ (leaves : List ModuleVersion). AreEnds (left_by c.visit_all.new.builder.leaving.items ++ leaves) (among (edges_in c.visit_all.new.builder))) (sym c.into_leaves.ensures)
+      (gathered_ends _ _ _ c.visit_all.new.worklist c.visit_all.new.builder c.in_ok-visit_all.ensures.opened);
 }
 
 pub returns-clause-loaded : goal.returns-clause-loaded
@@ -53,7 +57,7 @@ returns-clause-loaded g c =
     let told = c.in_ok-assemble.ensures in
     loads_of c.new-cache.result c.visit_all.new.cache (g.F.Files.state c.visit_all.new.files).asked c.visit_all.new.worklist c.visit_all.new.builder c.in_ok-visit_all.ensures.opened
     (main_of c.args.main.now) (option_copied c.args.sums) c.new-cache.ensures.main c.new-cache.ensures.sums c.in_ok-assemble.field-0 c.visit_all.ensures.asks
-    told.main told.faults told.ordered told.ascending told.edges told.rows told.turns
+    told.main told.faults told.ordered told.ascending told.edges told.rows (told.turns ∙ c.into_turns-turns.ensures)
 
 pub returns-in_err-required-clause-may_answer : goal.returns-in_err-required-clause-may_answer
 returns-in_err-required-clause-may_answer g c =

@@ -1,0 +1,15 @@
+use Rattle.std.proofs.Common.{◌∙◌, ◌++◌, ◌∷◌, [], List, ap, append_assoc, map, sym}
+use Rattle.gm_graph_cache.specs.declared.class.Class.{Class}
+use Rattle.gm_graph_cache.specs.Main.{ModuleVersion}
+use Rattle.gm_graph.specs.declared.fault.Fault.{Fault}
+use Rattle.gm_graph.specs.Building.{fault}
+use Rattle.gm_graph.proofs.graph_builder.fault_list.Goals as goal
+
+pub loop-vertex-preserved : goal.loop-vertex-preserved
+loop-vertex-preserved c =
+    let listed = λ (entries : List (ModuleVersion × Class)). map (λ entry. fault entry.0 entry.1) entries in
+    let rest = c.next.new.self in
+    ap (λ (list : List Fault). list ++ listed rest) c.in_ok-push.ensures.items
+    ∙ append_assoc c.loop-vertex.list.items (fault c.in-Some.vertex c.in-Some.class ∷ []) (listed rest)
+    ∙ ap (λ (entries : List (ModuleVersion × Class)). c.loop-vertex.list.items ++ listed entries) (sym c.in-Some.ensures.steps)
+    ∙ c.loop-vertex.invariant
