@@ -1,6 +1,7 @@
 -- Runs of `versions` over a store, step by step.
-use Rattle.std.proofs.Common.{◌≡◌, ◌⊎◌, ◌∙◌, ◌++◌, ◌∷◌, zero, suc, ℕ, ◌<◌, Bool, true, false, List, [], Some, None, Result, Ok, Err, Contains, IfErr, IfOk, ap, arith, codes, inl, inr, refl, subst, sym}
+use Rattle.std.proofs.Common.{◌≡◌, ◌⊎◌, ◌∙◌, ◌++◌, ◌∷◌, zero, suc, ℕ, ◌<◌, Bool, true, false, List, [], Option, Some, None, Result, Ok, Err, Contains, IfErr, IfOk, ap, arith, codes, inl, inr, refl, subst, sym}
 use Rattle.std.specs.Global.{Vec}
+use Rattle.std.specs.Result.{IsErr}
 use Rattle.gm_name.specs.Path.{is_fetchable}
 use Rattle.gm_store.specs.Asked.{Name, Reply, absent, answer_in, bytes, list_file, mod_file, too_long}
 use Rattle.gm_store.specs.Latest.{IsLatest}
@@ -13,7 +14,7 @@ use Rattle.gm_graph_cache.specs.Summaries.{reading_of}
 use Rattle.gm_graph_listing.specs.declared.output.Output.{Output}
 use Rattle.gm_graph_listing.specs.Outcomes.{Outcome, failed, outcome_view, printed, refused}
 use Rattle.gm_graph_listing.specs.Reports.{device_line}
-use Rattle.gomod_run.specs.Asking.{IsAnsweredWith, IsLatestAsked}
+use Rattle.gomod_run.specs.Asking.{IsAnsweredWith, IsAsked, IsFailedAsk, IsLatestAsked}
 use Rattle.gomod_run.specs.Listing.{IsListState}
 use Rattle.gomod_run.specs.Kinds.{list_line}
 use Rattle.gomod_run.specs.Reading.{IsListRead}
@@ -193,21 +194,29 @@ none_allowed may asked none name r inside =
     let there = subst (λ (a : Pairs). Contains {X = Name × Reply} a (name, r)) none inside in
     let within : there.0 < 0 = there.1 in absurd (omega arith)
 
+-- memory ran out before a file was asked for
+pub not_asked : {E : Type 0} (name : Name) (may : Name → Reply → Type 0) (state : StoreState) (result : Result (Option Output) E) → IsErr result → IsAsked name may state state result
+not_asked name may state (Ok output) is = absurd (cc is)
+not_asked name may state (Err e) is = (refl, inl refl)
+
 -- the store answered for the list
 pub record ListAnswered (path : List ℕ) (may : Name → Reply → Type 0) (old new : StoreState) (reply : Reply) : Type 0 where
   pub allowed : may (list_file path) reply
   pub asked : new.asked ≡ (list_file path, reply) ∷ []
   pub unrefused : new.refused ≡ old.refused
 
-pub list_answered : (path p : List ℕ) (may : Name → Reply → Type 0) (old new : StoreState) (reply : Reply) → p ≡ path → old.asked ≡ []
-    → IsAnsweredWith (list_file p) may old new reply → ListAnswered path may old new reply
-list_answered path p may old new reply same none answered =
-    let here = subst (λ (q : List ℕ). IsAnsweredWith (list_file q) may old new reply) same answered in
-    record {
-      allowed = here.0;
-      asked = here.1 ∙ ap (λ (a : Pairs). a ++ (list_file path, reply) ∷ []) none;
-      unrefused = here.2;
-    }
+pub list_answered : (path : List ℕ) (may : Name → Reply → Type 0) (old new : StoreState) (reply : Reply) → old.asked ≡ []
+    → IsAnsweredWith (list_file path) may old new reply → ListAnswered path may old new reply
+list_answered path may old new reply none answered = record {
+  allowed = answered.0;
+  asked = answered.1 ∙ ap (λ (a : Pairs). a ++ (list_file path, reply) ∷ []) none;
+  unrefused = answered.2;
+}
+
+-- the device failed at the list
+pub list_fails : (path : List ℕ) (all : Bool) (old new : StoreState) → is_fetchable path ≡ true → new.asked ≡ [] → new.refused ≡ old.refused ++ list_file path ∷ []
+    → FailsInTurn (VersionsNeed path all) old new
+list_fails path all old new fetchable none more = inr (list_file path, (fetchable, inl refl), ap (λ (a : Pairs). answer_in a (list_file path)) none, more)
 
 pub list_allowed : (path : List ℕ) (may : Name → Reply → Type 0) (old new : StoreState) (reply : Reply) → ListAnswered path may old new reply
     → (name : Name) (r : Reply) → Contains new.asked (name, r) → may name r
@@ -236,6 +245,12 @@ read_comes path all may old new answer reply (Ok (Err output)) fetchable answere
     by_reply (bytes list) a k = absurd k
     by_reply absent a k = ends_missing path all old new (outcome_view output) fetchable a.asked a.unrefused k
     by_reply too_long a k = ends_too_long path all old new (outcome_view output) fetchable a.asked a.unrefused k
+
+-- the device failed at the go.mod of the latest version, or memory ran out
+pub latest_failed : {E : Type 0} (path : List ℕ) (versions : List (List ℕ)) (latest : List ℕ) (may : Name → Reply → Type 0) (old new : StoreState) (result : Result Output E)
+    → IsErr result → IsFailedAsk (mod_file path latest) old new → IsLatestAsked path versions latest may old new result
+latest_failed path versions latest may old new (Ok output) is failed = absurd (cc is)
+latest_failed path versions latest may old new (Err e) is failed = inl failed
 
 -- the output follows from the latest version's go.mod
 pub shown_asked : {E : Type 0} (path : List ℕ) (versions : List (List ℕ)) (latest : List ℕ) (may : Name → Reply → Type 0) (old new : StoreState) (answer reply : Reply)

@@ -1,7 +1,7 @@
 //! The outcome of `edit`. It is built here and not in `gm_file_edit`, because its reports belong to the program and
 //! not to the library.
 
-ghost use Rattle.std.specs.Prelude.{◌≡◌, IfOk, map};
+ghost use Rattle.std.specs.Prelude.{◌≡◌, ℕ, IfOk, List, Some, map};
 ghost use Rattle.std.specs.List.{filter_map};
 ghost use Rattle.std.specs.Option.{option_map};
 ghost use Rattle.std.specs.String.{string_bytes};
@@ -17,6 +17,18 @@ use gm_graph_listing::{Output, main_file, printed, refused};
 use gm_name::NoMemory;
 use std::alloc::{AllocError, Global};
 
+/// Applies an operation. If it is refused, the result is the name of the reason.
+fn apply_op(editor: &mut Editor<'_>, op: &Op) -> Result<Option<&'static str>, NoMemory>
+    ensures { (text : List ℕ) → edit_in text ≡ Some op.now
+        → IfOk result (λ kind. IsApplied text editor.old editor.new (option_map (λ kind. kind.now) kind)) }
+{
+    match editor.apply(op) {
+        Ok(()) => Ok(None),
+        Err(EditFault::Misfit) => Ok(Some("Misfit")),
+        Err(EditFault::NoMemory) => Err(AllocError),
+    }
+}
+
 /// Parses one operation and applies it. If it is refused, the result is the name of the reason.
 fn apply_text(
     alloc: Global,
@@ -25,15 +37,10 @@ fn apply_text(
 ) -> Result<Option<&'static str>, NoMemory>
     ensures { IfOk result (λ kind. IsApplied text.now editor.old editor.new (option_map (λ kind. kind.now) kind)) }
 {
-    let op = match Op::parse(alloc, text) {
-        Ok(op) => op,
-        Err(OpFault::Spelling) => return Ok(Some("Spelling")),
-        Err(OpFault::NoMemory) => return Err(AllocError),
-    };
-    match editor.apply(&op) {
-        Ok(()) => Ok(None),
-        Err(EditFault::Misfit) => Ok(Some("Misfit")),
-        Err(EditFault::NoMemory) => Err(AllocError),
+    match Op::parse(alloc, text) {
+        Ok(op) => apply_op(editor, &op),
+        Err(OpFault::Spelling) => Ok(Some("Spelling")),
+        Err(OpFault::NoMemory) => Err(AllocError),
     }
 }
 

@@ -15,7 +15,7 @@ ghost use Rattle.gomod_run.specs.Runs.{StatesOutcome, is_over_file, is_query};
 ghost use Rattle.gomod_run.specs.Written.{EndsAsStated, IsWritten};
 
 use crate::query_serving::serve_query;
-use crate::running::run;
+use crate::running::{run, run_over};
 use crate::writing::{NO_MEMORY, end, write_both};
 use gm_graph_listing::Status;
 use gm_name::{ModPath, NoMemory};
@@ -275,10 +275,15 @@ fn over_list<O: Sink, R: Sink>(
         (O.state out.old) (O.state out.new) (R.state report.old) (R.state report.new)
         (code_of result) }
 {
-    match store_of(alloc, path, list) {
-        Ok(mut files) => run(alloc, command, b"", None, &mut files, out, report),
-        Err(_) => end(out, b"", report, NO_MEMORY, Status::Device),
-    }
+    run_over(
+        alloc,
+        command,
+        b"",
+        None,
+        store_of(alloc, path, list),
+        out,
+        report,
+    )
 }
 
 /// Runs `versions` over proxy folders.
@@ -294,11 +299,16 @@ fn over_folders<S: Files + Clone + Drop + Alloc<A = Global>, O: Sink, R: Sink>(
         (O.state out.old) (O.state out.new) (R.state report.old) (R.state report.new)
         (code_of result) }
 {
-    let Ok(main) = String::from_str(rt.alloc(), ".") else {
-        return end(out, b"", report, NO_MEMORY, Status::Device);
-    };
-    match folders_of(rt, main, folders) {
-        Ok(mut files) => run(rt.alloc(), command, b"", None, &mut files, out, report),
+    match String::from_str(rt.alloc(), ".") {
+        Ok(main) => run_over(
+            rt.alloc(),
+            command,
+            b"",
+            None,
+            folders_of(rt, main, folders),
+            out,
+            report,
+        ),
         Err(_) => end(out, b"", report, NO_MEMORY, Status::Device),
     }
 }
@@ -467,14 +477,21 @@ fn tell<O: Sink, R: Sink>(alloc: Global, fault: &UsageFault, out: &mut O, report
             Status::Done,
         ).code(),
         UsageFault::Line(text) => report_usage(out, report, text.as_str()),
-        UsageFault::BadPath(path) => match bad_path(alloc, path.as_str()) {
-            Ok(line) => report_usage(out, report, line.as_str()),
-            Err(_) => end(out, b"", report, NO_MEMORY, Status::Device).code(),
-        },
-        UsageFault::BadProxy(value) => match bad_proxy(alloc, value.as_str()) {
-            Ok(line) => report_usage(out, report, line.as_str()),
-            Err(_) => end(out, b"", report, NO_MEMORY, Status::Device).code(),
-        },
+        UsageFault::BadPath(path) => tell_line(bad_path(alloc, path.as_str()), out, report),
+        UsageFault::BadProxy(value) => tell_line(bad_proxy(alloc, value.as_str()), out, report),
+    }
+}
+
+/// Reports a usage error, or that memory ran out when its line was made, and returns the exit status.
+fn tell_line<O: Sink, R: Sink>(line: Result<String, NoMemory>, out: &mut O, report: &mut R) -> u8
+    ensures { (text : List ℕ) → IfOk line (λ line. string_bytes line ≡ text)
+        → EndsAsStated (λ outcome. outcome ≡ usage_error text)
+        (O.state out.old) (O.state out.new) (R.state report.old) (R.state report.new)
+        result }
+{
+    match line {
+        Ok(line) => report_usage(out, report, line.as_str()),
+        Err(_) => end(out, b"", report, NO_MEMORY, Status::Device).code(),
     }
 }
 

@@ -1,43 +1,24 @@
 //! What the program does for `graph`, `list` and `chain`: it reads the main file and the go.sum, then runs the
 //! query over proxy folders.
 
-ghost use Rattle.std.specs.Prelude.{◌≡◌, [], IfOk, None, Some, true};
+ghost use Rattle.std.specs.Prelude.{◌≡◌, IfOk, None, Some, true};
 ghost use Rattle.std.specs.Option.{option_map};
 ghost use Rattle.std.specs.String.{string_bytes};
 ghost use Rattle.gm_store.specs.Relative.{IsFolderOf};
 ghost use Rattle.gm_graph_listing.specs.Outcomes.{code_of};
-ghost use Rattle.gomod_run.specs.Program.{IsQueryRun, IsReadOutcome, IsServed, IsSumsServed};
+ghost use Rattle.gomod_run.specs.Program.{IsQueryRun, IsQueryServed, IsServed, IsSumsServed};
 ghost use Rattle.gomod_run.specs.Runs.{is_query};
 ghost use Rattle.gomod_run.specs.Written.{EndsAsStated};
 
 use crate::program::{folders_of, read_file, unread};
-use crate::running::run;
+use crate::running::run_over;
 use crate::writing::{NO_MEMORY, end};
 use gm_graph_listing::Status;
 use gm_name::NoMemory;
-use gm_store::{Files as Store, MemoryFiles, ProxyList, ReadFault, Sink, folder_of};
+use gm_store::{MemoryFiles, ProxyList, Sink, folder_of};
 use gomod_words::Command;
 use std::alloc::Global;
 use std::rt::Files;
-
-/// Runs a query on a module graph over a store that has not been asked yet.
-fn run_query<F: Store, O: Sink, R: Sink>(
-    alloc: Global,
-    command: &Command,
-    main: &[u8],
-    sums: Option<&[u8]>,
-    files: &mut F,
-    out: &mut O,
-    report: &mut R,
-) -> Status
-    requires unasked { (F.state files.old).asked ≡ [] }
-    requires query { is_query command.now ≡ true }
-    ensures { EndsAsStated (IsQueryRun command.now main.now (option_map (λ sums. sums.now) sums.entry))
-        (O.state out.old) (O.state out.new) (R.state report.old) (R.state report.new)
-        (code_of result) }
-{
-    run(alloc, command, main, sums, files, out, report)
-}
 
 /// Where a query looks for go.mod files.
 #[derive(Drop)]
@@ -64,36 +45,44 @@ fn over_places<S: Files + Clone + Drop + Alloc<A = Global>, O: Sink, R: Sink>(
         (code_of result) }
 {
     let Places { folder, proxy } = places;
-    let Some(folders) = proxy else {
-        let mut files = MemoryFiles::new(rt.alloc());
-        return run_query(rt.alloc(), command, main, sums, &mut files, out, report);
-    };
-    match folders_of(rt, folder, folders) {
-        Ok(mut files) => run_query(rt.alloc(), command, main, sums, &mut files, out, report),
-        Err(_) => end(out, b"", report, NO_MEMORY, Status::Device),
+    match proxy {
+        Some(folders) => run_over(
+            rt.alloc(),
+            command,
+            main,
+            sums,
+            folders_of(rt, folder, folders),
+            out,
+            report,
+        ),
+        None => run_over(
+            rt.alloc(),
+            command,
+            main,
+            sums,
+            Ok(MemoryFiles::new(rt.alloc())),
+            out,
+            report,
+        ),
     }
 }
 
-/// Runs a query on a module graph with the bytes of a go.sum, or reports that the go.sum could not be read. `named`
-/// holds its name and the result of reading it.
-fn sums_read<S: Files + Clone + Drop + Alloc<A = Global>, O: Sink, R: Sink>(
+/// Reads the go.sum of this name, and runs a query on a module graph with it. If it can't be read, that is reported.
+fn over_sums<S: Files + Clone + Drop + Alloc<A = Global>, O: Sink, R: Sink>(
     rt: &S,
     command: &Command,
     main: &[u8],
-    named: (&str, Result<Vec<u8>, ReadFault>),
+    file: &str,
     places: Places,
     out: &mut O,
     report: &mut R,
 ) -> Status
     requires { is_query command.now ≡ true }
-    ensures { EndsAsStated (IsReadOutcome named.entry.0.now
-        (λ sums outcome. IsQueryRun command.now main.now (Some sums) outcome)
-        named.entry.1)
+    ensures { EndsAsStated (IsSumsServed command.now (Some file.now) main.now)
         (O.state out.old) (O.state out.new) (R.state report.old) (R.state report.new)
         (code_of result) }
 {
-    let (name, read) = named;
-    match read {
+    match read_file(rt, file) {
         Ok(sums) => over_places(
             rt,
             command,
@@ -103,55 +92,49 @@ fn sums_read<S: Files + Clone + Drop + Alloc<A = Global>, O: Sink, R: Sink>(
             out,
             report,
         ),
-        Err(fault) => unread(rt.alloc(), name, fault, out, report),
+        Err(fault) => unread(rt.alloc(), file, fault, out, report),
     }
 }
 
-/// Reads the go.sum if one is named, then runs a query on a module graph.
+/// Runs a query on a module graph, with a go.sum if the words name one.
 fn with_sums<S: Files + Clone + Drop + Alloc<A = Global>, O: Sink, R: Sink>(
     rt: &S,
     command: &Command,
     main: &[u8],
-    sums: Option<&str>,
+    named: &gomod_words::Places,
     places: Places,
     out: &mut O,
     report: &mut R,
 ) -> Status
     requires { is_query command.now ≡ true }
-    ensures { EndsAsStated (IsSumsServed command.now (option_map (λ name. name.now) sums.entry) main.now)
+    ensures { EndsAsStated (IsSumsServed command.now (option_map string_bytes named.now.sums) main.now)
         (O.state out.old) (O.state out.new) (R.state report.old) (R.state report.new)
         (code_of result) }
 {
-    match sums {
-        Some(name) => {
-            let read = read_file(rt, name);
-            sums_read(rt, command, main, (name, read), places, out, report)
-        }
+    match &named.sums {
+        Some(file) => over_sums(rt, command, main, file.as_str(), places, out, report),
         None => over_places(rt, command, main, None, places, out, report),
     }
 }
 
-/// Runs a query on a module graph with the bytes of the main file, or reports that the main file could not be read.
-/// `named` holds its name and the result of reading it.
-fn main_read<S: Files + Clone + Drop + Alloc<A = Global>, O: Sink, R: Sink>(
+/// Reads the main file that the words name, and runs a query on a module graph over it. If it can't be read, that is
+/// reported.
+fn over_main<S: Files + Clone + Drop + Alloc<A = Global>, O: Sink, R: Sink>(
     rt: &S,
     command: &Command,
-    named: (&str, Result<Vec<u8>, ReadFault>),
-    sums: Option<&str>,
+    named: &gomod_words::Places,
     places: Places,
     out: &mut O,
     report: &mut R,
 ) -> Status
     requires { is_query command.now ≡ true }
-    ensures { EndsAsStated (IsReadOutcome named.entry.0.now
-        (λ main outcome. IsSumsServed command.now (option_map (λ name. name.now) sums.entry) main outcome)
-        named.entry.1)
+    ensures { EndsAsStated (IsQueryServed command.now named.now)
         (O.state out.old) (O.state out.new) (R.state report.old) (R.state report.new)
         (code_of result) }
 {
-    let (name, read) = named;
-    match read {
-        Ok(main) => with_sums(rt, command, main.as_slice(), sums, places, out, report),
+    let name = named.main.as_str();
+    match read_file(rt, name) {
+        Ok(main) => with_sums(rt, command, main.as_slice(), named, places, out, report),
         Err(fault) => unread(rt.alloc(), name, fault, out, report),
     }
 }
@@ -167,7 +150,7 @@ fn main_folder(alloc: Global, file: &str) -> Result<String, NoMemory>
 pub(crate) fn serve_query<S: Files + Clone + Drop + Alloc<A = Global>, O: Sink, R: Sink>(
     rt: &S,
     command: &Command,
-    places: gomod_words::Places,
+    mut places: gomod_words::Places,
     out: &mut O,
     report: &mut R,
 ) -> Status
@@ -176,30 +159,9 @@ pub(crate) fn serve_query<S: Files + Clone + Drop + Alloc<A = Global>, O: Sink, 
         (O.state out.old) (O.state out.new) (R.state report.old) (R.state report.new)
         (code_of result) }
 {
-    let gomod_words::Places { main, proxy, sums } = places;
-    let Ok(folder) = main_folder(rt.alloc(), main.as_str()) else {
-        return end(out, b"", report, NO_MEMORY, Status::Device);
-    };
-    let places = Places { folder, proxy };
-    let read = read_file(rt, main.as_str());
-    match sums {
-        Some(name) => main_read(
-            rt,
-            command,
-            (main.as_str(), read),
-            Some(name.as_str()),
-            places,
-            out,
-            report,
-        ),
-        None => main_read(
-            rt,
-            command,
-            (main.as_str(), read),
-            None,
-            places,
-            out,
-            report,
-        ),
+    let proxy = places.proxy.take();
+    match main_folder(rt.alloc(), places.main.as_str()) {
+        Ok(folder) => over_main(rt, command, &places, Places { folder, proxy }, out, report),
+        Err(_) => end(out, b"", report, NO_MEMORY, Status::Device),
     }
 }

@@ -1,19 +1,19 @@
 //! The outcome of `versions`: it needs a module's list and then perhaps one go.mod, so the asks of the store are
 //! ordered here.
 
-ghost use Rattle.std.specs.Prelude.{◌≡◌, ◌≤◌, ◌⊎◌, [], Bool, Contains, IfErr, IfOk, MatchOption, None, Some, false, map, true};
+ghost use Rattle.std.specs.Prelude.{◌≡◌, ◌≤◌, ◌⊎◌, ◌++◌, [], Bool, Contains, IfErr, IfOk, MatchOption, None, OnOk, Some, codes, false, map, true};
 ghost use Rattle.std.specs.String.{string_bytes};
 ghost use Rattle.std.specs.List.Sorted.{IsStrictlySortedBy};
 ghost use Rattle.gm_name.specs.Version.{version_cmp};
 ghost use Rattle.gm_file.specs.Views.{interval_views};
 ghost use Rattle.gm_file_retract.specs.Shown.{shown_of};
-ghost use Rattle.gm_store.specs.Asked.{Name, Reply, answer_in, mod_file, reply_of};
+ghost use Rattle.gm_store.specs.Asked.{Name, Reply, answer_in, list_file, mod_file, reply_of};
 ghost use Rattle.gm_store.specs.States.{RefusesWithCause};
 ghost use Rattle.gm_graph_cache.specs.Reading.{IsFileReading};
 ghost use Rattle.gm_graph_cache.specs.Summaries.{reading_of};
 ghost use Rattle.gm_graph_listing.specs.Outcomes.{outcome_view, printed};
 ghost use Rattle.gm_store.specs.Latest.{IsLatest};
-ghost use Rattle.gomod_run.specs.Asking.{IsLatestAsked};
+ghost use Rattle.gomod_run.specs.Asking.{IsAsked, IsLatestAsked};
 ghost use Rattle.gomod_run.specs.Listing.{IsListState};
 ghost use Rattle.gomod_run.specs.Reading.{IsListRead};
 ghost use Rattle.gomod_run.specs.Runs.{AskedInTurn, IsRunOutcome, FailsInTurn};
@@ -29,6 +29,14 @@ use gm_name::{KnownNames, ModPath, ModVersion, NoMemory};
 use gm_store::{Answer, FileName, Files, latest, versions_of};
 use std::alloc::Global;
 
+/// Appends a space and a version.
+fn push_version(line: &mut String, version: &ModVersion) -> Result<(), NoMemory>
+    ensures { OnOk result (string_bytes line.new ≡ string_bytes line.old ++ (codes " " ++ version.now)) }
+{
+    line.push_str(" ")?;
+    line.push_str(version.as_str())
+}
+
 /// The path and the versions on one line, separated by single spaces.
 fn versions_line(
     alloc: Global,
@@ -40,8 +48,7 @@ fn versions_line(
 {
     let mut line = String::from_str(alloc, path.as_str())?;
     'versions: for version in versions {
-        line.push_str(" ")?;
-        line.push_str(version.as_str())?;
+        push_version(&mut line, version)?;
     }
     line.push_str("\n")?;
     Ok(line)
@@ -115,6 +122,43 @@ fn shown_outcome(
     }
 }
 
+/// Asks for the list of a module, as `ask_for` does.
+fn ask_for_list<F: Files>(
+    alloc: Global,
+    path: &ModPath,
+    files: &mut F,
+) -> Result<Option<Output>, NoMemory>
+    requires { answer_in (F.state files.old).asked (list_file path.now) ≡ None }
+    ensures asked { IsAsked (list_file path.now) (F.may_answer files.old)
+        (F.state files.old) (F.state files.new)
+        result }
+    ensures same_store { (name : Name) (reply : Reply)
+        → F.may_answer files.new name reply → F.may_answer files.old name reply }
+    ensures cause { RefusesWithCause (F.state files.old) (F.state files.new) }
+    ensures later { (F.state files.old).faults ≤ (F.state files.new).faults }
+{
+    let list = FileName::List(path.copy(alloc)?);
+    ask_for(alloc, files, &list)
+}
+
+/// Asks for the go.mod of a version, as `ask_for` does.
+fn ask_for_mod<F: Files>(
+    alloc: Global,
+    path: &ModPath,
+    version: &ModVersion,
+    files: &mut F,
+) -> Result<Option<Output>, NoMemory>
+    requires { answer_in (F.state files.old).asked (mod_file path.now version.now) ≡ None }
+    ensures asked { IsAsked (mod_file path.now version.now) (F.may_answer files.old)
+        (F.state files.old) (F.state files.new)
+        result }
+    ensures cause { RefusesWithCause (F.state files.old) (F.state files.new) }
+    ensures later { (F.state files.old).faults ≤ (F.state files.new).faults }
+{
+    let file = FileName::Mod(path.copy(alloc)?, version.copy(alloc)?);
+    ask_for(alloc, files, &file)
+}
+
 /// Asks for the go.mod of the latest version. The result is the outcome for the listed versions, or the report that
 /// the device failed.
 fn latest_outcome<F: Files>(
@@ -132,8 +176,7 @@ fn latest_outcome<F: Files>(
     ensures cause { RefusesWithCause (F.state files.old) (F.state files.new) }
     ensures later { (F.state files.old).faults ≤ (F.state files.new).faults }
 {
-    let file = FileName::Mod(path.copy(alloc)?, latest.copy(alloc)?);
-    match ask_for(alloc, files, &file)? {
+    match ask_for_mod(alloc, path, latest, files)? {
         Some(output) => Ok(output),
         None => shown_outcome(alloc, path, versions, latest, last_answer(files)),
     }
@@ -169,8 +212,7 @@ fn listed<F: Files>(
     if !path.is_fetchable() {
         return Ok(Err(refused(alloc, list_line(alloc, path, "NotFetchable")?)));
     }
-    let list = FileName::List(path.copy(alloc)?);
-    match ask_for(alloc, files, &list)? {
+    match ask_for_list(alloc, path, files)? {
         Some(output) => Ok(Err(output)),
         None => read_list(alloc, path, last_answer(files)),
     }

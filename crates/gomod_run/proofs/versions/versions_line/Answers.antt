@@ -1,4 +1,4 @@
-use Rattle.std.proofs.Common.{◌≡◌, ◌∙◌, ◌++◌, ◌<◌, ℕ, Bor, List, ap, arith, length, map, slice_index_or, string_bytes, sym}
+use Rattle.std.proofs.Common.{◌≡◌, ◌∙◌, ◌<◌, ℕ, Bor, List, ap, arith, length, map, slice_index_or, string_bytes, sym}
 use Rattle.std.proofs.lemmas.List.{get_or-map, length-map}
 use Rattle.gomod_run.proofs.Joining.{joined_more}
 use Rattle.gomod_run.proofs.versions.versions_line.Goals as goal
@@ -11,7 +11,5 @@ versions-preserved c =
     let within : c.versions.version-index < length (map now xs) = omega (arith, length-map xs now) in
     let item : x.now ≡ slice_index_or (map now xs) c.versions.version-index x.now =
     ap now c.version-item.is ∙ sym (get_or-map now xs c.versions.version-index x x.now c.versions-test.true) in
-    joined_more c.args.path.now (map now xs) c.versions.version-index x.now
-    (string_bytes c.versions.line) (string_bytes c.push_str.new.self) (string_bytes c.push_str-in-versions.new.self)
-    within item c.versions.invariant c.in_ok-push_str.ensures.bytes
-    (c.in_ok-push_str-2.ensures.bytes ∙ ap (λ (t : List ℕ). string_bytes c.push_str.new.self ++ t) c.as_str-in-versions.ensures.text)
+    joined_more c.args.path.now (map now xs) c.versions.version-index x.now (string_bytes c.versions.line) (string_bytes c.push_version.new.line)
+    within item c.versions.invariant c.in_ok-push_version.ensures
