@@ -95,5 +95,5 @@ EditedRowsStay = (operations : Vec (String Global)) (file text : List ℕ) (sums
     (rows : List Entry) (asked later : List (Name × Reply)) (one next : Outcome) → AnswerAlike asked later
     → ShowsRows file sums asked main rows one → is_pruned_by main.go ≡ false
     → RequireTheRows rows (texts_in operations) → HasOutcome (Edit operations) file None [] (printed text)
-    → HasOutcome (Rows None None) file sums asked one → HasOutcome (Rows None None) text sums later next → HasPrinted next
-    → next ≡ one
+    → HasOutcome (Rows None None) file sums asked one → HasOutcome (Rows None None) text sums later next
+    → HasPrinted next → next ≡ one
