@@ -4,6 +4,7 @@
 #
 #   tools/refusals.sh                   every edit of every crate
 #   tools/refusals.sh NAME.. NAME/EDIT..  those of these crates, or these edits alone
+#   tools/refusals.sh --only ..         checks for each edit and twin the function alone that `# clause:` names
 #
 # An edit, crates/NAME/must-fail/EDIT.edit, has lines that the merge gate passes over:
 #
@@ -15,9 +16,11 @@
 #
 # For each edit it prints a line: `refused`, `other` with the goals where it was refused instead, or `PROVED`; and for its
 # twin `twin proved` or `twin REFUSED`. The status is 1 if an edit was not refused at its clause, names none, or its twin was
-# not proved. The merge gate itself asks only whether an edit is refused.
+# not proved. A goal whose answer only names what the edit took away says nothing of the clause and does not count. The
+# merge gate itself asks only whether an edit is refused.
 #
-# It needs rt and python3, and the crates as ./build or `rt all check` leaves them, and takes about half a minute a check.
+# It needs rt and python3, and the crates as ./build or `rt all check` leaves them (the libraries below a crate are enough
+# for `--only`), and takes about half a minute a check.
 set -euo pipefail
 cd "$(dirname "$0")/.."
 exec python3 - "$@" <<'PROGRAM'
@@ -29,6 +32,8 @@ import sys
 import tempfile
 
 PARTS = ("src", "specs", "proofs")
+# what antt says of an answer that names what is no longer there
+GONE = re.compile(r"is not in scope|has no field|has no `|was not admitted")
 
 
 def crates_below(name, lines):
@@ -71,23 +76,32 @@ def changed(room, pairs, is_twin):
     return texts
 
 
-def check(room, texts):
-    """Whether the crate is proved with these texts, and where it is not: (function, goal)."""
+def check(room, texts, only=None):
+    """Whether the crate, or one function of it, is proved with these texts, and where it is not: (function, goal)."""
     kept = {path: open(f"{room}/{path}", encoding="utf-8").read() for path in texts}
     for path, text in texts.items():
         open(f"{room}/{path}", "w", encoding="utf-8").write(text)
-    ran = subprocess.run(["rt", "check", "--jobs", "1"], cwd=room, stdin=subprocess.DEVNULL, stdout=subprocess.PIPE,
-                         stderr=subprocess.STDOUT, errors="replace")
+    words = ["rt", "check", "--jobs", "1", *(["--only", only] if only else [])]
+    ran = subprocess.run(words, cwd=room, stdin=subprocess.DEVNULL, stdout=subprocess.PIPE, stderr=subprocess.STDOUT,
+                         errors="replace")
     for path, text in kept.items():
         open(f"{room}/{path}", "w", encoding="utf-8").write(text)
-    goals = []
+    goals, noted, unproved = [], [], []
     for line in ran.stdout.splitlines():
-        answered = re.match(r"\./proofs/(\S+)/\w+\.antt:\d+:\d+: error: `([^`]*)`", line)
+        answered = re.match(r"\./proofs/(\S+)/\w+\.antt:\d+:\d+: error: `([^`]*)`(.*)", line)
         searched = re.match(r"fn \w+::(\S+): no proof: .*did not prove (.*)", line)
+        # where an answer fails, too, the goals that the search left open are told by file alone
+        told_by_file = re.match(r"note: src/(\S+)\.rt:\d+:\d+: it is not proved .*\(`([^`]*)`\)", line)
         if answered:
-            goals.append((answered[1].replace("/", "::"), answered[2]))
+            goal = f"{answered[2]} (its answer names what is gone)" if GONE.search(answered[3]) else answered[2]
+            goals.append((answered[1].replace("/", "::"), goal))
         elif searched:
             goals += [(searched[1], goal) for goal in re.findall(r"`([^`]*)`", searched[2])]
+        elif told_by_file:
+            noted.append((told_by_file[1].replace("/", "::"), told_by_file[2]))
+        elif function := re.match(r"fn \w+::(\S+): not proved$", line):
+            unproved.append(function[1])
+    goals += [(function, goal) for function in unproved for file, goal in noted if function.startswith(f"{file}::")]
     return ran.returncode == 0, goals, ran.stdout
 
 
@@ -104,13 +118,14 @@ def told(goals):
     return ", ".join(f"{at} {goal}" for at, goal in goals[:4]) or "no goal was named"
 
 
-def try_edit(room, name, edit):
+def try_edit(room, name, edit, is_quick):
     pairs, clause = read_edit(f"crates/{name}/must-fail/{edit}.edit")
-    is_proved, goals, said = check(room, changed(room, pairs, False))
+    only = clause[0] if is_quick and clause else None
+    is_proved, goals, said = check(room, changed(room, pairs, False), only)
     is_well = not is_proved and clause is not None and is_at(clause, goals)
     found = "PROVED" if is_proved else "refused at " + " ".join(clause) if is_well else "other: " + told(goals)
     if any(twin is not None for _, _, _, twin in pairs):
-        is_twin_proved, twin_goals, _ = check(room, changed(room, pairs, True))
+        is_twin_proved, twin_goals, _ = check(room, changed(room, pairs, True), only)
         found += "; twin proved" if is_twin_proved else "; twin REFUSED: " + told(twin_goals)
         is_well = is_well and is_twin_proved
     print(f"{name}/{edit}: {found}", flush=True)
@@ -138,7 +153,9 @@ def make_room(work, name, lines):
 def main():
     rows = [line.split(":", 1) for line in open("crates.txt") if ":" in line and not line.startswith("#")]
     lines = {name.strip(): below.split() for name, below in rows}
-    chosen = sys.argv[1:] or [name for name in lines if os.path.isdir(f"crates/{name}/must-fail")]
+    is_quick = "--only" in sys.argv[1:]
+    chosen = [word for word in sys.argv[1:] if word != "--only"]
+    chosen = chosen or [name for name in lines if os.path.isdir(f"crates/{name}/must-fail")]
     is_well = True
     for name in dict.fromkeys(word.split("/")[0] for word in chosen):
         edits = [word.split("/", 1)[1] for word in chosen if word.startswith(f"{name}/")]
@@ -146,11 +163,11 @@ def main():
             edits = sorted(it[:-len(".edit")] for it in os.listdir(f"crates/{name}/must-fail") if it.endswith(".edit"))
         with tempfile.TemporaryDirectory(prefix="refusals-") as work:
             room = make_room(work, name, lines)
-            is_proved, goals, said = check(room, {})
+            is_proved, _, said = (True, [], "") if is_quick else check(room, {})
             if not is_proved:
                 sys.exit(f"refusals: {name} itself is not proved\n{said[-2000:]}")
             for edit in edits:
-                is_well &= try_edit(room, name, edit)
+                is_well &= try_edit(room, name, edit, is_quick)
     return 0 if is_well else 1
 
 
