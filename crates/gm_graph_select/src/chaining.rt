@@ -3,7 +3,7 @@
 //! A chain is traced back from its last step: each visit of the search names its predecessor's. Among several
 //! predecessors of a vertex the least is taken, so the chain doesn't depend on the order in which files were read.
 
-ghost use Rattle.std.specs.Prelude.{◌≡◌, ◌∷◌, [], IfErr, IfNone, IfOk, IfSome, IsErrOf};
+ghost use Rattle.std.specs.Prelude.{◌≡◌, ◌++◌, ◌∷◌, [], IfErr, IfNone, IfOk, IfSome, IsErrOf, OnOk};
 ghost use Rattle.gm_graph_select.specs.Graph.{among, edge_cmp};
 ghost use Rattle.gm_graph_select.specs.Order.{IsAscending};
 ghost use Rattle.gm_graph_select.specs.BuildList.{IsEntryOf, HasEntryFor, entries_of_rows};
@@ -53,6 +53,14 @@ fn entry_of<'a>(main: &ModPath, rows: &'a [Row], path: &ModPath) -> Option<&'a S
     }
 }
 
+/// Appends the step of a copy of a vertex.
+fn push_step(alloc: Global, steps: &mut Vec<Step>, vertex: &ModVer) -> Result<(), AllocError>
+    ensures { OnOk result (steps.new.items ≡ steps.old.items ++ Of vertex.now ∷ []) }
+{
+    steps.push(Step::Of(vertex.copy(alloc)?))?;
+    Ok(())
+}
+
 /// The chain to the goal. Steps are collected from the last to the first and then reversed, since each visit has
 /// only its predecessor's place.
 fn walk_back(
@@ -65,10 +73,10 @@ fn walk_back(
     ensures { IfOk result (λ steps. IsChain (source_edges sources.now) (Of goal.now) steps.items) }
 {
     let mut steps = Vec::new(alloc);
-    steps.push(Step::Of(goal.copy(alloc)?))?;
+    push_step(alloc, &mut steps, goal)?;
     let mut place = visits.len() - 1;
     'back: while let Step::Of(vertex) = sources.step(visits[place].number) {
-        steps.push(Step::Of(vertex.copy(alloc)?))?;
+        push_step(alloc, &mut steps, vertex)?;
         place = visits[place].before;
     }
     steps.push(Step::Main)?;

@@ -138,6 +138,44 @@ impl Search {
     {
         sorted(mem::replace(&mut self.next, Vec::new(alloc)))
     }
+
+    /// Visits a level, then the next one, and so on, until an edge leads to the goal or no steps are left. Returns
+    /// whether one of the edges leads to the goal. `first` are the visits to the first of these levels.
+    fn visit_levels(
+        &mut self,
+        alloc: Global,
+        sources: &Sources<'_>,
+        goal: &ModVer,
+        first: Vec<Visit>,
+    ) -> Result<bool, AllocError>
+        requires sources { AreSources sources.now }
+        requires searched { (level : ℕ) × IsSearchedTo sources.now goal.now level (state_of self.old) first.items }
+        ensures found { IfOk result (λ is_goal. is_goal ≡ true
+            → IsTracedTo sources.now goal.now self.new.visits.items) }
+        ensures missed { IfOk result (λ is_goal. is_goal ≡ false
+            → IsReached (source_edges sources.now) (Of goal.now) → ⊥) }
+    {
+        let mut due = first;
+        'levels: while !due.is_empty() {
+            if self.visit_level(sources, goal, &due)? {
+                return Ok(true);
+            }
+            due = self.take_level(alloc);
+        }
+        Ok(false)
+    }
+}
+
+/// The visits to the first level, whose only step is the main module.
+fn first_visits(alloc: Global) -> Result<Vec<Visit>, AllocError>
+    ensures { IfOk result (λ visits. visits.items ≡ record { number = 0; before = 0 } ∷ []) }
+{
+    let mut visits = Vec::new(alloc);
+    visits.push(Visit {
+        number: 0,
+        before: 0,
+    })?;
+    Ok(visits)
 }
 
 /// The state before the first level, whose only step is the main module.
@@ -167,17 +205,10 @@ pub(crate) fn visits_to(
     if !sources.begins_with_main() {
         return Ok(None);
     }
+    let first = first_visits(alloc)?;
     let mut search = first_search(alloc, sources)?;
-    let mut due = Vec::new(alloc);
-    due.push(Visit {
-        number: 0,
-        before: 0,
-    })?;
-    'levels: while !due.is_empty() {
-        if search.visit_level(sources, goal, &due)? {
-            return Ok(Some(search.visits));
-        }
-        due = search.take_level(alloc);
+    if search.visit_levels(alloc, sources, goal, first)? {
+        return Ok(Some(search.visits));
     }
     Ok(None)
 }
