@@ -81,7 +81,9 @@ graph_app = over_graph (new_app (codes "graph"))
 
 -- `list --after PATH --limit N`
 abbrev pub list_app : App
-list_app = with_rule (with_rule (over_graph (new_app (codes "list"))) (option_rule (codes "after"))) (option_rule (codes "limit"))
+list_app =
+    with_rule (with_rule (over_graph (new_app (codes "list"))) (option_rule (codes "after")))
+    (option_rule (codes "limit"))
 
 -- `chain PATH`
 abbrev pub chain_app : App
