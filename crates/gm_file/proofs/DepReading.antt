@@ -9,7 +9,7 @@ use Rattle.gm_syntax.specs.Tokens.{Placed}
 use Rattle.gm_syntax.specs.Document.{Line}
 use Rattle.gm_syntax.specs.LineViews.{plain, plain_lines}
 use Rattle.gm_syntax.specs.Parsed.{IsParsedAs}
-use Rattle.gm_syntax.specs.LineReading.{IsRestRead}
+use Rattle.gm_syntax.specs.LineReading.{IsRestRead, Unread}
 use Rattle.gm_syntax.specs.declared.fault.SyntaxFault.{SyntaxFault}
 use Rattle.gm_syntax.specs.declared.fault.SyntaxFault.TheVariants as syntax
 use Rattle.gm_file.specs.declared.dep_lines.DepLines.{DepLines}
@@ -72,14 +72,14 @@ misread-syntax bytes syntax.NotUtf8 is = is
 misread-syntax bytes (syntax.Syntax number kind) is = is
 
 -- where the rest of the text has no fault, that of the line is the fault of the bytes
-pub misread-line : (bytes : List ℕ) (lines : List (Line Placed)) (here : Line Placed) (number : ℕ) (fault : LineFault)
-    → number ≡ length (lines ++ here ∷ []) → HasNextFault (plain_lines lines) (plain here) fault → IsRestRead bytes (lines ++ here ∷ []) (Ok tt)
-    → IsMisread bytes (read_by_file (file_fault_at number fault))
-misread-line bytes lines here number line.NoMemory is told rest = tt
-misread-line bytes lines here number (line.Kind kind) is told rest =
+pub misread-line : (left : Unread) (lines : List (Line Placed)) (here : Line Placed) (number : ℕ) (fault : LineFault)
+    → number ≡ length (lines ++ here ∷ []) → HasNextFault (plain_lines lines) (plain here) fault → IsRestRead left (lines ++ here ∷ []) (Ok tt)
+    → IsMisread left.source (read_by_file (file_fault_at number fault))
+misread-line left lines here number line.NoMemory is told rest = tt
+misread-line left lines here number (line.Kind kind) is told rest =
     let same : length (plain_lines lines) + 1 ≡ number = omega (arith, is, length-append lines (here ∷ []), length-map lines plain) in (
       (lines ++ here ∷ []) ++ rest.0,
-      rest.1,
+      rest.2,
       ap (fault_of Lax) (map-append plain (lines ++ here ∷ []) rest.0 ∙ ap (λ (ls : List (Line Word)). ls ++ plain_lines rest.0) (map_push plain lines here))
           ∙ told (plain_lines rest.0) ∙ ap (λ (n : ℕ). Some (n, kind)) same,
     )

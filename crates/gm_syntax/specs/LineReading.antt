@@ -55,7 +55,9 @@ IsNextRead left lines (Ok (Some line)) = HasRead left (lines ++ line_of line ∷
 IsNextRead left lines (Ok None) = IsReadDocument left.source lines
 IsNextRead left lines (Err fault) = IsParsedAs left.source (Err fault)
 
--- after these lines the rest of the text is lines too, or the result is the fault of the text
-abbrev pub IsRestRead : List ℕ → List (Line Placed) → Result (Unit {0}) SyntaxFault → Type 0
-IsRestRead source lines (Ok u) = (more : List (Line Placed)) × IsParsedAs source (Ok (lines ++ more))
-IsRestRead source lines (Err fault) = IsParsedAs source (Err fault)
+-- more lines have been read after these, and they are the document, or the result is the fault of the text
+abbrev pub IsRestRead : Unread → List (Line Placed) → Result (Unit {0}) SyntaxFault → Type 0
+IsRestRead left lines (Ok u) = (more : List (Line Placed)) × HasRead left (lines ++ more)
+    × IsParsedAs left.source (Ok (lines ++ more))
+IsRestRead left lines (Err fault) = (more : List (Line Placed)) × HasRead left (lines ++ more)
+    × IsParsedAs left.source (Err fault)

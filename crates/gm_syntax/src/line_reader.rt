@@ -123,10 +123,10 @@ impl<'a> LineReader<'a> {
         }
     }
 
-    /// Reads the remaining lines and drops them. Fails as `next` does at the first fault.
+    /// Reads the remaining lines and drops them. Fails as `next` does at the first fault; the lines before it
+    /// have been read then.
     pub fn skip_rest(&mut self) -> Result<(), SyntaxFault>
-        ensures rest { (lines : List (LineOf Placed)) → HasRead self.old lines
-            → IsRestRead self.old.source lines result }
+        ensures rest { (lines : List (LineOf Placed)) → HasRead self.old lines → IsRestRead self.new lines result }
         ensures source { self.new.source ≡ self.old.source }
     {
         while let Some(line) = self.next()? {

@@ -1,7 +1,6 @@
-use Rattle.std.proofs.Common.{ℕ, List, [], ◌∷◌, ◌++◌, Ok, Err, append_assoc, ap, sym, subst, ◌∙◌}
+use Rattle.std.proofs.Common.{[], ◌∷◌, ◌++◌, append_assoc, ap, sym, subst, ◌∙◌}
 use Rattle.std.proofs.lemmas.Result.{err_from_is_err_and}
 use Rattle.gm_syntax.specs.LineViews.{line_of}
-use Rattle.gm_syntax.specs.Parsed.{IsParsedAs}
 use Rattle.gm_syntax.specs.LineReading.{Unread, HasRead}
 use Rattle.gm_syntax.proofs.LineReading.{one_more, no_more}
 use Rattle.gm_syntax.proofs.line_reader.LineReader.skip_rest.Goals as goal
@@ -10,8 +9,8 @@ pub returns-in_err-line-clause-rest : goal.returns-in_err-line-clause-rest
 returns-in_err-line-clause-rest c = λ lines so.
     let read = c.loop-line.invariant.read lines so in
     let told = err_from_is_err_and c.from_residual.result c.from_residual.ensures.1 in
-    rw (told.1, told.2) (subst (λ (source : List ℕ). IsParsedAs source (Err c.in_err-line.field-0.0)) (c.in_err-line.ensures.source ∙ c.loop-line.invariant.source)
-    (c.in_err-line.ensures.next (lines ++ read.0) read.1))
+    let here : HasRead c.next.new.self (lines ++ read.0) = subst (λ (left : Unread). HasRead left (lines ++ read.0)) (sym c.in_err-line.ensures.err) read.1 in
+    rw (told.1, told.2) (read.0, here, c.in_err-line.ensures.next (lines ++ read.0) read.1)
 
 pub loop-line-preserved : goal.loop-line-preserved
 loop-line-preserved c = record {
@@ -26,5 +25,7 @@ loop-line-preserved c = record {
 pub returns-clause-rest : goal.returns-clause-rest
 returns-clause-rest c = λ lines so.
     let read = c.loop-line.invariant.read lines so in
+    let same = rw c.in_default.is at c.in_ok-line.ensures.end in
+    let here : HasRead c.next.new.self (lines ++ read.0) = subst (λ (left : Unread). HasRead left (lines ++ read.0)) (sym same) read.1 in
     let end = no_more c.next.new.self (lines ++ read.0) c.in_ok-line.field-0 c.in_default.is (c.in_ok-line.ensures.next (lines ++ read.0) read.1) in
-    (read.0, subst (λ (source : List ℕ). IsParsedAs source (Ok (lines ++ read.0))) (c.in_ok-line.ensures.source ∙ c.loop-line.invariant.source) end.parsed)
+    (read.0, here, end.parsed)
