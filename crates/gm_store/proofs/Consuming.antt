@@ -1,5 +1,5 @@
 -- The bytes that a reader has yielded are a prefix of those that it had.
-use Rattle.std.proofs.Common.{◌≡◌, ℕ, ◌≤◌, List, [], ◌∷◌, ◌<◌, ◌++◌, append-nil, refl, subst, length, take, drop, Option, Some, None, IfSome, ap, ◌∙◌, sym, arith}
+use Rattle.std.proofs.Common.{◌≡◌, ℕ, ◌≤◌, List, [], ◌∷◌, ◌<◌, ◌++◌, append-nil, append_assoc, refl, subst, length, take, drop, Option, Some, None, IfSome, ap, ◌∙◌, sym, arith}
 use Rattle.std.proofs.lemmas.Grind.{common_steps}
 use Rattle.std.specs.Io.KnownBytes.{Consumes, IsAtEnd}
 use Rattle.gm_store.specs.Pieces.{AddsPiece}
@@ -55,3 +55,11 @@ pub rest_ended_by : (n room count : ℕ) (old mid new : Option (List ℕ)) (befo
 rest_ended_by n room count old mid new before after h short p zero some =
     let none : p.piece ≡ [] = no_piece p.piece (p.counted ∙ zero) in
     ended_rest n old mid new before h short (subst (Consumes mid new) none p.given) (p.ended zero some)
+
+-- one more piece was read
+pub consumed_more : (old mid new : Option (List ℕ)) (front piece whole : List ℕ) → whole ≡ front ++ piece → Consumes old mid front → Consumes mid new piece → Consumes old new whole
+consumed_more None mid new front piece whole is h g = tt
+consumed_more (Some all) None new front piece whole is h g = absurd h
+consumed_more (Some all) (Some rest) None front piece whole is h g = absurd g
+consumed_more (Some all) (Some rest) (Some last) front piece whole is h g =
+    h ∙ ap (λ (t : List ℕ). front ++ t) g ∙ sym (append_assoc front piece last) ∙ ap (λ (t : List ℕ). t ++ last) (sym is)

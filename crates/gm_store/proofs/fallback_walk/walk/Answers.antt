@@ -2,7 +2,7 @@ use Rattle.std.proofs.Common.{◌∙◌, ap, arith}
 use Rattle.gm_store.specs.Steps.{reply_in, result_of, step_of}
 use Rattle.gm_store.specs.declared.fallback_step.Next.TheVariants.{Take, Fail}
 use Rattle.gm_store.proofs.Limits.{same_limit}
-use Rattle.gm_store.proofs.Walks.{fail_counts, fail_outcome, none_passed, one_more, take_sound, walk_ends}
+use Rattle.gm_store.proofs.Walks.{fail_counts, fail_outcome, none_passed, one_more, passed_counts, passed_falls, take_sound, walk_ends}
 use Rattle.gm_store.proofs.fallback_walk.walk.Goals as goal
 
 pub folders-init : goal.folders-init
@@ -30,3 +30,9 @@ returns-in-Fail-clause-cause g c =
 
 pub returns-in-Take-clause-within_limit : goal.returns-in-Take-clause-within_limit
 returns-in-Take-clause-within_limit g c = same_limit _ (reply_in (result_of c.in-Ok.looked)) c.answer_in.ensures.reply (rw c.in-Ok.is at c.look.ensures.within_limit)
+
+pub returns-in_default-clause-no_memory : goal.returns-in_default-clause-no_memory
+returns-in_default-clause-no_memory g c = passed_counts c.folders.invariant
+
+pub returns-in_default-clause-fell_back : goal.returns-in_default-clause-fell_back
+returns-in_default-clause-fell_back g c = passed_falls c.folders.invariant

@@ -1,5 +1,5 @@
-use Rattle.std.proofs.Common.{arith}
-use Rattle.gm_store.proofs.Consuming.{ended_by, full_front, full_rest, rest_ended_by}
+use Rattle.std.proofs.Common.{ap, arith, length, length-append}
+use Rattle.gm_store.proofs.Consuming.{consumed_more, ended_by, full_front, full_rest, rest_ended_by}
 use Rattle.gm_store.proofs.reading.read_limited.Goals as goal
 
 pub returns-clause-bytes : goal.returns-clause-bytes
@@ -17,3 +17,12 @@ pub returns-then-count-eq0-clause-rest : goal.returns-then-count-eq0-clause-rest
 returns-then-count-eq0-clause-rest g c =
     let (room, some, _, adds) = c.in_ok-count.ensures.adds in
     rest_ended_by 16777217 room c.in_ok-count.count _ _ _ c.fill.bytes.items c.read_next.new.bytes.items c.fill.invariant.given c.fill.invariant.short adds c.if-count-eq0.true some
+
+pub fill-preserved : goal.fill-preserved
+fill-preserved g c =
+    let (room, some, within, adds) = c.in_ok-count.ensures.adds in
+    record {
+      given = consumed_more _ _ _ c.fill.bytes.items adds.piece c.read_next.new.bytes.items adds.added c.fill.invariant.given adds.given;
+      short = omega (arith, ap length adds.added, length-append c.fill.bytes.items adds.piece, adds.counted, adds.within, within);
+      room = c.in_ok-count.ensures.room;
+    }
