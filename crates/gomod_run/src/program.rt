@@ -256,8 +256,9 @@ fn store_of(alloc: Global, path: &ModPath, list: Vec<u8>) -> Result<MemoryFiles,
     ensures asked { IfOk result (λ files. pairs_of files ≡ []) }
     ensures held { IfOk result (HoldsOne (list_file path.now) list.items) }
 {
+    let name = FileName::List(path.copy(alloc)?);
     let mut files = MemoryFiles::new(alloc);
-    files.put(FileName::List(path.copy(alloc)?), list)?;
+    files.put(name, list)?;
     Ok(files)
 }
 
