@@ -71,6 +71,8 @@ fn read_entry(
 }
 
 /// The directive of an entry with this verb and these arguments, where the verb is still a word.
+// Inlined, so that the wide result is made in its place.
+#[inline(always)]
 fn read_verb_entry(
     alloc: Global,
     names: &mut KnownNames,
@@ -98,6 +100,8 @@ fn read_block_start(mode: Mode, verb: &Token) -> Result<Option<Directive>, LineF
 /// The directive of a line, as `read_line` gives it. Names are looked up in `names` and added to it, so that equal
 /// names share memory.
 #[tactic(auto, unfolding(crate::specs::Directives::item_at))]
+// Inlined, so that the wide result is made in its place.
+#[inline(always)]
 pub(crate) fn read_line_with_names(
     alloc: Global,
     names: &mut KnownNames,
