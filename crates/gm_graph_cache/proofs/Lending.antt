@@ -9,7 +9,7 @@ use Rattle.gm_graph_cache.specs.declared.summary.Kept.{Kept}
 use Rattle.gm_graph_cache.specs.declared.summary.Kept.TheVariants.{Valid, Faulty}
 use Rattle.gm_graph_cache.specs.declared.cache.Cache.{Cache}
 use Rattle.gm_graph_cache.specs.Main.{Main, ModuleVersion, without_excluded, replacement_in}
-use Rattle.gm_graph_cache.specs.Reading.{Held, file_of, is_askable, is_right_path, reading_if, readings_by, requirements_in, vertex_requirements, said_in, with_right_path}
+use Rattle.gm_graph_cache.specs.Reading.{Held, file_of, is_askable, is_right_path, is_unpruned, is_unpruned_in, reading_if, readings_by, requirements_in, vertex_requirements, said_in, with_right_path}
 use Rattle.gm_graph_cache.specs.Entries.{lent_in}
 use Rattle.gm_graph_cache.specs.Summaries.{IsKept, lent_found, summary_reading}
 use Rattle.gm_graph_cache.specs.Cached.{IsLender, LendsKept, held_of, main_in, summary_at}
@@ -39,3 +39,9 @@ lent_kept cache x None lends lender = sym (ap (λ (r : Option (Result Dependency
 lent_kept cache x (Some name) lends lender =
     lent_one (main_in cache) (summary_at cache name) lender.1 (λ one e. lends name one e) (ap (held_of cache) lender.0 ∙ held_sound (main_in cache) (held_of cache) x lender.1 lender.2)
     ∙ sym (ap (λ (r : Option (Result Dependency Class)). requirements_in (main_in cache) (said_in r)) lender.2)
+
+-- What is held under the name of a vertex's file says whether the vertex is unpruned.
+pub unpruned_same : (main : Main) (held : Held) (x : ModuleVersion) (name : Name) → IsLender main held x (Some name)
+    → is_unpruned_in (said_in (held name)) ≡ is_unpruned (readings_by main held) x
+unpruned_same main held x name lender =
+    ap (λ (r : Option (Result Dependency Class)). is_unpruned_in (said_in r)) (ap held lender.0 ∙ held_sound main held x lender.1 lender.2 ∙ sym lender.2)
