@@ -1,5 +1,6 @@
 -- What the commands do with what was found.
 use Rattle.std.proofs.Common.{◌≡◌, ◌∙◌, ◌++◌, ℕ, List, [], ◌∷◌, Option, Some, Result, Ok, Err, IfOk, MatchResult, sym, refl, subst, inl, inr, append-nil}
+use Rattle.std.specs.Result.{IsErr, IsErrAnd}
 use Rattle.gm_syntax.specs.Document.{Line}
 use Rattle.gm_syntax.specs.Tokens.{Placed}
 use Rattle.gm_store.specs.Asked.{Name, Reply, name_of}
@@ -20,11 +21,13 @@ use Rattle.gm_graph.specs.Loading.{AreTooMany, IsDue, Told}
 use Rattle.gm_graph.specs.Outcome.{AreFaults, IsLoaded, LoadedGraph as Loaded}
 use Rattle.gm_graph_listing.specs.declared.answering.Read.{Read}
 use Rattle.gm_graph_listing.specs.declared.output.Output.{Output}
+use Rattle.gm_graph_listing.specs.declared.output.Stop.{Stop}
+use Rattle.gm_graph_listing.specs.declared.output.Stop.TheVariants as stop
 use Rattle.gm_graph_listing.specs.declared.query.Query.{Query}
 use Rattle.gm_graph_listing.specs.declared.query.Query.TheVariants.{Graph, List as Rows, Chain}
 use Rattle.gm_graph_listing.specs.Texts.{limited, list_text}
 use Rattle.gm_graph_listing.specs.Reports.{Place, main_line}
-use Rattle.gm_graph_listing.specs.Outcomes.{AreKnown, AreInvalidSums, AreSums, FailsInOrder, IsAnswer, IsMainFile, IsMainOf, IsMalformedMain, IsRefusedRead, Outcome, PrintsFor, PrintsRows, answers, device, faulty, given, outcome_view, printed, refused, too_many}
+use Rattle.gm_graph_listing.specs.Outcomes.{AreKnown, AreInvalidSums, AreSums, FailsInOrder, IsAnswer, IsMainFile, IsMainOf, IsMalformedMain, IsRefusedRead, Outcome, PrintsFor, PrintsRows, StopsWith, answers, device, faulty, given, outcome_view, printed, refused, too_many}
 use Rattle.gm_graph_listing.specs.Found.{FailsOver, IsAnswerOver, IsLoadReport, ReportsFaultsOr, PrintsFound, FilesReadAs}
 
 -- the case where the rows after a path are printed
@@ -102,49 +105,70 @@ by_faults query main table old new loaded (first ∷ others) outcome (held, tell
 
 -- ---- what was read
 
-abbrev pub IsMainRead : List ℕ → Result (List (Line Placed)) Output → Type 0
-IsMainRead file r = MatchResult r (λ lines. IsMainOf file lines) (λ output. (place : Place) × IsMalformedMain file place × (outcome_view output ≡ refused (main_line place)))
+-- the output that a command ends with when it stops, or the refusal when memory ran out
+abbrev pub IsOutputOf : {E : Type 0} → Stop → Result Output E → Type 0
+IsOutputOf s result = MatchResult result (λ output. s ≡ stop.Reported output) (λ _. s ≡ stop.NoMemory)
+
+-- what holds of the output of a stop holds of the output that the command ends with
+pub output_of : {E : Type 0} (Is : Outcome → Type 0) (s : Stop) (result : Result Output E) → IsOutputOf s result → StopsWith Is s
+    → IfOk result (λ output. Is (outcome_view output))
+output_of Is s (Ok output) ends is = subst (StopsWith Is) ends is
+output_of Is s (Err e) ends is = tt
+
+abbrev pub IsMainRead : List ℕ → Result (List (Line Placed)) Stop → Type 0
+IsMainRead file r =
+    MatchResult r (λ lines. IsMainOf file lines) (StopsWith (λ outcome. (place : Place) × IsMalformedMain file place × (outcome ≡ refused (main_line place))))
 
 -- the report of a main module's file that was not read
-pub main_err : (file : List ℕ) (r : Result (List (Line Placed)) Output) (output : Output) → r ≡ Err output → IsMainRead file r
+pub main_err : (file : List ℕ) (r : Result (List (Line Placed)) Stop) (output : Output) → r ≡ Err (stop.Reported output) → IsMainRead file r
     → (place : Place) × IsMalformedMain file place × (outcome_view output ≡ refused (main_line place))
 main_err file r output is match = subst (IsMainRead file) is match
 
-pub main_ok : (file : List ℕ) (r : Result (List (Line Placed)) Output) (lines : List (Line Placed)) → r ≡ Ok lines → IsMainRead file r → IsMainFile file (main_of lines)
+pub main_ok : (file : List ℕ) (r : Result (List (Line Placed)) Stop) (lines : List (Line Placed)) → r ≡ Ok lines → IsMainRead file r → IsMainFile file (main_of lines)
 main_ok file r lines is match = (lines, subst (IsMainRead file) is match, refl)
 
-abbrev pub AreSumsRead : Option (List ℕ) → Result (Option SumTable) Output → Type 0
-AreSumsRead sums r = MatchResult r (λ table. AreSums sums table) (λ output. (report : List ℕ) × AreInvalidSums sums report × (outcome_view output ≡ refused report))
+abbrev pub AreSumsRead : Option (List ℕ) → Result (Option SumTable) Stop → Type 0
+AreSumsRead sums r =
+    MatchResult r (λ table. AreSums sums table) (StopsWith (λ outcome. (report : List ℕ) × AreInvalidSums sums report × (outcome ≡ refused report)))
 
-pub sums_err : (sums : Option (List ℕ)) (r : Result (Option SumTable) Output) (x : Output) → r ≡ Err x → AreSumsRead sums r
-    → (report : List ℕ) × AreInvalidSums sums report × (outcome_view x ≡ refused report)
-sums_err sums r x is match = subst (AreSumsRead sums) is match
-
-pub sums_ok : (sums : Option (List ℕ)) (r : Result (Option SumTable) Output) (table : Option SumTable) → r ≡ Ok table → AreSumsRead sums r → AreSums sums table
+pub sums_ok : (sums : Option (List ℕ)) (r : Result (Option SumTable) Stop) (table : Option SumTable) → r ≡ Ok table → AreSumsRead sums r → AreSums sums table
 sums_ok sums r table is match = subst (AreSumsRead sums) is match
 
-pub both_read : (file : List ℕ) (sums : Option (List ℕ)) (r : Result (List (Line Placed)) Output) (s : Result (Option SumTable) Output) (lines : List (Line Placed)) (table : Option SumTable)
+sums_refused : (file : List ℕ) (sums : Option (List ℕ)) (main : Main) (outcome : Outcome) → IsMainFile file main
+    → ((report : List ℕ) × AreInvalidSums sums report × (outcome ≡ refused report)) → IsRefusedRead file sums outcome
+sums_refused file sums main outcome is (report, misread, says) = inr (main, report, is, misread, says)
+
+-- a go.sum that was not read refuses both, after a main module's file that was read
+pub sums_stop : (file : List ℕ) (sums : Option (List ℕ)) (main : Main) (r : Result (Option SumTable) Stop) (s : Stop) → IsMainFile file main → r ≡ Err s → AreSumsRead sums r
+    → StopsWith (IsRefusedRead file sums) s
+sums_stop file sums main r stop.NoMemory is stops match = tt
+sums_stop file sums main r (stop.Reported output) is stops match =
+    sums_refused file sums main (outcome_view output) is (subst (AreSumsRead sums) stops match)
+
+pub both_read : (file : List ℕ) (sums : Option (List ℕ)) (r : Result (List (Line Placed)) Stop) (s : Result (Option SumTable) Stop) (lines : List (Line Placed)) (table : Option SumTable)
     → r ≡ Ok lines → IsMainRead file r → s ≡ Ok table → AreSumsRead sums s → FilesReadAs file sums (main_of lines) table
 both_read file sums r s lines table is main are read = (main_ok file r lines is main, sums_ok sums s table are read)
 
-abbrev pub IsBothRead : List ℕ → Option (List ℕ) → Result Read Output → Type 0
-IsBothRead file sums r = MatchResult r (λ both. FilesReadAs file sums (main_of both.main) both.table) (λ output. IsRefusedRead file sums (outcome_view output))
+abbrev pub IsBothRead : List ℕ → Option (List ℕ) → Result Read Stop → Type 0
+IsBothRead file sums r = MatchResult r (λ both. FilesReadAs file sums (main_of both.main) both.table) (StopsWith (IsRefusedRead file sums))
 
-pub both_ok : (file : List ℕ) (sums : Option (List ℕ)) (r : Result Read Output) (x : Read) → r ≡ Ok x → IsBothRead file sums r → FilesReadAs file sums (main_of x.main) x.table
+-- the stop of one file is passed on as that of both
+pub passed_on : (file : List ℕ) (sums : Option (List ℕ)) (s : Stop) (result : Result Read Stop) → IsErr result → IsErrAnd result (λ e. e ≡ s)
+    → StopsWith (IsRefusedRead file sums) s → IsBothRead file sums result
+passed_on file sums s (Ok both) failed same is = absurd (cc failed)
+passed_on file sums s (Err e) failed same is = subst (StopsWith (IsRefusedRead file sums)) (sym same) is
+
+pub both_ok : (file : List ℕ) (sums : Option (List ℕ)) (r : Result Read Stop) (x : Read) → r ≡ Ok x → IsBothRead file sums r → FilesReadAs file sums (main_of x.main) x.table
 both_ok file sums r x is match = subst (IsBothRead file sums) is match
-
-pub both_err : (file : List ℕ) (sums : Option (List ℕ)) (r : Result Read Output) (x : Output) → r ≡ Err x → IsBothRead file sums r → IsRefusedRead file sums (outcome_view x)
-both_err file sums r x is match = subst (IsBothRead file sums) is match
-
-pub sums_refused : (file : List ℕ) (sums : Option (List ℕ)) (main : Main) (outcome : Outcome) → IsMainFile file main
-    → ((report : List ℕ) × AreInvalidSums sums report × (outcome ≡ refused report)) → IsRefusedRead file sums outcome
-sums_refused file sums main outcome is (report, misread, says) = inr (main, report, is, misread, says)
 
 -- the outcome of a whole run, with the names on which the store's device failed
 abbrev pub AnsweredOf : Query → List ℕ → Option (List ℕ) → StoreState → StoreState → Outcome → Type 0
 AnsweredOf query file sums old new outcome =
     (failed : List Name) × (new.refused ≡ old.refused ++ failed) × IsAnswer query (given file sums (answers new.asked failed)) outcome
 
-pub refused_read : (query : Query) (file : List ℕ) (sums : Option (List ℕ)) (state : StoreState) (outcome : Outcome) → state.asked ≡ []
-    → IsRefusedRead file sums outcome → AnsweredOf query file sums state state outcome
-refused_read query file sums state outcome none is = ([], sym (append-nil state.refused), inl (is, (none, refl)))
+pub refused_read : {E : Type 0} (query : Query) (file : List ℕ) (sums : Option (List ℕ)) (state : StoreState) (r : Result Read Stop) (s : Stop) (result : Result Output E)
+    → state.asked ≡ [] → r ≡ Err s → IsBothRead file sums r → IsOutputOf s result → IfOk result (λ output. AnsweredOf query file sums state state (outcome_view output))
+refused_read query file sums state r s (Err e) none stops read ends = tt
+refused_read query file sums state r s (Ok output) none stops read ends =
+    let is = subst (StopsWith (IsRefusedRead file sums)) ends (subst (IsBothRead file sums) stops read) in
+    ([], sym (append-nil state.refused), inl (is, (none, refl)))

@@ -27,6 +27,8 @@ use Rattle.gm_graph_listing.specs.declared.query.Query.{Query}
 use Rattle.gm_graph_listing.specs.declared.query.Query.TheVariants.{Graph, List as Rows, Chain}
 use Rattle.gm_graph_listing.specs.declared.output.Output.{Output}
 use Rattle.gm_graph_listing.specs.declared.output.Status.{Status}
+use Rattle.gm_graph_listing.specs.declared.output.Stop.{Stop}
+use Rattle.gm_graph_listing.specs.declared.output.Stop.TheVariants as stop
 use Rattle.gm_graph_listing.specs.declared.output.Status.TheVariants.{Done, Fault as Faulty, Device}
 use Rattle.gm_graph_listing.specs.Texts.{chain_text, graph_text, limited, line, list_text}
 use Rattle.gm_graph_listing.specs.Reports.{Place, bad_sum_line, device_line, faults_text, main_line, not_listed_line, too_many_line}
@@ -61,6 +63,11 @@ refused report = record { text = []; report = report; status = 1 }
 -- nothing printed, and what failed
 abbrev pub failed : List ℕ → Outcome
 failed report = record { text = []; report = report; status = 3 }
+
+-- unless memory ran out, the command ends with such an outcome
+abbrev pub StopsWith : (Outcome → Type 0) → Stop → Type 0
+StopsWith Is stop.NoMemory = ⊤
+StopsWith Is (stop.Reported output) = Is (outcome_view output)
 
 -- What a store answered: the names that it was asked for with its answers, and the names on which its device
 -- failed.

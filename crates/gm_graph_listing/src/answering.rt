@@ -7,10 +7,10 @@ ghost use Rattle.gm_store.specs.Asked.{Name, Reply};
 ghost use Rattle.gm_store.specs.States.{RefusesWithCause};
 ghost use Rattle.gm_graph_cache.specs.Main.{main_of};
 ghost use Rattle.gm_graph.specs.Loading.{AsksInTurn};
-ghost use Rattle.gm_graph_listing.specs.Outcomes.{AsksInOrder, FailsInOrder, IsAnswer, IsRefusedRead, answers, given, outcome_view};
+ghost use Rattle.gm_graph_listing.specs.Outcomes.{AsksInOrder, FailsInOrder, IsAnswer, IsRefusedRead, StopsWith, answers, given, outcome_view};
 ghost use Rattle.gm_graph_listing.specs.Found.{FailsOver, IsAnswerOver, IsLoadReport, FilesReadAs};
 
-use crate::output::{Output, failed, refused};
+use crate::output::{Output, Stop, failed, refused};
 use crate::printing::tell;
 use crate::query::Query;
 use crate::reading::{main_file, sum_table};
@@ -43,24 +43,15 @@ struct Read<'a> {
     table: Option<SumTable>,
 }
 
-/// Both files, or the outcome that reports the first invalid one. The main module's file is read first.
-fn read_files<'a>(
-    alloc: Global,
-    file: &'a [u8],
-    sums: Option<&[u8]>,
-) -> Result<Result<Read<'a>, Output>, NoMemory>
-    ensures { IfOk result (λ read. MatchResult read
+/// Both files. It stops with the report of the first invalid one. The main module's file is read first.
+fn read_files<'a>(alloc: Global, file: &'a [u8], sums: Option<&[u8]>) -> Result<Read<'a>, Stop>
+    ensures { MatchResult result
         (λ both. FilesReadAs file.now (option_copied sums.entry) (main_of both.main) both.table)
-        (λ output. IsRefusedRead file.now (option_copied sums.entry) (outcome_view output))) }
+        (StopsWith (IsRefusedRead file.now (option_copied sums.entry))) }
 {
-    let main = match main_file(alloc, file)? {
-        Ok(main) => main,
-        Err(output) => return Ok(Err(output)),
-    };
-    match sum_table(alloc, sums)? {
-        Ok(table) => Ok(Ok(Read { main, table })),
-        Err(output) => Ok(Err(output)),
-    }
+    let main = main_file(alloc, file)?;
+    let table = sum_table(alloc, sums)?;
+    Ok(Read { main, table })
 }
 
 /// The outcome when both files are valid.
@@ -136,9 +127,9 @@ pub fn answer<F: Files>(
     ensures cause { RefusesWithCause (F.state files.old) (F.state files.new) }
     ensures later { (F.state files.old).faults ≤ (F.state files.new).faults }
 {
-    let read = match read_files(alloc, file, sums)? {
+    let read = match read_files(alloc, file, sums) {
         Ok(read) => read,
-        Err(output) => return Ok(output),
+        Err(stop) => return stop.into_output(),
     };
     let output = answer_over(alloc, query, &read.main, read.table.as_ref(), files)?;
     Ok(output)

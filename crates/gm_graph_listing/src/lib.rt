@@ -29,7 +29,7 @@ mod row_lines;
 
 pub use crate::answering::answer;
 pub use crate::graph_lines::{chain_text, graph_text};
-pub use crate::output::{Output, Status, failed, printed, refused};
+pub use crate::output::{Output, Status, Stop, failed, printed, refused};
 pub use crate::query::Query;
 pub use crate::reading::main_file;
 pub use crate::report::{

@@ -1,11 +1,14 @@
 //! The result of a command. It either prints or reports, never both, and its status says which. All commands
 //! share this type, so that a text, a report and a status mean the same for each of them.
 
-ghost use Rattle.std.specs.Prelude.{◌≡◌};
+ghost use Rattle.std.specs.Prelude.{◌≡◌, MatchResult};
 ghost use Rattle.std.specs.String.{string_bytes};
 ghost use Rattle.gm_graph_listing.specs.Outcomes.{code_of, failed, outcome_view, printed, refused};
+ghost use Rattle.gm_graph_listing.specs.declared.output.Stop.TheVariants as stop;
 
-use std::alloc::Global;
+use gm_name::NoMemory;
+use std::alloc::{AllocError, Global};
+use thiserror::Error;
 
 /// How a run ends.
 #[derive(Clone, Copy, Debug, PartialEq, Eq)]
@@ -74,5 +77,37 @@ pub fn failed(alloc: Global, report: String) -> Output
         text: String::new(alloc),
         report,
         status: Status::Device,
+    }
+}
+
+/// Why a command ends before it has read all that it needs.
+#[derive(Debug, Drop, PartialEq, Eq, Error)]
+pub enum Stop {
+    /// Memory ran out.
+    #[error("out of memory")]
+    NoMemory,
+    /// Something is wrong with what was to be read, and this output reports it.
+    #[error("an input can't be read")]
+    Reported(Output),
+}
+
+impl From<AllocError> for Stop {
+    ghost from_gives = { λ _ reason. reason ≡ stop.NoMemory };
+
+    /// A failed allocation is `NoMemory`.
+    fn from(_error: AllocError) -> Stop {
+        Stop::NoMemory
+    }
+}
+
+impl Stop {
+    /// The output that the command ends with. Refused only when memory ran out.
+    pub fn into_output(self) -> Result<Output, NoMemory>
+        ensures { MatchResult result (λ output. self ≡ stop.Reported output) (λ _. self ≡ stop.NoMemory) }
+    {
+        match self {
+            Stop::NoMemory => Err(AllocError),
+            Stop::Reported(output) => Ok(output),
+        }
     }
 }

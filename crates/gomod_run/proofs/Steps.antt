@@ -12,7 +12,10 @@ use Rattle.gm_graph_cache.specs.declared.reading.FileReading.{FileReading}
 use Rattle.gm_graph_cache.specs.Reading.{IsContentReading, IsFileReading}
 use Rattle.gm_graph_cache.specs.Summaries.{reading_of}
 use Rattle.gm_graph_listing.specs.declared.output.Output.{Output}
-use Rattle.gm_graph_listing.specs.Outcomes.{Outcome, failed, outcome_view, printed, refused}
+use Rattle.gm_graph_listing.specs.declared.output.Stop.{Stop}
+use Rattle.gm_graph_listing.specs.declared.output.Stop.TheVariants as stop
+use Rattle.gm_graph_listing.specs.Outcomes.{Outcome, StopsWith, failed, outcome_view, printed, refused}
+use Rattle.gm_graph_listing.proofs.CommandOutcomes.{IsOutputOf, output_of}
 use Rattle.gm_graph_listing.specs.Reports.{device_line}
 use Rattle.gomod_run.specs.Asking.{IsAnsweredWith, IsAsked, IsFailedAsk, IsLatestAsked}
 use Rattle.gomod_run.specs.Listing.{IsListState}
@@ -222,29 +225,37 @@ pub list_allowed : (path : List ℕ) (may : Name → Reply → Type 0) (old new 
     → (name : Name) (r : Reply) → Contains new.asked (name, r) → may name r
 list_allowed path may old new reply answered = one_allowed may new.asked (list_file path) reply answered.allowed answered.asked
 
-pub read_state : {E : Type 0} (path : List ℕ) (may : Name → Reply → Type 0) (old new : StoreState) (answer reply : Reply) (result : Result (Result (Vec (List ℕ)) Output) E)
-    → is_fetchable path ≡ true → ListAnswered path may old new reply → answer ≡ reply → IfOk result (IsListRead path answer)
-    → IfOk result (λ read. IfOk read (λ versions. IsListState path may old new versions.items))
-read_state path may old new answer reply (Err e) fetchable answered same known = tt
-read_state path may old new answer reply (Ok (Err output)) fetchable answered same known = tt
-read_state path may old new answer reply (Ok (Ok versions)) fetchable answered same known = by_reply reply answered (subst (λ (r : Reply). IsListRead path r (Ok versions)) same known)
+pub read_state : (path : List ℕ) (may : Name → Reply → Type 0) (old new : StoreState) (answer reply : Reply) (result : Result (Vec (List ℕ)) Stop)
+    → is_fetchable path ≡ true → ListAnswered path may old new reply → answer ≡ reply → IsListRead path answer result
+    → IfOk result (λ versions. IsListState path may old new versions.items)
+read_state path may old new answer reply (Err s) fetchable answered same known = tt
+read_state path may old new answer reply (Ok versions) fetchable answered same known = by_reply reply answered (subst (λ (r : Reply). IsListRead path r (Ok versions)) same known)
   where
     by_reply : (r : Reply) → ListAnswered path may old new r → IsListRead path r (Ok versions) → IsListState path may old new versions.items
     by_reply (bytes list) a k = record { list = list; fetchable = fetchable; allowed = a.allowed; asked = a.asked; unrefused = a.unrefused; listed = k }
     by_reply absent a k = absurd k
     by_reply too_long a k = absurd k
 
-pub read_comes : {E : Type 0} (path : List ℕ) (all : Bool) (may : Name → Reply → Type 0) (old new : StoreState) (answer reply : Reply) (result : Result (Result (Vec (List ℕ)) Output) E)
-    → is_fetchable path ≡ true → ListAnswered path may old new reply → answer ≡ reply → IfOk result (IsListRead path answer)
-    → IfOk result (λ read. IfErr read (λ output. IsRunOutcome (VersionsNeed path all) (IsVersionsOutcome path all) old new (outcome_view output)))
-read_comes path all may old new answer reply (Err e) fetchable answered same known = tt
-read_comes path all may old new answer reply (Ok (Ok versions)) fetchable answered same known = tt
-read_comes path all may old new answer reply (Ok (Err output)) fetchable answered same known = by_reply reply answered (subst (λ (r : Reply). IsListRead path r (Err output)) same known)
+pub read_comes : (path : List ℕ) (all : Bool) (may : Name → Reply → Type 0) (old new : StoreState) (answer reply : Reply) (result : Result (Vec (List ℕ)) Stop)
+    → is_fetchable path ≡ true → ListAnswered path may old new reply → answer ≡ reply → IsListRead path answer result
+    → IfErr result (StopsWith (IsRunOutcome (VersionsNeed path all) (IsVersionsOutcome path all) old new))
+read_comes path all may old new answer reply (Ok versions) fetchable answered same known = tt
+read_comes path all may old new answer reply (Err stop.NoMemory) fetchable answered same known = tt
+read_comes path all may old new answer reply (Err (stop.Reported output)) fetchable answered same known =
+    by_reply reply answered (subst (λ (r : Reply). IsListRead path r (Err (stop.Reported output))) same known)
   where
-    by_reply : (r : Reply) → ListAnswered path may old new r → IsListRead path r (Err output) → IsRunOutcome (VersionsNeed path all) (IsVersionsOutcome path all) old new (outcome_view output)
+    by_reply : (r : Reply) → ListAnswered path may old new r → IsListRead path r (Err (stop.Reported output)) → IsRunOutcome (VersionsNeed path all) (IsVersionsOutcome path all) old new (outcome_view output)
     by_reply (bytes list) a k = absurd k
     by_reply absent a k = ends_missing path all old new (outcome_view output) fetchable a.asked a.unrefused k
     by_reply too_long a k = ends_too_long path all old new (outcome_view output) fetchable a.asked a.unrefused k
+
+-- the output of a stop is the outcome of `versions`
+pub stop_comes : {E X : Type 0} (path : List ℕ) (all : Bool) (old new : StoreState) (read : Result X Stop) (s : Stop) (result : Result Output E)
+    → IfErr read (StopsWith (IsRunOutcome (VersionsNeed path all) (IsVersionsOutcome path all) old new)) → read ≡ Err s → IsOutputOf s result
+    → IfOk result (λ output. IsRunOutcome (VersionsNeed path all) (IsVersionsOutcome path all) old new (outcome_view output))
+stop_comes path all old new read s result known is ends =
+    let Is = IsRunOutcome (VersionsNeed path all) (IsVersionsOutcome path all) old new in
+    output_of Is s result ends (rw is at known)
 
 -- the device failed at the go.mod of the latest version, or memory ran out
 pub latest_failed : {E : Type 0} (path : List ℕ) (versions : List (List ℕ)) (latest : List ℕ) (may : Name → Reply → Type 0) (old new : StoreState) (result : Result Output E)

@@ -88,8 +88,8 @@ pub(crate) fn edit_outcome(
 ) -> Result<Output, NoMemory>
     ensures { IfOk result (λ output. IsEditOutcome (map string_bytes operations.now) file.now (outcome_view output)) }
 {
-    match main_file(alloc, file)? {
+    match main_file(alloc, file) {
         Ok(main) => edits_outcome(alloc, main, operations),
-        Err(output) => Ok(output),
+        Err(stop) => stop.into_output(),
     }
 }

@@ -11,7 +11,7 @@ ghost use Rattle.gm_store.specs.Asked.{Name, Reply, answer_in, list_file, mod_fi
 ghost use Rattle.gm_store.specs.States.{RefusesWithCause};
 ghost use Rattle.gm_graph_cache.specs.Reading.{IsFileReading};
 ghost use Rattle.gm_graph_cache.specs.Summaries.{reading_of};
-ghost use Rattle.gm_graph_listing.specs.Outcomes.{outcome_view, printed};
+ghost use Rattle.gm_graph_listing.specs.Outcomes.{StopsWith, outcome_view, printed};
 ghost use Rattle.gm_store.specs.Latest.{IsLatest};
 ghost use Rattle.gomod_run.specs.Asking.{IsAsked, IsLatestAsked};
 ghost use Rattle.gomod_run.specs.Listing.{IsListState};
@@ -24,7 +24,7 @@ use crate::report_lines::list_line;
 use gm_file::Interval;
 use gm_file_retract::shown_versions;
 use gm_graph_cache::{Class, FileReading};
-use gm_graph_listing::{Output, fault_report, printed, refused};
+use gm_graph_listing::{Output, Stop, fault_report, printed, refused};
 use gm_name::{KnownNames, ModPath, ModVersion, NoMemory};
 use gm_store::{Answer, FileName, Files, latest, versions_of};
 use std::alloc::Global;
@@ -70,18 +70,14 @@ fn shown_line(
     versions_line(alloc, path, shown.as_slice())
 }
 
-/// The versions in a module's list, or the output that reports that there is no list or that it is too long.
-fn read_list(
-    alloc: Global,
-    path: &ModPath,
-    answer: &Answer,
-) -> Result<Result<Vec<ModVersion>, Output>, NoMemory>
-    ensures { IfOk result (IsListRead path.now (reply_of answer.now)) }
+/// The versions in a module's list. It stops with a report if there is no list or it is too long.
+fn read_list(alloc: Global, path: &ModPath, answer: &Answer) -> Result<Vec<ModVersion>, Stop>
+    ensures { IsListRead path.now (reply_of answer.now) result }
 {
     match answer {
-        Answer::Bytes(list) => Ok(Ok(versions_of(alloc, path, list.as_slice())?)),
-        Answer::Absent => Ok(Err(refused(alloc, list_line(alloc, path, "Missing")?))),
-        Answer::TooLong => Ok(Err(refused(alloc, list_line(alloc, path, "TooLong")?))),
+        Answer::Bytes(list) => Ok(versions_of(alloc, path, list.as_slice())?),
+        Answer::Absent => Err(Stop::Reported(refused(alloc, list_line(alloc, path, "Missing")?))),
+        Answer::TooLong => Err(Stop::Reported(refused(alloc, list_line(alloc, path, "TooLong")?))),
     }
 }
 
@@ -182,22 +178,16 @@ fn latest_outcome<F: Files>(
     }
 }
 
-/// Asks for the list of a module. The result is the versions in it, or the output that reports why there is no list
-/// to read.
-fn listed<F: Files>(
-    alloc: Global,
-    path: &ModPath,
-    files: &mut F,
-) -> Result<Result<Vec<ModVersion>, Output>, NoMemory>
+/// Asks for the list of a module. The result is the versions in it. It stops with the output that reports why there
+/// is no list to read.
+fn listed<F: Files>(alloc: Global, path: &ModPath, files: &mut F) -> Result<Vec<ModVersion>, Stop>
     requires { (F.state files.old).asked ≡ [] }
-    ensures listed { IfOk result (λ read. IfOk read (λ versions. IsListState path.now (F.may_answer files.old)
+    ensures listed { IfOk result (λ versions. IsListState path.now (F.may_answer files.old)
         (F.state files.old) (F.state files.new)
-        versions.items)) }
-    ensures comes { (all : Bool)
-        → IfOk result (λ read. IfErr read (λ output. IsRunOutcome
+        versions.items) }
+    ensures comes { (all : Bool) → IfErr result (StopsWith (IsRunOutcome
         (VersionsNeed path.now all) (IsVersionsOutcome path.now all)
-        (F.state files.old) (F.state files.new)
-        (outcome_view output))) }
+        (F.state files.old) (F.state files.new))) }
     ensures in_turn { (all : Bool) → AskedInTurn (VersionsNeed path.now all) (F.state files.new).asked }
     ensures fails { (all : Bool)
         → FailsInTurn (VersionsNeed path.now all)
@@ -210,10 +200,10 @@ fn listed<F: Files>(
     ensures later { (F.state files.old).faults ≤ (F.state files.new).faults }
 {
     if !path.is_fetchable() {
-        return Ok(Err(refused(alloc, list_line(alloc, path, "NotFetchable")?)));
+        return Err(Stop::Reported(refused(alloc, list_line(alloc, path, "NotFetchable")?)));
     }
     match ask_for_list(alloc, path, files)? {
-        Some(output) => Ok(Err(output)),
+        Some(output) => Err(Stop::Reported(output)),
         None => read_list(alloc, path, last_answer(files)),
     }
 }
@@ -259,9 +249,9 @@ pub(crate) fn versions_outcome<F: Files>(
     ensures cause { RefusesWithCause (F.state files.old) (F.state files.new) }
     ensures later { (F.state files.old).faults ≤ (F.state files.new).faults }
 {
-    let versions = match listed(alloc, path, files)? {
+    let versions = match listed(alloc, path, files) {
         Ok(versions) => versions,
-        Err(output) => return Ok(output),
+        Err(stop) => return stop.into_output(),
     };
     match asked_latest(versions.as_slice(), all) {
         Some(latest) => latest_outcome(alloc, path, versions.as_slice(), latest, files),

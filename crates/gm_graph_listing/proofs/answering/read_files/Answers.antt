@@ -1,16 +1,16 @@
 use Rattle.std.specs.Option.{option_copied}
 use Rattle.gm_graph_cache.specs.Main.{main_of}
-use Rattle.gm_graph_listing.specs.Outcomes.{outcome_view}
-use Rattle.gm_graph_listing.proofs.CommandOutcomes.{both_read, main_ok, sums_err, sums_refused}
+use Rattle.gm_graph_listing.proofs.CommandOutcomes.{both_read, main_ok, passed_on, sums_stop}
 use Rattle.gm_graph_listing.proofs.answering.read_files.Goals as goal
-
-pub returns-in-Ok-2 : goal.returns-in-Ok-2
-returns-in-Ok-2 c =
-    both_read c.args.file.now (option_copied c.args.sums) c.in_ok-main.field-0 c.in_ok-table.field-0 c.in-Ok.main c.in-Ok-2.table
-    c.in-Ok.is c.in_ok-main.ensures c.in-Ok-2.is c.in_ok-table.ensures
 
 pub returns : goal.returns
 returns c =
-    sums_refused c.args.file.now (option_copied c.args.sums) (main_of c.in-Ok.main) (outcome_view c.in-Err-2.output)
-    (main_ok c.args.file.now c.in_ok-main.field-0 c.in-Ok.main c.in-Ok.is c.in_ok-main.ensures)
-    (sums_err (option_copied c.args.sums) c.in_ok-table.field-0 c.in-Err-2.output c.in-Err-2.is c.in_ok-table.ensures)
+    both_read c.args.file.now (option_copied c.args.sums) c.main_file.result c.sum_table.result c.in_ok-main.main c.in_ok-table.table
+    c.in_ok-main.was c.main_file.ensures c.in_ok-table.was c.sum_table.ensures
+
+pub returns-in_err-table : goal.returns-in_err-table
+returns-in_err-table c =
+    let result = c.from_residual-in_err-table.result in
+    let main = main_ok c.args.file.now c.main_file.result c.in_ok-main.main c.in_ok-main.was c.main_file.ensures in
+    let stops = sums_stop c.args.file.now (option_copied c.args.sums) (main_of c.in_ok-main.main) c.sum_table.result c.in_err-table.field-0.0 main c.in_err-table.was c.sum_table.ensures in
+    passed_on c.args.file.now (option_copied c.args.sums) c.in_err-table.field-0.0 result c.from_residual-in_err-table.ensures.0 c.from_residual-in_err-table.ensures.1 stops
