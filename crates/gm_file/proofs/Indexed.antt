@@ -2,7 +2,7 @@
 use Rattle.std.proofs.Common.{◌≡◌, ℕ, ◌&&◌, ◌||◌, not, Bool, true, false, cond, List, [], ◌∷◌, ◌++◌, Option, Some, None, Result, Ok, Err, refl, sym, ap, subst, ◌∙◌, inl, inr}
 use Rattle.std.specs.Prelude.{find, if◌then◌else◌, IfErr, OnOk}
 use Rattle.std.specs.Option.{option_map, option_or}
-use Rattle.std.proofs.lemmas.Bool.{cases_Bool}
+use Rattle.std.proofs.lemmas.Bool.{and_parts as and_both, cases_Bool}
 use Rattle.std.proofs.lemmas.List.Folds.{find-append, list_any-append}
 use Rattle.std.proofs.lemmas.List.{map-append}
 use Rattle.std.specs.BTreeMap as map
@@ -24,10 +24,6 @@ use Rattle.gm_file.specs.Faults.{is_conflict, is_same_left, is_same_right, is_sa
 use Rattle.gm_file.specs.Fields.{right_for}
 use Rattle.gm_file.specs.Indexes.{IndexLines, IsInserted, IsNoted, ReportsConflict, differs, pair_cmp, right_at}
 use Rattle.gm_file.specs.Views.{replace_view, replace_views, right_view}
-
-and_both : (a b : Bool) → (a && b) ≡ true → (a ≡ true) × (b ≡ true)
-and_both true b e = (refl, e)
-and_both false b e = absurd cc
 
 text-self : (a : List ℕ) → bytes_eq a a ≡ true
 text-self a = nat_list_eq_equiv.refl a

@@ -5,12 +5,9 @@ use Rattle.std.specs.Cmp.Lexicographic.{same_text}
 use Rattle.std.specs.Cmp.Lexicographic.{nat_list_eq_equiv}
 use Rattle.std.specs.List.{Contains, list_any}
 use Rattle.std.specs.Str.{bytes_eq}
+use Rattle.std.proofs.lemmas.Bool.{and_parts as and_both}
 use Rattle.gm_file.specs.Directives.{Pair}
 use Rattle.gm_file.specs.Pairs.{pair_eq}
-
-and_both : (a b : Bool) → (a && b) ≡ true → (a ≡ true) × (b ≡ true)
-and_both true b e = (refl, e)
-and_both false b e = absurd cc
 
 pub pair-same : (a b : Pair) → pair_eq a b ≡ true → a ≡ b
 pair-same a b e =

@@ -1,5 +1,6 @@
 -- The tests `is_path`, `is_version` and `does_fit` agree with the facts `IsPath`, `IsVersion` and `Fits`.
 use Rattle.std.proofs.Common.{◌≡◌, ◌≢◌, ◌↔◌, ℕ, ◌-◌, ◌==◌, ◌&&◌, ◌||◌, ◌^◌, ◌<◌, ◌≤◌, nat_lt, nat_eq, Bool, true, false, not, List, [], ◌∷◌, ◌++◌, length, get_or, take, drop, codes, Option, Some, None, Result, Ok, Err, is_some, IfSome, IfNone, refl, sym, ap, subst, ◌∙◌, inl, inr, arith, rules, IsTrue}
+pub use Rattle.std.proofs.lemmas.Bool.{and_parts as and_both}
 use Rattle.std.proofs.lemmas.Bool.{eq-eqb, eqb-true}
 use Rattle.std.proofs.lemmas.Bool.Decides.{Decides-eqb, nat_tests}
 use Rattle.std.proofs.lemmas.Fmt.{decimal-digits_value, digits_value-decimal}
@@ -35,10 +36,6 @@ use Rattle.gm_name.proofs.Paths.{path-elements, path-from}
 abbrev pub Tells : {X : Type 0} → Option X → (X → Type 0) → Type 0
 Tells (Some x) P = P x
 Tells {X} None P = (x : X) → ¬ (P x)
-
-pub and_both : (a b : Bool) → (a && b) ≡ true → (a ≡ true) × (b ≡ true)
-and_both true b e = (refl, e)
-and_both false b e = absurd cc
 
 or-cases : (a b : Bool) → (a || b) ≡ true → (a ≡ true) ⊎ (b ≡ true)
 or-cases true b e = inl refl
