@@ -54,15 +54,14 @@ impl DepFile {
     /// entry that strict reading would refuse retracts nothing. `NoMemory` may replace any result, when memory runs
     /// out.
     ///
-    /// Names are looked up in `names` and added to it, so that files that name the same modules share memory. The
-    /// result doesn't depend on which names are known.
-    pub fn read(alloc: Global, names: &mut KnownNames, doc: &Doc) -> Result<DepFile, FileFault>
+    pub fn read(alloc: Global, doc: &Doc) -> Result<DepFile, FileFault>
         ensures ok { IfOk result (λ file. (file ≡ dependency_of (plain_lines doc.now))
             × (fault_of Lax (plain_lines doc.now) ≡ None)) }
         ensures fault { IfErr result (ReportsFault Lax (plain_lines doc.now)) }
     {
-        let fields = read_lines(alloc, names, Mode::Lax, doc.lines())?;
-        let retracts = read_retractions(alloc, names, doc.lines())?;
+        let mut names = KnownNames::new(alloc, 0);
+        let fields = read_lines(alloc, &mut names, Mode::Lax, doc.lines())?;
+        let retracts = read_retractions(alloc, &mut names, doc.lines())?;
         Ok(DepFile::of_fields(fields, retracts))
     }
 
@@ -70,6 +69,9 @@ impl DepFile {
     ///
     /// A fault of the text comes first, on whichever line it is: the bytes are read to the end even if a directive
     /// before it is at fault. `NoMemory` may replace any result, when memory runs out.
+    ///
+    /// Names are looked up in `names` and added to it, so that files that name the same modules share memory. The
+    /// result doesn't depend on which names are known.
     pub fn read_bytes(
         alloc: Global,
         names: &mut KnownNames,

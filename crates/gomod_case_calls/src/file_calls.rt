@@ -4,7 +4,7 @@ use crate::call_faults::CallFault;
 use crate::name_calls;
 use crate::name_calls::{line_of, yes_or_no};
 use gm_file::{DepFile, Interval, MainFile, Replace, Right};
-use gm_name::{KnownNames, ModPath, ModVer};
+use gm_name::{ModPath, ModVer};
 use gm_syntax::{Doc, Line, Text, Token};
 use std::alloc::{AllocError, Global};
 use std::slice;
@@ -241,8 +241,7 @@ fn text_of_dependency(alloc: Global, file: &DepFile) -> Result<String, CallFault
 
 /// A document read as a dependency's file.
 fn dependency(alloc: Global, doc: &Doc) -> Result<DepFile, CallFault> {
-    let mut names = KnownNames::new(alloc, 0);
-    Ok(DepFile::read(alloc, &mut names, doc)?)
+    Ok(DepFile::read(alloc, doc)?)
 }
 
 /// What a document says as a dependency's file.

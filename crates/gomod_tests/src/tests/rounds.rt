@@ -6,7 +6,7 @@ use gm_file::{DepFile, FileFault, MainFile, Right};
 use gm_graph::Fault;
 use gm_graph_cache::{Class, Misreading};
 use gm_graph_select::{Edge, Row, Step};
-use gm_name::{KnownNames, ModVer};
+use gm_name::ModVer;
 use gm_syntax::Doc;
 use std::alloc::Global;
 use std::process::Abort;
@@ -55,7 +55,7 @@ fn content(files: &'static [File], path: &str, version: &str) -> Option<&'static
 /// What a file says, or what is wrong with it. Every file of these projects is a valid document.
 fn read(rt: &impl Abort, alloc: Global, text: &str) -> Result<DepFile, Class> {
     let doc = Doc::parse(alloc, text.as_bytes()).expect(rt, text);
-    match DepFile::read(alloc, &mut KnownNames::new(alloc, 0), &doc) {
+    match DepFile::read(alloc, &doc) {
         Ok(file) => Ok(file),
         Err(FileFault::NoMemory) => panic!(rt; "{OUT_OF_MEMORY}"),
         Err(FileFault::Directive { line, kind }) => Err(Class::Malformed {
