@@ -133,15 +133,15 @@ fn is_pair_of(pair: &ModVer, path: &str, version: &str) -> bool
 #[derive(Clone, Copy)]
 struct PairNumbers {
     /// The number of the path's text.
-    path: u64,
+    path: Option<u64>,
     /// The number of the version's text.
-    version: u64,
+    version: Option<u64>,
 }
 
 impl PairNumbers {
     /// The number that the pair is kept under. It needs no further pass over the texts.
-    fn joined(self) -> u64 {
-        self.path.rotate_left(1) ^ self.version
+    fn joined(self) -> Option<u64> {
+        Some(self.path?.rotate_left(1) ^ self.version?)
     }
 }
 
@@ -160,23 +160,25 @@ impl KnownNames {
         }
     }
 
-    /// The number that a text is kept under: its fingerprint. It isn't computed where there is no room to keep
-    /// anything.
-    fn number_of(&self, text: &str) -> u64 {
+    /// The number that a text is kept under: its fingerprint, or `None` where there is no room to keep anything.
+    /// Without a number nothing is looked up.
+    fn number_of(&self, text: &str) -> Option<u64>
+        ensures { IfSome result (λ number. number ≡ fingerprint 0 text.now) }
+    {
         if self.room == 0 {
-            0
+            None
         } else {
-            fingerprint(0, text)
+            Some(fingerprint(0, text))
         }
     }
 
     /// A copy of the path with this text, if it was kept under this number. Two texts may have the same number, so
     /// the texts are compared too.
-    fn known_path(&self, number: u64, text: &str) -> Option<ModPath>
+    fn known_path(&self, number: Option<u64>, text: &str) -> Option<ModPath>
         ensures within { IsWithinRoom self.now }
         ensures read { IfSome result (λ path. PathReading text.now (Ok path)) }
     {
-        let held = self.paths.get(&number)?;
+        let held = self.paths.get(&number?)?;
         if held.as_str() == text {
             held.copy(self.alloc).ok()
         } else {
@@ -185,11 +187,11 @@ impl KnownNames {
     }
 
     /// A copy of the version with this text, if it was kept under this number. The texts are compared too.
-    fn known_version(&self, number: u64, text: &str) -> Option<ModVersion>
+    fn known_version(&self, number: Option<u64>, text: &str) -> Option<ModVersion>
         ensures within { IsWithinRoom self.now }
         ensures read { IfSome result (λ version. VersionReading text.now (Ok version)) }
     {
-        let held = self.versions.get(&number)?;
+        let held = self.versions.get(&number?)?;
         if held.as_str() == text {
             held.copy(self.alloc).ok()
         } else {
@@ -198,11 +200,11 @@ impl KnownNames {
     }
 
     /// A copy of the pair with these texts, if it was kept under this number. The texts are compared too.
-    fn known_pair(&self, number: u64, path: &str, version: &str) -> Option<ModVer>
+    fn known_pair(&self, number: Option<u64>, path: &str, version: &str) -> Option<ModVer>
         ensures within { IsWithinRoom self.now }
         ensures read { IfSome result (λ pair. PairReading path.now version.now (Ok pair)) }
     {
-        let held = self.pairs.get(&number)?;
+        let held = self.pairs.get(&number?)?;
         if is_pair_of(held, path, version) {
             held.copy(self.alloc).ok()
         } else {
@@ -210,15 +212,11 @@ impl KnownNames {
         }
     }
 
-    /// Keeps a path under a number, so that later reads of its text find it. Where there is no room, nothing is
-    /// copied.
+    /// Keeps a path under a number, so that later reads of its text find it.
     fn keep_path(&mut self, number: u64, path: &ModPath) -> Result<(), AllocError>
         ensures room { self.new.room ≡ self.old.room }
         ensures within { IsWithinRoom self.new }
     {
-        if self.room == 0 {
-            return Ok(());
-        }
         keep(&mut self.paths, self.room, number, path.copy(self.alloc)?)
     }
 
@@ -227,9 +225,6 @@ impl KnownNames {
         ensures room { self.new.room ≡ self.old.room }
         ensures within { IsWithinRoom self.new }
     {
-        if self.room == 0 {
-            return Ok(());
-        }
         keep(
             &mut self.versions,
             self.room,
@@ -243,9 +238,6 @@ impl KnownNames {
         ensures room { self.new.room ≡ self.old.room }
         ensures within { IsWithinRoom self.new }
     {
-        if self.room == 0 {
-            return Ok(());
-        }
         keep(&mut self.pairs, self.room, number, pair.copy(self.alloc)?)
     }
 
@@ -267,7 +259,7 @@ impl KnownNames {
         ensures memory { IsErrOf result PairFault.NoMemory → IsPath path.now }
     {
         let numbers = PairNumbers {
-            path: fingerprint(0, path),
+            path: self.number_of(path),
             version: self.number_of(version),
         };
         self.numbered_pair(numbers, path, version)
@@ -280,7 +272,7 @@ impl KnownNames {
         path: &str,
         version: &str,
     ) -> Result<ModVer, PairFault>
-        requires { numbers.path ≡ fingerprint 0 path.now }
+        requires { IfSome numbers.path (λ number. number ≡ fingerprint 0 path.now) }
         ensures room { self.new.room ≡ self.old.room }
         ensures within { IsWithinRoom self.new }
         ensures read { PairReading path.now version.now result }
@@ -293,7 +285,9 @@ impl KnownNames {
         let Some(pair) = ModVer::pair(path, version) else {
             return Err(PairFault::Misfit);
         };
-        self.keep_pair(numbers.joined(), &pair)?;
+        if let Some(number) = numbers.joined() {
+            self.keep_pair(number, &pair)?;
+        }
         Ok(pair)
     }
 
@@ -307,12 +301,12 @@ impl KnownNames {
         ensures bad { IsErrOf result PathFault.BadPath ↔ ¬ (IsPath text.now) }
         ensures memory { IsErrOf result PathFault.NoMemory → IsPath text.now }
     {
-        self.numbered_path(fingerprint(0, text), text)
+        self.numbered_path(self.number_of(text), text)
     }
 
     /// The module path in a text with this fingerprint.
-    fn numbered_path(&mut self, number: u64, text: &str) -> Result<ModPath, PathFault>
-        requires { number ≡ fingerprint 0 text.now }
+    fn numbered_path(&mut self, number: Option<u64>, text: &str) -> Result<ModPath, PathFault>
+        requires { IfSome number (λ number. number ≡ fingerprint 0 text.now) }
         ensures room { self.new.room ≡ self.old.room }
         ensures within { IsWithinRoom self.new }
         ensures read { PathReading text.now result }
@@ -320,8 +314,10 @@ impl KnownNames {
         if let Some(path) = self.known_path(number, text) {
             return Ok(path);
         }
-        let path = ModPath::numbered(self.alloc, number, text)?;
-        self.keep_path(number, &path)?;
+        let path = ModPath::read(self.alloc, number, text)?;
+        if let Some(number) = number {
+            self.keep_path(number, &path)?;
+        }
         Ok(path)
     }
 
@@ -342,7 +338,11 @@ impl KnownNames {
     }
 
     /// The version in a text with this number.
-    fn numbered_version(&mut self, number: u64, text: &str) -> Result<ModVersion, VersionFault>
+    fn numbered_version(
+        &mut self,
+        number: Option<u64>,
+        text: &str,
+    ) -> Result<ModVersion, VersionFault>
         ensures room { self.new.room ≡ self.old.room }
         ensures within { IsWithinRoom self.new }
         ensures read { VersionReading text.now result }
@@ -351,7 +351,9 @@ impl KnownNames {
             return Ok(version);
         }
         let version = ModVersion::read(self.alloc, text)?;
-        self.keep_version(number, &version)?;
+        if let Some(number) = number {
+            self.keep_version(number, &version)?;
+        }
         Ok(version)
     }
 }
