@@ -7,11 +7,10 @@ use Rattle.gm_file.specs.Fields.{Dependency}
 use Rattle.gm_store.specs.Asked.{Name, Reply, answer_in, same_name}
 use Rattle.gm_store_sums.specs.declared.sum_table.SumTable.{SumTable}
 use Rattle.gm_graph_cache.specs.declared.class.Class.{Class}
-use Rattle.gm_graph_cache.specs.declared.name_key.NameKey.{NameKey}
+use Rattle.std.proofs.Math.Path.{fun_ext}
 use Rattle.gm_graph_cache.specs.declared.summary.Kept.{Kept}
 use Rattle.gm_graph_cache.specs.declared.cache.Cache.{Cache}
 use Rattle.gm_graph_cache.specs.Main.{Main, ModuleVersion, main_of, replacement_in}
-use Rattle.gm_graph_cache.specs.Marks.{is_key_of}
 use Rattle.gm_graph_cache.specs.Reading.{Held, IsTold, Keeps, KeepsHeld, Tells, file_of, is_askable, reading_if, readings_by, with_right_path}
 use Rattle.gm_graph_cache.specs.Summaries.{IsKept, summary_reading}
 use Rattle.gm_graph_cache.specs.Cached.{HoldsSame, IsUnchanged, Knows, LentSame, held_of, main_in, sums_in}
@@ -93,26 +92,22 @@ readings_stay main old new keeps x reading e = reading_stays (is_askable (file_o
 
 -- ---- a cache that holds the same
 
--- what a map holds of the file of each name
-abbrev held_among : List (NameKey × Kept) → Held
-held_among entries name = option_map summary_reading (lookup (is_key_of name) entries)
-
 pub main_same : (old new : Cache) → HoldsSame old new → main_in new ≡ main_in old
 main_same old new same = ap main_of same.main
 
 pub held_same : (old new : Cache) → HoldsSame old new → held_of new ≡ held_of old
-held_same old new same = ap held_among same.entries
+held_same old new same = fun_ext (λ name. ap (option_map summary_reading) (same.found name))
 
 -- A cache that holds the same knows the same.
 pub knows_still : (old new : Cache) (pairs : List (Name × Reply)) → HoldsSame old new → Knows old pairs → Knows new pairs
 knows_still old new pairs same knows = record {
   tells = subst (λ (s : Option SumTable). Tells s pairs (held_of new)) (sym same.sums) (subst (λ (h : Held). Tells (sums_in old) pairs h) (sym (held_same old new same)) knows.tells);
   lends = λ name one e. subst (λ (m : Main). IsKept m one) (sym (main_same old new same))
-      (knows.lends name one (ap (λ (es : List (NameKey × Kept)). lookup (is_key_of name) es) (sym same.entries) ∙ e));
+      (knows.lends name one (sym (same.found name) ∙ e));
 }
 
 pub holds_after : (old mid new : Cache) → HoldsSame old mid → HoldsSame mid new → HoldsSame old new
-holds_after old mid new one two = record { main = two.main ∙ one.main; sums = two.sums ∙ one.sums; entries = two.entries ∙ one.entries }
+holds_after old mid new one two = record { main = two.main ∙ one.main; sums = two.sums ∙ one.sums; found = λ name. two.found name ∙ one.found name }
 
 pub keeps_same : (old new : Cache) → HoldsSame old new → KeepsHeld (held_of old) (held_of new)
 keeps_same old new same name reading e = ap (λ (held : Held). held name) (held_same old new same) ∙ e

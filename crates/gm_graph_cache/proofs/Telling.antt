@@ -11,9 +11,7 @@ use Rattle.gm_graph_cache.specs.declared.cache.Cache.{Cache}
 use Rattle.gm_graph_cache.specs.Main.{Main, main_of}
 use Rattle.gm_graph_cache.specs.Reading.{Held, IsFileReading, IsTold, KeepsHeld, Tells}
 use Rattle.std.specs.Map.{lookup}
-use Rattle.gm_graph_cache.specs.declared.name_key.NameKey.{NameKey}
 use Rattle.gm_graph_cache.specs.Entries.{AddsSummary}
-use Rattle.gm_graph_cache.specs.Marks.{is_key_of}
 use Rattle.gm_graph_cache.proofs.Keeping.{held_same, knows_still, main_same}
 use Rattle.gm_graph_cache.specs.Summaries.{IsKept, summary_reading}
 use Rattle.gm_graph_cache.specs.Cached.{HoldsSame, Knows, LentSame, held_of, main_in, summary_at, sums_in}
@@ -97,7 +95,7 @@ pub knows_read : (old mid new : Cache) (pairs all : List (Name × Reply)) (name 
     → all ≡ pairs ++ (name, reply) ∷ [] → IsFileReading (sums_in old) name reply (summary_reading one) → IsKept (main_in old) one → Knows new all
 knows_read old mid new pairs all name reply one knows same lent none adds e reads is =
     subst (λ (ps : List (Name × Reply)). Knows new ps) (sym e)
-    (knows_more mid new pairs name reply one (knows_still old mid pairs same knows) (ap (λ (es : List (NameKey × Kept)). lookup (is_key_of name) es) same.entries ∙ none) lent.main lent.sums adds
+    (knows_more mid new pairs name reply one (knows_still old mid pairs same knows) (same.found name ∙ none) lent.main lent.sums adds
     (subst (λ (s : Option SumTable). IsFileReading s name reply (summary_reading one)) (sym same.sums) reads)
     (subst (λ (m : Main). IsKept m one) (sym (main_same old mid same)) is))
 

@@ -13,7 +13,7 @@ use Rattle.gm_graph_cache.specs.declared.finding.Finding.TheVariants.{Fault, Sou
 use Rattle.gm_graph_cache.specs.declared.summary.Kept.{Kept}
 use Rattle.gm_graph_cache.specs.declared.cache.Cache.{Cache}
 use Rattle.gm_graph_cache.specs.Main.{Main, ModuleVersion, main_of}
-use Rattle.gm_graph_cache.specs.Entries.{entries_of, found_in}
+use Rattle.gm_graph_cache.specs.Entries.{FindsSame, found_in}
 use Rattle.gm_graph_cache.specs.Summaries.{IsKept, summary_reading}
 use Rattle.gm_graph_cache.specs.Reading.{Held, Tells, readings_by, file_of}
 use mir.Syntax.{named}
@@ -53,7 +53,7 @@ pub record Knows (cache : Cache) (pairs : List (Name × Reply)) : Type 0 where
 pub record HoldsSame (old new : Cache) : Type 0 where
   pub main : new.main.now ≡ old.main.now
   pub sums : sums_in new ≡ sums_in old
-  pub entries : entries_of new.summaries ≡ entries_of old.summaries
+  pub found : FindsSame old.summaries new.summaries
 
 -- the same main file, go.sum and list of turns
 pub record LentSame (old new : Cache) : Type 0 where

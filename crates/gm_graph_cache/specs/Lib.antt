@@ -9,3 +9,4 @@ pub mod Cached
 pub mod Refusals
 pub mod ClassWords
 pub mod Laws
+pub mod KeptFiles

@@ -1,7 +1,7 @@
--- File names as keys, prefixed by their fingerprints.
-use Rattle.std.specs.Prelude.{◌≡◌, ◌&&◌, ℕ, Bool, nat_eq}
+-- Files' names with their fingerprints.
+use Rattle.std.specs.Prelude.{◌≡◌, ℕ}
 use Rattle.gm_name.specs.Fingerprint.{fingerprint}
-use Rattle.gm_store.specs.Asked.{Name, mod_file, folder_file, list_file, name_of, same_name}
+use Rattle.gm_store.specs.Asked.{Name, mod_file, folder_file, list_file, name_of}
 use Rattle.gm_graph_cache.specs.declared.name_key.NameKey.{NameKey}
 
 -- the fingerprint of a name
@@ -9,10 +9,6 @@ abbrev pub name_fingerprint : Name → ℕ
 name_fingerprint (mod_file path version) = fingerprint (fingerprint 0 path) version
 name_fingerprint (folder_file text) = fingerprint 0 text
 name_fingerprint (list_file path) = fingerprint 0 path
-
--- Whether a key has the fingerprint and the name of this name.
-abbrev pub is_key_of : Name → NameKey → Bool
-is_key_of name key = nat_eq (name_fingerprint name) key.number && same_name name (name_of key.name)
 
 -- A key's number is the fingerprint of its name.
 abbrev pub IsNameKey : NameKey → Type 0

@@ -17,6 +17,7 @@ mod cache;
 mod class;
 mod depth;
 mod finding;
+mod kept_files;
 pub mod laws;
 mod load_fault;
 pub mod main_view;

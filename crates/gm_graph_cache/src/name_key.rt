@@ -1,7 +1,4 @@
-//! File names as keys of a map, prefixed by their fingerprints.
-//!
-//! Paths may be as long as a file and share long prefixes, so comparing them at each step of a lookup would be
-//! slow. Fingerprints decide almost every comparison.
+//! Files' names with their fingerprints, by which files are looked up.
 
 ghost use Rattle.std.specs.Prelude.{◌≡◌, IfOk};
 ghost use Rattle.gm_store.specs.Asked.{name_of};
@@ -11,10 +8,8 @@ use gm_name::{NoMemory, fingerprint};
 use gm_store::{FileName, copy_name};
 use std::alloc::Global;
 
-/// A file's name with its fingerprint in front. In a map such keys are ordered by their numbers, so a lookup
-/// compares names only if two numbers are equal. Names crafted to have equal fingerprints cost no more than in a
-/// map keyed by names alone.
-#[derive(Drop, PartialEq, Eq, PartialOrd, Ord)]
+/// A file's name with its fingerprint.
+#[derive(Drop)]
 pub(crate) struct NameKey {
     /// The fingerprint of the name.
     pub(crate) number: u64,

@@ -3,16 +3,14 @@
 //! Nearly all questions about a file come right after it was read, so the newest entry is kept outside the map, where
 //! it takes no look-up.
 
-ghost use Rattle.std.specs.Prelude.{◌≡◌};
-ghost use Rattle.gm_store.specs.Asked.{name_of, same_name};
 ghost use Rattle.gm_graph_cache.specs.Marks.{IsNameKey};
 
+use crate::kept_files::{KeptFiles, is_same};
 use crate::name_key::{NameKey, mark_copy};
 use crate::summary::Kept;
 use gm_name::{ModVer, NoMemory};
 use gm_store::FileName;
 use std::alloc::{AllocError, Global};
-use std::collections::BTreeMap;
 
 /// The entry that was added last.
 #[derive(Drop)]
@@ -35,44 +33,35 @@ pub(crate) enum Place {
     Earlier(NameKey),
 }
 
-/// Whether two names are the same: the same kind of file, with equal texts.
-fn is_same(name: &FileName, other: &FileName) -> bool
-    ensures { result ≡ same_name (name_of name.now) (name_of other.now) }
-{
-    *name == *other
-}
-
 /// What was read of files, by their names.
 #[derive(Drop)]
 pub(crate) struct Summaries {
     /// The entry that was added last, if there is one.
     newest: Option<Newest>,
     /// The entries before it.
-    earlier: BTreeMap<NameKey, Kept>,
+    earlier: KeptFiles,
 }
 
 impl Summaries {
-    ghost use Rattle.std.specs.Prelude.{◌≡◌, [], None, IfOk, OnErr, OnOk};
-    ghost use Rattle.std.specs.Map.{lookup};
+    ghost use Rattle.std.specs.Prelude.{◌≡◌, None, IfOk, OnErr, OnOk};
     ghost use Rattle.std.specs.Option.{option_copied, option_map};
-    ghost use Rattle.gm_store.specs.Asked.{name_of};
-    ghost use Rattle.gm_graph_cache.specs.Entries.{AddsSummary, FindsSame, IsPlaced, entries_of, found_any, found_at, found_in, newest_entry};
+    ghost use Rattle.gm_store.specs.Asked.{Name, name_of};
+    ghost use Rattle.gm_graph_cache.specs.Entries.{AddsSummary, FindsSame, IsPlaced, found_any, found_at, found_in, newest_or};
     ghost use Rattle.gm_graph_cache.specs.Summaries.{lent_found};
-    ghost use Rattle.gm_graph_cache.specs.Marks.{is_key_of};
 
     /// No entries.
     pub(crate) fn new(alloc: Global) -> Summaries
-        ensures { entries_of result ≡ [] }
+        ensures { (name : Name) → found_in result name ≡ None }
     {
         Summaries {
             newest: None,
-            earlier: BTreeMap::new(alloc),
+            earlier: KeptFiles::new(alloc),
         }
     }
 
     /// The newest entry, if it is that of a name.
     fn newest_of(&self, name: &FileName) -> Option<&Kept>
-        ensures { option_copied result ≡ lookup (is_key_of (name_of name.now)) (newest_entry self.now.newest) }
+        ensures { option_copied result ≡ newest_or self.now.newest (name_of name.now) None }
     {
         match &self.newest {
             None => None,
@@ -141,16 +130,14 @@ impl Summaries {
     /// Moves the newest entry into the map. The only refusal is `NoMemory`, which leaves the entries unchanged.
     fn settle(&mut self) -> Result<(), NoMemory>
         ensures settled { OnOk result (self.new.newest ≡ None) }
-        ensures same { OnOk result (FindsSame self.old self.new) }
-        ensures err { OnErr result (entries_of self.new ≡ entries_of self.old) }
+        ensures same { FindsSame self.old self.new }
     {
         let Some(Newest { key, kept }) = self.newest.take() else {
             return Ok(());
         };
         match self.earlier.insert(key, kept) {
-            Ok(_) => Ok(()),
-            Err(refused) => {
-                let (key, kept) = refused.value;
+            Ok(()) => Ok(()),
+            Err((key, kept)) => {
                 self.newest = Some(Newest { key, kept });
                 Err(AllocError)
             }
@@ -162,7 +149,7 @@ impl Summaries {
     pub(crate) fn add(&mut self, key: NameKey, kept: Kept) -> Result<(), NoMemory>
         requires { IsNameKey key }
         ensures ok { OnOk result (AddsSummary self.old self.new (name_of key.name) kept) }
-        ensures err { OnErr result (entries_of self.new ≡ entries_of self.old) }
+        ensures err { OnErr result (FindsSame self.old self.new) }
     {
         self.settle()?;
         self.newest = Some(Newest { key, kept });

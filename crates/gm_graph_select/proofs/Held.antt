@@ -1,10 +1,11 @@
 -- What one more vertex changes in a set.
-use Rattle.std.proofs.Common.{◌≡◌, ◌∙◌, ◌||◌, not, ℕ, Bool, true, false, cond, Option, Some, None, ap, refl, subst, sym, arith}
+use Rattle.std.proofs.Common.{◌≡◌, ◌∙◌, ◌||◌, not, ℕ, Bool, true, false, cond, Option, Some, None, ap, nat_eq, refl, subst, sym}
 use Rattle.std.specs.Prelude.{unwrap_or}
-use Rattle.std.specs.BTreeMap as map
+use Rattle.sharded_map.specs.declared.sharded_map.ShardedMap.{ShardedMap}
+use Rattle.sharded_map.specs.Shards.{Puts, held}
+use Rattle.std.proofs.lemmas.Bool.{eq-eqb, eqb-true}
 use Rattle.std.specs.BTreeSet as set
-use Rattle.std.specs.Cmp.{nat_cmp_is}
-use Rattle.std.specs.Ordering.{is_eq, nat_cmp}
+use Rattle.std.specs.Ordering.{is_eq}
 use Rattle.std.specs.declared.cmp.Ordering.{Ordering}
 use Rattle.std.specs.declared.cmp.Ordering.TheVariants.{Less, Equal, Greater}
 use Rattle.gm_graph_select.specs.declared.vertex_set.VertexSet.{VertexSet}
@@ -21,10 +22,8 @@ same_ties : (x y : Vertex) → is_eq (vertex_cmp x y) ≡ true → x ≡ y
 same_ties x y e = vertex-anti x y (tie _ e)
 
 -- The same vertices have the same number.
-same_numbers : (x y : Vertex) → is_eq (vertex_cmp x y) ≡ true → is_eq (nat_cmp (vertex_fingerprint x) (vertex_fingerprint y)) ≡ true
-same_numbers x y e =
-    let itself : nat_cmp (vertex_fingerprint x) (vertex_fingerprint x) ≡ Equal = sym (nat_cmp_is (vertex_fingerprint x) (vertex_fingerprint x) Equal refl) in
-    subst (λ (z : Vertex). is_eq (nat_cmp (vertex_fingerprint x) (vertex_fingerprint z)) ≡ true) (same_ties x y e) (ap is_eq itself)
+same_numbers : (x y : Vertex) → is_eq (vertex_cmp x y) ≡ true → nat_eq (vertex_fingerprint x) (vertex_fingerprint y) ≡ true
+same_numbers x y e = eq-eqb _ _ (ap vertex_fingerprint (same_ties x y e))
 
 abbrev is_in : Option Vertex → Vertex → Bool → Bool
 is_in o y c = unwrap_or (is_any y o) false || c
@@ -39,21 +38,15 @@ none_held : (x : Vertex) (o : Option Vertex) → is_any x o ≡ None → o ≡ N
 none_held x None e = refl
 none_held x (Some held) e = absurd cc
 
-numbers_tie : (m n : ℕ) → is_eq (nat_cmp m n) ≡ true → m ≡ n
-numbers_tie m n e = Equal-is-nat m n (tie _ e)
-  where
-    Equal-is-nat : (m n : ℕ) → nat_cmp m n ≡ Equal → m ≡ n
-    Equal-is-nat m n e = grind arith
-
 -- A first vertex with its number was added.
-pub put_first : (old : VertexSet) (first : map.BTreeMap ℕ Vertex) (x : Vertex) → is_any x (map.get nat_cmp old.first (vertex_fingerprint x)) ≡ None
-    → ((m : ℕ) → map.get nat_cmp first m ≡ cond (is_eq (nat_cmp (vertex_fingerprint x) m)) (Some x) (map.get nat_cmp old.first m))
+pub put_first : (old : VertexSet) (first : ShardedMap Vertex) (x : Vertex) → is_any x (held old.first (vertex_fingerprint x)) ≡ None
+    → ((m : ℕ) → held first m ≡ cond (nat_eq (vertex_fingerprint x) m) (Some x) (held old.first m))
     → (y : Vertex) → has (record { first = first; others = old.others }) y ≡ cond (is_eq (vertex_cmp x y)) true (has old y)
 put_first old first x free puts y =
     let c = set.contains vertex_cmp old.others y in
     ap (λ (o : Option Vertex). is_in o y c) (puts (vertex_fingerprint y))
-    ∙ first_put (is_eq (vertex_cmp x y)) (is_eq (nat_cmp (vertex_fingerprint x) (vertex_fingerprint y))) x y (map.get nat_cmp old.first (vertex_fingerprint y)) c refl (same_numbers x y)
-    (λ e. subst (λ (m : ℕ). map.get nat_cmp old.first m ≡ None) (numbers_tie _ _ e) (none_held x _ free))
+    ∙ first_put (is_eq (vertex_cmp x y)) (nat_eq (vertex_fingerprint x) (vertex_fingerprint y)) x y (held old.first (vertex_fingerprint y)) c refl (same_numbers x y)
+    (λ e. subst (λ (m : ℕ). held old.first m ≡ None) (eqb-true _ _ e) (none_held x _ free))
 
 among_others : (b h c : Bool) → (h || cond b true c) ≡ cond b true (h || c)
 among_others true true c = refl
@@ -64,7 +57,7 @@ among_others false h c = refl
 pub put_other : (old : VertexSet) (others : set.BTreeSet Vertex) (x : Vertex) → ((y : Vertex) → set.contains vertex_cmp others y ≡ cond (is_eq (vertex_cmp x y)) true (set.contains vertex_cmp old.others y))
     → (y : Vertex) → has (record { first = old.first; others = others }) y ≡ cond (is_eq (vertex_cmp x y)) true (has old y)
 put_other old others x puts y =
-    let h = unwrap_or (is_any y (map.get nat_cmp old.first (vertex_fingerprint y))) false in
+    let h = unwrap_or (is_any y (held old.first (vertex_fingerprint y))) false in
     ap (λ (c : Bool). h || c) (puts y) ∙ among_others (is_eq (vertex_cmp x y)) h (set.contains vertex_cmp old.others y)
 
 stays_in : (b h : Bool) → (b ≡ true → h ≡ true) → h ≡ cond b true h

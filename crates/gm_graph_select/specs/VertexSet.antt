@@ -1,9 +1,9 @@
 -- Sets of vertices, found by their fingerprints.
 use Rattle.std.specs.Prelude.{◌||◌, ℕ, Bool, false, Option, unwrap_or}
 use Rattle.std.specs.Option.{option_map}
-use Rattle.std.specs.Ordering.{is_eq, nat_cmp}
-use Rattle.std.specs.BTreeMap as map
+use Rattle.std.specs.Ordering.{is_eq}
 use Rattle.std.specs.BTreeSet as set
+use Rattle.sharded_map.specs.Shards.{held}
 use Rattle.gm_name.specs.Fingerprint.{fingerprint}
 use Rattle.gm_graph_select.specs.declared.vertex_set.VertexSet.{VertexSet}
 use Rattle.gm_graph_select.specs.Graph.{Vertex, vertex_cmp}
@@ -18,5 +18,5 @@ is_any x = option_map (λ held. is_eq (vertex_cmp held x))
 
 -- Whether a vertex is in the set: it is the first one with its fingerprint, or among the others.
 abbrev pub has : VertexSet → Vertex → Bool
-has vertices x = unwrap_or (is_any x (map.get nat_cmp vertices.first (vertex_fingerprint x))) false
+has vertices x = unwrap_or (is_any x (held vertices.first (vertex_fingerprint x))) false
     || set.contains vertex_cmp vertices.others x

@@ -1,23 +1,23 @@
 //! Sets of module versions that remain fast for long paths.
 
 ghost use Rattle.std.specs.Prelude.{◌≡◌, IfOk, OnErr, OnOk, cond, false, not, true};
-ghost use Rattle.std.specs.BTreeMap as map;
-ghost use Rattle.std.specs.Ordering.{is_eq, nat_cmp};
+ghost use Rattle.sharded_map.specs.Shards.{held};
+ghost use Rattle.std.specs.Ordering.{is_eq};
 ghost use Rattle.gm_graph_select.specs.Graph.{Vertex, vertex_cmp};
 ghost use Rattle.gm_graph_select.specs.VertexSet.{has, is_any};
 
 use gm_name::ModVer;
+use sharded_map::ShardedMap;
 use std::alloc::{AllocError, Global};
-use std::collections::{BTreeMap, BTreeSet};
+use std::collections::BTreeSet;
 
-/// A set of module versions. It can be asked for membership, but not for an order. A lookup takes log n comparisons
-/// of numbers, and one of texts; one of module versions crafted to have equal fingerprints takes no more comparisons
-/// of texts than in a set ordered by them.
+/// A set of module versions. It can be asked for membership, but not for an order. A lookup takes a few comparisons of
+/// numbers, at most log n, and one of texts; one of module versions crafted to have equal fingerprints takes no more
+/// comparisons of texts than in a set ordered by them.
 #[derive(Drop)]
 pub struct VertexSet {
-    /// Of the members with the same fingerprint, the first one. Numbers are compared here, which are stored next to
-    /// each other.
-    first: BTreeMap<u64, ModVer>,
+    /// Of the members with the same fingerprint, the first one. Only numbers are compared here.
+    first: ShardedMap<ModVer>,
     /// The other members, in the order of their texts.
     others: BTreeSet<ModVer>,
 }
@@ -35,16 +35,16 @@ impl VertexSet {
         ensures { (x : Vertex) → has result x ≡ false }
     {
         VertexSet {
-            first: BTreeMap::new(alloc),
+            first: ShardedMap::new(alloc),
             others: BTreeSet::new(alloc),
         }
     }
 
     /// Whether the first member with that fingerprint is the vertex, or `None` if there is no such member.
     fn is_first(&self, number: u64, vertex: &ModVer) -> Option<bool>
-        ensures { result ≡ is_any vertex.now (map.get nat_cmp self.now.first number) }
+        ensures { result ≡ is_any vertex.now (held self.now.first number) }
     {
-        match self.first.get(&number) {
+        match self.first.get(number) {
             None => None,
             Some(held) => Some(is_same(held, vertex)),
         }

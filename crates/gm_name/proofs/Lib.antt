@@ -15,3 +15,4 @@ pub mod Refusals
 pub mod BaseVersions
 pub mod PseudoTexts
 pub mod Fronts
+pub mod Words

@@ -1,7 +1,27 @@
--- Fingerprints of texts, by the 64-bit Fowler-Noll-Vo hash FNV-1a.
-use Rattle.std.specs.Prelude.{ℕ, List, [], ◌∷◌, ◌*◌, ◌%◌, ◌^◌, bit_xor}
+-- Fingerprints of texts: hashes that take eight bytes at a time.
+use Rattle.std.specs.Prelude.{ℕ, List, [], ◌∷◌, ◌*◌, ◌%◌, ◌/◌, ◌^◌, bit_xor, slice_index}
+use Rattle.std.specs.Int.{from_le_bytes, w64}
 
--- for each byte, exclusive or with the byte, then multiplication by the prime
+-- a number's two halves, joined by exclusive or
+abbrev pub folded : ℕ → ℕ
+folded number = bit_xor number (number / 2 ^ 32)
+
+-- a number with one more word in it: exclusive or with the word, and multiplication by an odd number
+abbrev pub mixed : ℕ → ℕ → ℕ
+mixed number word = folded (bit_xor number word * 11400714819323198485 % 2 ^ 64)
+
+-- the number of the first eight bytes, the first one lowest
+abbrev pub first_word : List ℕ → ℕ
+first_word xs = from_le_bytes w64 (slice_index xs 0 ∷ slice_index xs 1 ∷ slice_index xs 2 ∷ slice_index xs 3
+    ∷ slice_index xs 4 ∷ slice_index xs 5 ∷ slice_index xs 6 ∷ slice_index xs 7 ∷ [])
+
+-- each byte as a word
+abbrev pub by_bytes : ℕ → List ℕ → ℕ
+by_bytes number [] = number
+by_bytes number (byte ∷ rest) = by_bytes (mixed number byte) rest
+
+-- each eight bytes as a word, and then each byte that is left
 abbrev pub fingerprint : ℕ → List ℕ → ℕ
-fingerprint number [] = number
-fingerprint number (byte ∷ rest) = fingerprint (bit_xor number byte * 1099511628211 % 2 ^ 64) rest
+fingerprint number (a ∷ b ∷ c ∷ d ∷ e ∷ f ∷ g ∷ h ∷ rest) =
+    fingerprint (mixed number (first_word (a ∷ b ∷ c ∷ d ∷ e ∷ f ∷ g ∷ h ∷ []))) rest
+fingerprint number rest = by_bytes number rest

@@ -1,6 +1,7 @@
 //! Names that were read before, kept so that a duplicate is neither tested nor stored again.
 
-ghost use Rattle.std.specs.Prelude.{◌≡◌, ◌≤◌, ◌↔◌, IfOk, IfSome, IsErrOf, IsTrue, Ok, length};
+ghost use Rattle.std.specs.Prelude.{◌≡◌, ◌≤◌, ◌↔◌, IfOk, IfSome, IsErrOf, IsTrue, Ok};
+ghost use Rattle.sharded_map.specs.Shards.{count_of};
 ghost use Rattle.gm_name.specs.Fingerprint.{fingerprint};
 ghost use Rattle.gm_name.specs.Fit.{Fits};
 ghost use Rattle.gm_name.specs.Kept.{IsWithinRoom, none_kept};
@@ -14,8 +15,8 @@ use crate::fingerprints::fingerprint;
 use crate::fit::ModVer;
 use crate::path::{ModPath, PathFault};
 use crate::version::{ModVersion, VersionFault};
+use sharded_map::ShardedMap;
 use std::alloc::{AllocError, Global};
-use std::collections::BTreeMap;
 use std::marker::Model;
 use thiserror::Error;
 
@@ -82,42 +83,61 @@ pub struct KnownNames {
     /// How many names each of the three maps may grow to.
     room: usize,
     /// Paths by fingerprint.
-    paths: BTreeMap<u64, ModPath>,
+    paths: Kept<ModPath>,
     /// Versions by fingerprint.
-    versions: BTreeMap<u64, ModVersion>,
+    versions: Kept<ModVersion>,
     /// Pairs by the number that `PairNumbers::joined` makes of their texts' fingerprints.
-    pairs: BTreeMap<u64, ModVer>,
+    pairs: Kept<ModVer>,
+}
+
+/// Names under their numbers.
+#[derive(Drop)]
+struct Kept<T> {
+    /// The names.
+    names: ShardedMap<T>,
+    /// How many they are.
+    count: usize,
 }
 
 impl Model for KnownNames {
-    ghost use Rattle.std.specs.Prelude.{◌≤◌, length};
+    ghost use Rattle.std.specs.Prelude.{◌≡◌, ◌≤◌};
+    ghost use Rattle.sharded_map.specs.Shards.{count_of};
     ghost use Rattle.gm_name.specs.Kept.{KeptCounts};
 
     ghost Value = { KeptCounts };
 
     ghost view = { λ a. record {
       room = a.room;
-      paths = length a.paths.entries;
-      versions = length a.versions.entries;
-      pairs = length a.pairs.entries;
+      paths = count_of a.paths.names;
+      versions = count_of a.versions.names;
+      pairs = count_of a.pairs.names;
     } };
 
-    ghost invariant = { λ a. (length a.paths.entries ≤ a.room)
-        × (length a.versions.entries ≤ a.room)
-        × (length a.pairs.entries ≤ a.room) };
+    ghost invariant = { λ a. (count_of a.paths.names ≡ a.paths.count) × (a.paths.count ≤ a.room)
+        × (count_of a.versions.names ≡ a.versions.count) × (a.versions.count ≤ a.room)
+        × (count_of a.pairs.names ≡ a.pairs.count) × (a.pairs.count ≤ a.room) };
+}
+
+impl<T: Drop> Kept<T> {
+    /// No names.
+    fn new(alloc: Global) -> Kept<T>
+        ensures names { count_of result.names ≡ 0 }
+        ensures count { result.count ≡ 0 }
+    {
+        Kept {
+            names: ShardedMap::new(alloc),
+            count: 0,
+        }
+    }
 }
 
 /// Keeps a name under a number, replacing any other there, as long as there are fewer than `room` names.
-fn keep<T: Drop>(
-    names: &mut BTreeMap<u64, T>,
-    room: usize,
-    number: u64,
-    name: T,
-) -> Result<(), AllocError>
-    ensures { length names.old.entries ≤ room → length names.new.entries ≤ room }
+fn keep<T: Drop>(kept: &mut Kept<T>, room: usize, number: u64, name: T) -> Result<(), AllocError>
+    ensures count { count_of kept.old.names ≡ kept.old.count → count_of kept.new.names ≡ kept.new.count }
+    ensures within { kept.old.count ≤ room → kept.new.count ≤ room }
 {
-    if names.len() < room {
-        names.insert(number, name)?;
+    if kept.count < room && kept.names.insert(number, name)?.is_none() {
+        kept.count += 1;
     }
     Ok(())
 }
@@ -154,9 +174,9 @@ impl KnownNames {
         KnownNames {
             alloc,
             room,
-            paths: BTreeMap::new(alloc),
-            versions: BTreeMap::new(alloc),
-            pairs: BTreeMap::new(alloc),
+            paths: Kept::new(alloc),
+            versions: Kept::new(alloc),
+            pairs: Kept::new(alloc),
         }
     }
 
@@ -178,7 +198,7 @@ impl KnownNames {
         ensures within { IsWithinRoom self.now }
         ensures read { IfSome result (λ path. PathReading text.now (Ok path)) }
     {
-        let held = self.paths.get(&number?)?;
+        let held = self.paths.names.get(number?)?;
         if held.as_str() == text {
             held.copy(self.alloc).ok()
         } else {
@@ -191,7 +211,7 @@ impl KnownNames {
         ensures within { IsWithinRoom self.now }
         ensures read { IfSome result (λ version. VersionReading text.now (Ok version)) }
     {
-        let held = self.versions.get(&number?)?;
+        let held = self.versions.names.get(number?)?;
         if held.as_str() == text {
             held.copy(self.alloc).ok()
         } else {
@@ -204,7 +224,7 @@ impl KnownNames {
         ensures within { IsWithinRoom self.now }
         ensures read { IfSome result (λ pair. PairReading path.now version.now (Ok pair)) }
     {
-        let held = self.pairs.get(&number?)?;
+        let held = self.pairs.names.get(number?)?;
         if is_pair_of(held, path, version) {
             held.copy(self.alloc).ok()
         } else {

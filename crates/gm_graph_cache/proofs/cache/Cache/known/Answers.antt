@@ -59,7 +59,7 @@ returns-in_err-keep-in-Ok-clause-asks g c =
 -- ---- memory ran out before anything was asked for
 
 pub returns-in_err-name-clause-err : goal.returns-in_err-name-clause-err
-returns-in_err-name-clause-err g c = any_err c.from_residual.result (record { main = refl; sums = refl; entries = refl })
+returns-in_err-name-clause-err g c = any_err c.from_residual.result (record { main = refl; sums = refl; found = λ _. refl })
 
 pub returns-in_err-name-clause-not_too_many : goal.returns-in_err-name-clause-not_too_many
 returns-in_err-name-clause-not_too_many g c = λ e. cc (rw e at c.from_residual.ensures.1)

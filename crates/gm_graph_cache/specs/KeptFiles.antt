@@ -1,0 +1,24 @@
+-- What is kept of files, by their names.
+use Rattle.std.specs.Prelude.{if◌then◌else◌, Bool, true, Option, Some, None}
+use Rattle.std.specs.Map.{lookup}
+use Rattle.sharded_map.specs.Shards.{held}
+use Rattle.gm_store.specs.Asked.{Name, name_of, same_name}
+use Rattle.gm_graph_cache.specs.declared.kept_files.KeptFile.{KeptFile}
+use Rattle.gm_graph_cache.specs.declared.kept_files.KeptFiles.{KeptFiles}
+use Rattle.gm_graph_cache.specs.declared.summary.Kept.{Kept}
+use Rattle.gm_graph_cache.specs.Marks.{name_fingerprint}
+
+-- what is kept of the file of a name, given the first file with its fingerprint and what is found among the others
+abbrev pub first_or : Option KeptFile → Name → Option Kept → Option Kept
+first_or None name other = other
+first_or (Some file) name other = if same_name name (name_of file.name) then Some file.kept else other
+
+-- what is kept of the file of a name
+abbrev pub kept_at : KeptFiles → Name → Option Kept
+kept_at files name = first_or (held files.first (name_fingerprint name)) name
+    (lookup (λ file. same_name name (name_of file)) files.others.entries)
+
+-- Whether the first file with the fingerprint of a name, if there is one, is that of the name.
+abbrev pub is_free : Option KeptFile → Name → Bool
+is_free None name = true
+is_free (Some file) name = same_name name (name_of file.name)

@@ -1,0 +1,2 @@
+pub mod EmptyShards
+pub mod Shards
