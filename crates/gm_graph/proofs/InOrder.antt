@@ -80,20 +80,15 @@ lower_step Equal e f = absurd (cc f)
 lower_step Greater e f = refl
 
 -- Sorted adjacency lists, no two of which leave the same step, leave ascending steps.
-pub sorted_ascends : (lower : Adjacency → Adjacency → Bool) → ((a b : Adjacency) → lower a b ≡ false → is_lt (step_cmp a.from b.from) ≡ false) → (all : List Adjacency) → IsSortedBy lower all → IsDistinct same_step all → AreAscending all
-sorted_ascends lower by all sorted distinct =
+pub sorted_ascends : (all : List Adjacency) → IsSortedBy (λ (a b : Adjacency). is_lt (step_cmp a.from b.from)) all → IsDistinct same_step all → AreAscending all
+sorted_ascends all sorted distinct =
     from_adjacent (on_total (λ (one : Adjacency). one.from) step_total) all
     (λ k d inside.
     let a = get_or all k d in
     let b = get_or all (k + 1) d in
     let apart = apart_from_distinct same_step all k (k + 1) d distinct (omega arith) inside in
-    lower_step (step_cmp b.from a.from) (by b a (sorted k d (omega arith) inside)) (ap is_eq (sym (step_total.antisymm a.from b.from)) ∙ apart)
+    lower_step (step_cmp b.from a.from) (sorted k d (omega arith) inside) (ap is_eq (sym (step_total.antisymm a.from b.from)) ∙ apart)
     ∙ ap is_lt (sym (step_total.antisymm a.from b.from)))
-
-pub first_lower : (r s : Ordering) → is_lt (ordering_then r s) ≡ false → is_lt r ≡ false
-first_lower Less s e = e
-first_lower Equal s e = refl
-first_lower Greater s e = refl
 
 -- the vertices that are left from one adjacency list on
 pub left_here : (all : List Adjacency) (i : ℕ) (x : Adjacency) → i < length all → x ≡ get_or all i x → with_vertex x.from (left_by (drop (i + 1) all)) ≡ left_by (drop i all)

@@ -12,7 +12,7 @@ use gm_name::ModVer;
 use std::alloc::{AllocError, Global};
 
 /// The edges that leave one step, as an adjacency list.
-#[derive(Drop, PartialEq, Eq, PartialOrd, Ord)]
+#[derive(Drop)]
 pub(crate) struct Adjacency {
     /// The step that the edges leave.
     pub(crate) from: Step,

@@ -3,8 +3,10 @@
 //! Each opened vertex has one adjacency list. Once these are sorted by the step that they leave, the opened vertices
 //! are in ascending order, too, and are not sorted again.
 
-ghost use Rattle.std.specs.Prelude.{◌≡◌, ◌++◌, ◌≤◌, List, IfOk, OnOk, length};
-ghost use Rattle.gm_graph_select.specs.Graph.{Vertex};
+ghost use Rattle.std.specs.Prelude.{◌≡◌, ◌++◌, ◌≤◌, List, IfOk, OnOk, Some, length, refl};
+ghost use Rattle.std.specs.Cmp.{on_equiv, on_po, on_total, partial_equiv_from_equiv};
+ghost use Rattle.gm_graph_select.specs.Graph.{Vertex, step_cmp};
+ghost use Rattle.gm_graph_select.specs.StepOrder.{step_equiv, step_po, step_total};
 ghost use Rattle.std.specs.List.{IsDistinct};
 ghost use Rattle.std.specs.List.Sorted.{IsPermutation};
 ghost use Rattle.gm_graph.specs.Adjacency.{AreAscending, edges_of, left_by, same_step, with_vertex};
@@ -13,6 +15,49 @@ use crate::adjacency::{Adjacency, push_vertex};
 use gm_graph_select::{Edge, Step};
 use gm_name::ModVer;
 use std::alloc::{AllocError, Global};
+use std::cmp::Ordering;
+
+impl PartialEq for Adjacency {
+    ghost eq = { same_step };
+
+    ghost laws = { partial_equiv_from_equiv (on_equiv (λ one. one.from) step_equiv) };
+
+    /// Whether both leave the same step.
+    fn eq(&self, other: &Adjacency) -> bool {
+        self.from == other.from
+    }
+}
+
+impl Eq for Adjacency {
+    ghost laws = { on_equiv (λ one. one.from) step_equiv };
+}
+
+impl PartialOrd for Adjacency {
+    ghost partial_cmp = { λ a b. Some (step_cmp a.from b.from) };
+
+    ghost laws = { on_po (λ one. one.from) step_po };
+
+    /// The order of `cmp`, which is total.
+    fn partial_cmp(&self, other: &Adjacency) -> Option<Ordering> {
+        Some(self.cmp(other))
+    }
+}
+
+impl Ord for Adjacency {
+    ghost cmp = { λ a b. step_cmp a.from b.from };
+
+    ghost total = { on_total (λ one. one.from) step_total };
+
+    ghost matches_partial_cmp = { λ a b. refl };
+
+    ghost matches_eq = { λ a b. refl };
+
+    /// The order of the steps that they leave. The vertices that they lead to don't count, since there is one list for
+    /// each step.
+    fn cmp(&self, other: &Adjacency) -> Ordering {
+        self.from.cmp(&other.from)
+    }
+}
 
 /// These groups in ascending order of the steps that they leave. No two of them may leave the same step.
 pub(crate) fn sorted_groups(mut all: Vec<Adjacency>) -> Vec<Adjacency>
