@@ -15,3 +15,4 @@ pub mod Readings
 pub mod Tail
 pub mod Version
 pub mod VersionOrder
+pub mod PairOrder
