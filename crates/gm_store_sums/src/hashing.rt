@@ -1,31 +1,48 @@
 //! The hash of a go.mod, as a go.sum lists it.
 
-ghost use Rattle.std.specs.Prelude.{◌≡◌, IfOk, string_bytes};
-ghost use Rattle.gm_store_sums.specs.Hash.{file_hash, line_hash, summary_line};
+ghost use Rattle.std.specs.Prelude.{◌≡◌, ◌++◌, codes, IfOk, string_bytes};
+ghost use Rattle.base64.specs.Engines.{standard};
+ghost use Rattle.base64.specs.GeneralPurpose.{encode_of};
+ghost use Rattle.gm_store_sums.specs.Hash.{file_hash, summary_line};
+ghost use Rattle.hex.specs.Hex.{encode_lower};
+ghost use Rattle.sha2.specs.Sha256.{sha256};
 
 use base64::engine::general_purpose::STANDARD;
 use gm_name::NoMemory;
 use sha2::{Digest, Sha256};
 use std::alloc::Global;
 
-/// The line that is hashed for a file with these bytes: their digest, and the name of the file. Fails only when
-/// memory runs out.
-fn summary_line(alloc: Global, content: &[u8]) -> Result<String, NoMemory>
-    ensures { IfOk result (λ line. string_bytes line ≡ summary_line content.now) }
+/// The bytes of a hash: `h1:` and 32 bytes in base64.
+const HASH_LEN: usize = 47;
+
+/// A digest in lower-case hexadecimal.
+fn digits_of(digest: &[u8; 32]) -> [u8; 64]
+    ensures { result ≡ encode_lower digest.now }
 {
-    let digest = Sha256::digest(content);
-    let mut line = hex::encode(alloc, digest.as_slice())?;
-    line.push_str("  go.mod\n")?;
-    Ok(line)
+    let mut digits = [0u8; 64];
+    let Ok(()) = hex::encode_to_slice(digest.as_slice(), &mut digits) else {
+        unreachable!();
+    };
+    digits
 }
 
-/// `h1:` and the digest of a line in base64. Fails only when memory runs out.
-fn line_hash(alloc: Global, line: &[u8]) -> Result<String, NoMemory>
-    ensures { IfOk result (λ hash. string_bytes hash ≡ line_hash line.now) }
+/// The digest of the line for a file with these bytes: their digest, and the name of the file.
+fn summary_digest(content: &[u8]) -> [u8; 32]
+    ensures { result ≡ sha256 (summary_line content.now) }
 {
-    let digest = Sha256::digest(line);
-    let mut hash = String::from_str(alloc, "h1:")?;
-    STANDARD.encode_string(digest.as_slice(), &mut hash)?;
+    let digits = digits_of(&Sha256::digest(content));
+    let mut line = Sha256::new_with_prefix(digits.as_slice());
+    line.update(b"  go.mod\n".as_slice());
+    line.finalize()
+}
+
+/// `h1:` and a digest in base64. Fails only when memory runs out.
+fn text_of(alloc: Global, digest: &[u8]) -> Result<String, NoMemory>
+    ensures { IfOk result (λ hash. string_bytes hash ≡ codes "h1:" ++ encode_of standard digest.now) }
+{
+    let mut hash = String::with_capacity(alloc, HASH_LEN)?;
+    hash.push_str("h1:")?;
+    STANDARD.encode_string(digest, &mut hash)?;
     Ok(hash)
 }
 
@@ -35,6 +52,5 @@ fn line_hash(alloc: Global, line: &[u8]) -> Result<String, NoMemory>
 pub fn mod_hash(alloc: Global, content: &[u8]) -> Result<String, NoMemory>
     ensures { IfOk result (λ hash. string_bytes hash ≡ file_hash content.now) }
 {
-    let line = summary_line(alloc, content)?;
-    line_hash(alloc, line.as_bytes())
+    text_of(alloc, summary_digest(content).as_slice())
 }
