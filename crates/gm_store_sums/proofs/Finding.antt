@@ -124,6 +124,37 @@ never_false : (b : Bool) → (b ≡ false → ⊥) → b ≡ true
 never_false true never = refl
 never_false false never = absurd (never refl)
 
+less_is_le : (o : Ordering) → is_lt o ≡ true → is_le o ≡ true
+less_is_le Less e = refl
+less_is_le Equal e = refl
+less_is_le Greater e = cc e
+
+-- the lines are parted where one that fails the test stands, or the list ends, and all before it pass
+parted_at : {X : Type 0} (test : X → Bool) (xs : List X) (end : ℕ) → IsPartitionedBy test xs → ((k : ℕ) (d : X) → 0 ≤ k → k < end → test (slice_index_or xs k d) ≡ true)
+    → ((d : X) → end < length xs → test (slice_index_or xs end d) ≡ false) → IsPartitionPoint (λ x. test x ≡ true) (λ x. test x ≡ false) xs end
+parted_at test xs end parted before fails = (
+  before,
+  λ k d high within. never_true _ (λ e.
+      let never : false ≡ true = sym (fails d (omega arith)) ∙ parted end k d high within e in
+      cc never),
+)
+
+-- where lines up to a path and version end: in front of the first line, or after it
+pub ends_at : (lines : List SumLine) (path version : List ℕ) (start : ℕ) → AreInOrder lines
+    → IsPartitionPoint (λ line. is_lt (key_cmp (triple line) (path, version)) ≡ true) (λ line. is_lt (key_cmp (triple line) (path, version)) ≡ false) lines start
+    → ((d : SumLine) → start < length lines → is_le (key_cmp (triple (slice_index_or lines start d)) (path, version)) ≡ false)
+    → IsPartitionPoint (λ line. is_le (key_cmp (triple line) (path, version)) ≡ true) (λ line. is_le (key_cmp (triple line) (path, version)) ≡ false) lines start
+ends_at lines path version start order before fails =
+    parted_at (λ line. is_le (key_cmp (triple line) (path, version))) lines start (parted_up_to lines path version order) (λ k d low high. less_is_le _ (before.0 k d low high)) fails
+
+pub ends_after : (lines : List SumLine) (path version : List ℕ) (start : ℕ) → AreInOrder lines → start < length lines
+    → ((d : SumLine) → is_le (key_cmp (triple (slice_index_or lines start d)) (path, version)) ≡ true)
+    → ((d : SumLine) → start + 1 < length lines → is_le (key_cmp (triple (slice_index_or lines (start + 1) d)) (path, version)) ≡ false)
+    → IsPartitionPoint (λ line. is_le (key_cmp (triple line) (path, version)) ≡ true) (λ line. is_le (key_cmp (triple line) (path, version)) ≡ false) lines (start + 1)
+ends_after lines path version start order some passes fails =
+    parted_at (λ line. is_le (key_cmp (triple line) (path, version))) lines (start + 1) (parted_up_to lines path version order)
+    (λ k d low high. parted_up_to lines path version order k start d (omega arith) some (passes d)) fails
+
 module _ (lines : List SumLine) (path version hash : List ℕ) (start end : ℕ)
     (before : IsPartitionPoint (λ line. is_lt (key_cmp (triple line) (path, version)) ≡ true) (λ line. is_lt (key_cmp (triple line) (path, version)) ≡ false) lines start)
     (up_to : IsPartitionPoint (λ line. is_le (key_cmp (triple line) (path, version)) ≡ true) (λ line. is_le (key_cmp (triple line) (path, version)) ≡ false) lines end)

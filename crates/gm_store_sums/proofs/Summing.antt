@@ -2,6 +2,9 @@
 use Rattle.std.proofs.Common.{◌≡◌, ◌≢◌, ◌⊎◌, ◌-◌, ◌&&◌, ◌||◌, ℕ, Bool, true, false, not, zero, suc, List, [], ◌∷◌, ◌++◌, length, take, drop, map, ap, ◌∙◌, sym, refl, subst, inl, inr, arith, codes, Bor}
 use Rattle.std.proofs.lemmas.Grind.{common_steps}
 use Rattle.std.proofs.lemmas.List.{append_cancel_right, map-append}
+use Rattle.std.proofs.lemmas.List.Folds.{list_any-append, list_any_at}
+use Rattle.std.proofs.lemmas.List.Sums.{passes_at_first}
+use Rattle.std.proofs.lemmas.Bool.{cases_lt}
 use Rattle.std.proofs.lemmas.List.Elements.{Contains-append_cases, Contains-append_left, Contains-append_right}
 use Rattle.std.proofs.lemmas.List.Sorted.{Contains-permutation, IsPermutation-sym}
 use Rattle.std.proofs.lemmas.Slice.Eq.{bytes_eq-Decides}
@@ -12,7 +15,7 @@ use Rattle.std.specs.Prelude.{◌↔◌, Contains, nat_eq, if◌then◌else◌}
 use Rattle.std.specs.Str.{bytes_eq}
 use Rattle.gm_store.specs.Lines.{fields, lines}
 use Rattle.gm_store_sums.specs.Shapes.{AddsGiven, Gives}
-use Rattle.gm_store_sums.specs.Sums.{HoldsSums, IsSum, Says, is_line_for, is_other_hash}
+use Rattle.gm_store_sums.specs.Sums.{HasValidLines, HoldsSums, IsSum, Says, are_valid_fields, is_line_for, is_other_hash, lines_before_invalid}
 use Rattle.gm_store_sums.specs.declared.sum_table.Sum.TheVariants.{Good, Unlisted, Differs}
 
 abbrev pub Triple : Type 0
@@ -87,6 +90,27 @@ line_added seen line sums new holds added = elim added [
 
 pub holds_all : (text : List ℕ) (sums : List Triple) → HoldsGiven (map fields (lines text)) sums → HoldsSums sums text
 holds_all text sums holds = λ path version hash. (λ has. let both = (holds path version hash).0 has in record { line = both.0; kind = both.1 }, λ is. (holds path version hash).1 (is.line, is.kind))
+
+-- ---- which lines are valid
+
+abbrev pub is_invalid : List ℕ → Bool
+is_invalid line = not (are_valid_fields (fields line))
+
+-- a valid line more
+pub valid_more : (seen : List (Bor (List ℕ))) (line : Bor (List ℕ)) → list_any is_invalid (map (λ line. line.now) seen) ≡ false → true ≡ are_valid_fields (fields line.now)
+    → list_any is_invalid (map (λ line. line.now) (seen ++ line ∷ [])) ≡ false
+valid_more seen line none valid =
+    ap (list_any is_invalid) (map-append (λ (line : Bor (List ℕ)). line.now) seen (line ∷ [])) ∙ list_any-append is_invalid (map (λ line. line.now) seen) (line.now ∷ [])
+    ∙ ap (λ b. b || (is_invalid line.now || false)) none ∙ ap (λ b. not b || false) (sym valid)
+
+-- where no line is invalid, the first invalid line is beyond the last one
+pub valid_all : (text : List ℕ) → list_any is_invalid (lines text) ≡ false → HasValidLines text
+valid_all text none = elim (cases_lt (lines_before_invalid text) (length (lines text))) [
+  | inl low ↦
+      let never : false ≡ true = sym none ∙ list_any_at is_invalid (lines text) (lines_before_invalid text) [] low (passes_at_first is_invalid (lines text) [] low) in
+      cc never
+  | inr high ↦ high
+]
 
 -- a text without its ending
 pub stripped : (text ending front : List ℕ) → bytes_eq (drop (length text - length ending) text) ending ≡ true → front ≡ take (length text - length ending) text → text ≡ front ++ ending

@@ -1,15 +1,16 @@
 //! The lines of a go.sum: which are valid, and the hashes that they list.
 
-ghost use Rattle.std.specs.Prelude.{◌≡◌, ◌<◌, ◌≤◌, ℕ, List, length, map, IfNone, IfOk, IfSome, MatchOption, OnOk};
+ghost use Rattle.std.specs.Prelude.{◌≡◌, ◌≢◌, ◌<◌, ◌≤◌, ℕ, List, length, map, true, Ok, IfNone, IfOk, IfSome, MatchOption};
+ghost use Rattle.std.specs.List.{position_or_len, prefix_len};
 ghost use Rattle.std.specs.Str.{is_utf8};
-ghost use Rattle.gm_store.specs.Lines.{fields, lines};
+ghost use Rattle.gm_store.specs.Lines.{after_blanks, fields, first_word, is_blank, lines};
+ghost use Rattle.gm_store.specs.Words.{prepend_word};
 ghost use Rattle.gm_store_sums.specs.Shapes.{AddsGiven, AreFields, Gives};
-ghost use Rattle.gm_store_sums.specs.Sums.{HasValidLines, HoldsSums, are_valid_fields, lines_before_invalid};
+ghost use Rattle.gm_store_sums.specs.Sums.{HasValidLines, HoldsSums, IsFirstInvalid, are_valid_fields, lines_before_invalid};
 ghost use Rattle.gm_store_sums.specs.Order.{triple};
 
-use crate::sum_table::SumLine;
+use crate::sum_table::{SumFault, SumLine};
 use gm_name::NoMemory;
-use gm_store::{first_word, rest_after_word};
 use std::alloc::Global;
 
 /// The fields of a line.
@@ -23,28 +24,79 @@ pub(crate) enum Fields<'a> {
     Other,
 }
 
+/// Whether a byte is a blank: a space, a tab or a CR.
+fn is_blank(byte: u8) -> bool
+    ensures { result ≡ is_blank byte }
+{
+    byte == b' ' || byte == b'\t' || byte == b'\r'
+}
+
+/// The number of blanks at the start of a line.
+fn leading_blanks(line: &[u8]) -> usize
+    ensures count { result ≡ prefix_len is_blank line.now }
+    ensures within { result ≤ length line.now }
+{
+    line.iter().take_while(|byte| is_blank(**byte)).count()
+}
+
+/// The number of bytes before the first blank, or the line's length if it has none.
+fn bytes_before_blank(line: &[u8]) -> usize
+    ensures count { result ≡ position_or_len is_blank line.now }
+    ensures within { result ≤ length line.now }
+{
+    line.iter().take_while(|byte| !is_blank(**byte)).count()
+}
+
+/// The line without the blanks at its start.
+fn after_blanks(line: &[u8]) -> &[u8]
+    ensures { result.now ≡ after_blanks line.now }
+{
+    &line[leading_blanks(line)..]
+}
+
+/// A line's first word, and what comes after it.
+#[derive(Clone, Copy)]
+struct Cut<'a> {
+    /// The word, or the empty slice if the line has none.
+    word: &'a [u8],
+    /// The rest of the line.
+    rest: &'a [u8],
+}
+
+/// Cuts the first word off a line. Its other words are those of the rest. Each byte is looked at once.
+fn cut_word(line: &[u8]) -> Cut<'_>
+    ensures word { result.word.now ≡ first_word line.now }
+    ensures rest { fields line.now ≡ prepend_word (first_word line.now) (fields result.rest.now) }
+{
+    let words = after_blanks(line);
+    let end = bytes_before_blank(words);
+    Cut {
+        word: &words[..end],
+        rest: &words[end..],
+    }
+}
+
 /// Splits a line into its fields.
 fn fields_of(line: &[u8]) -> Fields<'_>
     ensures { AreFields result (fields line.now) }
 {
-    let path = first_word(line);
-    if path.is_empty() {
+    let path = cut_word(line);
+    if path.word.is_empty() {
         return Fields::Blank;
     }
-    let rest = rest_after_word(line);
-    let version = first_word(rest);
-    if version.is_empty() {
+    let version = cut_word(path.rest);
+    if version.word.is_empty() {
         return Fields::Other;
     }
-    let rest = rest_after_word(rest);
-    let hash = first_word(rest);
-    if hash.is_empty() {
+    let hash = cut_word(version.rest);
+    if hash.word.is_empty() {
         return Fields::Other;
     }
-    if !first_word(rest_after_word(rest)).is_empty() {
+    let more = cut_word(hash.rest);
+    if !more.word.is_empty() {
         return Fields::Other;
     }
-    Fields::Three(path, version, hash)
+    Fields::Three(path.word, version.word, hash.word)
 }
 
 /// Whether a field is UTF-8.
@@ -54,11 +106,11 @@ fn is_text(word: &[u8]) -> bool
     str::from_utf8(word).is_ok()
 }
 
-/// Whether a line is blank or has three fields, of UTF-8.
-fn is_valid_line(line: &[u8]) -> bool
-    ensures { result ≡ are_valid_fields (fields line.now) }
+/// Whether the fields of a line are none or three of UTF-8.
+fn are_valid(found: Fields<'_>) -> bool
+    ensures { (words : List (List ℕ)) → AreFields found.entry words → result ≡ are_valid_fields words }
 {
-    match fields_of(line) {
+    match found {
         Fields::Blank => true,
         Fields::Three(path, version, hash) => is_text(path) && is_text(version) && is_text(hash),
         Fields::Other => false,
@@ -66,13 +118,25 @@ fn is_valid_line(line: &[u8]) -> bool
 }
 
 /// How many lines come before the first invalid one, or `None` if all lines are valid.
-pub(crate) fn first_invalid_line(text: &[u8]) -> Option<usize>
+fn first_invalid_line(text: &[u8]) -> Option<usize>
     ensures found { MatchOption result (HasValidLines text.now)
         (λ before. (before ≡ lines_before_invalid text.now) × (before < length (lines text.now))) }
     ensures within { IfSome result (λ before. before ≤ length text.now) }
 {
     text.split(|byte| *byte == b'\n')
-        .position(|line| !is_valid_line(line))
+        .position(|line| !are_valid(fields_of(line)))
+}
+
+/// Why the lines of a text make no table: one of them is invalid, or memory ran out.
+pub(crate) fn fault_of(text: &[u8]) -> SumFault
+    ensures few { result ≢ SumFault.TooMany }
+    ensures bad { (number : ℕ) → result ≡ SumFault.BadSum number → IsFirstInvalid text.now number }
+    ensures no_memory { result ≡ SumFault.NoMemory → HasValidLines text.now }
+{
+    match first_invalid_line(text) {
+        Some(before) => SumFault::BadSum(before + 1),
+        None => SumFault::NoMemory,
+    }
 }
 
 /// The hash that a line lists for a module's go.mod.
@@ -86,13 +150,15 @@ struct ListedSum<'a> {
     hash: &'a [u8],
 }
 
-/// The hash that a line lists for a module's go.mod, or `None` if it lists none. Hashes of other kinds than
-/// `h1:` are skipped.
-fn sum_in(line: &[u8]) -> Option<ListedSum<'_>>
-    ensures some { IfSome result (λ sum. Gives (fields line.now) sum.path.now sum.version.now sum.hash.now) }
-    ensures none { IfNone result ((path version hash : List ℕ) → ¬ (Gives (fields line.now) path version hash)) }
+/// The hash that the fields of a line list for a module's go.mod, or `None` if they list none. Hashes of other kinds
+/// than `h1:` are skipped.
+fn sum_in(found: Fields<'_>) -> Option<ListedSum<'_>>
+    ensures some { (words : List (List ℕ)) → AreFields found.entry words
+        → IfSome result (λ sum. Gives words sum.path.now sum.version.now sum.hash.now) }
+    ensures none { (words : List (List ℕ)) → AreFields found.entry words
+        → IfNone result ((path version hash : List ℕ) → ¬ (Gives words path version hash)) }
 {
-    let Fields::Three(path, version, hash) = fields_of(line) else {
+    let Fields::Three(path, version, hash) = found else {
         return None;
     };
     let version = version.strip_suffix(b"/go.mod".as_slice())?;
@@ -117,23 +183,34 @@ fn line_of(alloc: Global, path: &[u8], version: &[u8], hash: &[u8]) -> Result<Su
     })
 }
 
-/// Appends the hash that a line lists for a go.mod, if it lists one. Fails only when memory runs out.
-fn push_sum(alloc: Global, sums: &mut Vec<SumLine>, line: &[u8]) -> Result<(), NoMemory>
-    ensures { OnOk result (AddsGiven (fields line.now) (map triple sums.old.items) (map triple sums.new.items)) }
+/// Appends the hash that a line lists for a go.mod, if it lists one, and tells whether the line is valid. Fails only
+/// when memory runs out.
+fn push_sum(alloc: Global, sums: &mut Vec<SumLine>, line: &[u8]) -> Result<bool, NoMemory>
+    ensures valid { IfOk result (λ valid. valid ≡ are_valid_fields (fields line.now)) }
+    ensures added { result ≡ Ok true
+        → AddsGiven (fields line.now) (map triple sums.old.items) (map triple sums.new.items) }
 {
-    if let Some(sum) = sum_in(line) {
+    let found = fields_of(line);
+    if !are_valid(found) {
+        return Ok(false);
+    }
+    if let Some(sum) = sum_in(found) {
         sums.push(line_of(alloc, sum.path, sum.version, sum.hash)?)?;
     }
-    Ok(())
+    Ok(true)
 }
 
-/// The hashes that the lines of a text list for go.mod files. Fails only when memory runs out.
-pub(crate) fn sums_of(alloc: Global, text: &[u8]) -> Result<Vec<SumLine>, NoMemory>
-    ensures { IfOk result (λ sums. HoldsSums (map triple sums.items) text.now) }
+/// The hashes that the lines of a text list for go.mod files, or `None` if a line is invalid. Fails only when memory
+/// runs out, perhaps before an invalid line is reached.
+pub(crate) fn sums_of(alloc: Global, text: &[u8]) -> Result<Option<Vec<SumLine>>, NoMemory>
+    ensures sums { IfOk result (λ found. IfSome found (λ sums. HoldsSums (map triple sums.items) text.now)) }
+    ensures valid { IfOk result (λ found. IfSome found (λ _. HasValidLines text.now)) }
 {
     let mut sums = Vec::new(alloc);
     for line in text.split(|byte| *byte == b'\n') {
-        push_sum(alloc, &mut sums, line)?;
+        if !push_sum(alloc, &mut sums, line)? {
+            return Ok(None);
+        }
     }
-    Ok(sums)
+    Ok(Some(sums))
 }

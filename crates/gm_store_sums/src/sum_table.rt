@@ -1,13 +1,14 @@
 //! The table of the hashes in a go.sum, sorted so that lookups are fast.
 
-ghost use Rattle.std.specs.Prelude.{◌≡◌, ◌<◌, ◌≤◌, ◌↔◌, ℕ, IfOk, OnOk, length, true, false};
+ghost use Rattle.std.specs.Prelude.{◌≡◌, ◌<◌, ◌≤◌, ◌↔◌, ℕ, IfOk, OnOk, length, slice_index_or, true, false};
 ghost use Rattle.std.specs.List.Sorted.{IsPartitionPoint};
 ghost use Rattle.std.specs.Ordering.{is_le, is_lt};
 ghost use Rattle.std.specs.Str.{bytes_eq};
 ghost use Rattle.gm_store_sums.specs.Order.{AreInOrder, key_cmp, triple};
+ghost use Rattle.gm_store_sums.specs.declared.sum_table.SumLine.{SumLine};
 ghost use Rattle.gm_store_sums.specs.declared.sum_table.SumFault.TheVariants.{NoMemory as OutOfMemory};
 
-use crate::sum_lines::{first_invalid_line, sums_of};
+use crate::sum_lines::{fault_of, sums_of};
 use gm_name::{ModPath, ModVersion};
 use gm_store::LIMIT;
 use std::alloc::{AllocError, Global};
@@ -85,10 +86,9 @@ impl SumTable {
         if text.len() > LIMIT {
             return Err(SumFault::TooMany);
         }
-        if let Some(before) = first_invalid_line(text) {
-            return Err(SumFault::BadSum(before + 1));
-        }
-        let mut lines = sums_of(alloc, text)?;
+        let Ok(Some(mut lines)) = sums_of(alloc, text) else {
+            return Err(fault_of(text));
+        };
         lines.sort_unstable();
         Ok(SumTable { lines })
     }
@@ -101,7 +101,7 @@ impl SumTable {
         // The lines for a path and version are adjacent and in the order of their hashes, so if the first and
         // the last have this hash, all of them do.
         let start = self.lines_before(path, version);
-        let end = self.lines_up_to(path, version);
+        let end = self.lines_up_to(path, version, start);
         if start >= end {
             return Sum::Unlisted;
         }
@@ -124,16 +124,43 @@ impl SumTable {
             .partition_point(|line| compare_key(line, path, version).is_lt())
     }
 
-    /// How many lines are before those for this path and version or among them.
-    fn lines_up_to(&self, path: &ModPath, version: &ModVersion) -> usize
+    /// How many lines are before those for this path and version or among them, if `start` lines are before them.
+    fn lines_up_to(&self, path: &ModPath, version: &ModVersion, start: usize) -> usize
+        requires within { start ≤ length self.now.lines.items }
+        requires point { IsPartitionPoint
+            (λ line. is_lt (key_cmp (triple line) (path.now, version.now)) ≡ true)
+            (λ line. is_lt (key_cmp (triple line) (path.now, version.now)) ≡ false)
+            self.now.lines.items start }
         ensures within { result ≤ length self.now.lines.items }
         ensures point { IsPartitionPoint
             (λ line. is_le (key_cmp (triple line) (path.now, version.now)) ≡ true)
             (λ line. is_le (key_cmp (triple line) (path.now, version.now)) ≡ false)
             self.now.lines.items result }
     {
+        // Most files have one line or none, so two lines are looked at before all of them are searched.
+        if !self.has_up_to(start, path, version) {
+            return start;
+        }
+        if !self.has_up_to(start + 1, path, version) {
+            return start + 1;
+        }
         self.lines
             .partition_point(|line| compare_key(line, path, version).is_le())
+    }
+
+    /// Whether the table has a line in this place, and that is for this path and version or before such lines.
+    fn has_up_to(&self, place: usize, path: &ModPath, version: &ModVersion) -> bool
+        ensures within { result ≡ true → place < length self.now.lines.items }
+        ensures up_to { (line : SumLine) → result ≡ true
+            → is_le (key_cmp (triple (slice_index_or self.now.lines.items place line)) (path.now, version.now)) ≡ true }
+        ensures after { (line : SumLine) → result ≡ false → place < length self.now.lines.items
+            → is_le (key_cmp (triple (slice_index_or self.now.lines.items place line)) (path.now, version.now))
+            ≡ false }
+    {
+        match self.lines.get(place) {
+            Some(line) => compare_key(line, path, version).is_le(),
+            None => false,
+        }
     }
 }
 

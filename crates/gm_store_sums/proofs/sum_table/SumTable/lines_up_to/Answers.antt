@@ -3,7 +3,7 @@ use borrow.Author.Tests.{tests}
 use Rattle.std.proofs.lemmas.List.Sorted.{IsPartitionPoint-from_clause}
 use Rattle.std.specs.Ordering.{is_le}
 use Rattle.gm_store_sums.specs.Order.{key_cmp, triple}
-use Rattle.gm_store_sums.proofs.Finding.{parted_up_to}
+use Rattle.gm_store_sums.proofs.Finding.{ends_after, ends_at, parted_up_to}
 use Rattle.gm_store_sums.proofs.sum_table.SumTable.lines_up_to.Goals as goal
 
 pub returns-clause-point : goal.returns-clause-point
@@ -11,3 +11,14 @@ returns-clause-point c =
     IsPartitionPoint-from_clause (λ line. is_le (key_cmp (triple line) (c.args.path.now, c.args.version.now))) c.args.self.now.lines.items _ (rw c.deref.ensures.value at c.partition_point.ensures.partitioned)
     (parted_up_to c.args.self.now.lines.items c.args.path.now c.args.version.now c.args.self.now.in_order)
     (λ a r q k. search (rules, tests))
+
+pub returns-then-not-has_up_to-clause-point : goal.returns-then-not-has_up_to-clause-point
+returns-then-not-has_up_to-clause-point c =
+    ends_at c.args.self.now.lines.items c.args.path.now c.args.version.now c.args.start c.args.self.now.in_order c.requires.point
+    (λ line. c.has_up_to.ensures.after line c.if-not-has_up_to.true)
+
+pub returns-then-not-has_up_to-2-clause-point : goal.returns-then-not-has_up_to-2-clause-point
+returns-then-not-has_up_to-2-clause-point c =
+    ends_after c.args.self.now.lines.items c.args.path.now c.args.version.now c.args.start c.args.self.now.in_order (c.has_up_to.ensures.within c.if-not-has_up_to.false)
+    (λ line. c.has_up_to.ensures.up_to line c.if-not-has_up_to.false)
+    (λ line. c.has_up_to-2.ensures.after line c.if-not-has_up_to-2.true)
