@@ -44,7 +44,7 @@ pub struct Cache<'a> {
     /// The main module's file.
     main: &'a MainFile<'a>,
     /// The go.sum, if there is one.
-    sums: Option<&'a SumTable>,
+    sums: Option<&'a SumTable<'a>>,
     /// The paths and versions that the files share.
     names: KnownNames,
     /// What was read of each file, or what is wrong with it.
@@ -128,7 +128,7 @@ impl<'a> Cache<'a> {
 
     /// An empty cache for a main file. If there is a go.sum, the files that come from proxies are checked against
     /// it.
-    pub fn new(alloc: Global, main: &'a MainFile<'a>, sums: Option<&'a SumTable>) -> Cache<'a>
+    pub fn new(alloc: Global, main: &'a MainFile<'a>, sums: Option<&'a SumTable<'a>>) -> Cache<'a>
         ensures main { main_in result ≡ main_of main.entry.now }
         ensures sums { sums_in result ≡ option_copied sums.entry }
         ensures knows { Knows result [] }

@@ -11,7 +11,7 @@ use crate::class::{Class, Misreading};
 use gm_file::{DepFile, ReadFault};
 use gm_name::{KnownNames, NoMemory};
 use gm_store::{Answer, FileName};
-use gm_store_sums::{Sum, SumTable, mod_hash};
+use gm_store_sums::{Sum, SumTable};
 use std::alloc::{AllocError, Global};
 
 /// What a file says, or what is wrong with it.
@@ -51,24 +51,14 @@ fn class_of(sum: Sum) -> Option<Class>
 }
 
 /// What a go.sum finds wrong with the bytes of a file. Only files of proxies have hashes.
-fn sum_fault(
-    alloc: Global,
-    sums: Option<&SumTable>,
-    name: &FileName,
-    content: &[u8],
-) -> Result<Option<Class>, NoMemory>
-    ensures { IfOk result (λ fault. fault ≡ sum_fault (option_copied sums.entry) (name_of name.now) content.now) }
+fn sum_fault(sums: Option<&SumTable>, name: &FileName, content: &[u8]) -> Option<Class>
+    ensures { result ≡ sum_fault (option_copied sums.entry) (name_of name.now) content.now }
 {
-    let Some(table) = sums else {
-        return Ok(None);
-    };
+    let table = sums?;
     match name {
-        FileName::Mod(path, version) => {
-            let hash = mod_hash(alloc, content)?;
-            Ok(class_of(table.check(path, version, hash.as_str())))
-        }
-        FileName::Folder(_) => Ok(None),
-        FileName::List(_) => Ok(None),
+        FileName::Mod(path, version) => class_of(table.check_content(path, version, content)),
+        FileName::Folder(_) => None,
+        FileName::List(_) => None,
     }
 }
 
@@ -107,7 +97,7 @@ pub(crate) fn read_answer(
     match answer {
         Answer::Absent => Ok(FileReading::Faulty(Class::Missing)),
         Answer::TooLong => Ok(FileReading::Faulty(Class::TooLong)),
-        Answer::Bytes(content) => match sum_fault(alloc, sums, name, content)? {
+        Answer::Bytes(content) => match sum_fault(sums, name, content) {
             Some(class) => Ok(FileReading::Faulty(class)),
             None => FileReading::of_bytes(alloc, names, content),
         },

@@ -40,11 +40,15 @@ struct Read<'a> {
     /// The main module's file.
     main: MainFile<'a>,
     /// The hashes of the go.sum, or `None` if no go.sum is given.
-    table: Option<SumTable>,
+    table: Option<SumTable<'a>>,
 }
 
 /// Both files. It stops with the report of the first invalid one. The main module's file is read first.
-fn read_files<'a>(alloc: Global, file: &'a [u8], sums: Option<&[u8]>) -> Result<Read<'a>, Stop>
+fn read_files<'a>(
+    alloc: Global,
+    file: &'a [u8],
+    sums: Option<&'a [u8]>,
+) -> Result<Read<'a>, Stop>
     ensures { MatchResult result
         (λ both. FilesReadAs file.now (option_copied sums.entry) (main_of both.main) both.table)
         (StopsWith (IsRefusedRead file.now (option_copied sums.entry))) }

@@ -32,7 +32,10 @@ pub fn main_file<'a>(alloc: Global, bytes: &'a [u8]) -> Result<MainFile<'a>, Sto
 
 /// The table of a go.sum, or `None` if no go.sum is given. It stops with a report exactly if the bytes are
 /// invalid, unless memory runs out.
-pub(crate) fn sum_table(alloc: Global, sums: Option<&[u8]>) -> Result<Option<SumTable>, Stop>
+pub(crate) fn sum_table<'a>(
+    alloc: Global,
+    sums: Option<&'a [u8]>,
+) -> Result<Option<SumTable<'a>>, Stop>
     ensures { MatchResult result
         (λ table. AreSums (option_copied sums.entry) table)
         (StopsWith (λ outcome. (report : List ℕ) × AreInvalidSums (option_copied sums.entry) report

@@ -39,17 +39,17 @@ shorter Equal Greater c e = refl
 shorter Equal Equal c e = refl
 
 place_of : SumLine → Place
-place_of line = (line.path.items, line.version.items)
+place_of line = (line.path.now, line.version.now)
 
 -- lines in ascending order are in the order of their paths and versions
-shorter_lines : (x y : SumLine) → is_lt (line_cmp (triple x) (triple y)) ≡ false → is_lt (ordering_then (slice_cmp nat_cmp x.path.items y.path.items) (slice_cmp nat_cmp x.version.items y.version.items)) ≡ false
-shorter_lines x y e = shorter (slice_cmp nat_cmp x.path.items y.path.items) (slice_cmp nat_cmp x.version.items y.version.items) (slice_cmp nat_cmp x.hash.items y.hash.items) e
+shorter_lines : (x y : SumLine) → is_lt (line_cmp (triple x) (triple y)) ≡ false → is_lt (ordering_then (slice_cmp nat_cmp x.path.now y.path.now) (slice_cmp nat_cmp x.version.now y.version.now)) ≡ false
+shorter_lines x y e = shorter (slice_cmp nat_cmp x.path.now y.path.now) (slice_cmp nat_cmp x.version.now y.version.now) (slice_cmp nat_cmp x.hash.now y.hash.now) e
 
-by_key : (lines : List SumLine) → AreInOrder lines → IsSortedBy (λ x y. is_lt (ordering_then (slice_cmp nat_cmp x.path.items y.path.items) (slice_cmp nat_cmp x.version.items y.version.items))) lines
+by_key : (lines : List SumLine) → AreInOrder lines → IsSortedBy (λ x y. is_lt (ordering_then (slice_cmp nat_cmp x.path.now y.path.now) (slice_cmp nat_cmp x.version.now y.version.now))) lines
 by_key lines order = λ k d low high. shorter_lines (slice_index_or lines (k + 1) d) (slice_index_or lines k d) (order k d low high)
 
 rising : (lines : List SumLine) (path version : List ℕ) → AreInOrder lines → IsNonDecreasingBy (λ line. ordering_index (key_cmp (triple line) (path, version))) lines
-rising lines path version order = searchable_from_sorted key_total (λ line. (line.path.items, line.version.items)) lines (path, version) (by_key lines order)
+rising lines path version order = searchable_from_sorted key_total (λ line. (line.path.now, line.version.now)) lines (path, version) (by_key lines order)
 
 less_down : (a b : Ordering) → ordering_index a ≤ ordering_index b → is_lt b ≡ true → is_lt a ≡ true
 less_down Less b le e = refl
@@ -204,7 +204,7 @@ module _ (lines : List SumLine) (path version hash : List ℕ) (start end : ℕ)
       cc never)
 
   -- a line for the path and version with another hash
-  pub differs : (first y : SumLine) (k : ℕ) → slice_index_or lines start first ≡ first → slice_index_or lines k y ≡ y → start ≤ k → k < end → bytes_eq y.hash.items hash ≡ false → Differs ≡ (if not (list_any (is_line_for path version) (map triple lines)) then Unlisted else (if list_any (is_other_hash path version hash) (map triple lines) then Differs else Good))
+  pub differs : (first y : SumLine) (k : ℕ) → slice_index_or lines start first ≡ first → slice_index_or lines k y ≡ y → start ≤ k → k < end → bytes_eq y.hash.now hash ≡ false → Differs ≡ (if not (list_any (is_line_for path version) (map triple lines)) then Unlisted else (if list_any (is_other_hash path version hash) (map triple lines) then Differs else Good))
   differs first y k is_first is low high other =
       let found : list_any (is_other_hash path version hash) (map triple lines) ≡ true = any_map (is_other_hash path version hash) triple lines ∙ never_false _ (λ e.
       let none = any_none (λ line. is_other_hash path version hash (triple line)) lines e y (k, omega arith, is) in
@@ -213,17 +213,17 @@ module _ (lines : List SumLine) (path version hash : List ℕ) (start end : ℕ)
       cc never) in
       sym (ap (λ b. if not b then Unlisted else (if list_any (is_other_hash path version hash) (map triple lines) then Differs else Good)) (listed first is_first (omega arith)) ∙ ap (λ b. if b then Differs else Good) found)
 
-  whole : (y : SumLine) → is_line_for path version (triple y) ≡ true → bytes_eq y.hash.items hash ≡ true → triple y ≡ (path, version, hash)
-  whole y for same = line_for path version (triple y) for ∙ ap (λ h. (path, version, h)) ((bytes_eq-Decides y.hash.items hash).0 same)
+  whole : (y : SumLine) → is_line_for path version (triple y) ≡ true → bytes_eq y.hash.now hash ≡ true → triple y ≡ (path, version, hash)
+  whole y for same = line_for path version (triple y) for ∙ ap (λ h. (path, version, h)) ((bytes_eq-Decides y.hash.now hash).0 same)
 
   -- between two lines with this hash there is no other
-  pub good : (first last : SumLine) → AreInOrder lines → start < end → slice_index_or lines start first ≡ first → slice_index_or lines (end - 1) last ≡ last → bytes_eq first.hash.items hash ≡ true → bytes_eq last.hash.items hash ≡ true → Good ≡ (if not (list_any (is_line_for path version) (map triple lines)) then Unlisted else (if list_any (is_other_hash path version hash) (map triple lines) then Differs else Good))
+  pub good : (first last : SumLine) → AreInOrder lines → start < end → slice_index_or lines start first ≡ first → slice_index_or lines (end - 1) last ≡ last → bytes_eq first.hash.now hash ≡ true → bytes_eq last.hash.now hash ≡ true → Good ≡ (if not (list_any (is_line_for path version) (map triple lines)) then Unlisted else (if list_any (is_other_hash path version hash) (map triple lines) then Differs else Good))
   good first last order some is_first is_last same_first same_last =
       let first_is : triple first ≡ (path, version, hash) = whole first (stands_for first start is_first (omega arith) some) same_first in
       let last_is : triple last ≡ (path, version, hash) = whole last (stands_for last (end - 1) is_last (omega arith) (omega arith)) same_last in
       let none : list_any (is_other_hash path version hash) (map triple lines) ≡ false = any_map (is_other_hash path version hash) triple lines ∙ never_true _ (λ e.
       let y = any_found (λ line. is_other_hash path version hash (triple line)) lines e in
-      let for = first_so (is_line_for path version (triple y.0)) (not (bytes_eq y.0.hash.items hash)) y.2 in
+      let for = first_so (is_line_for path version (triple y.0)) (not (bytes_eq y.0.hash.now hash)) y.2 in
       let k = found_at y.0 y.1 for in
       let low = k.1 in
       let high = k.2 in
@@ -232,6 +232,6 @@ module _ (lines : List SumLine) (path version hash : List ℕ) (start end : ℕ)
       let up : is_lt (line_cmp (triple y.0) (triple first)) ≡ false = ap2 (λ a b. is_lt (line_cmp (triple a) (triple b))) (sym k.3) (sym at_first) ∙ sorted_far (λ x y. is_lt (line_cmp (triple x) (triple y))) (ranks_by line_total triple) lines order start k.0 y.0 low (omega arith) in
       let down : is_lt (line_cmp (triple last) (triple y.0)) ≡ false = ap2 (λ a b. is_lt (line_cmp (triple a) (triple b))) (sym at_last) (sym k.3) ∙ sorted_far (λ x y. is_lt (line_cmp (triple x) (triple y))) (ranks_by line_total triple) lines order k.0 (end - 1) y.0 (omega arith) (omega arith) in
       let even : line_cmp (triple y.0) (path, version, hash) ≡ Equal = neither _ _ (line_total.antisymm (triple y.0) (path, version, hash)) (ap (λ t. is_lt (line_cmp (triple y.0) t)) (sym first_is) ∙ up) (ap (λ t. is_lt (line_cmp t (triple y.0))) (sym last_is) ∙ down) in
-      let hash_even : slice_cmp nat_cmp y.0.hash.items hash ≡ Equal = then_second (slice_cmp nat_cmp y.0.version.items version) _ (then_second (slice_cmp nat_cmp y.0.path.items path) _ even) in
-      other_apart path version hash (triple y.0) y.2 (same_texts y.0.hash.items hash hash_even)) in
+      let hash_even : slice_cmp nat_cmp y.0.hash.now hash ≡ Equal = then_second (slice_cmp nat_cmp y.0.version.now version) _ (then_second (slice_cmp nat_cmp y.0.path.now path) _ even) in
+      other_apart path version hash (triple y.0) y.2 (same_texts y.0.hash.now hash hash_even)) in
       sym (ap (λ b. if not b then Unlisted else (if list_any (is_other_hash path version hash) (map triple lines) then Differs else Good)) (listed first is_first some) ∙ ap (λ b. if b then Differs else Good) none)

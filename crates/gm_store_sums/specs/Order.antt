@@ -8,7 +8,7 @@ use Rattle.gm_store_sums.specs.declared.sum_table.SumLine.{SumLine}
 
 -- path, version and hash of a line
 abbrev pub triple : SumLine → List ℕ × List ℕ × List ℕ
-triple line = (line.path.items, line.version.items, line.hash.items)
+triple line = (line.path.now, line.version.now, line.hash.now)
 
 -- the order of lines by path, version and hash, and the order by path and version alone, in which the lines for
 -- one file are adjacent

@@ -46,6 +46,25 @@ fn text_of(alloc: Global, digest: &[u8]) -> Result<String, NoMemory>
     Ok(hash)
 }
 
+/// `h1:` and a digest in base64, as bytes.
+fn bytes_of(digest: &[u8; 32]) -> [u8; HASH_LEN]
+    ensures { result ≡ codes "h1:" ++ encode_of standard digest.now }
+{
+    let mut hash = [0u8; HASH_LEN];
+    hash[..3].copy_from_slice(b"h1:".as_slice());
+    let Ok(_) = STANDARD.encode_slice(digest.as_slice(), &mut hash[3..]) else {
+        unreachable!();
+    };
+    hash
+}
+
+/// The bytes of the hash of the go.mod of a module with these bytes, as `mod_hash` returns it. Takes no memory.
+pub(crate) fn hash_bytes(content: &[u8]) -> [u8; HASH_LEN]
+    ensures { result ≡ file_hash content.now }
+{
+    bytes_of(&summary_digest(content))
+}
+
 /// The hash of the go.mod of a module with these bytes, in the form of a go.sum: `h1:` and the standard base64, with
 /// padding, of the SHA-256 of a line; the line is the SHA-256 of the bytes in lower-case hexadecimal, two spaces and
 /// `go.mod` (Go Modules Reference, go.sum files; FIPS 180-4; RFC 4648). Fails only when memory runs out.

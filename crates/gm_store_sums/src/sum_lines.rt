@@ -139,20 +139,9 @@ pub(crate) fn fault_of(text: &[u8]) -> SumFault
     }
 }
 
-/// The hash that a line lists for a module's go.mod.
-#[derive(Clone, Copy)]
-struct ListedSum<'a> {
-    /// The module's path.
-    path: &'a [u8],
-    /// The module's version, without `/go.mod`.
-    version: &'a [u8],
-    /// The hash, with its `h1:`.
-    hash: &'a [u8],
-}
-
 /// The hash that the fields of a line list for a module's go.mod, or `None` if they list none. Hashes of other kinds
 /// than `h1:` are skipped.
-fn sum_in(found: Fields<'_>) -> Option<ListedSum<'_>>
+fn sum_in(found: Fields<'_>) -> Option<SumLine<'_>>
     ensures some { (words : List (List ℕ)) → AreFields found.entry words
         → IfSome result (λ sum. Gives words sum.path.now sum.version.now sum.hash.now) }
     ensures none { (words : List (List ℕ)) → AreFields found.entry words
@@ -165,27 +154,16 @@ fn sum_in(found: Fields<'_>) -> Option<ListedSum<'_>>
     if !hash.starts_with(b"h1:") {
         return None;
     }
-    Some(ListedSum {
+    Some(SumLine {
         path,
         version,
         hash,
     })
 }
 
-/// The line of a table with these fields. Fails only when memory runs out.
-fn line_of(alloc: Global, path: &[u8], version: &[u8], hash: &[u8]) -> Result<SumLine, NoMemory>
-    ensures { IfOk result (λ line. triple line ≡ (path.now, version.now, hash.now)) }
-{
-    Ok(SumLine {
-        path: Vec::from_slice(alloc, path)?,
-        version: Vec::from_slice(alloc, version)?,
-        hash: Vec::from_slice(alloc, hash)?,
-    })
-}
-
 /// Appends the hash that a line lists for a go.mod, if it lists one, and tells whether the line is valid. Fails only
 /// when memory runs out.
-fn push_sum(alloc: Global, sums: &mut Vec<SumLine>, line: &[u8]) -> Result<bool, NoMemory>
+fn push_sum<'a>(sums: &mut Vec<SumLine<'a>>, line: &'a [u8]) -> Result<bool, NoMemory>
     ensures valid { IfOk result (λ valid. valid ≡ are_valid_fields (fields line.now)) }
     ensures added { result ≡ Ok true
         → AddsGiven (fields line.now) (map triple sums.old.items) (map triple sums.new.items) }
@@ -195,20 +173,20 @@ fn push_sum(alloc: Global, sums: &mut Vec<SumLine>, line: &[u8]) -> Result<bool,
         return Ok(false);
     }
     if let Some(sum) = sum_in(found) {
-        sums.push(line_of(alloc, sum.path, sum.version, sum.hash)?)?;
+        sums.push(sum)?;
     }
     Ok(true)
 }
 
 /// The hashes that the lines of a text list for go.mod files, or `None` if a line is invalid. Fails only when memory
 /// runs out, perhaps before an invalid line is reached.
-pub(crate) fn sums_of(alloc: Global, text: &[u8]) -> Result<Option<Vec<SumLine>>, NoMemory>
+pub(crate) fn sums_of(alloc: Global, text: &[u8]) -> Result<Option<Vec<SumLine<'_>>>, NoMemory>
     ensures sums { IfOk result (λ found. IfSome found (λ sums. HoldsSums (map triple sums.items) text.now)) }
     ensures valid { IfOk result (λ found. IfSome found (λ _. HasValidLines text.now)) }
 {
     let mut sums = Vec::new(alloc);
     for line in text.split(|byte| *byte == b'\n') {
-        if !push_sum(alloc, &mut sums, line)? {
+        if !push_sum(&mut sums, line)? {
             return Ok(None);
         }
     }

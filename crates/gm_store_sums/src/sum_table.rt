@@ -4,10 +4,12 @@ ghost use Rattle.std.specs.Prelude.{◌≡◌, ◌<◌, ◌≤◌, ◌↔◌, �
 ghost use Rattle.std.specs.List.Sorted.{IsPartitionPoint};
 ghost use Rattle.std.specs.Ordering.{is_le, is_lt};
 ghost use Rattle.std.specs.Str.{bytes_eq};
+ghost use Rattle.gm_store_sums.specs.Hash.{file_hash};
 ghost use Rattle.gm_store_sums.specs.Order.{AreInOrder, key_cmp, triple};
 ghost use Rattle.gm_store_sums.specs.declared.sum_table.SumLine.{SumLine};
 ghost use Rattle.gm_store_sums.specs.declared.sum_table.SumFault.TheVariants.{NoMemory as OutOfMemory};
 
+use crate::hashing::hash_bytes;
 use crate::sum_lines::{fault_of, sums_of};
 use gm_name::{ModPath, ModVersion};
 use gm_store::LIMIT;
@@ -48,26 +50,26 @@ pub enum Sum {
     Differs,
 }
 
-/// A line of a table: the hash of the go.mod of a module at a version.
-#[derive(Debug, Drop, PartialEq, Eq, PartialOrd, Ord)]
-pub struct SumLine {
+/// A line of a table: the hash of the go.mod of a module at a version. Its texts stand in the go.sum.
+#[derive(Clone, Copy, Debug, PartialEq, Eq, PartialOrd, Ord)]
+pub struct SumLine<'a> {
     /// The module's path.
-    pub path: Vec<u8>,
+    pub path: &'a [u8],
     /// The module's version, without `/go.mod`.
-    pub version: Vec<u8>,
+    pub version: &'a [u8],
     /// The hash, with its `h1:`.
-    pub hash: Vec<u8>,
+    pub hash: &'a [u8],
 }
 
-/// The hashes of go.mod files that a go.sum lists.
+/// The hashes of go.mod files that a go.sum lists. It borrows from the bytes of the go.sum.
 #[derive(Debug, Drop)]
-pub struct SumTable {
+pub struct SumTable<'a> {
     /// The lines in the order of their paths, versions and hashes.
-    pub(crate) lines: Vec<SumLine>,
+    pub(crate) lines: Vec<SumLine<'a>>,
     ghost in_order: { AreInOrder lines.items },
 }
 
-impl SumTable {
+impl<'a> SumTable<'a> {
     ghost use Rattle.gm_store_sums.specs.Sums.{HasValidLines, IsFirstInvalid, ReadsAs, check_in};
 
     /// The table of a go.sum (Go Modules Reference, go.sum files). Blank lines are skipped, and so are the
@@ -76,7 +78,7 @@ impl SumTable {
     /// `TooMany` exactly when the text has more than `LIMIT` bytes, whatever its lines. Otherwise `BadSum` with
     /// the number of the first line that is neither blank nor three fields of UTF-8. `NoMemory` only if the
     /// text has neither fault.
-    pub fn read(alloc: Global, text: &[u8]) -> Result<SumTable, SumFault>
+    pub fn read(alloc: Global, text: &'a [u8]) -> Result<SumTable<'a>, SumFault>
         ensures ok { IfOk result (λ table. ReadsAs table text.now) }
         ensures good { OnOk result (HasValidLines text.now) }
         ensures too_many { (result ≡ Err SumFault.TooMany) ↔ (LIMIT < length text.now) }
@@ -96,6 +98,21 @@ impl SumTable {
     /// What the table says about this hash of the go.mod of a module at a version. Allocates no memory, and
     /// takes time logarithmic in the number of lines.
     pub fn check(&self, path: &ModPath, version: &ModVersion, hash: &str) -> Sum
+        ensures { result ≡ check_in self.now path.now version.now hash.now }
+    {
+        self.find(path, version, hash.as_bytes())
+    }
+
+    /// What the table says about the go.mod of a module at a version if these are its bytes: what `check` says about
+    /// their `mod_hash`. Allocates no memory.
+    pub fn check_content(&self, path: &ModPath, version: &ModVersion, content: &[u8]) -> Sum
+        ensures { result ≡ check_in self.now path.now version.now (file_hash content.now) }
+    {
+        self.find(path, version, hash_bytes(content).as_slice())
+    }
+
+    /// What the table says about this hash of the go.mod of a module at a version.
+    fn find(&self, path: &ModPath, version: &ModVersion, hash: &[u8]) -> Sum
         ensures { result ≡ check_in self.now path.now version.now hash.now }
     {
         // The lines for a path and version are adjacent and in the order of their hashes, so if the first and
@@ -165,16 +182,17 @@ impl SumTable {
 }
 
 /// Compares the path and version of a line with these.
-fn compare_key(line: &SumLine, path: &ModPath, version: &ModVersion) -> Ordering
+fn compare_key(line: &SumLine<'_>, path: &ModPath, version: &ModVersion) -> Ordering
     ensures { result ≡ key_cmp (triple line.now) (path.now, version.now) }
 {
-    let by_path = line.path.as_slice().cmp(path.as_str().as_bytes());
-    by_path.then_with(|| line.version.as_slice().cmp(version.as_str().as_bytes()))
+    let listed = line.version;
+    let by_path = line.path.cmp(path.as_str().as_bytes());
+    by_path.then_with(|| listed.cmp(version.as_str().as_bytes()))
 }
 
 /// Whether a line has this hash.
-fn has_hash(line: &SumLine, hash: &str) -> bool
-    ensures { result ≡ bytes_eq line.now.hash.items hash.now }
+fn has_hash(line: &SumLine<'_>, hash: &[u8]) -> bool
+    ensures { result ≡ bytes_eq line.now.hash.now hash.now }
 {
-    line.hash.as_slice() == hash.as_bytes()
+    line.hash == hash
 }

@@ -1,7 +1,7 @@
 use Rattle.std.proofs.Common.{◌-◌, sym, arith, ◌∙◌}
 use Rattle.gm_store_sums.proofs.Finding.{differs, good, unlisted}
-use Rattle.gm_store_sums.proofs.sum_table.SumTable.check.Goals.{else-has_hash-via-then-has_hash+else-has_hash-2, else-has_hash-via-else-has_hash}
-use Rattle.gm_store_sums.proofs.sum_table.SumTable.check.Goals as goal
+use Rattle.gm_store_sums.proofs.sum_table.SumTable.find.Goals.{else-has_hash-via-then-has_hash+else-has_hash-2, else-has_hash-via-else-has_hash}
+use Rattle.gm_store_sums.proofs.sum_table.SumTable.find.Goals as goal
 
 pub returns-then-start-end : goal.returns-then-start-end
 returns-then-start-end c =
