@@ -139,21 +139,30 @@ parted_at test xs end parted before fails = (
       cc never),
 )
 
--- where lines up to a path and version end: in front of the first line, or after it
+-- a line that is not below a path and version, and not for them, is above them
+above : (path version : List ℕ) (t : Triple) → is_lt (key_cmp t (path, version)) ≡ false → is_line_for path version t ≡ false → is_le (key_cmp t (path, version)) ≡ false
+above path version t low other = never_true _ (λ e.
+    let never : false ≡ true = sym other ∙ is_at path version t low e in
+    cc never)
+
+-- where the lines for a path and version end: in front of the first line that is not below them, or after it
 pub ends_at : (lines : List SumLine) (path version : List ℕ) (start : ℕ) → AreInOrder lines
     → IsPartitionPoint (λ line. is_lt (key_cmp (triple line) (path, version)) ≡ true) (λ line. is_lt (key_cmp (triple line) (path, version)) ≡ false) lines start
-    → ((d : SumLine) → start < length lines → is_le (key_cmp (triple (slice_index_or lines start d)) (path, version)) ≡ false)
+    → ((d : SumLine) → start < length lines → false ≡ is_line_for path version (triple (slice_index_or lines start d)))
     → IsPartitionPoint (λ line. is_le (key_cmp (triple line) (path, version)) ≡ true) (λ line. is_le (key_cmp (triple line) (path, version)) ≡ false) lines start
-ends_at lines path version start order before fails =
-    parted_at (λ line. is_le (key_cmp (triple line) (path, version))) lines start (parted_up_to lines path version order) (λ k d low high. less_is_le _ (before.0 k d low high)) fails
+ends_at lines path version start order before other =
+    parted_at (λ line. is_le (key_cmp (triple line) (path, version))) lines start (parted_up_to lines path version order) (λ k d low high. less_is_le _ (before.0 k d low high))
+    (λ d within. above path version (triple (slice_index_or lines start d)) (before.1 start d (omega arith) within) (sym (other d within)))
 
-pub ends_after : (lines : List SumLine) (path version : List ℕ) (start : ℕ) → AreInOrder lines → start < length lines
-    → ((d : SumLine) → is_le (key_cmp (triple (slice_index_or lines start d)) (path, version)) ≡ true)
-    → ((d : SumLine) → start + 1 < length lines → is_le (key_cmp (triple (slice_index_or lines (start + 1) d)) (path, version)) ≡ false)
+pub ends_after : (lines : List SumLine) (path version : List ℕ) (start : ℕ) → AreInOrder lines
+    → IsPartitionPoint (λ line. is_lt (key_cmp (triple line) (path, version)) ≡ true) (λ line. is_lt (key_cmp (triple line) (path, version)) ≡ false) lines start → start < length lines
+    → ((d : SumLine) → true ≡ is_line_for path version (triple (slice_index_or lines start d)))
+    → ((d : SumLine) → start + 1 < length lines → false ≡ is_line_for path version (triple (slice_index_or lines (start + 1) d)))
     → IsPartitionPoint (λ line. is_le (key_cmp (triple line) (path, version)) ≡ true) (λ line. is_le (key_cmp (triple line) (path, version)) ≡ false) lines (start + 1)
-ends_after lines path version start order some passes fails =
+ends_after lines path version start order before some here other =
     parted_at (λ line. is_le (key_cmp (triple line) (path, version))) lines (start + 1) (parted_up_to lines path version order)
-    (λ k d low high. parted_up_to lines path version order k start d (omega arith) some (passes d)) fails
+    (λ k d low high. parted_up_to lines path version order k start d (omega arith) some (ap is_le (even_at path version (triple (slice_index_or lines start d)) (sym (here d)))))
+    (λ d within. above path version (triple (slice_index_or lines (start + 1) d)) (before.1 (start + 1) d (omega arith) within) (sym (other d within)))
 
 module _ (lines : List SumLine) (path version hash : List ℕ) (start end : ℕ)
     (before : IsPartitionPoint (λ line. is_lt (key_cmp (triple line) (path, version)) ≡ true) (λ line. is_lt (key_cmp (triple line) (path, version)) ≡ false) lines start)

@@ -70,7 +70,7 @@ pub struct SumTable<'a> {
 }
 
 impl<'a> SumTable<'a> {
-    ghost use Rattle.gm_store_sums.specs.Sums.{HasValidLines, IsFirstInvalid, ReadsAs, check_in};
+    ghost use Rattle.gm_store_sums.specs.Sums.{HasValidLines, IsFirstInvalid, ReadsAs, check_in, is_line_for};
 
     /// The table of a go.sum (Go Modules Reference, go.sum files). Blank lines are skipped, and so are the
     /// hashes of whole modules and those that don't begin with `h1:`.
@@ -155,27 +155,27 @@ impl<'a> SumTable<'a> {
             self.now.lines.items result }
     {
         // Most files have one line or none, so two lines are looked at before all of them are searched.
-        if !self.has_up_to(start, path, version) {
+        if !self.is_for(start, path, version) {
             return start;
         }
-        if !self.has_up_to(start + 1, path, version) {
+        if !self.is_for(start + 1, path, version) {
             return start + 1;
         }
         self.lines
             .partition_point(|line| compare_key(line, path, version).is_le())
     }
 
-    /// Whether the table has a line in this place, and that is for this path and version or before such lines.
-    fn has_up_to(&self, place: usize, path: &ModPath, version: &ModVersion) -> bool
+    /// Whether the table has a line for this path and version in this place.
+    fn is_for(&self, place: usize, path: &ModPath, version: &ModVersion) -> bool
         ensures within { result ≡ true → place < length self.now.lines.items }
-        ensures up_to { (line : SumLine) → result ≡ true
-            → is_le (key_cmp (triple (slice_index_or self.now.lines.items place line)) (path.now, version.now)) ≡ true }
-        ensures after { (line : SumLine) → result ≡ false → place < length self.now.lines.items
-            → is_le (key_cmp (triple (slice_index_or self.now.lines.items place line)) (path.now, version.now))
-            ≡ false }
+        ensures same { (line : SumLine) → place < length self.now.lines.items → result
+            ≡ is_line_for path.now version.now (triple (slice_index_or self.now.lines.items place line)) }
     {
         match self.lines.get(place) {
-            Some(line) => compare_key(line, path, version).is_le(),
+            // Lines of one path stand together, so it is the version that tells them apart.
+            Some(line) => {
+                line.version == version.as_str().as_bytes() && line.path == path.as_str().as_bytes()
+            }
             None => false,
         }
     }

@@ -1,4 +1,4 @@
-use Rattle.std.proofs.Common.{rules}
+use Rattle.std.proofs.Common.{◌∙◌, rules, sym}
 use borrow.Author.Tests.{tests}
 use Rattle.std.proofs.lemmas.List.Sorted.{IsPartitionPoint-from_clause}
 use Rattle.std.specs.Ordering.{is_le}
@@ -12,13 +12,13 @@ returns-clause-point c =
     (parted_up_to c.args.self.now.lines.items c.args.path.now c.args.version.now c.args.self.now.in_order)
     (λ a r q k. search (rules, tests))
 
-pub returns-then-not-has_up_to-clause-point : goal.returns-then-not-has_up_to-clause-point
-returns-then-not-has_up_to-clause-point c =
+pub returns-then-not-is_for-clause-point : goal.returns-then-not-is_for-clause-point
+returns-then-not-is_for-clause-point c =
     ends_at c.args.self.now.lines.items c.args.path.now c.args.version.now c.args.start c.args.self.now.in_order c.requires.point
-    (λ line. c.has_up_to.ensures.after line c.if-not-has_up_to.true)
+    (λ line within. sym c.if-not-is_for.true ∙ c.is_for.ensures.same line within)
 
-pub returns-then-not-has_up_to-2-clause-point : goal.returns-then-not-has_up_to-2-clause-point
-returns-then-not-has_up_to-2-clause-point c =
-    ends_after c.args.self.now.lines.items c.args.path.now c.args.version.now c.args.start c.args.self.now.in_order (c.has_up_to.ensures.within c.if-not-has_up_to.false)
-    (λ line. c.has_up_to.ensures.up_to line c.if-not-has_up_to.false)
-    (λ line. c.has_up_to-2.ensures.after line c.if-not-has_up_to-2.true)
+pub returns-then-not-is_for-2-clause-point : goal.returns-then-not-is_for-2-clause-point
+returns-then-not-is_for-2-clause-point c =
+    ends_after c.args.self.now.lines.items c.args.path.now c.args.version.now c.args.start c.args.self.now.in_order c.requires.point (c.is_for.ensures.within c.if-not-is_for.false)
+    (λ line. sym c.if-not-is_for.false ∙ c.is_for.ensures.same line (c.is_for.ensures.within c.if-not-is_for.false))
+    (λ line within. sym c.if-not-is_for-2.true ∙ c.is_for-2.ensures.same line within)
