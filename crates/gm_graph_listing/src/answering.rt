@@ -44,11 +44,7 @@ struct Read<'a> {
 }
 
 /// Both files. It stops with the report of the first invalid one. The main module's file is read first.
-fn read_files<'a>(
-    alloc: Global,
-    file: &'a [u8],
-    sums: Option<&'a [u8]>,
-) -> Result<Read<'a>, Stop>
+fn read_files<'a>(alloc: Global, file: &'a [u8], sums: Option<&'a [u8]>) -> Result<Read<'a>, Stop>
     ensures { MatchResult result
         (λ both. FilesReadAs file.now (option_copied sums.entry) (main_of both.main) both.table)
         (StopsWith (IsRefusedRead file.now (option_copied sums.entry))) }
