@@ -4,14 +4,15 @@ ghost use Rattle.std.specs.Prelude.{IfOk};
 ghost use Rattle.gm_store.specs.Asked.{IsWithinLimit};
 ghost use Rattle.gm_store.specs.Steps.{reply_in, result_of};
 
+use crate::buffers::Buffers;
 use crate::fallback_step::Looked;
 use crate::fallback_store::FallbackStore;
 use crate::fallback_walk::Folders;
 use crate::files::FileName;
-use crate::lookup_paths::lookup_path;
+use crate::lookup_paths::set_lookup_path;
 use crate::lookup_result::{open_error_result, read_result};
 use crate::proxy_list::ProxyList;
-use crate::reading::read_limited;
+use crate::reading::read_by_pieces;
 use gm_name::NoMemory;
 use std::alloc::Global;
 use std::{fs, rt};
@@ -21,7 +22,7 @@ use std::{fs, rt};
 pub struct FoldersOnDisk<R: rt::Files> {
     /// The file system.
     system: R,
-    /// The allocator for paths and for the bytes of files.
+    /// The allocator for the bytes of files.
     alloc: Global,
     /// The main file's folder.
     main: String,
@@ -72,20 +73,31 @@ impl<R: rt::Files> Folders for FoldersOnDisk<R> {
 
     ghost may_find = { λ _ _ _ _. Unit {0} };
 
-    fn look(&self, folder: usize, name: &FileName) -> Result<Looked, NoMemory> {
-        let place = lookup_path(self.alloc, self.main.as_str(), &self.proxies, folder, name)?;
-        open_and_read(&self.system, self.alloc, place.as_str())
+    fn look(
+        &self,
+        buffers: &mut Buffers,
+        folder: usize,
+        name: &FileName,
+    ) -> Result<Looked, NoMemory> {
+        let place = &mut buffers.path;
+        set_lookup_path(place, self.main.as_str(), &self.proxies, folder, name)?;
+        open_and_read(&self.system, self.alloc, place.as_str(), &mut buffers.piece)
     }
 }
 
-/// Opens the file at a path and reads it, at most `LIMIT + 1` bytes.
+/// Opens the file at a path and reads it by pieces into `piece`, at most `LIMIT + 1` bytes.
 ///
 /// System errors are part of the result; the only refusal is `NoMemory`.
-fn open_and_read<R: rt::Files>(system: &R, alloc: Global, place: &str) -> Result<Looked, NoMemory>
+fn open_and_read<R: rt::Files>(
+    system: &R,
+    alloc: Global,
+    place: &str,
+    piece: &mut Vec<u8>,
+) -> Result<Looked, NoMemory>
     ensures within_limit { IfOk result (λ looked. IsWithinLimit (reply_in (result_of looked))) }
 {
     match fs::open(system, place) {
-        Ok(mut file) => read_result(read_limited(alloc, &mut file)),
+        Ok(mut file) => read_result(read_by_pieces(alloc, &mut file, piece)),
         Err(error) => open_error_result(error.kind()),
     }
 }

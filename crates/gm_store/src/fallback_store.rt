@@ -7,6 +7,7 @@ ghost use Rattle.std.specs.Prelude.{◌<◌, length};
 ghost use Rattle.gm_store.specs.Asked.{Name};
 ghost use Rattle.gm_store.specs.FolderLookups.{marks_for};
 
+use crate::buffers::Buffers;
 use crate::fallback_walk::{Folders, walk};
 use crate::files::{Answer, AskFault, Asked, FileName, Files};
 use crate::folders_in_memory::marks_for;
@@ -25,6 +26,8 @@ pub struct FallbackStore<F: Folders> {
     pub(crate) alloc: Global,
     /// The folders.
     pub(crate) folders: F,
+    /// The buffers for look-ups.
+    pub(crate) buffers: Buffers,
     /// The marks between the proxy folders, one fewer than these.
     pub(crate) marks: Vec<Mark>,
     /// The answered requests, in order.
@@ -56,6 +59,7 @@ impl<F: Folders> FallbackStore<F> {
         FallbackStore {
             alloc,
             folders,
+            buffers: Buffers::new(alloc),
             marks,
             asked: Vec::new(alloc),
             refused: Vec::new(alloc),
@@ -114,7 +118,13 @@ impl<F: Folders> Files for FallbackStore<F> {
         // This read puts the count's range into the proof, also for the early return when memory runs out.
         let _faults = self.faults;
         let marks = marks_for(name, &self.marks);
-        let outcome = walk(&self.folders, marks, name, &mut self.faults)?;
+        let outcome = walk(
+            &self.folders,
+            &mut self.buffers,
+            marks,
+            name,
+            &mut self.faults,
+        )?;
         match outcome {
             Some(answer) => {
                 keep_answer(self.alloc, &mut self.asked, name, answer)?;

@@ -10,6 +10,7 @@ ghost use Rattle.gm_store.specs.Faults.{HasCountedFailure};
 ghost use Rattle.gm_store.specs.Steps.{HasCounted, HasFallenBack, MayStop, counted_up, has_failed, outcome_of, reply_in, result_of, step_of};
 ghost use Rattle.gm_store.specs.declared.files.AskFault.TheVariants as ask_fault;
 
+use crate::buffers::Buffers;
 use crate::fallback_step::{Looked, Next, step};
 use crate::files::{Answer, AskFault, FileName};
 use crate::proxy_list::Mark;
@@ -27,11 +28,16 @@ pub trait Folders {
     /// is possible.
     ghost may_find: { Self → ℕ → Name → Seen → Type 0 };
 
-    /// Looks up a name in folder number `folder`, counted from 0.
+    /// Looks up a name in folder number `folder`, counted from 0. Only folders of a file system use the buffers.
     ///
     /// A device failure is a result, `Looked::Failed`, since the fallback may continue after it. The only refusal
     /// is `NoMemory`.
-    fn look(&self, folder: usize, name: &FileName) -> Result<Looked, NoMemory>
+    fn look(
+        &self,
+        buffers: &mut Buffers,
+        folder: usize,
+        name: &FileName,
+    ) -> Result<Looked, NoMemory>
         requires { folder < count_for self.now (name_of name.now) }
         ensures possible { IfOk result (λ looked. may_find self.now folder (name_of name.now) (result_of looked)) }
         ensures within_limit { IfOk result (λ looked. IsWithinLimit (reply_in (result_of looked))) };
@@ -59,6 +65,7 @@ impl From<OutOfMemory> for AskFault {
 /// failures in the folders before it are added too.
 pub(crate) fn walk<F: Folders>(
     folders: &F,
+    buffers: &mut Buffers,
     marks: &[Mark],
     name: &FileName,
     faults: &mut u64,
@@ -79,7 +86,7 @@ pub(crate) fn walk<F: Folders>(
     let mut at = 0;
     let mut count = *faults;
     'folders: loop {
-        let Ok(looked) = folders.look(at, name) else {
+        let Ok(looked) = folders.look(buffers, at, name) else {
             *faults = count;
             return Err(OutOfMemory { folder: at });
         };

@@ -6,6 +6,7 @@ ghost use Rattle.std.specs.Prelude.{◌≡◌};
 ghost use Rattle.gm_store.specs.Asked.{name_of};
 ghost use Rattle.gm_store.specs.FolderLookups.{marks_for};
 
+use crate::buffers::Buffers;
 use crate::fallback_step::Looked;
 use crate::fallback_walk::Folders;
 use crate::files::FileName;
@@ -30,7 +31,12 @@ impl Folders for FoldersInMemory {
 
     ghost may_find = { λ folders k name seen. slice_get (lookup_results folders name) k ≡ Some seen };
 
-    fn look(&self, folder: usize, name: &FileName) -> Result<Looked, NoMemory> {
+    fn look(
+        &self,
+        _buffers: &mut Buffers,
+        folder: usize,
+        name: &FileName,
+    ) -> Result<Looked, NoMemory> {
         match name {
             FileName::Folder(_) => self.beside.look(name),
             _ => self.proxies[folder].look(name),

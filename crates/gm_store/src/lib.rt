@@ -17,6 +17,7 @@
 #![tactic(auto)]
 
 mod blanks;
+mod buffers;
 mod disk_fallback;
 mod failing_files;
 mod fallback_step;

@@ -3,35 +3,33 @@
 //! Module files come from the proxy folders. The `go.mod` of a local folder doesn't: its path is relative to the
 //! main file's folder (Go Modules Reference, `replace` directive).
 
-ghost use Rattle.std.specs.Prelude.{◌≡◌, ◌<◌, ◌++◌, ℕ, List, IfOk, OnOk, length, map, string_bytes};
+ghost use Rattle.std.specs.Prelude.{◌≡◌, ◌<◌, ◌++◌, ℕ, List, OnOk, length, map, string_bytes};
 ghost use Rattle.gm_store.specs.Asked.{name_of};
 ghost use Rattle.gm_store.specs.Placed.{is_absolute, lookup_path_text, placed};
 ghost use Rattle.gm_store.specs.FolderLookups.{count_for};
 
 use crate::files::FileName;
-use crate::relative_path::{ROOM, push_folder, push_relative};
+use crate::relative_path::{push_folder, push_relative};
 use gm_name::NoMemory;
-use std::alloc::Global;
 
-/// The path that is opened to look up a name in folder number `folder`, counted from 0.
+/// Sets a text to the path that is opened to look up a name in folder number `folder`, counted from 0.
 ///
 /// For a module's file it is below that proxy folder. For the `go.mod` of a local folder it is relative to `main`,
-/// unless the local folder's text is absolute. The only refusal is `NoMemory`.
-pub(crate) fn lookup_path(
-    alloc: Global,
+/// unless the local folder's text is absolute. The only refusal is `NoMemory`, which leaves part of a path.
+pub(crate) fn set_lookup_path(
+    place: &mut String,
     main: &str,
     proxies: &[String],
     folder: usize,
     name: &FileName,
-) -> Result<String, NoMemory>
+) -> Result<(), NoMemory>
     requires { folder < count_for (length proxies.now) (name_of name.now) }
-    ensures { IfOk result (λ place. string_bytes place
+    ensures { OnOk result (string_bytes place.new
         ≡ lookup_path_text main.now (map string_bytes proxies.now) folder (name_of name.now)) }
 {
-    let mut place = String::with_capacity(alloc, ROOM)?;
-    push_base(&mut place, main, proxies, folder, name)?;
-    push_relative(&mut place, name)?;
-    Ok(place)
+    place.clear();
+    push_base(place, main, proxies, folder, name)?;
+    push_relative(place, name)
 }
 
 /// Appends the folder that a name's path is relative to in the look-up in folder number `folder`: nothing for a local

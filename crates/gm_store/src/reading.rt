@@ -14,9 +14,8 @@ use thiserror::Error;
 /// The greatest length of a file, in bytes: 16 MiB. The go command has the same limit for `go.mod` files.
 pub const LIMIT: usize = 16_777_216;
 
-/// The length of the first piece, in bytes. Most files are shorter, and zeroing so few bytes for each file is
-/// cheap.
-const FIRST: usize = 512;
+/// The length of the first piece, in bytes. Most files are shorter.
+const FIRST: usize = 4_096;
 
 /// The greatest length of a piece, in bytes.
 const MOST: usize = 65_536;
@@ -105,11 +104,31 @@ pub fn read_limited<R: Read>(alloc: Global, reader: &mut R) -> Result<Vec<u8>, R
     ensures rest { OnOk result (IfSome (R.remaining reader.old)
         (λ all. R.remaining reader.new ≡ Some (drop (LIMIT + 1) all))) }
 {
+    read_by_pieces(alloc, reader, &mut Vec::new(alloc))
+}
+
+/// As `read_limited`, with each read made into `piece`. Whatever that holds before, it may be used again for the next
+/// file: it is made where it is empty, and longer where it was filled.
+///
+/// The result has room for the bytes of the file and no more, if these are at most `LIMIT`.
+pub(crate) fn read_by_pieces<R: Read>(
+    alloc: Global,
+    reader: &mut R,
+    piece: &mut Vec<u8>,
+) -> Result<Vec<u8>, ReadFault>
+    ensures bytes { IfOk result (λ bytes. IfSome (R.remaining reader.old) (λ all. bytes.items ≡ take (LIMIT + 1) all)) }
+    ensures short { IfOk result (λ bytes. length bytes.items ≤ LIMIT + 1) }
+    ensures rest { OnOk result (IfSome (R.remaining reader.old)
+        (λ all. R.remaining reader.new ≡ Some (drop (LIMIT + 1) all))) }
+{
+    if piece.is_empty() {
+        *piece = piece_of(alloc, FIRST)?;
+    }
     let mut bytes = Vec::new(alloc);
-    let mut piece = piece_of(alloc, FIRST)?;
     'fill: while bytes.len() <= LIMIT {
-        let count = read_next(alloc, reader, &mut piece, &mut bytes)?;
+        let count = read_next(alloc, reader, piece, &mut bytes)?;
         if count == 0 {
+            bytes.shrink_to_fit();
             return Ok(bytes);
         }
     }

@@ -12,7 +12,7 @@ use gm_name_escape::push_escaped;
 use std::alloc::Global;
 
 /// The room that is made for a path at first, in bytes. Most paths are shorter, and take one allocation.
-pub(crate) const ROOM: usize = 128;
+const ROOM: usize = 128;
 
 /// The path of a file: `PATH/@v/VERSION.mod` or `PATH/@v/list` below a proxy folder, with path and version
 /// escaped, and `FOLDER/go.mod` for a local folder (Go Modules Reference, GOPROXY protocol). No second slash is

@@ -1,6 +1,6 @@
 use Rattle.std.proofs.Common.{◌<◌, ◌≤◌, ◌-◌, length, vec_len}
 use Rattle.std.specs.Io.KnownBytes.{Consumes}
-use Rattle.gm_store.proofs.reading.read_limited.Given as goal
+use Rattle.gm_store.proofs.reading.read_by_pieces.Given as goal
 
 -- the bytes read so far are those that the reader has yielded
 abbrev pub invariant-fill : goal.invariant-fill

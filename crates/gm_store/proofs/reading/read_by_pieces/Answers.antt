@@ -1,6 +1,6 @@
-use Rattle.std.proofs.Common.{ap, arith, length, length-append}
+use Rattle.std.proofs.Common.{◌≡◌, IfSome, List, ℕ, ap, arith, length, length-append, subst, sym, take}
 use Rattle.gm_store.proofs.Consuming.{consumed_more, ended_by, full_front, full_rest, rest_ended_by}
-use Rattle.gm_store.proofs.reading.read_limited.Goals as goal
+use Rattle.gm_store.proofs.reading.read_by_pieces.Goals as goal
 
 pub returns-clause-bytes : goal.returns-clause-bytes
 returns-clause-bytes g c = full_front 16777217 _ _ _ c.fill.invariant.given c.fill.invariant.short (omega arith)
@@ -11,7 +11,8 @@ returns-clause-rest g c = full_rest 16777217 _ _ _ c.fill.invariant.given c.fill
 pub returns-then-count-eq0-clause-bytes : goal.returns-then-count-eq0-clause-bytes
 returns-then-count-eq0-clause-bytes g c =
     let (room, some, _, adds) = c.in_ok-count.ensures.adds in
-    ended_by 16777217 room c.in_ok-count.count _ _ _ c.fill.bytes.items c.read_next.new.bytes.items c.fill.invariant.given c.fill.invariant.short adds c.if-count-eq0.true some
+    subst (λ (bytes : List ℕ). IfSome (g.R.Read.remaining c.args.reader.now) (λ all. bytes ≡ take 16777217 all)) (sym {A = List ℕ} c.shrink_to_fit.ensures.items)
+    (ended_by 16777217 room c.in_ok-count.count _ _ _ c.fill.bytes.items c.read_next.new.bytes.items c.fill.invariant.given c.fill.invariant.short adds c.if-count-eq0.true some)
 
 pub returns-then-count-eq0-clause-rest : goal.returns-then-count-eq0-clause-rest
 returns-then-count-eq0-clause-rest g c =
