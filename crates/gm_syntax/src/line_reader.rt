@@ -1,7 +1,7 @@
 //! Reading a document line by line: each line is given away before the next one is read, so that a document can be
 //! read without keeping its lines.
 
-ghost use Rattle.std.specs.Prelude.{◌≡◌, ◌+◌, ◌<◌, ◌≤◌, ◌-◌, ◌^◌, ◌∷◌, ◌++◌, [], ℕ, List, length, drop, IfOk, IfErr, IfNone, IsSome, OnErr};
+ghost use Rattle.std.specs.Prelude.{◌≡◌, ◌+◌, ◌<◌, ◌≤◌, ◌-◌, ◌^◌, ◌∷◌, ◌++◌, [], ℕ, List, length, drop, IfOk, IfErr, IfSome, IfNone, IsSome, OnErr};
 ghost use Rattle.gm_syntax.specs.Tokens.{Placed, AreSlicesBetween, AreNumbered};
 ghost use Rattle.gm_syntax.specs.LineViews.{line_of, tokens_of};
 ghost use Rattle.gm_syntax.specs.Lines.{line_len, lines_of, HasNoLineFeed};
@@ -10,9 +10,11 @@ ghost use Rattle.gm_syntax.specs.Placing.{FillsLine};
 ghost use Rattle.gm_syntax.specs.Document.{Line as LineOf};
 ghost use Rattle.gm_syntax.specs.Reader.{IsLineReadAs};
 ghost use Rattle.gm_syntax.specs.LineReading.{HasRead, IsNextRead, IsRestRead};
+ghost use Rattle.gm_syntax.specs.Pairs.{IsPairRead};
 
 use crate::fault::{LineFault, SyntaxFault, SyntaxKind};
 use crate::line::{Line, classify};
+use crate::pair::pair_in;
 use crate::place::Place;
 use crate::reader::read_line;
 use crate::token::Token;
@@ -111,6 +113,28 @@ impl<'a> LineReader<'a> {
             }
             Err(fault) => Err(fault.at_line(self.place.number)),
         }
+    }
+
+    /// The words of the next line, where that is in a block and consists of two bare words, perhaps with a comment. It
+    /// takes a fraction of the time of `next`, and no memory.
+    ///
+    /// `None`, and a reader that is unchanged, for every other line, and for some unusual lines of two bare words:
+    /// `next` reads these.
+    pub fn next_pair(&mut self) -> Option<(&'a str, &'a str)>
+        ensures pair { IfSome result (λ words. (lines : List (LineOf Placed)) → HasRead self.old lines
+            → IsPairRead self.new lines words.0.now words.1.now) }
+        ensures source { self.new.source ≡ self.old.source }
+        ensures shorter { IfSome result (λ words. length self.new.rest < length self.old.rest) }
+        ensures none { IfNone result (self.new ≡ self.old) }
+    {
+        if !self.place.inside || self.rest.is_empty() {
+            return None;
+        }
+        let (front, after) = split_first_line(self.rest);
+        let pair = pair_in(front)?;
+        self.place.number += 1;
+        self.rest = after;
+        Some(pair)
     }
 
     /// Takes a line back, so that the next one can use the memory of its words.

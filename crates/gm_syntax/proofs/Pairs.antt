@@ -1,0 +1,169 @@
+-- Lines that are two bare words.
+use Rattle.std.proofs.Common.{◌≡◌, ℕ, ◌+◌, ◌-◌, ◌<◌, ◌≤◌, Bool, true, false, List, [], ◌∷◌, ◌++◌, length, take, drop, Option, Some, None, Ok, IsUtf8, refl, sym, ap, subst, ◌∙◌, append_assoc, arith}
+use Rattle.std.specs.Prelude.{◌≢◌, IsTrue}
+use Rattle.std.specs.Str.{IsCharBoundary}
+use Rattle.std.proofs.lemmas.List.{take_at, drop_at, drop-drop, append-nil, length-append}
+use Rattle.gm_syntax.specs.declared.scan.Piece.TheVariants as piece
+use Rattle.gm_syntax.specs.declared.word.Kind.TheVariants.{Bare}
+use Rattle.gm_syntax.specs.Bytes.{is_blank, is_plain}
+use Rattle.gm_syntax.specs.Words.{Word, AllBlank}
+use Rattle.gm_syntax.specs.Lines.{lines_of, HasNoLineFeed}
+use Rattle.gm_syntax.specs.Tokens.{Placed, words_of, AreSlicesBetween, AreNumbered}
+use Rattle.gm_syntax.specs.Placing.{FillText}
+use Rattle.gm_syntax.specs.Spelling.{Reads, ending_of}
+use Rattle.gm_syntax.specs.Scan.{bare_len, piece_of, trim_end}
+use Rattle.gm_syntax.specs.Reader.{IsOnlyReading, IsOnlyLine}
+use Rattle.gm_syntax.specs.Document.{Line, Entry, class_of}
+use Rattle.gm_syntax.specs.LineViews.{plain}
+use Rattle.gm_syntax.specs.LineReading.{Unread, HasRead}
+use Rattle.gm_syntax.specs.Pairs.{bare_word, pair_line, IsPairText, IsPairRead}
+use Rattle.gm_syntax.specs.declared.place.Place.{Place}
+use Rattle.gm_syntax.proofs.LineReading.{unread, read_more}
+use Rattle.gm_syntax.proofs.OneLine.{one_line}
+use Rattle.gm_syntax.proofs.Pieces.{make_word, piece_end, piece_blank, piece_comment}
+use Rattle.gm_syntax.proofs.Progress.{Progress, progress_start, progress_blank, progress_word, progress_end, progress_comment, word_boundary, blank_boundary}
+use Rattle.gm_syntax.proofs.Steps.{plain_piece}
+
+-- ---- blanks
+
+-- the text begins with a blank
+abbrev pub BeginsBlank : List ℕ → Type 0
+BeginsBlank text = (b : ℕ) × (more : List ℕ) × (text ≡ b ∷ more) × IsTrue (is_blank b)
+
+-- rest is the text after blanks
+abbrev pub IsAfterBlanks : List ℕ → List ℕ → Type 0
+IsAfterBlanks text rest = (blanks : List ℕ) × AllBlank blanks × (text ≡ blanks ++ rest)
+
+push_blank : (blanks : List ℕ) (b : ℕ) → AllBlank blanks → is_blank b ≡ true → AllBlank (blanks ++ b ∷ [])
+push_blank [] b h e = (e, tt)
+push_blank (x ∷ blanks) b h e = (h.0, push_blank blanks b h.1 e)
+
+pub blank_first : (text : List ℕ) → IsUtf8 text → BeginsBlank text → IsCharBoundary text 1
+blank_first text utf8 (b, more, e, blank) =
+    (blank_boundary (progress_start text) utf8 (ap (piece_of false) e ∙ piece_blank false b more blank)).0
+
+pub one_more_blank : (text rest next : List ℕ) → IsAfterBlanks text rest → BeginsBlank rest → next ≡ drop 1 rest → IsAfterBlanks text next
+one_more_blank text rest next (blanks, are, parts) (b, more, e, blank) is = (
+  blanks ++ b ∷ [],
+  push_blank blanks b are blank,
+  parts ∙ ap (λ (l : List ℕ). blanks ++ l) (e ∙ ap (λ (l : List ℕ). b ∷ l) (sym (is ∙ ap (drop 1) e))) ∙ sym (append_assoc blanks (b ∷ []) next),
+)
+
+-- ---- a bare word
+
+-- the text begins with a plain byte other than =
+abbrev pub BeginsPlain : List ℕ → Type 0
+BeginsPlain text = (b : ℕ) × (more : List ℕ) × (text ≡ b ∷ more) × IsTrue (is_plain b) × (b ≢ 61)
+
+pub plain_begins_word : (text : List ℕ) (t : Bool) → BeginsPlain text → piece_of t text ≡ piece.Word Bare (bare_len text)
+plain_begins_word text t (b, more, e, plain, other) =
+    subst (λ (l : List ℕ). piece_of t l ≡ piece.Word Bare (bare_len l)) (sym e) (plain_piece t b more plain other)
+
+pub plain_word_end : (text : List ℕ) → IsUtf8 text → BeginsPlain text → IsCharBoundary text (bare_len text)
+plain_word_end text utf8 begins = word_boundary (progress_start text) utf8 Bare (bare_len text) (plain_begins_word text false begins)
+
+-- ---- the line
+
+-- the line is these words and then the rest
+abbrev pub Sofar : List ℕ → List Word → List ℕ → Type 0
+Sofar line words rest = (t : Bool) × Progress line words t rest
+
+pub sofar_blanks : (line : List ℕ) (words : List Word) (text rest : List ℕ) → Sofar line words text → IsAfterBlanks text rest → Sofar line words rest
+sofar_blanks line words text rest (t, p) (blanks, are, parts) = by_blanks blanks t are (subst (λ (l : List ℕ). Progress line words t l) parts p)
+  where
+    by_blanks : (blanks : List ℕ) (t : Bool) → AllBlank blanks → Progress line words t (blanks ++ rest) → Sofar line words rest
+    by_blanks [] t are p = (t, p)
+    by_blanks (b ∷ blanks) t are p = by_blanks blanks false are.1 (progress_blank p (piece_blank t b (blanks ++ rest) are.0))
+
+pub sofar_word : (line : List ℕ) (words : List Word) (text word rest : List ℕ) → Sofar line words text → ((t : Bool) → piece_of t text ≡ piece.Word Bare (length word)) → text ≡ word ++ rest
+    → Sofar line (words ++ bare_word word ∷ []) rest
+sofar_word line words text word rest (t, p) piece parts =
+    let front : take (length word) text ≡ word = ap (take (length word)) parts ∙ take_at word rest (length word) refl in
+    let back : drop (length word) text ≡ rest = ap (drop (length word)) parts ∙ drop_at word rest (length word) refl in (
+      true,
+      subst (λ (w : List ℕ). Progress line (words ++ bare_word w ∷ []) true rest) front
+          (subst (λ (l : List ℕ). Progress line (words ++ make_word Bare (take (length word) text) ∷ []) true l) back (progress_word p Bare (length word) (piece t))),
+    )
+
+pub sofar_end : (line : List ℕ) (words : List Word) (rest : List ℕ) → Sofar line words rest → rest ≡ [] → (comment : Option (List ℕ)) × IsOnlyReading line words (ending_of comment)
+sofar_end line words rest (t, p) e = (None, progress_end p (ap (piece_of t) e ∙ piece_end t))
+
+pub sofar_comment : (line : List ℕ) (words : List Word) (rest more : List ℕ) → Sofar line words rest → rest ≡ 47 ∷ 47 ∷ more → (comment : Option (List ℕ)) × IsOnlyReading line words (ending_of comment)
+sofar_comment line words rest more (t, p) e = (Some (trim_end rest), progress_comment p (ap (piece_of t) e ∙ piece_comment t more))
+
+-- ---- the words' places
+
+-- words with a number and spans, which make up the text from this offset on
+record PlacedWords (first number : ℕ) (text : List ℕ) (words : List Word) (comment : Option (List ℕ)) : Type 0 where
+  pub tokens : List Placed
+  pub are : words_of tokens ≡ words
+  pub numbered : AreNumbered number tokens
+  pub fill : FillText first text tokens comment
+
+place_words : (first number : ℕ) (before : Option Word) (text : List ℕ) (words : List Word) (comment : Option (List ℕ)) → Reads before text words (ending_of comment) → PlacedWords first number text words comment
+place_words first number before text [] None r = record {
+  tokens = [];
+  are = refl;
+  numbered = tt;
+  fill = subst AllBlank (sym (r.parts ∙ ap (λ (l : List ℕ). r.blanks ++ l) r.ends ∙ append-nil r.blanks)) r.are_blank;
+}
+place_words first number before text [] (Some c) r = record {
+  tokens = [];
+  are = refl;
+  numbered = tt;
+  fill = (r.ends.1, r.blanks, r.ends.2, r.are_blank, r.ends.3, r.parts ∙ ap (λ (l : List ℕ). r.blanks ++ l) r.ends.4);
+}
+place_words first number before text (w ∷ words) comment (rest, b, others) =
+    let at : ℕ = first + length b.blanks in
+    let past : ℕ = at + length w.spelling in
+    let more = place_words past number (Some w) rest words comment others in
+    record {
+      tokens = record { word = w; line = number; span = Some (record { first = at; after = past }) } ∷ more.tokens;
+      are = ap (λ (ws : List Word). w ∷ ws) more.are;
+      numbered = (refl, more.numbered);
+      fill = (record { first = at; after = past }, rest, record { blanks = b.blanks; are_blank = b.are_blank; parts = b.parts; placed = refl; first = refl; after = refl }, more.fill);
+    }
+
+-- words that make up a text stand in the source where the text does
+stand_filled : (source : List ℕ) (from : ℕ) (text after : List ℕ) (ts : List Placed) (comment : Option (List ℕ)) → FillText from text ts comment → drop from source ≡ text ++ after
+    → AreSlicesBetween source from (from + length text) ts
+stand_filled source from text after [] comment f whole = omega arith
+stand_filled source from text after (t ∷ ts) comment (span, rest, n, f) whole =
+    let word = t.word.spelling in
+    let parts : text ++ after ≡ n.blanks ++ (word ++ (rest ++ after)) =
+    ap (λ (l : List ℕ). l ++ after) n.parts ∙ append_assoc n.blanks (word ++ rest) after ∙ ap (λ (l : List ℕ). n.blanks ++ l) (append_assoc word rest after) in
+    let here : drop span.first source ≡ word ++ (rest ++ after) =
+    ap (λ (k : ℕ). drop k source) n.first ∙ sym (drop-drop (length n.blanks) from source) ∙ ap (drop (length n.blanks)) (whole ∙ parts) ∙ drop_at n.blanks (word ++ (rest ++ after)) (length n.blanks) refl in
+    let past : drop span.after source ≡ rest ++ after =
+    ap (λ (k : ℕ). drop k source) n.after ∙ sym (drop-drop (length word) span.first source) ∙ ap (drop (length word)) here ∙ drop_at word (rest ++ after) (length word) refl in
+    let width : span.after - span.first ≡ length word = omega (arith, n.after) in
+    let slice : take (span.after - span.first) (drop span.first source) ≡ word =
+    ap (λ (k : ℕ). take k (drop span.first source)) width ∙ ap (take (length word)) here ∙ take_at word (rest ++ after) (length word) refl in
+    let end : span.after + length rest ≡ from + length text = omega (arith, n.first, n.after, ap length n.parts, length-append n.blanks (word ++ rest), length-append word rest) in
+    (span, n.placed, omega (arith, n.first), n.after, slice, subst (λ (k : ℕ). AreSlicesBetween source span.after k ts) end (stand_filled source span.after rest after ts comment f past))
+
+-- ---- one more line
+
+pair_class : (first second : List ℕ) (comment : Option (List ℕ)) → class_of true (bare_word first ∷ bare_word second ∷ []) comment ≡ Ok (pair_line first second comment)
+unfolding class_of
+pair_class first second comment = refl
+
+-- after a line in a block that is two bare words
+pub pair_read : (left : Unread) (lines : List (Line Placed)) (front next first second : List ℕ) (at : Place) → HasRead left lines → at ≡ record left.at { number = left.at.number + 1 } → left.at.inside ≡ true
+    → lines_of left.rest ≡ front ∷ lines_of next → HasNoLineFeed front → length next < length left.rest → length front + length next ≤ length left.rest → ((more : List ℕ) × (left.rest ≡ front ++ more))
+    → next ≡ drop (length left.rest - length next) left.rest → (0 < length next → length left.rest ≡ length front + 1 + length next)
+    → IsPairText front first second → IsPairRead (unread left.source next at) lines first second
+pair_read left lines front next first second at so is inside cut no_feed shorter within begins is_rest feed (comment, reading) =
+    let words : List Word = bare_word first ∷ bare_word second ∷ [] in
+    let offset : ℕ = length left.source - length left.rest in
+    let w = place_words offset left.at.number None front words comment reading.reads in
+    let l : Line Placed = Entry w.tokens comment in
+    let same : plain l ≡ pair_line first second comment = ap (λ (ws : List Word). Entry ws comment) w.are in
+    let only : IsOnlyLine left.at.inside front (Ok (plain l)) =
+    subst (λ (b : Bool). IsOnlyLine b front (Ok (plain l))) (sym inside)
+    (subst (λ (x : Line Word). IsOnlyLine true front (Ok x)) (sym same) (one_line true front words comment reading (pair_line first second comment) (pair_class first second comment))) in (
+      l,
+      comment,
+      same,
+      read_more so front next l at is cut no_feed shorter within begins is_rest feed only (λ source more whole. stand_filled source offset front more w.tokens comment w.fill whole) w.numbered w.fill,
+    )

@@ -1,0 +1,17 @@
+use Rattle.std.proofs.Common.{ap, subst, sym, ◌∙◌}
+use Rattle.std.specs.Str.{IsCharBoundary}
+use Rattle.gm_syntax.specs.declared.scan.Piece.TheVariants as piece
+use Rattle.gm_syntax.specs.declared.word.Kind.TheVariants.{Bare}
+use Rattle.gm_syntax.specs.Scan.{bare_len}
+use Rattle.gm_syntax.proofs.Pairs.{plain_begins_word, plain_word_end}
+use Rattle.gm_syntax.proofs.pair.split_word.Goals as goal
+
+pub split_at-requires : goal.split_at-requires
+split_at-requires c =
+    let begins = rw c.as_bytes-bytes.ensures.value at c.begins_plain_word.ensures c.if-not-begins_plain_word.false in
+    subst (IsCharBoundary c.args.text.now) (sym (c.bare_len.ensures ∙ ap bare_len c.as_bytes-bytes.ensures.value)) (plain_word_end c.args.text.now c.utf8.text begins)
+
+pub returns-clause-word : goal.returns-clause-word
+returns-clause-word c = λ after_bare.
+    let begins = rw c.as_bytes-bytes.ensures.value at c.begins_plain_word.ensures c.if-not-begins_plain_word.false in
+    plain_begins_word c.args.text.now after_bare begins ∙ ap (piece.Word Bare) (sym (c.split_at.ensures.front_len ∙ c.bare_len.ensures ∙ ap bare_len c.as_bytes-bytes.ensures.value))
