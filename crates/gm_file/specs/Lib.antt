@@ -14,3 +14,4 @@ pub mod Holding
 pub mod Retracting
 pub mod ReadFaults
 pub mod DepLines
+pub mod Requiring

@@ -1,15 +1,17 @@
 //! A dependency's file read from its bytes: line by line and in one pass, so that no document is kept.
 
-ghost use Rattle.std.specs.Prelude.{◌≡◌, ◌∷◌, ◌++◌, [], List, IfErr, IfOk, OnOk};
+ghost use Rattle.std.specs.Prelude.{◌≡◌, ◌≤◌, ◌∷◌, ◌++◌, [], ℕ, List, Option, IfErr, IfOk, IsTrue, OnOk, length};
 ghost use Rattle.std.specs.Option.{option_map};
 ghost use Rattle.gm_syntax.specs.Document.{Line as LineOf};
 ghost use Rattle.gm_syntax.specs.LineReading.{HasRead};
 ghost use Rattle.gm_syntax.specs.LineViews.{line_of, plain, plain_lines};
+ghost use Rattle.gm_syntax.specs.Pairs.{pair_line};
 ghost use Rattle.gm_syntax.specs.Tokens.{Placed};
 ghost use Rattle.gm_syntax.specs.Words.{Word};
 ghost use Rattle.gm_file.specs.DepLines.{AreAllRead, AreDepLines, HasNextFault, IsMisread, IsNextLineOf};
 ghost use Rattle.gm_file.specs.Directives.{block_after_line};
 ghost use Rattle.gm_file.specs.Holding.{AreFound};
+ghost use Rattle.gm_file.specs.Requiring.{AreReadSofar, IsRequiring};
 
 use crate::fault::{LineFault, ReadFault};
 use crate::fields::Fields;
@@ -88,6 +90,33 @@ impl<'a> DepLines<'a> {
         pass_line(alloc, &mut self.block, line)?;
         Ok(())
     }
+
+    /// Whether a block of `require` is open.
+    fn is_requiring(&self) -> bool
+        ensures { IsTrue result → IsRequiring self.now }
+    {
+        match &self.block {
+            Some(verb) => verb.spelling() == "require",
+            None => false,
+        }
+    }
+
+    /// Reads the next line, which is these two bare words in a block of `require`.
+    fn require(
+        &mut self,
+        names: &mut KnownNames,
+        path: &str,
+        version: &str,
+    ) -> Result<(), LineFault>
+        requires block { IsRequiring self.old }
+        requires found { AreFound self.old.fields }
+        ensures block { OnOk result (IsRequiring self.new) }
+        ensures found { OnOk result (AreFound self.new.fields) }
+        ensures read { (lines : List (LineOf Word)) (suffix : Option (List ℕ)) → AreDepLines lines self.old
+            → IsNextLineOf lines (pair_line path.now version.now suffix) self.new result }
+    {
+        self.fields.read_requirement(names, path, version)
+    }
 }
 
 /// The fault of the bytes, given the fault of the last line that was read: a fault of the text on a later line comes
@@ -101,6 +130,30 @@ fn fault_of_all(reader: &mut LineReader, fault: LineFault) -> ReadFault
         Ok(()) => ReadFault::from(fault.at_line(number)),
         Err(syntax) => ReadFault::from(syntax),
     }
+}
+
+/// Reads the next lines in a block of `require` that are two bare words, up to the first other line. Nearly all lines
+/// of a file are of this kind, and they are read without their tokens.
+fn read_pairs(
+    names: &mut KnownNames,
+    reader: &mut LineReader,
+    said: &mut DepLines,
+) -> Result<(), ReadFault>
+    requires block { IsRequiring said.old }
+    requires found { AreFound said.old.fields }
+    requires read { AreReadSofar reader.old said.old }
+    ensures found { OnOk result (AreFound said.new.fields) }
+    ensures read { OnOk result (AreReadSofar reader.new said.new) }
+    ensures source { OnOk result (reader.new.source ≡ reader.old.source) }
+    ensures no_longer { OnOk result (length reader.new.rest ≤ length reader.old.rest) }
+    ensures fault { IfErr result (IsMisread reader.old.source) }
+{
+    while let Some((path, version)) = reader.next_pair() {
+        if let Err(fault) = said.require(names, path, version) {
+            return Err(fault_of_all(reader, fault));
+        }
+    }
+    Ok(())
 }
 
 /// Reads every line, so that what no lines say becomes what all lines say.
@@ -121,6 +174,9 @@ fn read_all<'a>(
             return Err(fault_of_all(reader, fault));
         }
         reader.recycle(line);
+        if said.is_requiring() {
+            read_pairs(names, reader, said)?;
+        }
     }
     Ok(())
 }

@@ -4,11 +4,12 @@
 ghost use Rattle.std.specs.Prelude.{◌≡◌, [], IfErr, IfOk, OnOk};
 ghost use Rattle.std.specs.Option.{option_map};
 ghost use Rattle.gm_syntax.specs.LineViews.{line_of, line_views, plain, plain_lines};
-ghost use Rattle.gm_file.specs.Directives.{Mode as ModeOf, DeclaresGo, DeclaresModule, block_after_line, item_at};
+ghost use Rattle.gm_file.specs.Directives.{Mode as ModeOf, Lax, DeclaresGo, DeclaresModule, block_after_line, item_at};
 ghost use Rattle.gm_file.specs.DirectiveViews.{directive_view};
 ghost use Rattle.gm_file.specs.Faults.{go_in, path_kinds};
 ghost use Rattle.gm_file.specs.Holding.{AreFound, AreRead, Holds, IsAdded, IsLineAdded};
 ghost use Rattle.gm_file.specs.Reading.{own_kinds};
+ghost use Rattle.gm_file.specs.Requiring.{require_item};
 ghost use Rattle.gm_file.specs.VerbViews.{mode_view};
 ghost use Rattle.gm_file.specs.Views.{ReportsFault};
 
@@ -16,6 +17,7 @@ use crate::directive::{Directive, read_line_with_names};
 use crate::exclusions::Exclusions;
 use crate::fault::{DirectiveKind, FileFault, LineFault};
 use crate::go_version::{lax_go, strict_go};
+use crate::part::pair_of_texts;
 use crate::replace::Interval;
 use crate::replacements::Replacements;
 use crate::verb::Mode;
@@ -126,6 +128,22 @@ impl Fields {
             }
             Directive::Kept => Ok(()),
         }
+    }
+
+    /// Adds the requirement that these two bare words of a `require` in a dependency's file spell.
+    pub(crate) fn read_requirement(
+        &mut self,
+        names: &mut KnownNames,
+        path: &str,
+        version: &str,
+    ) -> Result<(), LineFault>
+        requires { AreFound self.old }
+        ensures found { OnOk result (AreFound self.new) }
+        ensures added { IsLineAdded Lax self.old self.new (require_item path.now version.now) result }
+    {
+        let pair = pair_of_texts(names, path, version)?;
+        self.requirements.push(pair)?;
+        Ok(())
     }
 
     /// Reads the next line and adds its directive. `block` is the verb of the open block, if any.

@@ -95,7 +95,11 @@ pub(crate) fn read_version(names: &mut KnownNames, text: &str) -> Result<ModVers
 
 /// The path and the version that two texts spell. The texts are refused with `BadPath`, then with `BadVersion`,
 /// then with `Misfit` if the version doesn't fit the path.
-fn pair_of_texts(names: &mut KnownNames, path: &str, version: &str) -> Result<ModVer, LineFault>
+pub(crate) fn pair_of_texts(
+    names: &mut KnownNames,
+    path: &str,
+    version: &str,
+) -> Result<ModVer, LineFault>
     ensures { IsRead (λ pair. pair) DirectiveKind.WrongArguments pair_kinds (Some (path.now, version.now)) result }
 {
     match names.pair(path, version) {

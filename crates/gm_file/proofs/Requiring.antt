@@ -1,0 +1,75 @@
+-- Lines of a block of `require` that are two bare words.
+use Rattle.std.proofs.Common.{◌≡◌, ℕ, List, [], ◌∷◌, ◌++◌, codes, Option, Some, None, Result, Ok, Err, OnOk, refl, sym, ap, subst, ◌∙◌, append-nil}
+use Rattle.std.specs.Option.{option_map, option_to_list}
+use Rattle.gm_syntax.specs.Words.{Word}
+use Rattle.gm_syntax.specs.Tokens.{Placed}
+use Rattle.gm_syntax.specs.Document.{Line}
+use Rattle.gm_syntax.specs.Pairs.{bare_word, pair_line}
+use Rattle.gm_file.specs.declared.dep_lines.DepLines.{DepLines}
+use Rattle.gm_file.specs.declared.fault.DirectiveKind.TheVariants.{WrongArguments}
+use Rattle.gm_file.specs.declared.fault.LineFault.{LineFault}
+use Rattle.gm_file.specs.declared.fault.LineFault.TheVariants as line
+use Rattle.gm_file.specs.declared.fields.Fields.{Fields}
+use Rattle.gm_file.specs.DepLines.{AreDepLines, HasNextFault, IsNextLineOf}
+use Rattle.gm_file.specs.Directives.{Item, Saying, Pair, Lax, Strict, Requires, directive_in, directive_of, item_at}
+use Rattle.gm_file.specs.Faults.{directive_kinds, item_kinds, pair_kinds}
+use Rattle.gm_file.specs.Holding.{AreFound, IsLineAdded}
+use Rattle.gm_file.specs.Reading.{IsRead}
+use Rattle.gm_file.specs.Requiring.{IsRequiring, require_item}
+use Rattle.gm_file.specs.Retracting.{retraction_at}
+use Rattle.gm_file.specs.Views.{interval_view, interval_views}
+use Rattle.gm_file.proofs.DepReading.{dep-fault, dep-more, word_of}
+
+-- ---- what such a line says
+
+pub require-directive : (path version : List ℕ) → directive_in Lax (require_item path version) ≡ Some (Requires (path, version))
+unfolding directive_of
+require-directive path version = refl
+
+-- its kinds are those of its path and its version
+pub require-bad : (old new : Fields) (path version : List ℕ) (fault : LineFault) → IsRead {Y = Pair} (λ p. p) WrongArguments pair_kinds (Some (path, version)) (Err fault)
+    → IsLineAdded Lax old new (require_item path version) (Err fault)
+unfolding directive_of directive_kinds
+require-bad old new path version line.NoMemory told = tt
+require-bad old new path version (line.Kind kind) told = λ ds holds. told
+
+pub require-sound : (path version : List ℕ) (p : Pair) → IsRead {Y = Pair} (λ p. p) WrongArguments pair_kinds (Some (path, version)) (Ok p) → ((ds : _) → item_kinds Lax ds (require_item path version) ≡ []) × (directive_in Lax (require_item path version) ≡ Some (Requires p))
+unfolding directive_of directive_kinds
+require-sound path version p is =
+    let same : (path, version) ≡ p = cc is.0 in
+    (λ ds. ap pair_kinds same ∙ is.1, ap (λ (q : Pair). Some (Requires q)) same)
+
+-- it retracts nothing
+no-retraction : (path version : List ℕ) → retraction_at (require_item path version) ≡ None
+unfolding directive_of
+no-retraction path version = refl
+
+-- ---- the lines with one more
+
+-- the content of such a line in the open block
+pub item-is : (said : DepLines) (path version : List ℕ) (suffix : Option (List ℕ)) → IsRequiring said → item_at (word_of said.block, pair_line path version suffix) ≡ require_item path version
+unfolding item_at
+item-is said path version suffix (verb, opened, spelled) =
+    let here = pair_line path version suffix in
+    ap (λ (b : Option Placed). item_at (word_of b, here)) opened ∙ ap (λ (text : List ℕ). Saying text (bare_word path ∷ bare_word version ∷ [])) spelled
+
+requires-more : (lines : List (Line Word)) (path version : List ℕ) (suffix : Option (List ℕ)) (old : DepLines) (fields : Fields) → IsRequiring old → AreDepLines lines old → AreFound fields
+    → IsLineAdded Lax old.fields fields (require_item path version) (Ok tt) → AreDepLines (lines ++ pair_line path version suffix ∷ []) (record old { fields = fields })
+requires-more lines path version suffix old fields requiring so found added =
+    let here = pair_line path version suffix in
+    let item = item-is old path version suffix requiring in
+    let none : option_to_list (retraction_at (item_at (word_of old.block, here))) ≡ [] = ap (λ (i : Item). option_to_list (retraction_at i)) item ∙ ap option_to_list (no-retraction path version) in
+    dep-more lines here (word_of old.block) old (record old { fields = fields }) so refl found
+    (subst (λ (i : Item). IsLineAdded Lax old.fields fields i (Ok tt)) (sym item) added)
+    (sym (ap (λ (l : List Pair). interval_views old.retracts.items ++ l) none ∙ append-nil (interval_views old.retracts.items))) refl
+
+requires-fault : (lines : List (Line Word)) (path version : List ℕ) (suffix : Option (List ℕ)) (old : DepLines) (new : Fields) (fault : LineFault) → IsRequiring old → AreDepLines lines old
+    → IsLineAdded Lax old.fields new (require_item path version) (Err fault) → HasNextFault lines (pair_line path version suffix) fault
+requires-fault lines path version suffix old new fault requiring so told =
+    dep-fault lines (pair_line path version suffix) (word_of old.block) old new fault so refl
+    (subst (λ (i : Item). IsLineAdded Lax old.fields new i (Err fault)) (sym (item-is old path version suffix requiring)) told)
+
+pub requires-next : (lines : List (Line Word)) (path version : List ℕ) (suffix : Option (List ℕ)) (old : DepLines) (fields : Fields) (result : Result (Unit {0}) LineFault) → IsRequiring old → AreDepLines lines old → OnOk result (AreFound fields)
+    → IsLineAdded Lax old.fields fields (require_item path version) result → IsNextLineOf lines (pair_line path version suffix) (record old { fields = fields }) result
+requires-next lines path version suffix old fields (Ok u) requiring so found added = requires-more lines path version suffix old fields requiring so found added
+requires-next lines path version suffix old fields (Err fault) requiring so found told = requires-fault lines path version suffix old fields fault requiring so told

@@ -1,0 +1,22 @@
+-- Lines of a block of `require` that are two bare words.
+use Rattle.std.specs.Prelude.{◌≡◌, ℕ, List, [], ◌∷◌, codes, Some}
+use Rattle.gm_syntax.specs.LineReading.{Unread, HasRead}
+use Rattle.gm_syntax.specs.LineViews.{plain_lines}
+use Rattle.gm_syntax.specs.Pairs.{bare_word}
+use Rattle.gm_syntax.specs.Tokens.{Placed}
+use Rattle.gm_syntax.specs.Document.{Line}
+use Rattle.gm_file.specs.declared.dep_lines.DepLines.{DepLines}
+use Rattle.gm_file.specs.DepLines.{AreDepLines}
+use Rattle.gm_file.specs.Directives.{Item, Saying}
+
+-- a block of `require` is open
+abbrev pub IsRequiring : DepLines → Type 0
+IsRequiring said = (verb : Placed) × (said.block ≡ Some verb) × (verb.word.spelling ≡ codes "require")
+
+-- the content of a line of these two bare words in a block of `require`
+abbrev pub require_item : List ℕ → List ℕ → Item
+require_item path version = Saying (codes "require") (bare_word path ∷ bare_word version ∷ [])
+
+-- some lines have been read, and this is what they say
+abbrev pub AreReadSofar : Unread → DepLines → Type 0
+AreReadSofar left said = (lines : List (Line Placed)) × HasRead left lines × AreDepLines (plain_lines lines) said
