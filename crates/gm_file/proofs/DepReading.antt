@@ -1,15 +1,15 @@
 -- The steps of reading a dependency's file from its bytes.
-use Rattle.std.proofs.Common.{◌≡◌, ℕ, ◌+◌, List, [], ◌∷◌, ◌++◌, length, Option, Some, None, Ok, Err, refl, sym, ap, subst, ◌∙◌, arith, Bor}
+use Rattle.std.proofs.Common.{◌≡◌, ℕ, ◌+◌, List, [], ◌∷◌, ◌++◌, length, Option, Some, None, Ok, Err, refl, sym, ap, subst, ◌∙◌, arith, append-nil, Bor}
 use Rattle.std.proofs.lemmas.List.{length-append, length-map, map-append, map_push}
 use Rattle.std.specs.Prelude.{unwrap_or}
 use Rattle.std.specs.Option.{option_copied, option_map, option_to_list}
 use Rattle.std.specs.Global.{Vec}
 use Rattle.gm_syntax.specs.Words.{Word}
 use Rattle.gm_syntax.specs.Tokens.{Placed}
-use Rattle.gm_syntax.specs.Document.{Line}
+use Rattle.gm_syntax.specs.Document.{Line, Blank}
 use Rattle.gm_syntax.specs.LineViews.{plain, plain_lines}
 use Rattle.gm_syntax.specs.Parsed.{IsParsedAs}
-use Rattle.gm_syntax.specs.LineReading.{IsRestRead, Unread}
+use Rattle.gm_syntax.specs.LineReading.{HasRead, IsRestRead, Unread}
 use Rattle.gm_syntax.specs.declared.fault.SyntaxFault.{SyntaxFault}
 use Rattle.gm_syntax.specs.declared.fault.SyntaxFault.TheVariants as syntax
 use Rattle.gm_file.specs.declared.dep_lines.DepLines.{DepLines}
@@ -18,11 +18,12 @@ use Rattle.gm_file.specs.declared.fault.LineFault.TheVariants as line
 use Rattle.gm_file.specs.declared.fields.Fields.{Fields}
 use Rattle.gm_file.specs.declared.replace.Interval.{Interval}
 use Rattle.gm_file.specs.DepLines.{AreAllRead, AreDepLines, HasNextFault, IsDependencyIn, IsMisread}
-use Rattle.gm_file.specs.Directives.{Lax, block_after_line, item_at}
+use Rattle.gm_file.specs.Directives.{Directive, Lax, Pair, block_after_line, item_at}
 use Rattle.gm_file.specs.Faults.{fault_of}
 use Rattle.gm_file.specs.Fields.{Dependency}
 use Rattle.gm_file.specs.Holding.{AreFound, AreReadTo, Holds, IsLineAdded}
 use Rattle.gm_file.specs.ReadFaults.{read_by_file, read_by_syntax}
+use Rattle.gm_file.specs.Requiring.{AreReadSofar}
 use Rattle.gm_file.specs.Retracting.{retraction_at}
 use Rattle.gm_file.specs.Views.{file_fault_at, interval_views}
 use Rattle.gm_file.proofs.Lines.{fault-reported, read-more, read-none}
@@ -93,3 +94,24 @@ dep-whole bytes said file all is = (
   lax-sound (plain_lines all.0) said.fields all.2.read.read,
   sym (is ∙ dependency-is (plain_lines all.0) said.fields (unwrap_or said.fields.go (1, 16)) (interval_views said.retracts.items) all.2.read.read refl all.2.retracted),
 )
+
+-- a line without content says nothing
+silent-added : (fields : Fields) (block : Option Word) → IsLineAdded Lax fields fields (item_at (block, Blank)) (Ok tt)
+unfolding item_at
+silent-added fields block = λ ds holds. (subst (λ (all : List Directive). Holds Lax all fields) (sym (append-nil ds)) holds, refl)
+
+no-retraction : (block : Option Word) → retraction_at (item_at (block, Blank)) ≡ None
+unfolding item_at
+no-retraction block = refl
+
+-- one more line that is empty
+pub dep-blank : (lines : List (Line Word)) (said : DepLines) → AreDepLines lines said → AreDepLines (lines ++ Blank ∷ []) said
+dep-blank lines said so =
+    let intervals = interval_views said.retracts.items in
+    dep-more lines Blank (word_of said.block) said said so refl so.read.read.found (silent-added said.fields (word_of said.block))
+    (sym (ap (λ (o : Option Pair). intervals ++ option_to_list o) (no-retraction (word_of said.block)) ∙ append-nil intervals)) refl
+
+-- after an empty line
+pub sofar-blank : (left next : Unread) (said : DepLines) → ((lines : List (Line Placed)) → HasRead left lines → HasRead next (lines ++ Blank ∷ [])) → AreReadSofar left said → AreReadSofar next said
+sofar-blank left next said more (lines, read, so) =
+    (lines ++ Blank ∷ [], more lines read, subst (λ (ls : List (Line Word)). AreDepLines ls said) (sym (map_push plain lines Blank)) (dep-blank (plain_lines lines) said so))

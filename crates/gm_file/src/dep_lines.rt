@@ -8,6 +8,7 @@ ghost use Rattle.gm_syntax.specs.LineViews.{line_of, plain, plain_lines};
 ghost use Rattle.gm_syntax.specs.Pairs.{pair_line};
 ghost use Rattle.gm_syntax.specs.Tokens.{Placed};
 ghost use Rattle.gm_syntax.specs.Words.{Word};
+ghost use Rattle.gm_file.specs.declared.dep_lines.DepLines.{DepLines};
 ghost use Rattle.gm_file.specs.DepLines.{AreAllRead, AreDepLines, HasNextFault, IsMisread, IsNextLineOf};
 ghost use Rattle.gm_file.specs.Directives.{block_after_line};
 ghost use Rattle.gm_file.specs.Holding.{AreFound};
@@ -132,6 +133,15 @@ fn fault_of_all(reader: &mut LineReader, fault: LineFault) -> ReadFault
     }
 }
 
+/// Passes over the empty lines that come next, which say nothing.
+fn skip_blanks(reader: &mut LineReader)
+    ensures read { (said : DepLines) → AreReadSofar reader.old said → AreReadSofar reader.new said }
+    ensures source { reader.new.source ≡ reader.old.source }
+    ensures no_longer { length reader.new.rest ≤ length reader.old.rest }
+{
+    'blanks: while reader.skip_blank() {}
+}
+
 /// Reads the next lines in a block of `require` that are two bare words, up to the first other line. Nearly all lines
 /// of a file are of this kind, and they are read without their tokens.
 fn read_pairs(
@@ -174,6 +184,7 @@ fn read_all<'a>(
             return Err(fault_of_all(reader, fault));
         }
         reader.recycle(line);
+        skip_blanks(reader);
         if said.is_requiring() {
             read_pairs(names, reader, said)?;
         }

@@ -144,24 +144,23 @@ stand_filled source from text after (t ∷ ts) comment (span, rest, n, f) whole 
 
 -- ---- one more line
 
-pair_class : (first second : List ℕ) (comment : Option (List ℕ)) → class_of true (bare_word first ∷ bare_word second ∷ []) comment ≡ Ok (pair_line first second comment)
+pair_class : (inside : Bool) (first second : List ℕ) (comment : Option (List ℕ)) → class_of inside (bare_word first ∷ bare_word second ∷ []) comment ≡ Ok (pair_line first second comment)
 unfolding class_of
-pair_class first second comment = refl
+pair_class true first second comment = refl
+pair_class false first second comment = refl
 
--- after a line in a block that is two bare words
-pub pair_read : (left : Unread) (lines : List (Line Placed)) (front next first second : List ℕ) (at : Place) → HasRead left lines → at ≡ record left.at { number = left.at.number + 1 } → left.at.inside ≡ true
-    → lines_of left.rest ≡ front ∷ lines_of next → HasNoLineFeed front → length next < length left.rest → length front + length next ≤ length left.rest → ((more : List ℕ) × (left.rest ≡ front ++ more))
+-- after a line that is two bare words
+pub pair_read : (left : Unread) (lines : List (Line Placed)) (front next first second : List ℕ) (at : Place) → HasRead left lines → at ≡ record left.at { number = left.at.number + 1 } → lines_of left.rest ≡ front ∷ lines_of next → HasNoLineFeed front → length next < length left.rest → length front + length next ≤ length left.rest → ((more : List ℕ) × (left.rest ≡ front ++ more))
     → next ≡ drop (length left.rest - length next) left.rest → (0 < length next → length left.rest ≡ length front + 1 + length next)
     → IsPairText front first second → IsPairRead (unread left.source next at) lines first second
-pair_read left lines front next first second at so is inside cut no_feed shorter within begins is_rest feed (comment, reading) =
+pair_read left lines front next first second at so is cut no_feed shorter within begins is_rest feed (comment, reading) =
     let words : List Word = bare_word first ∷ bare_word second ∷ [] in
     let offset : ℕ = length left.source - length left.rest in
     let w = place_words offset left.at.number None front words comment reading.reads in
     let l : Line Placed = Entry w.tokens comment in
     let same : plain l ≡ pair_line first second comment = ap (λ (ws : List Word). Entry ws comment) w.are in
     let only : IsOnlyLine left.at.inside front (Ok (plain l)) =
-    subst (λ (b : Bool). IsOnlyLine b front (Ok (plain l))) (sym inside)
-    (subst (λ (x : Line Word). IsOnlyLine true front (Ok x)) (sym same) (one_line true front words comment reading (pair_line first second comment) (pair_class first second comment))) in (
+    subst (λ (x : Line Word). IsOnlyLine left.at.inside front (Ok x)) (sym same) (one_line left.at.inside front words comment reading (pair_line first second comment) (pair_class left.at.inside first second comment)) in (
       l,
       comment,
       same,

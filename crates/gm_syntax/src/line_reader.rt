@@ -1,13 +1,13 @@
 //! Reading a document line by line: each line is given away before the next one is read, so that a document can be
 //! read without keeping its lines.
 
-ghost use Rattle.std.specs.Prelude.{◌≡◌, ◌+◌, ◌<◌, ◌≤◌, ◌-◌, ◌^◌, ◌∷◌, ◌++◌, [], ℕ, List, length, drop, IfOk, IfErr, IfSome, IfNone, IsSome, OnErr};
+ghost use Rattle.std.specs.Prelude.{◌≡◌, ◌+◌, ◌<◌, ◌≤◌, ◌-◌, ◌^◌, ◌∷◌, ◌++◌, [], ℕ, List, length, drop, IfOk, IfErr, IfSome, IfNone, IsSome, IsTrue, IsFalse, OnErr};
 ghost use Rattle.gm_syntax.specs.Tokens.{Placed, AreSlicesBetween, AreNumbered};
 ghost use Rattle.gm_syntax.specs.LineViews.{line_of, tokens_of};
 ghost use Rattle.gm_syntax.specs.Lines.{line_len, lines_of, HasNoLineFeed};
 ghost use Rattle.gm_syntax.specs.Parsed.{IsParsedAs};
 ghost use Rattle.gm_syntax.specs.Placing.{FillsLine};
-ghost use Rattle.gm_syntax.specs.Document.{Line as LineOf};
+ghost use Rattle.gm_syntax.specs.Document.{Line as LineOf, Blank};
 ghost use Rattle.gm_syntax.specs.Reader.{IsLineReadAs};
 ghost use Rattle.gm_syntax.specs.LineReading.{HasRead, IsNextRead, IsRestRead};
 ghost use Rattle.gm_syntax.specs.Pairs.{IsPairRead};
@@ -17,6 +17,7 @@ use crate::line::{Line, classify};
 use crate::pair::pair_in;
 use crate::place::Place;
 use crate::reader::read_line;
+use crate::scan::begins_line_feed;
 use crate::token::Token;
 use memchr::memchr;
 use std::alloc::Global;
@@ -115,8 +116,8 @@ impl<'a> LineReader<'a> {
         }
     }
 
-    /// The words of the next line, where that is in a block and consists of two bare words, perhaps with a comment. It
-    /// takes a fraction of the time of `next`, and no memory.
+    /// The words of the next line, where that consists of two bare words, perhaps with a comment. It takes a fraction of
+    /// the time of `next`, and no memory.
     ///
     /// `None`, and a reader that is unchanged, for every other line, and for some unusual lines of two bare words:
     /// `next` reads these.
@@ -127,7 +128,7 @@ impl<'a> LineReader<'a> {
         ensures shorter { IfSome result (λ words. length self.new.rest < length self.old.rest) }
         ensures none { IfNone result (self.new ≡ self.old) }
     {
-        if !self.place.inside || self.rest.is_empty() {
+        if self.rest.is_empty() {
             return None;
         }
         let (front, after) = split_first_line(self.rest);
@@ -137,7 +138,25 @@ impl<'a> LineReader<'a> {
         Some(pair)
     }
 
+    /// Passes over the next line if that is empty, and says whether it did. It takes a fraction of the time of `next`.
+    pub fn skip_blank(&mut self) -> bool
+        ensures blank { IsTrue result → (lines : List (LineOf Placed)) → HasRead self.old lines
+            → HasRead self.new (lines ++ Blank ∷ []) }
+        ensures source { self.new.source ≡ self.old.source }
+        ensures shorter { IsTrue result → length self.new.rest < length self.old.rest }
+        ensures not_blank { IsFalse result → self.new ≡ self.old }
+    {
+        let Some(after) = after_line_feed(self.rest) else {
+            return false;
+        };
+        self.place.number += 1;
+        self.rest = after;
+        true
+    }
+
     /// Takes a line back, so that the next one can use the memory of its words.
+    // Inlined, so that the line isn't moved.
+    #[inline(always)]
     pub fn recycle(&mut self, line: Line<'a>)
         ensures { self.new ≡ self.old }
     {
@@ -181,7 +200,20 @@ fn line_len(bytes: &[u8]) -> usize
     memchr(b'\n', bytes).unwrap_or(bytes.len())
 }
 
+/// The text after the line feed that it begins with, if it does.
+fn after_line_feed(text: &str) -> Option<&str>
+    ensures { IfSome result (λ after. text.now ≡ 10 ∷ after.now) }
+{
+    if !begins_line_feed(text.as_bytes()) {
+        return None;
+    }
+    let (_, after) = text.split_at(1);
+    Some(after)
+}
+
 /// The first line without its line feed, and the text after that line feed. The text must not be empty.
+// Inlined, since each line goes through here.
+#[inline(always)]
 fn split_first_line(text: &str) -> (&str, &str)
     requires { 0 < length text.now }
     ensures lines { lines_of text.now ≡ result.0.now ∷ lines_of result.1.now }

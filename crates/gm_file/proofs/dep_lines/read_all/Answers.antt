@@ -7,8 +7,10 @@ use Rattle.gm_syntax.specs.LineReading.{HasRead, Unread}
 use Rattle.gm_syntax.specs.LineViews.{line_of, plain}
 use Rattle.gm_syntax.specs.Parsed.{IsParsedAs}
 use Rattle.gm_file.specs.DepLines.{AreDepLines}
+use Rattle.gm_file.specs.Requiring.{AreReadSofar}
 use Rattle.gm_file.proofs.DepReading.{misread-syntax}
 use Rattle.gm_file.proofs.dep_lines.read_all.Goals as goal
+use Rattle.gm_file.proofs.dep_lines.read_all.Goals.{After-skip_blanks}
 
 pub returns-in_err-line-clause-fault : goal.returns-in_err-line-clause-fault
 returns-in_err-line-clause-fault c =
@@ -17,17 +19,25 @@ returns-in_err-line-clause-fault c =
     let p = err_from_is_err_and c.from_residual.result c.from_residual.ensures.1 in
     rw (p.1, p.2) (misread-syntax c.args.reader.now.source c.in_err-line.field-0.0 parsed)
 
-pub loop-line-preserved : goal.loop-line-preserved
-loop-line-preserved c =
+-- what has been read before blanks are passed over
+before_blanks : (c : After-skip_blanks) → AreReadSofar c.recycle.new.self c.read_line.new.self
+before_blanks c =
     let so = c.loop-line.invariant.read in
     let line = line_of c.in-Some.line in
     let read = rw c.in-Some.is at (c.in_ok-line.ensures.next so.0 so.1) in
+    (
+      so.0 ++ line ∷ [],
+      subst (λ (u : Unread). HasRead u (so.0 ++ line ∷ [])) (sym c.recycle.ensures) read,
+      subst (λ (ls : List (Line Word)). AreDepLines ls c.read_line.new.self) (sym (map_push plain so.0 line)) (c.in_default-read_line.ensures.read _ so.2),
+    )
+
+pub loop-line-preserved : goal.loop-line-preserved
+loop-line-preserved c =
     record {
-      source = ap (λ (u : Unread). u.source) c.recycle.ensures ∙ c.in_ok-line.ensures.source ∙ c.loop-line.invariant.source;
+      source = c.skip_blanks.ensures.source ∙ ap (λ (u : Unread). u.source) c.recycle.ensures ∙ c.in_ok-line.ensures.source ∙ c.loop-line.invariant.source;
       found = c.in_default-read_line.ensures.found;
-      read = (
-        so.0 ++ line ∷ [],
-        subst (λ (u : Unread). HasRead u (so.0 ++ line ∷ [])) (sym c.recycle.ensures) read,
-        subst (λ (ls : List (Line Word)). AreDepLines ls c.read_line.new.self) (sym (map_push plain so.0 line)) (c.in_default-read_line.ensures.read _ so.2),
-      );
+      read = c.skip_blanks.ensures.read c.read_line.new.self (before_blanks (goal.at.loop-line-preserved c).After-skip_blanks);
     }
+
+pub read_pairs-requires-clause-read : goal.read_pairs-requires-clause-read
+read_pairs-requires-clause-read c = c.skip_blanks.ensures.read c.read_line.new.self (before_blanks (goal.at.read_pairs-requires-clause-read c).After-skip_blanks)
