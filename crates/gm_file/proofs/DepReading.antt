@@ -23,7 +23,7 @@ use Rattle.gm_file.specs.Faults.{fault_of}
 use Rattle.gm_file.specs.Fields.{Dependency}
 use Rattle.gm_file.specs.Holding.{AreFound, AreReadTo, Holds, IsLineAdded}
 use Rattle.gm_file.specs.ReadFaults.{read_by_file, read_by_syntax}
-use Rattle.gm_file.specs.Requiring.{AreReadSofar}
+use Rattle.gm_file.specs.PairLines.{AreReadSofar}
 use Rattle.gm_file.specs.Retracting.{retraction_at}
 use Rattle.gm_file.specs.Views.{file_fault_at, interval_views}
 use Rattle.gm_file.proofs.Lines.{fault-reported, read-more, read-none}

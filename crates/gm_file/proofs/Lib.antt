@@ -17,4 +17,4 @@ pub mod Lines
 pub mod Whole
 pub mod Retracted
 pub mod DepReading
-pub mod Requiring
+pub mod PairLines

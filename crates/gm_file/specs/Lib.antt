@@ -14,4 +14,4 @@ pub mod Holding
 pub mod Retracting
 pub mod ReadFaults
 pub mod DepLines
-pub mod Requiring
+pub mod PairLines

@@ -1,6 +1,6 @@
 //! A dependency's file read from its bytes: line by line and in one pass, so that no document is kept.
 
-ghost use Rattle.std.specs.Prelude.{◌≡◌, ◌≤◌, ◌∷◌, ◌++◌, [], ℕ, List, Option, IfErr, IfOk, IsTrue, OnOk, length};
+ghost use Rattle.std.specs.Prelude.{◌≡◌, ◌≤◌, ◌∷◌, ◌++◌, [], ℕ, List, None, Option, IfErr, IfOk, IsTrue, OnOk, length};
 ghost use Rattle.std.specs.Option.{option_map};
 ghost use Rattle.gm_syntax.specs.Document.{Line as LineOf};
 ghost use Rattle.gm_syntax.specs.LineReading.{HasRead};
@@ -12,12 +12,12 @@ ghost use Rattle.gm_file.specs.declared.dep_lines.DepLines.{DepLines};
 ghost use Rattle.gm_file.specs.DepLines.{AreAllRead, AreDepLines, HasNextFault, IsMisread, IsNextLineOf};
 ghost use Rattle.gm_file.specs.Directives.{block_after_line};
 ghost use Rattle.gm_file.specs.Holding.{AreFound};
-ghost use Rattle.gm_file.specs.Requiring.{AreReadSofar, IsRequiring};
+ghost use Rattle.gm_file.specs.PairLines.{AreReadSofar, IsRequiring};
 
 use crate::fault::{LineFault, ReadFault};
 use crate::fields::Fields;
 use crate::replace::Interval;
-use crate::retractions::add_retraction;
+use crate::retractions::{add_retraction, add_single_retraction};
 use crate::verb::Mode;
 use gm_name::KnownNames;
 use gm_syntax::{Line, LineReader, Token};
@@ -118,6 +118,25 @@ impl<'a> DepLines<'a> {
     {
         self.fields.read_requirement(names, path, version)
     }
+
+    /// Reads the next line, which is these two bare words outside blocks.
+    fn read_single(
+        &mut self,
+        names: &mut KnownNames,
+        verb: &str,
+        value: &str,
+    ) -> Result<(), LineFault>
+        requires block { self.old.block ≡ None }
+        requires found { AreFound self.old.fields }
+        ensures block { OnOk result (self.new.block ≡ None) }
+        ensures found { OnOk result (AreFound self.new.fields) }
+        ensures read { (lines : List (LineOf Word)) (suffix : Option (List ℕ)) → AreDepLines lines self.old
+            → IsNextLineOf lines (pair_line verb.now value.now suffix) self.new result }
+    {
+        self.fields.read_single(names, verb, value)?;
+        add_single_retraction(names, &mut self.retracts, verb, value)?;
+        Ok(())
+    }
 }
 
 /// The fault of the bytes, given the fault of the last line that was read: a fault of the text on a later line comes
@@ -142,8 +161,7 @@ fn skip_blanks(reader: &mut LineReader)
     'blanks: while reader.skip_blank() {}
 }
 
-/// Reads the next lines in a block of `require` that are two bare words, up to the first other line. Nearly all lines
-/// of a file are of this kind, and they are read without their tokens.
+/// Reads the next lines in a block of `require` that are two bare words, up to the first other line.
 fn read_pairs(
     names: &mut KnownNames,
     reader: &mut LineReader,
@@ -166,6 +184,54 @@ fn read_pairs(
     Ok(())
 }
 
+/// Reads the next lines outside blocks that are empty or two bare words, up to the first other line.
+fn read_singles(
+    names: &mut KnownNames,
+    reader: &mut LineReader,
+    said: &mut DepLines,
+) -> Result<(), ReadFault>
+    requires block { said.old.block ≡ None }
+    requires found { AreFound said.old.fields }
+    requires read { AreReadSofar reader.old said.old }
+    ensures found { OnOk result (AreFound said.new.fields) }
+    ensures read { OnOk result (AreReadSofar reader.new said.new) }
+    ensures source { OnOk result (reader.new.source ≡ reader.old.source) }
+    ensures no_longer { OnOk result (length reader.new.rest ≤ length reader.old.rest) }
+    ensures fault { IfErr result (IsMisread reader.old.source) }
+{
+    skip_blanks(reader);
+    while let Some((verb, value)) = reader.next_pair() {
+        if let Err(fault) = said.read_single(names, verb, value) {
+            return Err(fault_of_all(reader, fault));
+        }
+        skip_blanks(reader);
+    }
+    Ok(())
+}
+
+/// Reads the next lines as far as that needs no tokens. Nearly all lines of a file are read here.
+fn read_ahead(
+    names: &mut KnownNames,
+    reader: &mut LineReader,
+    said: &mut DepLines,
+) -> Result<(), ReadFault>
+    requires found { AreFound said.old.fields }
+    requires read { AreReadSofar reader.old said.old }
+    ensures found { OnOk result (AreFound said.new.fields) }
+    ensures read { OnOk result (AreReadSofar reader.new said.new) }
+    ensures source { OnOk result (reader.new.source ≡ reader.old.source) }
+    ensures no_longer { OnOk result (length reader.new.rest ≤ length reader.old.rest) }
+    ensures fault { IfErr result (IsMisread reader.old.source) }
+{
+    if said.is_requiring() {
+        return read_pairs(names, reader, said);
+    }
+    if said.block.is_none() {
+        return read_singles(names, reader, said);
+    }
+    Ok(())
+}
+
 /// Reads every line, so that what no lines say becomes what all lines say.
 fn read_all<'a>(
     alloc: Global,
@@ -179,15 +245,13 @@ fn read_all<'a>(
     ensures ok { OnOk result (AreAllRead reader.old.source said.new) }
     ensures fault { IfErr result (IsMisread reader.old.source) }
 {
+    read_ahead(names, reader, said)?;
     while let Some(line) = reader.next()? {
         if let Err(fault) = said.read_line(alloc, names, &line) {
             return Err(fault_of_all(reader, fault));
         }
         reader.recycle(line);
-        skip_blanks(reader);
-        if said.is_requiring() {
-            read_pairs(names, reader, said)?;
-        }
+        read_ahead(names, reader, said)?;
     }
     Ok(())
 }

@@ -9,7 +9,7 @@ ghost use Rattle.gm_file.specs.DirectiveViews.{directive_view};
 ghost use Rattle.gm_file.specs.Faults.{go_in, path_kinds};
 ghost use Rattle.gm_file.specs.Holding.{AreFound, AreRead, Holds, IsAdded, IsLineAdded};
 ghost use Rattle.gm_file.specs.Reading.{own_kinds};
-ghost use Rattle.gm_file.specs.Requiring.{require_item};
+ghost use Rattle.gm_file.specs.PairLines.{require_item, single_item};
 ghost use Rattle.gm_file.specs.VerbViews.{mode_view};
 ghost use Rattle.gm_file.specs.Views.{ReportsFault};
 
@@ -17,7 +17,7 @@ use crate::directive::{Directive, read_line_with_names};
 use crate::exclusions::Exclusions;
 use crate::fault::{DirectiveKind, FileFault, LineFault};
 use crate::go_version::{lax_go, strict_go};
-use crate::part::pair_of_texts;
+use crate::part::{pair_of_texts, read_path};
 use crate::replace::Interval;
 use crate::replacements::Replacements;
 use crate::verb::Mode;
@@ -143,6 +143,31 @@ impl Fields {
     {
         let pair = pair_of_texts(names, path, version)?;
         self.requirements.push(pair)?;
+        Ok(())
+    }
+
+    /// Adds the directive of this verb and this value, which are the bare words of a line outside blocks in a
+    /// dependency's file.
+    pub(crate) fn read_single(
+        &mut self,
+        names: &mut KnownNames,
+        verb: &str,
+        value: &str,
+    ) -> Result<(), LineFault>
+        requires { AreFound self.old }
+        ensures found { OnOk result (AreFound self.new) }
+        ensures added { IsLineAdded Lax self.old self.new (single_item verb.now value.now) result }
+    {
+        if verb == "module" {
+            let path = read_path(names, value)?;
+            return self.add_module(path);
+        }
+        if verb == "go" {
+            return self.add_go(Mode::Lax, value);
+        }
+        if verb == "require" {
+            return Err(LineFault::Kind(DirectiveKind::WrongArguments));
+        }
         Ok(())
     }
 

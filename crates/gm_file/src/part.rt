@@ -144,7 +144,11 @@ pub(crate) fn read_pair(
 }
 
 /// The interval between the versions that two texts spell.
-fn interval_of_texts(names: &mut KnownNames, low: &str, high: &str) -> Result<Interval, LineFault>
+pub(crate) fn interval_of_texts(
+    names: &mut KnownNames,
+    low: &str,
+    high: &str,
+) -> Result<Interval, LineFault>
     ensures { IsRead interval_view DirectiveKind.WrongArguments ends_kinds (Some (low.now, high.now)) result }
 {
     let low = read_version(names, low)?;

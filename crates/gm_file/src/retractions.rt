@@ -7,12 +7,13 @@ ghost use Rattle.gm_syntax.specs.LineViews.{line_of, line_views, plain, plain_li
 ghost use Rattle.gm_syntax.specs.Tokens.{words_of};
 ghost use Rattle.gm_file.specs.Directives.{item_at};
 ghost use Rattle.gm_file.specs.Fields.{lax_retracts_of};
+ghost use Rattle.gm_file.specs.PairLines.{single_item};
 ghost use Rattle.gm_file.specs.Retracting.{IsEntryRead, retraction_at, retraction_in};
 ghost use Rattle.gm_file.specs.Views.{interval_view, interval_views};
 
 use crate::fault::LineFault;
 use crate::fields::block_after_line;
-use crate::part::{is_empty_block, read_interval};
+use crate::part::{interval_of_texts, is_empty_block, read_interval};
 use crate::replace::Interval;
 use gm_name::KnownNames;
 use gm_syntax::{Line, Token};
@@ -97,6 +98,43 @@ pub(crate) fn add_retraction(
         (retraction_at (item_at (option_map (λ t. t.now.word) block.entry, plain (line_of line.now))))) }
 {
     if let Some(interval) = retraction_at(alloc, names, block, line)? {
+        intervals.push(interval)?;
+    }
+    Ok(())
+}
+
+/// The interval that a line outside blocks retracts, if it retracts one, where the line is these two bare words.
+fn single_retraction(
+    names: &mut KnownNames,
+    verb: &str,
+    value: &str,
+) -> Result<Option<Interval>, AllocError>
+    ensures { IfOk result (λ interval. option_map interval_view interval
+        ≡ retraction_at (single_item verb.now value.now)) }
+{
+    if verb != "retract" {
+        return Ok(None);
+    }
+    match interval_of_texts(names, value, value) {
+        Ok(interval) => Ok(Some(interval)),
+        Err(fault) => match fault {
+            LineFault::NoMemory => Err(AllocError),
+            LineFault::Kind(_) => Ok(None),
+        },
+    }
+}
+
+/// Adds the interval that a line outside blocks retracts, if it retracts one, where the line is these two bare words.
+pub(crate) fn add_single_retraction(
+    names: &mut KnownNames,
+    intervals: &mut Vec<Interval>,
+    verb: &str,
+    value: &str,
+) -> Result<(), AllocError>
+    ensures { OnOk result (interval_views intervals.new.items
+        ≡ interval_views intervals.old.items ++ option_to_list (retraction_at (single_item verb.now value.now))) }
+{
+    if let Some(interval) = single_retraction(names, verb, value)? {
         intervals.push(interval)?;
     }
     Ok(())

@@ -1,4 +1,4 @@
-use Rattle.std.proofs.Common.{ℕ, List, [], ◌∷◌, ◌++◌, Err, ap, subst, sym, ◌∙◌}
+use Rattle.std.proofs.Common.{ℕ, List, [], ◌∷◌, ◌++◌, Err, subst, sym, ◌∙◌}
 use Rattle.std.proofs.lemmas.List.{map_push}
 use Rattle.std.proofs.lemmas.Result.{err_from_is_err_and}
 use Rattle.gm_syntax.specs.Words.{Word}
@@ -7,37 +7,23 @@ use Rattle.gm_syntax.specs.LineReading.{HasRead, Unread}
 use Rattle.gm_syntax.specs.LineViews.{line_of, plain}
 use Rattle.gm_syntax.specs.Parsed.{IsParsedAs}
 use Rattle.gm_file.specs.DepLines.{AreDepLines}
-use Rattle.gm_file.specs.Requiring.{AreReadSofar}
 use Rattle.gm_file.proofs.DepReading.{misread-syntax}
 use Rattle.gm_file.proofs.dep_lines.read_all.Goals as goal
-use Rattle.gm_file.proofs.dep_lines.read_all.Goals.{After-skip_blanks}
 
 pub returns-in_err-line-clause-fault : goal.returns-in_err-line-clause-fault
 returns-in_err-line-clause-fault c =
     let so = c.loop-line.invariant.read in
-    let parsed = subst (λ (s : List ℕ). IsParsedAs s (Err c.in_err-line.field-0.0)) (c.in_err-line.ensures.source ∙ c.loop-line.invariant.source) (c.in_err-line.ensures.next so.0 so.1) in
-    let p = err_from_is_err_and c.from_residual.result c.from_residual.ensures.1 in
+    let source = c.in_err-line.ensures.source ∙ c.loop-line.invariant.source ∙ c.in_ok-read_ahead.ensures.source in
+    let parsed = subst (λ (s : List ℕ). IsParsedAs s (Err c.in_err-line.field-0.0)) source (c.in_err-line.ensures.next so.0 so.1) in
+    let p = err_from_is_err_and c.from_residual-in_err-line.result c.from_residual-in_err-line.ensures.1 in
     rw (p.1, p.2) (misread-syntax c.args.reader.now.source c.in_err-line.field-0.0 parsed)
 
--- what has been read before blanks are passed over
-before_blanks : (c : After-skip_blanks) → AreReadSofar c.recycle.new.self c.read_line.new.self
-before_blanks c =
+pub read_ahead-requires-in-Some-clause-read : goal.read_ahead-requires-in-Some-clause-read
+read_ahead-requires-in-Some-clause-read c =
     let so = c.loop-line.invariant.read in
     let line = line_of c.in-Some.line in
-    let read = rw c.in-Some.is at (c.in_ok-line.ensures.next so.0 so.1) in
-    (
+    let read = rw c.in-Some.is at (c.in_ok-line.ensures.next so.0 so.1) in (
       so.0 ++ line ∷ [],
       subst (λ (u : Unread). HasRead u (so.0 ++ line ∷ [])) (sym c.recycle.ensures) read,
       subst (λ (ls : List (Line Word)). AreDepLines ls c.read_line.new.self) (sym (map_push plain so.0 line)) (c.in_default-read_line.ensures.read _ so.2),
     )
-
-pub loop-line-preserved : goal.loop-line-preserved
-loop-line-preserved c =
-    record {
-      source = c.skip_blanks.ensures.source ∙ ap (λ (u : Unread). u.source) c.recycle.ensures ∙ c.in_ok-line.ensures.source ∙ c.loop-line.invariant.source;
-      found = c.in_default-read_line.ensures.found;
-      read = c.skip_blanks.ensures.read c.read_line.new.self (before_blanks (goal.at.loop-line-preserved c).After-skip_blanks);
-    }
-
-pub read_pairs-requires-clause-read : goal.read_pairs-requires-clause-read
-read_pairs-requires-clause-read c = c.skip_blanks.ensures.read c.read_line.new.self (before_blanks (goal.at.read_pairs-requires-clause-read c).After-skip_blanks)

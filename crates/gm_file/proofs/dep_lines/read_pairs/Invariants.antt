@@ -1,6 +1,6 @@
 use Rattle.std.proofs.Common.{◌≡◌, ◌≤◌, length}
 use Rattle.gm_file.specs.Holding.{AreFound}
-use Rattle.gm_file.specs.Requiring.{AreReadSofar, IsRequiring}
+use Rattle.gm_file.specs.PairLines.{AreReadSofar, IsRequiring}
 use Rattle.gm_file.proofs.dep_lines.read_pairs.Given as goal
 
 abbrev pub invariant-loop-path : goal.invariant-loop-path

@@ -1,6 +1,6 @@
 use Rattle.std.proofs.Common.{◌∙◌, sym, subst, arith}
 use Rattle.gm_syntax.specs.LineReading.{Unread}
-use Rattle.gm_file.specs.Requiring.{AreReadSofar}
+use Rattle.gm_file.specs.PairLines.{AreReadSofar}
 use Rattle.gm_file.proofs.DepReading.{sofar-blank}
 use Rattle.gm_file.proofs.dep_lines.skip_blanks.Goals as goal
 

@@ -1,6 +1,6 @@
 use Rattle.std.proofs.Common.{◌≡◌, ◌≤◌, length}
 use Rattle.gm_file.specs.declared.dep_lines.DepLines.{DepLines}
-use Rattle.gm_file.specs.Requiring.{AreReadSofar}
+use Rattle.gm_file.specs.PairLines.{AreReadSofar}
 use Rattle.gm_file.proofs.dep_lines.skip_blanks.Given as goal
 
 abbrev pub invariant-blanks : goal.invariant-blanks

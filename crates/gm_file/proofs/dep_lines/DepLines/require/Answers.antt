@@ -1,4 +1,4 @@
-use Rattle.gm_file.proofs.Requiring.{requires-next}
+use Rattle.gm_file.proofs.PairLines.{requires-next}
 use Rattle.gm_file.proofs.dep_lines.DepLines.require.Goals as goal
 
 pub returns-clause-read : goal.returns-clause-read

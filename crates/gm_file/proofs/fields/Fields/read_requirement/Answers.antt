@@ -1,5 +1,5 @@
 use Rattle.std.proofs.lemmas.Result.{err_from_is_err_and}
-use Rattle.gm_file.proofs.Requiring.{require-bad, require-sound}
+use Rattle.gm_file.proofs.PairLines.{require-bad, require-sound}
 use Rattle.gm_file.proofs.Saying.{say-requirement}
 use Rattle.gm_file.proofs.fields.Fields.read_requirement.Goals as goal
 

@@ -1,6 +1,7 @@
--- Lines of a block of `require` that are two bare words.
-use Rattle.std.proofs.Common.{◌≡◌, ℕ, List, [], ◌∷◌, ◌++◌, codes, Option, Some, None, Result, Ok, Err, OnOk, refl, sym, ap, subst, ◌∙◌, append-nil}
-use Rattle.std.specs.Option.{option_map, option_to_list}
+-- Lines that are two bare words, in a block of `require` and outside blocks.
+use Rattle.std.proofs.Common.{◌≡◌, ℕ, true, false, List, [], ◌∷◌, ◌++◌, codes, Option, Some, None, Result, Ok, Err, OnOk, refl, sym, ap, subst, ◌∙◌, append-nil}
+use Rattle.std.specs.Option.{option_to_list}
+use Rattle.std.specs.Str.{bytes_eq}
 use Rattle.gm_syntax.specs.Words.{Word}
 use Rattle.gm_syntax.specs.Tokens.{Placed}
 use Rattle.gm_syntax.specs.Document.{Line}
@@ -11,13 +12,15 @@ use Rattle.gm_file.specs.declared.fault.LineFault.{LineFault}
 use Rattle.gm_file.specs.declared.fault.LineFault.TheVariants as line
 use Rattle.gm_file.specs.declared.fields.Fields.{Fields}
 use Rattle.gm_file.specs.DepLines.{AreDepLines, HasNextFault, IsNextLineOf}
-use Rattle.gm_file.specs.Directives.{Item, Saying, Pair, Lax, Strict, Requires, directive_in, directive_of, item_at}
-use Rattle.gm_file.specs.Faults.{directive_kinds, item_kinds, pair_kinds}
+use Rattle.gm_file.specs.Directives.{Directive, DeclaresGo, DeclaresModule, Item, Kept, Saying, Pair, Lax, Requires, directive_in, directive_of, item_at}
+use Rattle.gm_file.specs.Faults.{directive_kinds, item_kinds, pair_kinds, path_kinds}
+use Rattle.gm_file.specs.Fields.{first}
 use Rattle.gm_file.specs.Holding.{AreFound, IsLineAdded}
 use Rattle.gm_file.specs.Reading.{IsRead}
-use Rattle.gm_file.specs.Requiring.{IsRequiring, require_item}
+use Rattle.gm_file.specs.PairLines.{IsRequiring, require_item, single_item}
 use Rattle.gm_file.specs.Retracting.{retraction_at}
-use Rattle.gm_file.specs.Views.{interval_view, interval_views}
+use Rattle.gm_file.specs.Views.{interval_views}
+use Rattle.gm_file.proofs.Arrows.{first-append}
 use Rattle.gm_file.proofs.DepReading.{dep-fault, dep-more, word_of}
 
 -- ---- what such a line says
@@ -73,3 +76,47 @@ pub requires-next : (lines : List (Line Word)) (path version : List ℕ) (suffix
     → IsLineAdded Lax old.fields fields (require_item path version) result → IsNextLineOf lines (pair_line path version suffix) (record old { fields = fields }) result
 requires-next lines path version suffix old fields (Ok u) requiring so found added = requires-more lines path version suffix old fields requiring so found added
 requires-next lines path version suffix old fields (Err fault) requiring so found told = requires-fault lines path version suffix old fields fault requiring so told
+
+-- ---- outside blocks
+
+pub single-module : (verb value : List ℕ) → bytes_eq verb (codes "module") ≡ true → directive_in Lax (single_item verb value) ≡ Some (DeclaresModule value)
+unfolding directive_of
+single-module verb value is = rw is refl
+
+pub single-go : (verb value : List ℕ) → bytes_eq verb (codes "module") ≡ false → bytes_eq verb (codes "go") ≡ true → directive_in Lax (single_item verb value) ≡ Some (DeclaresGo value)
+unfolding directive_of
+single-go verb value a is = rw (a, is) refl
+
+pub single-require : (verb value : List ℕ) → bytes_eq verb (codes "module") ≡ false → bytes_eq verb (codes "go") ≡ false → bytes_eq verb (codes "require") ≡ true
+    → (ds : List Directive) → first (item_kinds Lax ds (single_item verb value)) ≡ Some WrongArguments
+unfolding directive_of
+single-require verb value a b is ds = rw (a, b, is) refl
+
+pub single-nothing : (verb value : List ℕ) → bytes_eq verb (codes "module") ≡ false → bytes_eq verb (codes "go") ≡ false → bytes_eq verb (codes "require") ≡ false
+    → directive_in Lax (single_item verb value) ≡ Some Kept
+unfolding directive_of
+single-nothing verb value a b c = rw (a, b, c) refl
+
+pub single-bad : (old new : Fields) (verb value : List ℕ) (fault : LineFault) → bytes_eq verb (codes "module") ≡ true → IsRead {Y = List ℕ} (λ path. path) WrongArguments path_kinds (Some value) (Err fault)
+    → IsLineAdded Lax old new (single_item verb value) (Err fault)
+unfolding directive_of directive_kinds
+single-bad old new verb value line.NoMemory is told = tt
+single-bad old new verb value (line.Kind kind) is told = rw is (λ ds holds. first-append (path_kinds value) _ kind told)
+
+single-is : (said : DepLines) (verb value : List ℕ) (suffix : Option (List ℕ)) → said.block ≡ None → item_at (word_of said.block, pair_line verb value suffix) ≡ single_item verb value
+unfolding item_at
+single-is said verb value suffix none = ap (λ (b : Option Placed). item_at (word_of b, pair_line verb value suffix)) none
+
+pub single-more : (lines : List (Line Word)) (verb value : List ℕ) (suffix : Option (List ℕ)) (old new : DepLines) → old.block ≡ None → new.block ≡ old.block → AreDepLines lines old → AreFound new.fields
+    → IsLineAdded Lax old.fields new.fields (single_item verb value) (Ok tt) → interval_views new.retracts.items ≡ interval_views old.retracts.items ++ option_to_list (retraction_at (single_item verb value))
+    → AreDepLines (lines ++ pair_line verb value suffix ∷ []) new
+single-more lines verb value suffix old new none same so found added retracts =
+    let item = single-is old verb value suffix none in
+    dep-more lines (pair_line verb value suffix) (word_of old.block) old new so refl found (subst (λ (i : Item). IsLineAdded Lax old.fields new.fields i (Ok tt)) (sym item) added)
+    (retracts ∙ ap (λ (i : Item). interval_views old.retracts.items ++ option_to_list (retraction_at i)) (sym item)) (ap word_of same)
+
+pub single-fault : (lines : List (Line Word)) (verb value : List ℕ) (suffix : Option (List ℕ)) (old : DepLines) (new : Fields) (fault : LineFault) → old.block ≡ None → AreDepLines lines old
+    → IsLineAdded Lax old.fields new (single_item verb value) (Err fault) → HasNextFault lines (pair_line verb value suffix) fault
+single-fault lines verb value suffix old new fault none so told =
+    dep-fault lines (pair_line verb value suffix) (word_of old.block) old new fault so refl
+    (subst (λ (i : Item). IsLineAdded Lax old.fields new i (Err fault)) (sym (single-is old verb value suffix none)) told)

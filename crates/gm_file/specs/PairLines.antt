@@ -1,4 +1,4 @@
--- Lines of a block of `require` that are two bare words.
+-- Lines that are two bare words, in a block of `require` and outside blocks.
 use Rattle.std.specs.Prelude.{◌≡◌, ℕ, List, [], ◌∷◌, codes, Some}
 use Rattle.gm_syntax.specs.LineReading.{Unread, HasRead}
 use Rattle.gm_syntax.specs.LineViews.{plain_lines}
@@ -16,6 +16,10 @@ IsRequiring said = (verb : Placed) × (said.block ≡ Some verb) × (verb.word.s
 -- the content of a line of these two bare words in a block of `require`
 abbrev pub require_item : List ℕ → List ℕ → Item
 require_item path version = Saying (codes "require") (bare_word path ∷ bare_word version ∷ [])
+
+-- the content of a line of these two bare words outside blocks
+abbrev pub single_item : List ℕ → List ℕ → Item
+single_item verb value = Saying verb (bare_word value ∷ [])
 
 -- some lines have been read, and this is what they say
 abbrev pub AreReadSofar : Unread → DepLines → Type 0
