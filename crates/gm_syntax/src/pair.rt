@@ -35,7 +35,7 @@ fn split_word(text: &str) -> Option<(&str, &str)>
     Some(text.split_at(bare_len(bytes)))
 }
 
-/// The two bare words that the line consists of, if it does, with perhaps a comment behind them; `None` also for some
+/// The two bare words that the line consists of, if it does, with perhaps a comment after them; `None` also for some
 /// lines that do.
 pub(crate) fn pair_in(line: &str) -> Option<(&str, &str)>
     ensures { IfSome result (λ words. IsPairText line.now words.0.now words.1.now) }
