@@ -25,10 +25,10 @@ pub weaker : {X : Type 0} (p q : X → Bool) → ((x : X) → p x ≡ true → q
 weaker p q gives [] all = refl
 weaker p q gives (x ∷ xs) all = and_from _ _ (gives x (first_so _ _ all)) (weaker p q gives xs (second_so _ _ all))
 
-all-append : (p : ℕ → Bool) (xs ys : List ℕ) → list_all p xs ≡ true → list_all p ys ≡ true → list_all p (xs ++ ys) ≡ true
+pub all-append : (p : ℕ → Bool) (xs ys : List ℕ) → list_all p xs ≡ true → list_all p ys ≡ true → list_all p (xs ++ ys) ≡ true
 all-append p xs ys a b = rw (list_all-append p xs ys) (and_from _ _ a b)
 
-all-join : (p : ℕ → Bool) (c : ℕ) (pieces : List (List ℕ)) → p c ≡ true → list_all (λ piece. list_all p piece) pieces ≡ true → list_all p (join_with_byte c pieces) ≡ true
+pub all-join : (p : ℕ → Bool) (c : ℕ) (pieces : List (List ℕ)) → p c ≡ true → list_all (λ piece. list_all p piece) pieces ≡ true → list_all p (join_with_byte c pieces) ≡ true
 all-join p c [] mark each = refl
 all-join p c (x ∷ []) mark each = first_so _ _ each
 all-join p c (x ∷ y ∷ rest) mark each =

@@ -16,3 +16,4 @@ pub mod BaseVersions
 pub mod PseudoTexts
 pub mod Fronts
 pub mod Words
+pub mod PreReleases
