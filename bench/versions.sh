@@ -70,7 +70,7 @@ awk -v mine="$mine" -v theirs="$theirs" -v busy="$busy" -v their_busy="$their_bu
   -v memory="$memory" -v their_memory="$their_memory" -v size="$size" 'BEGIN {
   printf "gomod versions  %6.2f s, of the processor %6.2f s, %5.0f MB, %.1f times the list\n", mine, busy, memory / 1e6, memory / size
   printf "sort -V -u      %6.2f s, of the processor %6.2f s, %5.0f MB\n", theirs, their_busy, their_memory / 1e6
-  printf "ratio           %6.2f,   of the processor %6.2f   (goal: at most 1, and below 25 times the list)\n", mine / theirs, busy / their_busy
+  printf "ratio           %6.2f,   of the processor %6.2f   (goal: at most 1, and at most 8 times the list)\n", mine / theirs, busy / their_busy
 }'
 read -r mine busy memory status < <(best - "$gomod" versions example.com/p --proxy "$work/proxy")
 [ "$status" = 0 ] || { echo "gomod versions --proxy ended with status $status" >&2; exit 1; }

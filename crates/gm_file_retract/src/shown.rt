@@ -8,7 +8,7 @@ ghost use Rattle.gm_file_retract.specs.Shown.{shown_of};
 
 use crate::sweep::{Sweep, advance, is_reached, sorted_ends};
 use gm_file::Interval;
-use gm_name::{ModVersion, NoMemory};
+use gm_name::{BorrowedVersion, NoMemory};
 use std::alloc::Global;
 
 /// The versions that no interval contains, in their order (Go Modules Reference, retract directive).
@@ -19,11 +19,11 @@ use std::alloc::Global;
 /// `versions` must ascend strictly, so without duplicates. The intervals may come in any order. They are sorted
 /// once, and then each version and each interval is visited once. The only refusal is `NoMemory`, when memory runs
 /// out.
-pub fn shown_versions<'a>(
+pub fn shown_versions<'a, 'v>(
     alloc: Global,
-    versions: &'a [ModVersion],
+    versions: &'a [BorrowedVersion<'v>],
     intervals: &[Interval],
-) -> Result<Vec<&'a ModVersion>, NoMemory>
+) -> Result<Vec<&'a BorrowedVersion<'v>>, NoMemory>
     requires { IsStrictlySortedBy version_cmp versions.now }
     ensures { IfOk result (λ shown. map (λ version. version.now) shown.items
         ≡ shown_of (interval_views intervals.now) versions.entry.now) }

@@ -8,7 +8,7 @@ ghost use Rattle.gm_file_retract.specs.Shown.{is_at_most};
 ghost use Rattle.gm_file_retract.specs.Swept.{AreAllSwept, AreSorted, AreSwept, is_reached, ends_views};
 
 use gm_file::Interval;
-use gm_name::{ModVersion, NoMemory};
+use gm_name::{BorrowedVersion, ModVersion, NoMemory};
 use std::alloc::Global;
 use std::cmp::Ordering;
 
@@ -31,18 +31,18 @@ pub(crate) struct Sweep<'a> {
 }
 
 /// Whether a version has lower precedence than another, or the same (SemVer 2.0.0, section 11).
-pub(crate) fn is_at_most(one: &ModVersion, other: &ModVersion) -> bool
+pub(crate) fn is_at_most(one: &BorrowedVersion<'_>, other: &BorrowedVersion<'_>) -> bool
     ensures { result ≡ is_at_most one.now other.now }
 {
     one.precedence(other) != Ordering::Greater
 }
 
 /// Whether a version is at most the highest end so far. False if there is no end.
-pub(crate) fn is_reached(version: &ModVersion, reach: Option<&ModVersion>) -> bool
+pub(crate) fn is_reached(version: &BorrowedVersion<'_>, reach: Option<&ModVersion>) -> bool
     ensures { result ≡ is_reached version.now (option_map (λ reach. reach.now) reach.entry) }
 {
     match reach {
-        Some(reach) => is_at_most(version, reach),
+        Some(reach) => is_at_most(version, &reach.borrowed()),
         None => false,
     }
 }
@@ -53,7 +53,13 @@ fn higher_end<'a>(reach: Option<&'a ModVersion>, high: &'a ModVersion) -> &'a Mo
         ≡ (is_reached version (option_map (λ reach. reach.now) reach.entry) || is_at_most version high.entry.now) }
 {
     match reach {
-        Some(reach) => { if is_at_most(high, reach) { reach } else { high } }
+        Some(reach) => {
+            if is_at_most(&high.borrowed(), &reach.borrowed()) {
+                reach
+            } else {
+                high
+            }
+        }
         None => high,
     }
 }
@@ -76,7 +82,11 @@ pub(crate) fn sorted_ends<'a>(
 
 /// Continues a sweep past each interval that begins at this version or before. The version must not precede the one
 /// that the sweep has reached.
-pub(crate) fn advance<'a>(ends: &[Ends<'a>], from: Sweep<'a>, version: &ModVersion) -> Sweep<'a>
+pub(crate) fn advance<'a>(
+    ends: &[Ends<'a>],
+    from: Sweep<'a>,
+    version: &BorrowedVersion<'_>,
+) -> Sweep<'a>
     requires { AreSwept (ends_views ends.now) version.now from.next (option_map (λ reach. reach.now) from.reach) }
     ensures { AreAllSwept (ends_views ends.now) version.now result.next (option_map (λ reach. reach.now) result.reach) }
 {
@@ -84,7 +94,7 @@ pub(crate) fn advance<'a>(ends: &[Ends<'a>], from: Sweep<'a>, version: &ModVersi
     let mut reach = from.reach;
     'ends: while next < ends.len() {
         let interval = ends[next];
-        if !is_at_most(interval.low, version) {
+        if !is_at_most(&interval.low.borrowed(), version) {
             break;
         }
         reach = Some(higher_end(reach, interval.high));

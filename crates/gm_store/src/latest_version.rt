@@ -5,17 +5,17 @@
 ghost use Rattle.std.specs.Prelude.{◌≡◌, ◌&&◌, [], MatchOption, option_map};
 ghost use Rattle.gm_store.specs.Latest.{IsGreatestOrNone, IsLatest, counts, is_greater};
 
-use gm_name::ModVersion;
+use gm_name::BorrowedVersion;
 
 /// Whether a version is considered: any version, or a release if `releases_only` is set.
-fn counts(releases_only: bool, version: &ModVersion) -> bool
+fn counts(releases_only: bool, version: &BorrowedVersion<'_>) -> bool
     ensures { result ≡ counts releases_only version.now }
 {
     !releases_only || version.is_release()
 }
 
 /// Whether a version is greater than the greatest one so far. It is if there is none so far.
-fn is_greater(version: &ModVersion, best: Option<&ModVersion>) -> bool
+fn is_greater<'a>(version: &BorrowedVersion<'a>, best: Option<&BorrowedVersion<'a>>) -> bool
     ensures { result ≡ is_greater version.now (option_map (λ best. best.now) best.entry) }
 {
     match best {
@@ -25,7 +25,11 @@ fn is_greater(version: &ModVersion, best: Option<&ModVersion>) -> bool
 }
 
 /// Whether a version is considered, and is greater than the greatest one so far.
-fn is_better(releases_only: bool, version: &ModVersion, best: Option<&ModVersion>) -> bool
+fn is_better<'a>(
+    releases_only: bool,
+    version: &BorrowedVersion<'a>,
+    best: Option<&BorrowedVersion<'a>>,
+) -> bool
     ensures { result ≡ (counts releases_only version.now
         && is_greater version.now (option_map (λ best. best.now) best.entry)) }
 {
@@ -33,10 +37,13 @@ fn is_better(releases_only: bool, version: &ModVersion, best: Option<&ModVersion
 }
 
 /// The greatest of the versions that are considered, or `None` if there is none of them.
-fn greatest(versions: &[ModVersion], releases_only: bool) -> Option<&ModVersion>
+fn greatest<'a>(
+    versions: &'a [BorrowedVersion<'a>],
+    releases_only: bool,
+) -> Option<&'a BorrowedVersion<'a>>
     ensures { IsGreatestOrNone releases_only versions.now (option_map (λ best. best.now) result) }
 {
-    let mut best: Option<&ModVersion> = None;
+    let mut best: Option<&BorrowedVersion<'a>> = None;
     for version in versions {
         if is_better(releases_only, version, best) {
             best = Some(version);
@@ -52,7 +59,7 @@ fn greatest(versions: &[ModVersion], releases_only: bool) -> Option<&ModVersion>
 /// no memory is allocated.
 ///
 /// For example, the latest of `v1.0.0`, `v1.2.0` and `v2.0.0-rc.1` is `v1.2.0`.
-pub fn latest(versions: &[ModVersion]) -> Option<&ModVersion>
+pub fn latest<'a>(versions: &'a [BorrowedVersion<'a>]) -> Option<&'a BorrowedVersion<'a>>
     ensures { MatchOption result (versions.now ≡ []) (λ version. IsLatest versions.now version.now) }
 {
     match greatest(versions, true) {

@@ -9,21 +9,14 @@ ghost use Rattle.gm_store.specs.Lines.{first_word};
 ghost use Rattle.gm_store.specs.Listed.{AreListed, HoldsListable, IsListable, IsPseudoVersion};
 
 use crate::blanks::first_word;
-use gm_name::{ModPath, ModVersion, NoMemory, VersionFault, fits, pseudo};
+use gm_name::{BorrowedVersion, ModPath, ModVersion, NoMemory, VersionFault, fits, pseudo};
 use std::alloc::{AllocError, Global};
 
-/// The version that a word spells, or `None` if it isn't a canonical version. The only refusal is `NoMemory`.
-fn version_in(alloc: Global, word: &[u8]) -> Result<Option<ModVersion>, NoMemory>
-    ensures some { IfOk result (λ found. IfSome found (λ version. (version ≡ word.now) × IsVersion word.now)) }
-    ensures none { IfOk result (λ found. IfNone found (¬ (IsVersion word.now))) }
+/// The version that a text spells, or `None` if it isn't a canonical version. The only refusal is `NoMemory`.
+fn version_in(alloc: Global, text: &str) -> Result<Option<ModVersion>, NoMemory>
+    ensures some { IfOk result (λ found. IfSome found (λ version. (version ≡ text.now) × IsVersion text.now)) }
+    ensures none { IfOk result (λ found. IfNone found (¬ (IsVersion text.now))) }
 {
-    // Rejects most other words by one byte, without allocating.
-    if word.first() != Some(&b'v') {
-        return Ok(None);
-    }
-    let Ok(text) = str::from_utf8(word) else {
-        return Ok(None);
-    };
     match ModVersion::parse(alloc, text) {
         Ok(version) => Ok(Some(version)),
         Err(VersionFault::NoMemory) => Err(AllocError),
@@ -47,26 +40,51 @@ fn is_listable(path: &ModPath, version: &ModVersion) -> bool
     !is_pseudo(version) && fits(path, version)
 }
 
+/// The version that a text spells, or `None` if it isn't one that may be listed for the module. The only refusal
+/// is `NoMemory`.
+fn listable_text<'a>(
+    alloc: Global,
+    path: &ModPath,
+    text: &'a str,
+) -> Result<Option<BorrowedVersion<'a>>, NoMemory>
+    ensures some { IfOk result (λ found. IfSome found (λ version. (version ≡ text.now)
+        × IsListable path.now text.now)) }
+    ensures none { IfOk result (λ found. IfNone found (¬ (IsListable path.now text.now))) }
+{
+    match version_in(alloc, text)? {
+        Some(version) if is_listable(path, &version) => Ok(Some(version.in_text(text))),
+        _ => Ok(None),
+    }
+}
+
 /// The version that a word spells, or `None` if it isn't one that may be listed for the module. The only refusal
 /// is `NoMemory`.
-fn listable_in(alloc: Global, path: &ModPath, word: &[u8]) -> Result<Option<ModVersion>, NoMemory>
+fn listable_in<'a>(
+    alloc: Global,
+    path: &ModPath,
+    word: &'a [u8],
+) -> Result<Option<BorrowedVersion<'a>>, NoMemory>
     ensures some { IfOk result (λ found. IfSome found (λ version. (version ≡ word.now)
         × IsListable path.now word.now)) }
     ensures none { IfOk result (λ found. IfNone found (¬ (IsListable path.now word.now))) }
 {
-    match version_in(alloc, word)? {
-        Some(version) if is_listable(path, &version) => Ok(Some(version)),
-        _ => Ok(None),
+    // Rejects most other words by one byte, without allocating.
+    if word.first() != Some(&b'v') {
+        return Ok(None);
+    }
+    match str::from_utf8(word) {
+        Ok(text) => listable_text(alloc, path, text),
+        Err(_) => Ok(None),
     }
 }
 
 /// Appends the version that a line names, if it is one that may be listed for the module. The only refusal is
 /// `NoMemory`.
-fn push_listable(
+fn push_listable<'a>(
     alloc: Global,
     path: &ModPath,
-    line: &[u8],
-    versions: &mut Vec<ModVersion>,
+    line: &'a [u8],
+    versions: &mut Vec<BorrowedVersion<'a>>,
 ) -> Result<(), NoMemory>
     ensures { OnOk result ((words : List (List ℕ)) → HoldsListable path.now words versions.old.items
         → HoldsListable path.now (words ++ first_word line.now ∷ []) versions.new.items) }
@@ -77,18 +95,32 @@ fn push_listable(
     Ok(())
 }
 
+/// The length of the shortest line that names a version, `v0.0.0` with its line end.
+const SHORTEST: usize = 7;
+
+/// Room for the versions of a list: for one in each line, as far as the lines are long enough.
+fn room_for(text: &[u8]) -> usize {
+    let line_ends = text.iter().filter(|byte| **byte == b'\n').count();
+    line_ends.min(text.len() / SHORTEST) + 1
+}
+
 /// The versions that a module's list file names, without duplicates, in ascending order (Go Modules Reference,
-/// GOPROXY protocol, `$base/$module/@v/list`).
+/// GOPROXY protocol, `$base/$module/@v/list`). They borrow their texts from the list.
 ///
 /// The first word of each line is used if it is a canonical version, fits the path, and isn't a pseudo-version.
 /// All other lines are skipped, including those whose first word isn't UTF-8. Lines end at LF; words end at a
 /// space, a tab or a CR.
 ///
 /// Time is that of sorting the lines. The only refusal is `NoMemory`.
-pub fn versions_of(alloc: Global, path: &ModPath, text: &[u8]) -> Result<Vec<ModVersion>, NoMemory>
+pub fn versions_of<'a>(
+    alloc: Global,
+    path: &ModPath,
+    text: &'a [u8],
+) -> Result<Vec<BorrowedVersion<'a>>, NoMemory>
     ensures { IfOk result (λ versions. AreListed path.now text.now versions.items) }
 {
-    let mut versions = Vec::new(alloc);
+    // Room that grows would be copied, and then take twice the memory.
+    let mut versions = Vec::with_capacity(alloc, room_for(text))?;
     for line in text.split(|byte| *byte == b'\n') {
         push_listable(alloc, path, line, &mut versions)?;
     }

@@ -2,7 +2,7 @@
 
 use crate::call_faults::CallFault;
 use crate::name_calls::line_of;
-use gm_name::{ModPath, ModVersion};
+use gm_name::{BorrowedVersion, ModPath, ModVersion};
 use gm_store::{FileName, Looked, Mark};
 use gm_store_sums::SumTable;
 use std::alloc::{AllocError, Global};
@@ -37,8 +37,9 @@ pub(crate) fn listed(alloc: Global, path: &str, bytes: &[u8]) -> Result<String, 
 }
 
 /// Appends versions, one a line.
-fn push_versions(text: &mut String, versions: &[ModVersion]) -> Result<(), AllocError> {
+fn push_versions(text: &mut String, versions: &[BorrowedVersion<'_>]) -> Result<(), AllocError> {
     for version in versions {
+        let version = version.as_str();
         writeln!(text, "{version}")?;
     }
     Ok(())
@@ -52,7 +53,7 @@ pub(crate) fn latest(alloc: Global, path: &str, bytes: &[u8]) -> Result<String, 
 }
 
 /// The line with the latest of these versions.
-fn latest_of(alloc: Global, versions: &[ModVersion]) -> Result<String, CallFault> {
+fn latest_of(alloc: Global, versions: &[BorrowedVersion<'_>]) -> Result<String, CallFault> {
     match gm_store::latest(versions) {
         Some(version) => line_of(alloc, version.as_str()),
         None => line_of(alloc, "none"),

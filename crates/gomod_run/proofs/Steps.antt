@@ -1,6 +1,5 @@
 -- Runs of `versions` over a store, step by step.
-use Rattle.std.proofs.Common.{◌≡◌, ◌⊎◌, ◌∙◌, ◌++◌, ◌∷◌, zero, suc, ℕ, ◌<◌, Bool, true, false, List, [], Option, Some, None, Result, Ok, Err, Contains, IfErr, IfOk, ap, arith, codes, inl, inr, refl, subst, sym}
-use Rattle.std.specs.Global.{Vec}
+use Rattle.std.proofs.Common.{◌≡◌, ◌⊎◌, ◌∙◌, ◌++◌, ◌∷◌, zero, suc, ℕ, ◌<◌, Bool, true, false, List, [], Option, Some, None, Result, Ok, Err, Contains, IfErr, IfNone, IfOk, IfSome, ap, arith, codes, inl, inr, refl, subst, sym}
 use Rattle.std.specs.Result.{IsErr}
 use Rattle.gm_name.specs.Path.{is_fetchable}
 use Rattle.gm_store.specs.Asked.{Name, Reply, absent, answer_in, bytes, list_file, mod_file, too_long}
@@ -18,13 +17,11 @@ use Rattle.gm_graph_listing.specs.Outcomes.{Outcome, StopsWith, failed, outcome_
 use Rattle.gm_graph_listing.proofs.CommandOutcomes.{IsOutputOf, output_of}
 use Rattle.gm_graph_listing.specs.Reports.{device_line}
 use Rattle.gomod_run.specs.Asking.{IsAnsweredWith, IsAsked, IsFailedAsk, IsLatestAsked}
-use Rattle.gomod_run.specs.Listing.{IsListState}
+use Rattle.gomod_run.specs.Listing.{IsListAnswered}
 use Rattle.gomod_run.specs.Kinds.{list_line}
-use Rattle.gomod_run.specs.Reading.{IsListRead}
-use Rattle.gm_file_retract.specs.Shown.{shown_of}
 use Rattle.gm_store.specs.States.{StoreState}
 use Rattle.gomod_run.specs.Runs.{AnsweredAll, AskedInTurn, IsRunOutcome, FailsInTurn}
-use Rattle.gomod_run.specs.Versions.{AnswersByName, IsShownOutcome, IsVersionsOutcome, NeedsFile, VersionsNeed, shown_by, versions_line}
+use Rattle.gomod_run.specs.Versions.{AnswersByName, IsOutcomeByList, IsShownOutcome, IsVersionsOutcome, NeedsFile, VersionsNeed, shown_by, versions_line}
 use Rattle.gomod_run.specs.Written.{out_of_memory}
 use Rattle.gomod_run.proofs.Answering.{file_answer, list_answer}
 use Rattle.gomod_run.proofs.Uniqueness.{latest_once, listed_once, none_latest}
@@ -202,15 +199,19 @@ pub not_asked : {E : Type 0} (name : Name) (may : Name → Reply → Type 0) (st
 not_asked name may state (Ok output) is = absurd (cc is)
 not_asked name may state (Err e) is = (refl, inl refl)
 
--- the store answered for the list
-pub record ListAnswered (path : List ℕ) (may : Name → Reply → Type 0) (old new : StoreState) (reply : Reply) : Type 0 where
-  pub allowed : may (list_file path) reply
-  pub asked : new.asked ≡ (list_file path, reply) ∷ []
+-- the store answered with a list, which names these versions
+pub record IsListState (path : List ℕ) (may : Name → Reply → Type 0) (old new : StoreState) (versions : List (List ℕ)) : Type 0 where
+  pub list : List ℕ
+  pub fetchable : is_fetchable path ≡ true
+  pub allowed : may (list_file path) (bytes list)
+  pub asked : new.asked ≡ (list_file path, bytes list) ∷ []
   pub unrefused : new.refused ≡ old.refused
+  pub listed : AreListed path list versions
 
-pub list_answered : (path : List ℕ) (may : Name → Reply → Type 0) (old new : StoreState) (reply : Reply) → old.asked ≡ []
-    → IsAnsweredWith (list_file path) may old new reply → ListAnswered path may old new reply
-list_answered path may old new reply none answered = record {
+pub list_answered : (path : List ℕ) (may : Name → Reply → Type 0) (old new : StoreState) (reply : Reply) → is_fetchable path ≡ true → old.asked ≡ []
+    → IsAnsweredWith (list_file path) may old new reply → IsListAnswered path may old new reply
+list_answered path may old new reply fetchable none answered = record {
+  fetchable = fetchable;
   allowed = answered.0;
   asked = answered.1 ∙ ap (λ (a : Pairs). a ++ (list_file path, reply) ∷ []) none;
   unrefused = answered.2;
@@ -221,41 +222,121 @@ pub list_fails : (path : List ℕ) (all : Bool) (old new : StoreState) → is_fe
     → FailsInTurn (VersionsNeed path all) old new
 list_fails path all old new fetchable none more = inr (list_file path, (fetchable, inl refl), ap (λ (a : Pairs). answer_in a (list_file path)) none, more)
 
-pub list_allowed : (path : List ℕ) (may : Name → Reply → Type 0) (old new : StoreState) (reply : Reply) → ListAnswered path may old new reply
+pub list_allowed : (path : List ℕ) (may : Name → Reply → Type 0) (old new : StoreState) (reply : Reply) → IsListAnswered path may old new reply
     → (name : Name) (r : Reply) → Contains new.asked (name, r) → may name r
 list_allowed path may old new reply answered = one_allowed may new.asked (list_file path) reply answered.allowed answered.asked
 
-pub read_state : (path : List ℕ) (may : Name → Reply → Type 0) (old new : StoreState) (answer reply : Reply) (result : Result (Vec (List ℕ)) Stop)
-    → is_fetchable path ≡ true → ListAnswered path may old new reply → answer ≡ reply → IsListRead path answer result
-    → IfOk result (λ versions. IsListState path may old new versions.items)
-read_state path may old new answer reply (Err s) fetchable answered same known = tt
-read_state path may old new answer reply (Ok versions) fetchable answered same known = by_reply reply answered (subst (λ (r : Reply). IsListRead path r (Ok versions)) same known)
-  where
-    by_reply : (r : Reply) → ListAnswered path may old new r → IsListRead path r (Ok versions) → IsListState path may old new versions.items
-    by_reply (bytes list) a k = record { list = list; fetchable = fetchable; allowed = a.allowed; asked = a.asked; unrefused = a.unrefused; listed = k }
-    by_reply absent a k = absurd k
-    by_reply too_long a k = absurd k
+-- ---- what follows from the ask for the list
 
-pub read_comes : (path : List ℕ) (all : Bool) (may : Name → Reply → Type 0) (old new : StoreState) (answer reply : Reply) (result : Result (Vec (List ℕ)) Stop)
-    → is_fetchable path ≡ true → ListAnswered path may old new reply → answer ≡ reply → IsListRead path answer result
-    → IfErr result (StopsWith (IsRunOutcome (VersionsNeed path all) (IsVersionsOutcome path all) old new))
-read_comes path all may old new answer reply (Ok versions) fetchable answered same known = tt
-read_comes path all may old new answer reply (Err stop.NoMemory) fetchable answered same known = tt
-read_comes path all may old new answer reply (Err (stop.Reported output)) fetchable answered same known =
-    by_reply reply answered (subst (λ (r : Reply). IsListRead path r (Err (stop.Reported output))) same known)
-  where
-    by_reply : (r : Reply) → ListAnswered path may old new r → IsListRead path r (Err (stop.Reported output)) → IsRunOutcome (VersionsNeed path all) (IsVersionsOutcome path all) old new (outcome_view output)
-    by_reply (bytes list) a k = absurd k
-    by_reply absent a k = ends_missing path all old new (outcome_view output) fetchable a.asked a.unrefused k
-    by_reply too_long a k = ends_too_long path all old new (outcome_view output) fetchable a.asked a.unrefused k
+module _ {E : Type 0} (path : List ℕ) (may : Name → Reply → Type 0) (old new : StoreState) where
+  pub asked_answered : (result : Result (Option Output) E) → is_fetchable path ≡ true → old.asked ≡ [] → IsAsked (list_file path) may old new result
+      → IfOk result (λ output. IfNone output ((reply : Reply) × IsListAnswered path may old new reply))
+  asked_answered (Err e) fetchable none asked = tt
+  asked_answered (Ok (Some output)) fetchable none asked = tt
+  asked_answered (Ok None) fetchable none (reply, answered) = (reply, list_answered path may old new reply fetchable none answered)
 
--- the output of a stop is the outcome of `versions`
-pub stop_comes : {E X : Type 0} (path : List ℕ) (all : Bool) (old new : StoreState) (read : Result X Stop) (s : Stop) (result : Result Output E)
-    → IfErr read (StopsWith (IsRunOutcome (VersionsNeed path all) (IsVersionsOutcome path all) old new)) → read ≡ Err s → IsOutputOf s result
+  pub asked_comes : (all : Bool) (result : Result (Option Output) E) → is_fetchable path ≡ true → old.asked ≡ [] → IsAsked (list_file path) may old new result
+      → IfOk result (λ output. IfSome output (λ output. IsRunOutcome (VersionsNeed path all) (IsVersionsOutcome path all) old new (outcome_view output)))
+  asked_comes all (Err e) fetchable none asked = tt
+  asked_comes all (Ok None) fetchable none asked = tt
+  asked_comes all (Ok (Some output)) fetchable none asked = ends_device_list path all old new (outcome_view output) fetchable (asked.1 ∙ none) asked.0 asked.2
+
+  pub asked_in_turn : (all : Bool) (result : Result (Option Output) E) → is_fetchable path ≡ true → old.asked ≡ [] → IsAsked (list_file path) may old new result
+      → AskedInTurn (VersionsNeed path all) new.asked
+  asked_in_turn all (Err e) fetchable none asked = none_in_turn path all new.asked (asked.0 ∙ none)
+  asked_in_turn all (Ok (Some output)) fetchable none asked = none_in_turn path all new.asked (asked.1 ∙ none)
+  asked_in_turn all (Ok None) fetchable none (reply, answered) =
+      list_in_turn path all new.asked reply fetchable (list_answered path may old new reply fetchable none answered).asked
+
+  pub asked_fails : (all : Bool) (result : Result (Option Output) E) → is_fetchable path ≡ true → old.asked ≡ [] → IsAsked (list_file path) may old new result
+      → FailsInTurn (VersionsNeed path all) old new
+  asked_fails all (Err e) fetchable none (same, inl unrefused) = inl unrefused
+  asked_fails all (Err e) fetchable none (same, inr more) = list_fails path all old new fetchable (same ∙ none) more
+  asked_fails all (Ok (Some output)) fetchable none asked = list_fails path all old new fetchable (asked.1 ∙ none) asked.2
+  asked_fails all (Ok None) fetchable none (reply, answered) = inl answered.2
+
+  pub asked_allowed : (result : Result (Option Output) E) → is_fetchable path ≡ true → old.asked ≡ [] → IsAsked (list_file path) may old new result
+      → (name : Name) (r : Reply) → Contains new.asked (name, r) → may name r
+  asked_allowed (Err e) fetchable none asked = none_allowed may new.asked (asked.0 ∙ none)
+  asked_allowed (Ok (Some output)) fetchable none asked = none_allowed may new.asked (asked.1 ∙ none)
+  asked_allowed (Ok None) fetchable none (reply, answered) = list_allowed path may old new reply (list_answered path may old new reply fetchable none answered)
+
+-- ---- what follows from the answer for the list
+
+-- the answer is a list that names these versions
+pub listed_state : (path : List ℕ) (may : Name → Reply → Type 0) (old new : StoreState) (reply : Reply) (list : List ℕ) (versions : List (List ℕ))
+    → IsListAnswered path may old new reply → reply ≡ bytes list → AreListed path list versions → IsListState path may old new versions
+listed_state path may old new reply list versions answered is listed = record {
+  list = list;
+  fetchable = answered.fetchable;
+  allowed = subst (λ (r : Reply). may (list_file path) r) is answered.allowed;
+  asked = answered.asked ∙ ap (λ (r : Reply). (list_file path, r) ∷ []) is;
+  unrefused = answered.unrefused;
+  listed = listed;
+}
+
+-- an outcome that follows from the answer for the list, whatever else is answered, is that of `versions`
+pub ends_by_list : (path : List ℕ) (all : Bool) (may : Name → Reply → Type 0) (old new : StoreState) (reply : Reply) (output : Outcome)
+    → IsListAnswered path may old new reply → ((answers : AnswersByName) → IsOutcomeByList path all answers reply output)
+    → IsRunOutcome (VersionsNeed path all) (IsVersionsOutcome path all) old new output
+ends_by_list path all may old new absent output answered known =
+    ends_missing path all old new output answered.fetchable answered.asked answered.unrefused (known (answer_in new.asked))
+ends_by_list path all may old new too_long output answered known =
+    ends_too_long path all old new output answered.fetchable answered.asked answered.unrefused (known (answer_in new.asked))
+ends_by_list path all may old new (bytes list) output answered known = by (known (answer_in new.asked))
+  where
+    by : IsOutcomeByList path all (answer_in new.asked) (bytes list) output → IsRunOutcome (VersionsNeed path all) (IsVersionsOutcome path all) old new output
+    by (versions, listed, inl (every, is)) =
+        ends_all path all old new output list versions answered.fetchable listed every answered.asked answered.unrefused is
+    by (versions, listed, inr (latest, other, some, greatest, told, shows)) =
+        let none : answer_in new.asked (mod_file path latest) ≡ None = ap (λ (a : Pairs). answer_in a (mod_file path latest)) answered.asked in
+        absurd (cc (none, told))
+
+-- likewise the output of a command
+pub result_by_list : {E : Type 0} (path : List ℕ) (all : Bool) (may : Name → Reply → Type 0) (old new : StoreState) (reply : Reply) (result : Result Output E)
+    → IsListAnswered path may old new reply → ((answers : AnswersByName) → IfOk result (λ output. IsOutcomeByList path all answers reply (outcome_view output)))
     → IfOk result (λ output. IsRunOutcome (VersionsNeed path all) (IsVersionsOutcome path all) old new (outcome_view output))
-stop_comes path all old new read s result known is ends =
-    let Is = IsRunOutcome (VersionsNeed path all) (IsVersionsOutcome path all) old new in
-    output_of Is s result ends (rw is at known)
+result_by_list path all may old new reply (Err e) answered known = tt
+result_by_list path all may old new reply (Ok output) answered known = ends_by_list path all may old new reply (outcome_view output) answered known
+
+-- the output of a stop at the answer for the list
+pub stop_by_list : {E X : Type 0} (path : List ℕ) (all : Bool) (answers : AnswersByName) (reply : Reply) (read : Result X Stop) (s : Stop) (result : Result Output E)
+    → IfErr read (StopsWith (IsOutcomeByList path all answers reply)) → read ≡ Err s → IsOutputOf s result
+    → IfOk result (λ output. IsOutcomeByList path all answers reply (outcome_view output))
+stop_by_list path all answers reply read s result known is ends = output_of (IsOutcomeByList path all answers reply) s result ends (rw is at known)
+
+-- the output that prints all versions of the list
+pub printed_by_list : {E : Type 0} (path : List ℕ) (answers : AnswersByName) (reply : Reply) (list : List ℕ) (versions : List (List ℕ)) (result : Result Output E)
+    → reply ≡ bytes list → AreListed path list versions → IfOk result (λ output. outcome_view output ≡ printed (versions_line path versions))
+    → IfOk result (λ output. IsOutcomeByList path true answers reply (outcome_view output))
+printed_by_list path answers reply list versions (Err e) is listed says = tt
+printed_by_list path answers reply list versions (Ok output) is listed says =
+    subst (λ (r : Reply). IsOutcomeByList path true answers r (outcome_view output)) (sym is) (versions, listed, inl (inl refl, says))
+
+-- the outcome where all versions are asked for
+pub all_by_list : {E : Type 0} (path : List ℕ) (all : Bool) (may : Name → Reply → Type 0) (old new : StoreState) (answer reply : Reply) (result : Result Output E)
+    → all ≡ true → IsListAnswered path may old new reply → answer ≡ reply
+    → ((answers : AnswersByName) → IfOk result (λ output. IsOutcomeByList path true answers answer (outcome_view output)))
+    → IfOk result (λ output. IsRunOutcome (VersionsNeed path all) (IsVersionsOutcome path all) old new (outcome_view output))
+all_by_list path all may old new answer reply result every answered same known =
+    result_by_list path all may old new reply result answered (λ answers.
+    subst (λ (b : Bool). IfOk result (λ output. IsOutcomeByList path b answers reply (outcome_view output))) (sym every)
+    (subst (λ (r : Reply). IfOk result (λ output. IsOutcomeByList path true answers r (outcome_view output))) same (known answers)))
+
+-- the outcome where the answer is no list that can be read
+pub stop_comes : {E X : Type 0} (path : List ℕ) (all : Bool) (may : Name → Reply → Type 0) (old new : StoreState) (answer reply : Reply) (read : Result X Stop) (s : Stop) (result : Result Output E)
+    → IsListAnswered path may old new reply → answer ≡ reply → ((all : Bool) (answers : AnswersByName) → IfErr read (StopsWith (IsOutcomeByList path all answers answer)))
+    → read ≡ Err s → IsOutputOf s result
+    → IfOk result (λ output. IsRunOutcome (VersionsNeed path all) (IsVersionsOutcome path all) old new (outcome_view output))
+stop_comes path all may old new answer reply read s result answered same known is ends =
+    result_by_list path all may old new reply result answered (λ answers.
+    stop_by_list path all answers reply read s result
+    (subst (λ (r : Reply). IfErr read (StopsWith (IsOutcomeByList path all answers r))) same (known all answers)) is ends)
+
+-- no go.mod has been answered yet
+pub file_unasked : (path latest : List ℕ) (may : Name → Reply → Type 0) (old new : StoreState) (reply : Reply) → IsListAnswered path may old new reply
+    → answer_in new.asked (mod_file path latest) ≡ None
+file_unasked path latest may old new reply answered = ap (λ (a : Pairs). answer_in a (mod_file path latest)) answered.asked
 
 -- the device failed at the go.mod of the latest version, or memory ran out
 pub latest_failed : {E : Type 0} (path : List ℕ) (versions : List (List ℕ)) (latest : List ℕ) (may : Name → Reply → Type 0) (old new : StoreState) (result : Result Output E)
@@ -336,24 +417,9 @@ pub shown_read : (path : List ℕ) (versions : List (List ℕ)) (latest : List �
 shown_read path versions latest reply read reading outcome says is shows =
     record { reading = reading; says = subst (IsFileReading None (mod_file path latest) reply) is says; outcome_is = shows }
 
--- without intervals all versions are shown
-pub shown_all : (versions : List (List ℕ)) → shown_of [] versions ≡ versions
-shown_all [] = refl
-shown_all (v ∷ versions) = ap (λ (vs : List (List ℕ)). v ∷ vs) (shown_all versions)
-
 pub all_comes : {E : Type 0} (path : List ℕ) (all : Bool) (may : Name → Reply → Type 0) (old new : StoreState) (versions : List (List ℕ)) (result : Result Output E)
     → IsListState path may old new versions → (all ≡ true) ⊎ (versions ≡ []) → IfOk result (λ output. outcome_view output ≡ printed (versions_line path versions))
     → IfOk result (λ output. IsRunOutcome (VersionsNeed path all) (IsVersionsOutcome path all) old new (outcome_view output))
 all_comes path all may old new versions (Err e) state every known = tt
 all_comes path all may old new versions (Ok output) state every known =
     ends_all path all old new (outcome_view output) state.list versions state.fetchable state.listed every state.asked state.unrefused known
-
--- no go.mod has been answered yet
-pub file_unasked : (path latest : List ℕ) (may : Name → Reply → Type 0) (old new : StoreState) (versions : List (List ℕ)) → IsListState path may old new versions
-    → answer_in new.asked (mod_file path latest) ≡ None
-file_unasked path latest may old new versions state = ap (λ (a : Pairs). answer_in a (mod_file path latest)) state.asked
-
--- and all answers so far are ones that the store may give
-pub state_allowed : (path : List ℕ) (may : Name → Reply → Type 0) (old new : StoreState) (versions : List (List ℕ)) → IsListState path may old new versions
-    → (name : Name) (r : Reply) → Contains new.asked (name, r) → may name r
-state_allowed path may old new versions state = one_allowed may new.asked (list_file path) (bytes state.list) state.allowed state.asked

@@ -1,7 +1,6 @@
 pub mod Asking
 pub mod Edited
 pub mod Editing
-pub mod Reading
 pub mod Held
 pub mod Kinds
 pub mod Laws

@@ -1,23 +1,22 @@
 //! The outcome of `versions`: it needs a module's list and then perhaps one go.mod, so the asks of the store are
 //! ordered here.
 
-ghost use Rattle.std.specs.Prelude.{◌≡◌, ◌≤◌, ◌⊎◌, ◌++◌, [], Bool, Contains, IfErr, IfOk, MatchOption, None, OnOk, Some, codes, false, map, true};
+ghost use Rattle.std.specs.Prelude.{◌≡◌, ◌≤◌, ◌++◌, [], Bool, Contains, IfErr, IfNone, IfOk, IfSome, MatchOption, None, OnOk, Some, codes, map, true};
 ghost use Rattle.std.specs.String.{string_bytes};
 ghost use Rattle.std.specs.List.Sorted.{IsStrictlySortedBy};
 ghost use Rattle.gm_name.specs.Version.{version_cmp};
 ghost use Rattle.gm_file.specs.Views.{interval_views};
 ghost use Rattle.gm_file_retract.specs.Shown.{shown_of};
-ghost use Rattle.gm_store.specs.Asked.{Name, Reply, answer_in, list_file, mod_file, reply_of};
+ghost use Rattle.gm_store.specs.Asked.{Name, Reply, answer_in, bytes, list_file, mod_file, reply_of};
 ghost use Rattle.gm_store.specs.States.{RefusesWithCause};
 ghost use Rattle.gm_graph_cache.specs.Reading.{IsFileReading};
 ghost use Rattle.gm_graph_cache.specs.Summaries.{reading_of};
 ghost use Rattle.gm_graph_listing.specs.Outcomes.{StopsWith, outcome_view, printed};
 ghost use Rattle.gm_store.specs.Latest.{IsLatest};
 ghost use Rattle.gomod_run.specs.Asking.{IsAsked, IsLatestAsked};
-ghost use Rattle.gomod_run.specs.Listing.{IsListState};
-ghost use Rattle.gomod_run.specs.Reading.{IsListRead};
+ghost use Rattle.gomod_run.specs.Listing.{IsListAnswered};
 ghost use Rattle.gomod_run.specs.Runs.{AskedInTurn, IsRunOutcome, FailsInTurn};
-ghost use Rattle.gomod_run.specs.Versions.{IsShownOutcome, IsVersionsOutcome, VersionsNeed, versions_line};
+ghost use Rattle.gomod_run.specs.Versions.{AnswersByName, IsOutcomeByList, IsShownOutcome, IsVersionsOutcome, VersionsNeed, versions_line};
 
 use crate::asking::{ask_for, last_answer};
 use crate::report_lines::list_line;
@@ -25,12 +24,12 @@ use gm_file::Interval;
 use gm_file_retract::shown_versions;
 use gm_graph_cache::{Class, FileReading};
 use gm_graph_listing::{Output, Stop, fault_report, printed, refused};
-use gm_name::{KnownNames, ModPath, ModVersion, NoMemory};
+use gm_name::{BorrowedVersion, KnownNames, ModPath, ModVersion, NoMemory};
 use gm_store::{Answer, FileName, Files, latest, versions_of};
 use std::alloc::Global;
 
 /// Appends a space and a version.
-fn push_version(line: &mut String, version: &ModVersion) -> Result<(), NoMemory>
+fn push_version(line: &mut String, version: &BorrowedVersion<'_>) -> Result<(), NoMemory>
     ensures { OnOk result (string_bytes line.new ≡ string_bytes line.old ++ (codes " " ++ version.now)) }
 {
     line.push_str(" ")?;
@@ -41,10 +40,26 @@ fn push_version(line: &mut String, version: &ModVersion) -> Result<(), NoMemory>
 fn versions_line(
     alloc: Global,
     path: &ModPath,
-    versions: &[&ModVersion],
+    versions: &[&BorrowedVersion<'_>],
 ) -> Result<String, NoMemory>
     ensures { IfOk result (λ line. string_bytes line
         ≡ versions_line path.now (map (λ version. version.now) versions.now)) }
+{
+    let mut line = String::from_str(alloc, path.as_str())?;
+    'versions: for version in versions {
+        push_version(&mut line, version)?;
+    }
+    line.push_str("\n")?;
+    Ok(line)
+}
+
+/// The path and all versions on one line. This takes no list of those that are shown.
+fn all_line(
+    alloc: Global,
+    path: &ModPath,
+    versions: &[BorrowedVersion<'_>],
+) -> Result<String, NoMemory>
+    ensures { IfOk result (λ line. string_bytes line ≡ versions_line path.now versions.now) }
 {
     let mut line = String::from_str(alloc, path.as_str())?;
     'versions: for version in versions {
@@ -59,7 +74,7 @@ fn versions_line(
 fn shown_line(
     alloc: Global,
     path: &ModPath,
-    versions: &[ModVersion],
+    versions: &[BorrowedVersion<'_>],
     intervals: &[Interval],
 ) -> Result<String, NoMemory>
     requires { IsStrictlySortedBy version_cmp versions.now }
@@ -70,14 +85,28 @@ fn shown_line(
     versions_line(alloc, path, shown.as_slice())
 }
 
-/// The versions in a module's list. It stops with a report if there is no list or it is too long.
-fn read_list(alloc: Global, path: &ModPath, answer: &Answer) -> Result<Vec<ModVersion>, Stop>
-    ensures { IsListRead path.now (reply_of answer.now) result }
+/// The list of a module in the answer for it. It stops with a report if there is none or it is too long.
+fn list_in<'a>(alloc: Global, path: &ModPath, answer: &'a Answer) -> Result<&'a [u8], Stop>
+    ensures list { IfOk result (λ list. reply_of answer.entry.now ≡ bytes list.now) }
+    ensures refused { (all : Bool) (answers : AnswersByName) → IfErr result (StopsWith
+        (IsOutcomeByList path.now all answers (reply_of answer.entry.now))) }
 {
     match answer {
-        Answer::Bytes(list) => Ok(versions_of(alloc, path, list.as_slice())?),
+        Answer::Bytes(list) => Ok(list.as_slice()),
         Answer::Absent => Err(Stop::Reported(refused(alloc, list_line(alloc, path, "Missing")?))),
         Answer::TooLong => Err(Stop::Reported(refused(alloc, list_line(alloc, path, "TooLong")?))),
+    }
+}
+
+/// A copy of the list of a module, as `list_in` finds it.
+fn list_copy(alloc: Global, path: &ModPath, answer: &Answer) -> Result<Vec<u8>, Stop>
+    ensures list { IfOk result (λ list. reply_of answer.now ≡ bytes list.items) }
+    ensures refused { (all : Bool) (answers : AnswersByName) → IfErr result (StopsWith
+        (IsOutcomeByList path.now all answers (reply_of answer.now))) }
+{
+    match list_in(alloc, path, answer) {
+        Ok(list) => Ok(Vec::from_slice(alloc, list)?),
+        Err(stop) => Err(stop),
     }
 }
 
@@ -99,7 +128,7 @@ fn read_answer(alloc: Global, answer: &Answer) -> Result<FileReading, NoMemory>
 fn shown_outcome(
     alloc: Global,
     path: &ModPath,
-    versions: &[ModVersion],
+    versions: &[BorrowedVersion<'_>],
     latest: &ModVersion,
     answer: &Answer,
 ) -> Result<Output, NoMemory>
@@ -160,7 +189,7 @@ fn ask_for_mod<F: Files>(
 fn latest_outcome<F: Files>(
     alloc: Global,
     path: &ModPath,
-    versions: &[ModVersion],
+    versions: &[BorrowedVersion<'_>],
     latest: &ModVersion,
     files: &mut F,
 ) -> Result<Output, NoMemory>
@@ -178,16 +207,20 @@ fn latest_outcome<F: Files>(
     }
 }
 
-/// Asks for the list of a module. The result is the versions in it. It stops with the output that reports why there
-/// is no list to read.
-fn listed<F: Files>(alloc: Global, path: &ModPath, files: &mut F) -> Result<Vec<ModVersion>, Stop>
+/// Checks the path and asks for the list of the module. `None` where the store answered; otherwise the result is the
+/// output that reports why it did not.
+fn ask_if_fetchable<F: Files>(
+    alloc: Global,
+    path: &ModPath,
+    files: &mut F,
+) -> Result<Option<Output>, NoMemory>
     requires { (F.state files.old).asked ≡ [] }
-    ensures listed { IfOk result (λ versions. IsListState path.now (F.may_answer files.old)
-        (F.state files.old) (F.state files.new)
-        versions.items) }
-    ensures comes { (all : Bool) → IfErr result (StopsWith (IsRunOutcome
+    ensures answered { IfOk result (λ output. IfNone output ((reply : Reply)
+        × IsListAnswered path.now (F.may_answer files.old) (F.state files.old) (F.state files.new) reply)) }
+    ensures comes { (all : Bool) → IfOk result (λ output. IfSome output (λ output. IsRunOutcome
         (VersionsNeed path.now all) (IsVersionsOutcome path.now all)
-        (F.state files.old) (F.state files.new))) }
+        (F.state files.old) (F.state files.new)
+        (outcome_view output))) }
     ensures in_turn { (all : Bool) → AskedInTurn (VersionsNeed path.now all) (F.state files.new).asked }
     ensures fails { (all : Bool)
         → FailsInTurn (VersionsNeed path.now all)
@@ -200,33 +233,47 @@ fn listed<F: Files>(alloc: Global, path: &ModPath, files: &mut F) -> Result<Vec<
     ensures later { (F.state files.old).faults ≤ (F.state files.new).faults }
 {
     if !path.is_fetchable() {
-        return Err(Stop::Reported(refused(alloc, list_line(alloc, path, "NotFetchable")?)));
+        return Ok(Some(refused(alloc, list_line(alloc, path, "NotFetchable")?)));
     }
-    match ask_for_list(alloc, path, files)? {
-        Some(output) => Err(Stop::Reported(output)),
-        None => read_list(alloc, path, last_answer(files)),
-    }
+    ask_for_list(alloc, path, files)
 }
 
-/// The version whose go.mod is needed for its retractions: the latest, unless all versions are to be printed or
-/// there are none.
-fn asked_latest(versions: &[ModVersion], all: bool) -> Option<&ModVersion>
-    ensures { MatchOption result ((all ≡ true) ⊎ (versions.now ≡ []))
-        (λ latest. (all ≡ false) × IsLatest versions.now latest.now) }
+/// The latest of the listed versions, or `None` if there are none.
+fn latest_version(
+    alloc: Global,
+    versions: &[BorrowedVersion<'_>],
+) -> Result<Option<ModVersion>, NoMemory>
+    ensures { IfOk result (λ found. MatchOption found (versions.now ≡ []) (IsLatest versions.now)) }
 {
-    if all {
-        return None;
+    match latest(versions) {
+        Some(version) => Ok(Some(version.to_version(alloc)?)),
+        None => Ok(None),
     }
-    latest(versions)
 }
 
 /// The output that prints all listed versions.
-fn all_outcome(alloc: Global, path: &ModPath, versions: &[ModVersion]) -> Result<Output, NoMemory>
-    requires { IsStrictlySortedBy version_cmp versions.now }
+fn all_outcome(
+    alloc: Global,
+    path: &ModPath,
+    versions: &[BorrowedVersion<'_>],
+) -> Result<Output, NoMemory>
     ensures { IfOk result (λ output. outcome_view output ≡ printed (versions_line path.now versions.now)) }
 {
-    let line = shown_line(alloc, path, versions, &[])?;
+    let line = all_line(alloc, path, versions)?;
     Ok(printed(alloc, line))
+}
+
+/// The outcome of the answer for the list where all listed versions are to be printed.
+fn outcome_of_all(alloc: Global, path: &ModPath, answer: &Answer) -> Result<Output, NoMemory>
+    ensures { (answers : AnswersByName) → IfOk result (λ output.
+        IsOutcomeByList path.now true answers (reply_of answer.now) (outcome_view output)) }
+{
+    let list = match list_in(alloc, path, answer) {
+        Ok(list) => list,
+        Err(stop) => return stop.into_output(),
+    };
+    let versions = versions_of(alloc, path, list)?;
+    all_outcome(alloc, path, versions.as_slice())
 }
 
 /// The outcome of `versions` over a store that has not been asked yet. With `all`, retracted versions are printed
@@ -249,12 +296,20 @@ pub(crate) fn versions_outcome<F: Files>(
     ensures cause { RefusesWithCause (F.state files.old) (F.state files.new) }
     ensures later { (F.state files.old).faults ≤ (F.state files.new).faults }
 {
-    let versions = match listed(alloc, path, files) {
-        Ok(versions) => versions,
+    if let Some(output) = ask_if_fetchable(alloc, path, files)? {
+        return Ok(output);
+    }
+    if all {
+        return outcome_of_all(alloc, path, last_answer(files));
+    }
+    // The versions borrow their texts, and not from the store, which is asked once more.
+    let list = match list_copy(alloc, path, last_answer(files)) {
+        Ok(list) => list,
         Err(stop) => return stop.into_output(),
     };
-    match asked_latest(versions.as_slice(), all) {
-        Some(latest) => latest_outcome(alloc, path, versions.as_slice(), latest, files),
+    let versions = versions_of(alloc, path, list.as_slice())?;
+    match latest_version(alloc, versions.as_slice())? {
+        Some(latest) => latest_outcome(alloc, path, versions.as_slice(), &latest, files),
         None => all_outcome(alloc, path, versions.as_slice()),
     }
 }

@@ -1,6 +1,5 @@
-use Rattle.std.proofs.Common.{◌≡◌, ◌∙◌, ◌<◌, ap, arith, length, slice_index_or, subst, sym}
+use Rattle.std.proofs.Common.{◌≡◌, ◌∙◌, ◌<◌, ap, arith, length, slice_index_or, sym}
 use Rattle.std.proofs.lemmas.List.{get_or-map, length-map}
-use Rattle.gm_file.specs.Directives.{Pair}
 use Rattle.gm_file_retract.specs.Swept.{ends_view, ends_views}
 use Rattle.gm_file_retract.proofs.Sweeping.{swept_more}
 use Rattle.gm_file_retract.proofs.sweep.advance.Goals as goal
@@ -13,4 +12,4 @@ ends-preserved c =
     let item : ends_view x ≡ slice_index_or (ends_views xs) c.ends.next (ends_view x) =
     ap ends_view c.index-ends-next.is ∙ sym (get_or-map ends_view xs c.ends.next x (ends_view x) c.ends-test.true) in
     swept_more (ends_views xs) c.args.version.now c.ends.next _ (ends_view x) c.higher_end.result.now c.ends.invariant within item
-    (sym c.is_at_most.ensures ∙ c.if-not-is_at_most.false) c.higher_end.ensures
+    (rw c.borrowed.ensures at (sym c.is_at_most.ensures ∙ c.if-not-is_at_most.false)) c.higher_end.ensures
