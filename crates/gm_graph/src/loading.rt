@@ -179,7 +179,7 @@ pub fn load<F: Files>(
     let required = kept_requirements(alloc, main)?;
     let mut worklist = first_turns(alloc, main, &required)?;
     let mut builder = main_edges(alloc, &required)?;
-    let mut cache = Cache::new(alloc, main, sums);
+    let mut cache = Cache::new(alloc, main, sums)?;
     visit_all(alloc, &mut cache, files, &mut worklist, &mut builder)?;
     // The summaries are dropped here, before the list of edges takes its memory.
     let turns = cache.into_turns();

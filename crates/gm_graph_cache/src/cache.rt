@@ -22,6 +22,7 @@ use crate::class::Class;
 use crate::depth::{Depth, Turn};
 use crate::finding::Finding;
 use crate::load_fault::LoadFault;
+use crate::main_view;
 use crate::name_key::{NameKey, mark};
 use crate::naming::{file_name, is_askable};
 use crate::paths::is_right_path;
@@ -56,6 +57,15 @@ pub struct Cache<'a> {
 /// How many paths, and how many versions, are shared between files. Beyond that number more are read, but each has
 /// its own copy.
 const MOST_KNOWN: usize = 65_536;
+
+/// Known names with the paths that a main file requires.
+fn names_for(alloc: Global, main: &MainFile) -> Result<KnownNames, NoMemory> {
+    let mut names = KnownNames::new(alloc, MOST_KNOWN);
+    for y in main_view::requirements(main) {
+        names.learn(y.path())?;
+    }
+    Ok(names)
+}
 
 /// The answer to the last request.
 fn last_answer<F: Files>(files: &F) -> &Answer
@@ -127,21 +137,28 @@ impl<'a> Cache<'a> {
     ghost use Rattle.gm_graph_cache.specs.Cached.{HoldsSame, IsLender, IsUnchanged, Knows, LendsKept, LentSame, Lends, held_of, main_in, sums_in, turns_in};
 
     /// An empty cache for a main file. If there is a go.sum, the files that come from proxies are checked against
-    /// it.
-    pub fn new(alloc: Global, main: &'a MainFile<'a>, sums: Option<&'a SumTable<'a>>) -> Cache<'a>
-        ensures main { main_in result ≡ main_of main.entry.now }
-        ensures sums { sums_in result ≡ option_copied sums.entry }
-        ensures knows { Knows result [] }
-        ensures turns { turns_in result ≡ [] }
+    /// it. The only refusal is `NoMemory`.
+    ///
+    /// The paths that the main file requires are known from the start, since the files of these modules declare them.
+    pub fn new(
+        alloc: Global,
+        main: &'a MainFile<'a>,
+        sums: Option<&'a SumTable<'a>>,
+    ) -> Result<Cache<'a>, NoMemory>
+        ensures main { IfOk result (λ cache. main_in cache ≡ main_of main.entry.now) }
+        ensures sums { IfOk result (λ cache. sums_in cache ≡ option_copied sums.entry) }
+        ensures knows { IfOk result (λ cache. Knows cache []) }
+        ensures turns { IfOk result (λ cache. turns_in cache ≡ []) }
     {
-        Cache {
+        let names = names_for(alloc, main)?;
+        Ok(Cache {
             alloc,
             main,
             sums,
-            names: KnownNames::new(alloc, MOST_KNOWN),
+            names,
             summaries: Summaries::new(alloc),
             turns: Vec::new(alloc),
-        }
+        })
     }
 
     /// Asks for the file of a name that was not asked for, and reads it.

@@ -311,6 +311,15 @@ impl KnownNames {
         Ok(pair)
     }
 
+    /// Keeps a path that was read elsewhere, so that reading its text again shares its memory and doesn't test it.
+    /// Fails only when memory runs out.
+    pub fn learn(&mut self, path: &ModPath) -> Result<(), AllocError>
+        ensures room { self.new.room ≡ self.old.room }
+        ensures within { IsWithinRoom self.new }
+    {
+        self.keep_path(path.fingerprint(), path)
+    }
+
     /// The module path in a text, as `ModPath::parse` reads it.
     ///
     /// `BadPath` exactly when the text isn't a module path; `NoMemory` only if it is one.

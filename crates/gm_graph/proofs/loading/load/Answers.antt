@@ -22,6 +22,9 @@ returns-in_err-worklist-clause-asks g c = asks_nothing _ _ _ c.requires
 pub returns-in_err-builder-clause-asks : goal.returns-in_err-builder-clause-asks
 returns-in_err-builder-clause-asks g c = asks_nothing _ _ _ c.requires
 
+pub returns-in_err-cache-clause-asks : goal.returns-in_err-cache-clause-asks
+returns-in_err-cache-clause-asks g c = asks_nothing _ _ _ c.requires
+
 pub returns-in_err-worklist-clause-too_many : goal.returns-in_err-worklist-clause-too_many
 returns-in_err-worklist-clause-too_many g c = λ e.
     too_many_first (main_of c.args.main.now) (option_copied c.args.sums) (g.F.Files.state c.args.files.now).asked c.deref.result.now c.requires (c.deref.ensures.value ∙ c.in_ok-required.ensures)
@@ -30,15 +33,15 @@ returns-in_err-worklist-clause-too_many g c = λ e.
 pub returns-in_err-visit_all-clause-device : goal.returns-in_err-visit_all-clause-device
 returns-in_err-visit_all-clause-device g c = λ name e.
     let pairs = (g.F.Files.state c.visit_all.new.files).asked in
-    subst (λ (m : Main). IsDue m (option_copied c.args.sums) pairs (name_of name)) c.new-cache.ensures.main
-    (subst (λ (s : Option SumTable). IsDue (main_in c.new-cache.result) s pairs (name_of name)) c.new-cache.ensures.sums
+    subst (λ (m : Main). IsDue m (option_copied c.args.sums) pairs (name_of name)) c.in_ok-cache.ensures.main
+    (subst (λ (s : Option SumTable). IsDue (main_in c.in_ok-cache.cache) s pairs (name_of name)) c.in_ok-cache.ensures.sums
     (c.in_err-visit_all.ensures.device name (ap Err (sym (rw e at c.from_residual-in_err-visit_all.ensures.1)))))
 
 pub returns-in_err-visit_all-clause-too_many : goal.returns-in_err-visit_all-clause-too_many
 returns-in_err-visit_all-clause-too_many g c = λ e.
     let pairs = (g.F.Files.state c.visit_all.new.files).asked in
-    subst (λ (m : Main). Told m (option_copied c.args.sums) pairs (AreTooMany m)) c.new-cache.ensures.main
-    (subst (λ (s : Option SumTable). Told (main_in c.new-cache.result) s pairs (AreTooMany (main_in c.new-cache.result))) c.new-cache.ensures.sums
+    subst (λ (m : Main). Told m (option_copied c.args.sums) pairs (AreTooMany m)) c.in_ok-cache.ensures.main
+    (subst (λ (s : Option SumTable). Told (main_in c.in_ok-cache.cache) s pairs (AreTooMany (main_in c.in_ok-cache.cache))) c.in_ok-cache.ensures.sums
     (c.in_err-visit_all.ensures.too_many (ap Err (sym (rw e at c.from_residual-in_err-visit_all.ensures.1)))))
 
 pub returns-in_err-visit_all-clause-cause : goal.returns-in_err-visit_all-clause-cause
@@ -55,8 +58,8 @@ assemble-requires g c = record {
 pub returns-clause-loaded : goal.returns-clause-loaded
 returns-clause-loaded g c =
     let told = c.in_ok-assemble.ensures in
-    loads_of c.new-cache.result c.visit_all.new.cache (g.F.Files.state c.visit_all.new.files).asked c.visit_all.new.worklist c.visit_all.new.builder c.in_ok-visit_all.ensures.opened
-    (main_of c.args.main.now) (option_copied c.args.sums) c.new-cache.ensures.main c.new-cache.ensures.sums c.in_ok-assemble.field-0 c.visit_all.ensures.asks
+    loads_of c.in_ok-cache.cache c.visit_all.new.cache (g.F.Files.state c.visit_all.new.files).asked c.visit_all.new.worklist c.visit_all.new.builder c.in_ok-visit_all.ensures.opened
+    (main_of c.args.main.now) (option_copied c.args.sums) c.in_ok-cache.ensures.main c.in_ok-cache.ensures.sums c.in_ok-assemble.field-0 c.visit_all.ensures.asks
     told.main told.faults told.ordered told.ascending told.edges told.rows (told.turns ∙ c.into_turns-turns.ensures)
 
 pub returns-in_err-required-clause-may_answer : goal.returns-in_err-required-clause-may_answer
@@ -71,6 +74,11 @@ returns-in_err-worklist-clause-may_answer g c =
 
 pub returns-in_err-builder-clause-may_answer : goal.returns-in_err-builder-clause-may_answer
 returns-in_err-builder-clause-may_answer g c =
+    let old = g.F.Files.state c.args.files.now in
+    may_all _ old old c.requires (may_none _ old)
+
+pub returns-in_err-cache-clause-may_answer : goal.returns-in_err-cache-clause-may_answer
+returns-in_err-cache-clause-may_answer g c =
     let old = g.F.Files.state c.args.files.now in
     may_all _ old old c.requires (may_none _ old)
 
