@@ -1,5 +1,5 @@
 -- The edges of ascending adjacency lists, one after another, are in ascending order.
-use Rattle.std.proofs.Common.{◌≡◌, ◌+◌, ◌<◌, ℕ, List, [], ◌∷◌, ◌++◌, Bool, true, false, length, take, drop, get_or, Contains, ap, ap₂, ◌∙◌, sym, refl, inl, inr, arith}
+use Rattle.std.proofs.Common.{◌≡◌, ◌+◌, ◌<◌, ℕ, List, [], ◌∷◌, ◌++◌, true, false, length, take, drop, get_or, Contains, ap, ap₂, ◌∙◌, sym, refl, inl, inr, arith}
 use Rattle.std.specs.Prelude.{All, AllPairs}
 use Rattle.std.specs.declared.cmp.Ordering.{Ordering}
 use Rattle.std.specs.declared.cmp.Ordering.TheVariants.{Less, Equal, Greater}

@@ -1,10 +1,8 @@
 -- What is kept by fingerprint: the first file with one, and the others.
-use Rattle.std.proofs.Common.{◌≡◌, ◌∙◌, ℕ, Bool, true, false, cond, List, Option, Some, None, ap, nat_eq, refl, subst, sym}
+use Rattle.std.proofs.Common.{◌≡◌, ◌∙◌, ℕ, Bool, true, false, cond, Option, Some, None, ap, nat_eq, refl, subst, sym}
 use Rattle.std.proofs.lemmas.Bool.{eq-eqb, eqb-true}
-use Rattle.std.specs.Map.{lookup}
 use Rattle.sharded_map.specs.declared.sharded_map.ShardedMap.{ShardedMap}
 use Rattle.sharded_map.specs.Shards.{Puts, held}
-use Rattle.gm_store.specs.declared.files.FileName.{FileName}
 use Rattle.gm_store.specs.Asked.{Name, name_of, same_name}
 use Rattle.gm_store.proofs.NameOrder.{names_equal}
 use Rattle.gm_graph_cache.specs.declared.kept_files.KeptFile.{KeptFile}

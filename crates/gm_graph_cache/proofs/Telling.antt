@@ -10,7 +10,6 @@ use Rattle.gm_graph_cache.specs.declared.summary.Kept.{Kept}
 use Rattle.gm_graph_cache.specs.declared.cache.Cache.{Cache}
 use Rattle.gm_graph_cache.specs.Main.{Main, main_of}
 use Rattle.gm_graph_cache.specs.Reading.{Held, IsFileReading, IsTold, KeepsHeld, Tells}
-use Rattle.std.specs.Map.{lookup}
 use Rattle.gm_graph_cache.specs.Entries.{AddsSummary}
 use Rattle.gm_graph_cache.proofs.Keeping.{held_same, knows_still, main_same}
 use Rattle.gm_graph_cache.specs.Summaries.{IsKept, summary_reading}

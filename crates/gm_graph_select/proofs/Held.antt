@@ -2,7 +2,7 @@
 use Rattle.std.proofs.Common.{◌≡◌, ◌∙◌, ◌||◌, not, ℕ, Bool, true, false, cond, Option, Some, None, ap, nat_eq, refl, subst, sym}
 use Rattle.std.specs.Prelude.{unwrap_or}
 use Rattle.sharded_map.specs.declared.sharded_map.ShardedMap.{ShardedMap}
-use Rattle.sharded_map.specs.Shards.{Puts, held}
+use Rattle.sharded_map.specs.Shards.{held}
 use Rattle.std.proofs.lemmas.Bool.{eq-eqb, eqb-true}
 use Rattle.std.specs.BTreeSet as set
 use Rattle.std.specs.Ordering.{is_eq}

@@ -12,7 +12,6 @@ use Rattle.gm_graph_cache.specs.Reading.{IsContentReading, IsFileReading}
 use Rattle.gm_graph_cache.specs.Summaries.{reading_of}
 use Rattle.gm_graph_listing.specs.declared.output.Output.{Output}
 use Rattle.gm_graph_listing.specs.declared.output.Stop.{Stop}
-use Rattle.gm_graph_listing.specs.declared.output.Stop.TheVariants as stop
 use Rattle.gm_graph_listing.specs.Outcomes.{Outcome, StopsWith, failed, outcome_view, printed, refused}
 use Rattle.gm_graph_listing.proofs.CommandOutcomes.{IsOutputOf, output_of}
 use Rattle.gm_graph_listing.specs.Reports.{device_line}

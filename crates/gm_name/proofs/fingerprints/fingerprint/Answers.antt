@@ -1,4 +1,4 @@
-use Rattle.std.proofs.Common.{◌≡◌, ◌∙◌, ℕ, List, ap}
+use Rattle.std.proofs.Common.{◌∙◌, ℕ, List, ap}
 use Rattle.gm_name.specs.Fingerprint.{fingerprint, first_word, mixed}
 use Rattle.gm_name.proofs.Words.{after_word, no_word}
 use Rattle.gm_name.proofs.fingerprints.fingerprint.Goals as goal

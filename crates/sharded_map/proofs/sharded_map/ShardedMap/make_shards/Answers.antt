@@ -1,4 +1,4 @@
-use Rattle.std.proofs.Common.{◌≡◌, ◌∙◌, arith, length, sym}
+use Rattle.std.proofs.Common.{◌≡◌, ◌∙◌, length, sym}
 use Rattle.std.proofs.lemmas.Bool.{eqb-true}
 use Rattle.sharded_map.proofs.Sharded.{none_counted, none_there}
 use Rattle.sharded_map.proofs.sharded_map.ShardedMap.make_shards.Goals as goal
