@@ -8,6 +8,10 @@ use Rattle.std.specs.declared.cmp.Ordering.TheVariants.{Less, Equal, Greater}
 use Rattle.gm_name.specs.Version.{version_cmp}
 use Rattle.gm_name.specs.VersionOrder.{version_ties, version_total}
 
+-- with the same path and the same version
+abbrev pub pair_eq : List ℕ × List ℕ → List ℕ × List ℕ → Bool
+pair_eq x y = pointwise nat_eq x.0 y.0 && pointwise nat_eq x.1 y.1
+
 -- by the bytes of the path, then by the version
 abbrev pub pair_cmp : List ℕ × List ℕ → List ℕ × List ℕ → Ordering
 pair_cmp x y = ordering_then (slice_cmp nat_cmp x.0 y.0) (version_cmp x.1 y.1)
@@ -22,9 +26,9 @@ both_tie Equal s = refl
 both_tie Greater s = refl
 
 -- Two pairs tie if their paths and their versions are the same.
-pub pair_ties : (x y : List ℕ × List ℕ) → (pointwise nat_eq x.0 y.0 && pointwise nat_eq x.1 y.1) ≡ eq_by_cmp pair_cmp x y
+pub pair_ties : (x y : List ℕ × List ℕ) → pair_eq x y ≡ eq_by_cmp pair_cmp x y
 pair_ties x y = ap₂ (λ (a b : Bool). a && b) (texts_ties x.0 y.0) (version_ties x.1 y.1)
     ∙ both_tie (slice_cmp nat_cmp x.0 y.0) (version_cmp x.1 y.1)
 
-pub pair_po : IsPartialOrder (λ (x y : List ℕ × List ℕ). pointwise nat_eq x.0 y.0 && pointwise nat_eq x.1 y.1) (λ x y. Some (pair_cmp x y))
+pub pair_po : IsPartialOrder pair_eq (λ x y. Some (pair_cmp x y))
 pair_po = po pair_total pair_ties

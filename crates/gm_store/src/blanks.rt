@@ -38,6 +38,31 @@ fn after_blanks(line: &[u8]) -> &[u8]
     &line[leading_blanks(line)..]
 }
 
+/// A line's first word, and what comes after it.
+#[derive(Clone, Copy)]
+pub struct Cut<'a> {
+    /// The word, or the empty slice if the line has none.
+    pub word: &'a [u8],
+    /// The rest of the line.
+    pub rest: &'a [u8],
+}
+
+/// Cuts the first word off a line. The words of the rest are the line's other words, in order.
+///
+/// Words are separated by spaces, tabs and CRs. The result borrows from the line; each byte up to the word's end is
+/// looked at once.
+pub fn cut_word(line: &[u8]) -> Cut<'_>
+    ensures word { result.word.now ≡ first_word line.now }
+    ensures rest { fields line.now ≡ prepend_word (first_word line.now) (fields result.rest.now) }
+{
+    let words = after_blanks(line);
+    let end = bytes_before_blank(words);
+    Cut {
+        word: &words[..end],
+        rest: &words[end..],
+    }
+}
+
 /// The first word of a line, or the empty slice if the line has no word.
 ///
 /// Words are separated by spaces, tabs and CRs. The result borrows from the line; time is linear in the bytes up
@@ -45,16 +70,5 @@ fn after_blanks(line: &[u8]) -> &[u8]
 pub fn first_word(line: &[u8]) -> &[u8]
     ensures { result.now ≡ first_word line.now }
 {
-    let rest = after_blanks(line);
-    &rest[..bytes_before_blank(rest)]
-}
-
-/// The part of a line after its first word. Its words are the line's other words, in order.
-///
-/// It is empty if the line has no word, or ends with its first word. The result borrows from the line.
-pub fn rest_after_word(line: &[u8]) -> &[u8]
-    ensures { fields line.now ≡ prepend_word (first_word line.now) (fields result.now) }
-{
-    let rest = after_blanks(line);
-    &rest[bytes_before_blank(rest)..]
+    cut_word(line).word
 }

@@ -43,7 +43,7 @@ mod sinks;
 mod std_sink;
 mod version_list;
 
-pub use crate::blanks::{first_word, rest_after_word};
+pub use crate::blanks::{Cut, cut_word, first_word};
 pub use crate::disk_fallback::{DiskFallback, FoldersOnDisk};
 pub use crate::failing_files::FailingFiles;
 pub use crate::fallback_step::{Looked, Next, step};

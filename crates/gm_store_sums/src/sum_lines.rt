@@ -1,16 +1,15 @@
 //! The lines of a go.sum: which are valid, and the hashes that they list.
 
 ghost use Rattle.std.specs.Prelude.{◌≡◌, ◌≢◌, ◌<◌, ◌≤◌, ℕ, List, length, map, true, Ok, IfNone, IfOk, IfSome, MatchOption};
-ghost use Rattle.std.specs.List.{position_or_len, prefix_len};
 ghost use Rattle.std.specs.Str.{is_utf8};
-ghost use Rattle.gm_store.specs.Lines.{after_blanks, fields, first_word, is_blank, lines};
-ghost use Rattle.gm_store.specs.Words.{prepend_word};
+ghost use Rattle.gm_store.specs.Lines.{fields, lines};
 ghost use Rattle.gm_store_sums.specs.Shapes.{AddsGiven, AreFields, Gives};
 ghost use Rattle.gm_store_sums.specs.Sums.{HasValidLines, HoldsSums, IsFirstInvalid, are_valid_fields, lines_before_invalid};
 ghost use Rattle.gm_store_sums.specs.Order.{triple};
 
 use crate::sum_table::{SumFault, SumLine};
 use gm_name::NoMemory;
+use gm_store::cut_word;
 use std::alloc::Global;
 
 /// The fields of a line.
@@ -22,58 +21,6 @@ pub(crate) enum Fields<'a> {
     Three(&'a [u8], &'a [u8], &'a [u8]),
     /// The line has one, two or more than three fields.
     Other,
-}
-
-/// Whether a byte is a blank: a space, a tab or a CR.
-fn is_blank(byte: u8) -> bool
-    ensures { result ≡ is_blank byte }
-{
-    byte == b' ' || byte == b'\t' || byte == b'\r'
-}
-
-/// The number of blanks at the start of a line.
-fn leading_blanks(line: &[u8]) -> usize
-    ensures count { result ≡ prefix_len is_blank line.now }
-    ensures within { result ≤ length line.now }
-{
-    line.iter().take_while(|byte| is_blank(**byte)).count()
-}
-
-/// The number of bytes before the first blank, or the line's length if it has none.
-fn bytes_before_blank(line: &[u8]) -> usize
-    ensures count { result ≡ position_or_len is_blank line.now }
-    ensures within { result ≤ length line.now }
-{
-    line.iter().take_while(|byte| !is_blank(**byte)).count()
-}
-
-/// The line without the blanks at its start.
-fn after_blanks(line: &[u8]) -> &[u8]
-    ensures { result.now ≡ after_blanks line.now }
-{
-    &line[leading_blanks(line)..]
-}
-
-/// A line's first word, and what comes after it.
-#[derive(Clone, Copy)]
-struct Cut<'a> {
-    /// The word, or the empty slice if the line has none.
-    word: &'a [u8],
-    /// The rest of the line.
-    rest: &'a [u8],
-}
-
-/// Cuts the first word off a line. Its other words are those of the rest. Each byte is looked at once.
-fn cut_word(line: &[u8]) -> Cut<'_>
-    ensures word { result.word.now ≡ first_word line.now }
-    ensures rest { fields line.now ≡ prepend_word (first_word line.now) (fields result.rest.now) }
-{
-    let words = after_blanks(line);
-    let end = bytes_before_blank(words);
-    Cut {
-        word: &words[..end],
-        rest: &words[end..],
-    }
 }
 
 /// Splits a line into its fields.

@@ -1,5 +1,5 @@
 use Rattle.gm_store.proofs.FieldLemmas.{drop_whole, fields_step}
-use Rattle.gm_store_sums.proofs.sum_lines.cut_word.Goals as goal
+use Rattle.gm_store.proofs.blanks.cut_word.Goals as goal
 
 pub returns-clause-rest : goal.returns-clause-rest
 returns-clause-rest c =
