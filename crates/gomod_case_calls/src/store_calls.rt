@@ -55,7 +55,7 @@ pub(crate) fn latest(alloc: Global, path: &str, bytes: &[u8]) -> Result<String, 
 /// The line with the latest of these versions.
 fn latest_of(alloc: Global, versions: &[BorrowedVersion<'_>]) -> Result<String, CallFault> {
     match gm_store::latest(versions) {
-        Some(version) => line_of(alloc, version.as_str()),
+        Some(version) => line_of(alloc, version.to_version(alloc)?.as_str()),
         None => line_of(alloc, "none"),
     }
 }
