@@ -12,12 +12,18 @@ use Rattle.gm_syntax.proofs.OneLine.{one_line}
 use Rattle.gm_syntax.proofs.Pieces.{piece_end}
 use Rattle.gm_syntax.proofs.Progress.{progress_start, progress_end}
 
-pub line_feed_first : (text : List ℕ) → IsUtf8 text → ((more : List ℕ) × (text ≡ 10 ∷ more)) → IsCharBoundary text 1
-line_feed_first text utf8 (more, e) =
+-- the end of an ASCII byte that a text begins with is a character boundary
+pub ascii_first : (text : List ℕ) → IsUtf8 text → (byte : ℕ) → byte < 128 → ((more : List ℕ) × (text ≡ byte ∷ more)) → IsCharBoundary text 1
+ascii_first text utf8 byte low (more, e) =
     let positive : 0 < length text = omega (arith, ap length e) in
-    let low : 10 < 128 = omega arith in
     let ascii : get_or text 0 0 < 128 = subst (λ (x : ℕ). x < 128) (sym (ap (λ (t : List ℕ). get_or t 0 0) e)) low in
     (beside_ascii text 0 utf8 positive ascii).1
+
+pub line_feed_first : (text : List ℕ) → IsUtf8 text → ((more : List ℕ) × (text ≡ 10 ∷ more)) → IsCharBoundary text 1
+line_feed_first text utf8 begins = ascii_first text utf8 10 (omega arith) begins
+
+pub parenthesis_first : (text : List ℕ) → IsUtf8 text → ((more : List ℕ) × (text ≡ 40 ∷ more)) → IsCharBoundary text 1
+parenthesis_first text utf8 begins = ascii_first text utf8 40 (omega arith) begins
 
 empty_first : (next : List ℕ) → lines_of (10 ∷ next) ≡ [] ∷ lines_of next
 unfolding lines_of

@@ -1,26 +1,29 @@
--- Lines that are two bare words.
+-- Lines that are bare words alone, and lines that open and close blocks.
 use Rattle.std.proofs.Common.{◌≡◌, ℕ, ◌+◌, ◌-◌, ◌<◌, ◌≤◌, Bool, true, false, List, [], ◌∷◌, ◌++◌, length, take, drop, Option, Some, None, Ok, IsUtf8, refl, sym, ap, subst, ◌∙◌, append_assoc, arith}
 use Rattle.std.specs.Prelude.{◌≢◌, IsTrue}
 use Rattle.std.specs.Str.{IsCharBoundary}
+use Rattle.std.proofs.lemmas.Bool.{true≢false}
 use Rattle.std.proofs.lemmas.List.{take_at, drop_at, drop-drop, append-nil, length-append}
 use Rattle.gm_syntax.specs.declared.scan.Piece.TheVariants as piece
-use Rattle.gm_syntax.specs.declared.word.Kind.TheVariants.{Bare}
-use Rattle.gm_syntax.specs.Bytes.{is_blank, is_plain}
-use Rattle.gm_syntax.specs.Words.{Word, AllBlank}
+use Rattle.gm_syntax.specs.declared.word.Kind.TheVariants.{Bare, Mark}
+use Rattle.gm_syntax.specs.Bytes.{is_blank, is_bracket_or_comma, is_plain, is_word_byte}
+use Rattle.gm_syntax.specs.Words.{Word, AllBlank, IsBare}
 use Rattle.gm_syntax.specs.Lines.{lines_of, HasNoLineFeed}
 use Rattle.gm_syntax.specs.Tokens.{Placed, words_of, AreSlicesBetween, AreNumbered}
-use Rattle.gm_syntax.specs.Placing.{FillText}
-use Rattle.gm_syntax.specs.Spelling.{Reads, ending_of}
+use Rattle.gm_syntax.specs.Placing.{IsTail, FillText}
+use Rattle.gm_syntax.specs.Spelling.{EndsLine, Reads, ending_of}
 use Rattle.gm_syntax.specs.Scan.{bare_len, piece_of, trim_end}
 use Rattle.gm_syntax.specs.Reader.{IsOnlyReading, IsOnlyLine}
-use Rattle.gm_syntax.specs.Document.{Line, Entry, class_of}
+use Rattle.gm_syntax.specs.Document.{Line, Open, Close, Entry, class_of}
 use Rattle.gm_syntax.specs.LineViews.{plain}
 use Rattle.gm_syntax.specs.LineReading.{Unread, HasRead}
-use Rattle.gm_syntax.specs.Pairs.{bare_word, pair_line, IsPairText, IsPairRead}
+use Rattle.gm_syntax.specs.Pairs.{bare_word, mark_word, pair_line, triple_line, IsPairText, IsPairRead, IsTripleText, IsTripleRead, IsOpeningText, IsOpeningRead}
 use Rattle.gm_syntax.specs.declared.place.Place.{Place}
 use Rattle.gm_syntax.proofs.LineReading.{unread, read_more}
 use Rattle.gm_syntax.proofs.OneLine.{one_line}
-use Rattle.gm_syntax.proofs.Pieces.{make_word, piece_end, piece_blank, piece_comment}
+use Rattle.gm_syntax.proofs.Classes.{word_not_blank}
+use Rattle.gm_syntax.proofs.Pieces.{make_word, piece_end, piece_blank, piece_bracket, piece_comment}
+use Rattle.gm_syntax.proofs.Places.{stand_take}
 use Rattle.gm_syntax.proofs.Progress.{Progress, progress_start, progress_blank, progress_word, progress_end, progress_comment, word_boundary, blank_boundary}
 use Rattle.gm_syntax.proofs.Steps.{plain_piece}
 
@@ -85,6 +88,22 @@ sofar_word line words text word rest (t, p) piece parts =
           (subst (λ (l : List ℕ). Progress line (words ++ make_word Bare (take (length word) text) ∷ []) true l) back (progress_word p Bare (length word) (piece t))),
     )
 
+bracket_opening : is_bracket_or_comma 40 ≡ true
+unfolding is_bracket_or_comma
+bracket_opening = refl
+
+bracket_closing : is_bracket_or_comma 41 ≡ true
+unfolding is_bracket_or_comma
+bracket_closing = refl
+
+sofar_mark : (line : List ℕ) (words : List Word) (text : List ℕ) (byte : ℕ) (rest : List ℕ) → Sofar line words text → is_bracket_or_comma byte ≡ true → text ≡ byte ∷ rest → Sofar line (words ++ mark_word byte ∷ []) rest
+sofar_mark line words text byte rest (t, p) bracket parts =
+    let here : Progress line words t (byte ∷ rest) = subst (Progress line words t) parts p in
+    (false, progress_word here Mark 1 (piece_bracket t byte rest bracket))
+
+pub sofar_opening : (line : List ℕ) (words : List Word) (text rest : List ℕ) → Sofar line words text → text ≡ 40 ∷ rest → Sofar line (words ++ mark_word 40 ∷ []) rest
+sofar_opening line words text rest so parts = sofar_mark line words text 40 rest so bracket_opening parts
+
 pub sofar_end : (line : List ℕ) (words : List Word) (rest : List ℕ) → Sofar line words rest → rest ≡ [] → (comment : Option (List ℕ)) × IsOnlyReading line words (ending_of comment)
 sofar_end line words rest (t, p) e = (None, progress_end p (ap (piece_of t) e ∙ piece_end t))
 
@@ -100,19 +119,12 @@ record PlacedWords (first number : ℕ) (text : List ℕ) (words : List Word) (c
   pub numbered : AreNumbered number tokens
   pub fill : FillText first text tokens comment
 
-place_words : (first number : ℕ) (before : Option Word) (text : List ℕ) (words : List Word) (comment : Option (List ℕ)) → Reads before text words (ending_of comment) → PlacedWords first number text words comment
-place_words first number before text [] None r = record {
-  tokens = [];
-  are = refl;
-  numbered = tt;
-  fill = subst AllBlank (sym (r.parts ∙ ap (λ (l : List ℕ). r.blanks ++ l) r.ends ∙ append-nil r.blanks)) r.are_blank;
-}
-place_words first number before text [] (Some c) r = record {
-  tokens = [];
-  are = refl;
-  numbered = tt;
-  fill = (r.ends.1, r.blanks, r.ends.2, r.are_blank, r.ends.3, r.parts ∙ ap (λ (l : List ℕ). r.blanks ++ l) r.ends.4);
-}
+tail_of : (before : Option Word) (text : List ℕ) (comment : Option (List ℕ)) → EndsLine before text (ending_of comment) → IsTail text comment
+tail_of before text None r = subst AllBlank (sym (r.parts ∙ ap (λ (l : List ℕ). r.blanks ++ l) r.ends ∙ append-nil r.blanks)) r.are_blank
+tail_of before text (Some c) r = (r.ends.1, r.blanks, r.ends.2, r.are_blank, r.ends.3, r.parts ∙ ap (λ (l : List ℕ). r.blanks ++ l) r.ends.4)
+
+abbrev place_words : (first number : ℕ) (before : Option Word) (text : List ℕ) (words : List Word) (comment : Option (List ℕ)) → Reads before text words (ending_of comment) → PlacedWords first number text words comment
+place_words first number before text [] comment r = record { tokens = []; are = refl; numbered = tt; fill = tail_of before text comment r }
 place_words first number before text (w ∷ words) comment (rest, b, others) =
     let at : ℕ = first + length b.blanks in
     let past : ℕ = at + length w.spelling in
@@ -142,6 +154,37 @@ stand_filled source from text after (t ∷ ts) comment (span, rest, n, f) whole 
     let end : span.after + length rest ≡ from + length text = omega (arith, n.first, n.after, ap length n.parts, length-append n.blanks (word ++ rest), length-append word rest) in
     (span, n.placed, omega (arith, n.first), n.after, slice, subst (λ (k : ℕ). AreSlicesBetween source span.after k ts) end (stand_filled source span.after rest after ts comment f past))
 
+-- ---- a verb and an opening parenthesis
+
+-- a text that begins with a bare word has no blanks before it
+no_blanks : (word rest blanks other : List ℕ) → IsBare word → word ++ rest ≡ blanks ++ other → AllBlank blanks → blanks ≡ []
+no_blanks word rest [] other bare e are = refl
+no_blanks [] rest (x ∷ blanks) other bare e are = absurd (bare.filled refl)
+no_blanks (b ∷ word) rest (x ∷ blanks) other bare e are =
+    let same : b ≡ x = cc e in
+    absurd (true≢false (sym (subst (λ (y : ℕ). is_word_byte y ≡ true) same bare.word_bytes.0) ∙ word_not_blank x are.0))
+
+abbrev verb_at : ℕ → ℕ → List ℕ → Placed
+verb_at first number verb = record { word = bare_word verb; line = number; span = Some (record { first = first; after = first + length verb }) }
+
+record OpeningFilled (first number : ℕ) (text verb : List ℕ) (comment : Option (List ℕ)) : Type 0 where
+  pub opening : Placed
+  pub spelled : opening.word.spelling ≡ 40 ∷ []
+  pub fill : FillText first text (verb_at first number verb ∷ opening ∷ []) comment
+
+opening_filled : (first number : ℕ) (text verb rest : List ℕ) (comment : Option (List ℕ)) → text ≡ verb ++ rest → Reads None text (bare_word verb ∷ mark_word 40 ∷ []) (ending_of comment) → OpeningFilled first number text verb comment
+opening_filled first number text verb rest comment begins (more, b, others) =
+    let none : b.blanks ≡ [] = no_blanks verb rest b.blanks (verb ++ more) b.shape.1.0 (sym begins ∙ b.parts) b.are_blank in
+    let past : ℕ = first + length verb in
+    let w = place_words past number (Some (bare_word verb)) more (mark_word 40 ∷ []) comment others in
+    let at : ℕ = past + length others.1.blanks in
+    let opening : Placed = record { word = mark_word 40; line = number; span = Some (record { first = at; after = at + 1 }) } in
+    record {
+      opening = opening;
+      spelled = refl;
+      fill = (record { first = first; after = past }, more, record { blanks = []; are_blank = tt; parts = b.parts ∙ ap (λ (l : List ℕ). l ++ (verb ++ more)) none; placed = refl; first = omega arith; after = refl }, w.fill);
+    }
+
 -- ---- one more line
 
 pair_class : (inside : Bool) (first second : List ℕ) (comment : Option (List ℕ)) → class_of inside (bare_word first ∷ bare_word second ∷ []) comment ≡ Ok (pair_line first second comment)
@@ -149,20 +192,81 @@ unfolding class_of
 pair_class true first second comment = refl
 pair_class false first second comment = refl
 
--- after a line that is two bare words
-pub pair_read : (left : Unread) (lines : List (Line Placed)) (front next first second : List ℕ) (at : Place) → HasRead left lines → at ≡ record left.at { number = left.at.number + 1 } → lines_of left.rest ≡ front ∷ lines_of next → HasNoLineFeed front → length next < length left.rest → length front + length next ≤ length left.rest → ((more : List ℕ) × (left.rest ≡ front ++ more))
-    → next ≡ drop (length left.rest - length next) left.rest → (0 < length next → length left.rest ≡ length front + 1 + length next)
-    → IsPairText front first second → IsPairRead (unread left.source next at) lines first second
-pair_read left lines front next first second at so is cut no_feed shorter within begins is_rest feed (comment, reading) =
-    let words : List Word = bare_word first ∷ bare_word second ∷ [] in
-    let offset : ℕ = length left.source - length left.rest in
-    let w = place_words offset left.at.number None front words comment reading.reads in
-    let l : Line Placed = Entry w.tokens comment in
-    let same : plain l ≡ pair_line first second comment = ap (λ (ws : List Word). Entry ws comment) w.are in
-    let only : IsOnlyLine left.at.inside front (Ok (plain l)) =
-    subst (λ (x : Line Word). IsOnlyLine left.at.inside front (Ok x)) (sym same) (one_line left.at.inside front words comment reading (pair_line first second comment) (pair_class left.at.inside first second comment)) in (
-      l,
-      comment,
-      same,
-      read_more so front next l at is cut no_feed shorter within begins is_rest feed only (λ source more whole. stand_filled source offset front more w.tokens comment w.fill whole) w.numbered w.fill,
-    )
+triple_class : (inside : Bool) (first second third : List ℕ) (comment : Option (List ℕ)) → class_of inside (bare_word first ∷ bare_word second ∷ bare_word third ∷ []) comment ≡ Ok (triple_line first second third comment)
+unfolding class_of
+triple_class true first second third comment = refl
+triple_class false first second third comment = refl
+
+opening_class : (verb : List ℕ) (comment : Option (List ℕ)) → class_of false (bare_word verb ∷ mark_word 40 ∷ []) comment ≡ Ok (Open (bare_word verb) comment)
+unfolding class_of
+opening_class verb comment = refl
+
+closing_class : class_of true (mark_word 41 ∷ []) None ≡ Ok (Close None)
+unfolding class_of
+closing_class = refl
+
+-- a line was cut off the unread text
+pub record IsCut (left : Unread) (front next : List ℕ) : Type 0 where
+  pub lines : lines_of left.rest ≡ front ∷ lines_of next
+  pub no_line_feed : HasNoLineFeed front
+  pub shorter : length next < length left.rest
+  pub in_range : length front + length next ≤ length left.rest
+  pub front_is : (more : List ℕ) × (left.rest ≡ front ++ more)
+  pub suffix : next ≡ drop (length left.rest - length next) left.rest
+  pub line_feed : 0 < length next → length left.rest ≡ length front + 1 + length next
+
+module _ (left : Unread) (lines : List (Line Placed)) (front next : List ℕ) (so : HasRead left lines) (cut : IsCut left front next) where
+  abbrev offset : ℕ
+  offset = length left.source - length left.rest
+
+  -- after a line that is these words alone
+  words_read : (words : List Word) (comment : Option (List ℕ)) (at : Place) → at ≡ record left.at { number = left.at.number + 1 } → class_of left.at.inside words comment ≡ Ok (Entry words comment) → IsOnlyReading front words (ending_of comment)
+      → (line : Line Placed) × (suffix : Option (List ℕ)) × (plain line ≡ Entry words suffix) × HasRead (unread left.source next at) (lines ++ line ∷ [])
+  words_read words comment at is class reading =
+      let w = place_words offset left.at.number None front words comment reading.reads in
+      let l : Line Placed = Entry w.tokens comment in
+      let same : plain l ≡ Entry words comment = ap (λ (ws : List Word). Entry ws comment) w.are in
+      let only : IsOnlyLine left.at.inside front (Ok (plain l)) =
+      subst (λ (x : Line Word). IsOnlyLine left.at.inside front (Ok x)) (sym same) (one_line left.at.inside front words comment reading (Entry words comment) class) in (
+        l,
+        comment,
+        same,
+        read_more so front next l at is cut.lines cut.no_line_feed cut.shorter cut.in_range cut.front_is cut.suffix cut.line_feed only (λ source more whole. stand_filled source offset front more w.tokens comment w.fill whole) w.numbered w.fill,
+      )
+
+  -- after a line that is two bare words
+  pub pair_read : (first second : List ℕ) (at : Place) → at ≡ record left.at { number = left.at.number + 1 } → IsPairText front first second → IsPairRead (unread left.source next at) lines first second
+  pair_read first second at is (comment, reading) = words_read (bare_word first ∷ bare_word second ∷ []) comment at is (pair_class left.at.inside first second comment) reading
+
+  -- after a line that is three bare words
+  pub triple_read : (first second third : List ℕ) (at : Place) → at ≡ record left.at { number = left.at.number + 1 } → IsTripleText front first second third → IsTripleRead (unread left.source next at) lines first second third
+  triple_read first second third at is (comment, reading) = words_read (bare_word first ∷ bare_word second ∷ bare_word third ∷ []) comment at is (triple_class left.at.inside first second third comment) reading
+
+  -- after a line that opens a block
+  pub opening_read : (verb : List ℕ) (token : Placed) (at : Place) → left.at.inside ≡ false → at ≡ record { number = left.at.number + 1; inside = true; opened = left.at.number } → token ≡ record { word = bare_word verb; line = left.at.number; span = Some (record { first = offset; after = offset + length verb }) } → IsOpeningText front verb
+      → IsOpeningRead (unread left.source next at) lines token
+  opening_read verb token at outside is placed (rest, begins, comment, reading) =
+      let words : List Word = bare_word verb ∷ mark_word 40 ∷ [] in
+      let f = opening_filled offset left.at.number front verb rest comment begins reading.reads in
+      let t : Placed = verb_at offset left.at.number verb in
+      let l : Line Placed = Open t comment in
+      let ts : List Placed = t ∷ f.opening ∷ [] in
+      let only : IsOnlyLine left.at.inside front (Ok (Open (bare_word verb) comment)) =
+      subst (λ (i : Bool). IsOnlyLine i front (Ok (Open (bare_word verb) comment))) (sym outside) (one_line false front words comment reading (Open (bare_word verb) comment) (opening_class verb comment)) in (
+        comment,
+        subst (λ (v : Placed). HasRead (unread left.source next at) (lines ++ Open v comment ∷ [])) (sym placed) (read_more so front next l at is cut.lines cut.no_line_feed cut.shorter cut.in_range cut.front_is cut.suffix cut.line_feed only
+            (λ source more whole. stand_take source offset (offset + length front) 1 ts (stand_filled source offset front more ts comment f.fill whole)) (refl, tt) (f.opening, f.spelled, f.fill)),
+      )
+
+  -- after a line that closes a block
+  pub closing_read : (at : Place) → left.at.inside ≡ true → at ≡ record left.at { number = left.at.number + 1; inside = false } → front ≡ 41 ∷ [] → HasRead (unread left.source next at) (lines ++ Close None ∷ [])
+  closing_read at inside is closing =
+      let words : List Word = mark_word 41 ∷ [] in
+      let so_far : Sofar front words [] = sofar_mark front [] front 41 [] (false, progress_start front) bracket_closing closing in
+      let reading : IsOnlyReading front words (ending_of None) = progress_end so_far.1 (piece_end so_far.0) in
+      let w = place_words offset left.at.number None front words None reading.reads in
+      let at_mark : ℕ = offset + length reading.reads.1.blanks in
+      let mark : Placed = record { word = mark_word 41; line = left.at.number; span = Some (record { first = at_mark; after = at_mark + 1 }) } in
+      let only : IsOnlyLine left.at.inside front (Ok (Close None)) =
+      subst (λ (i : Bool). IsOnlyLine i front (Ok (Close None))) (sym inside) (one_line true front words None reading (Close None) closing_class) in
+      read_more so front next (Close None) at is cut.lines cut.no_line_feed cut.shorter cut.in_range cut.front_is cut.suffix cut.line_feed only (λ source more whole. omega arith) tt (mark, refl, w.fill)

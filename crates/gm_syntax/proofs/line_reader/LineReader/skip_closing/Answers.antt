@@ -1,0 +1,13 @@
+use Rattle.std.proofs.Common.{refl, sym, subst}
+use Rattle.gm_syntax.specs.LineReading.{Unread, HasRead}
+use Rattle.gm_syntax.proofs.LineReading.{unread}
+use Rattle.gm_syntax.proofs.Pairs.{IsCut, closing_read}
+use Rattle.gm_syntax.proofs.line_reader.LineReader.skip_closing.Goals as goal
+
+pub returns-clause-closing : goal.returns-clause-closing
+returns-clause-closing c = λ did lines so.
+    let left : Unread = unread c.self.inside.text.now c.self.inside.rest.now c.self.inside.place in
+    let old : HasRead left lines = subst (λ (u : Unread). HasRead u lines) (sym c.self.view_is) so in
+    let e = c.split_first_line.ensures in
+    let cut : IsCut left c.split_first_line.result.0.now c.split_first_line.result.1.now = record { lines = e.lines; no_line_feed = e.no_line_feed; shorter = e.shorter; in_range = e.in_range; front_is = e.front; suffix = e.suffix; line_feed = e.line_feed } in
+    closing_read left lines c.split_first_line.result.0.now c.split_first_line.result.1.now old cut _ c.if-not-self.false refl (c.is_closing.ensures c.if-not-is_closing.false)
