@@ -4,8 +4,8 @@ use Rattle.std.specs.Option.{option_to_list}
 use Rattle.std.specs.Str.{bytes_eq}
 use Rattle.gm_syntax.specs.Words.{Word}
 use Rattle.gm_syntax.specs.Tokens.{Placed}
-use Rattle.gm_syntax.specs.Document.{Line}
-use Rattle.gm_syntax.specs.Pairs.{bare_word, pair_line}
+use Rattle.gm_syntax.specs.Document.{Line, Entry}
+use Rattle.gm_syntax.specs.Pairs.{bare_word, pair_line, triple_line}
 use Rattle.gm_file.specs.declared.dep_lines.DepLines.{DepLines}
 use Rattle.gm_file.specs.declared.fault.DirectiveKind.TheVariants.{WrongArguments}
 use Rattle.gm_file.specs.declared.fault.LineFault.{LineFault}
@@ -56,26 +56,39 @@ item-is said path version suffix (verb, opened, spelled) =
     let here = pair_line path version suffix in
     ap (λ (b : Option Placed). item_at (word_of b, here)) opened ∙ ap (λ (text : List ℕ). Saying text (bare_word path ∷ bare_word version ∷ [])) spelled
 
-requires-more : (lines : List (Line Word)) (path version : List ℕ) (suffix : Option (List ℕ)) (old : DepLines) (fields : Fields) → IsRequiring old → AreDepLines lines old → AreFound fields
-    → IsLineAdded Lax old.fields fields (require_item path version) (Ok tt) → AreDepLines (lines ++ pair_line path version suffix ∷ []) (record old { fields = fields })
-requires-more lines path version suffix old fields requiring so found added =
-    let here = pair_line path version suffix in
-    let item = item-is old path version suffix requiring in
-    let none : option_to_list (retraction_at (item_at (word_of old.block, here))) ≡ [] = ap (λ (i : Item). option_to_list (retraction_at i)) item ∙ ap option_to_list (no-retraction path version) in
-    dep-more lines here (word_of old.block) old (record old { fields = fields }) so refl found
-    (subst (λ (i : Item). IsLineAdded Lax old.fields fields i (Ok tt)) (sym item) added)
-    (sym (ap (λ (l : List Pair). interval_views old.retracts.items ++ l) none ∙ append-nil (interval_views old.retracts.items))) refl
+-- the content of such a line outside blocks
+alone-is : (said : DepLines) (path version : List ℕ) (suffix : Option (List ℕ)) → said.block ≡ None → item_at (word_of said.block, triple_line (codes "require") path version suffix) ≡ require_item path version
+unfolding item_at
+alone-is said path version suffix none = ap (λ (b : Option Placed). item_at (word_of b, triple_line (codes "require") path version suffix)) none
 
-requires-fault : (lines : List (Line Word)) (path version : List ℕ) (suffix : Option (List ℕ)) (old : DepLines) (new : Fields) (fault : LineFault) → IsRequiring old → AreDepLines lines old
-    → IsLineAdded Lax old.fields new (require_item path version) (Err fault) → HasNextFault lines (pair_line path version suffix) fault
-requires-fault lines path version suffix old new fault requiring so told =
-    dep-fault lines (pair_line path version suffix) (word_of old.block) old new fault so refl
-    (subst (λ (i : Item). IsLineAdded Lax old.fields new i (Err fault)) (sym (item-is old path version suffix requiring)) told)
+module _ (lines : List (Line Word)) (path version : List ℕ) (words : List Word) (suffix : Option (List ℕ)) (old : DepLines) (item : item_at (word_of old.block, Entry words suffix) ≡ require_item path version) (so : AreDepLines lines old) where
+  requires-more : (fields : Fields) → AreFound fields → IsLineAdded Lax old.fields fields (require_item path version) (Ok tt) → AreDepLines (lines ++ Entry words suffix ∷ []) (record old { fields = fields })
+  requires-more fields found added =
+      let here : Line Word = Entry words suffix in
+      let none : option_to_list (retraction_at (item_at (word_of old.block, here))) ≡ [] = ap (λ (i : Item). option_to_list (retraction_at i)) item ∙ ap option_to_list (no-retraction path version) in
+      dep-more lines here (word_of old.block) old (record old { fields = fields }) so refl found
+      (subst (λ (i : Item). IsLineAdded Lax old.fields fields i (Ok tt)) (sym item) added)
+      (sym (ap (λ (l : List Pair). interval_views old.retracts.items ++ l) none ∙ append-nil (interval_views old.retracts.items))) refl
+
+  requires-fault : (new : Fields) (fault : LineFault) → IsLineAdded Lax old.fields new (require_item path version) (Err fault) → HasNextFault lines (Entry words suffix) fault
+  requires-fault new fault told =
+      dep-fault lines (Entry words suffix) (word_of old.block) old new fault so refl
+      (subst (λ (i : Item). IsLineAdded Lax old.fields new i (Err fault)) (sym item) told)
+
+  entry-next : (fields : Fields) (result : Result (Unit {0}) LineFault) → OnOk result (AreFound fields) → IsLineAdded Lax old.fields fields (require_item path version) result
+      → IsNextLineOf lines (Entry words suffix) (record old { fields = fields }) result
+  entry-next fields (Ok u) found added = requires-more fields found added
+  entry-next fields (Err fault) found told = requires-fault fields fault told
 
 pub requires-next : (lines : List (Line Word)) (path version : List ℕ) (suffix : Option (List ℕ)) (old : DepLines) (fields : Fields) (result : Result (Unit {0}) LineFault) → IsRequiring old → AreDepLines lines old → OnOk result (AreFound fields)
     → IsLineAdded Lax old.fields fields (require_item path version) result → IsNextLineOf lines (pair_line path version suffix) (record old { fields = fields }) result
-requires-next lines path version suffix old fields (Ok u) requiring so found added = requires-more lines path version suffix old fields requiring so found added
-requires-next lines path version suffix old fields (Err fault) requiring so found told = requires-fault lines path version suffix old fields fault requiring so told
+requires-next lines path version suffix old fields result requiring so found added =
+    entry-next lines path version (bare_word path ∷ bare_word version ∷ []) suffix old (item-is old path version suffix requiring) so fields result found added
+
+pub alone-next : (lines : List (Line Word)) (path version : List ℕ) (suffix : Option (List ℕ)) (old : DepLines) (fields : Fields) (result : Result (Unit {0}) LineFault) → old.block ≡ None → AreDepLines lines old → OnOk result (AreFound fields)
+    → IsLineAdded Lax old.fields fields (require_item path version) result → IsNextLineOf lines (triple_line (codes "require") path version suffix) (record old { fields = fields }) result
+alone-next lines path version suffix old fields result none so found added =
+    entry-next lines path version (bare_word (codes "require") ∷ bare_word path ∷ bare_word version ∷ []) suffix old (alone-is old path version suffix none) so fields result found added
 
 -- ---- outside blocks
 

@@ -1,11 +1,11 @@
 //! A dependency's file read from its bytes: line by line and in one pass, so that no document is kept.
 
-ghost use Rattle.std.specs.Prelude.{◌≡◌, ◌≤◌, ◌∷◌, ◌++◌, [], ℕ, List, None, Option, IfErr, IfOk, IsTrue, OnOk, length};
+ghost use Rattle.std.specs.Prelude.{◌≡◌, ◌≤◌, ◌∷◌, ◌++◌, [], ℕ, List, None, Option, IfErr, IfOk, IsTrue, OnOk, codes, length};
 ghost use Rattle.std.specs.Option.{option_map};
 ghost use Rattle.gm_syntax.specs.Document.{Line as LineOf};
 ghost use Rattle.gm_syntax.specs.LineReading.{HasRead};
 ghost use Rattle.gm_syntax.specs.LineViews.{line_of, plain, plain_lines};
-ghost use Rattle.gm_syntax.specs.Pairs.{pair_line};
+ghost use Rattle.gm_syntax.specs.Pairs.{pair_line, triple_line};
 ghost use Rattle.gm_syntax.specs.Tokens.{Placed};
 ghost use Rattle.gm_syntax.specs.Words.{Word};
 ghost use Rattle.gm_file.specs.declared.dep_lines.DepLines.{DepLines};
@@ -119,6 +119,23 @@ impl<'a> DepLines<'a> {
         self.fields.read_requirement(names, path, version)
     }
 
+    /// Reads the next line, which is `require` and these two bare words outside blocks.
+    fn require_alone(
+        &mut self,
+        names: &mut KnownNames,
+        path: &str,
+        version: &str,
+    ) -> Result<(), LineFault>
+        requires block { self.old.block ≡ None }
+        requires found { AreFound self.old.fields }
+        ensures block { OnOk result (self.new.block ≡ None) }
+        ensures found { OnOk result (AreFound self.new.fields) }
+        ensures read { (lines : List (LineOf Word)) (suffix : Option (List ℕ)) → AreDepLines lines self.old
+            → IsNextLineOf lines (triple_line (codes "require") path.now version.now suffix) self.new result }
+    {
+        self.fields.read_requirement(names, path, version)
+    }
+
     /// Reads the next line, which is these two bare words outside blocks.
     fn read_single(
         &mut self,
@@ -193,6 +210,7 @@ fn read_singles(
     requires block { said.old.block ≡ None }
     requires found { AreFound said.old.fields }
     requires read { AreReadSofar reader.old said.old }
+    ensures block { OnOk result (said.new.block ≡ None) }
     ensures found { OnOk result (AreFound said.new.fields) }
     ensures read { OnOk result (AreReadSofar reader.new said.new) }
     ensures source { OnOk result (reader.new.source ≡ reader.old.source) }
@@ -209,11 +227,64 @@ fn read_singles(
     Ok(())
 }
 
-/// Reads the next lines as far as that needs no tokens. Nearly all lines of a file are read here.
-fn read_ahead(
+/// Reads the next lines outside blocks that are `require` and two bare words, with the empty lines after them, up to the
+/// first other line.
+fn read_requires(
     names: &mut KnownNames,
     reader: &mut LineReader,
     said: &mut DepLines,
+) -> Result<(), ReadFault>
+    requires block { said.old.block ≡ None }
+    requires found { AreFound said.old.fields }
+    requires read { AreReadSofar reader.old said.old }
+    ensures found { OnOk result (AreFound said.new.fields) }
+    ensures read { OnOk result (AreReadSofar reader.new said.new) }
+    ensures source { OnOk result (reader.new.source ≡ reader.old.source) }
+    ensures no_longer { OnOk result (length reader.new.rest ≤ length reader.old.rest) }
+    ensures fault { IfErr result (IsMisread reader.old.source) }
+{
+    while let Some((path, version)) = reader.next_pair_after("require") {
+        if let Err(fault) = said.require_alone(names, path, version) {
+            return Err(fault_of_all(reader, fault));
+        }
+        skip_blanks(reader);
+    }
+    Ok(())
+}
+
+/// Reads the next line if that opens a block of `require`.
+fn open_block<'a>(reader: &mut LineReader<'a>, said: &mut DepLines<'a>)
+    requires found { AreFound said.old.fields }
+    requires read { AreReadSofar reader.old said.old }
+    ensures found { AreFound said.new.fields }
+    ensures read { AreReadSofar reader.new said.new }
+    ensures source { reader.new.source ≡ reader.old.source }
+    ensures no_longer { length reader.new.rest ≤ length reader.old.rest }
+{
+    if let Some(verb) = reader.next_opening("require") {
+        said.block = Some(verb);
+    }
+}
+
+/// Reads the next line if that closes a block.
+fn close_block(reader: &mut LineReader, said: &mut DepLines)
+    requires found { AreFound said.old.fields }
+    requires read { AreReadSofar reader.old said.old }
+    ensures found { AreFound said.new.fields }
+    ensures read { AreReadSofar reader.new said.new }
+    ensures source { reader.new.source ≡ reader.old.source }
+    ensures no_longer { length reader.new.rest ≤ length reader.old.rest }
+{
+    if reader.skip_closing() {
+        said.block = None;
+    }
+}
+
+/// Reads the next lines as far as that needs no tokens. Nearly all lines of a file are read here.
+fn read_ahead<'a>(
+    names: &mut KnownNames,
+    reader: &mut LineReader<'a>,
+    said: &mut DepLines<'a>,
 ) -> Result<(), ReadFault>
     requires found { AreFound said.old.fields }
     requires read { AreReadSofar reader.old said.old }
@@ -223,11 +294,16 @@ fn read_ahead(
     ensures no_longer { OnOk result (length reader.new.rest ≤ length reader.old.rest) }
     ensures fault { IfErr result (IsMisread reader.old.source) }
 {
+    if said.block.is_none() {
+        read_singles(names, reader, said)?;
+        open_block(reader, said);
+    }
     if said.is_requiring() {
-        return read_pairs(names, reader, said);
+        read_pairs(names, reader, said)?;
+        close_block(reader, said);
     }
     if said.block.is_none() {
-        return read_singles(names, reader, said);
+        read_requires(names, reader, said)?;
     }
     Ok(())
 }
