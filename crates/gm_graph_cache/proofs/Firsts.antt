@@ -1,14 +1,15 @@
 -- What is kept by fingerprint: the first file with one, and the others.
-use Rattle.std.proofs.Common.{◌≡◌, ◌∙◌, ℕ, Bool, true, false, cond, Option, Some, None, ap, nat_eq, refl, subst, sym}
+use Rattle.std.proofs.Common.{◌≡◌, ◌∙◌, ◌∷◌, ◌++◌, ℕ, Bool, true, false, cond, List, [], Option, Some, None, ap, length, nat_eq, refl, subst, suc, sym, zero}
 use Rattle.std.proofs.lemmas.Bool.{eq-eqb, eqb-true}
 use Rattle.sharded_map.specs.declared.sharded_map.ShardedMap.{ShardedMap}
 use Rattle.sharded_map.specs.Shards.{Puts, held}
 use Rattle.gm_store.specs.Asked.{Name, name_of, same_name}
 use Rattle.gm_store.proofs.NameOrder.{names_equal}
 use Rattle.gm_graph_cache.specs.declared.kept_files.KeptFile.{KeptFile}
+use Rattle.gm_graph_cache.specs.declared.kept_files.KeptFiles.{KeptFiles}
 use Rattle.gm_graph_cache.specs.declared.name_key.NameKey.{NameKey}
 use Rattle.gm_graph_cache.specs.declared.summary.Kept.{Kept}
-use Rattle.gm_graph_cache.specs.KeptFiles.{first_or, is_free}
+use Rattle.gm_graph_cache.specs.KeptFiles.{file_at, first_or, first_with, is_free}
 use Rattle.gm_graph_cache.specs.Marks.{IsNameKey, name_fingerprint}
 
 -- A name that is the same as a key's has the key's number.
@@ -22,26 +23,42 @@ not_first (Some file) name other rest free apart =
     let here : name ≡ name_of file.name = names_equal name (name_of file.name) free in
     ap (λ (b : Bool). cond b (Some file.kept) rest) (sym (ap (same_name other) here) ∙ apart)
 
-first_by : (b n : Bool) (file : KeptFile) (old : Option KeptFile) (other : Name) (rest : Option Kept) → b ≡ same_name other (name_of file.name)
-    → (b ≡ true → n ≡ true) → (n ≡ true → b ≡ false → first_or old other rest ≡ rest)
-    → first_or (cond n (Some file) old) other rest ≡ cond b (Some file.kept) (first_or old other rest)
-first_by true true file old other rest is here gone = ap (λ (t : Bool). cond t (Some file.kept) rest) (sym is)
-first_by true false file old other rest is here gone = absurd (cc (here refl))
-first_by false true file old other rest is here gone = ap (λ (t : Bool). cond t (Some file.kept) rest) (sym is) ∙ sym (gone refl refl)
-first_by false false file old other rest is here gone = refl
+-- One more file at the end of a list does not count for another name, whatever the place.
+one_more : (files : List KeptFile) (file : KeptFile) (place : Option ℕ) (other : Name) (rest : Option Kept) → same_name other (name_of file.name) ≡ false
+    → first_or (file_at (files ++ file ∷ []) place) other rest ≡ first_or (file_at files place) other rest
+one_more files file None other rest apart = refl
+one_more [] file (Some zero) other rest apart = ap (λ (b : Bool). cond b (Some file.kept) rest) apart
+one_more [] file (Some (suc place)) other rest apart = refl
+one_more (first ∷ files) file (Some zero) other rest apart = refl
+one_more (first ∷ files) file (Some (suc place)) other rest apart = one_more files file (Some place) other rest apart
 
--- A file was put first.
-pub put_first : (old new : ShardedMap KeptFile) (key : NameKey) (kept : Kept) → IsNameKey key → is_free (held old key.number) (name_of key.name) ≡ true
-    → Puts old new key.number (record { name = key.name; kept = kept }) → (other : Name) (rest : Option Kept)
-    → first_or (held new (name_fingerprint other)) other rest
-    ≡ cond (same_name other (name_of key.name)) (Some kept) (first_or (held old (name_fingerprint other)) other rest)
-put_first old new key kept marked free puts other rest =
+-- A file that was added to a list is at the place that its length was.
+last_file : (files : List KeptFile) (file : KeptFile) → file_at (files ++ file ∷ []) (Some (length files)) ≡ Some file
+last_file [] file = refl
+last_file (first ∷ files) file = last_file files file
+
+first_by : (b n : Bool) (files : List KeptFile) (file : KeptFile) (old : Option ℕ) (other : Name) (rest : Option Kept) → b ≡ same_name other (name_of file.name)
+    → (b ≡ true → n ≡ true) → (n ≡ true → b ≡ false → first_or (file_at files old) other rest ≡ rest)
+    → first_or (file_at (files ++ file ∷ []) (cond n (Some (length files)) old)) other rest ≡ cond b (Some file.kept) (first_or (file_at files old) other rest)
+first_by true true files file old other rest is here gone =
+    ap (λ (o : Option KeptFile). first_or o other rest) (last_file files file) ∙ ap (λ (t : Bool). cond t (Some file.kept) rest) (sym is)
+first_by true false files file old other rest is here gone = absurd (cc (here refl))
+first_by false true files file old other rest is here gone =
+    ap (λ (o : Option KeptFile). first_or o other rest) (last_file files file) ∙ ap (λ (t : Bool). cond t (Some file.kept) rest) (sym is) ∙ sym (gone refl refl)
+first_by false false files file old other rest is here gone = one_more files file old other rest (sym is)
+
+-- A file was put first: its place in the map, and then the file at the end of the list.
+pub put_first : (files : List KeptFile) (old new : ShardedMap ℕ) (key : NameKey) (kept : Kept) → IsNameKey key
+    → is_free (file_at files (held old key.number)) (name_of key.name) ≡ true → Puts old new key.number (length files) → (other : Name) (rest : Option Kept)
+    → first_or (file_at (files ++ record { name = key.name; kept = kept } ∷ []) (held new (name_fingerprint other))) other rest
+    ≡ cond (same_name other (name_of key.name)) (Some kept) (first_or (file_at files (held old (name_fingerprint other))) other rest)
+put_first files old new key kept marked free puts other rest =
     let file : KeptFile = record { name = key.name; kept = kept } in
-    ap (λ (o : Option KeptFile). first_or o other rest) (puts (name_fingerprint other))
-    ∙ first_by (same_name other (name_of key.name)) (nat_eq key.number (name_fingerprint other)) file (held old (name_fingerprint other)) other rest refl
+    ap (λ (o : Option ℕ). first_or (file_at (files ++ file ∷ []) o) other rest) (puts (name_fingerprint other))
+    ∙ first_by (same_name other (name_of key.name)) (nat_eq key.number (name_fingerprint other)) files file (held old (name_fingerprint other)) other rest refl
     (λ same. eq-eqb _ _ (same_number key other marked same))
-    (λ number apart. not_first (held old (name_fingerprint other)) (name_of key.name) other rest
-    (subst (λ (n : ℕ). is_free (held old n) (name_of key.name) ≡ true) (eqb-true _ _ number) free) apart)
+    (λ number apart. not_first (file_at files (held old (name_fingerprint other))) (name_of key.name) other rest
+    (subst (λ (n : ℕ). is_free (file_at files (held old n)) (name_of key.name) ≡ true) (eqb-true _ _ number) free) apart)
 
 -- A first file that is not that of a name does not count for it.
 pub taken_by : (o : Option KeptFile) (name : Name) (rest : Option Kept) → is_free o name ≡ false → first_or o name rest ≡ rest
@@ -54,17 +71,17 @@ other_by true o other kept rest gone = gone refl (Some kept)
 other_by false o other kept rest gone = refl
 
 -- A file was put beside the first one.
-pub put_other : (first : ShardedMap KeptFile) (key : NameKey) (kept : Kept) → IsNameKey key → is_free (held first key.number) (name_of key.name) ≡ false
+pub put_other : (files : KeptFiles) (key : NameKey) (kept : Kept) → IsNameKey key → is_free (first_with files key.number) (name_of key.name) ≡ false
     → (other : Name) (rest : Option Kept)
-    → first_or (held first (name_fingerprint other)) other (cond (same_name other (name_of key.name)) (Some kept) rest)
-    ≡ cond (same_name other (name_of key.name)) (Some kept) (first_or (held first (name_fingerprint other)) other rest)
-put_other first key kept marked taken other rest =
-    other_by (same_name other (name_of key.name)) (held first (name_fingerprint other)) other kept rest
-    (λ same any. taken_by (held first (name_fingerprint other)) other any
-    (subst (λ (n : ℕ). is_free (held first n) other ≡ false) (same_number key other marked same)
-    (subst (λ (name : Name). is_free (held first key.number) name ≡ false) (sym (names_equal other (name_of key.name) same)) taken)))
+    → first_or (first_with files (name_fingerprint other)) other (cond (same_name other (name_of key.name)) (Some kept) rest)
+    ≡ cond (same_name other (name_of key.name)) (Some kept) (first_or (first_with files (name_fingerprint other)) other rest)
+put_other files key kept marked taken other rest =
+    other_by (same_name other (name_of key.name)) (first_with files (name_fingerprint other)) other kept rest
+    (λ same any. taken_by (first_with files (name_fingerprint other)) other any
+    (subst (λ (n : ℕ). is_free (first_with files n) other ≡ false) (same_number key other marked same)
+    (subst (λ (name : Name). is_free (first_with files key.number) name ≡ false) (sym (names_equal other (name_of key.name) same)) taken)))
 
 -- What is found by a marked key is what is kept under its name.
-pub by_key : (first : ShardedMap KeptFile) (key : NameKey) (rest : Option Kept) → IsNameKey key
-    → first_or (held first key.number) (name_of key.name) rest ≡ first_or (held first (name_fingerprint (name_of key.name))) (name_of key.name) rest
-by_key first key rest marked = ap (λ (n : ℕ). first_or (held first n) (name_of key.name) rest) marked
+pub by_key : (files : KeptFiles) (key : NameKey) (rest : Option Kept) → IsNameKey key
+    → first_or (first_with files key.number) (name_of key.name) rest ≡ first_or (first_with files (name_fingerprint (name_of key.name))) (name_of key.name) rest
+by_key files key rest marked = ap (λ (n : ℕ). first_or (first_with files n) (name_of key.name) rest) marked

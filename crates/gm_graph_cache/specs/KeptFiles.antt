@@ -1,5 +1,5 @@
 -- What is kept of files, by their names.
-use Rattle.std.specs.Prelude.{if◌then◌else◌, Bool, true, Option, Some, None}
+use Rattle.std.specs.Prelude.{if◌then◌else◌, ℕ, Bool, true, List, Option, Some, None, slice_get}
 use Rattle.std.specs.Map.{lookup}
 use Rattle.sharded_map.specs.Shards.{held}
 use Rattle.gm_store.specs.Asked.{Name, name_of, same_name}
@@ -8,6 +8,15 @@ use Rattle.gm_graph_cache.specs.declared.kept_files.KeptFiles.{KeptFiles}
 use Rattle.gm_graph_cache.specs.declared.summary.Kept.{Kept}
 use Rattle.gm_graph_cache.specs.Marks.{name_fingerprint}
 
+-- the file at a place of a list: there is none if there is no place, or if it is past the end
+abbrev pub file_at : List KeptFile → Option ℕ → Option KeptFile
+file_at files None = None
+file_at files (Some place) = slice_get files place
+
+-- the first file with a fingerprint
+abbrev pub first_with : KeptFiles → ℕ → Option KeptFile
+first_with files number = file_at files.files.items (held files.first number)
+
 -- what is kept of the file of a name, given the first file with its fingerprint and what is found among the others
 abbrev pub first_or : Option KeptFile → Name → Option Kept → Option Kept
 first_or None name other = other
@@ -15,7 +24,7 @@ first_or (Some file) name other = if same_name name (name_of file.name) then Som
 
 -- what is kept of the file of a name
 abbrev pub kept_at : KeptFiles → Name → Option Kept
-kept_at files name = first_or (held files.first (name_fingerprint name)) name
+kept_at files name = first_or (first_with files (name_fingerprint name)) name
     (lookup (λ file. same_name name (name_of file)) files.others.entries)
 
 -- Whether the first file with the fingerprint of a name, if there is one, is that of the name.

@@ -1,6 +1,7 @@
 //! What is kept of files, by the fingerprints of their names.
 //!
-//! A set of maps in shards finds a file with a few comparisons of numbers and one of names.
+//! A set of maps in shards finds the place of a file in a list with a few comparisons of numbers and one of names. The
+//! maps move what they hold as they grow, so they hold places, and the list holds the files.
 
 ghost use Rattle.std.specs.Prelude.{◌≡◌};
 ghost use Rattle.gm_store.specs.Asked.{name_of, same_name};
@@ -25,8 +26,11 @@ pub(crate) struct KeptFile {
 /// names alone.
 #[derive(Drop)]
 pub(crate) struct KeptFiles {
-    /// Of the files whose names have the same fingerprint, the first one.
-    first: ShardedMap<KeptFile>,
+    /// Of the files whose names have the same fingerprint, the place of the first one in `files`.
+    first: ShardedMap<usize>,
+    /// The first files, in the order in which they were added. One that is replaced stays in the list, which costs its
+    /// memory alone: the cache keeps each file once.
+    files: Vec<KeptFile>,
     /// The other files.
     others: BTreeMap<FileName, Kept>,
 }
@@ -41,9 +45,8 @@ pub(crate) fn is_same(name: &FileName, other: &FileName) -> bool
 impl KeptFiles {
     ghost use Rattle.std.specs.Prelude.{◌≡◌, if◌then◌else◌, None, Some, IfErr, OnErr, OnOk, false, true};
     ghost use Rattle.std.specs.Option.{option_copied};
-    ghost use Rattle.sharded_map.specs.Shards.{held};
     ghost use Rattle.gm_store.specs.Asked.{Name};
-    ghost use Rattle.gm_graph_cache.specs.KeptFiles.{is_free, kept_at};
+    ghost use Rattle.gm_graph_cache.specs.KeptFiles.{first_with, is_free, kept_at};
     ghost use Rattle.gm_graph_cache.specs.Marks.{IsNameKey};
 
     /// No files.
@@ -52,8 +55,16 @@ impl KeptFiles {
     {
         KeptFiles {
             first: ShardedMap::new(alloc),
+            files: Vec::new(alloc),
             others: BTreeMap::new(alloc),
         }
+    }
+
+    /// The first file with a fingerprint.
+    fn first_with(&self, number: u64) -> Option<&KeptFile>
+        ensures { option_copied result ≡ first_with self.now number }
+    {
+        self.files.get(*self.first.get(number)?)
     }
 
     /// What is kept of the file of a key's name.
@@ -61,7 +72,7 @@ impl KeptFiles {
         requires { IsNameKey key.now }
         ensures { option_copied result ≡ kept_at self.now (name_of key.now.name) }
     {
-        match self.first.get(key.number) {
+        match self.first_with(key.number) {
             None => self.others.get(&key.name),
             Some(file) => {
                 if is_same(&key.name, &file.name) {
@@ -75,9 +86,9 @@ impl KeptFiles {
 
     /// Whether no other file is the first one with this key's fingerprint.
     fn is_free(&self, key: &NameKey) -> bool
-        ensures { result ≡ is_free (held self.now.first key.now.number) (name_of key.now.name) }
+        ensures { result ≡ is_free (first_with self.now key.now.number) (name_of key.now.name) }
     {
-        match self.first.get(key.number) {
+        match self.first_with(key.number) {
             None => true,
             Some(file) => is_same(&key.name, &file.name),
         }
@@ -102,15 +113,22 @@ impl KeptFiles {
     /// Keeps a file as the first one with its fingerprint.
     fn insert_first(&mut self, key: NameKey, kept: Kept) -> Result<(), (NameKey, Kept)>
         requires marked { IsNameKey key }
-        requires free { is_free (held self.old.first key.number) (name_of key.name) ≡ true }
+        requires free { is_free (first_with self.old key.number) (name_of key.name) ≡ true }
         ensures puts { OnOk result ((other : Name) → kept_at self.new other
             ≡ (if same_name other (name_of key.name) then Some kept else kept_at self.old other)) }
         ensures back { IfErr result (λ refused. refused ≡ (key, kept)) }
         ensures err { OnErr result ((other : Name) → kept_at self.new other ≡ kept_at self.old other) }
     {
+        // Room comes first, so that the push after the map has changed cannot fail.
+        let Ok(()) = self.files.reserve(1) else {
+            return Err((key, kept));
+        };
+        let Ok(_) = self.first.insert(key.number, self.files.len()) else {
+            return Err((key, kept));
+        };
         let NameKey { number, name } = key;
-        match self.first.insert(number, KeptFile { name, kept }) {
-            Ok(_) => Ok(()),
+        match self.files.push(KeptFile { name, kept }) {
+            Ok(()) => Ok(()),
             Err(refused) => {
                 let KeptFile { name, kept } = refused.value;
                 Err((NameKey { number, name }, kept))
@@ -121,7 +139,7 @@ impl KeptFiles {
     /// Keeps a file beside the first one with its fingerprint.
     fn insert_other(&mut self, key: NameKey, kept: Kept) -> Result<(), (NameKey, Kept)>
         requires marked { IsNameKey key }
-        requires taken { is_free (held self.old.first key.number) (name_of key.name) ≡ false }
+        requires taken { is_free (first_with self.old key.number) (name_of key.name) ≡ false }
         ensures puts { OnOk result ((other : Name) → kept_at self.new other
             ≡ (if same_name other (name_of key.name) then Some kept else kept_at self.old other)) }
         ensures back { IfErr result (λ refused. refused ≡ (key, kept)) }

@@ -13,19 +13,19 @@ returns-in-None c =
     let files = c.args.self.now in
     let key = c.args.key.now in
     let rest = lookup (λ file. same_name (name_of key.name) (name_of file)) files.others.entries in
-    let none = sym c.get.ensures ∙ ap (λ (o : Option (Bor KeptFile)). option_copied o) c.in-None.is in
-    c.get-in-None.ensures.value
+    let none = sym c.first_with.ensures ∙ ap (λ (o : Option (Bor KeptFile)). option_copied o) c.in-None.is in
+    c.get.ensures.value
     ∙ found_by key.name files.others.entries
     ∙ sym (ap (λ (o : Option KeptFile). first_or o (name_of key.name) rest) none)
-    ∙ by_key files.first key rest c.requires
+    ∙ by_key files key rest c.requires
 
 pub returns-else-is_same : goal.returns-else-is_same
 returns-else-is_same c =
     let files = c.args.self.now in
     let key = c.args.key.now in
     let rest = lookup (λ file. same_name (name_of key.name) (name_of file)) files.others.entries in
-    let some = sym c.get.ensures ∙ ap (λ (o : Option (Bor KeptFile)). option_copied o) c.in-Some.is in
+    let some = sym c.first_with.ensures ∙ ap (λ (o : Option (Bor KeptFile)). option_copied o) c.in-Some.is in
     c.get-else-is_same.ensures.value
     ∙ found_by key.name files.others.entries
     ∙ sym (ap (λ (o : Option KeptFile). first_or o (name_of key.name) rest) some ∙ taken_by (Some c.in-Some.file.now) (name_of key.name) rest (sym c.is_same.ensures ∙ c.if-is_same.false))
-    ∙ by_key files.first key rest c.requires
+    ∙ by_key files key rest c.requires

@@ -1,9 +1,21 @@
+use Rattle.std.proofs.Common.{◌≡◌, ◌∙◌, ◌++◌, ◌∷◌, ℕ, [], List, ap, length, subst}
 use Rattle.std.specs.Map.{lookup}
 use Rattle.gm_store.specs.Asked.{name_of, same_name}
+use Rattle.sharded_map.specs.Shards.{Puts, held}
+use Rattle.gm_graph_cache.specs.declared.kept_files.KeptFile.{KeptFile}
+use Rattle.gm_graph_cache.specs.KeptFiles.{file_at, first_or}
+use Rattle.gm_graph_cache.specs.Marks.{name_fingerprint}
 use Rattle.gm_graph_cache.proofs.Firsts.{put_first}
 use Rattle.gm_graph_cache.proofs.kept_files.KeptFiles.insert_first.Goals as goal
 
-pub returns-in-Ok-clause-puts : goal.returns-in-Ok-clause-puts
-returns-in-Ok-clause-puts c = λ other.
-    put_first c.args.self.now.first c.insert.new.self c.args.key c.args.kept c.requires.marked c.requires.free c.in-Ok.ensures.puts other
-    (lookup (λ file. same_name other (name_of file)) c.args.self.now.others.entries)
+pub returns-in-Ok-push-clause-puts : goal.returns-in-Ok-push-clause-puts
+returns-in-Ok-push-clause-puts c = λ other.
+    let old = c.args.self.now in
+    let others = lookup (λ file. same_name other (name_of file)) old.others.entries in
+    let file : KeptFile = record { name = c.args.key.name; kept = c.args.kept } in
+    let grown : c.push.new.self.items ≡ old.files.items ++ file ∷ [] =
+    c.in-Ok-push.ensures.items ∙ ap (λ (files : List KeptFile). files ++ file ∷ []) c.reserve.ensures.items in
+    let place : c.len.result ≡ length old.files.items = c.len.ensures ∙ c.reserve.ensures.len ∙ old.files.ok.0 in
+    ap (λ (files : List KeptFile). first_or (file_at files (held c.insert.new.self (name_fingerprint other))) other others) grown
+    ∙ put_first old.files.items old.first c.insert.new.self c.args.key c.args.kept c.requires.marked c.requires.free
+    (subst (λ (n : ℕ). Puts old.first c.insert.new.self c.args.key.number n) place c.in-Ok-insert.ensures.puts) other others
