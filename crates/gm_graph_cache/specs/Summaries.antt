@@ -26,7 +26,7 @@ lent_if all (Some some) = some
 
 -- the requirements of a summary: its own list if it has one, otherwise all of its file's
 abbrev pub lent_by : Summary → List ModuleVersion
-lent_by summary = lent_if summary.file.requirements (option_map (λ some. some.items) summary.kept)
+lent_by summary = lent_if summary.file.requirements (option_map (λ some. some.value.items) summary.kept)
 
 -- the requirements of a file: none if it has a fault or nothing is kept of it
 abbrev pub lent_found : Option Kept → List ModuleVersion

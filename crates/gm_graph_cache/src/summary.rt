@@ -18,8 +18,8 @@ pub(crate) struct Summary {
     /// The file's contents.
     pub(crate) file: DepFile,
     /// The requirements without the excluded ones, if one of them is excluded. Otherwise the list of the file
-    /// itself serves, so that most summaries need no copy.
-    pub(crate) kept: Option<Vec<ModVer>>,
+    /// itself serves, so that most summaries need no copy. Boxed, so that those are smaller.
+    pub(crate) kept: Option<Box<Vec<ModVer>>>,
 }
 
 /// What the cache keeps of a file.
@@ -62,7 +62,7 @@ pub(crate) fn summary_of(alloc: Global, main: &MainFile, file: DepFile) -> Resul
     let some = copy_kept(alloc, main, file.requirements())?;
     Ok(Summary {
         file,
-        kept: Some(some),
+        kept: Some(Box::new(alloc, some)?),
     })
 }
 
