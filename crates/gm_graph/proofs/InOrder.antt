@@ -20,7 +20,7 @@ use Rattle.gm_graph_select.specs.Order.{IsAscending}
 use Rattle.gm_graph_select.proofs.Ascending.{member_head, member_tail, pairs_head, pairs_tail}
 use Rattle.gm_graph_select.proofs.Ranges.{step_itself}
 use Rattle.gm_graph.specs.declared.adjacency.Adjacency.{Adjacency}
-use Rattle.gm_graph.specs.Adjacency.{AreAscending, edges_from, edges_of, left_by, same_step, with_vertex}
+use Rattle.gm_graph.specs.Adjacency.{AreAscending, edges_from, edges_of, same_step}
 use Rattle.gm_graph.proofs.EdgesAndFaults.{edges_only, edges_push, from_only}
 
 -- pairs within two lists and between them
@@ -90,6 +90,8 @@ sorted_ascends all sorted distinct =
     lower_step (step_cmp b.from a.from) (sorted k d (omega arith) inside) (ap is_eq (sym (step_total.antisymm a.from b.from)) ∙ apart)
     ∙ ap is_lt (sym (step_total.antisymm a.from b.from)))
 
--- the vertices that are left from one adjacency list on
-pub left_here : (all : List Adjacency) (i : ℕ) (x : Adjacency) → i < length all → x ≡ get_or all i x → with_vertex x.from (left_by (drop (i + 1) all)) ≡ left_by (drop i all)
-left_here all i x below is = ap (λ (one : Adjacency). with_vertex one.from (left_by (drop (i + 1) all))) is ∙ ap left_by (sym (drop_more all i x below))
+-- ---- what is left of a list
+
+-- an item, and those after it
+pub drop_here : {T : Type 0} (all : List T) (i : ℕ) (x : T) → i < length all → x ≡ get_or all i x → x ∷ drop (i + 1) all ≡ drop i all
+drop_here {T} all i x below is = ap (λ (one : T). one ∷ drop (i + 1) all) is ∙ sym (drop_more all i x below)

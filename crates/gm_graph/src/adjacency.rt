@@ -61,12 +61,14 @@ fn push_edge(
     alloc: Global,
     edges: &mut Vec<Edge>,
     from: &Step,
-    to: ModVer,
+    to: &ModVer,
 ) -> Result<(), AllocError>
-    ensures { OnOk result (edges.new.items ≡ edges.old.items ++ edge from.now to ∷ []) }
+    ensures { OnOk result (edges.new.items ≡ edges.old.items ++ edge from.now to.now ∷ []) }
 {
-    let from = from.copy(alloc)?;
-    edges.push(Edge { from, to })?;
+    edges.push(Edge {
+        from: from.copy(alloc)?,
+        to: to.copy(alloc)?,
+    })?;
     Ok(())
 }
 
@@ -75,9 +77,9 @@ fn push_edges_to(
     alloc: Global,
     edges: &mut Vec<Edge>,
     from: &Step,
-    to: Vec<ModVer>,
+    to: &[ModVer],
 ) -> Result<(), AllocError>
-    ensures { OnOk result (edges.new.items ≡ edges.old.items ++ map (λ y. edge from.now y) to.items) }
+    ensures { OnOk result (edges.new.items ≡ edges.old.items ++ map (λ y. edge from.now y) to.now) }
 {
     for y in to {
         push_edge(alloc, edges, from, y)?;
@@ -102,10 +104,9 @@ impl Adjacency {
     }
 
     /// Appends the edges to a list.
-    pub(crate) fn push_edges(self, alloc: Global, edges: &mut Vec<Edge>) -> Result<(), AllocError>
-        ensures { OnOk result (edges.new.items ≡ edges.old.items ++ edges_from self) }
+    pub(crate) fn push_edges(&self, alloc: Global, edges: &mut Vec<Edge>) -> Result<(), AllocError>
+        ensures { OnOk result (edges.new.items ≡ edges.old.items ++ edges_from self.now) }
     {
-        let Adjacency { from, to } = self;
-        push_edges_to(alloc, edges, &from, to)
+        push_edges_to(alloc, edges, &self.from, &self.to)
     }
 }

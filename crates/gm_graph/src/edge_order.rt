@@ -118,12 +118,8 @@ fn count(all: &[Adjacency]) -> usize
 }
 
 /// Appends all edges of these groups, in the same order.
-fn push_all_edges(
-    alloc: Global,
-    edges: &mut Vec<Edge>,
-    all: Vec<Adjacency>,
-) -> Result<(), AllocError>
-    ensures { OnOk result (edges.new.items ≡ edges.old.items ++ edges_of all.items) }
+fn push_all_edges(alloc: Global, edges: &mut Vec<Edge>, all: &[Adjacency]) -> Result<(), AllocError>
+    ensures { OnOk result (edges.new.items ≡ edges.old.items ++ edges_of all.now) }
 {
     for one in all {
         one.push_edges(alloc, edges)?;
@@ -132,10 +128,10 @@ fn push_all_edges(
 }
 
 /// All edges of these groups, in the same order.
-pub(crate) fn all_edges(alloc: Global, all: Vec<Adjacency>) -> Result<Vec<Edge>, AllocError>
-    ensures { IfOk result (λ edges. edges.items ≡ edges_of all.items) }
+pub(crate) fn all_edges(alloc: Global, all: &[Adjacency]) -> Result<Vec<Edge>, AllocError>
+    ensures { IfOk result (λ edges. edges.items ≡ edges_of all.now) }
 {
-    let mut edges = Vec::with_capacity(alloc, count(&all))?;
+    let mut edges = Vec::with_capacity(alloc, count(all))?;
     push_all_edges(alloc, &mut edges, all)?;
     Ok(edges)
 }

@@ -5,12 +5,15 @@ ghost use Rattle.gm_graph_select.specs.BuildList.{IsEntryOf, HasEntryFor, IsRest
 ghost use Rattle.gm_graph_select.specs.Chains.{IsChain};
 ghost use Rattle.gm_graph_select.specs.Graph.{among};
 ghost use Rattle.gm_graph_select.specs.declared.step.Step.{Step};
+ghost use Rattle.gm_graph.specs.Adjacency.{edges_of};
 ghost use Rattle.gm_graph.specs.Outcome.{AreReached};
 
+use crate::adjacency::Adjacency;
+use crate::edge_order::all_edges;
 use crate::fault::Fault;
 use gm_graph_cache::Turn;
 use gm_graph_select::{ChainFault, Edge, NotListed, Row, Rows, Step};
-use gm_name::ModPath;
+use gm_name::{ModPath, NoMemory};
 use std::alloc::Global;
 use std::marker::Model;
 
@@ -22,8 +25,8 @@ pub struct Loaded {
     main: ModPath,
     /// The faults, in strictly ascending order of their vertices.
     faults: Vec<Fault>,
-    /// The edges, in strictly ascending order.
-    edges: Vec<Edge>,
+    /// The edges, in groups by the steps that they leave, in ascending order.
+    groups: Vec<Adjacency>,
     /// The build list.
     rows: Vec<Row>,
     /// The turns whose requirements were read, without duplicates.
@@ -32,13 +35,14 @@ pub struct Loaded {
 
 impl Model for Loaded {
     ghost use Rattle.gm_graph_select.specs.BuildList.{entries_of_rows};
+    ghost use Rattle.gm_graph.specs.Adjacency.{edges_of};
     ghost use Rattle.gm_graph.specs.Outcome.{AreReached, LoadedGraph};
 
     ghost Value = { LoadedGraph };
 
-    ghost view = { λ l. record { main = l.main; faults = l.faults.items; edges = l.edges.items; rows = entries_of_rows l.rows.items; turns = l.turns.items } };
+    ghost view = { λ l. record { main = l.main; faults = l.faults.items; edges = edges_of l.groups.items; rows = entries_of_rows l.rows.items; turns = l.turns.items } };
 
-    ghost invariant = { λ l. AreReached l.edges.items (entries_of_rows l.rows.items) };
+    ghost invariant = { λ l. AreReached (edges_of l.groups.items) (entries_of_rows l.rows.items) };
 }
 
 impl Loaded {
@@ -46,21 +50,21 @@ impl Loaded {
     pub(crate) fn new(
         main: ModPath,
         faults: Vec<Fault>,
-        edges: Vec<Edge>,
+        groups: Vec<Adjacency>,
         rows: Vec<Row>,
         turns: Vec<Turn>,
     ) -> Loaded
-        requires { AreReached edges.items (entries_of_rows rows.items) }
+        requires { AreReached (edges_of groups.items) (entries_of_rows rows.items) }
         ensures main { result.main ≡ main }
         ensures faults { result.faults ≡ faults.items }
-        ensures edges { result.edges ≡ edges.items }
+        ensures edges { result.edges ≡ edges_of groups.items }
         ensures rows { result.rows ≡ entries_of_rows rows.items }
         ensures turns { result.turns ≡ turns.items }
     {
         Loaded {
             main,
             faults,
-            edges,
+            groups,
             rows,
             turns,
         }
@@ -73,11 +77,12 @@ impl Loaded {
         self.faults.as_slice()
     }
 
-    /// The edges of the graph, in strictly ascending order. It takes no memory.
-    pub fn edges(&self) -> &[Edge]
-        ensures { result.now ≡ self.now.edges }
+    /// The edges of the graph, in strictly ascending order. Each call makes the list anew, which takes memory for each
+    /// edge. The only refusal is `NoMemory`, if memory runs out.
+    pub fn edges(&self, alloc: Global) -> Result<Vec<Edge>, NoMemory>
+        ensures { IfOk result (λ edges. edges.items ≡ self.now.edges) }
     {
-        self.edges.as_slice()
+        all_edges(alloc, &self.groups)
     }
 
     /// The vertices and depths for which requirements were read, without duplicates. It takes no memory.
@@ -121,6 +126,7 @@ impl Loaded {
         ensures not_listed { IsErrOf result ChainFault.NotListed
             → ¬ (HasEntryFor self.now.main self.now.rows path.now) }
     {
-        gm_graph_select::chain(alloc, &self.main, &self.edges, &self.rows, path)
+        let edges = all_edges(alloc, &self.groups)?;
+        gm_graph_select::chain(alloc, &self.main, &edges, &self.rows, path)
     }
 }

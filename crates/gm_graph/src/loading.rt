@@ -25,7 +25,7 @@ ghost use Rattle.gm_graph.specs.Outcome.{IsLoaded};
 ghost use Rattle.gm_graph.specs.Turns.{AreFirstTurns};
 
 use crate::adjacency::Adjacency;
-use crate::edge_order::{all_edges, all_ends, sorted_groups};
+use crate::edge_order::{all_ends, sorted_groups};
 use crate::graph_builder::{GraphBuilder, fault_list, main_edges};
 use crate::loaded::Loaded;
 use crate::starting::{first_turns, kept_requirements};
@@ -33,7 +33,7 @@ use crate::visiting::visit;
 use crate::worklist::{Worklist, copy_turn};
 use gm_file::MainFile;
 use gm_graph_cache::{Cache, LoadFault, Turn, main_view};
-use gm_graph_select::{Edge, Row, build_list};
+use gm_graph_select::{Row, build_list};
 use gm_name::ModVer;
 use gm_store::Files;
 use gm_store_sums::SumTable;
@@ -88,14 +88,14 @@ fn visit_all<F: Files>(
 /// What is selected of a graph.
 #[derive(Drop)]
 struct Selection {
-    /// The edges, in strictly ascending order.
-    edges: Vec<Edge>,
+    /// The edges, in groups by the steps that they leave, in ascending order.
+    groups: Vec<Adjacency>,
     /// The build list.
     rows: Vec<Row>,
 }
 
-/// The edges of these groups, sorted, and the build list of the vertices that they lead to: those that groups leave,
-/// and the leaves.
+/// These groups, sorted, and the build list of the vertices that their edges lead to: those that groups leave, and
+/// the leaves.
 fn select(
     alloc: Global,
     main: &MainFile,
@@ -104,19 +104,18 @@ fn select(
 ) -> Result<Selection, AllocError>
     requires once { IsDistinct same_step leaving.items }
     requires ends { AreEnds (left_by leaving.items ++ leaves.items) (among (edges_of leaving.items)) }
-    ensures ascending { IfOk result (λ selection. IsAscending edge_cmp selection.edges.items) }
-    ensures edges { IfOk result (λ selection. HaveSame (edges_of leaving.items) selection.edges.items) }
+    ensures ascending { IfOk result (λ selection. IsAscending edge_cmp (edges_of selection.groups.items)) }
+    ensures edges { IfOk result (λ selection. HaveSame (edges_of leaving.items) (edges_of selection.groups.items)) }
     ensures rows { IfOk result (λ selection. IsBuildList (main_of main.now).path (main_of main.now).replaces
-        (among selection.edges.items) (entries_of_rows selection.rows.items)) }
+        (among (edges_of selection.groups.items)) (entries_of_rows selection.rows.items)) }
 {
     let groups = sorted_groups(leaving);
     let ends = all_ends(alloc, &groups, leaves)?;
     let rows = build_list(alloc, main, ends)?;
-    let edges = all_edges(alloc, groups)?;
-    Ok(Selection { edges, rows })
+    Ok(Selection { groups, rows })
 }
 
-/// The loaded graph, with its edges sorted and the build list of its vertices.
+/// The loaded graph, with its groups of edges sorted and the build list of its vertices.
 fn assemble(
     alloc: Global,
     main: &MainFile,
@@ -141,7 +140,7 @@ fn assemble(
     let faults = fault_list(alloc, faults)?;
     let selection = select(alloc, main, leaving, leaves)?;
     let path = main_view::path(main).copy(alloc)?;
-    Ok(Loaded::new(path, faults, selection.edges, selection.rows, turns))
+    Ok(Loaded::new(path, faults, selection.groups, selection.rows, turns))
 }
 
 /// Loads the module graph of a main module's file: finds the faults of the opened vertices, the edges of the graph
@@ -181,7 +180,7 @@ pub fn load<F: Files>(
     let mut builder = main_edges(alloc, &required)?;
     let mut cache = Cache::new(alloc, main, sums)?;
     visit_all(alloc, &mut cache, files, &mut worklist, &mut builder)?;
-    // The summaries are dropped here, before the list of edges takes its memory.
+    // The summaries are dropped here, before the build list takes its memory.
     let turns = cache.into_turns();
     Ok(assemble(alloc, main, turns, worklist.into_leaves(), builder)?)
 }

@@ -26,7 +26,8 @@ use std::alloc::{AllocError, Global};
 fn print_graph(alloc: Global, main: &MainFile<'_>, loaded: &Loaded) -> Result<Output, NoMemory>
     ensures { IfOk result (λ output. PrintsEdges (main_of main.now) loaded.now (outcome_view output)) }
 {
-    let text = graph_text(alloc, main_view::path(main), loaded.edges())?;
+    let edges = loaded.edges(alloc)?;
+    let text = graph_text(alloc, main_view::path(main), &edges)?;
     Ok(printed(alloc, text))
 }
 

@@ -89,7 +89,8 @@ fn compare_finds(
     plain: &RoundsResult,
 ) {
     assert_same(rt, title, &loaded.faults(), &plain.faults.as_slice());
-    assert_same(rt, title, &loaded.edges(), &plain.edges.as_slice());
+    let edges = loaded.edges(alloc).expect(rt, OUT_OF_MEMORY);
+    assert_same(rt, title, &edges, &plain.edges);
     compare_rows(rt, alloc, title, loaded, &plain.rows);
 }
 
