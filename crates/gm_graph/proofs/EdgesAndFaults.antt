@@ -18,7 +18,8 @@ use Rattle.gm_graph_select.specs.declared.step.Edge.{Edge}
 use Rattle.gm_graph_select.specs.declared.step.Step.{Step}
 use Rattle.gm_graph_select.specs.declared.step.Step.TheVariants.{Main as FromMain, Of}
 use Rattle.gm_graph_select.specs.Graph.{edge, vertex_cmp}
-use Rattle.gm_graph_select.specs.Order.{HaveSame}
+use Rattle.gm_graph_select.specs.Order.{HaveSame, in_order}
+use Rattle.gm_graph_select.proofs.Inserting.{in_order_same}
 use Rattle.gm_graph.specs.declared.graph_builder.GraphBuilder.{GraphBuilder}
 use Rattle.gm_graph.specs.declared.adjacency.Adjacency.{Adjacency}
 use Rattle.gm_graph.specs.Building.{AddsEdges, AreGathered, edges_in, faults_by_vertex, found_fault, noted}
@@ -47,39 +48,41 @@ no_fault_put old new x found e same q =
 
 from_each : (one : Adjacency) (y : ModuleVersion) → Contains one.to.items y
     → Contains (edges_from one) (edge one.from y)
-from_each one y h = in_mapped (λ (z : ModuleVersion). edge one.from z) one.to.items y h
+from_each one y h = in_mapped (λ (z : ModuleVersion). edge one.from z) (in_order vertex_cmp one.to.items) y ((in_order_same one.to.items y).0 h)
 
 pub from_only : (one : Adjacency) (e : Edge) → Contains (edges_from one) e → (y : ModuleVersion) × Contains one.to.items y × (e ≡ edge one.from y)
-from_only one e h = let found = from_mapped (λ (z : ModuleVersion). edge one.from z) one.to.items e h in (found.0, found.1, sym found.2)
+from_only one e h =
+    let (y, there, is) = from_mapped (λ (z : ModuleVersion). edge one.from z) (in_order vertex_cmp one.to.items) e h in
+    (y, (in_order_same one.to.items y).1 there, sym is)
 
 pub edges_push : (all : List Adjacency) (one : Adjacency) → edges_of (all ++ one ∷ []) ≡ edges_of all ++ edges_from one
 edges_push [] one = append-nil (edges_from one)
 edges_push (first ∷ all) one = ap (λ (es : List Edge). edges_from first ++ es) (edges_push all one) ∙ sym (append_assoc (edges_from first) (edges_of all) (edges_from one))
 
 -- the edges of one more vertex
-pub edges_more : (old new : List Adjacency) (one : Adjacency) (x : ModuleVersion) (ys : List ModuleVersion) → new ≡ old ++ one ∷ [] → one.from ≡ Of x → HaveSame ys one.to.items → AddsEdges (edges_of old) (edges_of new) x ys
+pub edges_more : (old new : List Adjacency) (one : Adjacency) (x : ModuleVersion) (ys : List ModuleVersion) → new ≡ old ++ one ∷ [] → one.from ≡ Of x → one.to.items ≡ ys → AddsEdges (edges_of old) (edges_of new) x ys
 edges_more old new one x ys more from same =
     let whole : edges_of new ≡ edges_of old ++ edges_from one = ap edges_of more ∙ edges_push old one in
     record {
       extends = (edges_from one, whole);
       each = λ y h. subst (λ (es : List Edge). Contains es (edge (Of x) y)) (sym whole)
-          (Contains-append_right (edges_of old) (edges_from one) (edge (Of x) y) (subst (λ (s : Step). Contains (edges_from one) (edge s y)) from (from_each one y ((same y).0 h))));
+          (Contains-append_right (edges_of old) (edges_from one) (edge (Of x) y) (subst (λ (s : Step). Contains (edges_from one) (edge s y)) from (from_each one y (subst (λ (l : List ModuleVersion). Contains l y) (sym same) h))));
       only = λ e h. elim (Contains-append_cases (edges_of old) (edges_from one) e (subst (λ (es : List Edge). Contains es e) whole h)) [
         | inl there ↦ inl there
-        | inr new ↦ (let found = from_only one e new in inr (found.0, (same found.0).1 found.1, found.2 ∙ ap (λ (s : Step). edge s found.0) from))
+        | inr new ↦ (let found = from_only one e new in inr (found.0, subst (λ (l : List ModuleVersion). Contains l found.0) same found.1, found.2 ∙ ap (λ (s : Step). edge s found.0) from))
       ];
     }
 
-pub main_gathered : (g : GraphBuilder) (one : Adjacency) (ys : List ModuleVersion) → g.leaving.items ≡ one ∷ [] → one.from ≡ FromMain → HaveSame ys one.to.items → g.faults.entries ≡ [] → (main : Main) (readings : Readings) → ys ≡ without_excluded main main.requirements → AreGathered main readings (edges_in g) (faults_by_vertex g)
+pub main_gathered : (g : GraphBuilder) (one : Adjacency) (ys : List ModuleVersion) → g.leaving.items ≡ one ∷ [] → one.from ≡ FromMain → one.to.items ≡ ys → g.faults.entries ≡ [] → (main : Main) (readings : Readings) → ys ≡ without_excluded main main.requirements → AreGathered main readings (edges_in g) (faults_by_vertex g)
 main_gathered g one ys are from same none main readings is =
     let whole : edges_in g ≡ edges_from one = ap edges_of are ∙ append-nil (edges_from one) in
     record {
       from_main = λ y t. subst (λ (es : List Edge). Contains es (edge FromMain y)) (sym whole)
-          (subst (λ (s : Step). Contains (edges_from one) (edge s y)) from (from_each one y ((same y).0 (subst (λ (l : List ModuleVersion). Contains l y) (sym is) t))));
+          (subst (λ (s : Step). Contains (edges_from one) (edge s y)) from (from_each one y (subst (λ (l : List ModuleVersion). Contains l y) (sym (same ∙ is)) t)));
       only = λ e h.
           let found = from_only one e (subst (λ (es : List Edge). Contains es e) whole h) in
           let edge_is : e ≡ edge FromMain found.0 = found.2 ∙ ap (λ (s : Step). edge s found.0) from in
-          subst (λ (a : Edge). IsEdge main readings a.from a.to) (sym edge_is) (subst (λ (l : List ModuleVersion). Contains l found.0) is ((same found.0).1 found.1));
+          subst (λ (a : Edge). IsEdge main readings a.from a.to) (sym edge_is) (subst (λ (l : List ModuleVersion). Contains l found.0) (same ∙ is) found.1);
       known = λ x class h. cc (sym h
           ∙ ap (λ (es : List (ModuleVersion × Class)). lookup (is_at (vertex_cmp x)) es) none);
     }

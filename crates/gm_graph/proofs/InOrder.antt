@@ -4,24 +4,26 @@ use Rattle.std.specs.Prelude.{All, AllPairs}
 use Rattle.std.specs.declared.cmp.Ordering.{Ordering}
 use Rattle.std.specs.declared.cmp.Ordering.TheVariants.{Less, Equal, Greater}
 use Rattle.std.specs.Cmp.{on_total}
-use Rattle.std.specs.List.{IsDistinct}
+use Rattle.std.specs.List.{IsDistinct, sum_by}
 use Rattle.std.specs.List.Sorted.{IsSortedBy}
 use Rattle.std.specs.Ordering.{is_eq, is_lt, ordering_reverse, ordering_then}
 use Rattle.std.proofs.lemmas.Map.Keys.{apart_from_distinct}
 use Rattle.gm_graph_select.specs.StepOrder.{step_total}
+use Rattle.gm_graph_select.proofs.Inserting.{in_order_ascends}
 use Rattle.gm_graph_select.proofs.Sorts.{from_adjacent}
-use Rattle.std.proofs.lemmas.List.{drop_more, get_or-map, length-append, length-map, take_more}
+use Rattle.std.proofs.lemmas.List.{drop_more, get_or-map, length-map, take_more}
 use Rattle.std.proofs.lemmas.List.Elements.{Contains-append_cases, Contains-get_or}
 use Rattle.std.proofs.lemmas.List.Kept.{AllPairs-cons}
+use Rattle.std.proofs.lemmas.List.Sums.{sum_by_push}
 use Rattle.gm_graph_cache.specs.Main.{ModuleVersion}
 use Rattle.gm_graph_select.specs.declared.step.Edge.{Edge}
 use Rattle.gm_graph_select.specs.Graph.{edge, edge_cmp, step_cmp, vertex_cmp}
-use Rattle.gm_graph_select.specs.Order.{IsAscending}
+use Rattle.gm_graph_select.specs.Order.{IsAscending, in_order}
 use Rattle.gm_graph_select.proofs.Ascending.{member_head, member_tail, pairs_head, pairs_tail}
 use Rattle.gm_graph_select.proofs.Ranges.{step_itself}
 use Rattle.gm_graph.specs.declared.adjacency.Adjacency.{Adjacency}
 use Rattle.gm_graph.specs.Adjacency.{AreAscending, edges_from, edges_of, same_step}
-use Rattle.gm_graph.proofs.EdgesAndFaults.{edges_only, edges_push, from_only}
+use Rattle.gm_graph.proofs.EdgesAndFaults.{edges_only, from_only}
 
 -- pairs within two lists and between them
 pairs_append : {T : Type 0} (R : T → T → Type 0) (xs ys : List T) → AllPairs R xs → AllPairs R ys → ((x y : T) → Contains xs x → Contains ys y → R x y) → AllPairs R (xs ++ ys)
@@ -38,12 +40,13 @@ pairs_append {T} R (x ∷ xs) ys a b between =
 -- the edges of an adjacency list
 from_ascends : (one : Adjacency) → IsAscending edge_cmp (edges_from one)
 from_ascends one i j d lt below =
-    let inside : j < length one.to.items = rw length-map at below in
-    let left = get_or-map (λ (y : ModuleVersion). edge one.from y) one.to.items i d.to d (omega arith) in
-    let right = get_or-map (λ (y : ModuleVersion). edge one.from y) one.to.items j d.to d inside in
+    let to = in_order vertex_cmp one.to.items in
+    let inside : j < length to = rw length-map at below in
+    let left = get_or-map (λ (y : ModuleVersion). edge one.from y) to i d.to d (omega arith) in
+    let right = get_or-map (λ (y : ModuleVersion). edge one.from y) to j d.to d inside in
     ap₂ edge_cmp left right
-    ∙ ap (λ (o : Ordering). ordering_then o (vertex_cmp (get_or one.to.items i d.to) (get_or one.to.items j d.to))) (step_itself one.from)
-    ∙ one.ascending i j d.to lt inside
+    ∙ ap (λ (o : Ordering). ordering_then o (vertex_cmp (get_or to i d.to) (get_or to j d.to))) (step_itself one.from)
+    ∙ in_order_ascends one.to.items i j d.to lt inside
 
 abbrev LeavesLower : Adjacency → Adjacency → Type 0
 LeavesLower a b = step_cmp a.from b.from ≡ Less
@@ -63,14 +66,13 @@ edges_ascend (one ∷ all) steps =
         let (z, found, same) = from_only other b at in
         ap₂ edge_cmp is same ∙ ap (λ (o : Ordering). ordering_then o (vertex_cmp y z)) (pairs_head LeavesLower one other all steps later)
 
--- how many edges one more adjacency list adds
-pub edges_counted : (all : List Adjacency) (i : ℕ) (x : Adjacency) → i < length all → x ≡ get_or all i x → length (edges_of (take (i + 1) all)) ≡ length (edges_of (take i all)) + length x.to.items
-edges_counted all i x below is =
-    let first = take_more all i x below ∙ ap (λ (o : Adjacency). take i all ++ o ∷ []) (sym is) in
-    ap (λ (ones : List Adjacency). length (edges_of ones)) first
-    ∙ ap (λ (es : List Edge). length es) (edges_push (take i all) x)
-    ∙ length-append (edges_of (take i all)) (edges_from x)
-    ∙ ap (λ (n : ℕ). length (edges_of (take i all)) + n) (length-map x.to.items (λ (y : ModuleVersion). edge x.from y))
+-- how many vertices one more adjacency list adds
+pub one_counted : (all : List Adjacency) (i : ℕ) (x : Adjacency) → i < length all → x ≡ get_or all i x
+    → sum_by (λ (one : Adjacency). length one.to.items) (take (i + 1) all) ≡ sum_by (λ (one : Adjacency). length one.to.items) (take i all) + length x.to.items
+one_counted all i x below is =
+    let held = λ (one : Adjacency). length one.to.items in
+    ap (λ (ones : List Adjacency). sum_by held ones) (take_more all i x below ∙ ap (λ (o : Adjacency). take i all ++ o ∷ []) (sym is))
+    ∙ sum_by_push held (take i all) x
 
 -- ---- sorted adjacency lists
 

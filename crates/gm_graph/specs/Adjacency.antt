@@ -4,13 +4,14 @@ use Rattle.std.specs.declared.cmp.Ordering.TheVariants.{Less}
 use Rattle.gm_graph_select.specs.declared.step.Edge.{Edge}
 use Rattle.gm_graph_select.specs.declared.step.Step.{Step}
 use Rattle.gm_graph_select.specs.declared.step.Step.TheVariants.{Main, Of}
-use Rattle.gm_graph_select.specs.Graph.{Vertex, edge, step_cmp}
+use Rattle.gm_graph_select.specs.Graph.{Vertex, edge, step_cmp, vertex_cmp}
+use Rattle.gm_graph_select.specs.Order.{in_order}
 use Rattle.gm_graph_select.specs.StepOrder.{step_eq}
 use Rattle.gm_graph.specs.declared.adjacency.Adjacency.{Adjacency}
 
--- the edges that leave one step
+-- the edges that leave one step, in ascending order
 abbrev pub edges_from : Adjacency → List Edge
-edges_from one = map (λ y. edge one.from y) one.to.items
+edges_from one = map (λ y. edge one.from y) (in_order vertex_cmp one.to.items)
 
 -- the edges of all adjacency lists
 abbrev pub edges_of : List Adjacency → List Edge

@@ -4,8 +4,7 @@
 //! path once instead of once per edge, and there are far fewer groups to sort than edges.
 
 ghost use Rattle.std.specs.Prelude.{◌≡◌, ◌++◌, ◌∷◌, [], IfOk, OnOk, map};
-ghost use Rattle.gm_graph_select.specs.Graph.{edge, vertex_cmp};
-ghost use Rattle.gm_graph_select.specs.Order.{HaveSame, IsAscending};
+ghost use Rattle.gm_graph_select.specs.Graph.{edge};
 
 use gm_graph_select::{Edge, Step, sorted};
 use gm_name::ModVer;
@@ -16,9 +15,8 @@ use std::alloc::{AllocError, Global};
 pub(crate) struct Adjacency {
     /// The step that the edges leave.
     pub(crate) from: Step,
-    /// The vertices that they lead to, in strictly ascending order.
+    /// The vertices that they lead to, in any order and perhaps with duplicates.
     pub(crate) to: Vec<ModVer>,
-    ghost ascending: { IsAscending vertex_cmp to.items },
 }
 
 /// Copies of vertices.
@@ -61,14 +59,12 @@ fn push_edge(
     alloc: Global,
     edges: &mut Vec<Edge>,
     from: &Step,
-    to: &ModVer,
+    to: ModVer,
 ) -> Result<(), AllocError>
-    ensures { OnOk result (edges.new.items ≡ edges.old.items ++ edge from.now to.now ∷ []) }
+    ensures { OnOk result (edges.new.items ≡ edges.old.items ++ edge from.now to ∷ []) }
 {
-    edges.push(Edge {
-        from: from.copy(alloc)?,
-        to: to.copy(alloc)?,
-    })?;
+    let from = from.copy(alloc)?;
+    edges.push(Edge { from, to })?;
     Ok(())
 }
 
@@ -77,9 +73,9 @@ fn push_edges_to(
     alloc: Global,
     edges: &mut Vec<Edge>,
     from: &Step,
-    to: &[ModVer],
+    to: Vec<ModVer>,
 ) -> Result<(), AllocError>
-    ensures { OnOk result (edges.new.items ≡ edges.old.items ++ map (λ y. edge from.now y) to.now) }
+    ensures { OnOk result (edges.new.items ≡ edges.old.items ++ map (λ y. edge from.now y) to.items) }
 {
     for y in to {
         push_edge(alloc, edges, from, y)?;
@@ -97,16 +93,17 @@ impl Adjacency {
         required: &[ModVer],
     ) -> Result<Adjacency, AllocError>
         ensures from { IfOk result (λ one. one.from ≡ from) }
-        ensures to { IfOk result (λ one. HaveSame required.now one.to.items) }
+        ensures to { IfOk result (λ one. one.to.items ≡ required.now) }
     {
-        let to = sorted(copies(alloc, required)?);
+        let to = copies(alloc, required)?;
         Ok(Adjacency { from, to })
     }
 
-    /// Appends the edges to a list.
+    /// Appends the edges to a list, in strictly ascending order.
     pub(crate) fn push_edges(&self, alloc: Global, edges: &mut Vec<Edge>) -> Result<(), AllocError>
         ensures { OnOk result (edges.new.items ≡ edges.old.items ++ edges_from self.now) }
     {
-        push_edges_to(alloc, edges, &self.from, &self.to)
+        let to = sorted(copies(alloc, &self.to)?);
+        push_edges_to(alloc, edges, &self.from, to)
     }
 }

@@ -7,7 +7,7 @@ ghost use Rattle.std.specs.Prelude.{◌≡◌, ◌++◌, ◌≤◌, List, IfOk, 
 ghost use Rattle.std.specs.Cmp.{on_equiv, on_po, on_total, partial_equiv_from_equiv};
 ghost use Rattle.gm_graph_select.specs.Graph.{Vertex, step_cmp};
 ghost use Rattle.gm_graph_select.specs.StepOrder.{step_equiv, step_po, step_total};
-ghost use Rattle.std.specs.List.{IsDistinct};
+ghost use Rattle.std.specs.List.{IsDistinct, sum_by};
 ghost use Rattle.std.specs.List.Sorted.{IsPermutation};
 ghost use Rattle.gm_graph.specs.Adjacency.{AreAscending, edges_of, left_by, same_step, with_vertex};
 
@@ -105,19 +105,19 @@ pub(crate) fn all_ends(
     Ok(ends)
 }
 
-/// How many edges these groups have. It is only used to reserve memory, so it may stop at the greatest `usize`; it is
-/// never more than there are.
+/// How many vertices these groups have, each as often as its group has it; they have no more edges. It is only used to
+/// reserve memory, so it may stop at the greatest `usize`; it is never more than there are.
 fn count(all: &[Adjacency]) -> usize
-    ensures { result ≤ length (edges_of all.now) }
+    ensures { result ≤ sum_by (λ one. length one.to.items) all.now }
 {
-    let mut edges: usize = 0;
+    let mut vertices: usize = 0;
     for one in all {
-        edges = edges.saturating_add(one.to.len());
+        vertices = vertices.saturating_add(one.to.len());
     }
-    edges
+    vertices
 }
 
-/// Appends all edges of these groups, in the same order.
+/// Appends all edges of these groups: one group after another, and those of each group in ascending order.
 fn push_all_edges(alloc: Global, edges: &mut Vec<Edge>, all: &[Adjacency]) -> Result<(), AllocError>
     ensures { OnOk result (edges.new.items ≡ edges.old.items ++ edges_of all.now) }
 {
@@ -127,7 +127,7 @@ fn push_all_edges(alloc: Global, edges: &mut Vec<Edge>, all: &[Adjacency]) -> Re
     Ok(())
 }
 
-/// All edges of these groups, in the same order.
+/// All edges of these groups: one group after another, and those of each group in ascending order.
 pub(crate) fn all_edges(alloc: Global, all: &[Adjacency]) -> Result<Vec<Edge>, AllocError>
     ensures { IfOk result (λ edges. edges.items ≡ edges_of all.now) }
 {

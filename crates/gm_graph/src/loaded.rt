@@ -25,7 +25,7 @@ pub struct Loaded {
     main: ModPath,
     /// The faults, in strictly ascending order of their vertices.
     faults: Vec<Fault>,
-    /// The edges, in groups by the steps that they leave, in ascending order.
+    /// The edges, in groups by the steps that they leave, in ascending order of these steps.
     groups: Vec<Adjacency>,
     /// The build list.
     rows: Vec<Row>,
@@ -77,8 +77,8 @@ impl Loaded {
         self.faults.as_slice()
     }
 
-    /// The edges of the graph, in strictly ascending order. Each call makes the list anew, which takes memory for each
-    /// edge. The only refusal is `NoMemory`, if memory runs out.
+    /// The edges of the graph, in strictly ascending order. Each call makes the list anew, in n log n comparisons and
+    /// with memory for n edges. The only refusal is `NoMemory`, if memory runs out.
     pub fn edges(&self, alloc: Global) -> Result<Vec<Edge>, NoMemory>
         ensures { IfOk result (λ edges. edges.items ≡ self.now.edges) }
     {

@@ -88,7 +88,7 @@ fn visit_all<F: Files>(
 /// What is selected of a graph.
 #[derive(Drop)]
 struct Selection {
-    /// The edges, in groups by the steps that they leave, in ascending order.
+    /// The edges, in groups by the steps that they leave, in ascending order of these steps.
     groups: Vec<Adjacency>,
     /// The build list.
     rows: Vec<Row>,

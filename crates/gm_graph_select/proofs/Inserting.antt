@@ -3,7 +3,8 @@ use Rattle.std.proofs.Common.{◌≡◌, ◌⊎◌, ℕ, List, [], ◌∷◌, ge
 use Rattle.std.specs.Prelude.{All}
 use Rattle.std.specs.declared.cmp.Ordering.{Ordering}
 use Rattle.std.specs.declared.cmp.Ordering.TheVariants.{Less, Equal, Greater}
-use Rattle.std.specs.Ordering.{ordering_reverse}
+use Rattle.std.specs.BTreeSet.{insert_key}
+use Rattle.std.specs.Ordering.{match_ordering, ordering_reverse}
 use Rattle.std.proofs.lemmas.List.Elements.{Contains-get_or}
 use Rattle.std.proofs.lemmas.List.Kept.{AllPairs-cons}
 use Rattle.gm_file.specs.Directives.{Replacing}
@@ -11,9 +12,9 @@ use Rattle.gm_graph_select.specs.declared.step.Edge.{Edge}
 use Rattle.gm_graph_select.specs.BuildList.{Entry, IsBuildList, entry_of, main_entry}
 use Rattle.gm_graph_select.specs.Graph.{Vertex, among, vertex_cmp}
 use Rattle.gm_graph_select.specs.Greatest.{greatest_of}
-use Rattle.gm_graph_select.specs.Order.{HaveSame, IsAscending}
+use Rattle.gm_graph_select.specs.Order.{HaveSame, IsAscending, in_order}
 use Rattle.gm_graph_select.specs.StepOrder.{vertex-anti, vertex_total}
-use Rattle.gm_graph_select.proofs.Ascending.{member_cases, member_head, member_tail, no_member, pairs_head, pairs_tail}
+use Rattle.gm_graph_select.proofs.Ascending.{member_cases, member_head, member_tail, no_member, pairs_head, pairs_tail, same_lists}
 use Rattle.gm_graph_select.proofs.Greatest.{ending}
 use Rattle.gm_graph_select.proofs.Same.{alike_build_list, ending_ends, ends_alike, ends_of, ends_same}
 use Rattle.gm_graph_select.proofs.Selected.{built}
@@ -33,78 +34,77 @@ record IsInserted (e : Vertex) (ys zs : List Vertex) : Type 0 where
   pub kept : (x : Vertex) → (e ≡ x) ⊎ Contains ys x → Contains zs x
   pub only : (x : Vertex) → Contains zs x → (e ≡ x) ⊎ Contains ys x
 
-inserted : (e : Vertex) (ys : List Vertex) → IsAscending vertex_cmp ys → (zs : List Vertex) × IsInserted e ys zs
-inserted e [] up = (
-  e ∷ [],
-  record {
-    ascending = above_first e [] (λ y h. absurd (no_member y h)) up;
-    kept = λ x h. elim h [ inl same ↦ subst (λ (v : Vertex). Contains (e ∷ []) v) same (member_head e []) | inr there ↦ absurd (no_member x there) ];
-    only = λ x h. member_cases e x [] h;
-  },
-)
+inserted : (e : Vertex) (ys : List Vertex) → IsAscending vertex_cmp ys → IsInserted e ys (insert_key vertex_cmp ys e)
+inserted e [] up = record {
+  ascending = above_first e [] (λ y h. absurd (no_member y h)) up;
+  kept = λ x h. elim h [ inl same ↦ subst (λ (v : Vertex). Contains (e ∷ []) v) same (member_head e []) | inr there ↦ absurd (no_member x there) ];
+  only = λ x h. member_cases e x [] h;
+}
 inserted e (y ∷ ys) up = by_order (vertex_cmp e y) refl (inserted e ys (pairs_tail Below y ys up))
   where
-    by_order : (r : Ordering) → vertex_cmp e y ≡ r → (zs : List Vertex) × IsInserted e ys zs → (zs : List Vertex) × IsInserted e (y ∷ ys) zs
-    by_order Less is rest = (
-      e ∷ y ∷ ys,
-      record {
-        ascending = above_first e (y ∷ ys) (λ x h. elim (member_cases y x ys h) [
-          | inl same ↦ subst (λ (v : Vertex). Below e v) same is
-          | inr later ↦ vertex_total.trans e y x is (pairs_head Below y x ys up later)
-        ]) up;
-        kept = λ x h. elim h [ inl same ↦ subst (λ (v : Vertex). Contains (e ∷ y ∷ ys) v) same (member_head e (y ∷ ys)) | inr there ↦ member_tail e x (y ∷ ys) there ];
-        only = λ x h. member_cases e x (y ∷ ys) h;
-      },
-    )
-    by_order Equal is rest = (
-      y ∷ ys,
-      record {
-        ascending = up;
-        kept = λ x h. elim h [ inl same ↦ subst (λ (v : Vertex). Contains (y ∷ ys) v) (sym (vertex-anti e y is) ∙ same) (member_head y ys) | inr there ↦ there ];
-        only = λ x h. inr h;
-      },
-    )
-    by_order Greater is (zs, in_rest) =
-        let low : Below y e = vertex_total.antisymm y e ∙ ap ordering_reverse is in (
-          y ∷ zs,
-          record {
-            ascending = above_first y zs (λ x h. elim (in_rest.only x h) [
-              | inl same ↦ subst (λ (v : Vertex). Below y v) same low
-              | inr there ↦ pairs_head Below y x ys up there
-            ]) in_rest.ascending;
-            kept = λ x h. elim h [
-              | inl same ↦ member_tail y x zs (in_rest.kept x (inl same))
-              | inr there ↦ elim (member_cases y x ys there) [
-                | inl first ↦ subst (λ (v : Vertex). Contains (y ∷ zs) v) first (member_head y zs)
-                | inr later ↦ member_tail y x zs (in_rest.kept x (inr later))
-              ]
-            ];
-            only = λ x h. elim (member_cases y x zs h) [
-              | inl first ↦ inr (subst (λ (v : Vertex). Contains (y ∷ ys) v) first (member_head y ys))
-              | inr later ↦ elim (in_rest.only x later) [ inl same ↦ inl same | inr there ↦ inr (member_tail y x ys there) ]
-            ];
-          },
-        )
+    zs : List Vertex
+    zs = insert_key vertex_cmp ys e
 
-in_order : (xs : List Vertex) → (ys : List Vertex) × IsAscending vertex_cmp ys × HaveSame xs ys
-in_order [] = ([], (λ i j d lt below. absurd (omega (arith, below))), λ x. ((λ h. h), (λ h. h)))
-in_order (e ∷ xs) =
-    let (ys, up, same) = in_order xs in
-    let (zs, is) = inserted e ys up in (
-      zs,
-      is.ascending,
-      λ x. (
-        (λ h. is.kept x (elim (member_cases e x xs h) [ inl first ↦ inl first | inr later ↦ inr ((same x).0 later) ])),
-        (λ h. elim (is.only x h) [ inl first ↦ subst (λ (v : Vertex). Contains (e ∷ xs) v) first (member_head e xs) | inr there ↦ member_tail e x xs ((same x).1 there) ]),
-      ),
+    by_order : (r : Ordering) → vertex_cmp e y ≡ r → IsInserted e ys zs → IsInserted e (y ∷ ys) (match_ordering r (e ∷ y ∷ ys) (y ∷ ys) (y ∷ zs))
+    by_order Less is rest = record {
+      ascending = above_first e (y ∷ ys) (λ x h. elim (member_cases y x ys h) [
+        | inl same ↦ subst (λ (v : Vertex). Below e v) same is
+        | inr later ↦ vertex_total.trans e y x is (pairs_head Below y x ys up later)
+      ]) up;
+      kept = λ x h. elim h [ inl same ↦ subst (λ (v : Vertex). Contains (e ∷ y ∷ ys) v) same (member_head e (y ∷ ys)) | inr there ↦ member_tail e x (y ∷ ys) there ];
+      only = λ x h. member_cases e x (y ∷ ys) h;
+    }
+    by_order Equal is rest = record {
+      ascending = up;
+      kept = λ x h. elim h [ inl same ↦ subst (λ (v : Vertex). Contains (y ∷ ys) v) (sym (vertex-anti e y is) ∙ same) (member_head y ys) | inr there ↦ there ];
+      only = λ x h. inr h;
+    }
+    by_order Greater is in_rest =
+        let low : Below y e = vertex_total.antisymm y e ∙ ap ordering_reverse is in
+        record {
+          ascending = above_first y zs (λ x h. elim (in_rest.only x h) [
+            | inl same ↦ subst (λ (v : Vertex). Below y v) same low
+            | inr there ↦ pairs_head Below y x ys up there
+          ]) in_rest.ascending;
+          kept = λ x h. elim h [
+            | inl same ↦ member_tail y x zs (in_rest.kept x (inl same))
+            | inr there ↦ elim (member_cases y x ys there) [
+              | inl first ↦ subst (λ (v : Vertex). Contains (y ∷ zs) v) first (member_head y zs)
+              | inr later ↦ member_tail y x zs (in_rest.kept x (inr later))
+            ]
+          ];
+          only = λ x h. elim (member_cases y x zs h) [
+            | inl first ↦ inr (subst (λ (v : Vertex). Contains (y ∷ ys) v) first (member_head y ys))
+            | inr later ↦ elim (in_rest.only x later) [ inl same ↦ inl same | inr there ↦ inr (member_tail y x ys there) ]
+          ];
+        }
+
+pub in_order_ascends : (xs : List Vertex) → IsAscending vertex_cmp (in_order vertex_cmp xs)
+in_order_ascends [] = λ i j d lt below. absurd (omega (arith, below))
+in_order_ascends (e ∷ xs) = (inserted e (in_order vertex_cmp xs) (in_order_ascends xs)).ascending
+
+pub in_order_same : (xs : List Vertex) → HaveSame xs (in_order vertex_cmp xs)
+in_order_same [] x = ((λ h. h), (λ h. h))
+in_order_same (e ∷ xs) x =
+    let is = inserted e (in_order vertex_cmp xs) (in_order_ascends xs) in
+    let same = in_order_same xs x in (
+      (λ h. is.kept x (elim (member_cases e x xs h) [ inl first ↦ inl first | inr later ↦ inr (same.0 later) ])),
+      (λ h. elim (is.only x h) [ inl first ↦ subst (λ (v : Vertex). Contains (e ∷ xs) v) first (member_head e xs) | inr there ↦ member_tail e x xs (same.1 there) ]),
     )
+
+-- An ascending list with the members of another is the other in order.
+pub in_order_only : (xs ys : List Vertex) → IsAscending vertex_cmp ys → HaveSame xs ys → ys ≡ in_order vertex_cmp xs
+in_order_only xs ys up same =
+    same_lists vertex_total ys (in_order vertex_cmp xs) up (in_order_ascends xs)
+    (λ x. ((λ h. (in_order_same xs x).0 ((same x).1 h)), (λ h. (same x).0 ((in_order_same xs x).1 h))))
 
 pub some_build_list : (main : List ℕ) (replaces : List Replacing) (edges : List Edge) → (entries : List Entry) × IsBuildList main replaces (among edges) entries
 some_build_list main replaces edges =
-    let (ends, up, same) = in_order (map (λ (e : Edge). e.to) edges) in
+    let to = map (λ (e : Edge). e.to) edges in
+    let ends = in_order vertex_cmp to in
     let entries = main_entry ∷ map (entry_of replaces) (greatest_of main ends) in (
       entries,
       alike_build_list main replaces (ending ends) (among edges) entries
-          (ends_alike ends (ending ends) (among edges) (ending_ends ends) (ends_same (map (λ (e : Edge). e.to) edges) ends (among edges) same (ends_of edges)))
-          (built main replaces ends up),
+          (ends_alike ends (ending ends) (among edges) (ending_ends ends) (ends_same to ends (among edges) (in_order_same to) (ends_of edges)))
+          (built main replaces ends (in_order_ascends to)),
     )
