@@ -6,7 +6,7 @@
 ghost use Rattle.std.specs.Prelude.{◌≡◌, ◌++◌, ◌∷◌, [], IfOk, OnOk, map};
 ghost use Rattle.gm_graph_select.specs.Graph.{edge};
 
-use gm_graph_select::{Edge, Step, sorted};
+use gm_graph_select::{Edge, Step, is_ascending, sorted};
 use gm_name::ModVer;
 use std::alloc::{AllocError, Global};
 
@@ -59,12 +59,14 @@ fn push_edge(
     alloc: Global,
     edges: &mut Vec<Edge>,
     from: &Step,
-    to: ModVer,
+    to: &ModVer,
 ) -> Result<(), AllocError>
-    ensures { OnOk result (edges.new.items ≡ edges.old.items ++ edge from.now to ∷ []) }
+    ensures { OnOk result (edges.new.items ≡ edges.old.items ++ edge from.now to.now ∷ []) }
 {
-    let from = from.copy(alloc)?;
-    edges.push(Edge { from, to })?;
+    edges.push(Edge {
+        from: from.copy(alloc)?,
+        to: to.copy(alloc)?,
+    })?;
     Ok(())
 }
 
@@ -73,9 +75,9 @@ fn push_edges_to(
     alloc: Global,
     edges: &mut Vec<Edge>,
     from: &Step,
-    to: Vec<ModVer>,
+    to: &[ModVer],
 ) -> Result<(), AllocError>
-    ensures { OnOk result (edges.new.items ≡ edges.old.items ++ map (λ y. edge from.now y) to.items) }
+    ensures { OnOk result (edges.new.items ≡ edges.old.items ++ map (λ y. edge from.now y) to.now) }
 {
     for y in to {
         push_edge(alloc, edges, from, y)?;
@@ -103,7 +105,11 @@ impl Adjacency {
     pub(crate) fn push_edges(&self, alloc: Global, edges: &mut Vec<Edge>) -> Result<(), AllocError>
         ensures { OnOk result (edges.new.items ≡ edges.old.items ++ edges_from self.now) }
     {
+        // In most files they are in order.
+        if is_ascending(&self.to) {
+            return push_edges_to(alloc, edges, &self.from, &self.to);
+        }
         let to = sorted(copies(alloc, &self.to)?);
-        push_edges_to(alloc, edges, &self.from, to)
+        push_edges_to(alloc, edges, &self.from, &to)
     }
 }

@@ -27,6 +27,6 @@ mod vertex_set;
 pub use crate::chaining::{ChainFault, chain};
 pub use crate::row::{NotListed, Row, Rows, rest_after};
 pub use crate::selecting::build_list;
-pub use crate::sorting::{sorted, sorted_edges};
+pub use crate::sorting::{is_ascending, sorted, sorted_edges};
 pub use crate::step::{Edge, Step};
 pub use crate::vertex_set::VertexSet;

@@ -9,7 +9,7 @@ ghost use Rattle.gm_graph_select.specs.Order.{TiesAreEqual, HaveSame, IsAscendin
 use crate::step::Edge;
 
 /// Whether each item is less than the next. It takes no memory, and one comparison per item.
-fn is_ascending<T: Ord>(items: &[T]) -> bool
+pub fn is_ascending<T: Ord>(items: &[T]) -> bool
     ensures yes { result ≡ true → IsAscending T.cmp items.now }
     ensures no { result ≡ false → IsAscending T.cmp items.now → ⊥ }
 {
