@@ -39,7 +39,7 @@ gt_true Less h = absurd (false≢true h)
 gt_true Equal h = absurd (false≢true h)
 gt_true Greater h = refl
 
-gt_false : (r : Ordering) → is_gt r ≡ false → (r ≡ Less) ⊎ (r ≡ Equal)
+pub gt_false : (r : Ordering) → is_gt r ≡ false → (r ≡ Less) ⊎ (r ≡ Equal)
 gt_false Less h = inl refl
 gt_false Equal h = inr refl
 gt_false Greater h = absurd (false≢true (sym h))

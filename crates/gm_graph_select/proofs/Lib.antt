@@ -1,3 +1,4 @@
+pub mod Candidates
 pub mod Sorts
 pub mod RestRows
 pub mod Same

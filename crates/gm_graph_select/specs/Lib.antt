@@ -1,3 +1,4 @@
+pub mod Candidates
 pub mod Graph
 pub mod StepOrder
 pub mod Order

@@ -15,7 +15,8 @@
 #![tactic(auto)]
 
 mod chaining;
-pub mod laws;
+pub mod highest;
+mod laws;
 mod numbering;
 mod row;
 mod searching;

@@ -8,12 +8,15 @@ ghost use Rattle.std.specs.Option.{option_map};
 ghost use Rattle.gm_file.specs.Fields.{replacement_of};
 ghost use Rattle.gm_file.specs.Views.{right_view};
 ghost use Rattle.gm_graph_select.specs.declared.step.Edge.{Edge};
-ghost use Rattle.gm_graph_select.specs.Graph.{AreEnds, among};
+ghost use Rattle.gm_graph_select.specs.Candidates.{HaveHighest};
+ghost use Rattle.gm_graph_select.specs.Graph.{AreEnds, among, vertex_cmp};
+ghost use Rattle.gm_graph_select.specs.Order.{IsAscending};
 ghost use Rattle.gm_graph_select.specs.Greatest.{first_has_path, greatest_of, is_selected};
 ghost use Rattle.gm_graph_select.specs.BuildList.{IsBuildList, entries_of_rows, entry_of, entry_of_row, main_entry, main_path, main_replaces};
 
+use crate::highest::highest_of;
 use crate::row::Row;
-use crate::sorting::sorted;
+use crate::sorting::{is_ascending, sorted};
 use crate::step::Step;
 use gm_file::{MainFile, Right};
 use gm_name::{ModPath, ModVer, NoMemory};
@@ -107,13 +110,26 @@ fn rows_of(alloc: Global, main: &MainFile<'_>, ends: &[ModVer]) -> Result<Vec<Ro
     Ok(rows)
 }
 
+/// Some of these vertices in strictly ascending order, among them the highest version of each path.
+fn highest_in_order(alloc: Global, ends: Vec<ModVer>) -> Result<Vec<ModVer>, AllocError>
+    ensures ascending { IfOk result (λ some. IsAscending vertex_cmp some.items) }
+    ensures highest { IfOk result (λ some. HaveHighest ends.items some.items) }
+{
+    // Those of a graph that is not pruned come in order.
+    if is_ascending(&ends) {
+        return Ok(ends);
+    }
+    Ok(sorted(highest_of(alloc, ends)?))
+}
+
 /// The build list of a module graph (Go Modules Reference, "Minimal version selection"). It begins with the main
 /// module. Each other path that an edge leads to follows once, at the greatest version that an edge leads to, in
 /// ascending order of the bytes of the path. Each row has the replacement from the main file. `ends` are the
 /// vertices that edges lead to, in any order; duplicates are allowed.
 ///
-/// The only refusal is `NoMemory`, if memory runs out. For n vertices it takes n log n comparisons, and memory for
-/// the rows alone.
+/// The only refusal is `NoMemory`, if memory runs out. For n vertices it takes n log n comparisons at most, and memory
+/// for the rows and, where the vertices don't come in ascending order, for those that may be selected and a map of their
+/// paths.
 pub fn build_list(
     alloc: Global,
     main: &MainFile<'_>,
@@ -122,7 +138,7 @@ pub fn build_list(
     ensures { IfOk result (λ rows. (edges : List Edge) → AreEnds ends.items (among edges)
         → IsBuildList (main_path main.now) (main_replaces main.now) (among edges) (entries_of_rows rows.items)) }
 {
-    let ends = sorted(ends);
+    let ends = highest_in_order(alloc, ends)?;
     let rows = rows_of(alloc, main, &ends)?;
     Ok(rows)
 }
