@@ -20,6 +20,10 @@ use gm_syntax::{Doc, LineReader};
 use std::alloc::Global;
 use std::marker::Model;
 
+/// About how many bytes of a file its line of one requirement takes, so that a list of requirements is mostly made once
+/// with the room that it needs.
+const BYTES_OF_ONE: usize = 40;
+
 /// A dependency's file, read laxly: its `module`, `go`, `require` and `retract` directives.
 ///
 /// It borrows nothing from its document, which may be dropped after reading.
@@ -85,7 +89,7 @@ impl DepFile {
             fields,
             retracts,
             ..
-        } = read_dep_lines(alloc, names, &mut reader)?;
+        } = read_dep_lines(alloc, names, &mut reader, bytes.len() / BYTES_OF_ONE)?;
         Ok(DepFile::of_fields(fields, retracts))
     }
 

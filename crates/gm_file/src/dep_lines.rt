@@ -61,16 +61,16 @@ fn set_block<'a>(block: &mut Option<Token<'a>>, verb: Option<Token<'a>>)
 }
 
 impl<'a> DepLines<'a> {
-    /// What no lines say.
-    fn new(alloc: Global) -> DepLines<'a>
-        ensures lines { AreDepLines [] result }
-        ensures found { AreFound result.fields }
+    /// What no lines say, with room for so many requirements.
+    fn with_room(alloc: Global, room: usize) -> Result<DepLines<'a>, AllocError>
+        ensures lines { IfOk result (AreDepLines []) }
+        ensures found { IfOk result (λ said. AreFound said.fields) }
     {
-        DepLines {
+        Ok(DepLines {
             block: None,
-            fields: Fields::new(alloc),
+            fields: Fields::with_room(alloc, room)?,
             retracts: Vec::new(alloc),
-        }
+        })
     }
 
     /// Reads the next line.
@@ -332,17 +332,18 @@ fn read_all<'a>(
     Ok(())
 }
 
-/// What all lines say, or the fault of the bytes.
+/// What all lines say, or the fault of the bytes. `room` is how many requirements may be expected.
 pub(crate) fn read_dep_lines<'a>(
     alloc: Global,
     names: &mut KnownNames,
     reader: &mut LineReader<'a>,
+    room: usize,
 ) -> Result<DepLines<'a>, ReadFault>
     requires { HasRead reader.old [] }
     ensures ok { IfOk result (AreAllRead reader.old.source) }
     ensures fault { IfErr result (IsMisread reader.old.source) }
 {
-    let mut said = DepLines::new(alloc);
+    let mut said = DepLines::with_room(alloc, room)?;
     read_all(alloc, names, reader, &mut said)?;
     Ok(said)
 }

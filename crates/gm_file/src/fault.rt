@@ -4,6 +4,7 @@ ghost use Rattle.std.specs.Prelude.{◌≡◌};
 ghost use Rattle.gm_file.specs.ReadFaults.{read_by_file, read_by_syntax};
 ghost use Rattle.gm_file.specs.Views.{file_fault_at};
 ghost use Rattle.gm_file.specs.declared.fault.FileFault.TheVariants as file;
+ghost use Rattle.gm_file.specs.declared.fault.ReadFault.TheVariants as read;
 ghost use Rattle.gm_file.specs.declared.fault.LineFault.TheVariants as line;
 
 use gm_syntax::{SyntaxFault, SyntaxKind};
@@ -97,6 +98,15 @@ impl From<SyntaxFault> for ReadFault {
             SyntaxFault::NotUtf8 => ReadFault::NotUtf8,
             SyntaxFault::Syntax { line, kind } => ReadFault::Syntax { line, kind },
         }
+    }
+}
+
+/// An allocation that failed is `NoMemory`.
+impl From<AllocError> for ReadFault {
+    ghost from_gives = { λ _ fault. fault ≡ read.NoMemory };
+
+    fn from(_error: AllocError) -> ReadFault {
+        ReadFault::NoMemory
     }
 }
 
