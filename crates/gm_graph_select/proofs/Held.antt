@@ -1,8 +1,6 @@
 -- What one more vertex changes in a set.
 use Rattle.std.proofs.Common.{◌≡◌, ◌∙◌, ◌||◌, not, ℕ, Bool, true, false, cond, Option, Some, None, ap, nat_eq, refl, subst, sym}
 use Rattle.std.specs.Prelude.{unwrap_or}
-use Rattle.sharded_map.specs.declared.sharded_map.ShardedMap.{ShardedMap}
-use Rattle.sharded_map.specs.Shards.{held}
 use Rattle.std.proofs.lemmas.Bool.{eq-eqb, eqb-true}
 use Rattle.std.specs.BTreeSet as set
 use Rattle.std.specs.Ordering.{is_eq}
@@ -11,7 +9,7 @@ use Rattle.std.specs.declared.cmp.Ordering.TheVariants.{Less, Equal, Greater}
 use Rattle.gm_graph_select.specs.declared.vertex_set.VertexSet.{VertexSet}
 use Rattle.gm_graph_select.specs.Graph.{Vertex, vertex_cmp}
 use Rattle.gm_graph_select.specs.StepOrder.{vertex-anti}
-use Rattle.gm_graph_select.specs.VertexSet.{has, is_any, vertex_fingerprint}
+use Rattle.gm_graph_select.specs.VertexSet.{first_in, has, is_any, vertex_fingerprint}
 
 tie : (r : Ordering) → is_eq r ≡ true → r ≡ Equal
 tie Less h = absurd (cc h)
@@ -39,14 +37,15 @@ none_held x None e = refl
 none_held x (Some held) e = absurd cc
 
 -- A first vertex with its number was added.
-pub put_first : (old : VertexSet) (first : ShardedMap Vertex) (x : Vertex) → is_any x (held old.first (vertex_fingerprint x)) ≡ None
-    → ((m : ℕ) → held first m ≡ cond (nat_eq (vertex_fingerprint x) m) (Some x) (held old.first m))
-    → (y : Vertex) → has (record { first = first; others = old.others }) y ≡ cond (is_eq (vertex_cmp x y)) true (has old y)
-put_first old first x free puts y =
+pub put_first : (old new : VertexSet) (x : Vertex) → new.others ≡ old.others → is_any x (first_in old.first (vertex_fingerprint x)) ≡ None
+    → ((m : ℕ) → first_in new.first m ≡ cond (nat_eq (vertex_fingerprint x) m) (Some x) (first_in old.first m))
+    → (y : Vertex) → has new y ≡ cond (is_eq (vertex_cmp x y)) true (has old y)
+put_first old new x same free puts y =
     let c = set.contains vertex_cmp old.others y in
-    ap (λ (o : Option Vertex). is_in o y c) (puts (vertex_fingerprint y))
-    ∙ first_put (is_eq (vertex_cmp x y)) (nat_eq (vertex_fingerprint x) (vertex_fingerprint y)) x y (held old.first (vertex_fingerprint y)) c refl (same_numbers x y)
-    (λ e. subst (λ (m : ℕ). held old.first m ≡ None) (eqb-true _ _ e) (none_held x _ free))
+    ap (λ (others : set.BTreeSet Vertex). is_in (first_in new.first (vertex_fingerprint y)) y (set.contains vertex_cmp others y)) same
+    ∙ ap (λ (o : Option Vertex). is_in o y c) (puts (vertex_fingerprint y))
+    ∙ first_put (is_eq (vertex_cmp x y)) (nat_eq (vertex_fingerprint x) (vertex_fingerprint y)) x y (first_in old.first (vertex_fingerprint y)) c refl (same_numbers x y)
+    (λ e. subst (λ (m : ℕ). first_in old.first m ≡ None) (eqb-true _ _ e) (none_held x _ free))
 
 among_others : (b h c : Bool) → (h || cond b true c) ≡ cond b true (h || c)
 among_others true true c = refl
@@ -57,7 +56,7 @@ among_others false h c = refl
 pub put_other : (old : VertexSet) (others : set.BTreeSet Vertex) (x : Vertex) → ((y : Vertex) → set.contains vertex_cmp others y ≡ cond (is_eq (vertex_cmp x y)) true (set.contains vertex_cmp old.others y))
     → (y : Vertex) → has (record { first = old.first; others = others }) y ≡ cond (is_eq (vertex_cmp x y)) true (has old y)
 put_other old others x puts y =
-    let h = unwrap_or (is_any y (held old.first (vertex_fingerprint y))) false in
+    let h = unwrap_or (is_any y (first_in old.first (vertex_fingerprint y))) false in
     ap (λ (c : Bool). h || c) (puts y) ∙ among_others (is_eq (vertex_cmp x y)) h (set.contains vertex_cmp old.others y)
 
 stays_in : (b h : Bool) → (b ≡ true → h ≡ true) → h ≡ cond b true h

@@ -1,8 +1,9 @@
 -- Sets of vertices, found by their fingerprints.
-use Rattle.std.specs.Prelude.{◌||◌, ℕ, Bool, false, Option, unwrap_or}
+use Rattle.std.specs.Prelude.{◌||◌, ℕ, Bool, false, Option, Some, None, unwrap_or}
 use Rattle.std.specs.Option.{option_map}
 use Rattle.std.specs.Ordering.{is_eq}
 use Rattle.std.specs.BTreeSet as set
+use Rattle.sharded_map.specs.declared.sharded_map.ShardedMap.{ShardedMap}
 use Rattle.sharded_map.specs.Shards.{held}
 use Rattle.gm_name.specs.Fingerprint.{fingerprint}
 use Rattle.gm_graph_select.specs.declared.vertex_set.VertexSet.{VertexSet}
@@ -12,11 +13,16 @@ use Rattle.gm_graph_select.specs.Graph.{Vertex, vertex_cmp}
 abbrev pub vertex_fingerprint : Vertex → ℕ
 vertex_fingerprint x = fingerprint (fingerprint 0 x.0) x.1
 
+-- the first vertex with this fingerprint; a set without members has no map
+abbrev pub first_in : Option (ShardedMap Vertex) → ℕ → Option Vertex
+first_in None number = None
+first_in (Some first) number = held first number
+
 -- Whether this is the vertex, if there is one.
 abbrev pub is_any : Vertex → Option Vertex → Option Bool
 is_any x = option_map (λ held. is_eq (vertex_cmp held x))
 
 -- Whether a vertex is in the set: it is the first one with its fingerprint, or among the others.
 abbrev pub has : VertexSet → Vertex → Bool
-has vertices x = unwrap_or (is_any x (held vertices.first (vertex_fingerprint x))) false
+has vertices x = unwrap_or (is_any x (first_in vertices.first (vertex_fingerprint x))) false
     || set.contains vertex_cmp vertices.others x

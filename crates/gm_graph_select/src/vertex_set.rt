@@ -1,10 +1,10 @@
 //! Sets of module versions that remain fast for long paths.
 
-ghost use Rattle.std.specs.Prelude.{◌≡◌, IfOk, OnErr, OnOk, cond, false, not, true};
+ghost use Rattle.std.specs.Prelude.{◌≡◌, ℕ, IfOk, OnErr, OnOk, Some, cond, false, nat_eq, not, true};
 ghost use Rattle.sharded_map.specs.Shards.{held};
 ghost use Rattle.std.specs.Ordering.{is_eq};
 ghost use Rattle.gm_graph_select.specs.Graph.{Vertex, vertex_cmp};
-ghost use Rattle.gm_graph_select.specs.VertexSet.{has, is_any};
+ghost use Rattle.gm_graph_select.specs.VertexSet.{first_in, has, is_any};
 
 use gm_name::ModVer;
 use sharded_map::ShardedMap;
@@ -16,8 +16,9 @@ use std::collections::BTreeSet;
 /// comparisons of texts than in a set ordered by them.
 #[derive(Drop)]
 pub struct VertexSet {
-    /// Of the members with the same fingerprint, the first one. Only numbers are compared here.
-    first: ShardedMap<ModVer>,
+    /// Of the members with the same fingerprint, the first one. Only numbers are compared here. There is no map before
+    /// the first member, so that a set that stays empty is asked without a fingerprint.
+    first: Option<ShardedMap<ModVer>>,
     /// The other members, in the order of their texts.
     others: BTreeSet<ModVer>,
 }
@@ -29,24 +30,34 @@ fn is_same(one: &ModVer, other: &ModVer) -> bool
     *one == *other
 }
 
+/// Whether the first member with that fingerprint is the vertex, or `None` if there is no such member.
+fn is_first_in(first: &ShardedMap<ModVer>, number: u64, vertex: &ModVer) -> Option<bool>
+    ensures { result ≡ is_any vertex.now (held first.now number) }
+{
+    match first.get(number) {
+        None => None,
+        Some(held) => Some(is_same(held, vertex)),
+    }
+}
+
 impl VertexSet {
     /// The empty set.
     pub fn new(alloc: Global) -> VertexSet
         ensures { (x : Vertex) → has result x ≡ false }
     {
         VertexSet {
-            first: ShardedMap::new(alloc),
+            first: None,
             others: BTreeSet::new(alloc),
         }
     }
 
     /// Whether the first member with that fingerprint is the vertex, or `None` if there is no such member.
     fn is_first(&self, number: u64, vertex: &ModVer) -> Option<bool>
-        ensures { result ≡ is_any vertex.now (held self.now.first number) }
+        ensures { result ≡ is_any vertex.now (first_in self.now.first number) }
     {
-        match self.first.get(number) {
+        match &self.first {
             None => None,
-            Some(held) => Some(is_same(held, vertex)),
+            Some(first) => is_first_in(first, number, vertex),
         }
     }
 
@@ -54,8 +65,29 @@ impl VertexSet {
     pub fn contains(&self, vertex: &ModVer) -> bool
         ensures { result ≡ has self.now vertex.now }
     {
-        let is_first = self.is_first(vertex.fingerprint(), vertex);
+        let is_first = match &self.first {
+            None => None,
+            Some(first) => is_first_in(first, vertex.fingerprint(), vertex),
+        };
         is_first.unwrap_or(false) || self.others.contains(vertex)
+    }
+
+    /// Puts a vertex where no other member has its fingerprint. The only refusal is `AllocError`, if memory runs out,
+    /// which leaves the set unchanged.
+    fn insert_first(&mut self, alloc: Global, number: u64, vertex: ModVer) -> Result<(), AllocError>
+        ensures puts { OnOk result ((n : ℕ) → first_in self.new.first n
+            ≡ cond (nat_eq number n) (Some vertex) (first_in self.old.first n)) }
+        ensures others { self.new.others ≡ self.old.others }
+        ensures err { OnErr result ((n : ℕ) → first_in self.new.first n ≡ first_in self.old.first n) }
+    {
+        let mut first = match self.first.take() {
+            Some(first) => first,
+            None => ShardedMap::new(alloc),
+        };
+        let inserted = first.insert(number, vertex);
+        self.first = Some(first);
+        inserted?;
+        Ok(())
     }
 
     /// Adds a vertex to the set, and reports whether it was new. The only refusal is `AllocError`, if memory runs
@@ -76,9 +108,7 @@ impl VertexSet {
         }
         let copy = vertex.copy(alloc)?;
         match is_first {
-            None => {
-                self.first.insert(number, copy)?;
-            }
+            None => self.insert_first(alloc, number, copy)?,
             Some(_) => {
                 self.others.insert(copy)?;
             }
