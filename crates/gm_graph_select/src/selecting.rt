@@ -37,7 +37,8 @@ fn begins_with(path: &ModPath, vertices: &[ModVer]) -> bool
 fn is_selected(main: &ModPath, vertex: &ModVer, behind: &[ModVer]) -> bool
     ensures { result ≡ is_selected main.now vertex.now behind.now }
 {
-    *vertex.path() != *main && !begins_with(vertex.path(), behind)
+    // Most vertices are followed by another version of their path.
+    !begins_with(vertex.path(), behind) && *vertex.path() != *main
 }
 
 /// A copy of the replacement of a vertex in the main file, if it has one.
