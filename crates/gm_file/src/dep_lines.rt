@@ -19,7 +19,7 @@ use crate::fields::Fields;
 use crate::replace::Interval;
 use crate::retractions::{add_retraction, add_single_retraction};
 use crate::verb::Mode;
-use gm_name::KnownNames;
+use gm_name::{KnownNames, ModVer};
 use gm_syntax::{Line, LineReader, Token};
 use std::alloc::{AllocError, Global};
 
@@ -61,16 +61,17 @@ fn set_block<'a>(block: &mut Option<Token<'a>>, verb: Option<Token<'a>>)
 }
 
 impl<'a> DepLines<'a> {
-    /// What no lines say, with room for so many requirements.
-    fn with_room(alloc: Global, room: usize) -> Result<DepLines<'a>, AllocError>
-        ensures lines { IfOk result (AreDepLines []) }
-        ensures found { IfOk result (λ said. AreFound said.fields) }
+    /// What no lines say. Requirements go into this list, which must be empty.
+    fn over(alloc: Global, requirements: Vec<ModVer>) -> DepLines<'a>
+        requires { requirements.items ≡ [] }
+        ensures lines { AreDepLines [] result }
+        ensures found { AreFound result.fields }
     {
-        Ok(DepLines {
+        DepLines {
             block: None,
-            fields: Fields::with_room(alloc, room)?,
+            fields: Fields::over(alloc, requirements),
             retracts: Vec::new(alloc),
-        })
+        }
     }
 
     /// Reads the next line.
@@ -343,7 +344,7 @@ pub(crate) fn read_dep_lines<'a>(
     ensures ok { IfOk result (AreAllRead reader.old.source) }
     ensures fault { IfErr result (IsMisread reader.old.source) }
 {
-    let mut said = DepLines::with_room(alloc, room)?;
+    let mut said = DepLines::over(alloc, Vec::with_capacity(alloc, room)?);
     read_all(alloc, names, reader, &mut said)?;
     Ok(said)
 }

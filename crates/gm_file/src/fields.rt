@@ -23,7 +23,7 @@ use crate::replacements::Replacements;
 use crate::verb::Mode;
 use gm_name::{KnownNames, ModPath, ModVer};
 use gm_syntax::{Line, Token};
-use std::alloc::{AllocError, Global};
+use std::alloc::Global;
 
 /// The fields of the lines that have been read.
 #[derive(Drop)]
@@ -54,7 +54,7 @@ fn go_in(mode: Mode, text: &str) -> Option<(u32, u32)>
 
 impl Fields {
     /// The fields of no lines, in which requirements go into this list. It must be empty.
-    fn over(alloc: Global, requirements: Vec<ModVer>) -> Fields
+    pub(crate) fn over(alloc: Global, requirements: Vec<ModVer>) -> Fields
         requires { requirements.items ≡ [] }
         ensures holds { (mode : ModeOf) → Holds mode [] result }
         ensures found { AreFound result }
@@ -75,14 +75,6 @@ impl Fields {
         ensures found { AreFound result }
     {
         Fields::over(alloc, Vec::new(alloc))
-    }
-
-    /// The fields of no lines, with room for so many requirements.
-    pub(crate) fn with_room(alloc: Global, room: usize) -> Result<Fields, AllocError>
-        ensures holds { IfOk result (λ fields. (mode : ModeOf) → Holds mode [] fields) }
-        ensures found { IfOk result AreFound }
-    {
-        Ok(Fields::over(alloc, Vec::with_capacity(alloc, room)?))
     }
 
     /// Adds the path of a `module` directive. A second one is refused with `Repeated`.
