@@ -15,8 +15,8 @@
 #![tactic(auto)]
 
 mod chaining;
-pub mod highest;
-mod laws;
+mod highest;
+pub mod laws;
 mod numbering;
 mod row;
 mod searching;
