@@ -1,8 +1,8 @@
 -- What is kept by fingerprint: the first file with one, and the others.
 use Rattle.std.proofs.Common.{◌≡◌, ◌∙◌, ◌∷◌, ◌++◌, ℕ, Bool, true, false, cond, List, [], Option, Some, None, ap, length, nat_eq, refl, subst, suc, sym, zero}
 use Rattle.std.proofs.lemmas.Bool.{eq-eqb, eqb-true}
-use Rattle.sharded_map.specs.declared.sharded_map.ShardedMap.{ShardedMap}
-use Rattle.sharded_map.specs.Shards.{Puts, held}
+use Rattle.number_map.specs.declared.places.Places.{Places}
+use Rattle.number_map.specs.Places.{PutsPlace, place_at}
 use Rattle.gm_store.specs.Asked.{Name, name_of, same_name}
 use Rattle.gm_store.proofs.NameOrder.{names_equal}
 use Rattle.gm_graph_cache.specs.declared.kept_files.KeptFile.{KeptFile}
@@ -48,17 +48,17 @@ first_by false true files file old other rest is here gone =
 first_by false false files file old other rest is here gone = one_more files file old other rest (sym is)
 
 -- A file was put first: its place in the map, and then the file at the end of the list.
-pub put_first : (files : List KeptFile) (old new : ShardedMap ℕ) (key : NameKey) (kept : Kept) → IsNameKey key
-    → is_free (file_at files (held old key.number)) (name_of key.name) ≡ true → Puts old new key.number (length files) → (other : Name) (rest : Option Kept)
-    → first_or (file_at (files ++ record { name = key.name; kept = kept } ∷ []) (held new (name_fingerprint other))) other rest
-    ≡ cond (same_name other (name_of key.name)) (Some kept) (first_or (file_at files (held old (name_fingerprint other))) other rest)
+pub put_first : (files : List KeptFile) (old new : Places) (key : NameKey) (kept : Kept) → IsNameKey key
+    → is_free (file_at files (place_at old key.number)) (name_of key.name) ≡ true → PutsPlace old new key.number (length files) → (other : Name) (rest : Option Kept)
+    → first_or (file_at (files ++ record { name = key.name; kept = kept } ∷ []) (place_at new (name_fingerprint other))) other rest
+    ≡ cond (same_name other (name_of key.name)) (Some kept) (first_or (file_at files (place_at old (name_fingerprint other))) other rest)
 put_first files old new key kept marked free puts other rest =
     let file : KeptFile = record { name = key.name; kept = kept } in
     ap (λ (o : Option ℕ). first_or (file_at (files ++ file ∷ []) o) other rest) (puts (name_fingerprint other))
-    ∙ first_by (same_name other (name_of key.name)) (nat_eq key.number (name_fingerprint other)) files file (held old (name_fingerprint other)) other rest refl
+    ∙ first_by (same_name other (name_of key.name)) (nat_eq key.number (name_fingerprint other)) files file (place_at old (name_fingerprint other)) other rest refl
     (λ same. eq-eqb _ _ (same_number key other marked same))
-    (λ number apart. not_first (file_at files (held old (name_fingerprint other))) (name_of key.name) other rest
-    (subst (λ (n : ℕ). is_free (file_at files (held old n)) (name_of key.name) ≡ true) (eqb-true _ _ number) free) apart)
+    (λ number apart. not_first (file_at files (place_at old (name_fingerprint other))) (name_of key.name) other rest
+    (subst (λ (n : ℕ). is_free (file_at files (place_at old n)) (name_of key.name) ≡ true) (eqb-true _ _ number) free) apart)
 
 -- A first file that is not that of a name does not count for it.
 pub taken_by : (o : Option KeptFile) (name : Name) (rest : Option Kept) → is_free o name ≡ false → first_or o name rest ≡ rest

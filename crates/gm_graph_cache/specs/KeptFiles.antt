@@ -1,7 +1,7 @@
 -- What is kept of files, by their names.
 use Rattle.std.specs.Prelude.{if◌then◌else◌, ℕ, Bool, true, List, Option, Some, None, slice_get}
 use Rattle.std.specs.Map.{lookup}
-use Rattle.sharded_map.specs.Shards.{held}
+use Rattle.number_map.specs.Places.{place_at}
 use Rattle.gm_store.specs.Asked.{Name, name_of, same_name}
 use Rattle.gm_graph_cache.specs.declared.kept_files.KeptFile.{KeptFile}
 use Rattle.gm_graph_cache.specs.declared.kept_files.KeptFiles.{KeptFiles}
@@ -15,7 +15,7 @@ file_at files (Some place) = slice_get files place
 
 -- the first file with a fingerprint
 abbrev pub first_with : KeptFiles → ℕ → Option KeptFile
-first_with files number = file_at files.files.items (held files.first number)
+first_with files number = file_at files.files.items (place_at files.first number)
 
 -- what is kept of the file of a name, given the first file with its fingerprint and what is found among the others
 abbrev pub first_or : Option KeptFile → Name → Option Kept → Option Kept

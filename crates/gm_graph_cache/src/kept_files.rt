@@ -1,7 +1,6 @@
 //! What is kept of files, by the fingerprints of their names.
 //!
-//! A set of maps in shards finds the place of a file in a list with a few comparisons of numbers and one of names. The
-//! maps move what they hold as they grow, so they hold places, and the list holds the files.
+//! A map of fingerprints finds the place of a file in a list with a few comparisons of numbers and one of names.
 
 ghost use Rattle.std.specs.Prelude.{◌≡◌};
 ghost use Rattle.gm_store.specs.Asked.{name_of, same_name};
@@ -9,7 +8,7 @@ ghost use Rattle.gm_store.specs.Asked.{name_of, same_name};
 use crate::name_key::NameKey;
 use crate::summary::Kept;
 use gm_store::FileName;
-use sharded_map::ShardedMap;
+use number_map::Places;
 use std::alloc::Global;
 use std::collections::BTreeMap;
 
@@ -27,7 +26,7 @@ pub(crate) struct KeptFile {
 #[derive(Drop)]
 pub(crate) struct KeptFiles {
     /// Of the files whose names have the same fingerprint, the place of the first one in `files`.
-    first: ShardedMap<usize>,
+    first: Places,
     /// The first files, in the order in which they were added. One that is replaced stays in the list, which costs its
     /// memory alone: the cache keeps each file once.
     files: Vec<KeptFile>,
@@ -54,7 +53,7 @@ impl KeptFiles {
         ensures { (name : Name) → kept_at result name ≡ None }
     {
         KeptFiles {
-            first: ShardedMap::new(alloc),
+            first: Places::new(alloc),
             files: Vec::new(alloc),
             others: BTreeMap::new(alloc),
         }
@@ -64,7 +63,7 @@ impl KeptFiles {
     fn first_with(&self, number: u64) -> Option<&KeptFile>
         ensures { option_copied result ≡ first_with self.now number }
     {
-        self.files.get(*self.first.get(number)?)
+        self.files.get(self.first.get(number)?)
     }
 
     /// What is kept of the file of a key's name.
@@ -123,7 +122,7 @@ impl KeptFiles {
         let Ok(()) = self.files.reserve(1) else {
             return Err((key, kept));
         };
-        let Ok(_) = self.first.insert(key.number, self.files.len()) else {
+        let Ok(()) = self.first.insert(key.number, self.files.len()) else {
             return Err((key, kept));
         };
         let NameKey { number, name } = key;

@@ -3,8 +3,8 @@ use Rattle.std.specs.Prelude.{◌||◌, ℕ, Bool, false, Option, Some, None, un
 use Rattle.std.specs.Option.{option_map}
 use Rattle.std.specs.Ordering.{is_eq}
 use Rattle.std.specs.BTreeSet as set
-use Rattle.sharded_map.specs.declared.sharded_map.ShardedMap.{ShardedMap}
-use Rattle.sharded_map.specs.Shards.{held}
+use Rattle.number_map.specs.declared.number_map.NumberMap.{NumberMap}
+use Rattle.number_map.specs.NumberMap.{held}
 use Rattle.gm_name.specs.Fingerprint.{fingerprint}
 use Rattle.gm_graph_select.specs.declared.vertex_set.VertexSet.{VertexSet}
 use Rattle.gm_graph_select.specs.Graph.{Vertex, vertex_cmp}
@@ -14,7 +14,7 @@ abbrev pub vertex_fingerprint : Vertex → ℕ
 vertex_fingerprint x = fingerprint (fingerprint 0 x.0) x.1
 
 -- the first vertex with this fingerprint; a set without members has no map
-abbrev pub first_in : Option (ShardedMap Vertex) → ℕ → Option Vertex
+abbrev pub first_in : Option (NumberMap Vertex) → ℕ → Option Vertex
 first_in None number = None
 first_in (Some first) number = held first number
 

@@ -9,7 +9,7 @@ ghost use Rattle.gm_name.specs.Version.{version_cmp};
 ghost use Rattle.gm_graph_select.specs.Candidates.{AddsCandidate, HaveHighest, IsMatched};
 
 use gm_name::ModVer;
-use sharded_map::ShardedMap;
+use number_map::Places;
 use std::alloc::{AllocError, Global};
 
 /// Some of the vertices that were added, among them the highest version of each path.
@@ -18,7 +18,7 @@ struct Candidates {
     /// The vertices, in the order in which they were added.
     vertices: Vec<ModVer>,
     /// The place in the list of the last vertex whose path has this fingerprint.
-    places: ShardedMap<usize>,
+    places: Places,
 }
 
 /// Whether the other vertex has the same path and at least the version of this one.
@@ -35,7 +35,7 @@ impl Candidates {
     {
         Candidates {
             vertices: Vec::new(alloc),
-            places: ShardedMap::new(alloc),
+            places: Places::new(alloc),
         }
     }
 
@@ -47,7 +47,7 @@ impl Candidates {
         let Some(place) = self.places.get(vertex.path().fingerprint()) else {
             return false;
         };
-        match self.vertices.get(*place) {
+        match self.vertices.get(place) {
             None => false,
             Some(other) => is_matched_by(vertex, other),
         }

@@ -1,13 +1,13 @@
 //! Sets of module versions that remain fast for long paths.
 
 ghost use Rattle.std.specs.Prelude.{◌≡◌, ℕ, IfOk, OnErr, OnOk, Some, cond, false, nat_eq, not, true};
-ghost use Rattle.sharded_map.specs.Shards.{held};
+ghost use Rattle.number_map.specs.NumberMap.{held};
 ghost use Rattle.std.specs.Ordering.{is_eq};
 ghost use Rattle.gm_graph_select.specs.Graph.{Vertex, vertex_cmp};
 ghost use Rattle.gm_graph_select.specs.VertexSet.{first_in, has, is_any};
 
 use gm_name::ModVer;
-use sharded_map::ShardedMap;
+use number_map::NumberMap;
 use std::alloc::{AllocError, Global};
 use std::collections::BTreeSet;
 
@@ -18,7 +18,7 @@ use std::collections::BTreeSet;
 pub struct VertexSet {
     /// Of the members with the same fingerprint, the first one. Only numbers are compared here. There is no map before
     /// the first member, so that a set that stays empty is asked without a fingerprint.
-    first: Option<ShardedMap<ModVer>>,
+    first: Option<NumberMap<ModVer>>,
     /// The other members, in the order of their texts.
     others: BTreeSet<ModVer>,
 }
@@ -31,7 +31,7 @@ fn is_same(one: &ModVer, other: &ModVer) -> bool
 }
 
 /// Whether the first member with that fingerprint is the vertex, or `None` if there is no such member.
-fn is_first_in(first: &ShardedMap<ModVer>, number: u64, vertex: &ModVer) -> Option<bool>
+fn is_first_in(first: &NumberMap<ModVer>, number: u64, vertex: &ModVer) -> Option<bool>
     ensures { result ≡ is_any vertex.now (held first.now number) }
 {
     match first.get(number) {
@@ -82,7 +82,7 @@ impl VertexSet {
     {
         let mut first = match self.first.take() {
             Some(first) => first,
-            None => ShardedMap::new(alloc),
+            None => NumberMap::new(alloc),
         };
         let inserted = first.insert(number, vertex);
         self.first = Some(first);

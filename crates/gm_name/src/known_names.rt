@@ -1,7 +1,7 @@
 //! Names that were read before, kept so that a duplicate is neither tested nor stored again.
 
 ghost use Rattle.std.specs.Prelude.{◌≡◌, ◌≤◌, ◌↔◌, IfOk, IfSome, IsErrOf, IsTrue, Ok};
-ghost use Rattle.sharded_map.specs.Shards.{count_of};
+ghost use Rattle.number_map.specs.NumberMap.{count_of};
 ghost use Rattle.gm_name.specs.Fingerprint.{fingerprint};
 ghost use Rattle.gm_name.specs.Fit.{Fits};
 ghost use Rattle.gm_name.specs.Kept.{IsWithinRoom, none_kept};
@@ -15,7 +15,7 @@ use crate::fingerprints::fingerprint;
 use crate::fit::ModVer;
 use crate::path::{ModPath, PathFault};
 use crate::version::{ModVersion, VersionFault};
-use sharded_map::ShardedMap;
+use number_map::NumberMap;
 use std::alloc::{AllocError, Global};
 use std::marker::Model;
 use thiserror::Error;
@@ -83,61 +83,42 @@ pub struct KnownNames {
     /// How many names each of the three maps may grow to.
     room: usize,
     /// Paths by fingerprint.
-    paths: Kept<ModPath>,
+    paths: NumberMap<ModPath>,
     /// Versions by fingerprint.
-    versions: Kept<ModVersion>,
+    versions: NumberMap<ModVersion>,
     /// Pairs by the number that `PairNumbers::joined` makes of their texts' fingerprints.
-    pairs: Kept<ModVer>,
-}
-
-/// Names under their numbers.
-#[derive(Drop)]
-struct Kept<T> {
-    /// The names.
-    names: ShardedMap<T>,
-    /// How many they are.
-    count: usize,
+    pairs: NumberMap<ModVer>,
 }
 
 impl Model for KnownNames {
     ghost use Rattle.std.specs.Prelude.{◌≡◌, ◌≤◌};
-    ghost use Rattle.sharded_map.specs.Shards.{count_of};
+    ghost use Rattle.number_map.specs.NumberMap.{count_of};
     ghost use Rattle.gm_name.specs.Kept.{KeptCounts};
 
     ghost Value = { KeptCounts };
 
     ghost view = { λ a. record {
       room = a.room;
-      paths = count_of a.paths.names;
-      versions = count_of a.versions.names;
-      pairs = count_of a.pairs.names;
+      paths = count_of a.paths;
+      versions = count_of a.versions;
+      pairs = count_of a.pairs;
     } };
 
-    ghost invariant = { λ a. (count_of a.paths.names ≡ a.paths.count) × (a.paths.count ≤ a.room)
-        × (count_of a.versions.names ≡ a.versions.count) × (a.versions.count ≤ a.room)
-        × (count_of a.pairs.names ≡ a.pairs.count) × (a.pairs.count ≤ a.room) };
+    ghost invariant = { λ a. (count_of a.paths ≤ a.room) × (count_of a.versions ≤ a.room)
+        × (count_of a.pairs ≤ a.room) };
 }
 
-impl<T: Drop> Kept<T> {
-    /// No names.
-    fn new(alloc: Global) -> Kept<T>
-        ensures names { count_of result.names ≡ 0 }
-        ensures count { result.count ≡ 0 }
-    {
-        Kept {
-            names: ShardedMap::new(alloc),
-            count: 0,
-        }
-    }
-}
-
-/// Keeps a name under a number, replacing any other there, as long as there are fewer than `room` names.
-fn keep<T: Drop>(kept: &mut Kept<T>, room: usize, number: u64, name: T) -> Result<(), AllocError>
-    ensures count { count_of kept.old.names ≡ kept.old.count → count_of kept.new.names ≡ kept.new.count }
-    ensures within { kept.old.count ≤ room → kept.new.count ≤ room }
+/// Keeps a name under a number, instead of any other there, as long as there are fewer than `room` names.
+fn keep<T: Drop>(
+    names: &mut NumberMap<T>,
+    room: usize,
+    number: u64,
+    name: T,
+) -> Result<(), AllocError>
+    ensures { count_of names.old ≤ room → count_of names.new ≤ room }
 {
-    if kept.count < room && kept.names.insert(number, name)?.is_none() {
-        kept.count += 1;
+    if names.count() < room {
+        names.insert(number, name)?;
     }
     Ok(())
 }
@@ -174,9 +155,9 @@ impl KnownNames {
         KnownNames {
             alloc,
             room,
-            paths: Kept::new(alloc),
-            versions: Kept::new(alloc),
-            pairs: Kept::new(alloc),
+            paths: NumberMap::new(alloc),
+            versions: NumberMap::new(alloc),
+            pairs: NumberMap::new(alloc),
         }
     }
 
@@ -198,7 +179,7 @@ impl KnownNames {
         ensures within { IsWithinRoom self.now }
         ensures read { IfSome result (λ path. PathReading text.now (Ok path)) }
     {
-        let held = self.paths.names.get(number?)?;
+        let held = self.paths.get(number?)?;
         if held.as_str() == text {
             held.copy(self.alloc).ok()
         } else {
@@ -211,7 +192,7 @@ impl KnownNames {
         ensures within { IsWithinRoom self.now }
         ensures read { IfSome result (λ version. VersionReading text.now (Ok version)) }
     {
-        let held = self.versions.names.get(number?)?;
+        let held = self.versions.get(number?)?;
         if held.as_str() == text {
             held.copy(self.alloc).ok()
         } else {
@@ -224,7 +205,7 @@ impl KnownNames {
         ensures within { IsWithinRoom self.now }
         ensures read { IfSome result (λ pair. PairReading path.now version.now (Ok pair)) }
     {
-        let held = self.pairs.names.get(number?)?;
+        let held = self.pairs.get(number?)?;
         if is_pair_of(held, path, version) {
             held.copy(self.alloc).ok()
         } else {

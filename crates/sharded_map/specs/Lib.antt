@@ -1,2 +1,0 @@
-pub mod EmptyShards
-pub mod Shards
