@@ -17,7 +17,7 @@ use Rattle.gm_file.specs.Faults.{directive_kinds, item_kinds, pair_kinds, path_k
 use Rattle.gm_file.specs.Fields.{first}
 use Rattle.gm_file.specs.Holding.{AreFound, IsLineAdded}
 use Rattle.gm_file.specs.Reading.{IsRead}
-use Rattle.gm_file.specs.PairLines.{IsRequiring, require_item, single_item}
+use Rattle.gm_file.specs.PairLines.{IsRequirement, IsRequiring, require_item, single_item}
 use Rattle.gm_file.specs.Retracting.{retraction_at}
 use Rattle.gm_file.specs.Views.{interval_views}
 use Rattle.gm_file.proofs.Arrows.{first-append}
@@ -50,18 +50,18 @@ no-retraction path version = refl
 -- ---- the lines with one more
 
 -- the content of such a line in the open block
-pub item-is : (said : DepLines) (path version : List ℕ) (suffix : Option (List ℕ)) → IsRequiring said → item_at (word_of said.block, pair_line path version suffix) ≡ require_item path version
+pub item-is : (said : DepLines) (path version : List ℕ) (suffix : Option (List ℕ)) → IsRequiring said → IsRequirement said (pair_line path version suffix) path version
 unfolding item_at
 item-is said path version suffix (verb, opened, spelled) =
     let here = pair_line path version suffix in
     ap (λ (b : Option Placed). item_at (word_of b, here)) opened ∙ ap (λ (text : List ℕ). Saying text (bare_word path ∷ bare_word version ∷ [])) spelled
 
 -- the content of such a line outside blocks
-alone-is : (said : DepLines) (path version : List ℕ) (suffix : Option (List ℕ)) → said.block ≡ None → item_at (word_of said.block, triple_line (codes "require") path version suffix) ≡ require_item path version
+pub alone-is : (said : DepLines) (path version : List ℕ) (suffix : Option (List ℕ)) → said.block ≡ None → IsRequirement said (triple_line (codes "require") path version suffix) path version
 unfolding item_at
 alone-is said path version suffix none = ap (λ (b : Option Placed). item_at (word_of b, triple_line (codes "require") path version suffix)) none
 
-module _ (lines : List (Line Word)) (path version : List ℕ) (words : List Word) (suffix : Option (List ℕ)) (old : DepLines) (item : item_at (word_of old.block, Entry words suffix) ≡ require_item path version) (so : AreDepLines lines old) where
+module _ (lines : List (Line Word)) (path version : List ℕ) (words : List Word) (suffix : Option (List ℕ)) (old : DepLines) (item : IsRequirement old (Entry words suffix) path version) (so : AreDepLines lines old) where
   requires-more : (fields : Fields) → AreFound fields → IsLineAdded Lax old.fields fields (require_item path version) (Ok tt) → AreDepLines (lines ++ Entry words suffix ∷ []) (record old { fields = fields })
   requires-more fields found added =
       let here : Line Word = Entry words suffix in
@@ -75,20 +75,10 @@ module _ (lines : List (Line Word)) (path version : List ℕ) (words : List Word
       dep-fault lines (Entry words suffix) (word_of old.block) old new fault so refl
       (subst (λ (i : Item). IsLineAdded Lax old.fields new i (Err fault)) (sym item) told)
 
-  entry-next : (fields : Fields) (result : Result (Unit {0}) LineFault) → OnOk result (AreFound fields) → IsLineAdded Lax old.fields fields (require_item path version) result
+  pub entry-next : (fields : Fields) (result : Result (Unit {0}) LineFault) → OnOk result (AreFound fields) → IsLineAdded Lax old.fields fields (require_item path version) result
       → IsNextLineOf lines (Entry words suffix) (record old { fields = fields }) result
   entry-next fields (Ok u) found added = requires-more fields found added
   entry-next fields (Err fault) found told = requires-fault fields fault told
-
-pub requires-next : (lines : List (Line Word)) (path version : List ℕ) (suffix : Option (List ℕ)) (old : DepLines) (fields : Fields) (result : Result (Unit {0}) LineFault) → IsRequiring old → AreDepLines lines old → OnOk result (AreFound fields)
-    → IsLineAdded Lax old.fields fields (require_item path version) result → IsNextLineOf lines (pair_line path version suffix) (record old { fields = fields }) result
-requires-next lines path version suffix old fields result requiring so found added =
-    entry-next lines path version (bare_word path ∷ bare_word version ∷ []) suffix old (item-is old path version suffix requiring) so fields result found added
-
-pub alone-next : (lines : List (Line Word)) (path version : List ℕ) (suffix : Option (List ℕ)) (old : DepLines) (fields : Fields) (result : Result (Unit {0}) LineFault) → old.block ≡ None → AreDepLines lines old → OnOk result (AreFound fields)
-    → IsLineAdded Lax old.fields fields (require_item path version) result → IsNextLineOf lines (triple_line (codes "require") path version suffix) (record old { fields = fields }) result
-alone-next lines path version suffix old fields result none so found added =
-    entry-next lines path version (bare_word (codes "require") ∷ bare_word path ∷ bare_word version ∷ []) suffix old (alone-is old path version suffix none) so fields result found added
 
 -- ---- outside blocks
 

@@ -1,18 +1,18 @@
 //! A dependency's file read from its bytes: line by line and in one pass, so that no document is kept.
 
-ghost use Rattle.std.specs.Prelude.{◌≡◌, ◌≤◌, ◌∷◌, ◌++◌, [], ℕ, List, None, Option, IfErr, IfOk, IsTrue, OnOk, codes, length};
+ghost use Rattle.std.specs.Prelude.{◌≡◌, ◌≤◌, ◌∷◌, ◌++◌, [], ℕ, List, None, Option, IfErr, IfOk, IsTrue, OnOk, length};
 ghost use Rattle.std.specs.Option.{option_map};
-ghost use Rattle.gm_syntax.specs.Document.{Line as LineOf};
+ghost use Rattle.gm_syntax.specs.Document.{Entry, Line as LineOf};
 ghost use Rattle.gm_syntax.specs.LineReading.{HasRead};
 ghost use Rattle.gm_syntax.specs.LineViews.{line_of, plain, plain_lines};
-ghost use Rattle.gm_syntax.specs.Pairs.{pair_line, triple_line};
+ghost use Rattle.gm_syntax.specs.Pairs.{pair_line};
 ghost use Rattle.gm_syntax.specs.Tokens.{Placed};
 ghost use Rattle.gm_syntax.specs.Words.{Word};
 ghost use Rattle.gm_file.specs.declared.dep_lines.DepLines.{DepLines};
 ghost use Rattle.gm_file.specs.DepLines.{AreAllRead, AreDepLines, HasNextFault, IsMisread, IsNextLineOf};
 ghost use Rattle.gm_file.specs.Directives.{block_after_line};
 ghost use Rattle.gm_file.specs.Holding.{AreFound};
-ghost use Rattle.gm_file.specs.PairLines.{AreReadSofar, IsRequiring};
+ghost use Rattle.gm_file.specs.PairLines.{AreReadSofar, IsRequirement, IsRequiring};
 
 use crate::fault::{LineFault, ReadFault};
 use crate::fields::Fields;
@@ -103,36 +103,19 @@ impl<'a> DepLines<'a> {
         }
     }
 
-    /// Reads the next line, which is these two bare words in a block of `require`.
+    /// Reads the next line, which requires the version in one text of the path in another.
     fn require(
         &mut self,
         names: &mut KnownNames,
         path: &str,
         version: &str,
     ) -> Result<(), LineFault>
-        requires block { IsRequiring self.old }
-        requires found { AreFound self.old.fields }
-        ensures block { OnOk result (IsRequiring self.new) }
+        requires { AreFound self.old.fields }
+        ensures block { self.new.block ≡ self.old.block }
         ensures found { OnOk result (AreFound self.new.fields) }
-        ensures read { (lines : List (LineOf Word)) (suffix : Option (List ℕ)) → AreDepLines lines self.old
-            → IsNextLineOf lines (pair_line path.now version.now suffix) self.new result }
-    {
-        self.fields.read_requirement(names, path, version)
-    }
-
-    /// Reads the next line, which is `require` and these two bare words outside blocks.
-    fn require_alone(
-        &mut self,
-        names: &mut KnownNames,
-        path: &str,
-        version: &str,
-    ) -> Result<(), LineFault>
-        requires block { self.old.block ≡ None }
-        requires found { AreFound self.old.fields }
-        ensures block { OnOk result (self.new.block ≡ None) }
-        ensures found { OnOk result (AreFound self.new.fields) }
-        ensures read { (lines : List (LineOf Word)) (suffix : Option (List ℕ)) → AreDepLines lines self.old
-            → IsNextLineOf lines (triple_line (codes "require") path.now version.now suffix) self.new result }
+        ensures read { (lines : List (LineOf Word)) (words : List Word) (suffix : Option (List ℕ))
+            → AreDepLines lines self.old → IsRequirement self.old (Entry words suffix) path.now version.now
+            → IsNextLineOf lines (Entry words suffix) self.new result }
     {
         self.fields.read_requirement(names, path, version)
     }
@@ -245,7 +228,7 @@ fn read_requires(
     ensures fault { IfErr result (IsMisread reader.old.source) }
 {
     while let Some((path, version)) = reader.next_pair_after("require") {
-        if let Err(fault) = said.require_alone(names, path, version) {
+        if let Err(fault) = said.require(names, path, version) {
             return Err(fault_of_all(reader, fault));
         }
         skip_blanks(reader);
