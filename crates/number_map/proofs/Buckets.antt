@@ -1,12 +1,10 @@
 -- What buckets hold after one of them was changed, and after all were divided.
-use Rattle.std.proofs.Common.{◌≡◌, ◌∙◌, ◌+◌, ◌<◌, ◌≤◌, ◌*◌, ◌/◌, ℕ, zero, suc, Bool, true, false, cond, List, [], ◌∷◌, Option, None, Some, Result, Ok, Err, OnErr, length, get_or, nat_eq, nat_cmp, ap, refl, sym, subst, inl, inr, arith}
+use Rattle.std.proofs.Common.{◌≡◌, ◌∙◌, ◌+◌, ◌<◌, ◌≤◌, ◌*◌, ◌/◌, ℕ, zero, suc, Bool, true, false, cond, List, [], ◌∷◌, Option, None, Some, Result, Ok, Err, OnErr, length, get_or, nat_eq, ap, refl, sym, subst, inl, inr, arith}
 use Rattle.std.specs.Prelude.{All, slice_get}
 use Rattle.std.specs.Option.{option_and_then, option_or}
-use Rattle.std.specs.Ordering.{is_eq}
 use Rattle.std.proofs.Math.ListN.{set}
 use Rattle.std.proofs.Math.Nat.{mul_assoc, mul-suc, mul-zero}
 use Rattle.std.proofs.lemmas.Bool.{cases_eq, cases_lt, eqb-true, ne_eqb}
-use Rattle.std.proofs.lemmas.Bool.Decides.{nat_tests}
 use Rattle.std.proofs.lemmas.List.{length-set, get_or-set_same, set-get_or}
 use Rattle.std.proofs.lemmas.Option.{get_or_from_slice_get, slice_get_past, slice_get_read, slice_get_within}
 use Rattle.number_map.specs.declared.bucket.Bucket.{Bucket}
@@ -22,9 +20,6 @@ nothing_held buckets none n = by_bucket (slice_get buckets (bucket_of n (length 
     by_bucket (Some bucket) e =
         let at = bucket_of n (length buckets) in
         subst HasNone (get_or_from_slice_get buckets at bucket bucket e) (none at bucket (slice_get_within buckets at bucket e)) n
-
-same_answer : (a b : ℕ) → is_eq (nat_cmp a b) ≡ nat_eq a b
-same_answer a b = grind (arith, nat_tests)
 
 -- A list with one item changed has that item in its place.
 there : {X : Type 0} (xs : List X) (i : ℕ) (x : X) → i < length xs → slice_get (set xs i x) i ≡ Some x
@@ -85,11 +80,10 @@ put_or buckets old new at number place chosen within is puts n rest =
 -- A place that is put in the ordered map, where the bucket of its number holds none and was left as it was.
 pub rest_or : (buckets : List Bucket) (old new : Bucket) (at number place : ℕ) → at ≡ bucket_of number (length buckets) → at < length buckets → old ≡ get_or buckets at old
     → new ≡ old → place_in old.slots.items number ≡ None
-    → (n : ℕ) (rest : Option ℕ) → option_or (held_in (set buckets at new) n) (cond (is_eq (nat_cmp number n)) (Some place) rest)
+    → (n : ℕ) (rest : Option ℕ) → option_or (held_in (set buckets at new) n) (cond (nat_eq number n) (Some place) rest)
     ≡ cond (nat_eq number n) (Some place) (option_or (held_in buckets n) rest)
 rest_or buckets old new at number place chosen within is same none n rest =
-    ap (λ (bs : List Bucket). option_or (held_in bs n) (cond (is_eq (nat_cmp number n)) (Some place) rest)) (set_there buckets old new at is same)
-    ∙ ap (λ (b : Bool). option_or (held_in buckets n) (cond b (Some place) rest)) (same_answer number n)
+    ap (λ (bs : List Bucket). option_or (held_in bs n) (cond (nat_eq number n) (Some place) rest)) (set_there buckets old new at is same)
     ∙ or_rest (nat_eq number n) place (held_in buckets n) rest
     (λ equal. ap (λ (m : ℕ). held_in buckets m) (sym (eqb-true number n equal)) ∙ ap (λ (m : ℕ). held_at buckets m number) (sym chosen) ∙ held_there buckets old at number within is ∙ none)
 

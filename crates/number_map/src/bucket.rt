@@ -1,7 +1,8 @@
 //! Buckets of places, and how a number chooses one of them.
 
-ghost use Rattle.std.specs.Prelude.{◌≡◌, ◌≤◌, ℕ, IfSome, None, Some, cond, false, nat_eq, true};
-ghost use Rattle.number_map.specs.Buckets.{bucket_of};
+ghost use Rattle.std.specs.Prelude.{◌≡◌, ◌≤◌, ℕ, IfSome, None};
+ghost use Rattle.number_map.specs.Buckets.{PutsIn, bucket_of};
+ghost use Rattle.number_map.specs.declared.bucket.Put.TheVariants as Put;
 ghost use Rattle.number_map.specs.Slots.{IsFirst, place_in};
 
 use arrayvec::ArrayVec;
@@ -20,6 +21,17 @@ pub(crate) struct Slot {
 pub(crate) struct Bucket {
     /// The places, in the order in which they were put.
     slots: ArrayVec<Slot, 4>,
+}
+
+/// What became of a place that was put in a bucket.
+#[derive(Clone, Copy)]
+pub(crate) enum Put {
+    /// It is in the place of another under its number.
+    Replaced,
+    /// It was added.
+    Added,
+    /// It was not put: the bucket has none under its number, and no room.
+    Full,
 }
 
 /// Which of so many buckets a number chooses. Its high half decides, so that twice as many buckets divide each in two.
@@ -65,26 +77,26 @@ impl Bucket {
         None
     }
 
-    /// Puts a place under a number, and reports whether there was room.
-    pub(crate) fn put(&mut self, number: u64, place: usize) -> bool
-        ensures puts { result ≡ true → (n : ℕ) → place_in self.new.slots.items n
-            ≡ cond (nat_eq number n) (Some place) (place_in self.old.slots.items n) }
-        ensures same { result ≡ false → self.new ≡ self.old }
-        ensures none { result ≡ false → place_in self.old.slots.items number ≡ None }
+    /// Puts a place under a number, if there is room.
+    pub(crate) fn put(&mut self, number: u64, place: usize) -> Put
+        ensures replaced { result ≡ Put.Replaced → PutsIn self.old self.new number place }
+        ensures added { result ≡ Put.Added → PutsIn self.old self.new number place }
+        ensures same { result ≡ Put.Full → self.new ≡ self.old }
+        ensures none { result ≡ Put.Full → place_in self.old.slots.items number ≡ None }
     {
         let slot = Slot { number, place };
         if let Some(at) = position_of(self.slots.as_slice(), number) {
             self.slots.as_mut_slice()[at] = slot;
-            return true;
+            return Put::Replaced;
         }
-        let has_room = !self.slots.is_full();
-        if has_room {
-            self.slots.push(slot);
+        if self.slots.is_full() {
+            return Put::Full;
         }
-        has_room
+        self.slots.push(slot);
+        Put::Added
     }
 
-    /// The part of this bucket that its numbers choose for one of so many.
+    /// The slots whose numbers choose the given bucket among so many.
     pub(crate) fn part(&self, bucket: usize, many: usize) -> Bucket
         requires { many ≤ 4294967296 }
         ensures { (n : ℕ) → bucket_of n many ≡ bucket

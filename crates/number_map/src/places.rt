@@ -1,9 +1,11 @@
 //! The map from numbers to places: buckets, and an ordered map of what found its bucket full.
 
-ghost use Rattle.std.specs.Prelude.{◌≡◌, ◌≤◌, ◌<◌, ◌*◌, ℕ, IfOk, None, OnErr, OnOk, length};
+ghost use Rattle.std.specs.Prelude.{◌≡◌, ◌≤◌, ◌<◌, ◌*◌, ℕ, IfOk, None, OnErr, OnOk, Some, cond, length, nat_eq};
+ghost use Rattle.std.specs.BTreeMap as map;
+ghost use Rattle.std.specs.Ordering.{nat_cmp};
 ghost use Rattle.number_map.specs.Buckets.{held_in};
 
-use crate::bucket::{Bucket, bucket_of};
+use crate::bucket::{Bucket, Put, bucket_of};
 use std::alloc::{AllocError, Global};
 use std::collections::BTreeMap;
 
@@ -22,7 +24,7 @@ pub struct Places {
     buckets: Vec<Bucket>,
     /// The places of the numbers that found their bucket full.
     rest: BTreeMap<u64, usize>,
-    /// How often a place was put. It decides when there are more buckets.
+    /// How many numbers there are. It decides when there are more buckets.
     count: usize,
     ghost few: { length buckets.items ≤ 4294967296 },
 }
@@ -101,6 +103,20 @@ impl Places {
         Ok(())
     }
 
+    /// Puts a place in the ordered map. The only refusal is `AllocError`, if memory runs out, which leaves it unchanged.
+    fn put_in_rest(&mut self, number: u64, place: usize) -> Result<(), AllocError>
+        ensures buckets { self.new.buckets ≡ self.old.buckets }
+        ensures puts { OnOk result ((n : ℕ) → map.get nat_cmp self.new.rest n
+            ≡ cond (nat_eq number n) (Some place) (map.get nat_cmp self.old.rest n)) }
+        ensures err { OnErr result (self.new.rest.entries ≡ self.old.rest.entries) }
+    {
+        let old = self.rest.insert(number, place)?;
+        if old.is_none() {
+            self.count = self.count.saturating_add(1);
+        }
+        Ok(())
+    }
+
     /// Puts a place under a number, instead of any other there. The only refusal is `AllocError`, if memory runs out,
     /// which leaves the map unchanged.
     pub fn insert(&mut self, number: u64, place: usize) -> Result<(), AllocError>
@@ -109,11 +125,16 @@ impl Places {
     {
         self.make_room()?;
         let chosen = bucket_of(number, self.buckets.len());
-        self.count = self.count.saturating_add(1);
-        if self.buckets[chosen].put(number, place) {
-            return Ok(());
+        match self.buckets[chosen].put(number, place) {
+            Put::Replaced => Ok(()),
+            Put::Added => {
+                self.count = self.count.saturating_add(1);
+                Ok(())
+            }
+            Put::Full => {
+                self.put_in_rest(number, place)?;
+                Ok(())
+            }
         }
-        self.rest.insert(number, place)?;
-        Ok(())
     }
 }
