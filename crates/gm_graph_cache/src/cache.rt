@@ -77,6 +77,15 @@ fn last_answer<F: Files>(files: &F) -> &Answer
     files.answer(files.count() - 1)
 }
 
+/// Expects the path of the module whose file has this name, since nearly all files declare it.
+fn expect_path(names: &mut KnownNames, name: &FileName) -> Result<(), NoMemory> {
+    match name {
+        FileName::Mod(path, _) => names.expect(path),
+        FileName::Folder(_) => Ok(()),
+        FileName::List(_) => Ok(()),
+    }
+}
+
 /// What an answer says, without the excluded requirements, or what is wrong with it.
 fn summarize(
     alloc: Global,
@@ -90,6 +99,7 @@ fn summarize(
         IsFileReading (option_copied sums.entry) (name_of name.now) (reply_of answer.now) (summary_reading kept)) }
     ensures kept { IfOk result (IsKept (main_of main.now)) }
 {
+    expect_path(names, name)?;
     match read_answer(alloc, names, sums, name, answer)? {
         FileReading::Valid(file) => Ok(Kept::Valid(summary_of(alloc, main, file)?)),
         FileReading::Faulty(class) => Ok(Kept::Faulty(class)),
@@ -139,7 +149,7 @@ impl<'a> Cache<'a> {
     /// An empty cache for a main file. If there is a go.sum, the files that come from proxies are checked against
     /// it. The only refusal is `NoMemory`.
     ///
-    /// The paths that the main file requires are known from the start, since the files of these modules declare them.
+    /// The paths that the main file requires are known from the start, since many files name them.
     pub fn new(
         alloc: Global,
         main: &'a MainFile<'a>,

@@ -72,10 +72,10 @@ impl From<VersionFault> for PairFault {
 /// a name that is read again shares the memory of the first one and isn't tested again.
 ///
 /// Reading through a `KnownNames` gives the same results as `ModPath::parse` and `ModVersion::parse`. One name
-/// is kept under each fingerprint, so a lookup among n names takes log n comparisons of numbers and one of
-/// texts, whatever the names are. Contracts see how many names of each kind are kept, which is never more than
-/// there is room for. Where there is no room, no text is hashed to be looked up. All memory comes from the
-/// allocator that it was made with.
+/// is kept under each fingerprint, so a lookup takes a few comparisons of numbers, at most log n among n names,
+/// and one of texts, whatever the names are. Contracts see how many names of each kind are kept, which is never
+/// more than there is room for. Where there is no room, no text is hashed to be looked up. All memory comes from
+/// the allocator that it was made with.
 #[derive(Drop)]
 pub struct KnownNames {
     /// The allocator of the names, and of the maps that keep them.
@@ -88,6 +88,8 @@ pub struct KnownNames {
     versions: NumberMap<ModVersion>,
     /// Pairs by the number that `PairNumbers::joined` makes of their texts' fingerprints.
     pairs: NumberMap<ModVer>,
+    /// The path that is expected to be read next, if any. It is compared before anything is looked up.
+    expected: Option<ModPath>,
 }
 
 impl Model for KnownNames {
@@ -158,6 +160,31 @@ impl KnownNames {
             paths: NumberMap::new(alloc),
             versions: NumberMap::new(alloc),
             pairs: NumberMap::new(alloc),
+            expected: None,
+        }
+    }
+
+    /// Expects a path to be read next, such as that of the module whose file is read: if its text is read, it is shared
+    /// and neither looked up nor tested. It takes the place of the one that was expected before. Allocates no memory; it
+    /// fails only if the path already has as many copies as a `usize` can count.
+    pub fn expect(&mut self, path: &ModPath) -> Result<(), AllocError>
+        ensures room { self.new.room ≡ self.old.room }
+        ensures within { IsWithinRoom self.new }
+    {
+        self.expected = Some(path.copy(self.alloc)?);
+        Ok(())
+    }
+
+    /// A copy of the expected path, if it has this text.
+    fn expected_path(&self, text: &str) -> Option<ModPath>
+        ensures within { IsWithinRoom self.now }
+        ensures read { IfSome result (λ path. PathReading text.now (Ok path)) }
+    {
+        let expected = self.expected.as_ref()?;
+        if expected.as_str() == text {
+            expected.copy(self.alloc).ok()
+        } else {
+            None
         }
     }
 
@@ -311,6 +338,18 @@ impl KnownNames {
         ensures bad { IsErrOf result PathFault.BadPath ↔ ¬ (IsPath text.now) }
         ensures memory { IsErrOf result PathFault.NoMemory → IsPath text.now }
     {
+        self.read_path(text)
+    }
+
+    /// The path in a text: the expected one, or that which is known under the text's number, or a new one.
+    fn read_path(&mut self, text: &str) -> Result<ModPath, PathFault>
+        ensures room { self.new.room ≡ self.old.room }
+        ensures within { IsWithinRoom self.new }
+        ensures read { PathReading text.now result }
+    {
+        if let Some(path) = self.expected_path(text) {
+            return Ok(path);
+        }
         self.numbered_path(self.number_of(text), text)
     }
 
