@@ -16,3 +16,16 @@ pub mod listed_versions;
 pub mod more_folders;
 pub mod requirable;
 pub mod sums;
+
+// The laws of the crates below, so that all can be read from here.
+pub use gm_file_edit::laws as operations;
+pub use gm_graph::laws as graphs;
+pub use gm_graph_cache::laws as readings;
+pub use gm_graph_listing::laws as listings;
+pub use gm_graph_select::laws as selections;
+pub use gm_name::laws as names;
+pub use gm_name_escape::laws as escaped_names;
+pub use gm_store::laws as stores;
+pub use gm_syntax::laws as documents;
+pub use gomod_run::laws as runs;
+pub use gomod_words::laws as words;
