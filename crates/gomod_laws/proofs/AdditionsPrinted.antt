@@ -74,8 +74,8 @@ list_lowers_nothing file other sums first second one next runs more ends =
     let agrees = agree run after first second held found runs.first_says refl runs.alike more.replaces valid.table valid.read.sums base valid.known.tells in (
       rows,
       others,
-      record { held = base; valid = valid; are_rows = rows_are; text = rows_text },
-      record { held = held; valid = found; are_rows = others_are; text = others_text },
+      record { held = base; valid = valid; are = rows_are; prints = rows_text },
+      record { held = held; valid = found; are = others_are; prints = others_text },
       not_lower first second more (readings_by first base) (readings_by second held) agrees found.known.few rows others rows_are others_are,
     )
 
@@ -91,8 +91,8 @@ graph_keeps_lines file other sums first second one next runs more ends =
     let agrees = agree run after first second held found runs.first_says refl runs.alike more.replaces valid.table valid.read.sums base valid.known.tells in (
       edges,
       others,
-      record { held = base; valid = valid; are_edges = edges_are; text = edges_text },
-      record { held = held; valid = found; are_edges = others_are; text = others_text },
+      record { held = base; valid = valid; are = edges_are; prints = edges_text },
+      record { held = held; valid = found; are = others_are; prints = others_text },
       (λ e there. (others_are.each e).1
           (edge_more first second more (readings_by first base) (readings_by second held) agrees e.from e.to ((edges_are.each e).0 there))),
     )

@@ -197,12 +197,12 @@ pub vertices_can_be_required : VerticesCanBeRequired
 vertices_can_be_required file other sums first second edges seen graph one next runs alike shows unpruned also =
     let a = readings_by first shows.held in
     also_seen file other sums first second one next runs (StandsSecond edges) also seen alike shows.held shows.valid
-    (λ x stands. vertex_opened first a unpruned x (stands.0, (shows.are_edges.each (edge stands.0 x)).0 stands.1))
+    (λ x stands. vertex_opened first a unpruned x (stands.0, (shows.are.each (edge stands.0 x)).0 stands.1))
 
 pub opened_can_be_required : OpenedCanBeRequired
 opened_can_be_required file other sums first second edges seen graph one next runs alike shows also =
     also_seen file other sums first second one next runs (StandsFirst edges) also seen alike shows.held shows.valid
-    (λ x stands. ((shows.are_edges.each (edge (Of x) stands.0)).0 stands.1).0)
+    (λ x stands. ((shows.are.each (edge (Of x) stands.0)).0 stands.1).0)
 
 -- ---- the rows
 
@@ -255,7 +255,7 @@ pub rows_can_be_required : RowsCanBeRequired
 rows_can_be_required file other sums first second rows one next runs shows unpruned rest adds each =
     let a = readings_by first shows.held in
     let vertex : (x : ModuleVersion) → HasRow rows x → IsVertex first a x =
-    λ x has. (row_selected first.path first.replaces (IsEdge first a) rows shows.are_rows x has.0 has.1).is_end in
+    λ x has. (row_selected first.path first.replaces (IsEdge first a) rows shows.are x has.0 has.1).is_end in
     let opened : (x : ModuleVersion) → HasRow rows x → IsOpened first a x =
     λ x has. vertex_opened first a unpruned x (vertex x has) in
     let tops : (x : ModuleVersion) → HasRow rows x → IsTop second x =
@@ -267,7 +267,7 @@ rows_can_be_required file other sums first second rows one next runs shows unpru
     (λ b into back found list. rows_required first second a b shows.valid.known.few found list
     (λ x has. tops x (
       replacement_of first.replaces x,
-      selected_row first.path first.replaces (IsEdge first a) rows shows.are_rows x
+      selected_row first.path first.replaces (IsEdge first a) rows shows.are x
           (row_selected first.path first.replaces (IsEdge first a) found list x has.0 has.1),
     ))
     (λ x is. vertex_back first second rest (HasRow rows) adds a opened b back x is))).1

@@ -33,7 +33,8 @@ use Rattle.gomod_words.specs.Usage.{texts_in}
 use Rattle.gomod_words.specs.declared.usage.Command.TheVariants.{Edit, List as Rows}
 use Rattle.gomod_run.specs.Editing.{IsEditOutcome, edited_in_turn, edits_outcome, refusal_of, refusals_from}
 use Rattle.gomod_run.specs.Kinds.{edit_line}
-use Rattle.gomod_laws.specs.AdditionLaws.{AreTwoRuns, ShowsRows}
+use Rattle.gomod_laws.specs.AdditionLaws.{AreTwoRuns}
+use Rattle.gomod_laws.specs.Shown.{ShowsRows, run_over}
 use Rattle.gomod_laws.specs.RequirableLaws.{DifferInRequirements, EditedRowsStay, HasRow}
 use Rattle.gomod_laws.specs.Runs.{HasOutcome}
 use Rattle.gomod_laws.proofs.AdditionsPrinted.{list_run}
@@ -126,11 +127,11 @@ rows_of rows number (text ∷ texts) are none =
 
 -- no two rows have the same path
 one_row : (file : List ℕ) (sums : Option (List ℕ)) (asked : List (Name × Reply)) (main : Main) (rows : List Entry) (one : Outcome)
-    → ShowsRows file sums asked main rows one → (p q : Pair) → HasRow rows p → HasRow rows q → p.0 ≡ q.0 → p ≡ q
+    → ShowsRows (run_over file sums asked) main None None rows one → (p q : Pair) → HasRow rows p → HasRow rows q → p.0 ≡ q.0 → p ≡ q
 one_row file sums asked main rows one shows p q has also same =
     let E = IsEdge main (readings_by main shows.held) in
-    let is = row_selected main.path main.replaces E rows shows.are_rows p has.0 has.1 in
-    let be = row_selected main.path main.replaces E rows shows.are_rows q also.0 also.1 in
+    let is = row_selected main.path main.replaces E rows shows.are p has.0 has.1 in
+    let be = row_selected main.path main.replaces E rows shows.are q also.0 also.1 in
     ap₂ (λ (a v : List ℕ). let m : Pair = (a, v) in m) same
     (same_version p.1 q.1 (be.greatest p is.is_end same) (is.greatest q be.is_end (sym same)))
 

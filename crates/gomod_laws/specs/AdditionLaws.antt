@@ -1,39 +1,19 @@
 -- A requirement added lowers nothing: Go Modules Reference, "Minimal version selection" and "Module graph pruning".
-use Rattle.std.specs.Prelude.{◌≡◌, ℕ, false, List, [], Option, None, Contains}
+use Rattle.std.specs.Prelude.{◌≡◌, ℕ, false, List, Option, None, Contains}
 use Rattle.std.specs.Ordering.{is_gt}
 use Rattle.gm_name.specs.Version.{version_cmp}
 use Rattle.gm_file.specs.Directives.{Right}
 use Rattle.gm_store.specs.Asked.{Name, Reply}
 use Rattle.gm_graph_cache.specs.Main.{Main, ModuleVersion, is_pruned_by, replacement_in}
-use Rattle.gm_graph_cache.specs.Reading.{Held, readings_by}
 use Rattle.gm_graph_select.specs.declared.step.Edge.{Edge}
 use Rattle.gm_graph_select.specs.declared.step.Step.TheVariants.{Of}
 use Rattle.gm_graph_select.specs.BuildList.{Entry}
-use Rattle.gm_graph.specs.Outcome.{AreEdges}
-use Rattle.gm_graph_listing.specs.Laws.{AllFilesAreValid, AnswerAlike}
-use Rattle.gm_graph_listing.specs.Outcomes.{AreRows, IsMainFile, Outcome, answers, given, printed}
-use Rattle.gm_graph_listing.specs.Texts.{graph_text, list_text}
+use Rattle.gm_graph_listing.specs.Laws.{AnswerAlike}
+use Rattle.gm_graph_listing.specs.Outcomes.{IsMainFile, Outcome}
 use Rattle.gomod_words.specs.declared.usage.Command.{Command}
 use Rattle.gomod_words.specs.declared.usage.Command.TheVariants.{Graph, List as Rows}
 use Rattle.gomod_laws.specs.Runs.{HasOutcome, HasPrinted}
-
--- ---- what is printed
-
--- `list` prints these rows, the build list of what the main file says, over a store that gave these answers.
-pub record ShowsRows (file : List ℕ) (sums : Option (List ℕ)) (asked : List (Name × Reply)) (main : Main)
-    (rows : List Entry) (outcome : Outcome) : Type 0 where
-  pub held : Held
-  pub valid : AllFilesAreValid (given file sums (answers asked [])) main held
-  pub are_rows : AreRows main (readings_by main held) rows
-  pub text : outcome ≡ printed (list_text main.path rows)
-
--- `graph` prints these edges, those of the module graph of what the main file says, over such a store.
-pub record ShowsEdges (file : List ℕ) (sums : Option (List ℕ)) (asked : List (Name × Reply)) (main : Main)
-    (edges : List Edge) (outcome : Outcome) : Type 0 where
-  pub held : Held
-  pub valid : AllFilesAreValid (given file sums (answers asked [])) main held
-  pub are_edges : AreEdges main (readings_by main held) edges
-  pub text : outcome ≡ printed (graph_text main.path edges)
+use Rattle.gomod_laws.specs.Shown.{ShowsEdges, ShowsRows, run_over}
 
 -- ---- two runs
 
@@ -70,12 +50,15 @@ AreNotLower rows others = (x : ModuleVersion) (right : Option Right) → Contain
 abbrev pub ListLowersNothing : Type 0
 ListLowersNothing = (file more : List ℕ) (sums : Option (List ℕ)) (first second : Main) (one next : Outcome)
     (runs : AreTwoRuns (Rows None None) file more sums first second one next) → SaysMore first second → HasPrinted next
-    → (rows : List Entry) × (others : List Entry) × ShowsRows file sums runs.asked first rows one
-    × ShowsRows more sums runs.later second others next × AreNotLower rows others
+    → (rows : List Entry) × (others : List Entry)
+    × ShowsRows (run_over file sums runs.asked) first None None rows one
+    × ShowsRows (run_over more sums runs.later) second None None others next × AreNotLower rows others
 
 -- Where `graph` prints over a main file that says more, it prints over the other, and each line of that is one of it.
 abbrev pub GraphKeepsLines : Type 0
 GraphKeepsLines = (file more : List ℕ) (sums : Option (List ℕ)) (first second : Main) (one next : Outcome)
     (runs : AreTwoRuns Graph file more sums first second one next) → SaysMore first second → HasPrinted next
-    → (edges : List Edge) × (others : List Edge) × ShowsEdges file sums runs.asked first edges one
-    × ShowsEdges more sums runs.later second others next × ((e : Edge) → Contains edges e → Contains others e)
+    → (edges : List Edge) × (others : List Edge)
+    × ShowsEdges (run_over file sums runs.asked) first edges one
+    × ShowsEdges (run_over more sums runs.later) second others next
+    × ((e : Edge) → Contains edges e → Contains others e)

@@ -15,7 +15,8 @@ use Rattle.gm_graph_listing.specs.Outcomes.{Outcome, printed}
 use Rattle.gomod_words.specs.Usage.{texts_in}
 use Rattle.gomod_words.specs.declared.usage.Command.TheVariants.{Edit, List as Rows}
 use Rattle.gomod_laws.specs.Runs.{HasOutcome, HasPrinted}
-use Rattle.gomod_laws.specs.AdditionLaws.{AreTwoRuns, ShowsEdges, ShowsRows}
+use Rattle.gomod_laws.specs.AdditionLaws.{AreTwoRuns}
+use Rattle.gomod_laws.specs.Shown.{ShowsEdges, ShowsRows, run_over}
 
 -- ---- main files that require different modules
 
@@ -59,7 +60,7 @@ abbrev pub VerticesCanBeRequired : Type 0
 VerticesCanBeRequired = (file more : List ℕ) (sums : Option (List ℕ)) (first second : Main) (edges : List Edge)
     (seen : List (Name × Reply)) (graph one next : Outcome)
     (runs : AreTwoRuns (Rows None None) file more sums first second one next) → AnswerAlike seen runs.asked
-    → ShowsEdges file sums seen first edges graph → is_pruned_by first.go ≡ false
+    → ShowsEdges (run_over file sums seen) first edges graph → is_pruned_by first.go ≡ false
     → RequiresAlso first second (StandsSecond edges) → HasPrinted one × (next ≡ one)
 
 -- So it does, whether the main file is pruned or not, where modules that stand first in a line are also required.
@@ -67,7 +68,7 @@ abbrev pub OpenedCanBeRequired : Type 0
 OpenedCanBeRequired = (file more : List ℕ) (sums : Option (List ℕ)) (first second : Main) (edges : List Edge)
     (seen : List (Name × Reply)) (graph one next : Outcome)
     (runs : AreTwoRuns (Rows None None) file more sums first second one next) → AnswerAlike seen runs.asked
-    → ShowsEdges file sums seen first edges graph → RequiresAlso first second (StandsFirst edges)
+    → ShowsEdges (run_over file sums seen) first edges graph → RequiresAlso first second (StandsFirst edges)
     → HasPrinted one × (next ≡ one)
 
 -- Where the main file is not pruned and `list` prints, it prints the same where each row is required, and besides the
@@ -75,7 +76,7 @@ OpenedCanBeRequired = (file more : List ℕ) (sums : Option (List ℕ)) (first s
 abbrev pub RowsCanBeRequired : Type 0
 RowsCanBeRequired = (file more : List ℕ) (sums : Option (List ℕ)) (first second : Main) (rows : List Entry)
     (one next : Outcome) (runs : AreTwoRuns (Rows None None) file more sums first second one next)
-    → ShowsRows file sums runs.asked first rows one → is_pruned_by first.go ≡ false
+    → ShowsRows (run_over file sums runs.asked) first None None rows one → is_pruned_by first.go ≡ false
     → DifferInRequirements first second → RequiresOnly first second (HasRow rows)
     → ((x : ModuleVersion) → HasRow rows x → Contains second.requirements x) → next ≡ one
 
@@ -93,7 +94,7 @@ pub record RequireTheRows (rows : List Entry) (operations : List (List ℕ)) : T
 abbrev pub EditedRowsStay : Type 0
 EditedRowsStay = (operations : Vec (String Global)) (file text : List ℕ) (sums : Option (List ℕ)) (main : Main)
     (rows : List Entry) (asked later : List (Name × Reply)) (one next : Outcome) → AnswerAlike asked later
-    → ShowsRows file sums asked main rows one → is_pruned_by main.go ≡ false
+    → ShowsRows (run_over file sums asked) main None None rows one → is_pruned_by main.go ≡ false
     → RequireTheRows rows (texts_in operations) → HasOutcome (Edit operations) file None [] (printed text)
     → HasOutcome (Rows None None) file sums asked one → HasOutcome (Rows None None) text sums later next
     → HasPrinted next → next ≡ one

@@ -1,15 +1,18 @@
 -- Laws of the rows of `list`: what `graph` and `chain` say of them.
-use Rattle.std.specs.Prelude.{◌≡◌, ◌++◌, ℕ, List, [], ◌∷◌, Option, Contains, codes}
+use Rattle.std.specs.Prelude.{◌≡◌, ◌++◌, ℕ, List, [], ◌∷◌, map, Option, Contains, codes}
 use Rattle.std.specs.List.{flat_map}
 use Rattle.gm_store.specs.Asked.{Name, Reply}
 use Rattle.gm_graph_cache.specs.Main.{Main}
+use Rattle.gm_graph_select.specs.declared.step.Edge.{Edge}
 use Rattle.gm_graph_select.specs.BuildList.{Entry, HasEntryFor, path_of}
 use Rattle.gm_graph_listing.specs.Laws.{AnswerAlike}
-use Rattle.gm_graph_listing.specs.Outcomes.{IsMainFile, Outcome, PrintsRows, printed, refused}
+use Rattle.gm_graph_listing.specs.Outcomes.{Outcome, printed, refused}
+use Rattle.gm_graph_listing.specs.PrintedLines.{edge_text}
 use Rattle.gm_graph_listing.specs.Reports.{not_listed_line}
 use Rattle.gm_graph_listing.specs.Texts.{line, step_text}
 use Rattle.gomod_words.specs.declared.usage.Command.TheVariants.{Graph, List as Rows, Chain}
 use Rattle.gomod_laws.specs.Runs.{HasOutcome, HasPrinted}
+use Rattle.gomod_laws.specs.Shown.{ShowsEdges, ShowsRows, run_over}
 
 -- these lines, each with the line feed that ends it
 abbrev pub text_of : List (List ℕ) → List ℕ
@@ -36,7 +39,9 @@ abbrev pub EachRowIsExplained : Type 0
 EachRowIsExplained = (after : Option (List ℕ)) (limit : Option ℕ) (file : List ℕ) (sums : Option (List ℕ))
     (asked others : List (Name × Reply)) (list graph : Outcome) → AnswerAlike asked others
     → HasOutcome (Rows after limit) file sums asked list → HasOutcome Graph file sums others graph → HasPrinted list
-    → (main : Main) × (rows : List Entry) × (edges : List (List ℕ)) × IsMainFile file main
-    × PrintsRows main rows after limit list × (graph ≡ printed (text_of edges))
+    → (main : Main) × (rows : List Entry) × (edges : List Edge)
+    × ShowsRows (run_over file sums asked) main after limit rows list
+    × ShowsEdges (run_over file sums others) main edges graph
     × ((path : List ℕ) (third : List (Name × Reply)) (chain : Outcome) → AnswerAlike asked third
-    → HasOutcome (Chain path) file sums third chain → IsExplained main.path rows edges path chain)
+    → HasOutcome (Chain path) file sums third chain
+    → IsExplained main.path rows (map (edge_text main.path) edges) path chain)
