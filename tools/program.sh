@@ -29,7 +29,7 @@ import sys
 import tempfile
 
 DATA = "crates/run_cases/data"
-ESCAPE = re.compile(rb'\\(n|r|t|0|\\|"|x[0-9a-fA-F]{2})')
+ESCAPE = re.compile(rb'\\(?:(n|r|t|0|\\|"|x[0-9a-fA-F]{2})|\*([0-9]+)\*(.))', re.S)
 SIMPLE = {b"n": b"\n", b"r": b"\r", b"t": b"\t", b"0": b"\0", b"\\": b"\\", b'"': b'"'}
 NO_LINE_END = b"\\ No newline at end of file"
 REFUSE_MEMORY = os.environ.pop("REFUSE_MEMORY", None)
@@ -37,8 +37,15 @@ NO_MEMORY = b"", b"gomod: no memory\n", 3
 PASSED = b"all allocations passed\n"
 
 
+def meant(escape):
+    simple, count, byte = escape.groups()
+    if count:
+        return byte * int(count)
+    return SIMPLE[simple] if simple in SIMPLE else bytes([int(simple[1:], 16)])
+
+
 def unescaped(text):
-    return ESCAPE.sub(lambda m: SIMPLE[m[1]] if m[1] in SIMPLE else bytes([int(m[1][1:], 16)]), text)
+    return ESCAPE.sub(meant, text)
 
 
 def words_of(line):

@@ -3,10 +3,11 @@
 use crate::places::is_near;
 use std::alloc::{AllocError, Allocator, Global};
 use std::cell::{Cell, RefCell};
+use std::env::FillError;
 use std::fs::{File, Metadata, OpenOptions};
 use std::io;
 use std::io::{BufRead, ErrorKind, Lines};
-use std::rt::Files;
+use std::rt::{Env, Files};
 
 /// The files that were opened, and which of them can't be opened.
 #[derive(Drop)]
@@ -51,9 +52,12 @@ impl Log {
     }
 }
 
-/// A runtime whose files are in one real folder, and whose standard input is some bytes. All it can do is open a file.
+/// A runtime whose files are in one real folder, whose standard input is some bytes, and whose command line has some
+/// words. All else that it can do is open a file.
 #[derive(Clone, Copy)]
 pub struct CaseRuntime<'a> {
+    /// The words of the command line, of which the first is the program's name.
+    pub words: &'a [Vec<u8>],
     /// The runtime that opens the real files.
     pub system: HostRuntime,
     /// The real folder.
@@ -89,6 +93,27 @@ impl<'a> Input for CaseRuntime<'a> {
 
     fn reader(&self) -> &'a [u8] {
         self.input
+    }
+}
+
+impl Env for CaseRuntime<'_> {
+    fn arg(&self, i: usize, buf: &mut [u8]) -> Result<usize, FillError> {
+        let Some(word) = self.words.get(i) else {
+            return Err(FillError::NotPresent);
+        };
+        let Some(room) = buf.get_mut(..word.len()) else {
+            return Err(FillError::TooLong);
+        };
+        room.copy_from_slice(word.as_slice());
+        Ok(word.len())
+    }
+
+    fn var(&self, _name: &str, _buf: &mut [u8]) -> Result<usize, FillError> {
+        Err(FillError::NotPresent)
+    }
+
+    fn var_at(&self, _i: usize, _buf: &mut [u8]) -> Result<usize, FillError> {
+        Err(FillError::NotPresent)
     }
 }
 

@@ -1,12 +1,13 @@
 //! Cases: commands over a few files, and the results they must have.
 
 use std::alloc::{AllocError, Global};
+use std::str;
 
 /// The name of the file that commands read from standard input.
 pub const STDIN: &str = "stdin";
 
 /// The word that a command line begins with. Any other first word names a call.
-const PROGRAM: &str = "gomod";
+const PROGRAM: &[u8] = b"gomod";
 
 /// What a case has at a place.
 #[derive(Drop)]
@@ -58,14 +59,14 @@ pub struct Run<'a> {
     pub line: usize,
     /// The command as the case spells it.
     pub command: &'a str,
-    /// Its words, without quotes and escapes.
-    pub words: Vec<String>,
+    /// Its words, without quotes and escapes. They need not be UTF-8.
+    pub words: Vec<Vec<u8>>,
     /// What it writes to standard output.
     pub out: Vec<u8>,
     /// What it writes to standard error.
     pub report: Vec<u8>,
-    /// Its exit status.
-    pub status: u8,
+    /// Its exit status, where the case gives it.
+    pub status: Option<u8>,
     /// The files that it opens, in order, where the case lists them.
     pub opened: Option<Vec<&'a str>>,
     /// Whether it is run over real files alone, and not in memory.
@@ -74,14 +75,19 @@ pub struct Run<'a> {
 
 impl<'a> Run<'a> {
     /// A command that is expected to write nothing.
-    pub(crate) fn new(alloc: Global, line: usize, command: &'a str, words: Vec<String>) -> Run<'a> {
+    pub(crate) fn new(
+        alloc: Global,
+        line: usize,
+        command: &'a str,
+        words: Vec<Vec<u8>>,
+    ) -> Run<'a> {
         Run {
             line,
             command,
             words,
             out: Vec::new(alloc),
             report: Vec::new(alloc),
-            status: 0,
+            status: None,
             opened: None,
             is_over_files_only: false,
         }
@@ -89,16 +95,24 @@ impl<'a> Run<'a> {
 
     /// Whether it is a command line of the program and not a call.
     pub fn is_command_line(&self) -> bool {
-        matches!(self.words.first(), Some(word) if word.as_str() == PROGRAM)
+        matches!(self.words.first(), Some(word) if word.as_slice() == PROGRAM)
     }
 
-    /// Its words as texts.
-    pub fn texts(&self, alloc: Global) -> Result<Vec<&str>, AllocError> {
+    /// The exit status that it must have: 0 unless the case gives another.
+    pub fn wanted_status(&self) -> u8 {
+        self.status.unwrap_or(0)
+    }
+
+    /// Its words as texts, or none if one of them is not UTF-8.
+    pub fn texts(&self, alloc: Global) -> Result<Option<Vec<&str>>, AllocError> {
         let mut texts = Vec::new(alloc);
         for word in &self.words {
-            texts.push(word.as_str())?;
+            let Ok(text) = str::from_utf8(word.as_slice()) else {
+                return Ok(None);
+            };
+            texts.push(text)?;
         }
-        Ok(texts)
+        Ok(Some(texts))
     }
 }
 

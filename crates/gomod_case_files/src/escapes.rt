@@ -1,6 +1,7 @@
 //! Escapes of bytes that a line of text can't show.
 
 use crate::faults::{CaseFault, LineFault, TextFault};
+use crate::numbering::MOST;
 use std::alloc::Global;
 
 /// What the bytes so far end in.
@@ -13,6 +14,10 @@ enum State {
     Hexadecimal,
     /// A backslash, `x` and a first digit.
     FirstDigit(u8),
+    /// A backslash, `*` and the digits of this number so far.
+    Count(usize),
+    /// A backslash and this number between two `*`: the next byte is repeated so often.
+    Times(usize),
 }
 
 /// Takes escaped text byte by byte, and keeps the bytes that it denotes.
@@ -58,13 +63,24 @@ impl Unescaper {
             State::Plain if byte == b'\\' => self.state = State::Backslash,
             State::Plain => self.push(byte)?,
             State::Backslash if byte == b'x' => self.state = State::Hexadecimal,
+            State::Backslash if byte == b'*' => self.state = State::Count(0),
             State::Backslash => self.end(escaped(byte))?,
             State::Hexadecimal => match digit(byte) {
                 Some(first) => self.state = State::FirstDigit(first),
                 None => return Err(TextFault::Invalid),
             },
             State::FirstDigit(first) => self.end(joined(first, byte))?,
+            State::Count(count) => self.state = counted(count, byte)?,
+            State::Times(count) => self.repeat(byte, count)?,
         }
+        Ok(())
+    }
+
+    /// Ends an escape with a byte that stands so often.
+    fn repeat(&mut self, byte: u8, count: usize) -> Result<(), TextFault> {
+        let length = self.bytes.len().saturating_add(count);
+        self.bytes.resize(length, byte)?;
+        self.state = State::Plain;
         Ok(())
     }
 
@@ -80,6 +96,23 @@ impl Unescaper {
     /// The bytes so far.
     pub(crate) fn into_bytes(self) -> Vec<u8> {
         self.bytes
+    }
+}
+
+/// What follows a backslash, `*`, the digits of a number, and this byte.
+fn counted(count: usize, byte: u8) -> Result<State, TextFault> {
+    match byte {
+        b'*' if count > 0 => Ok(State::Times(count)),
+        b'0'..=b'9' => {
+            let count = count
+                .saturating_mul(10)
+                .saturating_add(usize::from(byte - b'0'));
+            if count > MOST {
+                return Err(TextFault::Invalid);
+            }
+            Ok(State::Count(count))
+        }
+        _ => Err(TextFault::Invalid),
     }
 }
 

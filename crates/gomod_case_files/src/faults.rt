@@ -18,12 +18,20 @@ pub enum LineFault {
     BadEscape,
     /// It names a status that is no number from 0 to 255.
     BadStatus,
+    /// It says what another line said of the same command or case, as a second status.
+    SaidBefore,
+    /// It is about a command line, and a call is before it, of which only the output is compared.
+    UnderCall,
     /// Its header has an unknown word, or a name that is not the shortest spelling of a place.
     BadHeader,
     /// It is to be repeated, and its count is no number in range.
     BadCount,
     /// It begins a case that has no command.
     NoCommand,
+    /// It begins a text that has no case.
+    NoCase,
+    /// It is in a file, and begins as a title or a header does. Where a file has such a line, an escape spells it.
+    LikeMark,
     /// It is below the header of a folder, a link or a copy.
     NoContent,
     /// It is the header of a file that is filled, and not exactly one line is below it.
@@ -40,9 +48,13 @@ impl LineFault {
             LineFault::BadWords => "has words that don't read",
             LineFault::BadEscape => "has an escape that is none",
             LineFault::BadStatus => "is no exit status",
+            LineFault::SaidBefore => "says again what a line above says",
+            LineFault::UnderCall => "stands under a call, of which only the output is compared",
             LineFault::BadHeader => "is no header of a file",
             LineFault::BadCount => "says how many, which is no number from 1 to 16777217",
             LineFault::NoCommand => "is the title of a case without a command",
+            LineFault::NoCase => "begins a file without a case",
+            LineFault::LikeMark => "begins like a title or a header, and is none",
             LineFault::NoContent => "stands under the header of a folder or a link",
             LineFault::SeveralLines => "is one of several lines of a file that is filled",
         }

@@ -6,7 +6,7 @@ use std::alloc::{AllocError, Global};
 pub(crate) const NUMBER: &str = "{n}";
 
 /// How often a line may be repeated, and how long a file may be made.
-const MOST: usize = 16_777_217;
+pub(crate) const MOST: usize = 16_777_217;
 
 /// A number of lines or bytes.
 pub(crate) fn count_of(text: &str) -> Option<usize> {

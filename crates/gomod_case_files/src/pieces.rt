@@ -5,7 +5,7 @@ use crate::escapes::push_unescaped;
 use crate::faults::{CaseFault, LineFault};
 use crate::numbering::{NUMBER, count_of, numbered, push_line, push_numbered};
 use crate::places::tidied;
-use crate::words::words_of_line;
+use crate::words::texts_of_line;
 use std::alloc::{AllocError, Global};
 
 /// The last line of a file that does not end in a line end.
@@ -135,7 +135,7 @@ fn read_header(
 impl Piece {
     /// The piece that a header begins.
     pub(crate) fn begin(alloc: Global, line: usize, text: &str) -> Result<Piece, CaseFault> {
-        let words = words_of_line(alloc, line, text)?;
+        let words = texts_of_line(alloc, line, text)?;
         Piece::of_words(alloc, line, words.as_slice())
     }
 

@@ -44,6 +44,9 @@ impl<'a> Reader<'a> {
         for (index, line) in text.split('\n').enumerate() {
             self.take(index.saturating_add(1), line)?;
         }
+        if self.cases.is_empty() {
+            return Err(CaseFault::Line(1, LineFault::NoCase));
+        }
         self.end_case()
     }
 
@@ -80,14 +83,16 @@ impl<'a> Reader<'a> {
     /// Takes a line of a case that is neither its title nor a header.
     fn take_in_case(&mut self, number: usize, line: &'a str) -> Result<(), CaseFault> {
         if let Some(piece) = &mut self.piece {
+            if is_like_mark(line) {
+                return Err(CaseFault::Line(number, LineFault::LikeMark));
+            }
             return piece.take(self.alloc, number, line);
         }
         let Some(case) = self.cases.last_mut() else {
             return Ok(());
         };
         if line == EVERY_BYTE {
-            case.is_cut_everywhere = true;
-            return Ok(());
+            return mark_once(&mut case.is_cut_everywhere, number);
         }
         take_line_of_runs(self.alloc, &mut case.runs, number, line)
     }
@@ -121,6 +126,11 @@ fn take_before_cases(number: usize, line: &str) -> Result<(), CaseFault> {
         return Ok(());
     }
     Err(CaseFault::Line(number, LineFault::BeforeTitle))
+}
+
+/// Whether a line begins as a title or a header does.
+fn is_like_mark(line: &str) -> bool {
+    line.starts_with("==") || line.starts_with("--")
 }
 
 /// Whether a line among commands is blank or a remark.
@@ -171,6 +181,9 @@ fn take_line_of_run<'a>(
     if let Some(rest) = line.strip_prefix('>') {
         return take_written(alloc, &mut run.out, number, rest);
     }
+    if is_about_command_line(line) && !run.is_command_line() {
+        return Err(CaseFault::Line(number, LineFault::UnderCall));
+    }
     if let Some(rest) = line.strip_prefix('!') {
         return take_written(alloc, &mut run.report, number, rest);
     }
@@ -180,19 +193,41 @@ fn take_line_of_run<'a>(
     take_about_run(run, number, line)
 }
 
+/// Whether a line has one of the marks that only command lines have: of a report, a status, an opened file, or a way to
+/// run.
+fn is_about_command_line(line: &str) -> bool {
+    matches!(line.as_bytes().first(), Some(b'!' | b'?' | b'@' | b'%'))
+}
+
 /// Takes a line that gives the status of a command, or says that it runs over real files alone.
 fn take_about_run(run: &mut Run<'_>, number: usize, line: &str) -> Result<(), CaseFault> {
     if let Some(text) = line.strip_prefix("? ") {
-        let Ok(status) = text.parse::<u8>() else {
-            return Err(CaseFault::Line(number, LineFault::BadStatus));
-        };
-        run.status = status;
-        return Ok(());
+        return take_status(run, number, text);
     }
     if line != FILES_ONLY {
         return Err(CaseFault::Line(number, LineFault::NoMark));
     }
-    run.is_over_files_only = true;
+    mark_once(&mut run.is_over_files_only, number)
+}
+
+/// Takes the status of a command.
+fn take_status(run: &mut Run<'_>, number: usize, text: &str) -> Result<(), CaseFault> {
+    let Ok(status) = text.parse::<u8>() else {
+        return Err(CaseFault::Line(number, LineFault::BadStatus));
+    };
+    if run.status.is_some() {
+        return Err(CaseFault::Line(number, LineFault::SaidBefore));
+    }
+    run.status = Some(status);
+    Ok(())
+}
+
+/// Sets what the line of this number says, which no line before it said.
+fn mark_once(mark: &mut bool, number: usize) -> Result<(), CaseFault> {
+    if *mark {
+        return Err(CaseFault::Line(number, LineFault::SaidBefore));
+    }
+    *mark = true;
     Ok(())
 }
 
@@ -243,6 +278,11 @@ fn take_opened<'a>(
     number: usize,
     rest: &'a str,
 ) -> Result<(), CaseFault> {
+    let said_none = matches!(&run.opened, Some(opened) if opened.is_empty());
+    let said_some = matches!(&run.opened, Some(opened) if !opened.is_empty());
+    if said_none || said_some && rest.is_empty() {
+        return Err(CaseFault::Line(number, LineFault::SaidBefore));
+    }
     let opened = run.opened.get_or_insert(Vec::new(alloc));
     if rest.is_empty() {
         return Ok(());

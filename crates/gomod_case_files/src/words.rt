@@ -3,6 +3,7 @@
 use crate::escapes::Unescaper;
 use crate::faults::{CaseFault, LineFault, TextFault};
 use std::alloc::Global;
+use std::mem;
 
 /// Where a byte is in the words.
 #[derive(Clone, Copy, PartialEq, Eq)]
@@ -23,7 +24,7 @@ enum State {
 #[derive(Drop)]
 struct Cutter {
     alloc: Global,
-    words: Vec<String>,
+    words: Vec<Vec<u8>>,
     word: Unescaper,
     state: State,
 }
@@ -91,18 +92,15 @@ impl Cutter {
 
     /// Ends a word.
     fn end(&mut self, state: State) -> Result<(), TextFault> {
-        let word = std::mem::replace(&mut self.word, Unescaper::new(self.alloc));
-        let Ok(word) = String::from_utf8(word.into_bytes()) else {
-            return Err(TextFault::Invalid);
-        };
-        self.words.push(word)?;
+        let word = mem::replace(&mut self.word, Unescaper::new(self.alloc));
+        self.words.push(word.into_bytes())?;
         self.state = state;
         Ok(())
     }
 }
 
 /// The words of a text.
-fn words_of(alloc: Global, text: &str) -> Result<Vec<String>, TextFault> {
+fn words_of(alloc: Global, text: &str) -> Result<Vec<Vec<u8>>, TextFault> {
     let mut cutter = Cutter::new(alloc);
     cutter.take_text(text)?;
     let Cutter { words, .. } = cutter;
@@ -114,10 +112,26 @@ pub(crate) fn words_of_line(
     alloc: Global,
     number: usize,
     text: &str,
-) -> Result<Vec<String>, CaseFault> {
+) -> Result<Vec<Vec<u8>>, CaseFault> {
     match words_of(alloc, text) {
         Ok(words) => Ok(words),
         Err(TextFault::NoMemory) => Err(CaseFault::NoMemory),
         Err(TextFault::Invalid) => Err(CaseFault::Line(number, LineFault::BadWords)),
     }
+}
+
+/// The words of a text in the line of this number, each of which has to be UTF-8.
+pub(crate) fn texts_of_line(
+    alloc: Global,
+    number: usize,
+    text: &str,
+) -> Result<Vec<String>, CaseFault> {
+    let mut texts = Vec::new(alloc);
+    for word in words_of_line(alloc, number, text)? {
+        let Ok(word) = String::from_utf8(word) else {
+            return Err(CaseFault::Line(number, LineFault::BadWords));
+        };
+        texts.push(word)?;
+    }
+    Ok(texts)
 }

@@ -100,7 +100,9 @@ fn check_run(
 
 /// What a call of a library function gives, or none if there is no such call.
 fn text_of_call(workspace: &Workspace<'_>, run: &Run<'_>) -> Result<Option<String>, AllocError> {
-    let words = run.texts(workspace.alloc())?;
+    let Some(words) = run.texts(workspace.alloc())? else {
+        return Ok(None);
+    };
     workspace.count.add();
     call(
         workspace.alloc(),
@@ -231,5 +233,5 @@ fn report_difference(run: &Run<'_>, outcome: &Outcome, differences: &mut Differe
 fn is_wanted(run: &Run<'_>, outcome: &Outcome) -> bool {
     outcome.out.bytes() == run.out.as_slice()
         && outcome.report.bytes() == run.report.as_slice()
-        && outcome.status == run.status
+        && outcome.status == run.wanted_status()
 }

@@ -179,7 +179,7 @@ fn differs(
     outcome: &Outcome,
 ) -> Option<&'static str> {
     // an invalid go.sum is reported before an invalid main file
-    if parsed_run.run.status == DEVICE || !parsed_run.reads_main(cut.name) {
+    if parsed_run.run.wanted_status() == DEVICE || !parsed_run.reads_main(cut.name) {
         return None;
     }
     match layout {
@@ -212,6 +212,6 @@ fn is_sound(run: &Run<'_>, outcome: &Outcome) -> bool {
     match outcome.status {
         0 => report.is_empty(),
         1 => out.is_empty() && report.ends_with(b"\n"),
-        status => status == run.status && out.is_empty() && report.ends_with(b"\n"),
+        status => status == run.wanted_status() && out.is_empty() && report.ends_with(b"\n"),
     }
 }

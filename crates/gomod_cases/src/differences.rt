@@ -128,7 +128,7 @@ impl Differences {
         self.line("  wanted:");
         self.text(">", run.out.as_slice());
         self.text("!", run.report.as_slice());
-        self.status(run.status);
+        self.status(run.wanted_status());
     }
 
     /// Adds the files that were opened, in the form of a case.

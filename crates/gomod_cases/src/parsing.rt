@@ -69,7 +69,7 @@ fn tidied_sums(alloc: Global, sums: &Option<String>) -> Result<Option<String>, A
 #[derive(Drop)]
 pub(crate) struct ParsedRun<'a> {
     pub(crate) run: &'a Run<'a>,
-    /// None where the command is a call, a usage error or a request for help.
+    /// None if the command is a call, a usage error or a request for help. A word that is not UTF-8 is a usage error.
     pub(crate) parsed: Option<Parsed>,
 }
 
@@ -94,8 +94,10 @@ fn parsed_words(alloc: Global, run: &Run<'_>) -> Result<Option<Parsed>, AllocErr
     if !run.is_command_line() {
         return Ok(None);
     }
-    let words = run.texts(alloc)?;
-    Parsed::of(alloc, words.as_slice())
+    match run.texts(alloc)? {
+        Some(words) => Parsed::of(alloc, words.as_slice()),
+        None => Ok(None),
+    }
 }
 
 /// The commands of a case, and what each of them asks for.

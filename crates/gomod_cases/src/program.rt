@@ -4,6 +4,7 @@ use crate::checking::check_case;
 use crate::counting::Count;
 use crate::differences::Differences;
 use gomod_case_files::{Case, CaseFault, CaseFile, Content, LineFault, read_cases};
+use std::alloc::AllocError;
 use std::process::ExitCode;
 use std::{env, fs, io};
 
@@ -47,10 +48,13 @@ fn words(rt: &HostRuntime) -> io::Result<Vec<String>> {
 /// Runs the cases, and says whether all passed.
 fn all_pass(rt: &HostRuntime, stream: Stream) -> io::Result<bool> {
     let words = words(rt)?;
+    let mut unmatched = Vec::new(rt.alloc());
+    unmatched.resize(words.len(), true)?;
     let mut session = Session {
         system: *rt,
         stream,
         words: words.as_slice(),
+        unmatched,
         count: Count::new(),
         passed: 0,
         failed: 0,
@@ -65,12 +69,14 @@ struct Session<'a> {
     system: HostRuntime,
     stream: Stream,
     words: &'a [String],
+    /// For each word, whether it names no file and is in no title so far.
+    unmatched: Vec<bool>,
     count: Count,
     passed: usize,
     failed: usize,
 }
 
-impl Session<'_> {
+impl<'a> Session<'a> {
     /// Runs the cases of all files, and prints how many passed.
     fn run_files(&mut self) -> io::Result<()> {
         for word in self.words {
@@ -78,7 +84,32 @@ impl Session<'_> {
                 self.run_file(word.as_str())?;
             }
         }
+        self.fail_unmatched()?;
         self.report_tally()
+    }
+
+    /// The words that were to choose cases and chose none.
+    fn unmatched_words(&self) -> Result<Vec<&'a str>, AllocError> {
+        let words = self.words;
+        let mut found = Vec::new(self.system.alloc());
+        for (word, is_unmatched) in words.iter().zip(&self.unmatched) {
+            if *is_unmatched && !names_file(word.as_str()) {
+                found.push(word.as_str())?;
+            }
+        }
+        Ok(found)
+    }
+
+    /// Fails for each word that was to choose cases and chose none, and if no case was run at all.
+    fn fail_unmatched(&mut self) -> io::Result<()> {
+        for word in self.unmatched_words()? {
+            let line = format!(in self.system.alloc(); "no title has {word}\n")?;
+            self.fail(line.as_str())?;
+        }
+        if self.passed == 0 && self.failed == 0 {
+            return self.fail("no case was run\n");
+        }
+        Ok(())
     }
 
     /// Prints how many cases passed and failed, and how many runs were made if all passed. A case that fails is not run
@@ -133,7 +164,7 @@ impl Session<'_> {
     /// Runs those of the cases that the words choose.
     fn run_cases(&mut self, name: &str, cases: &[Case<'_>]) -> io::Result<()> {
         for (number, case) in cases.iter().enumerate() {
-            if is_chosen(case, self.words) {
+            if is_chosen(case, self.words, &mut self.unmatched) {
                 self.run_case(name, number, case)?;
             }
         }
@@ -192,16 +223,18 @@ fn read_copy(rt: &HostRuntime, file: &mut CaseFile) -> io::Result<()> {
     Ok(())
 }
 
-/// Whether the words choose a case. Where no word chooses titles, all cases are chosen.
-fn is_chosen(case: &Case<'_>, words: &[String]) -> bool {
-    let mut chooses = false;
-    for word in words {
+/// Whether the words choose a case. If no word chooses titles, all cases are chosen. It notes the words that are in the
+/// title.
+fn is_chosen(case: &Case<'_>, words: &[String], unmatched: &mut [bool]) -> bool {
+    let (mut chooses, mut is_chosen) = (false, false);
+    for (word, is_unmatched) in words.iter().zip(unmatched) {
         if !names_file(word.as_str()) {
             chooses = true;
             if case.title.contains(word.as_str()) {
-                return true;
+                is_chosen = true;
+                *is_unmatched = false;
             }
         }
     }
-    !chooses
+    is_chosen || !chooses
 }

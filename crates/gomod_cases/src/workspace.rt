@@ -4,7 +4,7 @@ use crate::counting::Count;
 use crate::memory::Memory;
 use crate::outcomes::{Outcome, Room};
 use gomod_case_files::{Case, CaseRuntime, Log, Run, View, tidied};
-use gomod_run::status_of_words;
+use gomod_run::status_of;
 use std::alloc::{AllocError, Global};
 
 /// A case, a real folder with its files, and what its commands read from standard input.
@@ -58,28 +58,28 @@ impl<'a> Workspace<'a> {
 
     /// Runs a command, with a record of the files that it opens.
     fn logged(&self, run: &Run<'_>, room: Room, log: &Log) -> Result<Real, AllocError> {
-        let words = run.texts(self.alloc())?;
-        let outcome = self.outcome_of_words(words.as_slice(), room, log)?;
+        let outcome = self.outcome_of_words(run.words.as_slice(), room, log)?;
         let opened = log.take(self.alloc());
         Ok(Real { outcome, opened })
     }
 
-    /// Runs the command that words ask for.
+    /// Runs the program with these words.
     fn outcome_of_words(
         &self,
-        words: &[&str],
+        words: &[Vec<u8>],
         room: Room,
         log: &Log,
     ) -> Result<Outcome, AllocError> {
         let (mut out, mut report) = room.sinks(self.alloc())?;
         let runtime = CaseRuntime {
+            words,
             system: self.system,
             folder: self.folder,
             input: self.input,
             log,
         };
         self.count.add();
-        let status = status_of_words(&runtime, words, &mut out, &mut report);
+        let status = status_of(&runtime, &mut out, &mut report);
         Ok(Outcome {
             out,
             report,

@@ -86,7 +86,7 @@ fn status_of_texts<S: Input + Files + Clone + Drop + Alloc<A = Global>, O: Sink,
     out: &mut O,
     report: &mut R,
 ) -> u8
-    ensures { EndsAsStated IsProgramOutcome
+    ensures { EndsAsStated (IsWordsOutcome (map string_bytes words.now))
         (O.state out.old) (O.state out.new) (R.state report.old) (R.state report.new)
         result }
 {
@@ -328,8 +328,10 @@ pub(crate) fn folders_of<S: Files + Clone + Drop + Alloc<A = Global>>(
     Ok(DiskFallback::new(system, rt.alloc(), main, folders))
 }
 
-/// The words as string slices.
-fn texts_of(alloc: Global, words: &[String]) -> Result<Vec<&str>, AllocError> {
+/// The words as string slices, all of them and in order.
+fn texts_of(alloc: Global, words: &[String]) -> Result<Vec<&str>, AllocError>
+    ensures { IfOk result (λ texts. map (λ text. text.now) texts.items ≡ map string_bytes words.now) }
+{
     let mut texts = Vec::new(alloc);
     for word in words {
         texts.push(word.as_str())?;

@@ -1,4 +1,4 @@
-//! Readers that fail, that give few bytes per call, or that have more bytes than are read.
+//! Readers that fail once, that give few bytes per call, or that have more bytes than are read.
 
 use super::{OUT_OF_MEMORY, assert_same};
 use gm_store::{LIMIT, ReadFault, read_limited};
@@ -7,23 +7,25 @@ use std::io;
 use std::io::{ErrorKind, Read};
 use std::process::Abort;
 
-/// A reader over bytes in memory. It gives at most `step` bytes per call, and fails after `calls` calls.
+/// A reader over bytes in memory. It gives at most `step` bytes per call. After `calls` calls one call fails, and the calls
+/// after that one succeed, so that a caller which tries again is seen.
 #[derive(Clone, Copy)]
 struct LimitedReader<'a> {
     /// The bytes that are left to read.
     bytes: &'a [u8],
     /// The most bytes that one call gives.
     step: usize,
-    /// How many more calls succeed.
+    /// How many more calls succeed before one fails.
     calls: usize,
-    /// How the calls after them fail.
+    /// How that one fails.
     fault: ErrorKind,
 }
 
 impl Read for LimitedReader<'_> {
-    /// Gives the next bytes, or fails once the calls are used up.
+    /// Gives the next bytes, or fails if it is the call that does.
     fn read(&mut self, piece: &mut [u8]) -> io::Result<usize> {
         if self.calls == 0 {
+            self.calls = NEVER;
             return Err(io::Error::from(self.fault));
         }
         self.calls -= 1;

@@ -61,22 +61,23 @@ fn no_sink_has_room_for_all_bytes(rt: HostRuntime) {
 /// The most bytes that a writer takes per call.
 const STEP: usize = 5;
 
-/// A writer that takes few bytes per call. Once its calls are used up it fails, or takes nothing if it has no
-/// fault.
+/// A writer that takes few bytes per call. After `calls` calls one call fails, or takes nothing if it has no fault, and
+/// the calls after that one succeed, so that a caller which tries again is seen.
 #[derive(Drop)]
 struct LimitedWriter {
     /// The bytes that were taken.
     bytes: Vec<u8>,
-    /// How many more calls succeed.
+    /// How many more calls succeed before one fails.
     calls: usize,
-    /// How the calls after them fail.
+    /// How that one fails.
     fault: Option<ErrorKind>,
 }
 
 impl Write for LimitedWriter {
-    /// Takes the next bytes, or fails once the calls are used up.
+    /// Takes the next bytes, or fails if it is the call that does.
     fn write(&mut self, piece: &[u8]) -> io::Result<usize> {
         if self.calls == 0 {
+            self.calls = usize::MAX;
             return match self.fault {
                 Some(fault) => Err(io::Error::from(fault)),
                 None => Ok(0),
