@@ -6,8 +6,8 @@
 #
 # The merge gate runs the same cases inside a process, with outputs in memory; of the program itself it compares what
 # a few stored runs write to standard output. What this adds is standard error and the whole way from the words to the
-# system. Calls, cases with a file at the root of the system, and those of files without permission for root are left
-# out.
+# system. .ci/run runs it after the gate. Calls, cases with a file at the root of the system, and those of files without
+# permission for root are left out.
 #
 # Where REFUSE_MEMORY names the library that tools/refuse-memory.sh makes, each command runs again with each of its
 # allocations refused in turn: it then has to say that memory ran out, or to have the result of the case.

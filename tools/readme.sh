@@ -11,7 +11,7 @@
 # crates/library_example, and tests that each link of a document to a file of the repository leads to one.
 #
 # It needs bin/gomod (./build makes it), bash and python3. It prints each difference and how many examples, pieces of
-# code and links were right and wrong. The status is 1 where one was wrong. The merge gate doesn't run it.
+# code and links were right and wrong. The status is 1 where one was wrong. .ci/run runs it after the merge gate.
 set -euo pipefail
 cd "$(dirname "$0")/.."
 [ -x bin/gomod ] || {
