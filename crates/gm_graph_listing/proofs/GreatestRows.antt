@@ -59,7 +59,7 @@ module _ (main : Main) (readings : Readings) (selected : List ModuleVersion)
       let same : z ≡ x = ap₂ (λ (p v : List ℕ). let m : ModuleVersion = (p, v) in m) path versions in
       subst (λ (w : ModuleVersion). Contains selected w) same inside
 
-  as_build_list : IsBuildList main.path main.replaces (IsEdge main readings) (main_entry ∷ map (entry_of main.replaces) selected)
+  pub as_build_list : IsBuildList main.path main.replaces (IsEdge main readings) (main_entry ∷ map (entry_of main.replaces) selected)
   as_build_list = record { selected = selected; entries_are = refl; ascending = are.ascending; each = λ x. (is_selected x, is_row x) }
 
 pub build_list_is_listed : BuildListIsListed

@@ -133,7 +133,7 @@ take_none : (n : ℕ) → take {A = Entry} n [] ≡ []
 take_none zero = refl
 take_none (suc n) = refl
 
-texts_join : (main : List ℕ) (pages : List (List Entry)) → list_text main (joined pages) ≡ flat_map (list_text main) pages
+pub texts_join : (main : List ℕ) (pages : List (List Entry)) → list_text main (joined pages) ≡ flat_map (list_text main) pages
 texts_join main [] = refl
 texts_join main (page ∷ pages) = flat_map-append _ page (joined pages) ∙ ap (λ (t : List ℕ). list_text main page ++ t) (texts_join main pages)
 

@@ -10,7 +10,7 @@ use Rattle.gm_graph_listing.specs.Laws.{PrintedChainIsShortest, IsWalk, further,
 use Rattle.gm_graph_listing.specs.Outcomes.{PrintsChain}
 use Rattle.gm_graph_listing.proofs.PrintedList.{not_refused, printed_run}
 
-chain_walk : (E : Edges) {s : Step} {steps : List Step} → IsChain E s steps → IsWalk E s steps
+pub chain_walk : (E : Edges) {s : Step} {steps : List Step} → IsChain E s steps → IsWalk E s steps
 chain_walk E begins = here
 chain_walk E (goes_on {s} {y} {steps} chain before) = further (chain_walk E chain) before.is_edge
 

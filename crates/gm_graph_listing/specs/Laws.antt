@@ -93,14 +93,18 @@ pub record AreGreatest (main : Main) (readings : Readings) (selected : List Modu
   pub satisfied : (y : ModuleVersion) → IsVertex main readings y → y.0 ≢ main.path
       → (x : ModuleVersion) × Contains selected x × (x.0 ≡ y.0) × (is_gt (version_cmp y.1 x.1) ≡ false)
 
--- When `list` prints, it prints the main module, followed by those modules, each with its replacement, if
--- any. The files of the opened modules are known, and none has a fault.
-abbrev pub ListIsBuildList : Type 0
-ListIsBuildList = (run : Given) (outcome : Outcome) → IsListOutcome None None run outcome
-    → outcome.status ≡ code_of Done
-    → (main : Main) × (held : Held) × (selected : List ModuleVersion) × AllFilesAreValid run main held
+-- The files of the opened modules are known, and none has a fault. The main module is printed, followed by those
+-- modules, each with its replacement, if any.
+abbrev pub ShowsBuildList : Given → Outcome → Type 0
+ShowsBuildList run outcome =
+    (main : Main) × (held : Held) × (selected : List ModuleVersion) × AllFilesAreValid run main held
     × AreGreatest main (readings_by main held) selected
     × (outcome ≡ printed (list_text main.path (main_entry ∷ map (entry_of main.replaces) selected)))
+
+-- this holds when `list` prints
+abbrev pub ListIsBuildList : Type 0
+ListIsBuildList = (run : Given) (outcome : Outcome) → IsListOutcome None None run outcome
+    → outcome.status ≡ code_of Done → ShowsBuildList run outcome
 
 -- Conversely, `list` prints any modules that meet this description.
 abbrev pub BuildListIsListed : Type 0
@@ -111,14 +115,19 @@ BuildListIsListed = (run : Given) (main : Main) (held : Held) (selected : List M
 
 -- ---- parts of the list
 
--- For any path and limit, `list` prints rows of the one list: all, or those after the row of the path, cut
--- off at the limit. It reports a path that has no row.
+-- The one outcome is the build list, and the other its rows: all, or those after the row of the path, cut off at the
+-- limit; or it reports a path that has no row.
+abbrev pub ShowsPart : Option (List ℕ) → Option ℕ → Given → Outcome → Outcome → Type 0
+ShowsPart after limit run whole part =
+    (main : Main) × (held : Held) × (rows : List Entry) × AllFilesAreValid run main held
+    × AreRows main (readings_by main held) rows
+    × (whole ≡ printed (list_text main.path rows)) × PrintsRows main rows after limit part
+
+-- this holds for any path and limit when `list` prints
 abbrev pub PartsOfOneList : Type 0
 PartsOfOneList = (after : Option (List ℕ)) (limit : Option ℕ) (run : Given) (whole part : Outcome)
     → IsListOutcome None None run whole → IsListOutcome after limit run part → whole.status ≡ code_of Done
-    → (main : Main) × (held : Held) × (rows : List Entry) × AllFilesAreValid run main held
-    × AreRows main (readings_by main held) rows
-    × (whole ≡ printed (list_text main.path rows)) × PrintsRows main rows after limit part
+    → ShowsPart after limit run whole part
 
 -- ---- pages
 
@@ -132,13 +141,17 @@ pub data ArePrintedPages (run : Given) (main : List ℕ) (n : ℕ) : Option (Lis
       → ArePrintedPages run main n (Some (path_of main last.0)) pages
       → ArePrintedPages run main n after ((front ++ last ∷ []) ∷ pages)
 
--- The pages concatenate to the build list, and their texts to what `list` prints without a limit.
-abbrev pub PrintedPagesJoin : Type 0
-PrintedPagesJoin = (run : Given) (n : ℕ) (whole : Outcome) → 0 < n → IsListOutcome None None run whole
-    → whole.status ≡ code_of Done
-    → (main : Main) × (held : Held) × (pages : List (List Entry)) × AllFilesAreValid run main held
+-- The pages concatenate to the build list, and their texts to what is printed.
+abbrev pub JoinsPages : ℕ → Given → Outcome → Type 0
+JoinsPages n run whole =
+    (main : Main) × (held : Held) × (pages : List (List Entry)) × AllFilesAreValid run main held
     × AreRows main (readings_by main held) (joined pages) × ArePrintedPages run main.path n None pages
     × (whole.text ≡ flat_map (list_text main.path) pages)
+
+-- this holds of what `list` prints without a limit
+abbrev pub PrintedPagesJoin : Type 0
+PrintedPagesJoin = (run : Given) (n : ℕ) (whole : Outcome) → 0 < n → IsListOutcome None None run whole
+    → whole.status ≡ code_of Done → JoinsPages n run whole
 
 -- ---- `chain` prints a shortest walk in the module graph (Go Modules Reference, "Minimal version selection")
 
@@ -148,17 +161,20 @@ pub data IsWalk (edges : Edges) : Step → List Step → Type 0 where
   further : {s : Step} {y : ModuleVersion} {steps : List Step} → IsWalk edges s steps → edges s y
       → IsWalk edges (Of y) (steps ++ Of y ∷ [])
 
--- When `chain` prints steps, they are a walk to the build list's entry for the path, and no walk to it is
--- shorter.
-abbrev pub PrintedChainIsShortest : Type 0
-PrintedChainIsShortest = (path : List ℕ) (run : Given) (outcome : Outcome) → IsChainOutcome path run outcome
-    → outcome.status ≡ code_of Done
-    → (main : Main) × (held : Held) × (rows : List Entry) × (s : Step) × (steps : List Step)
+-- The steps are printed. They are a walk to the build list's entry for the path, and no walk to it is shorter.
+abbrev pub ShowsShortestWalk : List ℕ → Given → Outcome → Type 0
+ShowsShortestWalk path run outcome =
+    (main : Main) × (held : Held) × (rows : List Entry) × (s : Step) × (steps : List Step)
     × AllFilesAreValid run main held × AreRows main (readings_by main held) rows × IsEntryOf main.path rows path s
     × (outcome ≡ printed (chain_text main.path steps))
     × IsWalk (IsEdge main (readings_by main held)) s steps
     × ((others : List Step) → IsWalk (IsEdge main (readings_by main held)) s others
     → length steps ≤ length others)
+
+-- this holds when `chain` prints
+abbrev pub PrintedChainIsShortest : Type 0
+PrintedChainIsShortest = (path : List ℕ) (run : Given) (outcome : Outcome) → IsChainOutcome path run outcome
+    → outcome.status ≡ code_of Done → ShowsShortestWalk path run outcome
 
 -- ---- the three commands show one graph
 
@@ -178,14 +194,18 @@ pub record AreOfOneGraph (main : Main) (edges : List Edge) (rows : List Entry)
   pub list_is : PrintsRows main rows after limit list
   pub chain_is : ShowsChain path main (among edges) rows chain
 
+-- the same with the edges of the run
+abbrev pub ShowOneGraph : Option (List ℕ) → Option ℕ → List ℕ → Given → Outcome → Outcome → Outcome → Type 0
+ShowOneGraph after limit path run graph list chain =
+    (main : Main) × (held : Held) × (edges : List Edge) × (rows : List Entry) × AllFilesAreValid run main held
+    × AreEdges main (readings_by main held) edges
+    × AreOfOneGraph main edges rows after limit path graph list chain
+
 -- this holds when `graph` prints
 abbrev pub OneGraph : Type 0
 OneGraph = (after : Option (List ℕ)) (limit : Option ℕ) (path : List ℕ) (run : Given) (graph list chain : Outcome)
     → IsGraphOutcome run graph → IsListOutcome after limit run list → IsChainOutcome path run chain
-    → graph.status ≡ code_of Done
-    → (main : Main) × (held : Held) × (edges : List Edge) × (rows : List Entry) × AllFilesAreValid run main held
-    × AreEdges main (readings_by main held) edges
-    × AreOfOneGraph main edges rows after limit path graph list chain
+    → graph.status ≡ code_of Done → ShowOneGraph after limit path run graph list chain
 
 -- when `graph` does not print, the others print nothing either and report the same
 abbrev pub OneRefusal : Type 0

@@ -1,0 +1,64 @@
+-- What begins with a module path is no folder.
+use Rattle.std.proofs.Common.{◌≡◌, ◌∙◌, ℕ, ◌==◌, ◌&&◌, not, nat_lt, Bool, true, false, List, [], ◌∷◌, ◌++◌, length, refl, sym, ap, subst, arith, inl, inr}
+use Rattle.std.specs.Prelude.{◌<◌, ◌||◌}
+use Rattle.std.specs.List.{join_with_byte, list_all}
+use Rattle.std.proofs.lemmas.Bool.{cases_Bool, true≢false}
+use Rattle.std.proofs.lemmas.Bool.Decides.{nat_tests}
+use Rattle.gm_name.specs.Element.{has_outer_dot, is_dotted_name, is_element, is_path_byte, is_reserved, is_shortened, stem}
+use Rattle.gm_name.specs.Path.{IsPath}
+use Rattle.gm_name.proofs.NameTests.{and_both, not_true}
+use Rattle.gm_file.specs.Values.{is_folder_path}
+
+-- the text starts with a byte that is neither a dot nor a slash
+record BeginsAside (text : List ℕ) : Type 0 where
+  pub byte : ℕ
+  pub rest : List ℕ
+  pub is : text ≡ byte ∷ rest
+  pub no_dot : (byte == 46) ≡ false
+  pub no_slash : (byte == 47) ≡ false
+
+no_slash : (b : ℕ) → is_path_byte b ≡ true → (b == 47) ≡ false
+no_slash b h = elim (cases_Bool (b == 47)) [
+  | inl e ↦ let is : b ≡ 47 = grind (arith, nat_tests) in absurd (true≢false (sym h ∙ ap is_path_byte is))
+  | inr e ↦ e
+]
+
+or_none : (a b : Bool) → (a || b) ≡ false → a ≡ false
+or_none true b e = absurd cc
+or_none false b e = refl
+
+element_begins : (e : List ℕ) → is_element e ≡ true → BeginsAside e
+unfolding is_element is_dotted_name has_outer_dot
+element_begins [] h = absurd cc
+element_begins (b ∷ e) h =
+    let named : Bool = is_dotted_name (b ∷ e) && not (is_reserved (stem (b ∷ e))) in
+    let outer = and_both named (not (is_shortened (stem (b ∷ e)))) h in
+    let inner = and_both (is_dotted_name (b ∷ e)) (not (is_reserved (stem (b ∷ e)))) outer.0 in
+    let front : Bool = nat_lt 0 (length (b ∷ e)) && list_all is_path_byte (b ∷ e) in
+    let parts = and_both front (not (has_outer_dot (b ∷ e))) inner.0 in
+    let bytes = and_both (nat_lt 0 (length (b ∷ e))) (list_all is_path_byte (b ∷ e)) parts.0 in
+    let byte = and_both (is_path_byte b) (list_all is_path_byte e) bytes.1 in
+    record { byte = b; rest = e; is = refl; no_dot = or_none (b == 46) _ (not_true (has_outer_dot (b ∷ e)) parts.1); no_slash = no_slash b byte.0 }
+
+more_begins : (text more : List ℕ) → BeginsAside text → BeginsAside (text ++ more)
+more_begins text more b =
+    record { byte = b.byte; rest = b.rest ++ more; is = ap (λ (t : List ℕ). t ++ more) b.is; no_dot = b.no_dot; no_slash = b.no_slash }
+
+joined_begins : (es : List (List ℕ)) → 0 < length es → list_all is_element es ≡ true → BeginsAside (join_with_byte 47 es)
+joined_begins [] some all = absurd (omega arith)
+joined_begins (e ∷ []) some all = element_begins e (and_both (is_element e) true all).0
+joined_begins (e ∷ f ∷ es) some all =
+    more_begins e (47 ∷ join_with_byte 47 (f ∷ es)) (element_begins e (and_both (is_element e) (list_all is_element (f ∷ es)) all).0)
+
+aside_is_no_folder : (b : ℕ) (rest : List ℕ) → (b == 46) ≡ false → (b == 47) ≡ false → is_folder_path (b ∷ rest) ≡ false
+unfolding is_folder_path
+aside_is_no_folder b rest dot slash =
+    let other_dot : (46 == b) ≡ false = grind (arith, nat_tests) in
+    let other_slash : (47 == b) ≡ false = grind (arith, nat_tests) in
+    rw (dot, other_dot, other_slash) refl
+
+pub begins_no_folder : (path more : List ℕ) → IsPath path → is_folder_path (path ++ more) ≡ false
+begins_no_folder path more is =
+    let first : BeginsAside path = subst BeginsAside (sym is.joined) (joined_begins is.elements is.some is.each) in
+    let b = more_begins path more first in
+    subst (λ (t : List ℕ). is_folder_path t ≡ false) (sym b.is) (aside_is_no_folder b.byte b.rest b.no_dot b.no_slash)
