@@ -43,7 +43,7 @@ query_given command main sums asked outcome query has =
 
 -- ---- a command whose run with a go.sum is one without it
 
-asked_alike : (one other asked others : List (Name × Reply)) → one ≡ asked → other ≡ others → AnswerAlike asked others
+pub asked_alike : (one other asked others : List (Name × Reply)) → one ≡ asked → other ≡ others → AnswerAlike asked others
     → AnswerAlike one other
 asked_alike one other asked others is be alike =
     subst (λ (pairs : List (Name × Reply)). AnswerAlike pairs other) (sym is)

@@ -68,7 +68,7 @@ only_refuses (Chain path) main sums asked others one other alike is be ends =
 -- ---- a go.sum with the right hashes changes nothing
 
 -- a run with a go.sum that reads has a table of it
-sum_table : (prints : PrintsOver) (main sums : List ℕ) (asked : List (Name × Reply)) (outcome : Outcome) (said : Main)
+pub sum_table : (prints : PrintsOver) (main sums : List ℕ) (asked : List (Name × Reply)) (outcome : Outcome) (said : Main)
     → length sums ≤ longest → HasValidLines sums → IsMainFile main said
     → IsOutcome prints (given main (Some sums) (answers asked [])) outcome
     → (table : SumTable) × AreSums (Some sums) (Some table)

@@ -1,8 +1,10 @@
 -- Laws of a go.sum. They hold of each command; `fmt`, `edit` and `versions` read no go.sum.
-use Rattle.std.specs.Prelude.{◌≡◌, ◌≤◌, ℕ, List, length, Some, None}
+use Rattle.std.specs.Prelude.{◌↔◌, ◌≡◌, ◌≤◌, ◌⊎◌, ◌++◌, ◌∷◌, ℕ, List, [], Some, None, Contains, codes, false, length, map, nat_eq}
+use Rattle.std.specs.List.{starts_with}
 use Rattle.gm_store.specs.Asked.{Name, Reply, answer_in, bytes, mod_file}
+use Rattle.gm_store.specs.Lines.{fields, lines}
 use Rattle.gm_store_sums.specs.Hash.{file_hash}
-use Rattle.gm_store_sums.specs.Sums.{HasValidLines, Says}
+use Rattle.gm_store_sums.specs.Sums.{HasValidLines, IsSum, Says}
 use Rattle.gm_store_sums.specs.declared.sum_table.Sum.TheVariants.{Good}
 use Rattle.gm_graph_listing.specs.Laws.{AnswerAlike}
 use Rattle.gm_graph_listing.specs.Outcomes.{Outcome, longest}
@@ -32,3 +34,68 @@ RightSumsChangeNothing = (command : Command) (main sums : List ℕ) (asked other
     (unchecked checked : Outcome) → AnswerAlike asked others → AreRight main sums asked
     → HasOutcome command main None asked unchecked → HasOutcome command main (Some sums) others checked
     → checked ≡ unchecked
+
+-- ---- two go.sums
+
+-- Both go.sums are valid. For each file of a proxy that a run with these answers and the first go.sum needs, they have
+-- the same hashes, right or wrong. A hash of another algorithm than `h1` doesn't count (`IsSum`).
+pub record HaveSameSums (main one other : List ℕ) (asked : List (Name × Reply)) : Type 0 where
+  pub short : length one ≤ longest
+  pub valid : HasValidLines one
+  pub other_short : length other ≤ longest
+  pub other_valid : HasValidLines other
+  pub same : (path version hash : List ℕ) → GraphNeeds main (Some one) (answer_in asked) (mod_file path version)
+      → IsSum one path version hash ↔ IsSum other path version hash
+
+-- With either of two such go.sums a command comes to the same.
+abbrev pub SameSumsChangeNothing : Type 0
+SameSumsChangeNothing = (command : Command) (main one other : List ℕ) (asked others : List (Name × Reply))
+    (a b : Outcome) → AnswerAlike asked others → HaveSameSums main one other asked
+    → HasOutcome command main (Some one) asked a → HasOutcome command main (Some other) others b
+    → a ≡ b
+
+-- a line of the go.sum has these three fields
+abbrev pub HasSumLine : List ℕ → List ℕ → List ℕ → List ℕ → Type 0
+HasSumLine text path version hash = Contains (map fields (lines text)) (path ∷ version ∷ hash ∷ [])
+
+-- Both go.sums are valid, and have the same lines, in whatever order and however often. Blanks and blank lines don't
+-- count.
+pub record HaveSameLines (one other : List ℕ) : Type 0 where
+  pub short : length one ≤ longest
+  pub valid : HasValidLines one
+  pub other_short : length other ≤ longest
+  pub other_valid : HasValidLines other
+  pub same : (path version hash : List ℕ) → HasSumLine one path version hash ↔ HasSumLine other path version hash
+
+-- With either of two such go.sums a command comes to the same.
+abbrev pub SumLinesInAnyOrder : Type 0
+SumLinesInAnyOrder = (command : Command) (main one other : List ℕ) (asked others : List (Name × Reply))
+    (a b : Outcome) → AnswerAlike asked others → HaveSameLines one other
+    → HasOutcome command main (Some one) asked a → HasOutcome command main (Some other) others b
+    → a ≡ b
+
+-- The line is on a file that a run with these answers and this go.sum doesn't need, or its hash has another algorithm
+-- than `h1`. (The second field of the line on a file is its version with `/go.mod`.)
+abbrev pub IsNeedless : List ℕ → List ℕ → List (Name × Reply) → List ℕ → List ℕ → List ℕ → Type 0
+IsNeedless main sums asked path field hash =
+    ((version : List ℕ) → field ≡ version ++ codes "/go.mod"
+    → ¬ (GraphNeeds main (Some sums) (answer_in asked) (mod_file path version)))
+    ⊎ (starts_with nat_eq hash (codes "h1:") ≡ false)
+
+-- The second go.sum is valid, as the first is, and has the lines of the first. Each other line of it is on a file that
+-- a run with these answers and the first go.sum doesn't need, or has a hash of another algorithm than `h1`.
+pub record HasNeedlessLines (main one other : List ℕ) (asked : List (Name × Reply)) : Type 0 where
+  pub short : length one ≤ longest
+  pub valid : HasValidLines one
+  pub other_short : length other ≤ longest
+  pub other_valid : HasValidLines other
+  pub kept : (path version hash : List ℕ) → HasSumLine one path version hash → HasSumLine other path version hash
+  pub needless : (path version hash : List ℕ) → HasSumLine other path version hash
+      → HasSumLine one path version hash ⊎ IsNeedless main one asked path version hash
+
+-- With more such lines a command comes to the same.
+abbrev pub NeedlessLinesChangeNothing : Type 0
+NeedlessLinesChangeNothing = (command : Command) (main one other : List ℕ) (asked others : List (Name × Reply))
+    (a b : Outcome) → AnswerAlike asked others → HasNeedlessLines main one other asked
+    → HasOutcome command main (Some one) asked a → HasOutcome command main (Some other) others b
+    → a ≡ b
