@@ -2,3 +2,4 @@
 //! counterexample.
 
 pub mod queries;
+pub mod reports;
