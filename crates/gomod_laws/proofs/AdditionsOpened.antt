@@ -33,7 +33,7 @@ required_of first second less (Ok file) y there =
     kept_more first second less file.requirements file.requirements y (λ among. among) there
 required_of first second less (Err class) y there = absurd (no_member y there)
 
-required_in : (first second : Main) → ExcludesLess first second → (a b : Option (Result Dependency Class))
+pub required_in : (first second : Main) → ExcludesLess first second → (a b : Option (Result Dependency Class))
     → ((r : Result Dependency Class) → a ≡ Some r → b ≡ Some r) → (y : ModuleVersion)
     → Contains (requirements_in first (said_in a)) y → Contains (requirements_in second (said_in b)) y
 required_in first second less None b same y there = absurd (no_member y there)
@@ -41,7 +41,7 @@ required_in first second less (Some r) b same y there =
     subst (λ (o : Option (Result Dependency Class)). Contains (requirements_in second (said_in o)) y)
     (sym (same r refl)) (required_of first second less r y there)
 
-unpruned_in : (a b : Option (Result Dependency Class)) → ((r : Result Dependency Class) → a ≡ Some r → b ≡ Some r)
+pub unpruned_in : (a b : Option (Result Dependency Class)) → ((r : Result Dependency Class) → a ≡ Some r → b ≡ Some r)
     → is_unpruned_in (said_in a) ≡ true → is_unpruned_in (said_in b) ≡ true
 unpruned_in None b same e = absurd (false≢true e)
 unpruned_in (Some r) b same e = ap (λ (o : Option (Result Dependency Class)). is_unpruned_in (said_in o)) (same r refl) ∙ e

@@ -30,7 +30,7 @@ same_if : (askable : Bool) (first second : Main) (x : ModuleVersion) (held : Opt
 same_if true first second x held same = ap (λ (right : Option Right). option_map (with_right_path x right) held) same
 same_if false first second x held same = refl
 
-same_readings : (first second : Main) → ReplaceAlike first second → (held : Held) (x : ModuleVersion)
+pub same_readings : (first second : Main) → ReplaceAlike first second → (held : Held) (x : ModuleVersion)
     → readings_by first held x ≡ readings_by second held x
 same_readings first second same held x =
     let files : file_of first x ≡ file_of second x = ap (file_named x) (same x) in

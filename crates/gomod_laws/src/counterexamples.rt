@@ -1,5 +1,6 @@
 //! What the laws conclude is false of outputs that contradict them: a conclusion that holds anyway has no such
 //! counterexample.
 
+pub mod merges;
 pub mod queries;
 pub mod reports;

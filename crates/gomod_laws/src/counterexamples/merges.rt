@@ -1,0 +1,18 @@
+//! What the law on merges concludes, tried on outputs of `list` and `graph` and on reports.
+
+ghost use Rattle.gomod_laws.specs.CounterMerges.{EdgeIsLost, EdgeIsNew, FaultIsLost, FaultIsNew, OnlyOnePrints, RowIsLower, RowIsNew};
+
+/// What the law on merges concludes is false of outputs that contradict it.
+pub fn a_merge_can_contradict()
+    // that the merged run prints exactly if both do, if one is refused
+    ensures prints { OnlyOnePrints }
+    // that the merged graph has the edges of both, if it lacks one, or has another one
+    ensures lost_edge { EdgeIsLost }
+    ensures new_edge { EdgeIsNew }
+    // that the merged list has the higher rows, if it has the lower one of a path, or one of another path
+    ensures lower_row { RowIsLower }
+    ensures new_row { RowIsNew }
+    // that the merged report has the faults of both, if it lacks one, or has another one
+    ensures lost_fault { FaultIsLost }
+    ensures new_fault { FaultIsNew }
+{}
