@@ -1,5 +1,5 @@
 -- What the law on merges concludes is false of outputs that contradict it.
-use Rattle.std.proofs.Common.{◌≡◌, ◌∙◌, ◌∷◌, ◌++◌, ℕ, true, false, List, [], Option, None, Contains, ap, ap₂, arith, codes, inl, inr, lit<, refl, subst, sym}
+use Rattle.std.proofs.Common.{◌≡◌, ◌≢◌, ◌∙◌, ◌∷◌, ◌++◌, ℕ, true, false, List, [], Option, None, Some, Contains, ap, ap₂, arith, codes, inl, inr, length, lit<, map, refl, subst, sym}
 use Rattle.std.specs.Cmp.Lexicographic.{slice_cmp}
 use Rattle.std.specs.Fmt.{decimal}
 use Rattle.std.specs.Ordering.{is_gt, nat_cmp, ordering_then}
@@ -7,7 +7,8 @@ use Rattle.std.proofs.lemmas.Bool.{false≢true}
 use Rattle.std.proofs.lemmas.Fmt.{decimal_digit}
 use Rattle.gm_name.specs.Version.{IsVersion, parts_in, precedence, version_cmp}
 use Rattle.gm_name.proofs.BaseVersions.{parts-spelled}
-use Rattle.gm_file.specs.Directives.{Right}
+use Rattle.gm_syntax.specs.Lines.{HasNoLineFeed, lines_of}
+use Rattle.gm_file.specs.Directives.{Folder, Right}
 use Rattle.gm_graph_cache.specs.Main.{Main, ModuleVersion}
 use Rattle.gm_graph_select.specs.declared.step.Edge.{Edge}
 use Rattle.gm_graph_select.specs.declared.step.Step.{Step}
@@ -17,16 +18,16 @@ use Rattle.gm_graph_select.proofs.Ascending.{member_cases, member_head, member_t
 use Rattle.gm_graph.specs.declared.fault.Fault.{Fault}
 use Rattle.gm_graph.proofs.Mapped.{from_mapped, in_mapped}
 use Rattle.gm_graph_listing.specs.Outcomes.{Given, Outcome, printed}
-use Rattle.gm_graph_listing.specs.PrintedLines.{AreProperEdges, AreProperRows, IsProperRow, steps_of}
-use Rattle.gm_graph_listing.specs.Texts.{graph_text, list_text}
+use Rattle.gm_graph_listing.specs.PrintedLines.{AreProperEdges, AreProperRows, IsProperRow, row_text, steps_of}
+use Rattle.gm_graph_listing.specs.Texts.{graph_text, list_text, replacement_suffix}
 use Rattle.gm_graph_listing.proofs.GraphLines.{text_says_edges}
-use Rattle.gm_graph_listing.proofs.ListLines.{text_says_rows}
+use Rattle.gm_graph_listing.proofs.ListLines.{list_has_lines, text_says_rows}
 use Rattle.gm_graph_listing.proofs.RunNames.{run_has_names, run_has_proper_edges, run_has_proper_rows}
 use Rattle.gomod_laws.specs.Counterexamples.{a_one, fault_of_a}
-use Rattle.gomod_laws.specs.CounterMerges.{EdgeIsLost, EdgeIsNew, FaultIsLost, FaultIsNew, OnlyOnePrints, RowIsLower, RowIsNew, graph_of_none}
+use Rattle.gomod_laws.specs.CounterMerges.{EdgeIsLost, EdgeIsNew, FaultIsLost, FaultIsNew, OnlyOnePrints, RowIsLower, RowIsNew, RowLosesArrow, graph_of_none, list_of_replaced}
 use Rattle.gomod_laws.specs.MergeLaws.{ReportsThese}
-use Rattle.gomod_laws.specs.Shown.{ShowsEdges, ShowsRows}
-use Rattle.gomod_laws.proofs.Contradicted.{a_is_path, digits_are, edge_proper, edge_to_a, row_of_a, row_proper}
+use Rattle.gomod_laws.specs.Shown.{ShowsEdges, ShowsRows, run_over}
+use Rattle.gomod_laws.proofs.Contradicted.{a_is_path, digits_are, edge_proper, edge_to_a, no_suffix, one_is_version, row_is, row_of_a, row_proper}
 
 -- ---- what texts say
 
@@ -99,6 +100,68 @@ none_proper row there = elim (member_cases main_entry row [] there) [
 
 no_edge_proper : AreProperEdges []
 no_edge_proper one there = absurd (no_member one there)
+
+-- ---- a row with a right side
+
+abbrev row_of_replaced : Entry
+row_of_replaced = (Of a_one, Some (Folder (codes "./a")))
+
+abbrev replaced_rows : List Entry
+replaced_rows = main_entry ∷ row_of_replaced ∷ []
+
+dot_apart : ◌≢◌ {A = ℕ} 46 10
+dot_apart e = omega (arith, e)
+
+slash_apart : ◌≢◌ {A = ℕ} 47 10
+slash_apart e = omega (arith, e)
+
+letter_apart : ◌≢◌ {A = ℕ} 97 10
+letter_apart e = omega (arith, e)
+
+folder_has_no_feed : HasNoLineFeed (codes "./a")
+folder_has_no_feed = (dot_apart, (slash_apart, (letter_apart, tt)))
+
+replaced_proper : AreProperRows replaced_rows
+replaced_proper row there = elim (member_cases main_entry row (row_of_replaced ∷ []) there) [
+  | inl same ↦ subst IsProperRow same refl
+  | inr later ↦ elim (member_cases row_of_replaced row [] later) [
+    | inl same ↦ subst IsProperRow same (a_is_path, one_is_version, folder_has_no_feed)
+    | inr none ↦ absurd (no_member row none)
+  ]
+]
+
+same_size : (xs ys : List ℕ) → xs ≡ ys → length xs ≡ length ys
+same_size xs ys is = ap (λ (zs : List ℕ). length zs) is
+
+short_or_long : (own : List ℕ) → own ≡ codes "m" → Contains (map (row_text own) replaced_rows) (codes "a v1.0.0") → ⊥
+short_or_long own declared there =
+    let texts : Contains (codes "m" ∷ codes "a v1.0.0 => ./a" ∷ []) (codes "a v1.0.0") =
+    subst (λ (m : List ℕ). Contains (map (row_text m) replaced_rows) (codes "a v1.0.0")) declared there in
+    elim (member_cases (codes "m") (codes "a v1.0.0") (codes "a v1.0.0 => ./a" ∷ []) texts) [
+      | inl is ↦ (let size : 1 ≡ 8 = same_size (codes "m") (codes "a v1.0.0") is in omega (arith, size))
+      | inr later ↦ elim (member_cases (codes "a v1.0.0 => ./a") (codes "a v1.0.0") [] later) [
+        | inl is ↦ (let size : 15 ≡ 8 = same_size (codes "a v1.0.0 => ./a") (codes "a v1.0.0") is in omega (arith, size))
+        | inr none ↦ no_member (codes "a v1.0.0") none
+      ]
+    ]
+
+module _ (run : Given) (main : Main) (own : main.path ≡ codes "m") where
+  -- the row of a list that shows it replaced has a right side
+  not_bare : (rows : List Entry) (outcome : Outcome) → ShowsRows run main None None rows outcome
+      → outcome ≡ list_of_replaced → Contains rows (Of a_one, None) → ⊥
+  not_bare rows outcome shows is there =
+      let path = (run_has_names run main shows.valid.table shows.held shows.valid.read shows.valid.known).0 in
+      let text : list_text main.path rows ≡ list_text main.path replaced_rows =
+      ap (λ (o : Outcome). o.text) (sym shows.prints ∙ is) ∙ ap (λ (m : List ℕ). list_text m replaced_rows) (sym own) in
+      let lines : map (row_text main.path) rows ≡ map (row_text main.path) replaced_rows =
+      sym (list_has_lines main.path rows path (run_has_proper_rows run main shows.held rows shows.valid shows.are))
+      ∙ ap lines_of text ∙ list_has_lines main.path replaced_rows path replaced_proper in
+      short_or_long main.path own
+      (subst (λ (ls : List (List ℕ)). Contains ls (codes "a v1.0.0")) lines (in_mapped (row_text main.path) rows (Of a_one, None) there))
+
+bare : (its : Option Right) → replacement_suffix its ≡ [] → its ≡ None
+bare None none = refl
+bare (Some right) none = absurd (no_suffix (Some right) right none refl)
 
 -- ---- rows by their steps
 
@@ -184,6 +247,19 @@ row_is_lower sums one other both have (rows, others, all, first, second, third, 
     let low : is_gt (version_cmp (codes "v1.1.0") (codes "v1.0.0")) ≡ false =
     subst (λ (z : ModuleVersion). is_gt (version_cmp (codes "v1.1.0") z.1) ≡ false) (sym is) high in
     false≢true (sym low ∙ later_is_higher)
+
+pub row_loses_arrow : RowLosesArrow
+row_loses_arrow sums one other both have (rows, others, all, first, second, third, higher) =
+    let others_are : steps_of others ≡ FromMain ∷ [] =
+    rows_by_text _ other.main others (main_entry ∷ []) other.outcome second none_proper
+    (list_is other.main.path (main_entry ∷ []) other.outcome have.second_own have.second_is) in
+    let (its, row, none) = row_is _ both.main have.third_own all
+    (subst (λ (o : Outcome). ShowsRows (run_over both.file sums both.asked) both.main None None all o) have.third_is third) in
+    let plain : Contains all (Of a_one, None) = subst (λ (r : Option Right). Contains all (Of a_one, r)) (bare its none) row in
+    elim ((higher.each a_one None).0 plain) [
+      | inl here ↦ not_bare _ one.main have.first_own rows one.outcome first have.first_is here.0
+      | inr beyond ↦ no_step a_one (subst (λ (ss : List Step). Contains ss (Of a_one)) others_are (step_of others a_one None beyond.0))
+    ]
 
 pub row_is_new : RowIsNew
 row_is_new sums one other both have (rows, others, all, first, second, third, higher) =

@@ -7,12 +7,15 @@ use Rattle.gomod_words.specs.declared.usage.Command.TheVariants.{Graph, List as 
 use Rattle.gomod_laws.specs.Counterexamples.{fault_of_a, graph_of_a, list_of_a}
 use Rattle.gomod_laws.specs.MergeLaws.{PrintsIfBothDo, RunOf, ShowsEdgesOfBoth, ShowsFaultsOfBoth, ShowsHigherRows}
 
--- a list of the main module alone, a list that shows a v1.1.0, and a graph without an edge
+-- a list of the main module alone, lists that show a v1.1.0 and a replaced a v1.0.0, and a graph without an edge
 abbrev pub list_of_none : Outcome
 list_of_none = printed (codes "m\n")
 
 abbrev pub list_of_later : Outcome
 list_of_later = printed (codes "m\na v1.1.0\n")
+
+abbrev pub list_of_replaced : Outcome
+list_of_replaced = printed (codes "m\na v1.0.0 => ./a\n")
 
 abbrev pub graph_of_none : Outcome
 graph_of_none = printed []
@@ -43,10 +46,15 @@ EdgeIsNew = (sums : Option (List ℕ)) (one other both : RunOf Graph sums)
     → HaveOutcomes Graph sums one other both graph_of_none graph_of_none graph_of_a
     → ¬ (ShowsEdgesOfBoth sums one other both)
 
--- `MergedListHasHigherRows`, where the lower row of a path is listed,
+-- `MergedListHasHigherRows`, where the lower row of a path is listed, where a row lost its right side,
 abbrev pub RowIsLower : Type 0
 RowIsLower = (sums : Option (List ℕ)) (one other both : RunOf (Rows None None) sums)
     → HaveOutcomes (Rows None None) sums one other both list_of_a list_of_later list_of_a
+    → ¬ (ShowsHigherRows sums one other both)
+
+abbrev pub RowLosesArrow : Type 0
+RowLosesArrow = (sums : Option (List ℕ)) (one other both : RunOf (Rows None None) sums)
+    → HaveOutcomes (Rows None None) sums one other both list_of_replaced list_of_none list_of_a
     → ¬ (ShowsHigherRows sums one other both)
 
 -- and where a row is of neither

@@ -42,7 +42,7 @@ pub record IsMerged (one other both : Main) : Type 0 where
   pub second : DifferInRequirements other both
   pub requires : (x : ModuleVersion) → IsTop both x ↔ (IsTop one x ⊎ IsTop other x)
 
--- The third run is over the merged main file, and its store answers no file differently.
+-- The third run is over the merged main file. Its store answers no file differently than the stores of the others.
 pub record AreMerged (command : Command) (sums : Option (List ℕ)) (one other both : RunOf command sums) : Type 0 where
   pub merged : IsMerged one.main other.main both.main
   pub first_alike : AnswerAlike one.asked both.asked
@@ -73,7 +73,7 @@ MergedPrintsIfBothDo = (command : Command) (sums : Option (List ℕ)) (one other
 
 -- ---- the graph
 
--- The three runs of `graph` print edges. Those of the third are those of the first and those of the second.
+-- The three runs of `graph` print edges. The third prints those of the first, those of the second, and no others.
 abbrev pub ShowsEdgesOfBoth : (sums : Option (List ℕ)) (one other both : RunOf Graph sums) → Type 0
 ShowsEdgesOfBoth sums one other both = (edges : List Edge) × (others : List Edge) × (all : List Edge)
     × ShowsEdges (run_over one.file sums one.asked) one.main edges one.outcome
@@ -88,23 +88,22 @@ MergedGraphIsUnion = (sums : Option (List ℕ)) (one other both : RunOf Graph su
 
 -- ---- the list
 
--- no row of its path has a higher version
+-- no row of the module's path has a higher version
 abbrev pub NoneIsHigher : List Entry → ModuleVersion → Type 0
 NoneIsHigher rows x = (y : ModuleVersion) (right : Option Right) → Contains rows (Of y, right) → y.0 ≡ x.0
     → is_gt (version_cmp y.1 x.1) ≡ false
 
 -- What the rows of a merged list are, by the rows of the two lists.
 pub record AreHigherRows (rows others all : List Entry) : Type 0 where
-  -- a row of it is a row of one of the two, and the other has no row of its path at a higher version; and each such row
-  -- is one of it
+  -- it has a row exactly if that is a row of one of the two, and the other has no row of its path at a higher version
   pub each : (x : ModuleVersion) (right : Option Right) → Contains all (Of x, right)
       ↔ ((Contains rows (Of x, right) × NoneIsHigher others x) ⊎ (Contains others (Of x, right) × NoneIsHigher rows x))
   -- so each row of the two has a row of its path in it, at a version that is not below
   pub first : AreNotLower rows all
   pub second : AreNotLower others all
 
--- The three runs of `list` print rows. For each path that has a row in the first or the second, the third has the row
--- with the higher version, and no other.
+-- The three runs of `list` print rows. For each path that has a row in the first or in the second, the third has the
+-- row with the higher version. It has no other rows but that of the main module.
 abbrev pub ShowsHigherRows : (sums : Option (List ℕ)) (one other both : RunOf (Rows None None) sums) → Type 0
 ShowsHigherRows sums one other both = (rows : List Entry) × (others : List Entry) × (all : List Entry)
     × ShowsRows (run_over one.file sums one.asked) one.main None None rows one.outcome
@@ -133,7 +132,7 @@ pub record ShowsFaults (run : Given) (main : Main) (faults : List Fault) (outcom
   pub are : AreFaults main (readings_by main held) faults
   pub reports : ReportsThese faults outcome
 
--- The faults of the third run are those of the first and those of the second.
+-- The faults of the third run are those of the first, those of the second, and no others.
 abbrev pub ShowsFaultsOfBoth : (command : Command) (sums : Option (List ℕ)) (one other both : RunOf command sums)
     → Type 0
 ShowsFaultsOfBoth command sums one other both = (faults : List Fault) × (others : List Fault) × (all : List Fault)

@@ -1,6 +1,6 @@
 //! What the law on merges concludes, tried on outputs of `list` and `graph` and on reports.
 
-ghost use Rattle.gomod_laws.specs.CounterMerges.{EdgeIsLost, EdgeIsNew, FaultIsLost, FaultIsNew, OnlyOnePrints, RowIsLower, RowIsNew};
+ghost use Rattle.gomod_laws.specs.CounterMerges.{EdgeIsLost, EdgeIsNew, FaultIsLost, FaultIsNew, OnlyOnePrints, RowIsLower, RowIsNew, RowLosesArrow};
 
 /// What the law on merges concludes is false of outputs that contradict it.
 pub fn a_merge_can_contradict()
@@ -9,8 +9,10 @@ pub fn a_merge_can_contradict()
     // that the merged graph has the edges of both, if it lacks one, or has another one
     ensures lost_edge { EdgeIsLost }
     ensures new_edge { EdgeIsNew }
-    // that the merged list has the higher rows, if it has the lower one of a path, or one of another path
+    // that the merged list has the higher rows, if it has the lower one of a path, one without its right side, or one
+    // of another path
     ensures lower_row { RowIsLower }
+    ensures lost_arrow { RowLosesArrow }
     ensures new_row { RowIsNew }
     // that the merged report has the faults of both, if it lacks one, or has another one
     ensures lost_fault { FaultIsLost }
