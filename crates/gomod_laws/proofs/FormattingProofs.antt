@@ -142,7 +142,7 @@ no_refusal number edit rest none = by_fit (is_fit edit) refl none
     by_fit false is e = absurd cc
 
 -- operations of which none is refused
-in_turn_sound : (number : ℕ) (texts : List (List ℕ)) (lines : List (Line Placed)) → AllByRecursion IsUtf8 texts → refusals_from number texts ≡ [] → AreSoundLines lines → AreSoundLines (edited_in_turn (filter_map edit_in texts) lines)
+pub in_turn_sound : (number : ℕ) (texts : List (List ℕ)) (lines : List (Line Placed)) → AllByRecursion IsUtf8 texts → refusals_from number texts ≡ [] → AreSoundLines lines → AreSoundLines (edited_in_turn (filter_map edit_in texts) lines)
 in_turn_sound number [] lines utf8 none are = are
 in_turn_sound number (text ∷ texts) lines utf8 none are = by_edit (edit_in text) refl none (λ ls rest now. in_turn_sound (number + 1) texts ls utf8.1 rest now)
   where

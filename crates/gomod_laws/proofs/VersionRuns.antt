@@ -12,7 +12,8 @@ use Rattle.gm_file.specs.Fields.{Dependency}
 use Rattle.gm_file_retract.specs.Shown.{is_retracted, shown_of}
 use Rattle.gm_store.specs.Asked.{Name, Reply, absent, answer_in, bytes, list_file, mod_file, too_long}
 use Rattle.gm_store.specs.Latest.{IsLatest}
-use Rattle.gm_store.specs.Listed.{AreListed}
+use Rattle.std.specs.List.Sorted.{IsStrictlySortedBy}
+use Rattle.gm_store.specs.Listed.{AreListed, IsListed}
 use Rattle.gm_graph_cache.specs.declared.class.Class.{Class}
 use Rattle.gm_graph_cache.specs.Reading.{IsFileReading}
 use Rattle.gm_graph_listing.specs.Outcomes.{Outcome, printed, refused}
@@ -21,7 +22,7 @@ use Rattle.gomod_run.specs.Runs.{IsRunOutcome, Needs, StatesOutcome}
 use Rattle.gomod_run.specs.Versions.{AnswersByName, IsListedOutcome, IsOutcomeByList, IsVersionsOutcome, shown_by, versions_line}
 use Rattle.gomod_run.proofs.Uniqueness.{listed_once}
 use Rattle.gomod_laws.specs.Runs.{HasOutcome, HasPrinted}
-use Rattle.gomod_laws.specs.VersionLaws.{AreUnretracted, AreVersionsOf, PrintsVersionsOfPath, RetractedAreLeftOut, Retracts}
+use Rattle.gomod_laws.specs.VersionLaws.{AreUnretracted, PrintsVersionsOfPath, RetractedAreLeftOut, Retracts}
 
 abbrev Pairs : Type 0
 Pairs = List (Name × Reply)
@@ -89,31 +90,34 @@ shown_printed path all asked versions outcome prints (inr (latest, reply, some, 
 
 -- ---- each version fits the path
 
-listed_are_of : (path list : List ℕ) (versions : List (List ℕ)) → AreListed path list versions → AreVersionsOf path versions
-listed_are_of path list versions are = record {
-  ascending = are.ascending;
-  listable = λ version there. ((are.members version).0 there).listable;
-}
-
 kept_member : {X : Type 0} (p : X → Bool) (xs : List X) (x : X) → Contains (filter p xs) x → Contains xs x
 kept_member p xs x there = All-contains (Contains xs) (filter p xs) x (All-filter p (Contains xs) xs (All-contains_itself xs)) there
 
-shown_are_of : (path : List ℕ) (intervals : List Pair) (versions : List (List ℕ)) → AreVersionsOf path versions → AreVersionsOf path (shown_of intervals versions)
-shown_are_of path intervals versions are = record {
+-- versions that ascend, each of which the list names
+record AreNamed (path list : List ℕ) (versions : List (List ℕ)) : Type 0 where
+  pub ascending : IsStrictlySortedBy version_cmp versions
+  pub each : (version : List ℕ) → Contains versions version → IsListed path list version
+
+listed_are_named : (path list : List ℕ) (versions : List (List ℕ)) → AreListed path list versions → AreNamed path list versions
+listed_are_named path list versions are = record { ascending = are.ascending; each = λ version there. (are.members version).0 there }
+
+unretracted_are_named : (path list : List ℕ) (intervals : List Pair) (versions : List (List ℕ)) → AreNamed path list versions → AreNamed path list (shown_of intervals versions)
+unretracted_are_named path list intervals versions are = record {
   ascending = IsStrictlySortedBy-filter version_cmp (λ version. not (is_retracted intervals version)) versions are.ascending;
-  listable = λ version there. are.listable version (kept_member (λ one. not (is_retracted intervals one)) versions version there);
+  each = λ version there. are.each version (kept_member (λ one. not (is_retracted intervals one)) versions version there);
 }
 
-are_of : (path : List ℕ) (all : Bool) (asked : Pairs) (versions shown : List (List ℕ)) → AreVersionsOf path versions → AreShown path all asked versions shown → AreVersionsOf path shown
-are_of path all asked versions shown are (inl (every, is)) = subst (AreVersionsOf path) (sym is) are
-are_of path all asked versions shown are (inr (some, latest, intervals, greatest, says, is)) =
-    subst (AreVersionsOf path) (sym is) (shown_are_of path intervals versions are)
+are_named : (path list : List ℕ) (all : Bool) (asked : Pairs) (versions shown : List (List ℕ)) → AreNamed path list versions → AreShown path all asked versions shown → AreNamed path list shown
+are_named path list all asked versions shown are (inl (every, is)) = subst (AreNamed path list) (sym is) are
+are_named path list all asked versions shown are (inr (some, latest, intervals, greatest, says, is)) =
+    subst (AreNamed path list) (sym is) (unretracted_are_named path list intervals versions are)
 
 pub prints_versions_of_path : PrintsVersionsOfPath
 prints_versions_of_path path all main sums asked outcome run prints =
     let (versions, is, follows) = list_answered path all (answer_in asked) outcome prints (by_answers path all main sums asked outcome run) in
     let (shown, are, says) = shown_printed path all asked versions outcome prints follows in
-    (shown, are_of path all asked versions shown (listed_are_of path is.list versions is.listed) are, says)
+    let named = are_named path is.list all asked versions shown (listed_are_named path is.list versions is.listed) are in
+    (shown, record { list = is.list; answered = is.answered; ascending = named.ascending; each = named.each; prints = says })
 
 -- ---- with `--retracted` and without
 
@@ -145,10 +149,12 @@ pub retracted_are_left_out : RetractedAreLeftOut
 retracted_are_left_out path main sums asked told one other run prints also alike =
     let (versions, is, follows) = list_answered path false (answer_in asked) one prints (by_answers path false main sums asked one run) in
     let (shown, are, says) = shown_printed path false asked versions one prints follows in
-    let same : (reply : Reply) → answer_in told (list_file path) ≡ Some reply → reply ≡ bytes is.list = λ reply answered. sym (alike (list_file path) (bytes is.list) reply is.answered answered) in (
-      versions,
-      shown,
-      says,
-      all_printed path (answer_in told) is.list versions other is.fetchable is.listed same (by_answers path true main sums told other also),
-      are_unretracted path asked versions shown are,
-    )
+    let same : (reply : Reply) → answer_in told (list_file path) ≡ Some reply → reply ≡ bytes is.list = λ reply answered. sym (alike (list_file path) (bytes is.list) reply is.answered answered) in
+    record {
+      versions = versions;
+      shown = shown;
+      listed = record { list = is.list; answered = is.answered; are = is.listed };
+      unretracted = are_unretracted path asked versions shown are;
+      one_prints = says;
+      other_prints = all_printed path (answer_in told) is.list versions other is.fetchable is.listed same (by_answers path true main sums told other also);
+    }

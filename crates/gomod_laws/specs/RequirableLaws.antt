@@ -1,5 +1,5 @@
 -- What is listed can be required: Go Modules Reference, "Minimal version selection" and "Module graph pruning".
-use Rattle.std.specs.Prelude.{◌≡◌, ◌↔◌, ◌⊎◌, ℕ, false, List, [], Option, Some, None, Contains, String}
+use Rattle.std.specs.Prelude.{◌≡◌, ◌↔◌, ◌⊎◌, ◌≤◌, ℕ, false, List, [], Option, Some, None, Contains, String, length}
 use Rattle.std.specs.Global.{Global, Vec}
 use Rattle.gm_file.specs.Directives.{Right}
 use Rattle.gm_file_edit.specs.Edits.{SetRequire, edit_in}
@@ -11,10 +11,11 @@ use Rattle.gm_graph_select.specs.declared.step.Step.TheVariants.{Of}
 use Rattle.gm_graph_select.specs.Graph.{edge}
 use Rattle.gm_graph_select.specs.BuildList.{Entry}
 use Rattle.gm_graph_listing.specs.Laws.{AnswerAlike}
-use Rattle.gm_graph_listing.specs.Outcomes.{Outcome, printed}
+use Rattle.gm_graph_listing.specs.Outcomes.{Outcome, longest}
 use Rattle.gomod_words.specs.Usage.{texts_in}
-use Rattle.gomod_words.specs.declared.usage.Command.TheVariants.{Edit, List as Rows}
+use Rattle.gomod_words.specs.declared.usage.Command.TheVariants.{List as Rows}
 use Rattle.gomod_laws.specs.Runs.{HasOutcome, HasPrinted}
+use Rattle.gomod_laws.specs.FormattingLaws.{IsEdited}
 use Rattle.gomod_laws.specs.AdditionLaws.{AreTwoRuns}
 use Rattle.gomod_laws.specs.Shown.{ShowsEdges, ShowsRows, run_over}
 
@@ -54,25 +55,29 @@ StandsFirst edges x = (to : ModuleVersion) × Contains edges (edge (Of x) to)
 
 -- ---- the laws
 
--- Where the main file is not pruned and `graph` prints, `list` prints, too, and it prints the same where modules of the
--- graph are also required: each of them stands second in a line.
+-- the first prints, and the next comes to the same
+abbrev pub PrintsAndStays : Outcome → Outcome → Type 0
+PrintsAndStays one next = HasPrinted one × (next ≡ one)
+
+-- If the main file is not pruned and `graph` prints, `list` prints, too, and it prints the same if modules of the graph
+-- are also required: each of them stands second in a line.
 abbrev pub VerticesCanBeRequired : Type 0
 VerticesCanBeRequired = (file more : List ℕ) (sums : Option (List ℕ)) (first second : Main) (edges : List Edge)
     (seen : List (Name × Reply)) (graph one next : Outcome)
     (runs : AreTwoRuns (Rows None None) file more sums first second one next) → AnswerAlike seen runs.asked
     → ShowsEdges (run_over file sums seen) first edges graph → is_pruned_by first.go ≡ false
-    → RequiresAlso first second (StandsSecond edges) → HasPrinted one × (next ≡ one)
+    → RequiresAlso first second (StandsSecond edges) → PrintsAndStays one next
 
--- So it does, whether the main file is pruned or not, where modules that stand first in a line are also required.
+-- So it does, whether the main file is pruned or not, if modules that stand first in a line are also required.
 abbrev pub OpenedCanBeRequired : Type 0
 OpenedCanBeRequired = (file more : List ℕ) (sums : Option (List ℕ)) (first second : Main) (edges : List Edge)
     (seen : List (Name × Reply)) (graph one next : Outcome)
     (runs : AreTwoRuns (Rows None None) file more sums first second one next) → AnswerAlike seen runs.asked
     → ShowsEdges (run_over file sums seen) first edges graph → RequiresAlso first second (StandsFirst edges)
-    → HasPrinted one × (next ≡ one)
+    → PrintsAndStays one next
 
--- Where the main file is not pruned and `list` prints, it prints the same where each row is required, and besides the
--- rows any of what was required before.
+-- If the main file is not pruned and `list` prints, it prints the same if each row is required, and besides the rows
+-- any of what was required before.
 abbrev pub RowsCanBeRequired : Type 0
 RowsCanBeRequired = (file more : List ℕ) (sums : Option (List ℕ)) (first second : Main) (rows : List Entry)
     (one next : Outcome) (runs : AreTwoRuns (Rows None None) file more sums first second one next)
@@ -89,12 +94,12 @@ pub record RequireTheRows (rows : List Entry) (operations : List (List ℕ)) : T
   pub each_row : (x : ModuleVersion) → HasRow rows x
       → (text : List ℕ) × Contains operations text × (edit_in text ≡ Some (SetRequire x))
 
--- Where the main file is not pruned and `list` prints, it prints the same over what `edit` prints with `require=` of
--- each row, if it prints.
+-- If the main file is not pruned and `list` prints, it prints the same over what `edit` prints with `require=` of each
+-- row, if that has at most 16,777,216 bytes. More can't be read.
 abbrev pub EditedRowsStay : Type 0
 EditedRowsStay = (operations : Vec (String Global)) (file text : List ℕ) (sums : Option (List ℕ)) (main : Main)
     (rows : List Entry) (asked later : List (Name × Reply)) (one next : Outcome) → AnswerAlike asked later
     → ShowsRows (run_over file sums asked) main None None rows one → is_pruned_by main.go ≡ false
-    → RequireTheRows rows (texts_in operations) → HasOutcome (Edit operations) file None [] (printed text)
+    → RequireTheRows rows (texts_in operations) → IsEdited operations file text → length text ≤ longest
     → HasOutcome (Rows None None) file sums asked one → HasOutcome (Rows None None) text sums later next
-    → HasPrinted next → next ≡ one
+    → next ≡ one

@@ -34,14 +34,21 @@ pub record IsExplained (main : List ℕ) (rows : List Entry) (edges : List (List
   -- for another path: nothing, and it is reported
   pub unlisted : ¬ (HasEntryFor main rows path) → chain ≡ refused (not_listed_line path)
 
--- Where `list` prints, all rows or a part of them, `graph` prints too, and by its lines `chain` explains each row.
+-- `list` shows these rows of its run, all or a part of them, `graph` shows these edges of its run, and `chain` over a
+-- store that answers no file differently explains each row by them.
+pub record ExplainsEachRow (file : List ℕ) (sums : Option (List ℕ)) (asked others : List (Name × Reply)) (main : Main)
+    (after : Option (List ℕ)) (limit : Option ℕ) (list graph : Outcome) : Type 0 where
+  pub rows : List Entry
+  pub edges : List Edge
+  pub shows_rows : ShowsRows (run_over file sums asked) main after limit rows list
+  pub shows_edges : ShowsEdges (run_over file sums others) main edges graph
+  pub explains : (path : List ℕ) (third : List (Name × Reply)) (chain : Outcome) → AnswerAlike asked third
+      → HasOutcome (Chain path) file sums third chain
+      → IsExplained main.path rows (map (edge_text main.path) edges) path chain
+
+-- If `list` prints, all rows or a part of them, `graph` prints too, and by its lines `chain` explains each row.
 abbrev pub EachRowIsExplained : Type 0
 EachRowIsExplained = (after : Option (List ℕ)) (limit : Option ℕ) (file : List ℕ) (sums : Option (List ℕ))
     (asked others : List (Name × Reply)) (list graph : Outcome) → AnswerAlike asked others
     → HasOutcome (Rows after limit) file sums asked list → HasOutcome Graph file sums others graph → HasPrinted list
-    → (main : Main) × (rows : List Entry) × (edges : List Edge)
-    × ShowsRows (run_over file sums asked) main after limit rows list
-    × ShowsEdges (run_over file sums others) main edges graph
-    × ((path : List ℕ) (third : List (Name × Reply)) (chain : Outcome) → AnswerAlike asked third
-    → HasOutcome (Chain path) file sums third chain
-    → IsExplained main.path rows (map (edge_text main.path) edges) path chain)
+    → (main : Main) × ExplainsEachRow file sums asked others main after limit list graph

@@ -1,13 +1,13 @@
 -- Laws of `versions`, over the answers of a store: Go Modules Reference, GOPROXY protocol and retract directive.
 use Rattle.std.specs.Prelude.{◌≡◌, ◌⊎◌, ℕ, Bool, List, [], Option, None, Some, Ok, Contains, false, true}
 use Rattle.std.specs.List.Sorted.{IsStrictlySortedBy}
-use Rattle.gm_name.specs.Version.{version_cmp}
+use Rattle.gm_name.specs.Version.{IsVersion, version_cmp}
 use Rattle.gm_file.specs.Directives.{Pair}
 use Rattle.gm_file.specs.Fields.{Dependency}
 use Rattle.gm_file_retract.specs.Shown.{shown_of}
-use Rattle.gm_store.specs.Asked.{Name, Reply, answer_in, mod_file}
+use Rattle.gm_store.specs.Asked.{Name, Reply, answer_in, bytes, list_file, mod_file}
 use Rattle.gm_store.specs.Latest.{IsLatest}
-use Rattle.gm_store.specs.Listed.{IsListable}
+use Rattle.gm_store.specs.Listed.{AreListed, IsListed}
 use Rattle.gm_graph_cache.specs.Reading.{IsFileReading}
 use Rattle.gm_graph_listing.specs.Laws.{AnswerAlike}
 use Rattle.gm_graph_listing.specs.Outcomes.{Outcome, printed}
@@ -15,17 +15,36 @@ use Rattle.gomod_words.specs.declared.usage.Command.TheVariants.{Versions}
 use Rattle.gomod_run.specs.Versions.{versions_line}
 use Rattle.gomod_laws.specs.Runs.{HasOutcome, HasPrinted}
 
--- Each of the versions is canonical, fits the path and is no pseudo-version. They ascend, so each stands once.
-pub record AreVersionsOf (path : List ℕ) (versions : List (List ℕ)) : Type 0 where
+-- The store answered for the list file of the path, and these are the versions that the list names: those that are
+-- canonical, fit the path and are no pseudo-versions, each once, in ascending order.
+pub record HasList (asked : List (Name × Reply)) (path : List ℕ) (versions : List (List ℕ)) : Type 0 where
+  pub list : List ℕ
+  pub answered : answer_in asked (list_file path) ≡ Some (bytes list)
+  pub are : AreListed path list versions
+
+-- What is printed are the path and these versions of it. They ascend, so each stands once. The list that the store
+-- answered names each, and each is canonical, fits the path and is no pseudo-version.
+pub record ShowsVersions (asked : List (Name × Reply)) (path : List ℕ) (versions : List (List ℕ))
+    (outcome : Outcome) : Type 0 where
+  pub list : List ℕ
+  pub answered : answer_in asked (list_file path) ≡ Some (bytes list)
   pub ascending : IsStrictlySortedBy version_cmp versions
-  pub listable : (version : List ℕ) → Contains versions version → IsListable path version
+  pub each : (version : List ℕ) → Contains versions version → IsListed path list version
+  pub prints : outcome ≡ printed (versions_line path versions)
 
 -- What `versions` prints, with `--retracted` or without, are the path and such versions of it.
 abbrev pub PrintsVersionsOfPath : Type 0
 PrintsVersionsOfPath = (path : List ℕ) (all : Bool) (main : List ℕ) (sums : Option (List ℕ))
     (asked : List (Name × Reply)) (outcome : Outcome)
     → HasOutcome (Versions path all) main sums asked outcome → HasPrinted outcome
-    → (versions : List (List ℕ)) × AreVersionsOf path versions × (outcome ≡ printed (versions_line path versions))
+    → (versions : List (List ℕ)) × ShowsVersions asked path versions outcome
+
+-- The line that is printed says which versions they are.
+abbrev pub LineSaysVersions : Type 0
+LineSaysVersions = (path : List ℕ) (versions others : List (List ℕ))
+    → ((version : List ℕ) → Contains versions version → IsVersion version)
+    → ((version : List ℕ) → Contains others version → IsVersion version)
+    → versions_line path versions ≡ versions_line path others → versions ≡ others
 
 -- The store answered with a go.mod of the version that can be read, and that retracts these intervals.
 abbrev pub Retracts : List (Name × Reply) → List ℕ → List ℕ → List Pair → Type 0
@@ -45,14 +64,21 @@ AreUnretracted asked path versions shown =
     × Retracts asked path latest intervals
     × (shown ≡ shown_of intervals versions))
 
--- Where `versions` prints without `--retracted`, it prints with it, over a store that answers no file differently.
--- What it prints without is what it prints with it, less exactly the retracted versions.
+-- The other outcome shows all versions that the store's list names. The one shows those of them that the latest one's
+-- go.mod does not retract.
+pub record LeavesOutRetracted (asked : List (Name × Reply)) (path : List ℕ) (one other : Outcome) : Type 0 where
+  pub versions : List (List ℕ)
+  pub shown : List (List ℕ)
+  pub listed : HasList asked path versions
+  pub unretracted : AreUnretracted asked path versions shown
+  pub one_prints : one ≡ printed (versions_line path shown)
+  pub other_prints : other ≡ printed (versions_line path versions)
+
+-- If `versions` prints without `--retracted`, it prints with it, over a store that answers no file differently. With it
+-- it prints all listed versions, and without it those of them that are not retracted.
 abbrev pub RetractedAreLeftOut : Type 0
 RetractedAreLeftOut = (path main : List ℕ) (sums : Option (List ℕ)) (asked told : List (Name × Reply))
     (one other : Outcome)
     → HasOutcome (Versions path false) main sums asked one → HasPrinted one
     → HasOutcome (Versions path true) main sums told other → AnswerAlike asked told
-    → (versions shown : List (List ℕ))
-    × (one ≡ printed (versions_line path shown))
-    × (other ≡ printed (versions_line path versions))
-    × AreUnretracted asked path versions shown
+    → LeavesOutRetracted asked path one other

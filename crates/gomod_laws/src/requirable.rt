@@ -2,7 +2,7 @@
 
 ghost use Rattle.gomod_laws.specs.RequirableLaws.{EditedRowsStay, OpenedCanBeRequired, RowsCanBeRequired, VerticesCanBeRequired};
 
-/// What is listed can be required. Let two main files say the same, but for what they require. Where `list` prints over
+/// What is listed can be required. Let two main files say the same, but for what they require. If `list` prints over
 /// the first, it prints the same over the second.
 pub fn the_listed_can_be_required()
     // if the second requires what the first does, and some modules of its graph; for go versions below 1.17
@@ -13,8 +13,9 @@ pub fn the_listed_can_be_required()
     ensures rows { RowsCanBeRequired }
 {}
 
-/// The rows of the list can be required by an edit. For go versions below 1.17 `list` prints the same over what `edit`
-/// prints with `require=` of each row. Of one row alone this isn't said: what the version before it required can go.
+/// The rows of the list can be required by an edit. If the go version is below 1.17, `list` prints the same over what
+/// `edit` prints with `require=` of each row, as long as that text is short enough to be read. The law does not speak
+/// of `require=` of one row alone: what an older version required goes with its line.
 pub fn each_row_can_be_required()
     ensures { EditedRowsStay }
 {}

@@ -1,0 +1,61 @@
+-- The line that `versions` prints says which versions it shows.
+use Rattle.std.proofs.Common.{◌≡◌, ◌∙◌, ◌∷◌, ◌++◌, ℕ, List, [], Contains, ap, ap₂, append_assoc, append-nil, arith, codes, inl, inr, refl, sym}
+use Rattle.std.specs.List.{join_with_byte}
+use Rattle.std.proofs.lemmas.List.{append_cancel_left}
+use Rattle.gm_name.specs.Version.{IsVersion}
+use Rattle.gm_graph_select.proofs.Ascending.{member_head, member_tail}
+use Rattle.gm_graph_listing.proofs.ListLines.{version_has_no_blank, version_has_no_feed}
+use Rattle.gomod_run.specs.Versions.{versions_line}
+use Rattle.gomod_laws.specs.VersionLaws.{LineSaysVersions}
+use Rattle.gomod_laws.proofs.PrintedRow.{IsStop, IsWhole, cut_whole}
+
+-- the versions, each after a blank
+abbrev spaced : List (List ℕ) → List ℕ
+spaced [] = []
+spaced (version ∷ versions) = 32 ∷ (version ++ spaced versions)
+
+joined : (path : List ℕ) (versions : List (List ℕ)) → join_with_byte 32 (path ∷ versions) ≡ path ++ spaced versions
+joined path [] = sym (append-nil path)
+joined path (version ∷ versions) = ap (λ (text : List ℕ). path ++ (32 ∷ text)) (joined version versions)
+
+-- they end where the line ends
+abbrev ended : List (List ℕ) → List ℕ
+ended versions = spaced versions ++ (10 ∷ [])
+
+line_is : (path : List ℕ) (versions : List (List ℕ)) → versions_line path versions ≡ path ++ ended versions
+line_is path versions = ap (λ (text : List ℕ). text ++ codes "\n") (joined path versions) ∙ append_assoc path (spaced versions) (10 ∷ [])
+
+stops : (versions : List (List ℕ)) → IsStop (ended versions)
+stops [] = (10, [], refl, inr refl)
+stops (version ∷ versions) = (32, (version ++ spaced versions) ++ (10 ∷ []), refl, inl refl)
+
+whole : (version : List ℕ) → IsVersion version → IsWhole version
+whole version is = (version_has_no_blank version is, version_has_no_feed version is)
+
+first_byte : (a b : ℕ) (x y : List ℕ) → a ∷ x ≡ b ∷ y → a ≡ b
+first_byte a b x y e = cc e
+
+behind : (a b : ℕ) (x y : List ℕ) → a ∷ x ≡ b ∷ y → x ≡ y
+behind a b x y e = cc e
+
+abbrev AreVersions : List (List ℕ) → Type 0
+AreVersions versions = (version : List ℕ) → Contains versions version → IsVersion version
+
+same_versions : (versions others : List (List ℕ)) → AreVersions versions → AreVersions others → ended versions ≡ ended others → versions ≡ others
+same_versions [] [] p q e = refl
+same_versions [] (other ∷ others) p q e = let wrong : 10 ≡ 32 = first_byte 10 32 _ _ e in absurd (omega (arith, wrong))
+same_versions (version ∷ versions) [] p q e = let wrong : 32 ≡ 10 = first_byte 32 10 _ _ e in absurd (omega (arith, wrong))
+same_versions (version ∷ versions) (other ∷ others) p q e =
+    let inner : version ++ ended versions ≡ other ++ ended others =
+    sym (append_assoc version (spaced versions) (10 ∷ [])) ∙ behind 32 32 _ _ e ∙ append_assoc other (spaced others) (10 ∷ []) in
+    let same : version ≡ other = cut_whole version other (ended versions) (ended others)
+    (whole version (p version (member_head version versions))) (whole other (q other (member_head other others))) (stops versions) (stops others) inner in
+    let rest : ended versions ≡ ended others =
+    append_cancel_left other (ended versions) (ended others) (ap (λ (v : List ℕ). v ++ ended versions) (sym same) ∙ inner) in
+    ap₂ (λ (v : List ℕ) (vs : List (List ℕ)). v ∷ vs) same
+    (same_versions versions others (λ v there. p v (member_tail version v versions there)) (λ v there. q v (member_tail other v others there)) rest)
+
+pub line_says_versions : LineSaysVersions
+line_says_versions path versions others p q e =
+    same_versions versions others p q
+    (append_cancel_left path (ended versions) (ended others) (sym (line_is path versions) ∙ e ∙ line_is path others))
