@@ -9,7 +9,7 @@ use Rattle.gm_graph_select.specs.declared.step.Edge.{Edge}
 use Rattle.gm_graph_select.specs.declared.step.Step.TheVariants.{Of}
 use Rattle.gm_graph_select.specs.BuildList.{Entry}
 use Rattle.gm_graph_listing.specs.Laws.{AnswerAlike}
-use Rattle.gm_graph_listing.specs.Outcomes.{IsMainFile, Outcome}
+use Rattle.gm_graph_listing.specs.Outcomes.{Given, IsMainFile, Outcome}
 use Rattle.gomod_words.specs.declared.usage.Command.{Command}
 use Rattle.gomod_words.specs.declared.usage.Command.TheVariants.{Graph, List as Rows}
 use Rattle.gomod_laws.specs.Runs.{HasOutcome, HasPrinted}
@@ -46,19 +46,25 @@ AreNotLower rows others = (x : ModuleVersion) (right : Option Right) → Contain
     → (y : ModuleVersion) × (its : Option Right) × Contains others (Of y, its) × (y.0 ≡ x.0)
     × (is_gt (version_cmp x.1 y.1) ≡ false)
 
--- Where `list` prints over a main file that says more, it prints over the other, and lowers no row of it.
+-- `list` shows these rows of the one run, and none of them is lower in what it shows of the next.
+abbrev pub LowersNothing : Given → Given → Main → Main → Outcome → Outcome → Type 0
+LowersNothing run later first second one next = (rows : List Entry) × (others : List Entry)
+    × ShowsRows run first None None rows one × ShowsRows later second None None others next × AreNotLower rows others
+
+-- If `list` prints over a main file that says more, it prints over the other, and lowers no row of it.
 abbrev pub ListLowersNothing : Type 0
 ListLowersNothing = (file more : List ℕ) (sums : Option (List ℕ)) (first second : Main) (one next : Outcome)
     (runs : AreTwoRuns (Rows None None) file more sums first second one next) → SaysMore first second → HasPrinted next
-    → (rows : List Entry) × (others : List Entry)
-    × ShowsRows (run_over file sums runs.asked) first None None rows one
-    × ShowsRows (run_over more sums runs.later) second None None others next × AreNotLower rows others
+    → LowersNothing (run_over file sums runs.asked) (run_over more sums runs.later) first second one next
 
--- Where `graph` prints over a main file that says more, it prints over the other, and each line of that is one of it.
+-- `graph` shows these edges of the one run, and each of them in what it shows of the next.
+abbrev pub KeepsLines : Given → Given → Main → Main → Outcome → Outcome → Type 0
+KeepsLines run later first second one next = (edges : List Edge) × (others : List Edge)
+    × ShowsEdges run first edges one × ShowsEdges later second others next
+    × ((e : Edge) → Contains edges e → Contains others e)
+
+-- If `graph` prints over a main file that says more, it prints over the other, and each line of that is one of it.
 abbrev pub GraphKeepsLines : Type 0
 GraphKeepsLines = (file more : List ℕ) (sums : Option (List ℕ)) (first second : Main) (one next : Outcome)
     (runs : AreTwoRuns Graph file more sums first second one next) → SaysMore first second → HasPrinted next
-    → (edges : List Edge) × (others : List Edge)
-    × ShowsEdges (run_over file sums runs.asked) first edges one
-    × ShowsEdges (run_over more sums runs.later) second others next
-    × ((e : Edge) → Contains edges e → Contains others e)
+    → KeepsLines (run_over file sums runs.asked) (run_over more sums runs.later) first second one next

@@ -37,9 +37,13 @@ pub record RefuseALater (number : ℕ) (first second : Outcome) : Type 0 where
   pub refused_once : first ≡ refused (edit_line refusal)
   pub refused_twice : second ≡ refused (edit_line (refusal.0 + 1, refusal.1))
 
+-- Both outcomes are the same, or both refuse a later operation.
+abbrev pub AreOneOrRefuseALater : ℕ → Outcome → Outcome → Type 0
+AreOneOrRefuseALater number first second = (first ≡ second) ⊎ RefuseALater number first second
+
 -- Anywhere, it does the same with both, or refuses one of the operations after that one.
 abbrev pub TwiceIsOnceOrRefused : Type 0
 TwiceIsOnceOrRefused = (once twice : Vec (String Global)) (file : List ℕ) (first second : Outcome)
     (repeats : RepeatsOne once twice)
     → HasOutcome (Edit once) file None [] first → HasOutcome (Edit twice) file None [] second
-    → (first ≡ second) ⊎ RefuseALater (length repeats.earlier + 1) first second
+    → AreOneOrRefuseALater (length repeats.earlier + 1) first second

@@ -33,7 +33,11 @@ pub record HasOneMore (folders others : FoldersInMemory) (marks more : List Mark
   pub marks_are : more ≡ marks ++ mark ∷ []
   pub beside : others.beside ≡ folders.beside
 
--- Where a command prints, it prints the same with one more folder put last, and asks for the same files.
+-- A store was asked for the same files in both runs, in whatever order.
+abbrev pub AskForTheSame : List (Name × Reply) → List (Name × Reply) → Type 0
+AskForTheSame asked told = (name : Name) → Contains (names_in told) name ↔ Contains (names_in asked) name
+
+-- If a command prints, it prints the same with one more folder put last, and asks for the same files.
 abbrev pub MoreFoldersChangeNothing : Type 0
 MoreFoldersChangeNothing = (command : Command) (main : List ℕ) (sums : Option (List ℕ))
     (folders others : FoldersInMemory) (marks more : List Mark) (asked told : List (Name × Reply))
@@ -41,4 +45,4 @@ MoreFoldersChangeNothing = (command : Command) (main : List ℕ) (sums : Option 
     → HasOneMore folders others marks more
     → RunsOver command main sums folders marks asked one → HasPrinted one
     → RunsOver command main sums others more told other
-    → (other ≡ one) × ((name : Name) → Contains (names_in told) name ↔ Contains (names_in asked) name)
+    → (other ≡ one) × AskForTheSame asked told

@@ -29,12 +29,16 @@ FormattingChangesNoBuild = (command : Command) (file text : List ℕ) (main : Ma
     → HasOutcome command file sums asked before → HasOutcome command text sums answered after
     → before ≡ after
 
+-- both print, and the same
+abbrev pub PrintTheSame : Outcome → Outcome → Type 0
+PrintTheSame one other = (one ≡ other) × (text : List ℕ) × (one ≡ printed text)
+
 -- `edit` without an operation prints what `fmt` prints, if the file is a valid main file.
 abbrev pub EditOfNothingFormats : Type 0
 EditOfNothingFormats = (operations : Vec (String Global)) (file : List ℕ) (main : Main) (edited formatted : Outcome)
     → texts_in operations ≡ [] → IsMainFile file main
     → HasOutcome (Edit operations) file None [] edited → HasOutcome Fmt file None [] formatted
-    → (edited ≡ formatted) × (text : List ℕ) × (edited ≡ printed text)
+    → PrintTheSame edited formatted
 
 -- `fmt` of what `edit` prints is that text, if that has at most 16,777,216 bytes.
 abbrev pub EditsAreFormatted : Type 0

@@ -4,3 +4,7 @@
 pub mod merges;
 pub mod queries;
 pub mod reports;
+pub mod additions;
+pub mod others;
+pub mod queries;
+pub mod versions;

@@ -5,7 +5,7 @@ ghost use Rattle.gomod_laws.specs.EditTwiceLaws.{LastTwiceIsOnce, TwiceIsOnceOrR
 /// An operation twice is the operation once, whichever it is. Let one of the operations of `edit` be given a second
 /// time, directly after itself.
 pub fn an_operation_twice_is_once()
-    // where `edit` prints with either, it prints the same with both
+    // if `edit` prints with either, it prints the same with both
     ensures prints { TwicePrintsAsOnce }
     // as the last operation, it is refused with both or with neither, and the report is the same
     ensures last { LastTwiceIsOnce }

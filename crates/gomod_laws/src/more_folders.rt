@@ -6,10 +6,9 @@ ghost use Rattle.gomod_laws.specs.FolderLaws.{MayAnswer, MoreFoldersChangeNothin
 
 use gm_store::{Files, MemoryFallback};
 
-/// One more folder changes nothing that was found. Over folders in memory, where a command prints, it prints the same
-/// with one more proxy folder after the last, separated from it by `,` or `|`, and it asks for the same files. The
-/// folders before it and their marks stay as they are. A folder put before others, or between them, can change what
-/// is printed.
+/// One more folder changes nothing that was found. If a command prints over folders in memory, it prints the same with
+/// one more proxy folder after the last, separated from it by `,` or `|`, and it asks for the same files. The folders
+/// before it and their marks stay as they are. A folder put before others, or between them, can change what is printed.
 pub fn more_folders_change_nothing()
     ensures { MoreFoldersChangeNothing }
 {}

@@ -1,0 +1,135 @@
+-- What the laws of two runs of queries conclude is false of pairs of outputs that contradict them.
+use Rattle.std.proofs.Common.{◌≡◌, ◌∙◌, ◌∷◌, ◌++◌, ℕ, true, List, [], None, Contains, ap, append_assoc, arith, codes, drop, inl, inr, length, length-append, map, refl, subst, sym}
+use Rattle.std.specs.Ordering.{is_gt}
+use Rattle.std.proofs.lemmas.Bool.{false≢true}
+use Rattle.std.proofs.lemmas.List.{append_cancel_right}
+use Rattle.gm_name.specs.Version.{version_cmp}
+use Rattle.gm_graph_cache.specs.Main.{Main, ModuleVersion}
+use Rattle.gm_graph_select.specs.declared.step.Edge.{Edge}
+use Rattle.gm_graph_select.specs.declared.step.Step.TheVariants.{Main as FromMain, Of}
+use Rattle.gm_graph_select.specs.BuildList.{Entry, HasEntryFor, path_of}
+use Rattle.gm_graph_select.proofs.Ascending.{member_cases, member_head, no_member}
+use Rattle.gm_graph_listing.specs.Outcomes.{Given, Outcome, printed, refused}
+use Rattle.gm_graph_listing.specs.PrintedLines.{edge_text}
+use Rattle.gm_graph_listing.specs.Reports.{not_listed_line}
+use Rattle.gomod_laws.specs.CounterAdditions.{ChainIsByNoLine, LineIsLost, NeitherPrints, RowIsHigher, RowIsLower, UnlistedIsShown, chain_by_b}
+use Rattle.gomod_laws.specs.Counterexamples.{a_one, list_of_a}
+use Rattle.gomod_laws.specs.RowLaws.{LeadsTo, further, here, text_of}
+use Rattle.gomod_laws.specs.Shown.{ShowsRows, run_over}
+use Rattle.gomod_laws.proofs.Contradicted.{edge_to, edges_are, list_main, only_row, row_there}
+use Rattle.gomod_laws.proofs.KnownVersions.{one_one, one_one_is, one_one_is_above, one_zero, one_zero_is, versions_differ}
+use Rattle.gomod_laws.proofs.ShownTexts.{same_text}
+
+-- ---- additions
+
+pub row_is_lower : RowIsLower
+row_is_lower run later first second (rows, others, shows, also, kept) =
+    let (right, there) = row_there run first one_one one_one_is rows shows in
+    let (y, its, among, same, high) = kept (codes "a", one_one) right there in
+    let is : y ≡ (codes "a", one_zero) = only_row later second one_zero one_zero_is others also y its among in
+    let low : is_gt (version_cmp one_one y.1) ≡ true =
+    subst (λ (z : ModuleVersion). is_gt (version_cmp one_one z.1) ≡ true) (sym is) (ap is_gt one_one_is_above) in
+    false≢true (sym high ∙ low)
+
+edge_of : (x y : Edge) → x ≡ y → x.to ≡ y.to
+edge_of x y e = ap (λ (one : Edge). one.to) e
+
+pub line_is_lost : LineIsLost
+line_is_lost run later first second (edges, others, shows, also, kept) =
+    let first_are : edges ≡ edge_to one_zero ∷ [] = edges_are run first one_zero one_zero_is edges shows in
+    let others_are : others ≡ edge_to one_one ∷ [] = edges_are later second one_one one_one_is others also in
+    let there : Contains edges (edge_to one_zero) = subst (λ (es : List Edge). Contains es (edge_to one_zero)) (sym first_are) (member_head (edge_to one_zero) []) in
+    let among : Contains (edge_to one_one ∷ []) (edge_to one_zero) = subst (λ (es : List Edge). Contains es (edge_to one_zero)) others_are (kept (edge_to one_zero) there) in
+    elim (member_cases (edge_to one_one) (edge_to one_zero) [] among) [
+      | inl same ↦ versions_differ (sym (ap (λ (x : ModuleVersion). x.1) (edge_of (edge_to one_one) (edge_to one_zero) same)))
+      | inr none ↦ no_member (edge_to one_zero) none
+    ]
+
+-- ---- requirements
+
+first_byte : (a b : ℕ) (x y : List ℕ) → a ∷ x ≡ b ∷ y → a ≡ b
+first_byte a b x y e = cc e
+
+pub row_is_higher : RowIsHigher
+row_is_higher (prints, same) =
+    let text = same_text (codes "m\na v1.1.0\n") (codes "m\na v1.0.0\n") same in
+    let digit : 49 ≡ 48 = first_byte 49 48 _ _ (ap (drop 7) text) in omega (arith, digit)
+
+pub neither_prints : NeitherPrints
+neither_prints report (prints, same) = let code : 1 ≡ 0 = prints in omega (arith, code)
+
+-- ---- a chain that takes no line of a graph
+
+abbrev the_line : List ℕ
+the_line = codes "m a@v1.0.0"
+
+abbrev Ways : List ℕ → List (List ℕ) → Type 0
+Ways last lines = LeadsTo (the_line ∷ []) (codes "m") last lines
+
+line_only : (text : List ℕ) → Contains (the_line ∷ []) text → the_line ≡ text
+line_only text there = elim (member_cases the_line text [] there) [
+  | inl same ↦ same
+  | inr none ↦ absurd (no_member text none)
+]
+
+drop_front : (xs ys : List ℕ) → drop (length xs) (xs ++ ys) ≡ ys
+drop_front [] ys = refl
+drop_front (x ∷ xs) ys = drop_front xs ys
+
+ends_in_digit : (front : List ℕ) → the_line ≡ front ++ codes "m" → ⊥
+ends_in_digit front e =
+    let whole : 10 ≡ length (front ++ codes "m") = ap (λ (t : List ℕ). length t) e in
+    let parts = length-append front (codes "m") in
+    let size : length front ≡ 9 = omega (arith, whole, parts) in
+    let behind : drop 9 the_line ≡ codes "m" = ap (drop 9) e ∙ subst (λ (n : ℕ). drop n (front ++ codes "m") ≡ codes "m") size (drop_front front (codes "m")) in
+    let digit : 48 ≡ 109 = first_byte 48 109 _ _ behind in omega (arith, digit)
+
+-- no line leads to m
+way_to_m : (last : List ℕ) (lines : List (List ℕ)) → Ways last lines → last ≡ codes "m" → lines ≡ codes "m" ∷ []
+way_to_m last lines here is = refl
+way_to_m last lines (further {last = before} {lines = others} next leads there) is =
+    let text : the_line ≡ (before ++ codes " ") ++ codes "m" =
+    line_only ((before ++ codes " ") ++ next) there ∙ ap (λ (t : List ℕ). (before ++ codes " ") ++ t) is in
+    absurd (ends_in_digit (before ++ codes " ") text)
+
+-- and one to a v1.0.0
+way_to_a : (last : List ℕ) (lines : List (List ℕ)) → Ways last lines → last ≡ codes "a@v1.0.0" → lines ≡ codes "m" ∷ codes "a@v1.0.0" ∷ []
+way_to_a last lines here is = let first : 109 ≡ 97 = first_byte 109 97 _ _ is in absurd (omega (arith, first))
+way_to_a last lines (further {last = before} {lines = others} next leads there) is =
+    let text : codes "m" ++ codes " a@v1.0.0" ≡ before ++ codes " a@v1.0.0" =
+    line_only ((before ++ codes " ") ++ next) there ∙ ap (λ (t : List ℕ). (before ++ codes " ") ++ t) is ∙ append_assoc before (codes " ") (codes "a@v1.0.0") in
+    let own : before ≡ codes "m" = sym (append_cancel_right (codes "m") before (codes " a@v1.0.0") text) in
+    ap (λ (ls : List (List ℕ)). ls ++ next ∷ []) (way_to_m before others leads own)
+    ∙ ap (λ (t : List ℕ). codes "m" ∷ t ∷ []) is
+
+pub chain_is_by_no_line : ChainIsByNoLine
+chain_is_by_no_line file sums asked others third main alike runs law =
+    let run = run_over file sums asked in
+    let (its, there) = row_there run main one_zero one_zero_is law.rows law.shows_rows in
+    let own : main.path ≡ codes "m" = list_main run main one_zero law.rows law.shows_rows in
+    let edges : law.edges ≡ edge_to one_zero ∷ [] = edges_are (run_over file sums others) main one_zero one_zero_is law.edges law.shows_edges in
+    let (lines, leads, says) = (law.explains (codes "a") third chain_by_b alike runs).row (Of a_one, its) there refl in
+    let way : LeadsTo (map (edge_text main.path) (edge_to one_zero ∷ [])) main.path (codes "a@v1.0.0") lines =
+    subst (λ (es : List Edge). LeadsTo (map (edge_text main.path) es) main.path (codes "a@v1.0.0") lines) edges leads in
+    let by_line : Ways (codes "a@v1.0.0") lines =
+    subst (λ (m : List ℕ). LeadsTo (map (edge_text m) (edge_to one_zero ∷ [])) m (codes "a@v1.0.0") lines) own way in
+    let text : codes "m\nb@v1.0.0\na@v1.0.0\n" ≡ codes "m\na@v1.0.0\n" =
+    same_text (codes "m\nb@v1.0.0\na@v1.0.0\n") (text_of lines) says ∙ ap text_of (way_to_a (codes "a@v1.0.0") lines by_line refl) in
+    let letter : 98 ≡ 97 = first_byte 98 97 _ _ (ap (drop 2) text) in omega (arith, letter)
+
+-- ---- a chain to what is not listed
+
+no_row_of_b : (run : Given) (main : Main) (rows : List Entry) → ShowsRows run main None None rows list_of_a → (row : Entry) → Contains rows row → path_of main.path row.0 ≡ codes "b" → ⊥
+no_row_of_b run main rows shows (FromMain, right) there is =
+    let letter : 109 ≡ 98 = first_byte 109 98 _ _ (sym (list_main run main one_zero rows shows) ∙ is) in omega (arith, letter)
+no_row_of_b run main rows shows (Of x, right) there is =
+    let own : x ≡ (codes "a", one_zero) = only_row run main one_zero one_zero_is rows shows x right there in
+    let letter : 97 ≡ 98 = first_byte 97 98 _ _ (sym (ap (λ (y : ModuleVersion). y.0) own) ∙ is) in omega (arith, letter)
+
+pub unlisted_is_shown : UnlistedIsShown
+unlisted_is_shown file sums asked others third main alike runs law =
+    let chain : Outcome = printed (codes "m\nb@v1.0.0\n") in
+    let none : ¬ (HasEntryFor main.path law.rows (codes "b")) =
+    λ has. no_row_of_b (run_over file sums asked) main law.rows law.shows_rows has.0 has.1 has.2 in
+    let says : chain ≡ refused (not_listed_line (codes "b")) = (law.explains (codes "b") third chain alike runs).unlisted none in
+    let code : 0 ≡ 1 = ap (λ (o : Outcome). o.status) says in omega (arith, code)

@@ -1,0 +1,178 @@
+-- What the laws of `versions` conclude is false of outputs that contradict them.
+use Rattle.std.proofs.Common.{◌≡◌, ◌∙◌, ◌∷◌, ◌||◌, ℕ, Bool, true, false, List, [], Option, Some, None, Result, Ok, Contains, ap, ap₂, arith, codes, inl, inr, not, refl, subst, sym}
+use Rattle.std.specs.List.Sorted.{IsStrictlySortedBy}
+use Rattle.std.specs.Ordering.{is_gt}
+use Rattle.std.specs.declared.cmp.Ordering.{Ordering}
+use Rattle.std.proofs.lemmas.Bool.{false≢true}
+use Rattle.gm_name.specs.Version.{IsVersion, version_cmp}
+use Rattle.gm_name.specs.VersionOrder.{version_total}
+use Rattle.gm_file.specs.Directives.{Pair, pair}
+use Rattle.gm_file.specs.Fields.{Dependency}
+use Rattle.gm_file_retract.specs.Shown.{holds_version, is_at_most, is_retracted, shown_of}
+use Rattle.gm_store.specs.Asked.{Name, Reply, answer_in, bytes, list_file, mod_file}
+use Rattle.gm_store.specs.Latest.{IsLatest}
+use Rattle.gm_store.specs.Listed.{IsListed}
+use Rattle.gm_graph_cache.specs.declared.class.Class.{Class}
+use Rattle.gm_graph_cache.specs.Reading.{IsFileReading}
+use Rattle.gm_graph_cache.proofs.OneReading.{one_reading}
+use Rattle.gm_graph_select.proofs.Ascending.{less_itself, member_cases, member_head, member_tail, no_member}
+use Rattle.gm_graph_listing.specs.Outcomes.{Outcome, printed}
+use Rattle.gomod_run.specs.Versions.{versions_line}
+use Rattle.gomod_run.proofs.Uniqueness.{latest_once}
+use Rattle.gomod_laws.specs.CounterVersions.{ListedIsMissing, RetractedIsShown, UnretractedIsLeftOut, VersionDoesNotFit, VersionIsUnlisted, VersionStandsTwice, both_of_a}
+use Rattle.gomod_laws.specs.VersionLaws.{AreUnretracted, LeavesOutRetracted, Retracts, ShowsVersions}
+use Rattle.gomod_laws.proofs.AdditionsKept.{from_filtered, in_filtered}
+use Rattle.gomod_laws.proofs.KnownVersions.{both_listed, one_one, one_one_is, one_one_is_latest, one_zero, one_zero_is, one_zero_listed, one_zero_unlisted, same_precedence, two_zero, two_zero_is, two_zero_misfits, versions_differ}
+use Rattle.gomod_laws.proofs.ShownTexts.{same_text}
+use Rattle.gomod_laws.proofs.VersionLines.{line_says_versions}
+
+abbrev AreVersions : List (List ℕ) → Type 0
+AreVersions versions = (version : List ℕ) → Contains versions version → IsVersion version
+
+-- one version, and two
+one_known : (v : List ℕ) → IsVersion v → AreVersions (v ∷ [])
+one_known v is version there = elim (member_cases v version [] there) [
+  | inl same ↦ subst IsVersion same is
+  | inr none ↦ absurd (no_member version none)
+]
+
+two_known : (v w : List ℕ) → IsVersion v → IsVersion w → AreVersions (v ∷ w ∷ [])
+two_known v w p q version there = elim (member_cases v version (w ∷ []) there) [
+  | inl same ↦ subst IsVersion same p
+  | inr later ↦ one_known w q version later
+]
+
+-- ---- versions of a
+
+shown_are : (asked : List (Name × Reply)) (versions known : List (List ℕ)) (outcome : Outcome) → AreVersions known → ShowsVersions asked (codes "a") versions outcome
+    → outcome ≡ printed (versions_line (codes "a") known) → versions ≡ known
+shown_are asked versions known outcome are shows is =
+    line_says_versions (codes "a") versions known (λ version there. (shows.each version there).listable.canonical) are
+    (same_text (versions_line (codes "a") versions) (versions_line (codes "a") known) (sym shows.prints ∙ is))
+
+ascends : (xs ys : List (List ℕ)) → IsStrictlySortedBy version_cmp xs → xs ≡ ys → IsStrictlySortedBy version_cmp ys
+ascends xs ys up is = subst (IsStrictlySortedBy version_cmp) is up
+
+not_twice : (v : List ℕ) → IsStrictlySortedBy version_cmp (v ∷ v ∷ []) → ⊥
+unfolding IsStrictlySortedBy
+not_twice v up = less_itself version_total v up.0.0
+
+pub version_stands_twice : VersionStandsTwice
+version_stands_twice asked versions shows =
+    let are = shown_are asked versions (one_zero ∷ one_zero ∷ []) (printed (codes "a v1.0.0 v1.0.0\n")) (two_known one_zero one_zero one_zero_is one_zero_is) shows refl in
+    not_twice one_zero (ascends versions (one_zero ∷ one_zero ∷ []) shows.ascending are)
+
+pub version_does_not_fit : VersionDoesNotFit
+version_does_not_fit asked versions shows =
+    let are = shown_are asked versions (two_zero ∷ []) (printed (codes "a v2.0.0\n")) (one_known two_zero two_zero_is) shows refl in
+    let there : Contains versions two_zero = subst (λ (vs : List (List ℕ)). Contains vs two_zero) (sym are) (member_head two_zero []) in
+    two_zero_misfits (shows.each two_zero there).listable.fit
+
+same_bytes : (a b : List ℕ) → Some (bytes a) ≡ Some (bytes b) → a ≡ b
+same_bytes a b e = cc e
+
+pub version_is_unlisted : VersionIsUnlisted
+version_is_unlisted asked versions answered shows =
+    let are = shown_are asked versions (one_zero ∷ []) (printed (codes "a v1.0.0\n")) (one_known one_zero one_zero_is) shows refl in
+    let there : Contains versions one_zero = subst (λ (vs : List (List ℕ)). Contains vs one_zero) (sym are) (member_head one_zero []) in
+    let list : shows.list ≡ codes "v1.1.0\n" = same_bytes shows.list (codes "v1.1.0\n") (sym shows.answered ∙ answered) in
+    one_zero_unlisted (subst (λ (text : List ℕ). IsListed (codes "a") text one_zero) list (shows.each one_zero there))
+
+-- ---- retracted versions
+
+abbrev both : List (List ℕ)
+both = one_zero ∷ one_one ∷ []
+
+both_known : AreVersions both
+both_known = two_known one_zero one_one one_zero_is one_one_is
+
+module _ (asked : List (Name × Reply)) (one other : Outcome) (law : LeavesOutRetracted asked (codes "a") one other) where
+  listed_are_versions : AreVersions law.versions
+  listed_are_versions version there = ((law.listed.are.members version).0 there).listable.canonical
+
+  all_are : (known : List (List ℕ)) → AreVersions known → other ≡ printed (versions_line (codes "a") known) → law.versions ≡ known
+  all_are known are is =
+      line_says_versions (codes "a") law.versions known listed_are_versions are
+      (same_text (versions_line (codes "a") law.versions) (versions_line (codes "a") known) (sym law.other_prints ∙ is))
+
+  from_all : (versions shown : List (List ℕ)) → AreVersions versions → AreUnretracted asked (codes "a") versions shown → AreVersions shown
+  from_all versions shown are (inl (none, nothing)) = subst AreVersions (sym nothing) (λ version there. absurd (no_member version there))
+  from_all versions shown are (inr (latest, intervals, greatest, says, is)) =
+      subst AreVersions (sym is)
+      (λ version there. are version (from_filtered (λ v. not (is_retracted intervals v)) versions version there).0)
+
+  rest_are : (known : List (List ℕ)) → AreVersions known → one ≡ printed (versions_line (codes "a") known) → law.shown ≡ known
+  rest_are known are is =
+      line_says_versions (codes "a") law.shown known (from_all law.versions law.shown listed_are_versions law.unretracted) are
+      (same_text (versions_line (codes "a") law.shown) (versions_line (codes "a") known) (sym law.one_prints ∙ is))
+
+same_answer : (a b : Reply) → Some a ≡ Some b → a ≡ b
+same_answer a b e = cc e
+
+same_file : (a b : Dependency) → ◌≡◌ {A = Result Dependency Class} (Ok a) (Ok b) → a ≡ b
+same_file a b e = cc e
+
+-- the latest version's file retracts one thing
+retracts_once : (asked : List (Name × Reply)) (path version : List ℕ) (xs ys : List Pair) → Retracts asked path version xs → Retracts asked path version ys → xs ≡ ys
+retracts_once asked path version xs ys (reply, file, answered, finds, are) (other, also, known, says, is) =
+    let same : reply ≡ other = same_answer reply other (sym answered ∙ known) in
+    let read : IsFileReading None (mod_file path version) other (Ok file) = subst (λ (r : Reply). IsFileReading None (mod_file path version) r (Ok file)) same finds in
+    let one : file ≡ also = same_file file also (one_reading None (mod_file path version) other (Ok file) (Ok also) read says) in
+    sym are ∙ ap (λ (f : Dependency). f.retracts) one ∙ is
+
+is_none : {A : Type 0} (x : A) (xs : List A) → x ∷ xs ≡ [] → ⊥
+is_none x xs e = cc e
+
+-- what is shown of both, if the latest one retracts these
+shown_of_both : (asked : List (Name × Reply)) (shown : List (List ℕ)) (intervals : List Pair) → Retracts asked (codes "a") one_one intervals
+    → AreUnretracted asked (codes "a") both shown → shown ≡ shown_of intervals both
+shown_of_both asked shown intervals retracts (inl (none, nothing)) = absurd (is_none one_zero (one_one ∷ []) none)
+shown_of_both asked shown intervals retracts (inr (latest, others, greatest, says, is)) =
+    let own : latest ≡ one_one = latest_once both latest one_one greatest one_one_is_latest in
+    let same : others ≡ intervals = retracts_once asked (codes "a") one_one others intervals (subst (λ (v : List ℕ). Retracts asked (codes "a") v others) own says) retracts in
+    is ∙ ap (λ (xs : List Pair). shown_of xs both) same
+
+at_most_itself : is_at_most one_zero one_zero ≡ true
+at_most_itself = ap (λ (o : Ordering). not (is_gt o)) same_precedence
+
+holds_itself : (v : List ℕ) → is_at_most v v ≡ true → is_retracted (pair v v ∷ []) v ≡ true
+holds_itself v is = rw is refl
+
+pub retracted_is_shown : RetractedIsShown
+retracted_is_shown asked retracts law =
+    let all = all_are asked both_of_a both_of_a law both both_known refl in
+    let rest = rest_are asked both_of_a both_of_a law both both_known refl in
+    let intervals = pair one_zero one_zero ∷ [] in
+    let shown : law.shown ≡ shown_of intervals both =
+    shown_of_both asked law.shown intervals retracts (subst (λ (vs : List (List ℕ)). AreUnretracted asked (codes "a") vs law.shown) all law.unretracted) in
+    let there : Contains (shown_of intervals both) one_zero = subst (λ (vs : List (List ℕ)). Contains vs one_zero) (sym rest ∙ shown) (member_head one_zero (one_one ∷ [])) in
+    let kept : not (is_retracted intervals one_zero) ≡ true = (from_filtered (λ v. not (is_retracted intervals v)) both one_zero there).1 in
+    let gone : not (is_retracted intervals one_zero) ≡ false = ap not (holds_itself one_zero at_most_itself) in
+    false≢true (sym gone ∙ kept)
+
+pub unretracted_is_left_out : UnretractedIsLeftOut
+unretracted_is_left_out asked retracts law =
+    let none : List Pair = [] in
+    let first = printed (codes "a v1.1.0\n") in
+    let all = all_are asked first both_of_a law both both_known refl in
+    let rest = rest_are asked first both_of_a law (one_one ∷ []) (one_known one_one one_one_is) refl in
+    let shown : law.shown ≡ shown_of none both =
+    shown_of_both asked law.shown none retracts (subst (λ (vs : List (List ℕ)). AreUnretracted asked (codes "a") vs law.shown) all law.unretracted) in
+    let there : Contains (shown_of none both) one_zero = in_filtered (λ v. not (is_retracted none v)) both one_zero (member_head one_zero (one_one ∷ [])) refl in
+    let only : Contains (one_one ∷ []) one_zero = subst (λ (vs : List (List ℕ)). Contains vs one_zero) (sym shown ∙ rest) there in
+    elim (member_cases one_one one_zero [] only) [
+      | inl same ↦ versions_differ (sym same)
+      | inr nowhere ↦ no_member one_zero nowhere
+    ]
+
+pub listed_is_missing : ListedIsMissing
+listed_is_missing asked one answered law =
+    let other = printed (codes "a v1.1.0\n") in
+    let all = all_are asked one other law (one_one ∷ []) (one_known one_one one_one_is) refl in
+    let list : law.listed.list ≡ both_listed = same_bytes law.listed.list both_listed (sym law.listed.answered ∙ answered) in
+    let named : IsListed (codes "a") law.listed.list one_zero = subst (λ (text : List ℕ). IsListed (codes "a") text one_zero) (sym list) one_zero_listed in
+    let only : Contains (one_one ∷ []) one_zero = subst (λ (vs : List (List ℕ)). Contains vs one_zero) all ((law.listed.are.members one_zero).1 named) in
+    elim (member_cases one_one one_zero [] only) [
+      | inl same ↦ versions_differ (sym same)
+      | inr nowhere ↦ no_member one_zero nowhere
+    ]

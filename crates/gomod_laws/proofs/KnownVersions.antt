@@ -1,0 +1,183 @@
+-- The path a and the versions v1.0.0, v1.1.0 and v2.0.0, of which the counterexamples are.
+use Rattle.std.proofs.Common.{◌≡◌, ◌∙◌, ◌⊎◌, ◌∷◌, ◌++◌, ◌<◌, ◌==◌, ℕ, Bool, true, false, List, [], Contains, ap, ap₂, append_assoc, arith, codes, drop, inl, inr, length, length-append, lit<, not, refl, subst, sym}
+use Rattle.std.specs.Cmp.Lexicographic.{slice_cmp}
+use Rattle.std.specs.Fmt.{decimal}
+use Rattle.std.specs.Ordering.{is_gt, nat_cmp, ordering_reverse, ordering_then}
+use Rattle.std.specs.declared.cmp.Ordering.{Ordering}
+use Rattle.std.specs.declared.cmp.Ordering.TheVariants.{Less, Equal, Greater}
+use Rattle.std.proofs.lemmas.Fmt.{decimal_digit}
+use Rattle.gm_name.specs.Fit.{Fits}
+use Rattle.gm_name.specs.Path.{EndsInSlashVersion, HasMajor, IsUnderGopkg}
+use Rattle.gm_name.specs.Pseudo.{IsPseudo}
+use Rattle.gm_name.specs.Version.{IsVersion, parts_in, precedence, version_cmp, version_text}
+use Rattle.gm_name.specs.declared.major.Major.TheVariants.{NoSuffix, Slash, Dot}
+use Rattle.gm_name.proofs.BaseVersions.{parts-spelled}
+use Rattle.gm_name.specs.VersionOrder.{version_total}
+use Rattle.gm_store.specs.Latest.{IsLatest, counts}
+use Rattle.gm_store.specs.Listed.{IsListable, IsListed, IsPseudoVersion}
+use Rattle.gm_graph_select.proofs.Ascending.{member_cases, member_head, member_tail, no_member}
+
+-- what a version says
+abbrev pub Parts : Type 0
+Parts = ℕ × ℕ × ℕ × List ℕ × List ℕ
+
+abbrev pub one_zero : List ℕ
+one_zero = codes "v1.0.0"
+
+abbrev pub one_one : List ℕ
+one_one = codes "v1.1.0"
+
+abbrev pub two_zero : List ℕ
+two_zero = codes "v2.0.0"
+
+-- ---- versions by their digits
+
+digits : (x y z : List ℕ) (a b c : ℕ) → x ≡ a ∷ [] → y ≡ b ∷ [] → z ≡ c ∷ []
+    → 118 ∷ (a ∷ (46 ∷ (b ∷ (46 ∷ (c ∷ []))))) ≡ 118 ∷ (x ++ (46 ∷ (y ++ (46 ∷ (z ++ [])))))
+digits x y z a b c e f g = rw (e, f, g) refl
+
+zero_is : decimal 0 ≡ 48 ∷ []
+zero_is = decimal_digit 0 (lit< tt)
+
+one_is : decimal 1 ≡ 49 ∷ []
+one_is = decimal_digit 1 (lit< tt)
+
+two_is : decimal 2 ≡ 50 ∷ []
+two_is = decimal_digit 2 (lit< tt)
+
+one_zero_text : one_zero ≡ version_text (1, 0, 0, [], [])
+one_zero_text = digits (decimal 1) (decimal 0) (decimal 0) 49 48 48 one_is zero_is zero_is
+
+pub one_zero_is : IsVersion one_zero
+one_zero_is = ((1, 0, 0, [], []), (lit< tt, lit< tt, lit< tt, refl, refl), inl refl, one_zero_text)
+
+pub one_zero_parts : parts_in one_zero ≡ (1, 0, 0, [], [])
+one_zero_parts = parts-spelled one_zero (1, 0, 0, [], []) (lit< tt, lit< tt, lit< tt, refl, refl) one_zero_text
+
+one_one_text : one_one ≡ version_text (1, 1, 0, [], [])
+one_one_text = digits (decimal 1) (decimal 1) (decimal 0) 49 49 48 one_is one_is zero_is
+
+pub one_one_is : IsVersion one_one
+one_one_is = ((1, 1, 0, [], []), (lit< tt, lit< tt, lit< tt, refl, refl), inl refl, one_one_text)
+
+pub one_one_parts : parts_in one_one ≡ (1, 1, 0, [], [])
+one_one_parts = parts-spelled one_one (1, 1, 0, [], []) (lit< tt, lit< tt, lit< tt, refl, refl) one_one_text
+
+two_zero_text : two_zero ≡ version_text (2, 0, 0, [], [])
+two_zero_text = digits (decimal 2) (decimal 0) (decimal 0) 50 48 48 two_is zero_is zero_is
+
+pub two_zero_is : IsVersion two_zero
+two_zero_is = ((2, 0, 0, [], []), (lit< tt, lit< tt, lit< tt, refl, refl), inl refl, two_zero_text)
+
+pub two_zero_parts : parts_in two_zero ≡ (2, 0, 0, [], [])
+two_zero_parts = parts-spelled two_zero (2, 0, 0, [], []) (lit< tt, lit< tt, lit< tt, refl, refl) two_zero_text
+
+-- ---- their order
+
+decided : (v w : List ℕ) (p q : Parts) → parts_in v ≡ p → parts_in w ≡ q → precedence (parts_in v) (parts_in w) ≡ precedence p q
+decided v w p q e f = ap₂ precedence e f
+
+above : (v w : List ℕ) → precedence (parts_in v) (parts_in w) ≡ Greater → version_cmp v w ≡ Greater
+above v w e = ap (λ (o : Ordering). ordering_then o (slice_cmp nat_cmp v w)) e
+
+below : (v w : List ℕ) → precedence (parts_in v) (parts_in w) ≡ Less → version_cmp v w ≡ Less
+below v w e = ap (λ (o : Ordering). ordering_then o (slice_cmp nat_cmp v w)) e
+
+pub one_one_is_above : version_cmp one_one one_zero ≡ Greater
+one_one_is_above = above one_one one_zero (decided one_one one_zero (1, 1, 0, [], []) (1, 0, 0, [], []) one_one_parts one_zero_parts ∙ refl)
+
+pub one_zero_is_below : version_cmp one_zero one_one ≡ Less
+one_zero_is_below = below one_zero one_one (decided one_zero one_one (1, 0, 0, [], []) (1, 1, 0, [], []) one_zero_parts one_one_parts ∙ refl)
+
+pub same_precedence : precedence (parts_in one_zero) (parts_in one_zero) ≡ Equal
+same_precedence = decided one_zero one_zero (1, 0, 0, [], []) (1, 0, 0, [], []) one_zero_parts one_zero_parts ∙ refl
+
+first_byte : (a b : ℕ) (x y : List ℕ) → a ∷ x ≡ b ∷ y → a ≡ b
+first_byte a b x y e = cc e
+
+pub versions_differ : one_zero ≡ one_one → ⊥
+versions_differ e = let digit : 48 ≡ 49 = first_byte 48 49 _ _ (ap (drop 3) e) in omega (arith, digit)
+
+not_above_itself : (o : Ordering) → o ≡ ordering_reverse o → is_gt o ≡ false
+not_above_itself Less e = refl
+not_above_itself Equal e = refl
+not_above_itself Greater e = cc e
+
+-- ---- what fits the path a
+
+not_gopkg : IsUnderGopkg (codes "a") → ⊥
+not_gopkg (rest, is) = let wrong : 97 ≡ 103 = first_byte 97 103 _ _ is in omega (arith, wrong)
+
+long : (x y z : List ℕ) → codes "a" ≡ (x ++ y) ++ z → length y ≡ 2 → ⊥
+long x y z e two =
+    let size : 1 ≡ length ((x ++ y) ++ z) = ap (λ (t : List ℕ). length t) e in
+    let inner = length-append x y in
+    let outer = length-append (x ++ y) z in
+    omega (arith, size, inner, outer, two)
+
+no_suffix : HasMajor (codes "a") NoSuffix
+no_suffix = (not_gopkg, λ (front, tail, is, some, all). long front (codes "/v") tail is refl)
+
+pub one_zero_fits : Fits (codes "a") one_zero
+one_zero_fits = (NoSuffix, no_suffix, inl (low, none))
+  where
+    low : (parts_in one_zero).0 < 2
+    low = let major : (parts_in one_zero).0 ≡ 1 = ap (λ (p : Parts). p.0) one_zero_parts in omega (arith, major)
+
+    none : (parts_in one_zero).4 ≡ []
+    none = ap (λ (p : Parts). p.4) one_zero_parts
+
+no_pseudo : IsPseudoVersion one_zero → ⊥
+no_pseudo (form, time, revision, (front, is, stamp)) =
+    let pre : (parts_in one_zero).3 ≡ [] = ap (λ (p : Parts). p.3) one_zero_parts in
+    let whole : [] ≡ ((front ++ time) ++ codes "-") ++ revision = sym pre ∙ stamp.joined in
+    let size : 0 ≡ length (((front ++ time) ++ codes "-") ++ revision) = ap (λ (t : List ℕ). length t) whole in
+    let one = length-append ((front ++ time) ++ codes "-") revision in
+    let some = stamp.some in
+    omega (arith, size, one, some)
+
+pub one_zero_listable : IsListable (codes "a") one_zero
+one_zero_listable = record { canonical = one_zero_is; fit = one_zero_fits; no_pseudo = no_pseudo }
+
+pub two_zero_misfits : Fits (codes "a") two_zero → ⊥
+two_zero_misfits (Slash n, (apart, low, high, (front, is)), fits) = long front (codes "/v") (decimal n) is refl
+two_zero_misfits (Dot n, (under, high, ends), fits) = not_gopkg under
+two_zero_misfits (NoSuffix, own, inl (low, none)) =
+    let major : (parts_in two_zero).0 ≡ 2 = ap (λ (p : Parts). p.0) two_zero_parts in omega (arith, major, low)
+two_zero_misfits (NoSuffix, own, inr (high, marked)) =
+    let none : (parts_in two_zero).4 ≡ [] = ap (λ (p : Parts). p.4) two_zero_parts in
+    let wrong : [] ≡ codes "incompatible" = sym none ∙ marked in cc wrong
+
+-- ---- lists
+
+abbrev pub both_listed : List ℕ
+both_listed = codes "v1.0.0\nv1.1.0\n"
+
+pub one_zero_listed : IsListed (codes "a") both_listed one_zero
+one_zero_listed = record { named = (0, omega arith, refl); listable = one_zero_listable }
+
+one_one_counts : counts true one_one ≡ true
+one_one_counts = ap (λ (p : Parts). length p.3 == 0) one_one_parts
+
+pub one_one_is_latest : IsLatest (one_zero ∷ one_one ∷ []) one_one
+one_one_is_latest = inl (record {
+  listed = member_tail one_zero one_one (one_one ∷ []) (member_head one_one []);
+  counted = one_one_counts;
+  greatest = λ other there counted. elim (member_cases one_zero other (one_one ∷ []) there) [
+    | inl same ↦ subst (λ (v : List ℕ). is_gt (version_cmp v one_one) ≡ false) same (ap is_gt one_zero_is_below)
+    | inr later ↦ elim (member_cases one_one other [] later) [
+      | inl same ↦ subst (λ (v : List ℕ). is_gt (version_cmp v one_one) ≡ false) same (not_above_itself (version_cmp one_one one_one) (version_total.antisymm one_one one_one))
+      | inr none ↦ absurd (no_member other none)
+    ]
+  ];
+})
+
+-- a list of v1.1.0 alone does not name v1.0.0
+pub one_zero_unlisted : IsListed (codes "a") (codes "v1.1.0\n") one_zero → ⊥
+one_zero_unlisted is = elim (member_cases one_one one_zero ([] ∷ []) is.named) [
+  | inl same ↦ versions_differ (sym same)
+  | inr later ↦ elim (member_cases [] one_zero [] later) [
+    | inl same ↦ (let wrong : [] ≡ one_zero = same in cc wrong)
+    | inr none ↦ no_member one_zero none
+  ]
+]

@@ -1,0 +1,8 @@
+use Rattle.gomod_laws.proofs.ContradictedOthers.{formats_another, neither_formats}
+use Rattle.gomod_laws.proofs.counterexamples.others.nothing_can_be_formatted.Goals as goal
+
+pub returns-clause-prints : goal.returns-clause-prints
+returns-clause-prints c = formats_another
+
+pub returns-clause-refuses : goal.returns-clause-refuses
+returns-clause-refuses c = neither_formats
