@@ -1,5 +1,5 @@
 -- What the laws of `versions` conclude is false of outputs that contradict them.
-use Rattle.std.proofs.Common.{◌≡◌, ◌∙◌, ◌∷◌, ◌||◌, ℕ, Bool, true, false, List, [], Option, Some, None, Result, Ok, Contains, ap, ap₂, arith, codes, inl, inr, not, refl, subst, sym}
+use Rattle.std.proofs.Common.{◌≡◌, ◌∙◌, ◌∷◌, ℕ, true, false, List, [], Some, None, Result, Ok, Contains, ap, codes, inl, inr, not, refl, subst, sym}
 use Rattle.std.specs.List.Sorted.{IsStrictlySortedBy}
 use Rattle.std.specs.Ordering.{is_gt}
 use Rattle.std.specs.declared.cmp.Ordering.{Ordering}
@@ -8,14 +8,13 @@ use Rattle.gm_name.specs.Version.{IsVersion, version_cmp}
 use Rattle.gm_name.specs.VersionOrder.{version_total}
 use Rattle.gm_file.specs.Directives.{Pair, pair}
 use Rattle.gm_file.specs.Fields.{Dependency}
-use Rattle.gm_file_retract.specs.Shown.{holds_version, is_at_most, is_retracted, shown_of}
-use Rattle.gm_store.specs.Asked.{Name, Reply, answer_in, bytes, list_file, mod_file}
-use Rattle.gm_store.specs.Latest.{IsLatest}
+use Rattle.gm_file_retract.specs.Shown.{is_at_most, is_retracted, shown_of}
+use Rattle.gm_store.specs.Asked.{Name, Reply, bytes, mod_file}
 use Rattle.gm_store.specs.Listed.{IsListed}
 use Rattle.gm_graph_cache.specs.declared.class.Class.{Class}
 use Rattle.gm_graph_cache.specs.Reading.{IsFileReading}
 use Rattle.gm_graph_cache.proofs.OneReading.{one_reading}
-use Rattle.gm_graph_select.proofs.Ascending.{less_itself, member_cases, member_head, member_tail, no_member}
+use Rattle.gm_graph_select.proofs.Ascending.{less_itself, member_cases, member_head, no_member}
 use Rattle.gm_graph_listing.specs.Outcomes.{Outcome, printed}
 use Rattle.gomod_run.specs.Versions.{versions_line}
 use Rattle.gomod_run.proofs.Uniqueness.{latest_once}

@@ -1,5 +1,5 @@
 -- The path a and the versions v1.0.0, v1.1.0 and v2.0.0, of which the counterexamples are.
-use Rattle.std.proofs.Common.{◌≡◌, ◌∙◌, ◌⊎◌, ◌∷◌, ◌++◌, ◌<◌, ◌==◌, ℕ, Bool, true, false, List, [], Contains, ap, ap₂, append_assoc, arith, codes, drop, inl, inr, length, length-append, lit<, not, refl, subst, sym}
+use Rattle.std.proofs.Common.{◌≡◌, ◌∙◌, ◌∷◌, ◌++◌, ◌<◌, ◌==◌, ℕ, true, false, List, [], ap, ap₂, arith, codes, drop, inl, inr, length, length-append, lit<, refl, subst, sym}
 use Rattle.std.specs.Cmp.Lexicographic.{slice_cmp}
 use Rattle.std.specs.Fmt.{decimal}
 use Rattle.std.specs.Ordering.{is_gt, nat_cmp, ordering_reverse, ordering_then}
@@ -7,8 +7,7 @@ use Rattle.std.specs.declared.cmp.Ordering.{Ordering}
 use Rattle.std.specs.declared.cmp.Ordering.TheVariants.{Less, Equal, Greater}
 use Rattle.std.proofs.lemmas.Fmt.{decimal_digit}
 use Rattle.gm_name.specs.Fit.{Fits}
-use Rattle.gm_name.specs.Path.{EndsInSlashVersion, HasMajor, IsUnderGopkg}
-use Rattle.gm_name.specs.Pseudo.{IsPseudo}
+use Rattle.gm_name.specs.Path.{HasMajor, IsUnderGopkg}
 use Rattle.gm_name.specs.Version.{IsVersion, parts_in, precedence, version_cmp, version_text}
 use Rattle.gm_name.specs.declared.major.Major.TheVariants.{NoSuffix, Slash, Dot}
 use Rattle.gm_name.proofs.BaseVersions.{parts-spelled}

@@ -1,17 +1,15 @@
 -- What `list` prints over what `edit` prints with `require=` of each row.
-use Rattle.std.proofs.Common.{◌≡◌, ◌∙◌, ◌++◌, ◌+◌, ℕ, Bool, true, false, List, [], ◌∷◌, map, Option, Some, None, Ok, Contains, ap, ap₂, arith, refl, sym, subst, inl, inr}
-use Rattle.std.specs.Global.{Global, Vec}
+use Rattle.std.proofs.Common.{◌≡◌, ◌∙◌, ◌++◌, ◌+◌, ℕ, List, [], ◌∷◌, map, Option, Some, None, Contains, ap, ap₂, refl, sym, subst, inl, inr}
 use Rattle.std.specs.List.{cons_option, filter_map}
 use Rattle.std.specs.Option.{option_map, option_to_list}
-use Rattle.std.specs.Prelude.{String, codes, if◌then◌else◌, option_and_then, unwrap_or}
+use Rattle.std.specs.Prelude.{option_and_then, unwrap_or}
 use Rattle.gm_syntax.specs.Document.{Line}
 use Rattle.gm_syntax.specs.Layout.{layout}
 use Rattle.gm_syntax.specs.LineViews.{plain_lines}
 use Rattle.gm_syntax.specs.Tokens.{Placed}
-use Rattle.gm_file.specs.Directives.{Strict, Directive, Pair, Replacing, directives}
-use Rattle.gm_file.specs.Faults.{fault_of, go_in}
-use Rattle.gm_file.specs.Fields.{as_requirement, first, replacement_of}
-use Rattle.gm_file_edit.specs.Changes.{is_fit}
+use Rattle.gm_file.specs.Directives.{Strict, Directive, Pair, Replacing}
+use Rattle.gm_file.specs.Faults.{go_in}
+use Rattle.gm_file.specs.Fields.{first, replacement_of}
 use Rattle.gm_file_edit.specs.Edits.{Edit as Change, SetRequire, edit_in}
 use Rattle.gm_file_edit.specs.Laws.{directives_of}
 use Rattle.gm_store.specs.Asked.{Name, Reply}

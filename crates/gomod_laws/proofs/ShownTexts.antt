@@ -1,5 +1,5 @@
 -- What a query prints determines the main module's path, and the rows, edges and steps of its run.
-use Rattle.std.proofs.Common.{◌≡◌, ◌≢◌, ◌∙◌, ◌∷◌, ◌++◌, ℕ, List, [], Option, None, Contains, ap, append_assoc, arith, codes, length, length-append, map, refl, subst, sym}
+use Rattle.std.proofs.Common.{◌≡◌, ◌≢◌, ◌∙◌, ◌∷◌, ◌++◌, ℕ, List, [], None, Contains, ap, append_assoc, arith, codes, length, length-append, map, refl, subst, sym}
 use Rattle.gm_name.specs.Path.{IsPath}
 use Rattle.gm_name.specs.Version.{IsVersion}
 use Rattle.gm_graph_cache.specs.Main.{Main, ModuleVersion}

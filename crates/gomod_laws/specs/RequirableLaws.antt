@@ -1,5 +1,5 @@
 -- What is listed can be required: Go Modules Reference, "Minimal version selection" and "Module graph pruning".
-use Rattle.std.specs.Prelude.{◌≡◌, ◌↔◌, ◌⊎◌, ◌≤◌, ℕ, false, List, [], Option, Some, None, Contains, String, length}
+use Rattle.std.specs.Prelude.{◌≡◌, ◌↔◌, ◌⊎◌, ◌≤◌, ℕ, false, List, Option, Some, None, Contains, String, length}
 use Rattle.std.specs.Global.{Global, Vec}
 use Rattle.gm_file.specs.Directives.{Right}
 use Rattle.gm_file_edit.specs.Edits.{SetRequire, edit_in}
