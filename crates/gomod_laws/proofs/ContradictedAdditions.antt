@@ -1,5 +1,5 @@
 -- What the laws of two runs of queries conclude is false of pairs of outputs that contradict them.
-use Rattle.std.proofs.Common.{◌≡◌, ◌∙◌, ◌∷◌, ◌++◌, ℕ, true, List, [], None, Contains, ap, append_assoc, arith, codes, drop, inl, inr, length, length-append, map, refl, subst, sym}
+use Rattle.std.proofs.Common.{◌≡◌, ◌∙◌, ◌∷◌, ◌++◌, ℕ, true, List, [], Contains, ap, append_assoc, arith, codes, drop, inl, inr, length, length-append, map, refl, subst, sym}
 use Rattle.std.specs.Ordering.{is_gt}
 use Rattle.std.proofs.lemmas.Bool.{false≢true}
 use Rattle.std.proofs.lemmas.List.{append_cancel_right}
@@ -9,13 +9,11 @@ use Rattle.gm_graph_select.specs.declared.step.Edge.{Edge}
 use Rattle.gm_graph_select.specs.declared.step.Step.TheVariants.{Main as FromMain, Of}
 use Rattle.gm_graph_select.specs.BuildList.{Entry, HasEntryFor, path_of}
 use Rattle.gm_graph_select.proofs.Ascending.{member_cases, member_head, no_member}
-use Rattle.gm_graph_listing.specs.Outcomes.{Given, Outcome, printed, refused}
+use Rattle.gm_graph_listing.specs.Outcomes.{Given, Outcome, printed}
 use Rattle.gm_graph_listing.specs.PrintedLines.{edge_text}
-use Rattle.gm_graph_listing.specs.Reports.{not_listed_line}
-use Rattle.gomod_laws.specs.CounterAdditions.{ChainIsByNoLine, LineIsLost, NeitherPrints, RowIsHigher, RowIsLower, UnlistedIsShown, chain_by_b}
-use Rattle.gomod_laws.specs.Counterexamples.{a_one, list_of_a}
-use Rattle.gomod_laws.specs.RowLaws.{LeadsTo, further, here, text_of}
-use Rattle.gomod_laws.specs.Shown.{ShowsRows, run_over}
+use Rattle.gomod_laws.specs.CounterAdditions.{ChainIsByNoLine, ChainIsToAnother, LineIsLost, NeitherPrints, RowIsHigher, RowIsLower, ShowA, UnlistedIsShown, chain_by_b, chain_to_b}
+use Rattle.gomod_laws.specs.Counterexamples.{a_one}
+use Rattle.gomod_laws.specs.RowLaws.{IsExplained, LeadsTo, further, here, text_of}
 use Rattle.gomod_laws.proofs.Contradicted.{edge_to, edges_are, list_main, only_row, row_there}
 use Rattle.gomod_laws.proofs.KnownVersions.{one_one, one_one_is, one_one_is_above, one_zero, one_zero_is, versions_differ}
 use Rattle.gomod_laws.proofs.ShownTexts.{same_text}
@@ -102,34 +100,43 @@ way_to_a last lines (further {last = before} {lines = others} next leads there) 
     ap (λ (ls : List (List ℕ)). ls ++ next ∷ []) (way_to_m before others leads own)
     ∙ ap (λ (t : List ℕ). codes "m" ∷ t ∷ []) is
 
+module _ (rows : List Entry) (edges : List Edge) (main : Main) (list_run graph_run : Given)
+    (show : ShowA rows edges main list_run graph_run) where
+  -- a chain for a is the only way
+  chain_is : (chain : Outcome) → IsExplained main.path rows (map (edge_text main.path) edges) (codes "a") chain
+      → chain ≡ printed (codes "m\na@v1.0.0\n")
+  chain_is chain law =
+      let (its, there) = row_there list_run main one_zero one_zero_is rows show.in_list in
+      let own : main.path ≡ codes "m" = list_main list_run main one_zero rows show.in_list in
+      let are : edges ≡ edge_to one_zero ∷ [] = edges_are graph_run main one_zero one_zero_is edges show.in_graph in
+      let (lines, leads, says) = law.row (Of a_one, its) there refl in
+      let way : LeadsTo (map (edge_text main.path) (edge_to one_zero ∷ [])) main.path (codes "a@v1.0.0") lines =
+      subst (λ (es : List Edge). LeadsTo (map (edge_text main.path) es) main.path (codes "a@v1.0.0") lines) are leads in
+      let by_line : Ways (codes "a@v1.0.0") lines =
+      subst (λ (m : List ℕ). LeadsTo (map (edge_text m) (edge_to one_zero ∷ [])) m (codes "a@v1.0.0") lines) own way in
+      says ∙ ap (λ (ls : List (List ℕ)). printed (text_of ls)) (way_to_a (codes "a@v1.0.0") lines by_line refl)
+
+  no_row_of_b : (row : Entry) → Contains rows row → path_of main.path row.0 ≡ codes "b" → ⊥
+  no_row_of_b (FromMain, right) there is =
+      let letter : 109 ≡ 98 = first_byte 109 98 _ _ (sym (list_main list_run main one_zero rows show.in_list) ∙ is) in omega (arith, letter)
+  no_row_of_b (Of x, right) there is =
+      let own : x ≡ (codes "a", one_zero) = only_row list_run main one_zero one_zero_is rows show.in_list x right there in
+      let letter : 97 ≡ 98 = first_byte 97 98 _ _ (sym (ap (λ (y : ModuleVersion). y.0) own) ∙ is) in omega (arith, letter)
+
+letters_differ : (rest more : List ℕ) → codes "m\nb" ++ rest ≡ codes "m\na" ++ more → ⊥
+letters_differ rest more e = let letter : 98 ≡ 97 = first_byte 98 97 rest more (ap (drop 2) e) in omega (arith, letter)
+
 pub chain_is_by_no_line : ChainIsByNoLine
-chain_is_by_no_line file sums asked others third main alike runs law =
-    let run = run_over file sums asked in
-    let (its, there) = row_there run main one_zero one_zero_is law.rows law.shows_rows in
-    let own : main.path ≡ codes "m" = list_main run main one_zero law.rows law.shows_rows in
-    let edges : law.edges ≡ edge_to one_zero ∷ [] = edges_are (run_over file sums others) main one_zero one_zero_is law.edges law.shows_edges in
-    let (lines, leads, says) = (law.explains (codes "a") third chain_by_b alike runs).row (Of a_one, its) there refl in
-    let way : LeadsTo (map (edge_text main.path) (edge_to one_zero ∷ [])) main.path (codes "a@v1.0.0") lines =
-    subst (λ (es : List Edge). LeadsTo (map (edge_text main.path) es) main.path (codes "a@v1.0.0") lines) edges leads in
-    let by_line : Ways (codes "a@v1.0.0") lines =
-    subst (λ (m : List ℕ). LeadsTo (map (edge_text m) (edge_to one_zero ∷ [])) m (codes "a@v1.0.0") lines) own way in
-    let text : codes "m\nb@v1.0.0\na@v1.0.0\n" ≡ codes "m\na@v1.0.0\n" =
-    same_text (codes "m\nb@v1.0.0\na@v1.0.0\n") (text_of lines) says ∙ ap text_of (way_to_a (codes "a@v1.0.0") lines by_line refl) in
-    let letter : 98 ≡ 97 = first_byte 98 97 _ _ (ap (drop 2) text) in omega (arith, letter)
+chain_is_by_no_line rows edges main list_run graph_run show law =
+    letters_differ (codes "@v1.0.0\na@v1.0.0\n") (codes "@v1.0.0\n")
+    (same_text (codes "m\nb@v1.0.0\na@v1.0.0\n") (codes "m\na@v1.0.0\n") (chain_is rows edges main list_run graph_run show chain_by_b law))
 
--- ---- a chain to what is not listed
-
-no_row_of_b : (run : Given) (main : Main) (rows : List Entry) → ShowsRows run main None None rows list_of_a → (row : Entry) → Contains rows row → path_of main.path row.0 ≡ codes "b" → ⊥
-no_row_of_b run main rows shows (FromMain, right) there is =
-    let letter : 109 ≡ 98 = first_byte 109 98 _ _ (sym (list_main run main one_zero rows shows) ∙ is) in omega (arith, letter)
-no_row_of_b run main rows shows (Of x, right) there is =
-    let own : x ≡ (codes "a", one_zero) = only_row run main one_zero one_zero_is rows shows x right there in
-    let letter : 97 ≡ 98 = first_byte 97 98 _ _ (sym (ap (λ (y : ModuleVersion). y.0) own) ∙ is) in omega (arith, letter)
+pub chain_is_to_another : ChainIsToAnother
+chain_is_to_another rows edges main list_run graph_run show law =
+    letters_differ (codes "@v1.0.0\n") (codes "@v1.0.0\n")
+    (same_text (codes "m\nb@v1.0.0\n") (codes "m\na@v1.0.0\n") (chain_is rows edges main list_run graph_run show chain_to_b law))
 
 pub unlisted_is_shown : UnlistedIsShown
-unlisted_is_shown file sums asked others third main alike runs law =
-    let chain : Outcome = printed (codes "m\nb@v1.0.0\n") in
-    let none : ¬ (HasEntryFor main.path law.rows (codes "b")) =
-    λ has. no_row_of_b (run_over file sums asked) main law.rows law.shows_rows has.0 has.1 has.2 in
-    let says : chain ≡ refused (not_listed_line (codes "b")) = (law.explains (codes "b") third chain alike runs).unlisted none in
-    let code : 0 ≡ 1 = ap (λ (o : Outcome). o.status) says in omega (arith, code)
+unlisted_is_shown rows edges main list_run graph_run show law =
+    let none : ¬ (HasEntryFor main.path rows (codes "b")) = λ has. no_row_of_b rows edges main list_run graph_run show has.0 has.1 has.2 in
+    let code : 0 ≡ 1 = ap (λ (o : Outcome). o.status) (law.unlisted none) in omega (arith, code)

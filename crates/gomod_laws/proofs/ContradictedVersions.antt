@@ -3,6 +3,7 @@ use Rattle.std.proofs.Common.{◌≡◌, ◌∙◌, ◌∷◌, ℕ, true, false,
 use Rattle.std.specs.List.Sorted.{IsStrictlySortedBy}
 use Rattle.std.specs.Ordering.{is_gt}
 use Rattle.std.specs.declared.cmp.Ordering.{Ordering}
+use Rattle.std.specs.declared.cmp.Ordering.TheVariants.{Less, Greater}
 use Rattle.std.proofs.lemmas.Bool.{false≢true}
 use Rattle.gm_name.specs.Version.{IsVersion, version_cmp}
 use Rattle.gm_name.specs.VersionOrder.{version_total}
@@ -18,10 +19,10 @@ use Rattle.gm_graph_select.proofs.Ascending.{less_itself, member_cases, member_h
 use Rattle.gm_graph_listing.specs.Outcomes.{Outcome, printed}
 use Rattle.gomod_run.specs.Versions.{versions_line}
 use Rattle.gomod_run.proofs.Uniqueness.{latest_once}
-use Rattle.gomod_laws.specs.CounterVersions.{ListedIsMissing, RetractedIsShown, UnretractedIsLeftOut, VersionDoesNotFit, VersionIsUnlisted, VersionStandsTwice, both_of_a}
+use Rattle.gomod_laws.specs.CounterVersions.{ListedIsMissing, RetractedIsShown, UnretractedIsLeftOut, VersionDoesNotFit, VersionIsUnlisted, VersionStandsTwice, VersionsDescend, both_of_a}
 use Rattle.gomod_laws.specs.VersionLaws.{AreUnretracted, LeavesOutRetracted, Retracts, ShowsVersions}
 use Rattle.gomod_laws.proofs.AdditionsKept.{from_filtered, in_filtered}
-use Rattle.gomod_laws.proofs.KnownVersions.{both_listed, one_one, one_one_is, one_one_is_latest, one_zero, one_zero_is, one_zero_listed, one_zero_unlisted, same_precedence, two_zero, two_zero_is, two_zero_misfits, versions_differ}
+use Rattle.gomod_laws.proofs.KnownVersions.{both_listed, one_one, one_one_is, one_one_is_above, one_one_is_latest, one_zero, one_zero_is, one_zero_listed, one_zero_unlisted, same_precedence, two_zero, two_zero_is, two_zero_misfits, versions_differ}
 use Rattle.gomod_laws.proofs.ShownTexts.{same_text}
 use Rattle.gomod_laws.proofs.VersionLines.{line_says_versions}
 
@@ -60,6 +61,15 @@ pub version_stands_twice : VersionStandsTwice
 version_stands_twice asked versions shows =
     let are = shown_are asked versions (one_zero ∷ one_zero ∷ []) (printed (codes "a v1.0.0 v1.0.0\n")) (two_known one_zero one_zero one_zero_is one_zero_is) shows refl in
     not_twice one_zero (ascends versions (one_zero ∷ one_zero ∷ []) shows.ascending are)
+
+not_down : IsStrictlySortedBy version_cmp (one_one ∷ one_zero ∷ []) → ⊥
+unfolding IsStrictlySortedBy
+not_down up = let less : Greater ≡ Less = sym one_one_is_above ∙ up.0.0 in cc less
+
+pub versions_descend : VersionsDescend
+versions_descend asked versions shows =
+    let are = shown_are asked versions (one_one ∷ one_zero ∷ []) (printed (codes "a v1.1.0 v1.0.0\n")) (two_known one_one one_zero one_one_is one_zero_is) shows refl in
+    not_down (ascends versions (one_one ∷ one_zero ∷ []) shows.ascending are)
 
 pub version_does_not_fit : VersionDoesNotFit
 version_does_not_fit asked versions shows =

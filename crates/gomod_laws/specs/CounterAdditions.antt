@@ -1,15 +1,15 @@
 -- What the laws of two runs of queries conclude is false of pairs of outputs that contradict them.
-use Rattle.std.specs.Prelude.{ℕ, List, Option, None, codes}
-use Rattle.gm_store.specs.Asked.{Name, Reply}
+use Rattle.std.specs.Prelude.{ℕ, List, None, codes, map}
 use Rattle.gm_graph_cache.specs.Main.{Main}
-use Rattle.gm_graph_listing.specs.Laws.{AnswerAlike}
+use Rattle.gm_graph_select.specs.declared.step.Edge.{Edge}
+use Rattle.gm_graph_select.specs.BuildList.{Entry}
 use Rattle.gm_graph_listing.specs.Outcomes.{Given, Outcome, printed, refused}
-use Rattle.gomod_words.specs.declared.usage.Command.TheVariants.{Chain}
+use Rattle.gm_graph_listing.specs.PrintedLines.{edge_text}
 use Rattle.gomod_laws.specs.AdditionLaws.{KeepsLines, LowersNothing}
 use Rattle.gomod_laws.specs.Counterexamples.{graph_of_a, list_of_a}
 use Rattle.gomod_laws.specs.RequirableLaws.{PrintsAndStays}
-use Rattle.gomod_laws.specs.RowLaws.{ExplainsEachRow}
-use Rattle.gomod_laws.specs.Runs.{HasOutcome}
+use Rattle.gomod_laws.specs.RowLaws.{IsExplained}
+use Rattle.gomod_laws.specs.Shown.{ShowsEdges, ShowsRows}
 
 -- a list and a graph that show a v1.1.0
 abbrev pub higher_list : Outcome
@@ -34,19 +34,32 @@ RowIsHigher = ¬ (PrintsAndStays list_of_a higher_list)
 abbrev pub NeitherPrints : Type 0
 NeitherPrints = (report : List ℕ) → ¬ (PrintsAndStays (refused report) (refused report))
 
--- a chain to a v1.0.0 by b v1.0.0
+-- a chain to a v1.0.0 by b v1.0.0, and one to b v1.0.0
 abbrev pub chain_by_b : Outcome
 chain_by_b = printed (codes "m\nb@v1.0.0\na@v1.0.0\n")
 
--- `EachRowIsExplained` if `list` shows a v1.0.0, `graph` shows that m requires it, and `chain a` prints another way to
--- it
+abbrev pub chain_to_b : Outcome
+chain_to_b = printed (codes "m\nb@v1.0.0\n")
+
+-- `list` shows a v1.0.0, and `graph` shows that m requires it.
+pub record ShowA (rows : List Entry) (edges : List Edge) (main : Main) (list_run graph_run : Given) : Type 0 where
+  pub in_list : ShowsRows list_run main None None rows list_of_a
+  pub in_graph : ShowsEdges graph_run main edges graph_of_a
+
+-- `EachRowIsExplained`, if `chain a` prints another way to a then,
 abbrev pub ChainIsByNoLine : Type 0
-ChainIsByNoLine = (file : List ℕ) (sums : Option (List ℕ)) (asked others third : List (Name × Reply)) (main : Main)
-    → AnswerAlike asked third → HasOutcome (Chain (codes "a")) file sums third chain_by_b
-    → ¬ (ExplainsEachRow file sums asked others main None None list_of_a graph_of_a)
+ChainIsByNoLine = (rows : List Entry) (edges : List Edge) (main : Main) (list_run graph_run : Given)
+    → ShowA rows edges main list_run graph_run
+    → ¬ (IsExplained main.path rows (map (edge_text main.path) edges) (codes "a") chain_by_b)
+
+-- if it prints a way to b,
+abbrev pub ChainIsToAnother : Type 0
+ChainIsToAnother = (rows : List Entry) (edges : List Edge) (main : Main) (list_run graph_run : Given)
+    → ShowA rows edges main list_run graph_run
+    → ¬ (IsExplained main.path rows (map (edge_text main.path) edges) (codes "a") chain_to_b)
 
 -- and if `chain b` prints a way to b, which has no row
 abbrev pub UnlistedIsShown : Type 0
-UnlistedIsShown = (file : List ℕ) (sums : Option (List ℕ)) (asked others third : List (Name × Reply)) (main : Main)
-    → AnswerAlike asked third → HasOutcome (Chain (codes "b")) file sums third (printed (codes "m\nb@v1.0.0\n"))
-    → ¬ (ExplainsEachRow file sums asked others main None None list_of_a graph_of_a)
+UnlistedIsShown = (rows : List Entry) (edges : List Edge) (main : Main) (list_run graph_run : Given)
+    → ShowA rows edges main list_run graph_run
+    → ¬ (IsExplained main.path rows (map (edge_text main.path) edges) (codes "b") chain_to_b)

@@ -14,6 +14,11 @@ abbrev pub VersionStandsTwice : Type 0
 VersionStandsTwice = (asked : List (Name × Reply)) (versions : List (List ℕ))
     → ¬ (ShowsVersions asked (codes "a") versions (printed (codes "a v1.0.0 v1.0.0\n")))
 
+-- if they do not ascend,
+abbrev pub VersionsDescend : Type 0
+VersionsDescend = (asked : List (Name × Reply)) (versions : List (List ℕ))
+    → ¬ (ShowsVersions asked (codes "a") versions (printed (codes "a v1.1.0 v1.0.0\n")))
+
 -- if one doesn't fit the path,
 abbrev pub VersionDoesNotFit : Type 0
 VersionDoesNotFit = (asked : List (Name × Reply)) (versions : List (List ℕ))

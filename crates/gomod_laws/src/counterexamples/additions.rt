@@ -1,6 +1,6 @@
 //! What the laws of two runs of queries conclude, tried on pairs of outputs.
 
-ghost use Rattle.gomod_laws.specs.CounterAdditions.{ChainIsByNoLine, LineIsLost, NeitherPrints, RowIsHigher, RowIsLower, UnlistedIsShown};
+ghost use Rattle.gomod_laws.specs.CounterAdditions.{ChainIsByNoLine, ChainIsToAnother, LineIsLost, NeitherPrints, RowIsHigher, RowIsLower, UnlistedIsShown};
 
 /// That an addition lowers nothing is false of a list with a v1.1.0 and one with a v1.0.0 after it. That it loses no
 /// line is false of a graph with one line and one with another line after it.
@@ -17,8 +17,9 @@ pub fn a_requirement_can_change()
 {}
 
 /// Let `list` print `m` and `a v1.0.0`, and `graph` print `m a@v1.0.0`. That each row is explained is false if `chain a`
-/// prints `m`, `b@v1.0.0` and `a@v1.0.0`, and if `chain b` prints `m` and `b@v1.0.0`.
+/// prints `m`, `b@v1.0.0` and `a@v1.0.0`, or `m` and `b@v1.0.0`, and if `chain b` prints the latter.
 pub fn a_row_can_be_unexplained()
     ensures way { ChainIsByNoLine }
+    ensures end { ChainIsToAnother }
     ensures unlisted { UnlistedIsShown }
 {}
