@@ -16,8 +16,8 @@ pub fn a_requirement_can_change()
     ensures refusal { NeitherPrints }
 {}
 
-/// Let `list` print `m` and `a v1.0.0`, and `graph` print `m a@v1.0.0`. That each row is explained is false if `chain a`
-/// prints `m`, `b@v1.0.0` and `a@v1.0.0`, or `m` and `b@v1.0.0`, and if `chain b` prints the latter.
+/// Let `list` print `m` and `a v1.0.0`, and `graph` print `m a@v1.0.0`. That each row is explained is false if `chain
+/// a` prints `m`, `b@v1.0.0` and `a@v1.0.0`, or `m` and `b@v1.0.0`, and if `chain b` prints the latter.
 pub fn a_row_can_be_unexplained()
     ensures way { ChainIsByNoLine }
     ensures end { ChainIsToAnother }

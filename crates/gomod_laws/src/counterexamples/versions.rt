@@ -2,8 +2,8 @@
 
 ghost use Rattle.gomod_laws.specs.CounterVersions.{ListedIsMissing, RetractedIsShown, UnretractedIsLeftOut, VersionDoesNotFit, VersionIsUnlisted, VersionStandsTwice, VersionsDescend};
 
-/// That what `versions a` prints are versions of a is false of `a v1.0.0 v1.0.0`, in which one stands twice, of
-/// `a v1.1.0 v1.0.0`, in which they descend, and of `a v2.0.0`, which does not fit. It is false of `a v1.0.0` if the list
+/// That what `versions a` prints are versions of a is false of `a v1.0.0 v1.0.0`, in which one stands twice, of `a
+/// v1.1.0 v1.0.0`, in which they descend, and of `a v2.0.0`, which does not fit. It is false of `a v1.0.0` if the list
 /// file names v1.1.0 alone.
 pub fn versions_can_contradict()
     ensures twice { VersionStandsTwice }
