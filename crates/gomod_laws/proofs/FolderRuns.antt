@@ -34,15 +34,15 @@ use Rattle.gomod_laws.proofs.VersionRuns.{by_answers, list_answered, refusal_pri
 
 -- ---- the files that were asked for
 
-abbrev Keeps : AnswersByName → AnswersByName → Type 0
+abbrev pub Keeps : AnswersByName → AnswersByName → Type 0
 Keeps one other = (name : Name) (reply : Reply) → one name ≡ Some reply → other name ≡ Some reply
 
 -- files that the answers need, and that more answers need too
-abbrev Grows : (AnswersByName → Name → Type 0) → Type 0
+abbrev pub Grows : (AnswersByName → Name → Type 0) → Type 0
 Grows needs = (one other : AnswersByName) → Keeps one other → (name : Name) → needs one name → needs other name
 
 -- each file that was asked for is needed by all answers
-needed_after : (needs : AnswersByName → Name → Type 0) → Grows needs → (before later : Pairs) → AskedAfter needs before later → (name : Name) → Contains (names_in later) name
+pub needed_after : (needs : AnswersByName → Name → Type 0) → Grows needs → (before later : Pairs) → AskedAfter needs before later → (name : Name) → Contains (names_in later) name
     → needs (answer_in (before ++ later)) name
 needed_after needs grows before [] after name there = absurd (no_member name there)
 needed_after needs grows before (pair ∷ later) after name there =
@@ -54,7 +54,7 @@ needed_after needs grows before (pair ∷ later) after name there =
       | inr inside ↦ further inside
     ]
 
-answered_name : (asked : Pairs) (name : Name) (reply : Reply) → answer_in asked name ≡ Some reply → Contains (names_in asked) name
+pub answered_name : (asked : Pairs) (name : Name) (reply : Reply) → answer_in asked name ≡ Some reply → Contains (names_in asked) name
 answered_name asked name reply e =
     let (k, below, at) = answered_in asked name reply e in
     (k, rw length-map below, get_or-map (λ (pair : Name × Reply). pair.0) asked k (name, reply) name below ∙ ap (λ (pair : Name × Reply). pair.0) at)
@@ -77,7 +77,7 @@ read_is_file sums name (bytes content) file is = (content, refl)
 
 -- ---- `versions`
 
-versions_grow : (path : List ℕ) (all : Bool) → Grows (VersionsNeed path all)
+pub versions_grow : (path : List ℕ) (all : Bool) → Grows (VersionsNeed path all)
 versions_grow path all one other keeps name (may, inl is) = (may, inl is)
 versions_grow path all one other keeps name (may, inr (list, versions, latest, some, answered, listed, greatest, is)) =
     (may, inr (list, versions, latest, some, keeps (list_file path) (bytes list) answered, listed, greatest, is))
@@ -165,7 +165,7 @@ names_into file sums asked told main again held next alike valid also name there
 -- ---- any command
 
 -- a run over answers that are alike has the same outcome
-same_outcome : (command : Command) (main : List ℕ) (sums : Option (List ℕ)) (asked told : Pairs) (a b : Outcome) → AnswerAlike asked told
+pub same_outcome : (command : Command) (main : List ℕ) (sums : Option (List ℕ)) (asked told : Pairs) (a b : Outcome) → AnswerAlike asked told
     → HasOutcome command main sums asked a → HasOutcome command main sums told b → a ≡ b
 same_outcome command main sums asked told a b alike run again =
     let all : AnswerAlike run.new.asked again.new.asked =

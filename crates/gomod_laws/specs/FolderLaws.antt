@@ -1,12 +1,14 @@
--- A law of proxy folders in memory: Go Modules Reference, GOPROXY ("falls back to the next").
-use Rattle.std.specs.Prelude.{◌≡◌, ◌↔◌, ◌++◌, ◌∷◌, ℕ, List, [], Option, Some, Contains, slice_get}
+-- Laws of proxy folders in memory: Go Modules Reference, GOPROXY ("falls back to the next").
+use Rattle.std.specs.Prelude.{◌≡◌, ◌≢◌, ◌↔◌, ◌++◌, ◌∷◌, ℕ, suc, All, List, [], Option, Some, Contains, length, map, slice_get}
 use Rattle.gm_store.specs.declared.folders_in_memory.FoldersInMemory.{FoldersInMemory}
 use Rattle.gm_store.specs.declared.memory_folder.MemoryFolder.{MemoryFolder}
 use Rattle.gm_store.specs.declared.proxy_list.Mark.{Mark}
-use Rattle.gm_store.specs.Asked.{Name, Reply, names_in}
+use Rattle.gm_store.specs.Asked.{Name, Reply, list_file, mod_file, names_in}
 use Rattle.gm_store.specs.FolderLookups.{lookup_results, marks_for}
-use Rattle.gm_store.specs.Steps.{MayStop}
-use Rattle.gm_graph_listing.specs.Outcomes.{Outcome}
+use Rattle.gm_store.specs.FoldersInMemory.{result_at}
+use Rattle.gm_store.specs.Steps.{MayStop, Seen, absent}
+use Rattle.gm_graph_listing.specs.Outcomes.{Outcome, refused}
+use Rattle.gm_graph_listing.specs.Reports.{too_many_line}
 use Rattle.gomod_words.specs.declared.usage.Command.{Command}
 use Rattle.gomod_run.specs.Runs.{AskedInTurn, Needs}
 use Rattle.gomod_laws.specs.Runs.{HasOutcome, HasPrinted}
@@ -33,11 +35,7 @@ pub record HasOneMore (folders others : FoldersInMemory) (marks more : List Mark
   pub marks_are : more ≡ marks ++ mark ∷ []
   pub beside : others.beside ≡ folders.beside
 
--- A store was asked for the same files in both runs, in whatever order.
-abbrev pub AskForTheSame : List (Name × Reply) → List (Name × Reply) → Type 0
-AskForTheSame asked told = (name : Name) → Contains (names_in told) name ↔ Contains (names_in asked) name
-
--- If a command prints, it prints the same with one more folder put last, and asks for the same files.
+-- Where a command prints, it prints the same with one more folder put last, and asks for the same files.
 abbrev pub MoreFoldersChangeNothing : Type 0
 MoreFoldersChangeNothing = (command : Command) (main : List ℕ) (sums : Option (List ℕ))
     (folders others : FoldersInMemory) (marks more : List Mark) (asked told : List (Name × Reply))
@@ -45,4 +43,42 @@ MoreFoldersChangeNothing = (command : Command) (main : List ℕ) (sums : Option 
     → HasOneMore folders others marks more
     → RunsOver command main sums folders marks asked one → HasPrinted one
     → RunsOver command main sums others more told other
-    → (other ≡ one) × AskForTheSame asked told
+    → (other ≡ one) × ((name : Name) → Contains (names_in told) name ↔ Contains (names_in asked) name)
+
+-- ---- files divided among proxy folders
+
+-- one of the results is this one, and each of the others is that there is no such file
+pub record IsTheOnlyOne (result : Seen) (results : List Seen) : Type 0 where
+  pub before : List Seen
+  pub after : List Seen
+  pub in_order : results ≡ before ++ result ∷ after
+  pub others : All (λ seen. seen ≡ absent) (before ++ after)
+
+-- One of the folders has under this name what the single folder has, and none of the others has a file of that name.
+-- So if the single folder has none, none of them has one.
+abbrev pub IsInOneOf : List MemoryFolder → MemoryFolder → Name → Type 0
+IsInOneOf shelves single name = IsTheOnlyOne (result_at single name) (map (λ shelf. result_at shelf name) shelves)
+
+-- The files of modules and the version lists of the one proxy folder of `whole` are divided among the proxy folders
+-- of `folders`, each two of which have a mark between them. Beside the main file both have the same folder.
+pub record AreDivided (whole folders : FoldersInMemory) (marks : List Mark) : Type 0 where
+  pub single : MemoryFolder
+  pub one_folder : whole.proxies.items ≡ single ∷ []
+  pub files : (path version : List ℕ) → IsInOneOf folders.proxies.items single (mod_file path version)
+  pub lists : (path : List ℕ) → IsInOneOf folders.proxies.items single (list_file path)
+  pub marks_between : length folders.proxies.items ≡ suc (length marks)
+  pub beside : whole.beside ≡ folders.beside
+
+-- the same files are asked for in both runs
+abbrev pub AskForTheSame : List (Name × Reply) → List (Name × Reply) → Type 0
+AskForTheSame asked told = (name : Name) → Contains (names_in told) name ↔ Contains (names_in asked) name
+
+-- A command has the same outcome over folders among which the files of one folder are divided and over that folder.
+-- It asks for the same files, unless more than 65,536 modules are opened.
+abbrev pub DividedFoldersChangeNothing : Type 0
+DividedFoldersChangeNothing = (command : Command) (main : List ℕ) (sums : Option (List ℕ))
+    (whole folders : FoldersInMemory) (marks : List Mark) (asked told : List (Name × Reply)) (one other : Outcome)
+    → AreDivided whole folders marks
+    → RunsOver command main sums whole [] asked one
+    → RunsOver command main sums folders marks told other
+    → (other ≡ one) × (one ≢ refused too_many_line → AskForTheSame asked told)

@@ -2,6 +2,7 @@
 //! counterexample.
 
 pub mod merges;
+pub mod folders;
 pub mod queries;
 pub mod reports;
 pub mod additions;
