@@ -3,6 +3,7 @@
 
 pub mod merges;
 pub mod folders;
+pub mod own_lists;
 pub mod queries;
 pub mod reports;
 pub mod additions;

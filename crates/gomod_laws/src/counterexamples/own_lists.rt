@@ -1,0 +1,9 @@
+//! What the law on a dependency's own list concludes, tried on two lists.
+
+ghost use Rattle.gomod_laws.specs.CounterOwnLists.{OwnRowIsAbove};
+
+/// What the law concludes is false of the list `d`, `a v1.1.0` over the file of d and the list `m`, `a v1.0.0` over a
+/// main file.
+pub fn an_own_list_can_contradict()
+    ensures { OwnRowIsAbove }
+{}
