@@ -35,7 +35,11 @@ pub record HasOneMore (folders others : FoldersInMemory) (marks more : List Mark
   pub marks_are : more ≡ marks ++ mark ∷ []
   pub beside : others.beside ≡ folders.beside
 
--- Where a command prints, it prints the same with one more folder put last, and asks for the same files.
+-- A store was asked for the same files in both runs, in whatever order.
+abbrev pub AskForTheSame : List (Name × Reply) → List (Name × Reply) → Type 0
+AskForTheSame asked told = (name : Name) → Contains (names_in told) name ↔ Contains (names_in asked) name
+
+-- If a command prints, it prints the same with one more folder put last, and asks for the same files.
 abbrev pub MoreFoldersChangeNothing : Type 0
 MoreFoldersChangeNothing = (command : Command) (main : List ℕ) (sums : Option (List ℕ))
     (folders others : FoldersInMemory) (marks more : List Mark) (asked told : List (Name × Reply))
@@ -43,7 +47,7 @@ MoreFoldersChangeNothing = (command : Command) (main : List ℕ) (sums : Option 
     → HasOneMore folders others marks more
     → RunsOver command main sums folders marks asked one → HasPrinted one
     → RunsOver command main sums others more told other
-    → (other ≡ one) × ((name : Name) → Contains (names_in told) name ↔ Contains (names_in asked) name)
+    → (other ≡ one) × AskForTheSame asked told
 
 -- ---- files divided among proxy folders
 
@@ -68,10 +72,6 @@ pub record AreDivided (whole folders : FoldersInMemory) (marks : List Mark) : Ty
   pub lists : (path : List ℕ) → IsInOneOf folders.proxies.items single (list_file path)
   pub marks_between : length folders.proxies.items ≡ suc (length marks)
   pub beside : whole.beside ≡ folders.beside
-
--- the same files are asked for in both runs
-abbrev pub AskForTheSame : List (Name × Reply) → List (Name × Reply) → Type 0
-AskForTheSame asked told = (name : Name) → Contains (names_in told) name ↔ Contains (names_in asked) name
 
 -- A command has the same outcome over folders among which the files of one folder are divided and over that folder.
 -- It asks for the same files, unless more than 65,536 modules are opened.

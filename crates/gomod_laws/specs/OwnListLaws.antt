@@ -39,7 +39,7 @@ pub record AreOwnRuns (file own : List ℕ) (sums : Option (List ℕ)) (main dep
   pub replaces : dependency.replaces ≡ []
   pub unpruned : (is_pruned_by main.go ≡ false) ⊎ (is_pruned_by dependency.go ≡ false)
 
--- Where `list` prints over a main file, it prints over the file of a module that it asked for. No row of that list is
+-- If `list` prints over a main file, it prints over the file of a module that it asked for. No row of that list is
 -- above the row of its path in the main file's list, rows of the main module's path aside.
 abbrev pub OwnListIsNotAbove : Type 0
 OwnListIsNotAbove = (file own : List ℕ) (sums : Option (List ℕ)) (main dependency : Main) (list its : Outcome)
