@@ -35,7 +35,7 @@ use Rattle.gomod_laws.proofs.RequirableLists.{rows_can_be_required, same_version
 
 -- ---- what directives say as those of a main file
 
-differ : (ds es : List Directive) → SameRest ds es → DifferInRequirements (main_said ds) (main_said es)
+pub differ : (ds es : List Directive) → SameRest ds es → DifferInRequirements (main_said ds) (main_said es)
 differ ds es same = record {
   path = ap (λ (ms : List (List ℕ)). unwrap_or (first ms) []) same.modules;
   replaces = λ x. ap (λ (rs : List Replacing). replacement_of rs x) same.replaces;
