@@ -7,17 +7,15 @@ use Rattle.gm_file_edit.specs.Edits.{Edit as Operation, DropRequire, SetRequire,
 use Rattle.gm_store.specs.Asked.{Name, Reply}
 use Rattle.gm_graph_cache.specs.Main.{Main, ModuleVersion, is_pruned_by}
 use Rattle.gm_graph_select.specs.declared.step.Edge.{Edge}
-use Rattle.gm_graph_select.specs.BuildList.{Entry}
 use Rattle.gm_graph.specs.Graph.{IsTop}
 use Rattle.gm_graph_listing.specs.Laws.{AnswerAlike}
 use Rattle.gm_graph_listing.specs.Outcomes.{Outcome}
 use Rattle.gomod_words.specs.Usage.{texts_in}
 use Rattle.gomod_words.specs.declared.usage.Command.TheVariants.{List as Rows}
-use Rattle.gomod_laws.specs.AdditionLaws.{AreNotLower, AreTwoRuns}
+use Rattle.gomod_laws.specs.AdditionLaws.{AreTwoRuns, LowersNothing}
 use Rattle.gomod_laws.specs.FormattingLaws.{IsEdited}
-use Rattle.gomod_laws.specs.RequirableLaws.{DifferInRequirements, StandsFirst, StandsSecond}
-use Rattle.gomod_laws.specs.Runs.{HasPrinted}
-use Rattle.gomod_laws.specs.Shown.{ShowsEdges, ShowsRows, run_over}
+use Rattle.gomod_laws.specs.RequirableLaws.{DifferInRequirements, PrintsAndStays, StandsFirst, StandsSecond}
+use Rattle.gomod_laws.specs.Shown.{ShowsEdges, run_over}
 
 -- ---- what still stands in a graph
 
@@ -46,7 +44,7 @@ RedundantCanBeDropped = (file other : List ℕ) (sums : Option (List ℕ)) (firs
     (runs : AreTwoRuns (Rows None None) file other sums first second one next) → AnswerAlike seen runs.later
     → ShowsEdges (run_over other sums seen) second edges graph → DifferInRequirements first second
     → LeavesOutRedundant first second edges → ((x : ModuleVersion) → IsTop second x → IsTop first x)
-    → HasPrinted one × (next ≡ one)
+    → PrintsAndStays one next
 
 -- If the second also requires other modules, `list` prints on both, and no row of the first is lower on the second.
 abbrev pub NoRowIsLower : Type 0
@@ -55,9 +53,7 @@ NoRowIsLower = (file other : List ℕ) (sums : Option (List ℕ)) (first second 
     (runs : AreTwoRuns (Rows None None) file other sums first second one next) → AnswerAlike seen runs.later
     → ShowsEdges (run_over other sums seen) second edges graph → DifferInRequirements first second
     → LeavesOutRedundant first second edges
-    → (rows : List Entry) × (others : List Entry)
-    × ShowsRows (run_over file sums runs.asked) first None None rows one
-    × ShowsRows (run_over other sums runs.later) second None None others next × AreNotLower rows others
+    → LowersNothing (run_over file sums runs.asked) (run_over other sums runs.later) first second one next
 
 -- ---- an edit of one operation
 
@@ -75,7 +71,7 @@ DropChangesNoList = (operations : Vec (String Global)) (path file text : List �
     (first second : Main) (edges : List Edge) (seen : List (Name × Reply)) (graph one next : Outcome)
     (runs : AreTwoRuns (Rows None None) file text sums first second one next) → AnswerAlike seen runs.later
     → IsEditedBy operations (DropRequire path) file text → ShowsEdges (run_over text sums seen) second edges graph
-    → EachStillStands first second edges path → HasPrinted one × (next ≡ one)
+    → EachStillStands first second edges path → PrintsAndStays one next
 
 -- If so, `require=PATH@VERSION` lowers no row, that of the path included, and `list` prints before and after.
 abbrev pub UpgradeLowersNoRow : Type 0
@@ -84,6 +80,4 @@ UpgradeLowersNoRow = (operations : Vec (String Global)) (path version file text 
     (runs : AreTwoRuns (Rows None None) file text sums first second one next) → AnswerAlike seen runs.later
     → IsEditedBy operations (SetRequire (pair path version)) file text
     → ShowsEdges (run_over text sums seen) second edges graph → EachStillStands first second edges path
-    → (rows : List Entry) × (others : List Entry)
-    × ShowsRows (run_over file sums runs.asked) first None None rows one
-    × ShowsRows (run_over text sums runs.later) second None None others next × AreNotLower rows others
+    → LowersNothing (run_over file sums runs.asked) (run_over text sums runs.later) first second one next
