@@ -13,7 +13,7 @@ use Rattle.gm_graph_select.specs.Chains.{IsChain, begins, goes_on}
 use Rattle.gm_graph_select.proofs.Ascending.{member_head}
 use Rattle.gm_graph_listing.specs.Laws.{AllFilesAreValid}
 use Rattle.gm_graph_listing.specs.Outcomes.{Given, Outcome, printed}
-use Rattle.gm_graph_listing.specs.PrintedLines.{AreProperEdges, AreProperRows, AreProperSteps, IsProperStep, steps_of}
+use Rattle.gm_graph_listing.specs.PrintedLines.{AreProperEdges, AreProperRows, AreProperSteps, IsProperStep}
 use Rattle.gm_graph_listing.specs.Texts.{chain_text, graph_text, list_text, step_text, vertex_text}
 use Rattle.gm_graph_listing.proofs.GraphLines.{text_says_edges, text_says_steps}
 use Rattle.gm_graph_listing.proofs.ListLines.{Lacks, cut_at, has_it, path_has_no_blank, path_has_no_feed, text_says_rows, version_has_no_blank}
@@ -95,7 +95,7 @@ module _ (run : Given) (main : Main) where
         sym (first_row main.path others) ∙ ap (list_text main.path) (sym shows.are.entries_are) ∙ sym rows_text ∙ ap (list_text path) is ∙ first_row path more in
         (cut_at 10 main.path path (list_text main.path others) (list_text path more) (path_has_no_feed main.path (own_path shows.held shows.valid)) none text).0
 
-    pub rows_of_list : AreProperRows shown → main.path ≡ path → steps_of rows ≡ steps_of shown
+    pub rows_of_list : AreProperRows shown → main.path ≡ path → rows ≡ shown
     rows_of_list proper own =
         text_says_rows main.path rows shown (own_path shows.held shows.valid) (run_has_proper_rows run main shows.held rows shows.valid shows.are) proper
         (sym rows_text ∙ ap (λ (m : List ℕ). list_text m shown) (sym own))

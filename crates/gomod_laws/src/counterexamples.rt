@@ -7,6 +7,7 @@ pub mod own_lists;
 pub mod queries;
 pub mod reports;
 pub mod additions;
+pub mod listings;
 pub mod others;
 pub mod queries;
 pub mod versions;

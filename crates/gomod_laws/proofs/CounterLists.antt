@@ -1,0 +1,391 @@
+-- What the laws on `list` conclude is false of lists that contradict them.
+use Rattle.std.proofs.Common.{◌≡◌, ◌∙◌, ◌∷◌, ◌++◌, ℕ, false, List, [], Option, Some, None, Contains, ap, append_assoc, append-nil, arith, codes, inl, inr, length, map, refl, subst, sym}
+use Rattle.std.specs.Prelude.{nat_lt}
+use Rattle.std.specs.List.{AllByRecursion, flat_map}
+use Rattle.std.specs.Ordering.{is_gt}
+use Rattle.std.proofs.lemmas.Bool.{false≢true}
+use Rattle.std.proofs.lemmas.List.Elements.{Contains-append_left, Contains-append_right}
+use Rattle.gm_name.specs.Path.{IsPath}
+use Rattle.gm_name.specs.Version.{IsVersion, version_cmp}
+use Rattle.gm_file.specs.Directives.{Replacing}
+use Rattle.gm_graph_cache.specs.Main.{Main, ModuleVersion, without_excluded}
+use Rattle.gm_graph_cache.specs.Reading.{Held, Readings, readings_by}
+use Rattle.gm_graph_select.specs.declared.step.Step.TheVariants.{Main as FromMain, Of}
+use Rattle.gm_graph_select.specs.BuildList.{Entry, entry_of, main_entry, path_of}
+use Rattle.gm_graph_select.specs.Laws.{joined}
+use Rattle.gm_graph_select.proofs.Ascending.{member_cases, member_head, member_tail, no_member}
+use Rattle.gm_graph.specs.Graph.{IsDeep, IsEdge, IsOpened, IsTop, IsVertex, from_deep, from_main, from_top}
+use Rattle.gm_graph_listing.specs.Laws.{AllFilesAreValid, AreGreatest, ArePrintedPages, ShowsBuildList, ShowsPart, no_row, one_page}
+use Rattle.gm_graph_listing.specs.Outcomes.{AreRows, Given, IsListOutcome, IsMainFile, Outcome, printed, refused}
+use Rattle.gm_graph_listing.specs.PrintedLines.{AreProperRows, IsProperRow}
+use Rattle.gm_graph_listing.specs.Reports.{not_listed_line}
+use Rattle.gm_graph_listing.specs.Texts.{limited, list_text}
+use Rattle.gm_graph_listing.proofs.GreatestRows.{as_build_list}
+use Rattle.gm_graph_listing.proofs.ListLines.{Lacks, cut_at, lacks, path_has_no_blank, path_has_no_feed, text_says_rows}
+use Rattle.gm_graph_listing.proofs.OneOutcome.{one_list_outcome}
+use Rattle.gm_graph_listing.proofs.OneRead.{one_main}
+use Rattle.gm_graph_listing.proofs.PrintedList.{texts_join}
+use Rattle.gm_graph_listing.proofs.RunNames.{run_has_names, run_has_proper_rows}
+use Rattle.gomod_laws.specs.Counterexamples.{a_one, list_of_a}
+use Rattle.gomod_laws.specs.CounterListings.{MainIsMissing, PageHasAnotherRow, PageIsMissing, PartHasAnotherRow, PartIsTheWhole, PartIsTooLong, PathIsTwice, RequiredHasNoRow, RowIsNotRequired, RowIsTooLow, RowsAreUnordered, a_two, b_one}
+use Rattle.gomod_laws.proofs.Contradicted.{a_is_path, b_is_path, other_name}
+use Rattle.gomod_laws.proofs.KnownVersions.{one_one_is, one_one_is_above, one_zero_is}
+use Rattle.gomod_laws.proofs.PrintedRow.{limited_member, printed_rows}
+use Rattle.gomod_laws.proofs.ShownTexts.{same_text}
+
+-- ---- lists of rows
+
+pub each_of : {X : Type 0} (P : X → Type 0) (xs : List X) → AllByRecursion P xs → (x : X) → Contains xs x → P x
+each_of P [] all x there = absurd (no_member x there)
+each_of P (y ∷ xs) all x there = elim (member_cases y x xs there) [
+  | inl same ↦ subst P same all.0
+  | inr later ↦ each_of P xs all.1 x later
+]
+
+-- the row of a module that is not replaced
+abbrev row_at : ModuleVersion → Entry
+row_at x = (Of x, None)
+
+a_proper : IsProperRow (row_at a_one)
+a_proper = (a_is_path, one_zero_is, tt)
+
+two_proper : IsProperRow (row_at a_two)
+two_proper = (a_is_path, one_one_is, tt)
+
+b_proper : IsProperRow (row_at b_one)
+b_proper = (b_is_path, one_zero_is, tt)
+
+of_same : (x y : ModuleVersion) → Of x ≡ Of y → x ≡ y
+of_same x y e = cc e
+
+row_same : (x y : ModuleVersion) → row_at x ≡ row_at y → x ≡ y
+row_same x y e = of_same x y (ap (λ (row : Entry). row.0) e)
+
+main_is_no_of : (x : ModuleVersion) → FromMain ≡ Of x → ⊥
+main_is_no_of x e = cc e
+
+main_is_no_row : (x : ModuleVersion) → main_entry ≡ row_at x → ⊥
+main_is_no_row x e = main_is_no_of x (ap (λ (row : Entry). row.0) e)
+
+pub a_is_not_b : a_one ≡ b_one → ⊥
+a_is_not_b e = other_name (ap (λ (x : ModuleVersion). x.0) e)
+
+abbrev rows_with_a : List Entry
+rows_with_a = main_entry ∷ row_at a_one ∷ []
+
+with_a_proper : AreProperRows rows_with_a
+with_a_proper = each_of IsProperRow rows_with_a (refl, (a_proper, tt))
+
+b_is_no_row : Contains rows_with_a (row_at b_one) → ⊥
+b_is_no_row there = elim (member_cases main_entry (row_at b_one) (row_at a_one ∷ []) there) [
+  | inl same ↦ main_is_no_row b_one same
+  | inr later ↦ elim (member_cases (row_at a_one) (row_at b_one) [] later) [
+    | inl same ↦ a_is_not_b (row_same a_one b_one same)
+    | inr none ↦ no_member (row_at b_one) none
+  ]
+]
+
+-- ---- the rows of a text
+
+pub m_lacks : Lacks 10 (codes "m")
+m_lacks = ((λ e. omega (arith, e)), tt)
+
+spread_main : (main rest : List ℕ) → ((main ++ []) ++ codes "\n") ++ rest ≡ main ++ (10 ∷ rest)
+spread_main main rest = append_assoc (main ++ []) (codes "\n") rest ∙ ap (λ (m : List ℕ). m ++ (10 ∷ rest)) (append-nil main)
+
+-- the first line is that of the main module
+own_path : (main rest text : List ℕ) → IsPath main → ((main ++ []) ++ codes "\n") ++ rest ≡ codes "m" ++ (10 ∷ text) → main ≡ codes "m"
+own_path main rest text is e = (cut_at 10 main (codes "m") rest text (path_has_no_feed main is) m_lacks (sym (spread_main main rest) ∙ e)).0
+
+module _ (run : Given) (main : Main) (held : Held) (rows : List Entry) (valid : AllFilesAreValid run main held) (are : AreRows main (readings_by main held) rows) where
+  pub main_is_path : IsPath main.path
+  main_is_path = (run_has_names run main valid.table held valid.read valid.known).0
+
+  rows_proper : AreProperRows rows
+  rows_proper = run_has_proper_rows run main held rows valid are
+
+  -- rows with this text are these rows, and the main module is m
+  pub rows_are : (known : List Entry) → AreProperRows (main_entry ∷ known) → list_text main.path rows ≡ list_text (codes "m") (main_entry ∷ known)
+      → (main.path ≡ codes "m") × (rows ≡ main_entry ∷ known)
+  rows_are known proper e =
+      let begins : list_text main.path (main_entry ∷ map (entry_of main.replaces) are.selected) ≡ list_text (codes "m") (main_entry ∷ known) =
+      ap (list_text main.path) (sym are.entries_are) ∙ e in
+      let own = own_path main.path (list_text main.path (map (entry_of main.replaces) are.selected)) (list_text (codes "m") known) main_is_path begins in
+      (own, text_says_rows main.path rows (main_entry ∷ known) main_is_path rows_proper proper (e ∙ ap (λ (m : List ℕ). list_text m (main_entry ∷ known)) (sym own)))
+
+  -- so are rows that are some of them
+  some_are : (shown known : List Entry) → ((row : Entry) → Contains shown row → Contains rows row) → AreProperRows known → list_text main.path shown ≡ list_text main.path known → shown ≡ known
+  some_are shown known inside proper e =
+      text_says_rows main.path shown known main_is_path (λ row there. rows_proper row (inside row there)) proper e
+
+-- ---- build lists
+
+two_is_above : is_gt (version_cmp (codes "v1.1.0") (codes "v1.0.0")) ≡ false → ⊥
+two_is_above e = false≢true (sym e ∙ ap is_gt one_one_is_above)
+
+abbrev IsName : ModuleVersion → Type 0
+IsName x = IsPath x.0 × IsVersion x.1
+
+heads_same : (x y : Entry) (xs ys : List Entry) → x ∷ xs ≡ y ∷ ys → x ≡ y
+heads_same x y xs ys e = cc e
+
+tails_same : (x y : Entry) (xs ys : List Entry) → x ∷ xs ≡ y ∷ ys → xs ≡ ys
+tails_same x y xs ys e = cc e
+
+vertices_are : (replaces : List Replacing) (xs ys : List ModuleVersion) → map (entry_of replaces) xs ≡ map row_at ys → xs ≡ ys
+vertices_are replaces [] [] e = refl
+vertices_are replaces [] (y ∷ ys) e = absurd (cc e)
+vertices_are replaces (x ∷ xs) [] e = absurd (cc e)
+vertices_are replaces (x ∷ xs) (y ∷ ys) e =
+    let head = heads_same (entry_of replaces x) (row_at y) (map (entry_of replaces) xs) (map row_at ys) e in
+    let same : x ≡ y = of_same x y (ap (λ (row : Entry). row.0) head) in
+    let rest = tails_same (entry_of replaces x) (row_at y) (map (entry_of replaces) xs) (map row_at ys) e in
+    ap (λ (z : ModuleVersion). z ∷ xs) same ∙ ap (λ (zs : List ModuleVersion). y ∷ zs) (vertices_are replaces xs ys rest)
+
+names_proper : (known : List ModuleVersion) → AllByRecursion IsName known → AllByRecursion IsProperRow (map row_at known)
+names_proper [] names = tt
+names_proper (x ∷ known) names = ((names.0.0, names.0.1, tt), names_proper known names.1)
+
+-- a build list with this text selects these modules
+record Selects (run : Given) (known : List ModuleVersion) : Type 0 where
+  main : Main
+  held : Held
+  valid : AllFilesAreValid run main held
+  own : main.path ≡ codes "m"
+  greatest : AreGreatest main (readings_by main held) known
+
+selects : (run : Given) (text : List ℕ) (known : List ModuleVersion) → AllByRecursion IsName known → text ≡ list_text (codes "m") (main_entry ∷ map row_at known)
+    → ShowsBuildList run (printed text) → Selects run known
+selects run text known names is (main, held, selected, valid, greatest, says) =
+    let readings : Readings = readings_by main held in
+    let rows : List Entry = main_entry ∷ map (entry_of main.replaces) selected in
+    let are : AreRows main readings rows = as_build_list main readings selected greatest in
+    let proper : AreProperRows (main_entry ∷ map row_at known) = each_of IsProperRow (main_entry ∷ map row_at known) (refl, names_proper known names) in
+    let (own, same) = rows_are run main held rows valid are (map row_at known) proper (sym (same_text text (list_text main.path rows) says) ∙ is) in
+    let modules : selected ≡ known = vertices_are main.replaces selected known (tails_same main_entry main_entry (map (entry_of main.replaces) selected) (map row_at known) same) in
+    record { main = main; held = held; valid = valid; own = own; greatest = subst (λ (xs : List ModuleVersion). AreGreatest main readings xs) modules greatest }
+
+a_name : IsName a_one
+a_name = (a_is_path, one_zero_is)
+
+b_name : IsName b_one
+b_name = (b_is_path, one_zero_is)
+
+two_name : IsName a_two
+two_name = (a_is_path, one_one_is)
+
+pub path_is_twice : PathIsTwice
+path_is_twice run shows =
+    let s = selects run (codes "m\na v1.0.0\na v1.1.0\n") (a_one ∷ a_two ∷ []) (a_name, (two_name, tt)) refl shows in
+    let below = s.greatest.ascending 0 1 a_one (omega arith) (omega arith) in cc below
+
+pub rows_are_unordered : RowsAreUnordered
+rows_are_unordered run shows =
+    let s = selects run (codes "m\nb v1.0.0\na v1.0.0\n") (b_one ∷ a_one ∷ []) (b_name, (a_name, tt)) refl shows in
+    let below = s.greatest.ascending 0 1 a_one (omega arith) (omega arith) in cc below
+
+first_lacks : Lacks 10 (codes "a v1.0.0")
+first_lacks = lacks 10 (λ b. nat_lt 10 b) refl (codes "a v1.0.0") refl
+
+pub main_is_missing : MainIsMissing
+main_is_missing run (main, held, selected, valid, greatest, says) =
+    let rows : List Entry = main_entry ∷ map (entry_of main.replaces) selected in
+    let is = main_is_path run main held rows valid (as_build_list main (readings_by main held) selected greatest) in
+    let rest = list_text main.path (map (entry_of main.replaces) selected) in
+    let text : codes "a v1.0.0" ++ (10 ∷ []) ≡ main.path ++ (10 ∷ rest) = same_text (codes "a v1.0.0\n") (list_text main.path rows) says ∙ spread_main main.path rest in
+    let own = (cut_at 10 (codes "a v1.0.0") main.path [] rest first_lacks (path_has_no_feed main.path is) text).0 in
+    let plain : Lacks 32 (codes "a v1.0.0") = subst (Lacks 32) (sym own) (path_has_no_blank main.path is) in
+    plain.1.0 refl
+
+same_main : (run : Given) (main other : Main) (held : Held) → AllFilesAreValid run other held → IsMainFile run.file main → main ≡ other
+same_main run main other held valid is = one_main run.file main other is valid.read.main_file
+
+a_is_not_main : (path : List ℕ) → path ≡ codes "m" → codes "a" ≡ path → ⊥
+a_is_not_main path own e = let first : ◌≡◌ {A = ℕ} 97 109 = cc (e ∙ own) in omega (arith, first)
+
+pub row_is_too_low : RowIsTooLow
+row_is_too_low run main is top shows =
+    let s = selects run (codes "m\na v1.0.0\n") (a_one ∷ []) (a_name, tt) refl shows in
+    let here : IsTop s.main a_two = subst (λ (m : Main). IsTop m a_two) (same_main run main s.main s.held s.valid is) top in
+    let (x, there, path, high) = s.greatest.satisfied a_two (FromMain, here) (a_is_not_main s.main.path s.own) in
+    elim (member_cases a_one x [] there) [
+      | inl same ↦ two_is_above (subst (λ (y : ModuleVersion). is_gt (version_cmp a_two.1 y.1) ≡ false) (sym same) high)
+      | inr none ↦ no_member x none
+    ]
+
+pub required_has_no_row : RequiredHasNoRow
+required_has_no_row run main is top shows =
+    let s = selects run (codes "m\n") [] tt refl shows in
+    let here : IsTop s.main a_one = subst (λ (m : Main). IsTop m a_one) (same_main run main s.main s.held s.valid is) top in
+    let (x, there, path, high) = s.greatest.satisfied a_one (FromMain, here) (a_is_not_main s.main.path s.own) in
+    no_member x there
+
+-- a main file that requires nothing opens nothing
+module _ (main : Main) (readings : Readings) (nothing : main.requirements ≡ []) where
+  no_top : (x : ModuleVersion) → IsTop main x → ⊥
+  no_top x top = no_member x (subst (λ (xs : List ModuleVersion). Contains (without_excluded main xs) x) nothing top)
+
+  no_deep : {x : ModuleVersion} → IsDeep main readings x → ⊥
+  no_deep (from_main {x} unpruned top) = no_top x top
+  no_deep (from_top {x} {y} top unpruned there) = no_top x top
+  no_deep (from_deep {x} {y} deep there) = no_deep deep
+
+  no_opened : (x : ModuleVersion) → IsOpened main readings x → ⊥
+  no_opened x (inl top) = no_top x top
+  no_opened x (inr deep) = no_deep deep
+
+  no_vertex : (x : ModuleVersion) → IsVertex main readings x → ⊥
+  no_vertex x (FromMain, top) = no_top x top
+  no_vertex x (Of y, (opens, there)) = no_opened y opens
+
+pub row_is_not_required : RowIsNotRequired
+row_is_not_required run main is nothing shows =
+    let s = selects run (codes "m\na v1.0.0\n") (a_one ∷ []) (a_name, tt) refl shows in
+    let none : s.main.requirements ≡ [] = ap (λ (m : Main). m.requirements) (sym (same_main run main s.main s.held s.valid is)) ∙ nothing in
+    no_vertex s.main (readings_by s.main s.held) none a_one (s.greatest.required a_one (member_head a_one []))
+
+-- ---- parts
+
+whole_is : (run : Given) (main : Main) (held : Held) (rows : List Entry) → AllFilesAreValid run main held → AreRows main (readings_by main held) rows
+    → list_of_a ≡ printed (list_text main.path rows) → (main.path ≡ codes "m") × (rows ≡ rows_with_a)
+whole_is run main held rows valid are says =
+    rows_are run main held rows valid are (row_at a_one ∷ []) with_a_proper (sym (same_text (codes "m\na v1.0.0\n") (list_text main.path rows) says))
+
+pub part_has_another_row : PartHasAnotherRow
+part_has_another_row after limit run (main, held, rows, valid, are, says, prints) =
+    let (own, same) = whole_is run main held rows valid are says in
+    let (shown, text, inside) = printed_rows main rows after limit (printed (codes "b v1.0.0\n")) refl prints in
+    let is : shown ≡ row_at b_one ∷ [] = some_are run main held rows valid are shown (row_at b_one ∷ []) inside (each_of IsProperRow (row_at b_one ∷ []) (b_proper, tt)) (sym text) in
+    let there : Contains shown (row_at b_one) = subst (λ (es : List Entry). Contains es (row_at b_one)) (sym is) (member_head (row_at b_one) []) in
+    b_is_no_row (subst (λ (es : List Entry). Contains es (row_at b_one)) same (inside (row_at b_one) there))
+
+pub part_is_too_long : PartIsTooLong
+part_is_too_long run (main, held, rows, valid, are, says, prints) =
+    let (own, same) = whole_is run main held rows valid are says in
+    let one : list_of_a ≡ printed (list_text (codes "m") (limited (Some 1) rows_with_a)) =
+    prints ∙ ap (λ (m : List ℕ). printed (list_text m (limited (Some 1) rows))) own ∙ ap (λ (es : List Entry). printed (list_text (codes "m") (limited (Some 1) es))) same in
+    let size : ◌≡◌ {A = ℕ} 11 2 = ap (λ (o : Outcome). length o.text) one in
+    omega (arith, size)
+
+-- what follows a row of a list is in what follows the first row
+later_rows : (before rest : List Entry) (entry first row : Entry) (others : List Entry) → before ++ entry ∷ rest ≡ first ∷ others → Contains rest row → Contains others row
+later_rows [] rest entry first row others e there = subst (λ (es : List Entry). Contains es row) (tails_same entry first rest others e) there
+later_rows (x ∷ before) rest entry first row others e there =
+    subst (λ (es : List Entry). Contains es row) (tails_same x first (before ++ entry ∷ rest) others e) (Contains-append_right before (entry ∷ rest) row (member_tail entry row rest there))
+
+main_is_not_later : Contains (row_at a_one ∷ []) main_entry → ⊥
+main_is_not_later there = elim (member_cases (row_at a_one) main_entry [] there) [
+  | inl same ↦ main_is_no_row a_one (sym same)
+  | inr none ↦ no_member main_entry none
+]
+
+pub not_refused : (text report : List ℕ) → printed text ≡ refused report → ⊥
+not_refused text report e = let status : ◌≡◌ {A = ℕ} 0 1 = ap (λ (o : Outcome). o.status) e in omega (arith, status)
+
+pub part_is_the_whole : PartIsTheWhole
+part_is_the_whole path limit run (main, held, rows, valid, are, says, inr (none, tells)) = not_refused (codes "m\na v1.0.0\n") (not_listed_line path) tells
+part_is_the_whole path limit run (main, held, rows, valid, are, says, inl (rest, (entry, at), tells)) =
+    let (own, same) = whole_is run main held rows valid are says in
+    let inside : (row : Entry) → Contains (limited limit rest) row → Contains rows row =
+    λ row there. subst (λ (es : List Entry). Contains es row) (sym at.parts) (Contains-append_right at.before (entry ∷ rest) row (member_tail entry row rest (limited_member limit rest row there))) in
+    let text : list_text main.path (limited limit rest) ≡ list_text main.path rows_with_a =
+    sym (same_text (codes "m\na v1.0.0\n") (list_text main.path (limited limit rest)) tells) ∙ ap (λ (m : List ℕ). list_text m rows_with_a) (sym own) in
+    let is : limited limit rest ≡ rows_with_a = some_are run main held rows valid are (limited limit rest) rows_with_a inside with_a_proper text in
+    let there : Contains (limited limit rest) main_entry = subst (λ (es : List Entry). Contains es main_entry) (sym is) (member_head main_entry (row_at a_one ∷ [])) in
+    main_is_not_later (later_rows at.before rest entry main_entry main_entry (row_at a_one ∷ []) (sym at.parts ∙ same) (limited_member limit rest main_entry there))
+
+-- ---- pages
+
+-- what the first of these pages is, if this is the text of the first page
+data PageCase (run : Given) (main text : List ℕ) : List (List Entry) → Type 0 where
+  none_left : text ≡ [] → PageCase run main text []
+  some_left : {pages : List (List Entry)} (front : List Entry) (last : Entry) → list_text main (front ++ last ∷ []) ≡ text
+      → ArePrintedPages run main 1 (Some (path_of main last.0)) pages → PageCase run main text ((front ++ last ∷ []) ∷ pages)
+
+page_case : (run : Given) (main text : List ℕ) {after : Option (List ℕ)} {pages : List (List Entry)} → IsListOutcome after (Some 1) run (printed text)
+    → ArePrintedPages run main 1 after pages → PageCase run main text pages
+page_case run main text is (no_row {after} says) = none_left (same_text text [] (one_list_outcome after (Some 1) run (printed text) (printed []) is says))
+page_case run main text is (one_page {after} {pages} front last says more) =
+    some_left front last (same_text (list_text main (front ++ last ∷ [])) text (one_list_outcome after (Some 1) run (printed (list_text main (front ++ last ∷ []))) (printed text) says is)) more
+
+last_of : (front : List Entry) (last one : Entry) → front ++ last ∷ [] ≡ one ∷ [] → last ≡ one
+last_of [] last one e = cc e
+last_of (x ∷ []) last one e = absurd (cc e)
+last_of (x ∷ y ∷ front) last one e = absurd (cc e)
+
+no_last : (front : List Entry) (last : Entry) → front ++ last ∷ [] ≡ [] → ⊥
+no_last [] last e = cc e
+no_last (x ∷ front) last e = cc e
+
+only_main : main_entry ∷ [] ≡ rows_with_a → ⊥
+only_main e = cc e
+
+abbrev only_m : List ℕ
+only_m = codes "m\n"
+
+m_proper : AreProperRows (main_entry ∷ [])
+m_proper = each_of IsProperRow (main_entry ∷ []) (refl, tt)
+
+module _ (run : Given) (main : Main) (held : Held) (valid : AllFilesAreValid run main held) where
+  abbrev AreJoined : List (List Entry) → Type 0
+  AreJoined pages = AreRows main (readings_by main held) (joined pages)
+
+  abbrev IsText : List (List Entry) → Type 0
+  IsText pages = list_of_a.text ≡ flat_map (list_text main.path) pages
+
+  joined_are : (pages : List (List Entry)) → AreJoined pages → IsText pages → (main.path ≡ codes "m") × (joined pages ≡ rows_with_a)
+  joined_are pages are text = whole_is run main held (joined pages) valid are (ap printed (text ∙ sym (texts_join main.path pages)))
+
+  -- the first page is that of the main module
+  first_is : (page : List Entry) (pages : List (List Entry)) → AreJoined (page ∷ pages) → IsText (page ∷ pages) → list_text main.path page ≡ only_m → page ≡ main_entry ∷ []
+  first_is page pages are text says =
+      let own = (joined_are (page ∷ pages) are text).0 in
+      some_are run main held (joined (page ∷ pages)) valid are page (main_entry ∷ []) (λ row there. Contains-append_left page (joined pages) row there) m_proper
+      (says ∙ ap (λ (m : List ℕ). list_text m (main_entry ∷ [])) (sym own))
+
+  -- what the second is, if this is the text of the second page
+  second_case : (front : List Entry) (last : Entry) (pages : List (List Entry)) (text : List ℕ) → main.path ≡ codes "m" → front ++ last ∷ [] ≡ main_entry ∷ []
+      → IsListOutcome (Some (codes "m")) (Some 1) run (printed text) → ArePrintedPages run main.path 1 (Some (path_of main.path last.0)) pages → PageCase run main.path text pages
+  second_case front last pages text own page is more =
+      let path : path_of main.path last.0 ≡ codes "m" = ap (λ (row : Entry). path_of main.path row.0) (last_of front last main_entry page) ∙ own in
+      page_case run main.path text is (subst (λ (p : List ℕ). ArePrintedPages run main.path 1 (Some p) pages) path more)
+
+  module _ (page : List Entry) (first : page ≡ main_entry ∷ []) where
+    in_second : (second : List Entry) (pages : List (List Entry)) (row : Entry) → Contains second row → Contains (joined (page ∷ second ∷ pages)) row
+    in_second second pages row there = Contains-append_right page (second ++ joined pages) row (Contains-append_left second (joined pages) row there)
+
+    missing_second : {pages : List (List Entry)} → AreJoined (page ∷ pages) → IsText (page ∷ pages) → PageCase run main.path [] pages → ⊥
+    missing_second are text (none_left none) =
+        only_main (sym (append-nil (main_entry ∷ [])) ∙ ap (λ (es : List Entry). es ++ []) (sym first) ∙ (joined_are (page ∷ []) are text).1)
+    missing_second are text (some_left {pages} front last says more) =
+        let second : List Entry = front ++ last ∷ [] in
+        no_last front last (some_are run main held (joined (page ∷ second ∷ pages)) valid are second [] (λ row there. in_second second pages row there) (each_of IsProperRow [] tt) says)
+
+    other_second : {pages : List (List Entry)} → AreJoined (page ∷ pages) → IsText (page ∷ pages) → PageCase run main.path (codes "b v1.0.0\n") pages → ⊥
+    other_second are text (none_left none) = cc none
+    other_second are text (some_left {pages} front last says more) =
+        let second : List Entry = front ++ last ∷ [] in
+        let is : second ≡ row_at b_one ∷ [] =
+        some_are run main held (joined (page ∷ second ∷ pages)) valid are second (row_at b_one ∷ []) (λ row there. in_second second pages row there) (each_of IsProperRow (row_at b_one ∷ []) (b_proper, tt)) says in
+        let there : Contains second (row_at b_one) = subst (λ (es : List Entry). Contains es (row_at b_one)) (sym is) (member_head (row_at b_one) []) in
+        b_is_no_row (subst (λ (es : List Entry). Contains es (row_at b_one)) (joined_are (page ∷ second ∷ pages) are text).1 (in_second second pages (row_at b_one) there))
+
+  missing_first : {pages : List (List Entry)} → AreJoined pages → IsText pages → IsListOutcome (Some (codes "m")) (Some 1) run (printed []) → PageCase run main.path only_m pages → ⊥
+  missing_first are text is (none_left none) = cc none
+  missing_first are text is (some_left {pages} front last says more) =
+      let page : List Entry = front ++ last ∷ [] in
+      let first = first_is page pages are text says in
+      missing_second page first are text (second_case front last pages [] (joined_are (page ∷ pages) are text).0 first is more)
+
+  other_first : {pages : List (List Entry)} → AreJoined pages → IsText pages → IsListOutcome (Some (codes "m")) (Some 1) run (printed (codes "b v1.0.0\n")) → PageCase run main.path only_m pages → ⊥
+  other_first are text is (none_left none) = cc none
+  other_first are text is (some_left {pages} front last says more) =
+      let page : List Entry = front ++ last ∷ [] in
+      let first = first_is page pages are text says in
+      other_second page first are text (second_case front last pages (codes "b v1.0.0\n") (joined_are (page ∷ pages) are text).0 first is more)
+
+pub page_is_missing : PageIsMissing
+page_is_missing run first second (main, held, pages, valid, are, paged, text) = missing_first run main held valid are text second (page_case run main.path only_m first paged)
+
+pub page_has_another_row : PageHasAnotherRow
+page_has_another_row run first second (main, held, pages, valid, are, paged, text) = other_first run main held valid are text second (page_case run main.path only_m first paged)
