@@ -67,7 +67,7 @@ same_bytes one other e = cc e
 
 -- ---- an answer that was read is a file
 
-abbrev IsFile : Reply → Type 0
+abbrev pub IsFile : Reply → Type 0
 IsFile reply = (content : List ℕ) × (reply ≡ bytes content)
 
 read_is_file : (sums : Option SumTable) (name : Name) (reply : Reply) (file : Dependency) → IsFileReading sums name reply (Ok file) → IsFile reply
@@ -100,7 +100,7 @@ module _ (path : List ℕ) (all : Bool) (told : AnswersByName) (outcome : Outcom
       let (content, is) = shown_from_file versions last other shows in
       (content, same_answer (told (mod_file path latest)) reply other answered again ∙ is)
 
-  needed_is_file : (name : Name) (reply : Reply) → IsVersionsOutcome path all told outcome → VersionsNeed path all told name → told name ≡ Some reply → IsFile reply
+  pub needed_is_file : (name : Name) (reply : Reply) → IsVersionsOutcome path all told outcome → VersionsNeed path all told name → told name ≡ Some reply → IsFile reply
   needed_is_file name reply states (may, inl is) answered =
       let (versions, are, follows) = list_answered path all told outcome prints states in
       (are.list, same_answer (told (list_file path)) reply (bytes are.list) (subst (λ (n : Name). told n ≡ Some reply) is answered) are.answered)
@@ -111,12 +111,12 @@ module _ (path : List ℕ) (all : Bool) (told : AnswersByName) (outcome : Outcom
       latest_is_file others latest reply follows some (subst (λ (vs : List (List ℕ)). IsLatest vs latest) same greatest) (subst (λ (n : Name). told n ≡ Some reply) is answered)
 
   -- the same files are needed over answers that name the same list
-  needed_again : (other : AnswersByName) (name : Name) → IsVersionsOutcome path all told outcome
-      → ((n : Name) (a b : Reply) → other n ≡ Some a → told n ≡ Some b → a ≡ b) → VersionsNeed path all other name → VersionsNeed path all told name
+  pub needed_again : (other : AnswersByName) (name : Name) → IsVersionsOutcome path all told outcome
+      → ((a b : Reply) → other (list_file path) ≡ Some a → told (list_file path) ≡ Some b → a ≡ b) → VersionsNeed path all other name → VersionsNeed path all told name
   needed_again other name states alike (may, inl is) = (may, inl is)
   needed_again other name states alike (may, inr (list, versions, latest, some, said, listed, greatest, is)) =
       let (others, are, follows) = list_answered path all told outcome prints states in
-      let same : bytes list ≡ bytes are.list = alike (list_file path) (bytes list) (bytes are.list) said are.answered in
+      let same : bytes list ≡ bytes are.list = alike (bytes list) (bytes are.list) said are.answered in
       (may, inr (list, versions, latest, some, are.answered ∙ ap Some (sym same), listed, greatest, is))
 
 -- ---- queries
@@ -179,14 +179,14 @@ all_answered command main sums asked outcome run prints =
 
 module _ (main : List ℕ) (sums : Option (List ℕ)) where
   -- what a query asked for is what it needed, and was read
-  query_is_file : (command : Command) (asked : Pairs) (outcome : Outcome) → is_query command ≡ true → HasOutcome command main sums asked outcome → HasPrinted outcome
+  pub query_is_file : (command : Command) (asked : Pairs) (outcome : Outcome) → is_query command ≡ true → HasOutcome command main sums asked outcome → HasPrinted outcome
       → (name : Name) (reply : Reply) → answer_in asked name ≡ Some reply → IsFile reply
   query_is_file command asked outcome query run prints name reply e =
       let (says, held, valid) = valid_files command main sums asked outcome query run prints in
       opened_is_file (given main sums (answers asked [])) says held valid name reply e
 
   -- a run that prints was answered with a file wherever it asked
-  each_is_file : (command : Command) (asked : Pairs) (outcome : Outcome) → HasOutcome command main sums asked outcome → AskedInTurn (Needs command main sums) asked → HasPrinted outcome
+  pub each_is_file : (command : Command) (asked : Pairs) (outcome : Outcome) → HasOutcome command main sums asked outcome → AskedInTurn (Needs command main sums) asked → HasPrinted outcome
       → (name : Name) (reply : Reply) → answer_in asked name ≡ Some reply → IsFile reply
   each_is_file Fmt asked outcome run turn prints name reply e = absurd (needed_after (Needs Fmt main sums) (λ one other keeps n need. need) [] asked turn name (answered_name asked name reply e))
   each_is_file (Edit operations) asked outcome run turn prints name reply e =
@@ -206,7 +206,7 @@ module _ (main : List ℕ) (sums : Option (List ℕ)) where
       names_into main sums asked told says tells held next alike valid too name there
 
   -- a file that one run asked for is one that the other asked for
-  names_in_other : (command : Command) (asked told : Pairs) (a b : Outcome) → AnswerAlike asked told → AskedInTurn (Needs command main sums) asked → HasOutcome command main sums asked a → HasPrinted a
+  pub names_in_other : (command : Command) (asked told : Pairs) (a b : Outcome) → AnswerAlike asked told → AskedInTurn (Needs command main sums) asked → HasOutcome command main sums asked a → HasPrinted a
       → HasOutcome command main sums told b → HasPrinted b → (name : Name) → Contains (names_in asked) name → Contains (names_in told) name
   names_in_other Fmt asked told a b alike turn run prints again also name there = absurd (needed_after (Needs Fmt main sums) (λ one other keeps n need. need) [] asked turn name there)
   names_in_other (Edit operations) asked told a b alike turn run prints again also name there =
@@ -214,7 +214,7 @@ module _ (main : List ℕ) (sums : Option (List ℕ)) where
   names_in_other (Versions path all) asked told a b alike turn run prints again also name there =
       let need : VersionsNeed path all (answer_in asked) name = needed_after (VersionsNeed path all) (versions_grow path all) [] asked turn name there in
       let too : VersionsNeed path all (answer_in told) name =
-      needed_again path all (answer_in told) b also (answer_in asked) name (by_answers path all main sums told b again) alike need in
+      needed_again path all (answer_in told) b also (answer_in asked) name (by_answers path all main sums told b again) (alike (list_file path)) need in
       let (reply, answered) = all_answered (Versions path all) main sums told b again also name too in
       answered_name told name reply answered
   names_in_other Graph asked told a b alike turn run prints again also name there = query_names Graph asked told a b refl alike run prints again also name there

@@ -7,6 +7,7 @@ pub mod listings;
 pub mod merges;
 pub mod others;
 pub mod own_lists;
+pub mod later;
 pub mod queries;
 pub mod reports;
 pub mod versions;

@@ -1,0 +1,123 @@
+-- Runs over a store in which files that were absent now exist.
+use Rattle.std.proofs.Common.{◌≡◌, ◌∙◌, ℕ, Bool, true, List, Option, Some, None, ap, inl, inr, refl, sym}
+use Rattle.std.specs.Global.{Global, Vec}
+use Rattle.std.specs.Prelude.{String}
+use Rattle.gm_store.specs.Asked.{Name, Reply, absent, answer_in, bytes, list_file, mod_file, too_long}
+use Rattle.gm_graph_listing.specs.Laws.{AnswerAlike}
+use Rattle.gm_graph_listing.specs.Outcomes.{Outcome}
+use Rattle.gm_graph_listing.proofs.OneStore.{alike_back}
+use Rattle.gomod_words.specs.declared.usage.Command.{Command}
+use Rattle.gomod_words.specs.declared.usage.Command.TheVariants.{Fmt, Edit, Versions, Graph, List as Rows, Chain}
+use Rattle.gomod_run.specs.Runs.{StatesOutcome, is_query}
+use Rattle.gomod_run.specs.Versions.{AnswersByName, IsOutcomeByList, IsVersionsOutcome, VersionsNeed}
+use Rattle.gomod_run.proofs.Sameness.{one_outcome}
+use Rattle.gomod_laws.specs.LaterLaws.{LaterAsksTheSame, LaterPrintsTheSame, OnlyAddsFiles}
+use Rattle.gomod_laws.specs.Runs.{HasOutcome, HasPrinted}
+use Rattle.gomod_laws.proofs.FolderRuns.{IsFile, each_is_file, names_in_other, needed_again, needed_is_file, query_is_file, same_outcome}
+use Rattle.gomod_laws.proofs.PrintedRuns.{Pairs}
+use Rattle.gomod_laws.proofs.VersionRuns.{by_answers}
+
+-- ---- a file stays
+
+file_stays : (asked later : Pairs) → OnlyAddsFiles asked later → (name : Name) (a b : Reply) → IsFile a → answer_in asked name ≡ Some a → answer_in later name ≡ Some b → b ≡ a
+file_stays asked later adds name a b (content, is) e f = elim (adds name a b e f) [
+  | inl same ↦ same
+  | inr none ↦ (let isnt : bytes content ≡ absent = sym is ∙ none in cc isnt)
+]
+
+-- where each answer was a file, no answer changed
+files_stay : (asked later : Pairs) → OnlyAddsFiles asked later → ((name : Name) (reply : Reply) → answer_in asked name ≡ Some reply → IsFile reply) → AnswerAlike asked later
+files_stay asked later adds files name a b e f = sym (file_stays asked later adds name a b (files name a e) e f)
+
+-- ---- `versions`
+
+-- an outcome of `versions` is one by all answers that keep those to the needed files
+module _ (path : List ℕ) (all : Bool) (told kept : AnswersByName)
+    (keeps : (name : Name) (reply : Reply) → VersionsNeed path all told name → told name ≡ Some reply → kept name ≡ Some reply) (outcome : Outcome) where
+  kept_outcome : IsVersionsOutcome path all told outcome → IsVersionsOutcome path all kept outcome
+  kept_outcome (inl is) = inl is
+  kept_outcome (inr (reply, may, answered, is)) = inr (reply, may, keeps (list_file path) reply (may, inl refl) answered, by reply answered is)
+    where
+      by : (reply : Reply) → told (list_file path) ≡ Some reply → IsOutcomeByList path all told reply outcome → IsOutcomeByList path all kept reply outcome
+      by absent answered is = is
+      by too_long answered is = is
+      by (bytes list) answered (versions, listed, inl is) = (versions, listed, inl is)
+      by (bytes list) answered (versions, listed, inr (latest, reply, some, greatest, said, shows)) =
+          (versions, listed, inr (latest, reply, some, greatest, keeps (mod_file path latest) reply (may, inr (list, versions, latest, some, answered, listed, greatest, refl)) said, shows))
+
+-- the first answer, or the second where there is none
+abbrev first_of : Option Reply → Option Reply → Option Reply
+first_of (Some reply) other = Some reply
+first_of None other = other
+
+first_kept : (a b : Option Reply) (reply : Reply) → a ≡ Some reply → first_of a b ≡ Some reply
+first_kept (Some x) b reply e = e
+first_kept None b reply e = cc e
+
+second_kept : (a b : Option Reply) (reply : Reply) → ((before : Reply) → a ≡ Some before → reply ≡ before) → b ≡ Some reply → first_of a b ≡ Some reply
+second_kept (Some x) b reply same e = ap Some (sym (same x refl))
+second_kept None b reply same e = e
+
+module _ (path : List ℕ) (all : Bool) (main : List ℕ) (sums : Option (List ℕ)) (asked later : Pairs) (one other : Outcome) (prints : HasPrinted one) (adds : OnlyAddsFiles asked later)
+    (states : IsVersionsOutcome path all (answer_in asked) one) where
+  abbrev both : AnswersByName
+  both name = first_of (answer_in asked name) (answer_in later name)
+
+  was_file : (name : Name) (reply : Reply) → VersionsNeed path all (answer_in asked) name → answer_in asked name ≡ Some reply → IsFile reply
+  was_file name reply need e = needed_is_file path all (answer_in asked) one prints name reply states need e
+
+  -- what the later run needs, the earlier one needs
+  needed_before : (name : Name) → VersionsNeed path all (answer_in later) name → VersionsNeed path all (answer_in asked) name
+  needed_before name need =
+      needed_again path all (answer_in asked) one prints (answer_in later) name states
+      (λ a b e f. file_stays asked later adds (list_file path) b a (was_file (list_file path) b (need.0, inl refl) f) f e) need
+
+  later_kept : (name : Name) (reply : Reply) → VersionsNeed path all (answer_in later) name → answer_in later name ≡ Some reply → both name ≡ Some reply
+  later_kept name reply need e =
+      second_kept (answer_in asked name) (answer_in later name) reply
+      (λ before f. file_stays asked later adds name before reply (was_file name before (needed_before name need) f) f e) e
+
+  versions_again : IsVersionsOutcome path all (answer_in later) other → other ≡ one
+  versions_again also =
+      one_outcome (Versions path all) main sums both other one
+      (kept_outcome path all (answer_in later) both later_kept other also)
+      (kept_outcome path all (answer_in asked) both (λ name reply need e. first_kept (answer_in asked name) (answer_in later name) reply e) one states)
+
+-- ---- any command
+
+pub later_prints_the_same : LaterPrintsTheSame
+later_prints_the_same command main sums asked later one other run prints adds again = by command run again
+  where
+    fmt_stated : (pairs : Pairs) (outcome : Outcome) → HasOutcome Fmt main sums pairs outcome → StatesOutcome Fmt main sums (λ name. None) outcome
+    fmt_stated pairs outcome has = elim has.run [
+      | inl stated ↦ stated.0
+      | inr stopped ↦ absurd stopped.2
+    ]
+
+    edit_stated : (operations : Vec (String Global)) (pairs : Pairs) (outcome : Outcome) → HasOutcome (Edit operations) main sums pairs outcome → StatesOutcome (Edit operations) main sums (λ name. None) outcome
+    edit_stated operations pairs outcome has = elim has.run [
+      | inl stated ↦ stated.0
+      | inr stopped ↦ absurd stopped.2
+    ]
+
+    query : (c : Command) → is_query c ≡ true → HasOutcome c main sums asked one → HasOutcome c main sums later other → other ≡ one
+    query c is first second =
+        sym (same_outcome c main sums asked later one other (files_stay asked later adds (query_is_file main sums c asked one is first prints)) first second)
+
+    by : (c : Command) → HasOutcome c main sums asked one → HasOutcome c main sums later other → other ≡ one
+    by Fmt first second = one_outcome Fmt main sums (λ name. None) other one (fmt_stated later other second) (fmt_stated asked one first)
+    by (Edit operations) first second = one_outcome (Edit operations) main sums (λ name. None) other one (edit_stated operations later other second) (edit_stated operations asked one first)
+    by (Versions path all) first second =
+        versions_again path all main sums asked later one other prints adds (by_answers path all main sums asked one first) (by_answers path all main sums later other second)
+    by Graph first second = query Graph refl first second
+    by (Rows after limit) first second = query (Rows after limit) refl first second
+    by (Chain path) first second = query (Chain path) refl first second
+
+pub later_asks_the_same : LaterAsksTheSame
+later_asks_the_same command main sums asked later one other run prints adds again name =
+    let same : other ≡ one = later_prints_the_same command main sums asked later one other run.ends prints adds again.ends in
+    let also : HasPrinted other = ap (λ (o : Outcome). o.status) same ∙ prints in
+    let alike : AnswerAlike asked later = files_stay asked later adds (each_is_file main sums command asked one run.ends run.in_turn prints) in (
+      names_in_other main sums command later asked other one (alike_back asked later alike) again.in_turn again.ends also run.ends prints name,
+      names_in_other main sums command asked later one other alike run.in_turn run.ends prints again.ends also name,
+    )
