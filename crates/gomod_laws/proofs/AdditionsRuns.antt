@@ -40,27 +40,22 @@ same_readings first second same held x =
 -- ---- a run
 
 module _ (run next : Given) (first second : Main) (held : Held) (found : AllFilesAreValid next second held)
-    (says : IsMainFile run.file first) (sums : run.sums ≡ next.sums)
-    (alike : AnswerAlike run.told.asked next.told.asked) (same : ReplaceAlike first second) where
+    (says : IsMainFile run.file first) (sums : run.sums ≡ next.sums) where
   -- what the first run knows of the modules that the second opens is what the second knows
-  pub agree : (table : Option SumTable) → AreSums run.sums table → (a : Held) → Tells table run.told.asked a
+  abbrev pub AgreesSoFar : Type 0
+  AgreesSoFar = (table : Option SumTable) → AreSums run.sums table → (a : Held) → Tells table run.told.asked a
       → Agrees second (readings_by first a) (readings_by second held)
-  agree table are a tells x opened reading e =
-      let there : AreSums next.sums table = subst (λ (s : Option (List ℕ)). AreSums s table) sums are in
-      let told = tells_alike table found.table (one_finding next.sums table found.table there found.read.sums) run.told.asked a tells in
-      stores_agree second found.table run.told.asked next.told.asked a held alike told found.known.tells found.known.answered x opened reading
-      (sym (same_readings first second same a x) ∙ e)
 
   -- whatever the first run knows, what it opens is opened by the second
   abbrev pub OpensNoMore : Type 0
   OpensNoMore = (a : Held) → Agrees second (readings_by first a) (readings_by second held) → (x : ModuleVersion)
       → IsOpened first (readings_by first a) x → IsOpened second (readings_by second held) x
 
-  module _ (sound : run.told.failed ≡ []) (opens : OpensNoMore) (outcome : Outcome) where
+  module _ (agreed : AgreesSoFar) (sound : run.told.failed ≡ []) (opens : OpensNoMore) (outcome : Outcome) where
     faultless : (table : Option SumTable) → AreSums run.sums table → (a : Held) → AreKnown first table run.told a
         → (one : Fault) (others : List Fault) → AreFaults first (readings_by first a) (one ∷ others) → ⊥
     faultless table are a known one others faults =
-        let into = agree table are a known.tells in
+        let into = agreed table are a known.tells in
         let (is, has) = (faults.each one).0 (member_head one others) in
         let too = opens a into one.vertex is in
         let read = into one.vertex too (Err one.class) (fault_reading (readings_by first a one.vertex) one.class has) in
@@ -68,7 +63,7 @@ module _ (run next : Given) (first second : Main) (held : Held) (found : AllFile
 
     not_stopped : (table : Option SumTable) → AreSums run.sums table → IsStopped first table run.told outcome → ⊥
     not_stopped table are (too_many (a, tells, (all, long, once, each)) none text) =
-        let into = agree table are a tells in
+        let into = agreed table are a tells in
         let few : length all ≤ 65536 = found.known.few all once (λ x there. opens a into x (each x there)) in
         omega (arith, long, few)
     not_stopped table are (device name due one text) = let names : name ∷ [] ≡ [] = sym one ∙ sound in cc names
@@ -84,14 +79,28 @@ module _ (run next : Given) (first second : Main) (held : Held) (found : AllFile
     by_end prints table are (inr (a, known, faults, shows)) =
         (a, record { table = table; read = record { main_file = says; sums = are }; known = known; sound = faults }, shows)
 
-    pub prints_too : (prints : Prints) → IsOutcome prints run outcome → PrintsBy prints
-    prints_too prints (inl (inl (place, misread, text), none)) = absurd (misread_or_main run.file place first misread says)
-    prints_too prints (inl (inr (main, report, is, misread, text), none)) =
+    pub prints_if_agreed : (prints : Prints) → IsOutcome prints run outcome → PrintsBy prints
+    prints_if_agreed prints (inl (inl (place, misread, text), none)) = absurd (misread_or_main run.file place first misread says)
+    prints_if_agreed prints (inl (inr (main, report, is, misread, text), none)) =
         absurd (misread_or_sums next.sums report found.table
         (subst (λ (s : Option (List ℕ)). AreInvalidSums s report) sums misread) found.read.sums)
-    prints_too prints (inr (main, table, are, over)) =
+    prints_if_agreed prints (inr (main, table, are, over)) =
         by_end prints table are.sums
         (subst (λ (m : Main). IsOutcomeOver prints m table run.told outcome) (one_main run.file main first are.main_file says) over)
+
+  -- so it is where the stores answer alike and both main files replace alike
+  module _ (alike : AnswerAlike run.told.asked next.told.asked) (same : ReplaceAlike first second) where
+    pub agree : AgreesSoFar
+    agree table are a tells x opened reading e =
+        let there : AreSums next.sums table = subst (λ (s : Option (List ℕ)). AreSums s table) sums are in
+        let told = tells_alike table found.table (one_finding next.sums table found.table there found.read.sums) run.told.asked a tells in
+        stores_agree second found.table run.told.asked next.told.asked a held alike told found.known.tells found.known.answered x opened reading
+        (sym (same_readings first second same a x) ∙ e)
+
+    module _ (sound : run.told.failed ≡ []) (opens : OpensNoMore) (outcome : Outcome) where
+      pub prints_too : (prints : Prints) → IsOutcome prints run outcome
+          → (a : Held) × AllFilesAreValid run first a × prints first (readings_by first a) outcome
+      prints_too prints is = prints_if_agreed agree sound opens outcome prints is
 
 -- ---- a run that prints
 

@@ -11,3 +11,4 @@ pub mod later;
 pub mod queries;
 pub mod reports;
 pub mod versions;
+pub mod same_bytes;
