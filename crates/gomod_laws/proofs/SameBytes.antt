@@ -14,7 +14,7 @@ use Rattle.gm_store_sums.specs.declared.sum_table.SumTable.{SumTable}
 use Rattle.gm_graph_cache.specs.declared.class.Class.{Class}
 use Rattle.gm_graph_cache.specs.declared.class.Class.TheVariants.{NotFetchable, WrongPath}
 use Rattle.gm_graph_cache.specs.Main.{Main, ModuleVersion, is_pruned_by, replacement_in}
-use Rattle.gm_graph_cache.specs.Reading.{Held, IsContentReading, IsFileReading, IsTold, Readings, Tells, declares, fault_in, file_named, file_of, is_askable, reading_if, readings_by, with_right_path}
+use Rattle.gm_graph_cache.specs.Reading.{Held, IsContentReading, IsFileReading, IsReadUnless, IsTold, Readings, Tells, declares, fault_in, file_named, file_of, is_askable, reading_if, readings_by, sum_fault, with_right_path}
 use Rattle.gm_graph_cache.proofs.OneReading.{one_reading}
 use Rattle.gm_graph_select.proofs.Ascending.{no_member}
 use Rattle.gm_graph_select.proofs.Same.{AreSame}
@@ -25,12 +25,13 @@ use Rattle.gm_graph_listing.specs.Outcomes.{AreSums, IsOutcome, Outcome, Prints,
 use Rattle.gm_graph_listing.proofs.OneRead.{one_finding, tells_alike}
 use Rattle.gm_graph_listing.proofs.OneStore.{Agrees, alike_back, stores_agree}
 use Rattle.gomod_laws.specs.ExclusionLaws.{HasOneMoreReplace, is_left_of}
-use Rattle.gomod_laws.specs.SameBytesLaws.{ReplacesByTheSame}
+use Rattle.gomod_laws.specs.SameBytesLaws.{HasHashFor, ReplacesByTheSame}
 use Rattle.gomod_laws.proofs.AdditionsOpened.{ExcludesLess, edge_too, opened_too}
 use Rattle.gomod_laws.proofs.AdditionsRuns.{prints_if_agreed}
 use Rattle.gomod_laws.proofs.PrintedRuns.{Pairs}
 use Rattle.gomod_laws.proofs.ReplacedRuns.{same_in, same_top}
 use Rattle.gomod_laws.proofs.SameVertices.{at_right, reads_at}
+use Rattle.gomod_laws.proofs.SumsChecked.{no_sum_fault}
 
 -- ---- what replaces the version, and the others
 
@@ -118,18 +119,29 @@ accepted : (x : ModuleVersion) (right : Right) (file : Dependency) → declares 
 accepted x (Folder text) file is = refl
 accepted x (Module path version) file is = ap (λ (b : Bool). cond (b || declares path file.declared) (Ok file) (Err WrongPath)) is
 
+-- a go.sum with the right hash finds nothing wrong with the bytes of the replacing file
+nothing_found : (sums : Option (List ℕ)) (table : Option SumTable) → AreSums sums table → (x : ModuleVersion) (right : Right) (content : List ℕ) → HasHashFor sums right content
+    → sum_fault table (file_named x (Some right)) content ≡ None
+nothing_found None None are x right content has = refl
+nothing_found None (Some table) are x right content has = absurd are
+nothing_found (Some text) None are x right content has = absurd are
+nothing_found (Some text) (Some table) are x (Folder folder) content has = refl
+nothing_found (Some text) (Some table) are x (Module path version) content has = no_sum_fault table text are.2 (mod_file path version) content has
+
+-- what was read was found right
+read_plainly : (found : Option Class) (content : List ℕ) (said : Dependency) → IsReadUnless found content (Ok said) → IsContentReading content (Ok said)
+read_plainly None content said is = is
+read_plainly (Some class) content said is = absurd cc
+
 -- ---- what the two runs know
 
-module _ (file changed : List ℕ) (main other : Main) (x : ModuleVersion) (right : Right) (asked told : Pairs) (both : ReplacesByTheSame file changed main other x right asked told)
-    (held : Held) (valid : AllFilesAreValid (given file None (answers asked [])) main held) where
+module _ (file changed : List ℕ) (sums : Option (List ℕ)) (main other : Main) (x : ModuleVersion) (right : Right) (asked told : Pairs) (both : ReplacesByTheSame file changed sums main other x right asked told)
+    (held : Held) (valid : AllFilesAreValid (given file sums (answers asked [])) main held) where
   abbrev Before : Readings
   Before = readings_by main held
 
   abbrev replacing : Name
   replacing = file_named x (Some right)
-
-  tells_before : Tells None asked held
-  tells_before = tells_alike valid.table None (one_finding None valid.table None valid.read.sums tt) asked held valid.known.tells
 
   no_fault : (y : ModuleVersion) (class : Class) → IsOpened main Before y → Before y ≡ Some (Err class) → ⊥
   no_fault y class opens e =
@@ -149,7 +161,7 @@ module _ (file changed : List ℕ) (main other : Main) (x : ModuleVersion) (righ
       by_declared content said true answered says is reads = (content, said, answered, says, is, reads)
       by_declared content said false answered says is reads = absurd (no_fault x WrongPath opens reads)
 
-      by_answer : (answer : Option Reply) (said : Option (Result Dependency Class)) → answer_in asked (mod_file x.0 x.1) ≡ answer → IsTold None (mod_file x.0 x.1) answer said
+      by_answer : (answer : Option Reply) (said : Option (Result Dependency Class)) → answer_in asked (mod_file x.0 x.1) ≡ answer → IsTold valid.table (mod_file x.0 x.1) answer said
           → Before x ≡ option_map (with_right_path x None) said → IsSome answer → Own
       by_answer None said e is reads some = absurd (false≢true some)
       by_answer (Some reply) None e is reads some = absurd is
@@ -157,14 +169,14 @@ module _ (file changed : List ℕ) (main other : Main) (x : ModuleVersion) (righ
       by_answer (Some absent) (Some (Ok said)) e is reads some = absurd cc
       by_answer (Some too_long) (Some (Ok said)) e is reads some = absurd cc
       by_answer (Some (bytes content)) (Some (Ok said)) e is reads some =
-          by_declared content said (declares x.0 said.declared) e is refl reads
+          by_declared content said (declares x.0 said.declared) e (read_plainly (sum_fault valid.table (mod_file x.0 x.1) content) content said is) refl reads
 
       answered : is_askable (mod_file x.0 x.1) ≡ true → IsSome (answer_in asked (mod_file x.0 x.1))
       answered = subst (λ (name : Name). is_askable name ≡ true → IsSome (answer_in asked name)) (ap (file_named x) both.unreplaced) (valid.known.answered x opens)
 
       by_askable : (askable : Bool) → is_askable (mod_file x.0 x.1) ≡ askable → Own
       by_askable true is =
-          by_answer (answer_in asked (mod_file x.0 x.1)) (held (mod_file x.0 x.1)) refl (tells_before (mod_file x.0 x.1)) (read_under main held x None both.unreplaced is) (answered is)
+          by_answer (answer_in asked (mod_file x.0 x.1)) (held (mod_file x.0 x.1)) refl (valid.known.tells (mod_file x.0 x.1)) (read_under main held x None both.unreplaced is) (answered is)
       by_askable false isnt =
           let reads : Before x ≡ Some (Err NotFetchable) =
           ap (λ (r : Option Right). reading_if (is_askable (file_named x r)) main x (held (file_named x r))) both.unreplaced
@@ -172,17 +184,18 @@ module _ (file changed : List ℕ) (main other : Main) (x : ModuleVersion) (righ
           absurd (no_fault x NotFetchable opens reads)
 
   -- whatever the second run knows of the replacing file is what the first knows of the version's own
-  same_as_own : (has : Own) (answer : Option Reply) (said : Option (Result Dependency Class)) → answer_in told replacing ≡ answer → IsTold None replacing answer said
+  same_as_own : (has : Own) (answer : Option Reply) (said : Option (Result Dependency Class)) → answer_in told replacing ≡ answer → IsTold valid.table replacing answer said
       → (reading : Result Dependency Class) → option_map (with_right_path x (Some right)) said ≡ Some reading → Before x ≡ Some reading
   same_as_own has None None e is reading m = absurd cc
   same_as_own has None (Some r) e is reading m = absurd is
   same_as_own has (Some reply) None e is reading m = absurd is
   same_as_own (content, said, answered, says, declared, reads) (Some reply) (Some r) e is reading m =
-      let read : IsFileReading None replacing (bytes content) r = subst (λ (a : Reply). IsFileReading None replacing a r) (both.same (bytes content) reply answered e) is in
-      let same : r ≡ Ok said = one_reading None replacing (bytes content) r (Ok said) read says in
+      let read : IsFileReading valid.table replacing (bytes content) r = subst (λ (a : Reply). IsFileReading valid.table replacing a r) (both.same (bytes content) reply answered e) is in
+      let none : sum_fault valid.table replacing content ≡ None = nothing_found sums valid.table valid.read.sums x right content (both.hash content answered) in
+      let same : r ≡ Ok said = one_reading valid.table replacing (bytes content) r (Ok said) read (subst (λ (found : Option Class). IsReadUnless found content (Ok said)) (sym none) says) in
       reads ∙ ap Some (sym (ap (with_right_path x (Some right)) same ∙ accepted x right said declared)) ∙ m
 
-  module _ (then : Held) (tells_then : Tells None told then) where
+  module _ (then : Held) (tells_then : Tells valid.table told then) where
     abbrev After : Readings
     After = readings_by other then
 
@@ -201,7 +214,7 @@ module _ (file changed : List ℕ) (main other : Main) (x : ModuleVersion) (righ
             subst (λ (z : ModuleVersion). Before z ≡ Some reading) (sym at)
             (at_version reading (subst (λ (z : ModuleVersion). IsOpened main Before z) at opens) (subst (λ (z : ModuleVersion). After z ≡ Some reading) at e))
         by false isnt =
-            stores_agree main None told asked then held (alike_back asked told both.alike) tells_then tells_before valid.known.answered y opens reading
+            stores_agree main valid.table told asked then held (alike_back asked told both.alike) tells_then valid.known.tells valid.known.answered y opens reading
             (sym (read_as_before main other x right both.more y isnt then) ∙ e)
 
     opened_before : (y : ModuleVersion) → IsOpened other After y → IsOpened main Before y
@@ -211,7 +224,7 @@ module _ (file changed : List ℕ) (main other : Main) (x : ModuleVersion) (righ
 
     module _ (answered : (y : ModuleVersion) → IsOpened other After y → is_askable (file_of other y) ≡ true → IsSome (answer_in told (file_of other y))) where
       -- so where the replacing file is known, it says what the version's own says
-      known_then : (said : Option (Result Dependency Class)) (answer : Option Reply) → IsTold None replacing answer said → IsSome answer
+      known_then : (said : Option (Result Dependency Class)) (answer : Option Reply) → IsTold valid.table replacing answer said → IsSome answer
           → After x ≡ option_map (with_right_path x (Some right)) said → (reading : Result Dependency Class) → Before x ≡ Some reading → IsOpened main Before x → After x ≡ Some reading
       known_then said None is some reads reading e opens = absurd (false≢true some)
       known_then None (Some reply) is some reads reading e opens = absurd is
@@ -231,7 +244,7 @@ module _ (file changed : List ℕ) (main other : Main) (x : ModuleVersion) (righ
               subst (λ (z : ModuleVersion). After z ≡ Some reading) (sym at)
               (known_then (then replacing) (answer_in told replacing) (tells_then replacing) some read_then reading (subst (λ (z : ModuleVersion). Before z ≡ Some reading) at e) (opened_before x here))
           by false isnt =
-              stores_agree other None asked told held then both.alike tells_before tells_then answered y opens reading
+              stores_agree other valid.table asked told held then both.alike valid.known.tells tells_then answered y opens reading
               (read_as_before main other x right both.more y isnt held ∙ e)
 
       pub same_edges : AreSame (IsEdge other After) (IsEdge main Before)
@@ -243,19 +256,19 @@ module _ (file changed : List ℕ) (main other : Main) (x : ModuleVersion) (righ
       )
 
   -- so the second run prints, by readings with the same edges
-  pub prints_again : (prints : Prints) (next : Outcome) → IsOutcome prints (given changed None (answers told [])) next
-      → (then : Held) × AllFilesAreValid (given changed None (answers told [])) other then
+  pub prints_again : (prints : Prints) (next : Outcome) → IsOutcome prints (given changed sums (answers told [])) next
+      → (then : Held) × AllFilesAreValid (given changed sums (answers told [])) other then
       × AreSame (IsEdge other (readings_by other then)) (IsEdge main Before) × prints other (readings_by other then) next
   prints_again prints next ends =
       let (then, found, shows) =
-      prints_if_agreed (given changed None (answers told [])) (given file None (answers asked [])) other main held valid both.second_says refl
-      (λ table are a tells. into a (plain_tells table are a tells))
+      prints_if_agreed (given changed sums (answers told [])) (given file sums (answers asked [])) other main held valid both.second_says refl
+      (λ table are a tells. into a (same_tells table are a tells))
       refl
       (λ a agrees y opens.
       opened_too other main (readings_by other a) Before (λ e. sym (pruned_same main other x right both.more) ∙ e) (excludes_into main other x right both.more) agrees
       (λ z top. inl (top_into main other x right both.more z top)) y opens)
       next prints ends in
-      (then, found, same_edges then (plain_tells found.table found.read.sums then found.known.tells) found.known.answered, shows)
+      (then, found, same_edges then (same_tells found.table found.read.sums then found.known.tells) found.known.answered, shows)
     where
-      plain_tells : (table : Option SumTable) → AreSums None table → (a : Held) → Tells table told a → Tells None told a
-      plain_tells table are a tells = tells_alike table None (one_finding None table None are tt) told a tells
+      same_tells : (table : Option SumTable) → AreSums sums table → (a : Held) → Tells table told a → Tells valid.table told a
+      same_tells table are a tells = tells_alike table valid.table (one_finding sums table valid.table are valid.read.sums) told a tells

@@ -108,16 +108,16 @@ module _ (main other : Main) (path_is : other.path ≡ main.path) (before after 
       )
 
 pub graph_stays : GraphStays
-graph_stays file changed main other x right asked told one next both runs prints =
-    let (held, valid, shows) = printed_by PrintsGraph (given file None (answers asked [])) main one both.first_says (query_by_answers Graph file None asked one refl runs.first_runs) prints in
-    let (then, found, same, tells) = prints_again file changed main other x right asked told both held valid PrintsGraph next (query_by_answers Graph changed None told next refl runs.second_runs) in
+graph_stays file changed sums main other x right asked told one next both runs prints =
+    let (held, valid, shows) = printed_by PrintsGraph (given file sums (answers asked [])) main one both.first_says (query_by_answers Graph file sums asked one refl runs.first_runs) prints in
+    let (then, found, same, tells) = prints_again file changed sums main other x right asked told both held valid PrintsGraph next (query_by_answers Graph changed sums told next refl runs.second_runs) in
     let before : Readings = readings_by main held in
     graph_once main before before next one valid.known.few (itself (IsEdge main before)) (graph_moved main other both.more.path before (readings_by other then) same next tells) shows
 
 pub chain_stays : ChainStays
-chain_stays path file changed main other x right asked told one next both runs prints =
-    let (held, valid, shows) = printed_by (PrintsChain path) (given file None (answers asked [])) main one both.first_says (query_by_answers (Chain path) file None asked one refl runs.first_runs) prints in
-    let (then, found, same, tells) = prints_again file changed main other x right asked told both held valid (PrintsChain path) next (query_by_answers (Chain path) changed None told next refl runs.second_runs) in
+chain_stays path file changed sums main other x right asked told one next both runs prints =
+    let (held, valid, shows) = printed_by (PrintsChain path) (given file sums (answers asked [])) main one both.first_says (query_by_answers (Chain path) file sums asked one refl runs.first_runs) prints in
+    let (then, found, same, tells) = prints_again file changed sums main other x right asked told both held valid (PrintsChain path) next (query_by_answers (Chain path) changed sums told next refl runs.second_runs) in
     let before : Readings = readings_by main held in
     chain_once path main before before next one valid.known.few (itself (IsEdge main before)) (chain_moved main other both.more.path before (readings_by other then) same path next tells) shows
 
@@ -152,11 +152,11 @@ module _ (main other : Main) (x : ModuleVersion) (right : Right) (more : HasOneM
       }
 
 pub list_shows_the_arrow : ListShowsTheArrow
-list_shows_the_arrow after limit file changed main other x right asked told one next both runs prints =
+list_shows_the_arrow after limit file changed sums main other x right asked told one next both runs prints =
     let (held, valid, (rows, are, shows)) =
-    printed_by (PrintsList after limit) (given file None (answers asked [])) main one both.first_says (query_by_answers (Rows after limit) file None asked one refl runs.first_runs) prints in
+    printed_by (PrintsList after limit) (given file sums (answers asked [])) main one both.first_says (query_by_answers (Rows after limit) file sums asked one refl runs.first_runs) prints in
     let (then, found, same, (others, be, tells)) =
-    prints_again file changed main other x right asked told both held valid (PrintsList after limit) next (query_by_answers (Rows after limit) changed None told next refl runs.second_runs) in
+    prints_again file changed sums main other x right asked told both held valid (PrintsList after limit) next (query_by_answers (Rows after limit) changed sums told next refl runs.second_runs) in
     let beyond : Readings = readings_by other then in
     let changed_rows = rows_shown main other x right both.more both.unreplaced (readings_by main held) beyond rows same are in (
       rows,
