@@ -1,5 +1,5 @@
 -- What the law on a replace by the same bytes concludes of lists is false of lists that contradict it.
-use Rattle.std.proofs.Common.{◌≡◌, ◌∙◌, ◌∷◌, ℕ, Bool, List, [], length, Option, Some, None, ap, arith, codes, cond, map, refl, sym}
+use Rattle.std.proofs.Common.{◌≡◌, ◌∙◌, ◌∷◌, ℕ, Bool, List, [], length, Option, Some, ap, arith, codes, cond, map, refl, sym}
 use Rattle.std.proofs.lemmas.List.{length-map}
 use Rattle.gm_file.specs.Directives.{Right}
 use Rattle.gm_file.specs.Pairs.{pair_eq}

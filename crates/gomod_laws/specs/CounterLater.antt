@@ -1,5 +1,5 @@
 -- What the law on later files concludes of the files that are asked for is false of runs that ask for others.
-use Rattle.std.specs.Prelude.{ℕ, List, [], ◌∷◌, codes}
+use Rattle.std.specs.Prelude.{List, [], ◌∷◌, codes}
 use Rattle.gm_store.specs.Asked.{Name, Reply, bytes, mod_file}
 use Rattle.gomod_laws.specs.LaterLaws.{AskTheSame}
 
