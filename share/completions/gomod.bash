@@ -1,0 +1,73 @@
+# Completion of gomod for bash, kept by hand: `source` this file, or put it, named gomod, where bash-completion looks
+# (~/.local/share/bash-completion/completions). tools/check-help.sh compares it with `gomod --help`.
+
+_gomod() {
+    local current=${COMP_WORDS[COMP_CWORD]} before=${COMP_WORDS[COMP_CWORD - 1]}
+    local commands='list graph chain versions fmt edit help'
+    local operations='module= go= require= droprequire= exclude= dropexclude= replace= dropreplace='
+    operations+=' retract= dropretract='
+    local command='' options='' list='' word at plain=0 is_value=''
+    COMPREPLY=()
+
+    # bash makes three words of --mod=FILE, and of an operation
+    if [[ $current == = ]]; then
+        is_value=yes
+        current=
+    elif [[ $before == = ]]; then
+        is_value=yes
+        before=${COMP_WORDS[COMP_CWORD - 2]}
+    fi
+
+    # the command, and how many words follow it that are neither options nor their values
+    for ((at = 1; at < COMP_CWORD; at++)); do
+        word=${COMP_WORDS[at]}
+        case $word in
+            --proxy | --mod | --sum | --after | --limit)
+                [[ ${COMP_WORDS[at + 1]} == = ]] && ((at++))
+                ((at++))
+                ;;
+            -*) ;;
+            *) if [[ -n $command ]]; then ((plain++)); else command=$word; fi ;;
+        esac
+    done
+
+    case $before in
+        --proxy)
+            # of a list the last folder
+            [[ $current == *,* ]] && list=${current%,*},
+            mapfile -t COMPREPLY < <(compgen -d -P "$list" -- "${current#"$list"}")
+            compopt -o filenames 2> /dev/null
+            return
+            ;;
+        --mod | --sum)
+            mapfile -t COMPREPLY < <(compgen -f -- "$current")
+            compopt -o filenames 2> /dev/null
+            return
+            ;;
+        --after | --limit) return ;;
+    esac
+    [[ -z $is_value ]] || return
+
+    case $command in
+        '') options='-h --help -V --version' ;;
+        list) options='--proxy --mod --sum --after --limit -h --help' ;;
+        graph | chain) options='--proxy --mod --sum -h --help' ;;
+        versions) options='--proxy --retracted -h --help' ;;
+        fmt | edit) options='-h --help' ;;
+        help) ;;
+        *) return ;;
+    esac
+    if [[ $current == -* ]]; then
+        mapfile -t COMPREPLY < <(compgen -W "$options" -- "$current")
+    elif [[ -z $command || ($command == help && $plain -eq 0) ]]; then
+        mapfile -t COMPREPLY < <(compgen -W "$commands" -- "$current")
+    elif [[ $command == fmt || $command == edit ]] && [[ $plain -eq 0 ]]; then
+        mapfile -t COMPREPLY < <(compgen -f -- "$current")
+        compopt -o filenames 2> /dev/null
+    elif [[ $command == edit ]]; then
+        mapfile -t COMPREPLY < <(compgen -W "$operations" -- "$current")
+        compopt -o nospace 2> /dev/null
+    fi
+}
+
+complete -F _gomod gomod

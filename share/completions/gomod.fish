@@ -1,0 +1,31 @@
+# Completion of gomod for fish, kept by hand: put it into ~/.config/fish/completions. tools/check-help.sh compares it
+# with `gomod --help`: the commands of an option are those that its condition names.
+
+complete -c gomod -f
+
+complete -c gomod -n __fish_use_subcommand -a list -d 'Print the build list'
+complete -c gomod -n __fish_use_subcommand -a graph -d 'Print the module graph'
+complete -c gomod -n __fish_use_subcommand -a chain -d 'Print a shortest chain of requirements to a module'
+complete -c gomod -n __fish_use_subcommand -a versions -d 'Print the versions of a module'
+complete -c gomod -n __fish_use_subcommand -a fmt -d 'Print a go.mod file, formatted'
+complete -c gomod -n __fish_use_subcommand -a edit -d 'Apply operations to a go.mod file and print the result'
+complete -c gomod -n __fish_use_subcommand -a help -d 'Print help'
+
+complete -c gomod -n __fish_use_subcommand -s h -l help -d 'Print help'
+complete -c gomod -n __fish_use_subcommand -s V -l version -d 'Print version'
+complete -c gomod -n '__fish_seen_subcommand_from list graph chain versions fmt edit' -s h -l help -d 'Print help'
+
+complete -c gomod -n '__fish_seen_subcommand_from list graph chain versions' -l proxy -x \
+    -a '(__fish_complete_directories)' -d 'Folders with the files of modules'
+complete -c gomod -n '__fish_seen_subcommand_from list graph chain' -l mod -r -F -d 'The main go.mod file'
+complete -c gomod -n '__fish_seen_subcommand_from list graph chain' -l sum -r -F -d 'The go.sum to check against'
+complete -c gomod -n '__fish_seen_subcommand_from list' -l after -x -d 'Print only the rows after this module'
+complete -c gomod -n '__fish_seen_subcommand_from list' -l limit -x -d 'Print at most N rows'
+complete -c gomod -n '__fish_seen_subcommand_from versions' -l retracted -d 'Print retracted versions too'
+
+# the first word after edit is the file, the others are operations
+complete -c gomod -n '__fish_seen_subcommand_from fmt' -F
+complete -c gomod -n '__fish_seen_subcommand_from edit; and test (count (commandline -opc)) -eq 2' -F
+complete -c gomod -n '__fish_seen_subcommand_from edit; and test (count (commandline -opc)) -gt 2' -d Operation \
+    -a 'module= go= require= droprequire= exclude= dropexclude= replace= dropreplace= retract= dropretract='
+complete -c gomod -n '__fish_seen_subcommand_from help' -a 'list graph chain versions fmt edit'
