@@ -56,3 +56,25 @@ install_files() {
 644 share/completions/gomod.fish share/fish/vendor_completions.d/gomod.fish
 FILES
 }
+
+# Begins a benchmark, the first argument, with its own arguments: it sets `small` if there is --small, `gomod` to the
+# program, `work` to a folder that is removed at the end, and how many runs there are of each command.
+begin_benchmark() {
+  help_if_asked "$@"
+  small='' runs=3
+  case $#:${2-} in
+    1:) ;;
+    2:--small) small=yes runs=1 ;;
+    *) refuse_arguments "$1" "it takes --small or nothing" ;;
+  esac
+  need_gomod "$1"
+  gomod=$PWD/bin/gomod
+  work=$(mktemp -d)
+  trap 'rm -rf "$work"' EXIT
+}
+
+# What bench/measure.py prints of the fastest run of a command.
+best() {
+  local run
+  for ((run = 0; run < runs; run++)); do python3 bench/measure.py "$@"; done | sort -n | head -n 1
+}

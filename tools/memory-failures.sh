@@ -3,12 +3,16 @@
 #
 #   tools/memory-failures.sh
 #
-# A source of a library or of the program names a value such as `NoMemory` or `AllocError` only in an `impl From`, or to
-# pass on one that it was given (`SyntaxFault::NoMemory => ReadFault::NoMemory`), or in a function of the list below, each
-# with the reason why memory has run out there. Prints each other place, and each row of the list that names nothing. The
-# status is 1 if there is one. Tests and the runner of cases are not looked at. It needs python3.
+# A source of a library or of the program names a value such as `NoMemory` or `AllocError` only in an `impl From`, or
+# to pass on one that it was given (`SyntaxFault::NoMemory => ReadFault::NoMemory`), or in a function of the list in
+# this script, each with the reason why memory has run out there. Prints each other place, and each row of the list that
+# names nothing. The status is 1 if there is one. Tests and the runner of cases are not looked at. It needs python3.
 set -euo pipefail
 cd "$(dirname "$0")/.."
+# shellcheck source=tools/lib.sh
+. tools/lib.sh
+help_if_asked tools/memory-failures.sh "$@"
+[ $# -eq 0 ] || refuse_arguments tools/memory-failures.sh "unknown argument '$1'"
 exec python3 - << 'PYTHON'
 import pathlib
 import re

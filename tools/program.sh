@@ -1,7 +1,7 @@
 #!/usr/bin/env bash
 # Runs bin/gomod itself over the cases of command lines, and compares standard output, standard error and the status.
 #
-#   tools/program.sh                  the cases of crates/run_cases/data
+#   tools/program.sh                      the cases of crates/run_cases/data
 #   tools/program.sh FILE.txt.. TITLE..   those of these files, or those whose titles have one of these texts
 #
 # The merge gate runs the same cases inside a process, with outputs in memory; of the program itself it compares what
@@ -16,10 +16,10 @@
 # The status is 1 where one failed.
 set -euo pipefail
 cd "$(dirname "$0")/.."
-[ -x bin/gomod ] || {
-  echo "program: there is no bin/gomod: run ./build" >&2
-  exit 1
-}
+# shellcheck source=tools/lib.sh
+. tools/lib.sh
+help_if_asked tools/program.sh "$@"
+need_gomod tools/program.sh
 exec python3 - "$PWD/bin/gomod" "$@" << 'PYTHON'
 import os
 import re

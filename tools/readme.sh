@@ -14,10 +14,10 @@
 # code and links were right and wrong. The status is 1 where one was wrong. .ci/run runs it after the merge gate.
 set -euo pipefail
 cd "$(dirname "$0")/.."
-[ -x bin/gomod ] || {
-  echo "readme: there is no bin/gomod: run ./build" >&2
-  exit 1
-}
+# shellcheck source=tools/lib.sh
+. tools/lib.sh
+help_if_asked tools/readme.sh "$@"
+need_gomod tools/readme.sh
 exec python3 - "$@" << 'PYTHON'
 import glob
 import os

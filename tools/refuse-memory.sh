@@ -1,10 +1,11 @@
 #!/usr/bin/env bash
 # Refuses each allocation of each command of the cases and of each test in turn, and lists what goes wrong then.
 #
-#   tools/refuse-memory.sh            all cases but the large ones, and every crate of crates.txt that has tests
-#   tools/refuse-memory.sh --cases FILE.txt.. TITLE..   the cases of these files, or those whose titles have one of these texts
-#   tools/refuse-memory.sh NAME..     the tests of these crates
-#   tools/refuse-memory.sh --but WORD NAME..   without the tests whose names have that word
+#   tools/refuse-memory.sh                     all cases but the large ones, and the tests of every crate that has some
+#   tools/refuse-memory.sh --cases FILE.txt..  the cases of these files
+#   tools/refuse-memory.sh --cases TITLE..     the cases whose titles have one of these texts
+#   tools/refuse-memory.sh NAME..              the tests of these crates
+#   tools/refuse-memory.sh --but WORD NAME..   the same without the tests whose names have that word
 #
 # A command whose memory is refused has to say so, or to have the result of its case. A test has to end well, or to
 # fail and say that memory ran out. What does otherwise, crashes or hangs is printed with the number of the refused
@@ -15,6 +16,9 @@
 # tests are not built: `rt test` leaves them in out/NAME_tests.
 set -euo pipefail
 cd "$(dirname "$0")/.."
+# shellcheck source=tools/lib.sh
+. tools/lib.sh
+help_if_asked tools/refuse-memory.sh "$@"
 
 most=200000 # more allocations than any test makes: a guard against a count that doesn't end
 
@@ -65,11 +69,14 @@ refuse_each() {
   local binary=$1 test=$2 n status bad=0
   for ((n = 1; n <= most; n++)); do
     status=0
-    (cd "$work" && REFUSE_AT=$n LD_PRELOAD=$work/refuse_memory.so timeout 60 "$binary" "$test" >out 2>err) 2>/dev/null || status=$?
+    (
+      cd "$work" && REFUSE_AT=$n LD_PRELOAD=$work/refuse_memory.so timeout 60 "$binary" "$test" >out 2>err
+    ) 2>/dev/null || status=$?
     runs=$((runs + 1))
     if [ "$status" -ne 0 ] && ! says_no_memory "$status"; then
       bad=$((bad + 1))
-      echo "$crate: $test: allocation $n refused: status $status: $(grep -v 'all allocations passed' "$work/err" | head -1)"
+      echo "$crate: $test: allocation $n refused: status $status:" \
+        "$(grep -v 'all allocations passed' "$work/err" | head -1)"
     fi
     if grep -q 'all allocations passed' "$work/err" || [ "$bad" -ge 20 ]; then
       failures=$((failures + bad))

@@ -5,8 +5,8 @@
 #   tools/release.sh FOLDER --gate LINE  after ./build; LINE is the last line of the gate on the same sources
 #                                        elsewhere, 'N passed, 0 failed'
 #
-# Into FOLDER, which it makes if there is none, it writes gomod-VERSION-x86_64-linux.tar.gz and beside it a file with its
-# sha256. The archive has one folder with bin/ and share/, to be unpacked below a folder such as ~/.local (`tar
+# Into FOLDER, which it makes if there is none, it writes gomod-VERSION-x86_64-linux.tar.gz and beside it a file with
+# its sha256. The archive has one folder with bin/ and share/, to be unpacked into a folder such as ~/.local (`tar
 # --strip-components=1`); share/doc/gomod/ has README.md, CHANGELOG.md, docs/MESSAGES.md, and RELEASE.txt: the version,
 # the commit, the gate's last line and the sha256 of the program. The same files give the same archive.
 #
