@@ -1,25 +1,29 @@
 #!/usr/bin/env bash
-# Times `gomod edit` with one operation and with many, on a go.mod of 65,535 requires and on one of a single line, beside
-# `go mod edit` where there is a go command.
+# Times `gomod edit` with one operation and with many, on a go.mod of 65,535 requires and on one of a single line, and
+# `go mod edit` beside it if there is a go command.
 #
-#   bench/edit.sh
+#   bench/edit.sh            what docs/BENCHMARKS.md has
+#   bench/edit.sh --small    2,000 requires and fewer operations, to see in seconds whether it runs
 #
-# It needs what ./build needs, which it runs, and python3 and awk; 4 MB of disk in the folder for temporary files. It
-# prints for each command the least time of three runs: elapsed seconds, those of the processor, and peak memory. The
-# status is 1 where gomod fails.
+# It needs bin/gomod (./build makes it), python3, and 4 MB for temporary files. It prints for each command, of three
+# runs (one with --small), the fastest: elapsed seconds, CPU seconds, and peak memory. The status is 1 if gomod fails or
+# there is none.
 set -euo pipefail
 cd "$(dirname "$0")/.."
-gomod=$(./build | tail -n 1)
-work=$(mktemp -d)
-trap 'rm -rf "$work"' EXIT
+# shellcheck source=tools/lib.sh
+. tools/lib.sh
+begin_benchmark bench/edit.sh "$@"
 
 # The same bytes at each run.
-python3 - "$work" << 'PY'
+count=65535 many=1000 added=4000 goal=" (goal: 1 s)"
+[ -z "$small" ] || count=2000 many=30 added=200 goal=
+python3 - "$work" $count $many $added << 'PY'
 import sys
 
 work = sys.argv[1]
+count, many, added = map(int, sys.argv[2:])
 lines = ["module example.com/big", "", "go 1.16", "", "require ("]
-for number in range(65_535):
+for number in range(count):
     comment = " // indirect" if number % 4 == 0 else ""
     lines.append(f"\texample.com/module{number:06d} v1.{number % 40}.{number % 7}{comment}")
 lines.append(")")
@@ -35,21 +39,22 @@ def write(name, operations):
 
 
 # changes, drops and additions in turn, spread over the file
-changed = range(0, 65_535, 65)
+changed = range(0, count, count // many)
 mixed = [
     f"require=example.com/module{number:06d}@v1.50.{turn}" if turn % 3 == 0
     else f"droprequire=example.com/module{number:06d}" if turn % 3 == 1
     else f"require=example.com/new{number:06d}@v1.0.0"
     for turn, number in enumerate(changed)
 ]
-write("one", ["require=example.com/module032767@v1.50.0"])
+write("one", [f"require=example.com/module{count // 2:06d}@v1.50.0"])
 write("none", ["droprequire=example.com/absent"])
-write("thousand", mixed[:1_000])
-write("added", [f"require=example.com/added{number:04d}@v1.0.0" for number in range(4_000)])
+write("many", mixed[:many])
+write("added", [f"require=example.com/added{number:04d}@v1.0.0" for number in range(added)])
 PY
 
-# Of three runs the one with the least time.
-best() { for _ in 1 2 3; do python3 bench/measure.py "$@"; done | sort -n | head -n 1; }
+show() {
+  printf '%-44s %6.3f s, CPU %6.3f s, %4d MB\n' "$1" "$2" "$3" "$(($4 / 1000000))"
+}
 
 row() {
   local title=$1 file=$2 list=$3
@@ -57,16 +62,17 @@ row() {
   mapfile -t operations < "$work/$list"
   read -r mine busy memory status < <(best - "$gomod" edit "$work/$file" "${operations[@]}")
   [ "$status" = 0 ] || { echo "gomod edit ended with status $status" >&2; exit 1; }
-  printf '%-44s %6.3f s, %6.3f s of the processor, %4d MB\n' "$title" "$mine" "$busy" "$((memory / 1000000))"
+  show "$title" "$mine" "$busy" "$memory"
   if command -v go > /dev/null; then
     read -r theirs busy memory _ < <(best - go mod edit -print "${operations[@]/#/-}" "$work/$file")
-    printf '%-44s %6.3f s, %6.3f s of the processor, %4d MB\n' "  go mod edit" "$theirs" "$busy" "$((memory / 1000000))"
+    show "  go mod edit" "$theirs" "$busy" "$memory"
   fi
 }
 
 read -r mine busy memory status < <(best - "$gomod" fmt "$work/big.mod")
-printf '%-44s %6.3f s, %6.3f s of the processor, %4d MB\n' "gomod fmt, 65,535 requires" "$mine" "$busy" "$((memory / 1000000))"
-row "one operation, 65,535 requires" big.mod one
+[ "$status" = 0 ] || { echo "gomod fmt ended with status $status" >&2; exit 1; }
+show "gomod fmt, $count requires" "$mine" "$busy" "$memory"
+row "one operation, $count requires" big.mod one
 row "one that changes nothing" big.mod none
-row "a thousand operations (goal: 1 s)" big.mod thousand
-row "4,000 additions, one line (goal: 1 s)" small.mod added
+row "$many operations$goal" big.mod many
+row "$added additions, one line$goal" small.mod added

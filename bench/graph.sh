@@ -1,24 +1,24 @@
 #!/usr/bin/env bash
-# Times `gomod list`, `graph` and `chain` over proxy folders of 1,000, 10,000 and 65,000 modules with five
-# requirements each, of 1,000 modules with 200 requirements each, over a chain 65,000 deep, a main file with 65,535
-# requirements, and one with go 1.17 that requires 2,500 of 10,000 modules, whose files alone are read; beside `cat` of
-# the same files. Beside it, in the same run, where there is a Rust compiler, a plain Rust program (plain.rs), and where
-# there is a go command, `go list -m all` with a cold module cache (one run) and with a warm one, and whether they print
-# the same bytes.
+# Times `gomod list`, `graph` and `chain` on graphs of 1,000, 10,000 and 65,000 modules with five requirements each, of
+# 1,000 modules with 200 requirements each, a chain 65,000 deep, a main file with 65,535 requirements, and one with go
+# 1.17 that requires 2,500 of 10,000 modules, whose files alone are read; and `cat` of the same files. In the same run,
+# if there is a Rust compiler, a plain Rust program (plain.rs), and if there is a go command, `go list -m all` with a
+# cold module cache (one run) and with a warm one, and whether they print the same bytes.
 #
-#   bench/graph.sh
+#   bench/graph.sh            what docs/BENCHMARKS.md has
+#   bench/graph.sh --small    the same seven graphs with 50 to 500 modules, each command once and without valgrind, to
+#                             see in seconds whether it runs
 #
-# It needs what ./build needs, which it runs, and python3 and awk; in the folder for temporary files room for 400,000
-# small files (1.7 GB where each takes 4 KB), and about as much again for the caches of a go command. rustc and go are
-# used where they are there, and so is valgrind, to count instructions. It prints for each graph its modules and bytes,
-# and then for each command elapsed seconds, those of the processor, peak memory, and the last two for each module: of
-# three runs the one that took least time; and for gomod and the plain program millions of instructions. The status is 1
-# where gomod fails.
+# It needs bin/gomod (./build makes it), python3 and awk; room for 400,000 small temporary files (1.7 GB if each takes
+# 4 KB), and about as much again for the caches of a go command. rustc and go are used if they are there, and so is
+# valgrind, to count instructions. It prints for each graph its modules and bytes, and then for each command, of three
+# runs the fastest: elapsed seconds, CPU seconds, peak memory, and the last two for each module; and for gomod and the
+# plain program millions of instructions. The status is 1 if gomod fails or there is none.
 set -euo pipefail
 cd "$(dirname "$0")/.."
-gomod=$(./build | tail -n 1)
-work=$(mktemp -d)
-trap 'rm -rf "$work"' EXIT
+# shellcheck source=tools/lib.sh
+. tools/lib.sh
+begin_benchmark bench/graph.sh "$@"
 
 plain=
 if command -v rustc > /dev/null; then
@@ -28,12 +28,12 @@ fi
 
 # The same files at each run. A path has up to three versions, each a module of its own. Requirements stand as the go
 # command leaves them, in the order of their paths and each once.
-python3 - "$work" << 'PY'
+python3 - "$work" $small << 'PY'
 import os
 import random
 import sys
 
-work = sys.argv[1]
+work, is_small = sys.argv[1], len(sys.argv) > 2
 
 
 def write(root, path, version, requirements, go=""):
@@ -65,33 +65,30 @@ def scattered(name, count, width):
     write_main(f"{work}/{name}", chance.sample(modules, 20))
 
 
-scattered("1000", 1_000, 5)
-scattered("10000", 10_000, 5)
-scattered("65000", 65_000, 5)
-scattered("wide", 1_000, 200)
-deep = [(f"example.com/d{place:05d}", "v1.0.0") for place in range(65_000)]
+for count in [50, 100, 500] if is_small else [1_000, 10_000, 65_000]:
+    scattered(str(count), count, 5)
+scattered("wide", *(100, 50) if is_small else (1_000, 200))
+deep = [(f"example.com/d{place:05d}", "v1.0.0") for place in range(500 if is_small else 65_000)]
 for place, (path, version) in enumerate(deep):
     write(f"{work}/deep", path, version, deep[place + 1 : place + 2])
 write_main(f"{work}/deep", deep[:1])
-flat = [(f"example.com/f{place:05d}", "v1.0.0") for place in range(65_535)]
+flat = [(f"example.com/f{place:05d}", "v1.0.0") for place in range(500 if is_small else 65_535)]
 for path, version in flat:
     write(f"{work}/flat", path, version, [])
 write_main(f"{work}/flat", flat)
 chance = random.Random(1)
-pruned = [(f"example.com/p{place:05d}", "v1.0.0") for place in range(10_000)]
+pruned = [(f"example.com/p{place:05d}", "v1.0.0") for place in range(200 if is_small else 10_000)]
 for path, version in pruned:
     write(f"{work}/pruned", path, version, chance.sample(pruned, 5), "go 1.20\n\n")
-write_main(f"{work}/pruned", pruned[:2_500], "1.17")
+write_main(f"{work}/pruned", pruned[: len(pruned) // 4], "1.17")
 PY
-
-# Of three runs the one with the least time.
-best() { for _ in 1 2 3; do python3 bench/measure.py "$@"; done | sort -n | head -n 1; }
 
 # Prints times and memory that were measured, and what they are for each module.
 tell() {
   local what=$1 modules=$2 took=$3 busy=$4 memory=$5
   awk -v what="$what" -v modules="$modules" -v took="$took" -v busy="$busy" -v memory="$memory" 'BEGIN {
-    printf "%-20s %6.2f s, of the processor %6.2f s, %5.0f MB; a module %5.1f us of the processor, %5.1f KB\n", what, took, busy, memory / 1e6, busy * 1e6 / modules, memory / 1e3 / modules
+    printf "%-20s %6.2f s, CPU %6.2f s, %5.0f MB; a module CPU %5.1f us, %5.1f KB\n",
+      what, took, busy, memory / 1e6, busy * 1e6 / modules, memory / 1e3 / modules
   }'
 }
 
@@ -109,7 +106,7 @@ count() {
   local what=$1 modules=$2
   shift 2
   show "$what" "$modules" "$@"
-  command -v valgrind > /dev/null || return 0
+  [ -z "$small" ] && command -v valgrind > /dev/null || return 0
   valgrind --tool=callgrind --callgrind-out-file=/dev/null "$@" 2>&1 > /dev/null |
     awk -v what="$what" '/Collected/ { printf "%-20s %6.0f million instructions\n", what, $NF / 1e6 }'
 }
@@ -139,10 +136,13 @@ show_go() {
   compare "go list -m all" "$root" "${list[@]}"
 }
 
-for name in 1000 10000 65000 wide deep flat pruned; do
+sizes="1000 10000 65000"
+[ -z "$small" ] || sizes="50 100 500"
+for name in $sizes wide deep flat pruned; do
   root=$work/$name
   modules=$(find "$root/proxy" -name '*.mod' | wc -l)
-  echo "$name: $modules modules, $(find "$root/proxy" -name '*.mod' -printf '%s\n' | awk '{ all += $1 } END { print all }') bytes"
+  bytes=$(find "$root/proxy" -name '*.mod' -printf '%s\n' | awk '{ all += $1 } END { print all }')
+  echo "$name: $modules modules, $bytes bytes"
   count "gomod list" "$modules" "$gomod" list --mod "$root/go.mod" --proxy "$root/proxy"
   count "gomod graph" "$modules" "$gomod" graph --mod "$root/go.mod" --proxy "$root/proxy"
   last=$("$gomod" list --mod "$root/go.mod" --proxy "$root/proxy" | tail -n 1 | cut -d ' ' -f 1)

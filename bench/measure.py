@@ -1,8 +1,10 @@
-"""Runs a command and prints what it took: python3 measure.py INPUT COMMAND.. (INPUT is - for none).
+"""Runs a command and prints what it took. The scripts beside it use it.
 
-The line has the seconds that passed, those of the processor, the peak memory in bytes and the status. What the
-command prints is thrown away. It needs python3 and Linux, and /usr/bin/time for peaks below 14 MB. The scripts beside
-it use it.
+  python3 bench/measure.py INPUT COMMAND..    INPUT is the file for standard input, or - for none
+
+The line has the elapsed seconds, the CPU seconds, the peak memory in bytes and the status. What the command prints is
+thrown away. It needs python3 and Linux, and /usr/bin/time for peaks below 14 MB. Its own status is 0, or 2 for wrong
+arguments.
 """
 
 import os
@@ -11,9 +13,16 @@ import sys
 import tempfile
 import time
 
-# The system counts as a command's peak what the process that started it had in memory, and this one has 14 MB. So the small
-# program `time` starts the command and reports its peak, where there is one; otherwise no peak below 14 MB is seen.
+# The system counts as a command's peak what the process that started it had in memory, and this one has 14 MB. So the
+# small program `time` starts the command and reports its peak, if there is one; otherwise no peak below 14 MB is seen.
 TIME = "/usr/bin/time"
+
+if sys.argv[1:2] in (["-h"], ["--help"]):
+    print(__doc__, end="")
+    sys.exit()
+if len(sys.argv) < 3:
+    print("measure: it takes INPUT and COMMAND; 'bench/measure.py --help' says more", file=sys.stderr)
+    sys.exit(2)
 
 source = subprocess.DEVNULL if sys.argv[1] == "-" else open(sys.argv[1], "rb")
 with tempfile.NamedTemporaryFile("r") as told:

@@ -1,30 +1,31 @@
 #!/usr/bin/env bash
-# Times `gomod list --sum` over ten modules with a go.sum of 16 MiB: of lines as the go command writes them, of a
-# million short lines, of one line again and again, and of line ends; and beside each `sort -u` of the same file.
-# Without --sum the ten modules take next to nothing, so what is shown is the reading of the go.sum.
+# Times `gomod list --sum` on ten modules with a go.sum of 16 MiB: of lines as the go command writes them, of a million
+# short lines, of one line again and again, and of line ends; and beside each `sort -u` of the same file. Without --sum
+# the ten modules take next to nothing, so what is shown is the reading of the go.sum.
 #
-#   bench/sums.sh
+#   bench/sums.sh            what docs/BENCHMARKS.md has
+#   bench/sums.sh --small    go.sum files of 1 MiB, to see in seconds whether it runs
 #
-# It needs what ./build needs, which it runs, and python3, awk and sort of GNU coreutils; 70 MB of disk in the folder
-# for temporary files. It prints for each go.sum its lines and bytes, and then for gomod and for sort the least time
-# of three runs: elapsed seconds, those of the processor, and peak memory. The status is 1 where gomod fails without a
-# go.sum.
+# It needs bin/gomod (./build makes it), python3, awk and sort of GNU coreutils, and 70 MB for temporary files. It
+# prints for each go.sum its lines and bytes, and then for gomod and for sort, of three runs (one with --small), the
+# fastest: elapsed seconds, CPU seconds, and peak memory. The status is 1 if gomod fails or there is none.
 set -euo pipefail
 cd "$(dirname "$0")/.."
-gomod=$(./build | tail -n 1)
-work=$(mktemp -d)
-trap 'rm -rf "$work"' EXIT
+# shellcheck source=tools/lib.sh
+. tools/lib.sh
+begin_benchmark bench/sums.sh "$@"
 
 # The same files at each run. Each go.sum ends with the right hashes of the ten modules.
-python3 - "$work" << 'PY'
+limit=16777216
+[ -z "$small" ] || limit=1048576
+python3 - "$work" $limit << 'PY'
 import base64
 import hashlib
 import os
 import random
 import sys
 
-work = sys.argv[1]
-limit = 16_777_216
+work, limit = sys.argv[1], int(sys.argv[2])
 chance = random.Random(1)
 
 
@@ -74,23 +75,23 @@ write("equal", [], last, "abc /go.mod h1:\n")
 write("line-ends", [], last, "\n")
 PY
 
-# Of three runs the one with the least time.
-best() { for _ in 1 2 3; do python3 bench/measure.py "$@"; done | sort -n | head -n 1; }
-
 read -r took busy memory status < <(best - "$gomod" list --mod "$work/go.mod" --proxy "$work/proxy")
 [ "$status" = 0 ] || { echo "gomod list ended with status $status" >&2; exit 1; }
 awk -v took="$took" -v busy="$busy" -v memory="$memory" 'BEGIN {
-  printf "no go.sum  gomod list  %5.2f s, of the processor %5.2f s, %5.0f MB\n", took, busy, memory / 1e6
+  printf "no go.sum  gomod list  %5.2f s, CPU %5.2f s, %5.0f MB\n", took, busy, memory / 1e6
 }'
 for name in written short equal line-ends; do
   size=$(stat -c %s "$work/$name")
   echo "$name: $(wc -l < "$work/$name") lines, $size bytes"
-  read -r took busy memory status < <(best - "$gomod" list --mod "$work/go.mod" --proxy "$work/proxy" --sum "$work/$name")
+  read -r took busy memory status < <(
+    best - "$gomod" list --mod "$work/go.mod" --proxy "$work/proxy" --sum "$work/$name"
+  )
   [ "$status" = 0 ] || { echo "gomod list --sum ended with status $status" >&2; exit 1; }
   read -r theirs their_busy their_memory _ < <(LC_ALL=C best - sort --parallel=1 -u "$work/$name")
   awk -v took="$took" -v busy="$busy" -v memory="$memory" -v size="$size" \
     -v theirs="$theirs" -v their_busy="$their_busy" -v their_memory="$their_memory" 'BEGIN {
-    printf "  gomod list --sum  %5.2f s, of the processor %5.2f s, %5.0f MB, %.1f times the file\n", took, busy, memory / 1e6, memory / size
-    printf "  sort -u           %5.2f s, of the processor %5.2f s, %5.0f MB\n", theirs, their_busy, their_memory / 1e6
+    printf "  gomod list --sum  %5.2f s, CPU %5.2f s, %5.0f MB, %.1f times the file\n",
+      took, busy, memory / 1e6, memory / size
+    printf "  sort -u           %5.2f s, CPU %5.2f s, %5.0f MB\n", theirs, their_busy, their_memory / 1e6
   }'
 done

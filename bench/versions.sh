@@ -1,29 +1,33 @@
 #!/usr/bin/env bash
-# Times `gomod versions` on a list of a million lines beside `sort -V -u`, on the same list on a proxy folder with a
-# million retractions in the latest version's go.mod, and on three lists of 16 MiB without a version.
+# Times `gomod versions` on a list of a million lines and `sort -V -u` beside it, on the same list in a proxy folder
+# with a million retractions in the latest version's go.mod, and on three lists of 16 MiB without a version.
 #
-#   bench/versions.sh
+#   bench/versions.sh            what docs/BENCHMARKS.md has
+#   bench/versions.sh --small    20,000 lines and retractions and lists of 1 MiB, to see in seconds whether it runs
 #
-# It needs what ./build needs, which it runs, and python3, awk and sort of GNU coreutils; 100 MB of disk in the folder
-# for temporary files and 700 MB of memory. It prints the size of the list, then for each command the least time of
-# three runs: elapsed seconds, those of the processor, and peak memory; the ratio of gomod to sort; and for the three
-# lists the status too. The status is 1 where gomod fails.
+# It needs bin/gomod (./build makes it), python3, awk and sort of GNU coreutils, 100 MB for temporary files and 700 MB
+# of memory. It prints the size of the list, then for each command, of three runs (one with --small), the fastest:
+# elapsed seconds, CPU seconds, and peak memory; the ratio of gomod to sort; and for the three lists the status too. The
+# status is 1 if gomod fails on the list of versions, or if there is none.
 set -euo pipefail
 cd "$(dirname "$0")/.."
-gomod=$(./build | tail -n 1)
-work=$(mktemp -d)
-trap 'rm -rf "$work"' EXIT
+# shellcheck source=tools/lib.sh
+. tools/lib.sh
+begin_benchmark bench/versions.sh "$@"
 
 # Releases, pre-releases, pseudo-versions, words that are none, and repeats of each. The same bytes at each run.
-python3 - "$work" << 'PY'
+count=1000000 limit=16777216
+[ -z "$small" ] || count=20000 limit=1048576
+python3 - "$work" $count $limit << 'PY'
 import os
 import random
 import sys
 
 work = sys.argv[1]
+count, limit = map(int, sys.argv[2:])
 chance = random.Random(1)
 lines = []
-for _ in range(1_000_000):
+for _ in range(count):
     kind = chance.random()
     version = f"v{chance.randrange(2)}.{chance.randrange(500)}.{chance.randrange(2000)}"
     if lines and kind < 0.20:
@@ -41,13 +45,13 @@ for _ in range(1_000_000):
 text = "\n".join(lines) + "\n"
 with open(f"{work}/list", "w", encoding="ascii") as out:
     out.write(text)
-# The same list on a proxy folder, with a latest version whose file retracts a million versions and intervals.
+# The same list on a proxy folder, with a latest version whose file retracts as many versions and intervals.
 folder = f"{work}/proxy/example.com/p/@v"
 os.makedirs(folder)
 with open(f"{folder}/list", "w", encoding="ascii") as out:
     out.write(text + "v1.500.0\n")
 retractions = []
-for place in range(1_000_000):
+for place in range(count):
     low = f"v{chance.randrange(2)}.{chance.randrange(500)}.{chance.randrange(2000)}"
     high = f"{low.rpartition('.')[0]}.{chance.randrange(2000)}"
     retractions.append(f"[{low},{high}]" if place % 8 == 0 else low)
@@ -55,11 +59,8 @@ with open(f"{folder}/v1.500.0.mod", "w", encoding="ascii") as out:
     out.write("module example.com/p\n\nretract (\n" + "\n".join(retractions) + "\n)\n")
 for name, byte in [("one-line", b"v"), ("line-ends", b"\n"), ("nuls", b"\0")]:
     with open(f"{work}/{name}", "wb") as out:
-        out.write(byte * 16_777_216)
+        out.write(byte * limit)
 PY
-
-# Of three runs the one with the least time.
-best() { for _ in 1 2 3; do python3 bench/measure.py "$@"; done | sort -n | head -n 1; }
 
 size=$(stat -c %s "$work/list")
 read -r mine busy memory status < <(best "$work/list" "$gomod" versions example.com/p)
@@ -68,18 +69,20 @@ read -r theirs their_busy their_memory _ < <(LC_ALL=C best - sort -V -u "$work/l
 echo "a list of $(wc -l < "$work/list") lines, $size bytes"
 awk -v mine="$mine" -v theirs="$theirs" -v busy="$busy" -v their_busy="$their_busy" \
   -v memory="$memory" -v their_memory="$their_memory" -v size="$size" 'BEGIN {
-  printf "gomod versions  %6.2f s, of the processor %6.2f s, %5.0f MB, %.1f times the list\n", mine, busy, memory / 1e6, memory / size
-  printf "sort -V -u      %6.2f s, of the processor %6.2f s, %5.0f MB\n", theirs, their_busy, their_memory / 1e6
-  printf "ratio           %6.2f,   of the processor %6.2f   (goal: at most 1, and at most 8 times the list)\n", mine / theirs, busy / their_busy
+  printf "gomod versions  %6.2f s, CPU %6.2f s, %5.0f MB, %.1f times the list\n",
+    mine, busy, memory / 1e6, memory / size
+  printf "sort -V -u      %6.2f s, CPU %6.2f s, %5.0f MB\n", theirs, their_busy, their_memory / 1e6
+  printf "ratio           %6.2f,   CPU %6.2f   (goal: at most 1, and at most 8 times the list)\n",
+    mine / theirs, (their_busy > 0 ? busy / their_busy : 0)
 }'
 read -r mine busy memory status < <(best - "$gomod" versions example.com/p --proxy "$work/proxy")
 [ "$status" = 0 ] || { echo "gomod versions --proxy ended with status $status" >&2; exit 1; }
-awk -v mine="$mine" -v busy="$busy" -v memory="$memory" 'BEGIN {
-  printf "with a proxy and a million retractions  %4.2f s, of the processor %4.2f s, %5.0f MB\n", mine, busy, memory / 1e6
+awk -v count="$count" -v mine="$mine" -v busy="$busy" -v memory="$memory" 'BEGIN {
+  printf "with a proxy and %d retractions  %4.2f s, CPU %4.2f s, %5.0f MB\n", count, mine, busy, memory / 1e6
 }'
 for name in one-line line-ends nuls; do
   read -r mine _ memory status < <(best "$work/$name" "$gomod" versions example.com/p)
   awk -v name="$name" -v mine="$mine" -v memory="$memory" -v status="$status" 'BEGIN {
-    printf "16 MiB, %-10s %4.2f s  %5.0f MB  status %d\n", name, mine, memory / 1e6, status
+    printf "%-10s  %4.2f s  %5.0f MB  status %d\n", name, mine, memory / 1e6, status
   }'
 done
