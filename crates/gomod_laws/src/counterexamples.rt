@@ -3,12 +3,12 @@
 
 pub mod additions;
 pub mod folders;
+pub mod later;
 pub mod listings;
 pub mod merges;
 pub mod others;
 pub mod own_lists;
-pub mod later;
 pub mod queries;
 pub mod reports;
-pub mod versions;
 pub mod same_bytes;
+pub mod versions;
