@@ -10,7 +10,7 @@ use Rattle.gm_graph_select.specs.declared.step.Step.TheVariants.{Main as FromMai
 use Rattle.gm_graph_select.specs.BuildList.{Entry}
 use Rattle.gm_graph.proofs.Mapped.{from_mapped}
 use Rattle.gm_graph_listing.specs.Outcomes.{Outcome}
-use Rattle.gm_graph_listing.specs.PrintedLines.{row_text, steps_of}
+use Rattle.gm_graph_listing.specs.PrintedLines.{row_text}
 use Rattle.gm_graph_listing.specs.Texts.{list_text}
 use Rattle.gm_graph_listing.proofs.ListLines.{list_has_lines}
 use Rattle.gm_graph_listing.proofs.RunNames.{run_has_names, run_has_proper_rows}
@@ -19,6 +19,7 @@ use Rattle.gomod_laws.specs.CounterSameBytes.{ArrowIsNotAdded, RowIsLost}
 use Rattle.gomod_laws.specs.SameBytesLaws.{with_right}
 use Rattle.gomod_laws.specs.Shown.{run_over}
 use Rattle.gomod_laws.proofs.Contradicted.{arrow_is_missing, rows_are}
+use Rattle.gomod_laws.proofs.KnownVersions.{one_zero, one_zero_is}
 use Rattle.gomod_laws.proofs.SameBytes.{pair_self}
 
 -- the row of the version has the right side
@@ -30,8 +31,8 @@ right_is x right (Of y, was) its e =
     sym (ap (λ (r : Entry). r.1) e) ∙ ap (λ (b : Bool). cond b (Some right) was) (ap (λ (z : ModuleVersion). pair_eq z x) same ∙ pair_self x)
 
 pub arrow_is_not_added : ArrowIsNotAdded
-arrow_is_not_added file changed sums main other right asked told own (rows, before, after) =
-    arrow_is_missing (run_over changed sums told) other right own (
+arrow_is_not_added file changed sums main other right asked told (rows, before, after) =
+    arrow_is_missing (run_over changed sums told) other right (
       map (with_right a_one right) rows,
       after,
       λ its there. let (row, among, is) = from_mapped (with_right a_one right) rows (Of a_one, its) there in right_is a_one right row its is,
@@ -42,11 +43,10 @@ unfolding lines_of
 one_line = refl
 
 pub row_is_lost : RowIsLost
-row_is_lost file changed sums main other x right asked told own (rows, before, after) =
+row_is_lost file changed sums main other x right asked told (rows, before, after) =
     let run = run_over changed sums told in
     let shown = map (with_right x right) rows in
-    let steps : steps_of rows ≡ FromMain ∷ Of a_one ∷ [] = rows_are (run_over file sums asked) main own rows before in
-    let two : length rows ≡ 2 = sym (length-map rows (λ (row : Entry). row.0)) ∙ ap (λ (ss : List Step). length ss) steps in
+    let two : length rows ≡ 2 = ap (λ (es : List Entry). length es) (rows_are (run_over file sums asked) main one_zero one_zero_is rows before) in
     let lines : lines_of (list_text other.path shown) ≡ map (row_text other.path) shown =
     list_has_lines other.path shown (run_has_names run other after.valid.table after.held after.valid.read after.valid.known).0 (run_has_proper_rows run other after.held shown after.valid after.are) in
     let text : codes "m\n" ≡ list_text other.path shown = ap (λ (o : Outcome). o.text) after.prints in

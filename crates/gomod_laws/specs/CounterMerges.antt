@@ -1,5 +1,4 @@
--- What the law on merges concludes is false of outputs that contradict it. Each output is that of a run over a main
--- file which declares the module m.
+-- What the law on merges concludes is false of outputs that contradict it.
 use Rattle.std.specs.Prelude.{◌≡◌, ℕ, List, [], Option, None, codes}
 use Rattle.gm_graph_listing.specs.Outcomes.{Outcome, printed}
 use Rattle.gomod_words.specs.declared.usage.Command.{Command}
@@ -20,12 +19,9 @@ list_of_replaced = printed (codes "m\na v1.0.0 => ./a\n")
 abbrev pub graph_of_none : Outcome
 graph_of_none = printed []
 
--- The three runs have these outcomes, and the main file of each declares the module m.
+-- The three runs have these outcomes.
 pub record HaveOutcomes (command : Command) (sums : Option (List ℕ)) (one other both : RunOf command sums)
     (first second third : Outcome) : Type 0 where
-  pub first_own : one.main.path ≡ codes "m"
-  pub second_own : other.main.path ≡ codes "m"
-  pub third_own : both.main.path ≡ codes "m"
   pub first_is : one.outcome ≡ first
   pub second_is : other.outcome ≡ second
   pub third_is : both.outcome ≡ third
