@@ -37,7 +37,7 @@ says_as content main file (lines, (parsed, sound), is) (doc, also, lax, says) =
 
 -- ---- the reading
 
-read_well : (fault : Option Class) (content : List ℕ) (file : Dependency) → IsReadUnless fault content (Ok file) → IsReadAsDependency content file
+pub read_well : (fault : Option Class) (content : List ℕ) (file : Dependency) → IsReadUnless fault content (Ok file) → IsReadAsDependency content file
 read_well None content file is = is
 read_well (Some class) content file is = cc is
 
@@ -45,7 +45,7 @@ path_fault : (b : Bool) (file : Dependency) → fault_in (Some (cond b (Ok file)
 path_fault true file e = refl
 path_fault false file e = cc e
 
-right_reading : (x : ModuleVersion) (right : Option Right) (r : Result Dependency Class) → fault_in (Some (with_right_path x right r)) ≡ None
+pub right_reading : (x : ModuleVersion) (right : Option Right) (r : Result Dependency Class) → fault_in (Some (with_right_path x right r)) ≡ None
     → (file : Dependency) × (r ≡ Ok file) × (Some (with_right_path x right r) ≡ Some (Ok file))
 right_reading x right (Ok file) sound = (file, refl, path_fault (is_right_path x right file.declared) file sound)
 right_reading x right (Err class) sound = cc sound
@@ -59,7 +59,7 @@ same_module y x e =
     ap (λ (t : List ℕ). (t, y.1)) path ∙ ap (λ (t : List ℕ). (x.0, t)) version
 
 -- the class of a fault, or none
-no_class : (o : Option Class) → ((class : Class) → o ≡ Some class → ⊥) → o ≡ None
+pub no_class : (o : Option Class) → ((class : Class) → o ≡ Some class → ⊥) → o ≡ None
 no_class None none = refl
 no_class (Some class) none = absurd (none class refl)
 

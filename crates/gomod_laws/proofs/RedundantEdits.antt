@@ -45,7 +45,7 @@ pub record AreSaidBy (only : Operation) (first second : Main) : Type 0 where
   pub first_is : main_said (directives_of lines) ≡ first
   pub second_is : main_said (directives_of (edited only lines)) ≡ second
 
-said_by : (operations : Vec (String Global)) (only : Operation) (file text : List ℕ) (first second : Main)
+pub said_by : (operations : Vec (String Global)) (only : Operation) (file text : List ℕ) (first second : Main)
     → IsEditedBy operations only file text → IsMainFile file first → IsMainFile text second → AreSaidBy only first second
 said_by operations only file text first second has says (doc, (parsed, faultless), is) =
     let found = edited_from operations file text has.prints in
@@ -70,7 +70,7 @@ said_by operations only file text first second has says (doc, (parsed, faultless
     }
 
 -- by what their directives say, but for what they require
-said_differ : (ds es : List Directive) (first second : Main) → SameRest ds es → main_said ds ≡ first → main_said es ≡ second
+pub said_differ : (ds es : List Directive) (first second : Main) → SameRest ds es → main_said ds ≡ first → main_said es ≡ second
     → DifferInRequirements first second
 said_differ ds es first second same first_is second_is =
     subst (λ (m : Main). DifferInRequirements m second) first_is
@@ -167,7 +167,7 @@ drop_changes_no_list operations path file text sums first second edges seen grap
 
 -- ---- `require=`
 
-kept_by_upgrade : (p : Pair) (lines : List (Line Placed)) → IsEditOf (SetRequire p) lines → (x : ModuleVersion)
+pub kept_by_upgrade : (p : Pair) (lines : List (Line Placed)) → IsEditOf (SetRequire p) lines → (x : ModuleVersion)
     → bytes_eq x.0 p.0 ≡ false → Contains (filter_map as_requirement (directives_of lines)) x
     → Contains (filter_map as_requirement (directives_of (edited (SetRequire p) lines))) x
 kept_by_upgrade p lines is x e there =

@@ -18,7 +18,8 @@ higher_list = printed (codes "m\na v1.1.0\n")
 abbrev pub other_graph : Outcome
 other_graph = printed (codes "m a@v1.1.0\n")
 
--- `ListLowersNothing`, `NoRowIsLower` and `UpgradeLowersNoRow` if `list` shows a v1.1.0 first and then a v1.0.0
+-- `ListLowersNothing`, `NoRowIsLower`, `UpgradeLowersNoRow`, `LaterVersionsLowerNoRow` and `RequireLaterLowersNoRow` if
+-- `list` shows a v1.1.0 first and then a v1.0.0
 abbrev pub RowIsLower : Type 0
 RowIsLower = (run later : Given) (first second : Main) → ¬ (LowersNothing run later first second higher_list list_of_a)
 
