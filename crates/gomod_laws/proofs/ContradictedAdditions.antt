@@ -23,8 +23,8 @@ use Rattle.gomod_laws.proofs.ShownTexts.{same_text}
 pub row_is_lower : RowIsLower
 row_is_lower run later first second (rows, others, shows, also, kept) =
     let (right, there) = row_there run first one_one one_one_is rows shows in
-    let (y, its, among, same, high) = kept (codes "a", one_one) right there in
-    let is : y ≡ (codes "a", one_zero) = only_row later second one_zero one_zero_is others also y its among in
+    let (y, its, among, same, high) = kept (codes "a.b", one_one) right there in
+    let is : y ≡ (codes "a.b", one_zero) = only_row later second one_zero one_zero_is others also y its among in
     let low : is_gt (version_cmp one_one y.1) ≡ true =
     subst (λ (z : ModuleVersion). is_gt (version_cmp one_one z.1) ≡ true) (sym is) (ap is_gt one_one_is_above) in
     false≢true (sym high ∙ low)
@@ -50,8 +50,8 @@ first_byte a b x y e = cc e
 
 pub row_is_higher : RowIsHigher
 row_is_higher (prints, same) =
-    let text = same_text (codes "m\na v1.1.0\n") (codes "m\na v1.0.0\n") same in
-    let digit : 49 ≡ 48 = first_byte 49 48 _ _ (ap (drop 7) text) in omega (arith, digit)
+    let text = same_text (codes "m\na.b v1.1.0\n") (codes "m\na.b v1.0.0\n") same in
+    let digit : 49 ≡ 48 = first_byte 49 48 _ _ (ap (drop 9) text) in omega (arith, digit)
 
 pub neither_prints : NeitherPrints
 neither_prints report (prints, same) = let code : 1 ≡ 0 = prints in omega (arith, code)
@@ -59,7 +59,7 @@ neither_prints report (prints, same) = let code : 1 ≡ 0 = prints in omega (ari
 -- ---- a chain that takes no line of a graph
 
 abbrev the_line : List ℕ
-the_line = codes "m a@v1.0.0"
+the_line = codes "m a.b@v1.0.0"
 
 abbrev Ways : List ℕ → List (List ℕ) → Type 0
 Ways last lines = LeadsTo (the_line ∷ []) (codes "m") last lines
@@ -76,10 +76,10 @@ drop_front (x ∷ xs) ys = drop_front xs ys
 
 ends_in_digit : (front : List ℕ) → the_line ≡ front ++ codes "m" → ⊥
 ends_in_digit front e =
-    let whole : 10 ≡ length (front ++ codes "m") = ap (λ (t : List ℕ). length t) e in
+    let whole : 12 ≡ length (front ++ codes "m") = ap (λ (t : List ℕ). length t) e in
     let parts = length-append front (codes "m") in
-    let size : length front ≡ 9 = omega (arith, whole, parts) in
-    let behind : drop 9 the_line ≡ codes "m" = ap (drop 9) e ∙ subst (λ (n : ℕ). drop n (front ++ codes "m") ≡ codes "m") size (drop_front front (codes "m")) in
+    let size : length front ≡ 11 = omega (arith, whole, parts) in
+    let behind : drop 11 the_line ≡ codes "m" = ap (drop 11) e ∙ subst (λ (n : ℕ). drop n (front ++ codes "m") ≡ codes "m") size (drop_front front (codes "m")) in
     let digit : 48 ≡ 109 = first_byte 48 109 _ _ behind in omega (arith, digit)
 
 -- no line leads to m
@@ -90,53 +90,53 @@ way_to_m last lines (further {last = before} {lines = others} next leads there) 
     line_only ((before ++ codes " ") ++ next) there ∙ ap (λ (t : List ℕ). (before ++ codes " ") ++ t) is in
     absurd (ends_in_digit (before ++ codes " ") text)
 
--- and one to a v1.0.0
-way_to_a : (last : List ℕ) (lines : List (List ℕ)) → Ways last lines → last ≡ codes "a@v1.0.0" → lines ≡ codes "m" ∷ codes "a@v1.0.0" ∷ []
+-- and one to a.b v1.0.0
+way_to_a : (last : List ℕ) (lines : List (List ℕ)) → Ways last lines → last ≡ codes "a.b@v1.0.0" → lines ≡ codes "m" ∷ codes "a.b@v1.0.0" ∷ []
 way_to_a last lines here is = let first : 109 ≡ 97 = first_byte 109 97 _ _ is in absurd (omega (arith, first))
 way_to_a last lines (further {last = before} {lines = others} next leads there) is =
-    let text : codes "m" ++ codes " a@v1.0.0" ≡ before ++ codes " a@v1.0.0" =
-    line_only ((before ++ codes " ") ++ next) there ∙ ap (λ (t : List ℕ). (before ++ codes " ") ++ t) is ∙ append_assoc before (codes " ") (codes "a@v1.0.0") in
-    let own : before ≡ codes "m" = sym (append_cancel_right (codes "m") before (codes " a@v1.0.0") text) in
+    let text : codes "m" ++ codes " a.b@v1.0.0" ≡ before ++ codes " a.b@v1.0.0" =
+    line_only ((before ++ codes " ") ++ next) there ∙ ap (λ (t : List ℕ). (before ++ codes " ") ++ t) is ∙ append_assoc before (codes " ") (codes "a.b@v1.0.0") in
+    let own : before ≡ codes "m" = sym (append_cancel_right (codes "m") before (codes " a.b@v1.0.0") text) in
     ap (λ (ls : List (List ℕ)). ls ++ next ∷ []) (way_to_m before others leads own)
     ∙ ap (λ (t : List ℕ). codes "m" ∷ t ∷ []) is
 
 module _ (rows : List Entry) (edges : List Edge) (main : Main) (list_run graph_run : Given)
     (show : ShowA rows edges main list_run graph_run) where
-  -- a chain for a is the only way
-  chain_is : (chain : Outcome) → IsExplained main.path rows (map (edge_text main.path) edges) (codes "a") chain
-      → chain ≡ printed (codes "m\na@v1.0.0\n")
+  -- a chain for a.b is the only way
+  chain_is : (chain : Outcome) → IsExplained main.path rows (map (edge_text main.path) edges) (codes "a.b") chain
+      → chain ≡ printed (codes "m\na.b@v1.0.0\n")
   chain_is chain law =
       let (its, there) = row_there list_run main one_zero one_zero_is rows show.in_list in
       let own : main.path ≡ codes "m" = list_main list_run main one_zero rows show.in_list in
       let are : edges ≡ edge_to one_zero ∷ [] = edges_are graph_run main one_zero one_zero_is edges show.in_graph in
       let (lines, leads, says) = law.row (Of a_one, its) there refl in
-      let way : LeadsTo (map (edge_text main.path) (edge_to one_zero ∷ [])) main.path (codes "a@v1.0.0") lines =
-      subst (λ (es : List Edge). LeadsTo (map (edge_text main.path) es) main.path (codes "a@v1.0.0") lines) are leads in
-      let by_line : Ways (codes "a@v1.0.0") lines =
-      subst (λ (m : List ℕ). LeadsTo (map (edge_text m) (edge_to one_zero ∷ [])) m (codes "a@v1.0.0") lines) own way in
-      says ∙ ap (λ (ls : List (List ℕ)). printed (text_of ls)) (way_to_a (codes "a@v1.0.0") lines by_line refl)
+      let way : LeadsTo (map (edge_text main.path) (edge_to one_zero ∷ [])) main.path (codes "a.b@v1.0.0") lines =
+      subst (λ (es : List Edge). LeadsTo (map (edge_text main.path) es) main.path (codes "a.b@v1.0.0") lines) are leads in
+      let by_line : Ways (codes "a.b@v1.0.0") lines =
+      subst (λ (m : List ℕ). LeadsTo (map (edge_text m) (edge_to one_zero ∷ [])) m (codes "a.b@v1.0.0") lines) own way in
+      says ∙ ap (λ (ls : List (List ℕ)). printed (text_of ls)) (way_to_a (codes "a.b@v1.0.0") lines by_line refl)
 
-  no_row_of_b : (row : Entry) → Contains rows row → path_of main.path row.0 ≡ codes "b" → ⊥
+  no_row_of_b : (row : Entry) → Contains rows row → path_of main.path row.0 ≡ codes "b.c" → ⊥
   no_row_of_b (FromMain, right) there is =
       let letter : 109 ≡ 98 = first_byte 109 98 _ _ (sym (list_main list_run main one_zero rows show.in_list) ∙ is) in omega (arith, letter)
   no_row_of_b (Of x, right) there is =
-      let own : x ≡ (codes "a", one_zero) = only_row list_run main one_zero one_zero_is rows show.in_list x right there in
+      let own : x ≡ (codes "a.b", one_zero) = only_row list_run main one_zero one_zero_is rows show.in_list x right there in
       let letter : 97 ≡ 98 = first_byte 97 98 _ _ (sym (ap (λ (y : ModuleVersion). y.0) own) ∙ is) in omega (arith, letter)
 
-letters_differ : (rest more : List ℕ) → codes "m\nb" ++ rest ≡ codes "m\na" ++ more → ⊥
-letters_differ rest more e = let letter : 98 ≡ 97 = first_byte 98 97 rest more (ap (drop 2) e) in omega (arith, letter)
+letters_differ : (rest more : List ℕ) → codes "m\nb.c" ++ rest ≡ codes "m\na.b" ++ more → ⊥
+letters_differ rest more e = let letter : 98 ≡ 97 = first_byte 98 97 _ _ (ap (drop 2) e) in omega (arith, letter)
 
 pub chain_is_by_no_line : ChainIsByNoLine
 chain_is_by_no_line rows edges main list_run graph_run show law =
-    letters_differ (codes "@v1.0.0\na@v1.0.0\n") (codes "@v1.0.0\n")
-    (same_text (codes "m\nb@v1.0.0\na@v1.0.0\n") (codes "m\na@v1.0.0\n") (chain_is rows edges main list_run graph_run show chain_by_b law))
+    letters_differ (codes "@v1.0.0\na.b@v1.0.0\n") (codes "@v1.0.0\n")
+    (same_text (codes "m\nb.c@v1.0.0\na.b@v1.0.0\n") (codes "m\na.b@v1.0.0\n") (chain_is rows edges main list_run graph_run show chain_by_b law))
 
 pub chain_is_to_another : ChainIsToAnother
 chain_is_to_another rows edges main list_run graph_run show law =
     letters_differ (codes "@v1.0.0\n") (codes "@v1.0.0\n")
-    (same_text (codes "m\nb@v1.0.0\n") (codes "m\na@v1.0.0\n") (chain_is rows edges main list_run graph_run show chain_to_b law))
+    (same_text (codes "m\nb.c@v1.0.0\n") (codes "m\na.b@v1.0.0\n") (chain_is rows edges main list_run graph_run show chain_to_b law))
 
 pub unlisted_is_shown : UnlistedIsShown
 unlisted_is_shown rows edges main list_run graph_run show law =
-    let none : ¬ (HasEntryFor main.path rows (codes "b")) = λ has. no_row_of_b rows edges main list_run graph_run show has.0 has.1 has.2 in
+    let none : ¬ (HasEntryFor main.path rows (codes "b.c")) = λ has. no_row_of_b rows edges main list_run graph_run show has.0 has.1 has.2 in
     let code : 0 ≡ 1 = ap (λ (o : Outcome). o.status) (law.unlisted none) in omega (arith, code)

@@ -6,7 +6,7 @@ use Rattle.gm_graph_select.proofs.Ascending.{no_member}
 use Rattle.gomod_laws.specs.CounterFolders.{FileIsAskedForInOne, asks_for_a}
 
 abbrev file_of_a : Name
-file_of_a = mod_file (codes "a") (codes "v1.0.0")
+file_of_a = mod_file (codes "a.b") (codes "v1.0.0")
 
 asked_for : Contains (names_in asks_for_a) file_of_a
 asked_for = (0, omega arith, refl)

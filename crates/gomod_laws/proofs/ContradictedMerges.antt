@@ -8,12 +8,11 @@ use Rattle.gm_file.specs.Directives.{Folder, Right}
 use Rattle.gm_file.specs.Values.{is_folder_path}
 use Rattle.gm_graph_cache.specs.Main.{Main, ModuleVersion}
 use Rattle.gm_graph_select.specs.declared.step.Edge.{Edge}
-use Rattle.gm_graph_select.specs.declared.step.Step.{Step}
 use Rattle.gm_graph_select.specs.declared.step.Step.TheVariants.{Main as FromMain, Of}
 use Rattle.gm_graph_select.specs.BuildList.{Entry, main_entry}
 use Rattle.gm_graph_select.proofs.Ascending.{member_cases, member_head, no_member}
 use Rattle.gm_graph.specs.declared.fault.Fault.{Fault}
-use Rattle.gm_graph_listing.specs.Outcomes.{Given, Outcome, printed}
+use Rattle.gm_graph_listing.specs.Outcomes.{Given, Outcome}
 use Rattle.gm_graph_listing.specs.PrintedLines.{AreProperEdges, AreProperRows, IsProperRow}
 use Rattle.gm_graph_listing.specs.Texts.{graph_text}
 use Rattle.gm_graph_listing.proofs.GraphLines.{text_says_edges}
@@ -143,7 +142,7 @@ edge_is_new sums one other both have (edges, others, all, first, second, third, 
 pub row_is_lower : RowIsLower
 row_is_lower sums one other both have (rows, others, all, first, second, third, higher) =
     let (right, row) = row_there _ other.main one_one one_one_is others (shown _ other.main others other.outcome list_of_later second have.second_is) in
-    let (y, its, inside, path, high) = higher.second (codes "a", one_one) right row in
+    let (y, its, inside, path, high) = higher.second (codes "a.b", one_one) right row in
     let is : y ≡ a_one =
     only_row _ both.main one_zero one_zero_is all (shown _ both.main all both.outcome list_of_a third have.third_is) y its inside in
     let low : is_gt (version_cmp one_one one_zero) ≡ false = subst (λ (z : ModuleVersion). is_gt (version_cmp one_one z.1) ≡ false) is high in

@@ -1,17 +1,16 @@
--- What the laws of `edit`, of folders and of lines conclude is false of what contradicts them.
+-- What the laws of `edit` and of lines conclude is false of what contradicts them.
 use Rattle.std.proofs.Common.{◌≡◌, ◌∙◌, ◌∷◌, ◌++◌, ℕ, List, [], Some, Contains, ap, arith, codes, drop, inl, inr, refl, subst, sym}
 use Rattle.gm_file.specs.GoVersions.{first_number, is_go_suffix, last_number, second_number, small_number, strict_go}
-use Rattle.gm_store.specs.Asked.{mod_file}
 use Rattle.gm_graph_select.specs.declared.step.Step.TheVariants.{Main as FromMain, Of}
 use Rattle.gm_graph_select.specs.BuildList.{main_entry}
-use Rattle.gm_graph_select.proofs.Ascending.{member_head, member_tail, no_member}
+use Rattle.gm_graph_select.proofs.Ascending.{member_head, member_tail}
 use Rattle.gm_graph.proofs.Mapped.{in_mapped}
 use Rattle.gm_graph_listing.specs.Outcomes.{Outcome}
 use Rattle.gm_graph_listing.specs.PrintedLines.{edge_text, row_text}
 use Rattle.gm_graph_listing.specs.Texts.{line, step_text}
 use Rattle.gm_graph_listing.proofs.GraphLines.{chain_has_lines, graph_has_lines}
 use Rattle.gm_graph_listing.proofs.ListLines.{list_has_lines}
-use Rattle.gomod_laws.specs.CounterOthers.{EdgeIsALine, FormatsAnother, GoIsAnother, ModuleIsSecond, NeitherFormats, OneMoreIsAskedFor, RowIsALine, StepIsALine, TwiceIsRefused, TwicePrintsAnother, file_of_m, file_of_n}
+use Rattle.gomod_laws.specs.CounterOthers.{EdgeIsALine, FormatsAnother, GoIsAnother, ModuleIsSecond, NeitherFormats, RowIsALine, StepIsALine, TwiceIsRefused, TwicePrintsAnother, file_of_m, file_of_n}
 use Rattle.gomod_laws.specs.Counterexamples.{a_one}
 use Rattle.gomod_laws.proofs.Contradicted.{edge_proper, edge_to, m_is_path, row_at, row_proper, rows_at, steps_proper}
 use Rattle.gomod_laws.proofs.KnownVersions.{one_zero, one_zero_is}
@@ -25,8 +24,8 @@ codes_differ a b p q e = let codes_are : a.status ≡ b.status = ap (λ (o : Out
 
 pub module_is_second : ModuleIsSecond
 module_is_second (others, is) =
-    let text = same_text (codes "n\nm v1.0.0\n") (line (codes "m") ++ others) is in
-    let letter : 110 ≡ 109 = first_byte 110 109 _ _ text in omega (arith, letter)
+    let text = same_text (codes "m\na.b v1.0.0\n") (line (codes "a.b") ++ others) is in
+    let letter : 109 ≡ 97 = first_byte 109 97 _ _ text in omega (arith, letter)
 
 go_is : strict_go (codes "1.17") ≡ Some (1, 17)
 unfolding strict_go first_number second_number small_number last_number is_go_suffix
@@ -57,11 +56,6 @@ formats_another (same, text, is) = files_differ same
 
 pub neither_formats : NeitherFormats
 neither_formats report (same, text, is) = codes_differ _ _ refl refl (sym is)
-
-pub one_more_is_asked_for : OneMoreIsAskedFor
-one_more_is_asked_for same =
-    let name = mod_file (codes "a") (codes "v1.0.0") in
-    no_member name ((same name).0 (member_head name []))
 
 -- ---- lines
 

@@ -1,6 +1,5 @@
--- A report is no list and no graph, what is not required is not shown, and a file more is not the same files.
+-- A report is no list and no graph, and what is not required is not shown.
 use Rattle.std.proofs.Common.{◌≡◌, ◌∙◌, ◌∷◌, ℕ, List, [], Contains, ap, arith, codes, map, refl, subst, inl, inr}
-use Rattle.gm_store.specs.Asked.{mod_file}
 use Rattle.gm_graph_cache.specs.Main.{Main, ModuleVersion, without_excluded}
 use Rattle.gm_graph_cache.specs.Reading.{Readings}
 use Rattle.gm_graph_select.specs.declared.step.Step.{Step}
@@ -10,8 +9,8 @@ use Rattle.gm_graph_select.proofs.Ascending.{member_head, no_member}
 use Rattle.gm_graph.specs.Graph.{IsDeep, IsEdge, IsTop, from_deep, from_main, from_top}
 use Rattle.gm_graph_listing.specs.Outcomes.{Outcome, printed}
 use Rattle.gm_graph_listing.specs.Texts.{graph_text, list_text}
-use Rattle.gomod_laws.specs.CounterReports.{EdgeIsNotRequired, FileIsOneMore, ReportIsNoGraph, ReportIsNoList, RowIsNotRequired}
-use Rattle.gomod_laws.specs.Counterexamples.{a_one, fault_of_a}
+use Rattle.gomod_laws.specs.CounterReports.{EdgeIsNotRequired, ReportIsNoGraph, ReportIsNoList, RowIsNotRequired}
+use Rattle.gomod_laws.specs.Counterexamples.{fault_of_a}
 
 refused_or_printed : (text : List ℕ) → fault_of_a ≡ printed text → ⊥
 refused_or_printed text is = let code : ◌≡◌ {A = ℕ} 1 0 = ap (λ (o : Outcome). o.status) is in omega (arith, code)
@@ -45,7 +44,7 @@ none_in (x ∷ xs) none = absurd (none x (member_head x xs))
 same_text : (a b : List ℕ) → printed a ≡ printed b → a ≡ b
 same_text a b is = ap (λ (o : Outcome). o.text) is
 
-two_lines : codes "m\na v1.0.0\n" ≡ codes "m\n" → ⊥
+two_lines : codes "m\na.b v1.0.0\n" ≡ codes "m\n" → ⊥
 two_lines e = cc e
 
 pub row_is_not_required : RowIsNotRequired
@@ -53,17 +52,12 @@ row_is_not_required before run main own nothing (rows, shows, by) =
     let selected : by.are.selected ≡ [] =
     none_in by.are.selected (λ x there. let end = ((by.are.each x).0 there).is_end in no_edge main _ nothing end.0 x end.1) in
     let alone : rows ≡ main_entry ∷ [] = by.are.entries_are ∙ ap (λ (xs : List ModuleVersion). main_entry ∷ map (entry_of main.replaces) xs) selected in
-    let text : codes "m\na v1.0.0\n" ≡ list_text main.path rows = same_text (codes "m\na v1.0.0\n") (list_text main.path rows) shows.prints in
+    let text : codes "m\na.b v1.0.0\n" ≡ list_text main.path rows = same_text (codes "m\na.b v1.0.0\n") (list_text main.path rows) shows.prints in
     two_lines (text ∙ ap (list_text main.path) alone ∙ ap (λ (path : List ℕ). list_text path (main_entry ∷ [])) own)
 
 pub edge_is_not_required : EdgeIsNotRequired
 edge_is_not_required before run main nothing (edges, shows, by) =
     let none : edges ≡ [] = none_in edges (λ one there. no_edge main _ nothing one.from one.to ((by.are.each one).0 there)) in
-    let text : codes "m a@v1.0.0\n" ≡ graph_text main.path edges = same_text (codes "m a@v1.0.0\n") (graph_text main.path edges) shows.prints in
-    let empty : codes "m a@v1.0.0\n" ≡ [] = text ∙ ap (graph_text main.path) none in
+    let text : codes "m a.b@v1.0.0\n" ≡ graph_text main.path edges = same_text (codes "m a.b@v1.0.0\n") (graph_text main.path edges) shows.prints in
+    let empty : codes "m a.b@v1.0.0\n" ≡ [] = text ∙ ap (graph_text main.path) none in
     cc empty
-
--- ---- a file more
-
-pub file_is_one_more : FileIsOneMore
-file_is_one_more same = no_member (mod_file a_one.0 a_one.1) ((same (mod_file a_one.0 a_one.1)).0 (member_head (mod_file a_one.0 a_one.1) []))

@@ -1,11 +1,10 @@
 -- What the law on a replace by the same bytes concludes of lists is false of lists that contradict it.
-use Rattle.std.proofs.Common.{◌≡◌, ◌∙◌, ◌∷◌, ℕ, Bool, List, [], length, Option, Some, ap, arith, codes, cond, map, refl, sym}
+use Rattle.std.proofs.Common.{◌≡◌, ◌∙◌, ℕ, Bool, List, length, Option, Some, ap, arith, codes, cond, map, refl, sym}
 use Rattle.std.proofs.lemmas.List.{length-map}
 use Rattle.gm_file.specs.Directives.{Right}
 use Rattle.gm_file.specs.Pairs.{pair_eq}
 use Rattle.gm_syntax.specs.Lines.{lines_of}
 use Rattle.gm_graph_cache.specs.Main.{ModuleVersion}
-use Rattle.gm_graph_select.specs.declared.step.Step.{Step}
 use Rattle.gm_graph_select.specs.declared.step.Step.TheVariants.{Main as FromMain, Of}
 use Rattle.gm_graph_select.specs.BuildList.{Entry}
 use Rattle.gm_graph.proofs.Mapped.{from_mapped}

@@ -42,13 +42,13 @@ two_known v w p q version there = elim (member_cases v version (w ∷ []) there)
   | inr later ↦ one_known w q version later
 ]
 
--- ---- versions of a
+-- ---- versions of a.b
 
-shown_are : (asked : List (Name × Reply)) (versions known : List (List ℕ)) (outcome : Outcome) → AreVersions known → ShowsVersions asked (codes "a") versions outcome
-    → outcome ≡ printed (versions_line (codes "a") known) → versions ≡ known
+shown_are : (asked : List (Name × Reply)) (versions known : List (List ℕ)) (outcome : Outcome) → AreVersions known → ShowsVersions asked (codes "a.b") versions outcome
+    → outcome ≡ printed (versions_line (codes "a.b") known) → versions ≡ known
 shown_are asked versions known outcome are shows is =
-    line_says_versions (codes "a") versions known (λ version there. (shows.each version there).listable.canonical) are
-    (same_text (versions_line (codes "a") versions) (versions_line (codes "a") known) (sym shows.prints ∙ is))
+    line_says_versions (codes "a.b") versions known (λ version there. (shows.each version there).listable.canonical) are
+    (same_text (versions_line (codes "a.b") versions) (versions_line (codes "a.b") known) (sym shows.prints ∙ is))
 
 ascends : (xs ys : List (List ℕ)) → IsStrictlySortedBy version_cmp xs → xs ≡ ys → IsStrictlySortedBy version_cmp ys
 ascends xs ys up is = subst (IsStrictlySortedBy version_cmp) is up
@@ -59,7 +59,7 @@ not_twice v up = less_itself version_total v up.0.0
 
 pub version_stands_twice : VersionStandsTwice
 version_stands_twice asked versions shows =
-    let are = shown_are asked versions (one_zero ∷ one_zero ∷ []) (printed (codes "a v1.0.0 v1.0.0\n")) (two_known one_zero one_zero one_zero_is one_zero_is) shows refl in
+    let are = shown_are asked versions (one_zero ∷ one_zero ∷ []) (printed (codes "a.b v1.0.0 v1.0.0\n")) (two_known one_zero one_zero one_zero_is one_zero_is) shows refl in
     not_twice one_zero (ascends versions (one_zero ∷ one_zero ∷ []) shows.ascending are)
 
 not_down : IsStrictlySortedBy version_cmp (one_one ∷ one_zero ∷ []) → ⊥
@@ -68,12 +68,12 @@ not_down up = let less : Greater ≡ Less = sym one_one_is_above ∙ up.0.0 in c
 
 pub versions_descend : VersionsDescend
 versions_descend asked versions shows =
-    let are = shown_are asked versions (one_one ∷ one_zero ∷ []) (printed (codes "a v1.1.0 v1.0.0\n")) (two_known one_one one_zero one_one_is one_zero_is) shows refl in
+    let are = shown_are asked versions (one_one ∷ one_zero ∷ []) (printed (codes "a.b v1.1.0 v1.0.0\n")) (two_known one_one one_zero one_one_is one_zero_is) shows refl in
     not_down (ascends versions (one_one ∷ one_zero ∷ []) shows.ascending are)
 
 pub version_does_not_fit : VersionDoesNotFit
 version_does_not_fit asked versions shows =
-    let are = shown_are asked versions (two_zero ∷ []) (printed (codes "a v2.0.0\n")) (one_known two_zero two_zero_is) shows refl in
+    let are = shown_are asked versions (two_zero ∷ []) (printed (codes "a.b v2.0.0\n")) (one_known two_zero two_zero_is) shows refl in
     let there : Contains versions two_zero = subst (λ (vs : List (List ℕ)). Contains vs two_zero) (sym are) (member_head two_zero []) in
     two_zero_misfits (shows.each two_zero there).listable.fit
 
@@ -82,10 +82,10 @@ same_bytes a b e = cc e
 
 pub version_is_unlisted : VersionIsUnlisted
 version_is_unlisted asked versions answered shows =
-    let are = shown_are asked versions (one_zero ∷ []) (printed (codes "a v1.0.0\n")) (one_known one_zero one_zero_is) shows refl in
+    let are = shown_are asked versions (one_zero ∷ []) (printed (codes "a.b v1.0.0\n")) (one_known one_zero one_zero_is) shows refl in
     let there : Contains versions one_zero = subst (λ (vs : List (List ℕ)). Contains vs one_zero) (sym are) (member_head one_zero []) in
     let list : shows.list ≡ codes "v1.1.0\n" = same_bytes shows.list (codes "v1.1.0\n") (sym shows.answered ∙ answered) in
-    one_zero_unlisted (subst (λ (text : List ℕ). IsListed (codes "a") text one_zero) list (shows.each one_zero there))
+    one_zero_unlisted (subst (λ (text : List ℕ). IsListed (codes "a.b") text one_zero) list (shows.each one_zero there))
 
 -- ---- retracted versions
 
@@ -95,25 +95,25 @@ both = one_zero ∷ one_one ∷ []
 both_known : AreVersions both
 both_known = two_known one_zero one_one one_zero_is one_one_is
 
-module _ (asked : List (Name × Reply)) (one other : Outcome) (law : LeavesOutRetracted asked (codes "a") one other) where
+module _ (asked : List (Name × Reply)) (one other : Outcome) (law : LeavesOutRetracted asked (codes "a.b") one other) where
   listed_are_versions : AreVersions law.versions
   listed_are_versions version there = ((law.listed.are.members version).0 there).listable.canonical
 
-  all_are : (known : List (List ℕ)) → AreVersions known → other ≡ printed (versions_line (codes "a") known) → law.versions ≡ known
+  all_are : (known : List (List ℕ)) → AreVersions known → other ≡ printed (versions_line (codes "a.b") known) → law.versions ≡ known
   all_are known are is =
-      line_says_versions (codes "a") law.versions known listed_are_versions are
-      (same_text (versions_line (codes "a") law.versions) (versions_line (codes "a") known) (sym law.other_prints ∙ is))
+      line_says_versions (codes "a.b") law.versions known listed_are_versions are
+      (same_text (versions_line (codes "a.b") law.versions) (versions_line (codes "a.b") known) (sym law.other_prints ∙ is))
 
-  from_all : (versions shown : List (List ℕ)) → AreVersions versions → AreUnretracted asked (codes "a") versions shown → AreVersions shown
+  from_all : (versions shown : List (List ℕ)) → AreVersions versions → AreUnretracted asked (codes "a.b") versions shown → AreVersions shown
   from_all versions shown are (inl (none, nothing)) = subst AreVersions (sym nothing) (λ version there. absurd (no_member version there))
   from_all versions shown are (inr (latest, intervals, greatest, says, is)) =
       subst AreVersions (sym is)
       (λ version there. are version (from_filtered (λ v. not (is_retracted intervals v)) versions version there).0)
 
-  rest_are : (known : List (List ℕ)) → AreVersions known → one ≡ printed (versions_line (codes "a") known) → law.shown ≡ known
+  rest_are : (known : List (List ℕ)) → AreVersions known → one ≡ printed (versions_line (codes "a.b") known) → law.shown ≡ known
   rest_are known are is =
-      line_says_versions (codes "a") law.shown known (from_all law.versions law.shown listed_are_versions law.unretracted) are
-      (same_text (versions_line (codes "a") law.shown) (versions_line (codes "a") known) (sym law.one_prints ∙ is))
+      line_says_versions (codes "a.b") law.shown known (from_all law.versions law.shown listed_are_versions law.unretracted) are
+      (same_text (versions_line (codes "a.b") law.shown) (versions_line (codes "a.b") known) (sym law.one_prints ∙ is))
 
 same_answer : (a b : Reply) → Some a ≡ Some b → a ≡ b
 same_answer a b e = cc e
@@ -133,12 +133,12 @@ is_none : {A : Type 0} (x : A) (xs : List A) → x ∷ xs ≡ [] → ⊥
 is_none x xs e = cc e
 
 -- what is shown of both, if the latest one retracts these
-shown_of_both : (asked : List (Name × Reply)) (shown : List (List ℕ)) (intervals : List Pair) → Retracts asked (codes "a") one_one intervals
-    → AreUnretracted asked (codes "a") both shown → shown ≡ shown_of intervals both
+shown_of_both : (asked : List (Name × Reply)) (shown : List (List ℕ)) (intervals : List Pair) → Retracts asked (codes "a.b") one_one intervals
+    → AreUnretracted asked (codes "a.b") both shown → shown ≡ shown_of intervals both
 shown_of_both asked shown intervals retracts (inl (none, nothing)) = absurd (is_none one_zero (one_one ∷ []) none)
 shown_of_both asked shown intervals retracts (inr (latest, others, greatest, says, is)) =
     let own : latest ≡ one_one = latest_once both latest one_one greatest one_one_is_latest in
-    let same : others ≡ intervals = retracts_once asked (codes "a") one_one others intervals (subst (λ (v : List ℕ). Retracts asked (codes "a") v others) own says) retracts in
+    let same : others ≡ intervals = retracts_once asked (codes "a.b") one_one others intervals (subst (λ (v : List ℕ). Retracts asked (codes "a.b") v others) own says) retracts in
     is ∙ ap (λ (xs : List Pair). shown_of xs both) same
 
 at_most_itself : is_at_most one_zero one_zero ≡ true
@@ -153,7 +153,7 @@ retracted_is_shown asked retracts law =
     let rest = rest_are asked both_of_a both_of_a law both both_known refl in
     let intervals = pair one_zero one_zero ∷ [] in
     let shown : law.shown ≡ shown_of intervals both =
-    shown_of_both asked law.shown intervals retracts (subst (λ (vs : List (List ℕ)). AreUnretracted asked (codes "a") vs law.shown) all law.unretracted) in
+    shown_of_both asked law.shown intervals retracts (subst (λ (vs : List (List ℕ)). AreUnretracted asked (codes "a.b") vs law.shown) all law.unretracted) in
     let there : Contains (shown_of intervals both) one_zero = subst (λ (vs : List (List ℕ)). Contains vs one_zero) (sym rest ∙ shown) (member_head one_zero (one_one ∷ [])) in
     let kept : not (is_retracted intervals one_zero) ≡ true = (from_filtered (λ v. not (is_retracted intervals v)) both one_zero there).1 in
     let gone : not (is_retracted intervals one_zero) ≡ false = ap not (holds_itself one_zero at_most_itself) in
@@ -162,11 +162,11 @@ retracted_is_shown asked retracts law =
 pub unretracted_is_left_out : UnretractedIsLeftOut
 unretracted_is_left_out asked retracts law =
     let none : List Pair = [] in
-    let first = printed (codes "a v1.1.0\n") in
+    let first = printed (codes "a.b v1.1.0\n") in
     let all = all_are asked first both_of_a law both both_known refl in
     let rest = rest_are asked first both_of_a law (one_one ∷ []) (one_known one_one one_one_is) refl in
     let shown : law.shown ≡ shown_of none both =
-    shown_of_both asked law.shown none retracts (subst (λ (vs : List (List ℕ)). AreUnretracted asked (codes "a") vs law.shown) all law.unretracted) in
+    shown_of_both asked law.shown none retracts (subst (λ (vs : List (List ℕ)). AreUnretracted asked (codes "a.b") vs law.shown) all law.unretracted) in
     let there : Contains (shown_of none both) one_zero = in_filtered (λ v. not (is_retracted none v)) both one_zero (member_head one_zero (one_one ∷ [])) refl in
     let only : Contains (one_one ∷ []) one_zero = subst (λ (vs : List (List ℕ)). Contains vs one_zero) (sym shown ∙ rest) there in
     elim (member_cases one_one one_zero [] only) [
@@ -176,10 +176,10 @@ unretracted_is_left_out asked retracts law =
 
 pub listed_is_missing : ListedIsMissing
 listed_is_missing asked one answered law =
-    let other = printed (codes "a v1.1.0\n") in
+    let other = printed (codes "a.b v1.1.0\n") in
     let all = all_are asked one other law (one_one ∷ []) (one_known one_one one_one_is) refl in
     let list : law.listed.list ≡ both_listed = same_bytes law.listed.list both_listed (sym law.listed.answered ∙ answered) in
-    let named : IsListed (codes "a") law.listed.list one_zero = subst (λ (text : List ℕ). IsListed (codes "a") text one_zero) (sym list) one_zero_listed in
+    let named : IsListed (codes "a.b") law.listed.list one_zero = subst (λ (text : List ℕ). IsListed (codes "a.b") text one_zero) (sym list) one_zero_listed in
     let only : Contains (one_one ∷ []) one_zero = subst (λ (vs : List (List ℕ)). Contains vs one_zero) all ((law.listed.are.members one_zero).1 named) in
     elim (member_cases one_one one_zero [] only) [
       | inl same ↦ versions_differ (sym same)

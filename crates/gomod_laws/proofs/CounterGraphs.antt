@@ -1,6 +1,5 @@
 -- What the laws on `graph` and `chain` conclude is false of graphs and chains that contradict them.
-use Rattle.std.proofs.Common.{◌≡◌, ◌∙◌, ◌∷◌, ◌++◌, ℕ, List, [], Option, Some, None, Contains, ap, append_assoc, arith, codes, inl, inr, length, refl, subst, sym}
-use Rattle.std.specs.List.{AllByRecursion}
+use Rattle.std.proofs.Common.{◌≡◌, ◌∙◌, ◌∷◌, ◌++◌, ℕ, List, [], None, Contains, ap, append_assoc, arith, codes, inl, inr, length, refl, subst, sym}
 use Rattle.std.proofs.lemmas.List.Elements.{Contains-push_cases}
 use Rattle.gm_graph_cache.specs.Main.{Main, ModuleVersion}
 use Rattle.gm_graph_cache.specs.Reading.{Held, readings_by}
@@ -16,7 +15,7 @@ use Rattle.gm_graph.specs.Graph.{IsEdge, IsTop}
 use Rattle.gm_graph.specs.Outcome.{AreEdges}
 use Rattle.gm_graph.proofs.Rooted.{same_edges}
 use Rattle.gm_graph_listing.specs.Laws.{AllFilesAreValid, IsWalk, further, here}
-use Rattle.gm_graph_listing.specs.Outcomes.{AreRows, Given, Outcome, printed}
+use Rattle.gm_graph_listing.specs.Outcomes.{AreRows, Given, printed}
 use Rattle.gm_graph_listing.specs.PrintedLines.{AreProperRows, AreProperSteps, IsProperRow, IsProperStep}
 use Rattle.gm_graph_listing.specs.Reports.{not_listed_line}
 use Rattle.gm_graph_listing.specs.Texts.{chain_text, graph_text, list_text}
@@ -25,7 +24,7 @@ use Rattle.gm_graph_listing.proofs.ListLines.{cut_at, path_has_no_feed}
 use Rattle.gm_graph_listing.proofs.OneRead.{one_main}
 use Rattle.gm_graph_listing.proofs.RunNames.{end_name, run_has_names, run_has_proper_edges}
 use Rattle.gm_graph_listing.proofs.ShortestChain.{chain_walk}
-use Rattle.gomod_laws.specs.Counterexamples.{a_one, chain_to_a, graph_of_a}
+use Rattle.gomod_laws.specs.Counterexamples.{a_one, graph_of_a}
 use Rattle.gomod_laws.specs.CounterListings.{ChainBeginsElsewhere, ChainEndsElsewhere, ChainIsOfAnotherGraph, ChainIsTooLong, ListIsOfAnotherGraph, b_one}
 use Rattle.gomod_laws.proofs.Contradicted.{a_is_path, b_is_path, edge_proper, edge_to, other_name}
 use Rattle.gomod_laws.proofs.CounterLists.{a_is_not_b, each_of, m_lacks, not_refused, rows_are}
@@ -124,21 +123,21 @@ not_from_main x rest e = cc e
 
 pub chain_ends_elsewhere : ChainEndsElsewhere
 chain_ends_elsewhere run (main, held, rows, s, steps, valid, are, (entry, rest, at, is), says, walk, least) =
-    let (own, same) = steps_are run main held valid walk (Of a_one ∷ []) to_a_proper (sym (same_text (codes "m\na@v1.0.0\n") (chain_text main.path steps) says)) in
+    let (own, same) = steps_are run main held valid walk (Of a_one ∷ []) to_a_proper (sym (same_text (codes "m\na.b@v1.0.0\n") (chain_text main.path steps) says)) in
     let (front, ends) = walk_ends (IsEdge main (readings_by main held)) walk in
     let last : s ≡ Of a_one = last_of_two front s FromMain (Of a_one) (sym ends ∙ same) in
     other_name (ap (path_of main.path) (sym last ∙ sym is) ∙ at.path_is)
 
 pub chain_begins_elsewhere : ChainBeginsElsewhere
 chain_begins_elsewhere path run (main, held, rows, s, steps, valid, are, row, says, walk, least) =
-    let same : steps ≡ Of a_one ∷ [] = known_steps run main held valid walk (Of a_one ∷ []) (each_of IsProperStep (Of a_one ∷ []) (a_step, tt)) (sym (same_text (codes "a@v1.0.0\n") (chain_text main.path steps) says)) in
+    let same : steps ≡ Of a_one ∷ [] = known_steps run main held valid walk (Of a_one ∷ []) (each_of IsProperStep (Of a_one ∷ []) (a_step, tt)) (sym (same_text (codes "a.b@v1.0.0\n") (chain_text main.path steps) says)) in
     let (rest, begins) = walk_begins (IsEdge main (readings_by main held)) walk in
     not_from_main a_one rest (sym begins ∙ same)
 
 pub chain_is_too_long : ChainIsTooLong
 chain_is_too_long run file is top (main, held, rows, s, steps, valid, are, row, says, walk, least) =
     let edges : Edges = IsEdge main (readings_by main held) in
-    let (own, same) = steps_are run main held valid walk (Of b_one ∷ Of a_one ∷ []) by_b_proper (sym (same_text (codes "m\nb@v1.0.0\na@v1.0.0\n") (chain_text main.path steps) says)) in
+    let (own, same) = steps_are run main held valid walk (Of b_one ∷ Of a_one ∷ []) by_b_proper (sym (same_text (codes "m\nb.c@v1.0.0\na.b@v1.0.0\n") (chain_text main.path steps) says)) in
     let (front, ends) = walk_ends edges walk in
     let last : s ≡ Of a_one = last_of_three front s FromMain (Of b_one) (Of a_one) (sym ends ∙ same) in
     let required : IsTop main a_one = subst (λ (m : Main). IsTop m a_one) (one_main run.file file main is valid.read.main_file) top in
@@ -153,9 +152,9 @@ edges_are : (run : Given) (main : Main) (held : Held) (edges : List Edge) → Al
     → graph_of_a ≡ printed (graph_text main.path edges) → edges ≡ edge_to one_zero ∷ []
 edges_are run main held edges valid exact own says =
     text_says_edges main.path edges (edge_to one_zero ∷ []) (run_has_names run main valid.table held valid.read valid.known).0 (run_has_proper_edges run main held edges valid exact) (edge_proper one_zero one_zero_is)
-    (sym (same_text (codes "m a@v1.0.0\n") (graph_text main.path edges) says) ∙ ap (λ (m : List ℕ). graph_text m (edge_to one_zero ∷ [])) (sym own))
+    (sym (same_text (codes "m a.b@v1.0.0\n") (graph_text main.path edges) says) ∙ ap (λ (m : List ℕ). graph_text m (edge_to one_zero ∷ [])) (sym own))
 
--- no such edge leads to b
+-- no such edge leads to b.c
 b_is_no_end : (edges : List Edge) (s : Step) → edges ≡ edge_to one_zero ∷ [] → among edges s b_one → ⊥
 b_is_no_end edges s same there = elim (member_cases (edge_to one_zero) (edge s b_one) [] (subst (λ (es : List Edge). Contains es (edge s b_one)) same there)) [
   | inl is ↦ a_is_not_b (ap (λ (e : Edge). e.to) is)
@@ -172,18 +171,18 @@ pub list_is_of_another_graph : ListIsOfAnotherGraph
 list_is_of_another_graph path run chain (main, held, edges, rows, valid, exact, one) =
     let here_edges : Edges = IsEdge main (readings_by main held) in
     let are : AreRows main (readings_by main held) rows = same_build_list main.path main.replaces (among edges) here_edges rows (same_edges main (readings_by main held) edges exact.each) one.build_list in
-    let (own, same) = rows_are run main held rows valid are ((Of b_one, None) ∷ []) with_b_proper (sym (same_text (codes "m\nb v1.0.0\n") (list_text main.path rows) one.list_is)) in
+    let (own, same) = rows_are run main held rows valid are ((Of b_one, None) ∷ []) with_b_proper (sym (same_text (codes "m\nb.c v1.0.0\n") (list_text main.path rows) one.list_is)) in
     let there : Contains rows (Of b_one, None) = subst (λ (es : List Entry). Contains es (Of b_one, None)) (sym same) (member_tail main_entry (Of b_one, None) ((Of b_one, None) ∷ []) (member_head (Of b_one, None) [])) in
     let (s, end) = rows_are_ends main.path main.replaces edges rows one.build_list b_one None there in
     b_is_no_end edges s (edges_are run main held edges valid exact own one.graph_is) end
 
 pub chain_is_of_another_graph : ChainIsOfAnotherGraph
 chain_is_of_another_graph after limit path run list (main, held, edges, rows, valid, exact, one) = elim one.chain_is [
-  | inr (none, says) ↦ not_refused (codes "m\nb@v1.0.0\n") (not_listed_line path) says
+  | inr (none, says) ↦ not_refused (codes "m\nb.c@v1.0.0\n") (not_listed_line path) says
   | inl (s, steps, row, chain, says) ↦ (
       let same_graph = same_edges main (readings_by main held) edges exact.each in
       let walk : IsWalk (IsEdge main (readings_by main held)) s steps = chain_walk (IsEdge main (readings_by main held)) (same_chain (among edges) (IsEdge main (readings_by main held)) same_graph chain) in
-      let (own, same) = steps_are run main held valid walk (Of b_one ∷ []) to_b_proper (sym (same_text (codes "m\nb@v1.0.0\n") (chain_text main.path steps) says)) in
+      let (own, same) = steps_are run main held valid walk (Of b_one ∷ []) to_b_proper (sym (same_text (codes "m\nb.c@v1.0.0\n") (chain_text main.path steps) says)) in
       let there : Contains steps (Of b_one) = subst (λ (ss : List Step). Contains ss (Of b_one)) (sym same) (member_tail FromMain (Of b_one) (Of b_one ∷ []) (member_head (Of b_one) [])) in
       let (t, end) = walk_step (among edges) (chain_walk (among edges) chain) b_one there in
       b_is_no_end edges t (edges_are run main held edges valid exact own one.graph_is) end)

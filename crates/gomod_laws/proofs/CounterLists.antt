@@ -14,8 +14,8 @@ use Rattle.gm_graph_select.specs.declared.step.Step.TheVariants.{Main as FromMai
 use Rattle.gm_graph_select.specs.BuildList.{Entry, entry_of, main_entry, path_of}
 use Rattle.gm_graph_select.specs.Laws.{joined}
 use Rattle.gm_graph_select.proofs.Ascending.{member_cases, member_head, member_tail, no_member}
-use Rattle.gm_graph.specs.Graph.{IsDeep, IsEdge, IsOpened, IsTop, IsVertex, from_deep, from_main, from_top}
-use Rattle.gm_graph_listing.specs.Laws.{AllFilesAreValid, AreGreatest, ArePrintedPages, ShowsBuildList, ShowsPart, no_row, one_page}
+use Rattle.gm_graph.specs.Graph.{IsDeep, IsOpened, IsTop, IsVertex, from_deep, from_main, from_top}
+use Rattle.gm_graph_listing.specs.Laws.{AllFilesAreValid, AreGreatest, ArePrintedPages, ShowsBuildList, no_row, one_page}
 use Rattle.gm_graph_listing.specs.Outcomes.{AreRows, Given, IsListOutcome, IsMainFile, Outcome, printed, refused}
 use Rattle.gm_graph_listing.specs.PrintedLines.{AreProperRows, IsProperRow}
 use Rattle.gm_graph_listing.specs.Reports.{not_listed_line}
@@ -176,36 +176,36 @@ two_name = (a_is_path, one_one_is)
 
 pub path_is_twice : PathIsTwice
 path_is_twice run shows =
-    let s = selects run (codes "m\na v1.0.0\na v1.1.0\n") (a_one ∷ a_two ∷ []) (a_name, (two_name, tt)) refl shows in
+    let s = selects run (codes "m\na.b v1.0.0\na.b v1.1.0\n") (a_one ∷ a_two ∷ []) (a_name, (two_name, tt)) refl shows in
     let below = s.greatest.ascending 0 1 a_one (omega arith) (omega arith) in cc below
 
 pub rows_are_unordered : RowsAreUnordered
 rows_are_unordered run shows =
-    let s = selects run (codes "m\nb v1.0.0\na v1.0.0\n") (b_one ∷ a_one ∷ []) (b_name, (a_name, tt)) refl shows in
+    let s = selects run (codes "m\nb.c v1.0.0\na.b v1.0.0\n") (b_one ∷ a_one ∷ []) (b_name, (a_name, tt)) refl shows in
     let below = s.greatest.ascending 0 1 a_one (omega arith) (omega arith) in cc below
 
-first_lacks : Lacks 10 (codes "a v1.0.0")
-first_lacks = lacks 10 (λ b. nat_lt 10 b) refl (codes "a v1.0.0") refl
+first_lacks : Lacks 10 (codes "a.b v1.0.0")
+first_lacks = lacks 10 (λ b. nat_lt 10 b) refl (codes "a.b v1.0.0") refl
 
 pub main_is_missing : MainIsMissing
 main_is_missing run (main, held, selected, valid, greatest, says) =
     let rows : List Entry = main_entry ∷ map (entry_of main.replaces) selected in
     let is = main_is_path run main held rows valid (as_build_list main (readings_by main held) selected greatest) in
     let rest = list_text main.path (map (entry_of main.replaces) selected) in
-    let text : codes "a v1.0.0" ++ (10 ∷ []) ≡ main.path ++ (10 ∷ rest) = same_text (codes "a v1.0.0\n") (list_text main.path rows) says ∙ spread_main main.path rest in
-    let own = (cut_at 10 (codes "a v1.0.0") main.path [] rest first_lacks (path_has_no_feed main.path is) text).0 in
-    let plain : Lacks 32 (codes "a v1.0.0") = subst (Lacks 32) (sym own) (path_has_no_blank main.path is) in
-    plain.1.0 refl
+    let text : codes "a.b v1.0.0" ++ (10 ∷ []) ≡ main.path ++ (10 ∷ rest) = same_text (codes "a.b v1.0.0\n") (list_text main.path rows) says ∙ spread_main main.path rest in
+    let own = (cut_at 10 (codes "a.b v1.0.0") main.path [] rest first_lacks (path_has_no_feed main.path is) text).0 in
+    let plain : Lacks 32 (codes "a.b v1.0.0") = subst (Lacks 32) (sym own) (path_has_no_blank main.path is) in
+    plain.1.1.1.0 refl
 
 same_main : (run : Given) (main other : Main) (held : Held) → AllFilesAreValid run other held → IsMainFile run.file main → main ≡ other
 same_main run main other held valid is = one_main run.file main other is valid.read.main_file
 
-a_is_not_main : (path : List ℕ) → path ≡ codes "m" → codes "a" ≡ path → ⊥
+a_is_not_main : (path : List ℕ) → path ≡ codes "m" → codes "a.b" ≡ path → ⊥
 a_is_not_main path own e = let first : ◌≡◌ {A = ℕ} 97 109 = cc (e ∙ own) in omega (arith, first)
 
 pub row_is_too_low : RowIsTooLow
 row_is_too_low run main is top shows =
-    let s = selects run (codes "m\na v1.0.0\n") (a_one ∷ []) (a_name, tt) refl shows in
+    let s = selects run (codes "m\na.b v1.0.0\n") (a_one ∷ []) (a_name, tt) refl shows in
     let here : IsTop s.main a_two = subst (λ (m : Main). IsTop m a_two) (same_main run main s.main s.held s.valid is) top in
     let (x, there, path, high) = s.greatest.satisfied a_two (FromMain, here) (a_is_not_main s.main.path s.own) in
     elim (member_cases a_one x [] there) [
@@ -240,7 +240,7 @@ module _ (main : Main) (readings : Readings) (nothing : main.requirements ≡ []
 
 pub row_is_not_required : RowIsNotRequired
 row_is_not_required run main is nothing shows =
-    let s = selects run (codes "m\na v1.0.0\n") (a_one ∷ []) (a_name, tt) refl shows in
+    let s = selects run (codes "m\na.b v1.0.0\n") (a_one ∷ []) (a_name, tt) refl shows in
     let none : s.main.requirements ≡ [] = ap (λ (m : Main). m.requirements) (sym (same_main run main s.main s.held s.valid is)) ∙ nothing in
     no_vertex s.main (readings_by s.main s.held) none a_one (s.greatest.required a_one (member_head a_one []))
 
@@ -249,12 +249,12 @@ row_is_not_required run main is nothing shows =
 whole_is : (run : Given) (main : Main) (held : Held) (rows : List Entry) → AllFilesAreValid run main held → AreRows main (readings_by main held) rows
     → list_of_a ≡ printed (list_text main.path rows) → (main.path ≡ codes "m") × (rows ≡ rows_with_a)
 whole_is run main held rows valid are says =
-    rows_are run main held rows valid are (row_at a_one ∷ []) with_a_proper (sym (same_text (codes "m\na v1.0.0\n") (list_text main.path rows) says))
+    rows_are run main held rows valid are (row_at a_one ∷ []) with_a_proper (sym (same_text (codes "m\na.b v1.0.0\n") (list_text main.path rows) says))
 
 pub part_has_another_row : PartHasAnotherRow
 part_has_another_row after limit run (main, held, rows, valid, are, says, prints) =
     let (own, same) = whole_is run main held rows valid are says in
-    let (shown, text, inside) = printed_rows main rows after limit (printed (codes "b v1.0.0\n")) refl prints in
+    let (shown, text, inside) = printed_rows main rows after limit (printed (codes "b.c v1.0.0\n")) refl prints in
     let is : shown ≡ row_at b_one ∷ [] = some_are run main held rows valid are shown (row_at b_one ∷ []) inside (each_of IsProperRow (row_at b_one ∷ []) (b_proper, tt)) (sym text) in
     let there : Contains shown (row_at b_one) = subst (λ (es : List Entry). Contains es (row_at b_one)) (sym is) (member_head (row_at b_one) []) in
     b_is_no_row (subst (λ (es : List Entry). Contains es (row_at b_one)) same (inside (row_at b_one) there))
@@ -264,7 +264,7 @@ part_is_too_long run (main, held, rows, valid, are, says, prints) =
     let (own, same) = whole_is run main held rows valid are says in
     let one : list_of_a ≡ printed (list_text (codes "m") (limited (Some 1) rows_with_a)) =
     prints ∙ ap (λ (m : List ℕ). printed (list_text m (limited (Some 1) rows))) own ∙ ap (λ (es : List Entry). printed (list_text (codes "m") (limited (Some 1) es))) same in
-    let size : ◌≡◌ {A = ℕ} 11 2 = ap (λ (o : Outcome). length o.text) one in
+    let size : ◌≡◌ {A = ℕ} 13 2 = ap (λ (o : Outcome). length o.text) one in
     omega (arith, size)
 
 -- what follows a row of a list is in what follows the first row
@@ -283,13 +283,13 @@ pub not_refused : (text report : List ℕ) → printed text ≡ refused report �
 not_refused text report e = let status : ◌≡◌ {A = ℕ} 0 1 = ap (λ (o : Outcome). o.status) e in omega (arith, status)
 
 pub part_is_the_whole : PartIsTheWhole
-part_is_the_whole path limit run (main, held, rows, valid, are, says, inr (none, tells)) = not_refused (codes "m\na v1.0.0\n") (not_listed_line path) tells
+part_is_the_whole path limit run (main, held, rows, valid, are, says, inr (none, tells)) = not_refused (codes "m\na.b v1.0.0\n") (not_listed_line path) tells
 part_is_the_whole path limit run (main, held, rows, valid, are, says, inl (rest, (entry, at), tells)) =
     let (own, same) = whole_is run main held rows valid are says in
     let inside : (row : Entry) → Contains (limited limit rest) row → Contains rows row =
     λ row there. subst (λ (es : List Entry). Contains es row) (sym at.parts) (Contains-append_right at.before (entry ∷ rest) row (member_tail entry row rest (limited_member limit rest row there))) in
     let text : list_text main.path (limited limit rest) ≡ list_text main.path rows_with_a =
-    sym (same_text (codes "m\na v1.0.0\n") (list_text main.path (limited limit rest)) tells) ∙ ap (λ (m : List ℕ). list_text m rows_with_a) (sym own) in
+    sym (same_text (codes "m\na.b v1.0.0\n") (list_text main.path (limited limit rest)) tells) ∙ ap (λ (m : List ℕ). list_text m rows_with_a) (sym own) in
     let is : limited limit rest ≡ rows_with_a = some_are run main held rows valid are (limited limit rest) rows_with_a inside with_a_proper text in
     let there : Contains (limited limit rest) main_entry = subst (λ (es : List Entry). Contains es main_entry) (sym is) (member_head main_entry (row_at a_one ∷ [])) in
     main_is_not_later (later_rows at.before rest entry main_entry main_entry (row_at a_one ∷ []) (sym at.parts ∙ same) (limited_member limit rest main_entry there))
@@ -361,7 +361,7 @@ module _ (run : Given) (main : Main) (held : Held) (valid : AllFilesAreValid run
         let second : List Entry = front ++ last ∷ [] in
         no_last front last (some_are run main held (joined (page ∷ second ∷ pages)) valid are second [] (λ row there. in_second second pages row there) (each_of IsProperRow [] tt) says)
 
-    other_second : {pages : List (List Entry)} → AreJoined (page ∷ pages) → IsText (page ∷ pages) → PageCase run main.path (codes "b v1.0.0\n") pages → ⊥
+    other_second : {pages : List (List Entry)} → AreJoined (page ∷ pages) → IsText (page ∷ pages) → PageCase run main.path (codes "b.c v1.0.0\n") pages → ⊥
     other_second are text (none_left none) = cc none
     other_second are text (some_left {pages} front last says more) =
         let second : List Entry = front ++ last ∷ [] in
@@ -377,12 +377,12 @@ module _ (run : Given) (main : Main) (held : Held) (valid : AllFilesAreValid run
       let first = first_is page pages are text says in
       missing_second page first are text (second_case front last pages [] (joined_are (page ∷ pages) are text).0 first is more)
 
-  other_first : {pages : List (List Entry)} → AreJoined pages → IsText pages → IsListOutcome (Some (codes "m")) (Some 1) run (printed (codes "b v1.0.0\n")) → PageCase run main.path only_m pages → ⊥
+  other_first : {pages : List (List Entry)} → AreJoined pages → IsText pages → IsListOutcome (Some (codes "m")) (Some 1) run (printed (codes "b.c v1.0.0\n")) → PageCase run main.path only_m pages → ⊥
   other_first are text is (none_left none) = cc none
   other_first are text is (some_left {pages} front last says more) =
       let page : List Entry = front ++ last ∷ [] in
       let first = first_is page pages are text says in
-      other_second page first are text (second_case front last pages (codes "b v1.0.0\n") (joined_are (page ∷ pages) are text).0 first is more)
+      other_second page first are text (second_case front last pages (codes "b.c v1.0.0\n") (joined_are (page ∷ pages) are text).0 first is more)
 
 pub page_is_missing : PageIsMissing
 page_is_missing run first second (main, held, pages, valid, are, paged, text) = missing_first run main held valid are text second (page_case run main.path only_m first paged)

@@ -1,5 +1,5 @@
--- The path a and the versions v1.0.0, v1.1.0 and v2.0.0, of which the counterexamples are.
-use Rattle.std.proofs.Common.{◌≡◌, ◌∙◌, ◌∷◌, ◌++◌, ◌<◌, ◌==◌, ℕ, true, false, List, [], ap, ap₂, arith, codes, drop, inl, inr, length, length-append, lit<, refl, subst, sym}
+-- The path a.b and the versions v1.0.0, v1.1.0 and v2.0.0, of which the counterexamples are.
+use Rattle.std.proofs.Common.{◌≡◌, ◌∙◌, ◌∷◌, ◌++◌, ◌+◌, ◌<◌, ◌==◌, ℕ, true, false, List, [], ap, ap₂, arith, codes, drop, inl, inr, length, length-append, lit<, refl, subst, sym}
 use Rattle.std.specs.Cmp.Lexicographic.{slice_cmp}
 use Rattle.std.specs.Fmt.{decimal}
 use Rattle.std.specs.Ordering.{is_gt, nat_cmp, ordering_reverse, ordering_then}
@@ -102,22 +102,25 @@ not_above_itself Less e = refl
 not_above_itself Equal e = refl
 not_above_itself Greater e = cc e
 
--- ---- what fits the path a
+-- ---- what fits the path a.b
 
-not_gopkg : IsUnderGopkg (codes "a") → ⊥
+not_gopkg : IsUnderGopkg (codes "a.b") → ⊥
 not_gopkg (rest, is) = let wrong : 97 ≡ 103 = first_byte 97 103 _ _ is in omega (arith, wrong)
 
-long : (x y z : List ℕ) → codes "a" ≡ (x ++ y) ++ z → length y ≡ 2 → ⊥
-long x y z e two =
-    let size : 1 ≡ length ((x ++ y) ++ z) = ap (λ (t : List ℕ). length t) e in
-    let inner = length-append x y in
-    let outer = length-append (x ++ y) z in
-    omega (arith, size, inner, outer, two)
+no_slash : (x z : List ℕ) → codes "a.b" ≡ (x ++ codes "/v") ++ z → ⊥
+no_slash [] z e = let wrong : 97 ≡ 47 = first_byte 97 47 _ _ e in omega (arith, wrong)
+no_slash (_ ∷ []) z e = let wrong : 46 ≡ 47 = first_byte 46 47 _ _ (ap (drop 1) e) in omega (arith, wrong)
+no_slash (_ ∷ _ ∷ []) z e = let wrong : 98 ≡ 47 = first_byte 98 47 _ _ (ap (drop 2) e) in omega (arith, wrong)
+no_slash (_ ∷ _ ∷ _ ∷ x) z e =
+    let size : 0 ≡ length ((x ++ codes "/v") ++ z) = ap (λ (t : List ℕ). length t) (ap (drop 3) e) in
+    let inner : length (x ++ codes "/v") ≡ length x + 2 = length-append x (codes "/v") in
+    let outer = length-append (x ++ codes "/v") z in
+    omega (arith, size, inner, outer)
 
-no_suffix : HasMajor (codes "a") NoSuffix
-no_suffix = (not_gopkg, λ (front, tail, is, some, all). long front (codes "/v") tail is refl)
+no_suffix : HasMajor (codes "a.b") NoSuffix
+no_suffix = (not_gopkg, λ (front, tail, is, some, all). no_slash front tail is)
 
-pub one_zero_fits : Fits (codes "a") one_zero
+pub one_zero_fits : Fits (codes "a.b") one_zero
 one_zero_fits = (NoSuffix, no_suffix, inl (low, none))
   where
     low : (parts_in one_zero).0 < 2
@@ -135,11 +138,11 @@ no_pseudo (form, time, revision, (front, is, stamp)) =
     let some = stamp.some in
     omega (arith, size, one, some)
 
-pub one_zero_listable : IsListable (codes "a") one_zero
+pub one_zero_listable : IsListable (codes "a.b") one_zero
 one_zero_listable = record { canonical = one_zero_is; fit = one_zero_fits; no_pseudo = no_pseudo }
 
-pub two_zero_misfits : Fits (codes "a") two_zero → ⊥
-two_zero_misfits (Slash n, (apart, low, high, (front, is)), fits) = long front (codes "/v") (decimal n) is refl
+pub two_zero_misfits : Fits (codes "a.b") two_zero → ⊥
+two_zero_misfits (Slash n, (apart, low, high, (front, is)), fits) = no_slash front (decimal n) is
 two_zero_misfits (Dot n, (under, high, ends), fits) = not_gopkg under
 two_zero_misfits (NoSuffix, own, inl (low, none)) =
     let major : (parts_in two_zero).0 ≡ 2 = ap (λ (p : Parts). p.0) two_zero_parts in omega (arith, major, low)
@@ -152,7 +155,7 @@ two_zero_misfits (NoSuffix, own, inr (high, marked)) =
 abbrev pub both_listed : List ℕ
 both_listed = codes "v1.0.0\nv1.1.0\n"
 
-pub one_zero_listed : IsListed (codes "a") both_listed one_zero
+pub one_zero_listed : IsListed (codes "a.b") both_listed one_zero
 one_zero_listed = record { named = (0, omega arith, refl); listable = one_zero_listable }
 
 one_one_counts : counts true one_one ≡ true
@@ -172,7 +175,7 @@ one_one_is_latest = inl (record {
 })
 
 -- a list of v1.1.0 alone does not name v1.0.0
-pub one_zero_unlisted : IsListed (codes "a") (codes "v1.1.0\n") one_zero → ⊥
+pub one_zero_unlisted : IsListed (codes "a.b") (codes "v1.1.0\n") one_zero → ⊥
 one_zero_unlisted is = elim (member_cases one_one one_zero ([] ∷ []) is.named) [
   | inl same ↦ versions_differ (sym same)
   | inr later ↦ elim (member_cases [] one_zero [] later) [

@@ -117,7 +117,7 @@ bare text = record { kind = Bare; spelling = text }
 abbrev words : List ℕ → List Word
 words path = bare (codes "module") ∷ bare path ∷ []
 
-abbrev lines : List ℕ → List (Line Word)
+abbrev pub lines : List ℕ → List (Line Word)
 lines path = Entry (words path) None ∷ []
 
 verb_is_bare : IsBare (codes "module")
@@ -144,7 +144,7 @@ document path is = (
 
 -- ---- its text
 
-layout_is : (path : List ℕ) → layout (lines path) ≡ module_line path
+pub layout_is : (path : List ℕ) → layout (lines path) ≡ module_line path
 unfolding layout_from
 layout_is path = append-nil ((codes "module " ++ path) ++ [] ++ codes "\n") ∙ ap (λ (t : List ℕ). t ++ codes "\n") (append-nil (codes "module " ++ path))
 
@@ -171,10 +171,10 @@ line_utf8 path is =
 
 -- ---- what it says
 
-abbrev doc : List ℕ → List (Line Placed)
+abbrev pub doc : List ℕ → List (Line Placed)
 doc path = placeless (lines path)
 
-parsed : (path : List ℕ) → IsPath path → length (module_line path) ≤ longest → IsParsedAs (module_line path) (Ok (doc path))
+pub parsed : (path : List ℕ) → IsPath path → length (module_line path) ≤ longest → IsParsedAs (module_line path) (Ok (doc path))
 parsed path is short =
     let laid = (is_stable (lines path) (document path is)).reads in
     let same : ReadsLines start (lines_of (layout (lines path))) (lines path) Whole = subst (λ (ls : List (Line Word)). ReadsLines start (lines_of (layout (lines path))) ls Whole) (laid_is path) laid in

@@ -11,15 +11,15 @@ use Rattle.gomod_laws.specs.RequirableLaws.{PrintsAndStays}
 use Rattle.gomod_laws.specs.RowLaws.{IsExplained}
 use Rattle.gomod_laws.specs.Shown.{ShowsEdges, ShowsRows}
 
--- a list and a graph that show a v1.1.0
+-- a list and a graph that show a.b v1.1.0
 abbrev pub higher_list : Outcome
-higher_list = printed (codes "m\na v1.1.0\n")
+higher_list = printed (codes "m\na.b v1.1.0\n")
 
 abbrev pub other_graph : Outcome
-other_graph = printed (codes "m a@v1.1.0\n")
+other_graph = printed (codes "m a.b@v1.1.0\n")
 
 -- `ListLowersNothing`, `NoRowIsLower`, `UpgradeLowersNoRow`, `LaterVersionsLowerNoRow` and `RequireLaterLowersNoRow` if
--- `list` shows a v1.1.0 first and then a v1.0.0
+-- `list` shows a.b v1.1.0 first and then a.b v1.0.0
 abbrev pub RowIsLower : Type 0
 RowIsLower = (run later : Given) (first second : Main) → ¬ (LowersNothing run later first second higher_list list_of_a)
 
@@ -35,32 +35,32 @@ RowIsHigher = ¬ (PrintsAndStays list_of_a higher_list)
 abbrev pub NeitherPrints : Type 0
 NeitherPrints = (report : List ℕ) → ¬ (PrintsAndStays (refused report) (refused report))
 
--- a chain to a v1.0.0 by b v1.0.0, and one to b v1.0.0
+-- a chain to a.b v1.0.0 by b.c v1.0.0, and one to b.c v1.0.0
 abbrev pub chain_by_b : Outcome
-chain_by_b = printed (codes "m\nb@v1.0.0\na@v1.0.0\n")
+chain_by_b = printed (codes "m\nb.c@v1.0.0\na.b@v1.0.0\n")
 
 abbrev pub chain_to_b : Outcome
-chain_to_b = printed (codes "m\nb@v1.0.0\n")
+chain_to_b = printed (codes "m\nb.c@v1.0.0\n")
 
--- `list` shows a v1.0.0, and `graph` shows that m requires it.
+-- `list` shows a.b v1.0.0, and `graph` shows that m requires it.
 pub record ShowA (rows : List Entry) (edges : List Edge) (main : Main) (list_run graph_run : Given) : Type 0 where
   pub in_list : ShowsRows list_run main None None rows list_of_a
   pub in_graph : ShowsEdges graph_run main edges graph_of_a
 
--- `EachRowIsExplained`, if `chain a` prints another way to a then,
+-- `EachRowIsExplained`, if `chain a.b` prints another way to a.b then,
 abbrev pub ChainIsByNoLine : Type 0
 ChainIsByNoLine = (rows : List Entry) (edges : List Edge) (main : Main) (list_run graph_run : Given)
     → ShowA rows edges main list_run graph_run
-    → ¬ (IsExplained main.path rows (map (edge_text main.path) edges) (codes "a") chain_by_b)
+    → ¬ (IsExplained main.path rows (map (edge_text main.path) edges) (codes "a.b") chain_by_b)
 
--- if it prints a way to b,
+-- if it prints a way to b.c,
 abbrev pub ChainIsToAnother : Type 0
 ChainIsToAnother = (rows : List Entry) (edges : List Edge) (main : Main) (list_run graph_run : Given)
     → ShowA rows edges main list_run graph_run
-    → ¬ (IsExplained main.path rows (map (edge_text main.path) edges) (codes "a") chain_to_b)
+    → ¬ (IsExplained main.path rows (map (edge_text main.path) edges) (codes "a.b") chain_to_b)
 
--- and if `chain b` prints a way to b, which has no row
+-- and if `chain b.c` prints a way to b.c, which has no row
 abbrev pub UnlistedIsShown : Type 0
 UnlistedIsShown = (rows : List Entry) (edges : List Edge) (main : Main) (list_run graph_run : Given)
     → ShowA rows edges main list_run graph_run
-    → ¬ (IsExplained main.path rows (map (edge_text main.path) edges) (codes "b") chain_to_b)
+    → ¬ (IsExplained main.path rows (map (edge_text main.path) edges) (codes "b.c") chain_to_b)

@@ -11,26 +11,26 @@ use Rattle.gm_graph_listing.specs.PrintedLines.{fault_text}
 use Rattle.gomod_laws.specs.Counterexamples.{a_one, chain_to_a, fault_of_a, graph_of_a, list_of_a}
 
 abbrev pub a_two : ModuleVersion
-a_two = (codes "a", codes "v1.1.0")
+a_two = (codes "a.b", codes "v1.1.0")
 
 abbrev pub b_one : ModuleVersion
-b_one = (codes "b", codes "v1.0.0")
+b_one = (codes "b.c", codes "v1.0.0")
 
 -- ---- `ListIsBuildList`
 
 -- a path has two rows
 abbrev pub PathIsTwice : Type 0
-PathIsTwice = (run : Given) → ¬ (ShowsBuildList run (printed (codes "m\na v1.0.0\na v1.1.0\n")))
+PathIsTwice = (run : Given) → ¬ (ShowsBuildList run (printed (codes "m\na.b v1.0.0\na.b v1.1.0\n")))
 
 -- the rows are not in path order
 abbrev pub RowsAreUnordered : Type 0
-RowsAreUnordered = (run : Given) → ¬ (ShowsBuildList run (printed (codes "m\nb v1.0.0\na v1.0.0\n")))
+RowsAreUnordered = (run : Given) → ¬ (ShowsBuildList run (printed (codes "m\nb.c v1.0.0\na.b v1.0.0\n")))
 
 -- the main module is missing
 abbrev pub MainIsMissing : Type 0
-MainIsMissing = (run : Given) → ¬ (ShowsBuildList run (printed (codes "a v1.0.0\n")))
+MainIsMissing = (run : Given) → ¬ (ShowsBuildList run (printed (codes "a.b v1.0.0\n")))
 
--- the main module requires a v1.1.0, and a has a row at v1.0.0,
+-- the main module requires a.b v1.1.0, and a.b has a row at v1.0.0,
 abbrev pub RowIsTooLow : Type 0
 RowIsTooLow = (run : Given) (main : Main) → IsMainFile run.file main → IsTop main a_two
     → ¬ (ShowsBuildList run list_of_a)
@@ -40,7 +40,7 @@ abbrev pub RequiredHasNoRow : Type 0
 RequiredHasNoRow = (run : Given) (main : Main) → IsMainFile run.file main → IsTop main a_one
     → ¬ (ShowsBuildList run (printed (codes "m\n")))
 
--- the main module requires nothing, and a has a row
+-- the main module requires nothing, and a.b has a row
 abbrev pub RowIsNotRequired : Type 0
 RowIsNotRequired = (run : Given) (main : Main) → IsMainFile run.file main → main.requirements ≡ []
     → ¬ (ShowsBuildList run list_of_a)
@@ -50,7 +50,7 @@ RowIsNotRequired = (run : Given) (main : Main) → IsMainFile run.file main → 
 -- a row of the part is none of the list
 abbrev pub PartHasAnotherRow : Type 0
 PartHasAnotherRow = (after : Option (List ℕ)) (limit : Option ℕ) (run : Given)
-    → ¬ (ShowsPart after limit run list_of_a (printed (codes "b v1.0.0\n")))
+    → ¬ (ShowsPart after limit run list_of_a (printed (codes "b.c v1.0.0\n")))
 
 -- a part of one row has two
 abbrev pub PartIsTooLong : Type 0
@@ -63,10 +63,10 @@ PartIsTheWhole = (path : List ℕ) (limit : Option ℕ) (run : Given)
 
 -- ---- `PrintedPagesJoin`
 
--- the page after m has a row of b
+-- the page after m has a row of b.c
 abbrev pub PageHasAnotherRow : Type 0
 PageHasAnotherRow = (run : Given) → IsListOutcome None (Some 1) run (printed (codes "m\n"))
-    → IsListOutcome (Some (codes "m")) (Some 1) run (printed (codes "b v1.0.0\n"))
+    → IsListOutcome (Some (codes "m")) (Some 1) run (printed (codes "b.c v1.0.0\n"))
     → ¬ (JoinsPages 1 run list_of_a)
 
 -- there is no page after m
@@ -77,35 +77,35 @@ PageIsMissing = (run : Given) → IsListOutcome None (Some 1) run (printed (code
 
 -- ---- `PrintedChainIsShortest`
 
--- the chain to b ends at a
+-- the chain to b.c ends at a.b
 abbrev pub ChainEndsElsewhere : Type 0
-ChainEndsElsewhere = (run : Given) → ¬ (ShowsShortestWalk (codes "b") run chain_to_a)
+ChainEndsElsewhere = (run : Given) → ¬ (ShowsShortestWalk (codes "b.c") run chain_to_a)
 
 -- the chain does not begin with the main module
 abbrev pub ChainBeginsElsewhere : Type 0
 ChainBeginsElsewhere = (path : List ℕ) (run : Given)
-    → ¬ (ShowsShortestWalk path run (printed (codes "a@v1.0.0\n")))
+    → ¬ (ShowsShortestWalk path run (printed (codes "a.b@v1.0.0\n")))
 
--- the main module requires a v1.0.0, and the chain goes by b
+-- the main module requires a.b v1.0.0, and the chain goes by b.c
 abbrev pub ChainIsTooLong : Type 0
 ChainIsTooLong = (run : Given) (main : Main) → IsMainFile run.file main → IsTop main a_one
-    → ¬ (ShowsShortestWalk (codes "a") run (printed (codes "m\nb@v1.0.0\na@v1.0.0\n")))
+    → ¬ (ShowsShortestWalk (codes "a.b") run (printed (codes "m\nb.c@v1.0.0\na.b@v1.0.0\n")))
 
 -- ---- `OneGraph`
 
--- the list has a row of b, to which no line of the graph leads
+-- the list has a row of b.c, to which no line of the graph leads
 abbrev pub ListIsOfAnotherGraph : Type 0
 ListIsOfAnotherGraph = (path : List ℕ) (run : Given) (chain : Outcome)
-    → ¬ (ShowOneGraph None None path run graph_of_a (printed (codes "m\nb v1.0.0\n")) chain)
+    → ¬ (ShowOneGraph None None path run graph_of_a (printed (codes "m\nb.c v1.0.0\n")) chain)
 
--- the chain leads to b
+-- the chain leads to b.c
 abbrev pub ChainIsOfAnotherGraph : Type 0
 ChainIsOfAnotherGraph = (after : Option (List ℕ)) (limit : Option ℕ) (path : List ℕ) (run : Given) (list : Outcome)
-    → ¬ (ShowOneGraph after limit path run graph_of_a list (printed (codes "m\nb@v1.0.0\n")))
+    → ¬ (ShowOneGraph after limit path run graph_of_a list (printed (codes "m\nb.c@v1.0.0\n")))
 
 -- ---- `NoFaultIsNoLine`
 
--- the fault of a v1.0.0 that its file is missing
+-- the fault of a.b v1.0.0 that its file is missing
 abbrev pub a_is_missing : Fault
 a_is_missing = record { vertex = a_one; class = Missing }
 

@@ -6,15 +6,15 @@ use Rattle.gomod_words.specs.declared.usage.Command.TheVariants.{Graph, List as 
 use Rattle.gomod_laws.specs.Counterexamples.{fault_of_a, graph_of_a, list_of_a}
 use Rattle.gomod_laws.specs.MergeLaws.{PrintsIfBothDo, RunOf, ShowsEdgesOfBoth, ShowsFaultsOfBoth, ShowsHigherRows}
 
--- a list of the main module alone, lists that show a v1.1.0 and a replaced a v1.0.0, and a graph without an edge
+-- a list of the main module alone, lists that show a.b v1.1.0 and a replaced a.b v1.0.0, and a graph without an edge
 abbrev pub list_of_none : Outcome
 list_of_none = printed (codes "m\n")
 
 abbrev pub list_of_later : Outcome
-list_of_later = printed (codes "m\na v1.1.0\n")
+list_of_later = printed (codes "m\na.b v1.1.0\n")
 
 abbrev pub list_of_replaced : Outcome
-list_of_replaced = printed (codes "m\na v1.0.0 => ./a\n")
+list_of_replaced = printed (codes "m\na.b v1.0.0 => ./a\n")
 
 abbrev pub graph_of_none : Outcome
 graph_of_none = printed []

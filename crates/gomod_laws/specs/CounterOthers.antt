@@ -1,8 +1,7 @@
--- What the laws of `edit`, of folders and of lines conclude is false of what contradicts them.
-use Rattle.std.specs.Prelude.{◌≡◌, ◌∷◌, ℕ, List, [], Contains, Some, None, codes}
+-- What the laws of `edit` and of lines conclude is false of what contradicts them.
+use Rattle.std.specs.Prelude.{◌≡◌, ℕ, List, Contains, Some, None, codes}
 use Rattle.gm_file.specs.GoVersions.{strict_go}
 use Rattle.gm_graph_cache.specs.Main.{Main}
-use Rattle.gm_store.specs.Asked.{absent, mod_file}
 use Rattle.gm_syntax.specs.Lines.{lines_of}
 use Rattle.gm_graph_listing.specs.Outcomes.{Outcome, printed, refused}
 use Rattle.gm_graph_listing.specs.PrintedLines.{edge_text, row_text}
@@ -12,7 +11,6 @@ use Rattle.gm_graph_select.specs.Graph.{edge}
 use Rattle.gomod_laws.specs.Counterexamples.{a_one, chain_to_a, graph_of_a, list_of_a}
 use Rattle.gomod_laws.specs.EditListLaws.{BeginsWith}
 use Rattle.gomod_laws.specs.EditTwiceLaws.{AreOneOrRefuseALater}
-use Rattle.gomod_laws.specs.FolderLaws.{AskForTheSame}
 use Rattle.gomod_laws.specs.FormattingLaws.{PrintTheSame}
 
 -- two files that are printed
@@ -22,9 +20,9 @@ file_of_m = printed (codes "module m\n")
 abbrev pub file_of_n : Outcome
 file_of_n = printed (codes "module n\n")
 
--- `ModuleIsFirst` for m, if its row is not the first
+-- `ModuleIsFirst` for a.b, if its row is not the first
 abbrev pub ModuleIsSecond : Type 0
-ModuleIsSecond = ¬ (BeginsWith (codes "m") (printed (codes "n\nm v1.0.0\n")))
+ModuleIsSecond = ¬ (BeginsWith (codes "a.b") list_of_a)
 
 -- `GoIsSet` for 1.17, if the main file has 1 and 16
 abbrev pub GoIsAnother : Type 0
@@ -43,10 +41,6 @@ FormatsAnother = ¬ (PrintTheSame file_of_m file_of_n)
 
 abbrev pub NeitherFormats : Type 0
 NeitherFormats = (report : List ℕ) → ¬ (PrintTheSame (refused report) (refused report))
-
--- `MoreFoldersChangeNothing`, if one file more is asked for
-abbrev pub OneMoreIsAskedFor : Type 0
-OneMoreIsAskedFor = ¬ (AskForTheSame [] ((mod_file (codes "a") (codes "v1.0.0"), absent) ∷ []))
 
 -- `NoRowIsNoLine`, `NoEdgeIsNoLine` and `NoFieldIsNoLine`, and `NoStepIsNoLine`: what is shown is a line
 abbrev pub RowIsALine : Type 0

@@ -7,11 +7,11 @@ use Rattle.gomod_laws.specs.Counterexamples.{list_of_a}
 use Rattle.gomod_laws.specs.OwnListLaws.{AreNotAbove}
 use Rattle.gomod_laws.specs.Shown.{ShowsRows}
 
--- the list over the file of a module d, which shows a v1.1.0
+-- the list over the file of a module d.e, which shows a.b v1.1.0
 abbrev pub own_list_of_d : Outcome
-own_list_of_d = printed (codes "d\na v1.1.0\n")
+own_list_of_d = printed (codes "d.e\na.b v1.1.0\n")
 
--- `OwnListIsNotAbove`, where the list over the main file, of m, shows a v1.0.0
+-- `OwnListIsNotAbove`, where the list over the main file, of m, shows a.b v1.0.0
 abbrev pub OwnRowIsAbove : Type 0
 OwnRowIsAbove = (run own : Given) (main dependency : Main)
     → ¬ ((rows : List Entry) × (others : List Entry)

@@ -1,9 +1,8 @@
 -- What the laws of complete reports conclude is false of outputs that contradict them.
-use Rattle.std.specs.Prelude.{◌≡◌, ◌↔◌, ◌∷◌, List, [], Contains, codes}
-use Rattle.gm_store.specs.Asked.{Name, Reply, absent, mod_file, names_in}
+use Rattle.std.specs.Prelude.{◌≡◌, [], codes}
 use Rattle.gm_graph_cache.specs.Main.{Main}
 use Rattle.gm_graph_listing.specs.Outcomes.{Given}
-use Rattle.gomod_laws.specs.Counterexamples.{a_one, fault_of_a, graph_of_a, list_of_a}
+use Rattle.gomod_laws.specs.Counterexamples.{fault_of_a, graph_of_a, list_of_a}
 use Rattle.gomod_laws.specs.ReportLaws.{ShowsEdgesBy, ShowsRowsBy}
 
 -- `MendedIsListed` and `MendedIsGraphed`, where a fault is reported,
@@ -13,7 +12,7 @@ ReportIsNoList = (before run : Given) (main : Main) → ¬ (ShowsRowsBy before r
 abbrev pub ReportIsNoGraph : Type 0
 ReportIsNoGraph = (before run : Given) (main : Main) → ¬ (ShowsEdgesBy before run main fault_of_a)
 
--- and where a v1.0.0 is shown, and the main file requires nothing
+-- and where a.b v1.0.0 is shown, and the main file requires nothing
 abbrev pub RowIsNotRequired : Type 0
 RowIsNotRequired = (before run : Given) (main : Main) → main.path ≡ codes "m" → main.requirements ≡ []
     → ¬ (ShowsRowsBy before run main list_of_a)
@@ -21,11 +20,3 @@ RowIsNotRequired = (before run : Given) (main : Main) → main.path ≡ codes "m
 abbrev pub EdgeIsNotRequired : Type 0
 EdgeIsNotRequired = (before run : Given) (main : Main) → main.requirements ≡ []
     → ¬ (ShowsEdgesBy before run main graph_of_a)
-
--- the answers of a store that was asked for the file of a v1.0.0
-abbrev pub asked_for_a : List (Name × Reply)
-asked_for_a = (mod_file a_one.0 a_one.1, absent) ∷ []
-
--- `MendedAsksForTheSame`, where one run asks for a file and the other for none
-abbrev pub FileIsOneMore : Type 0
-FileIsOneMore = ¬ ((name : Name) → Contains (names_in asked_for_a) name ↔ Contains (names_in []) name)

@@ -7,7 +7,7 @@ use Rattle.gm_graph_listing.specs.Outcomes.{printed}
 use Rattle.gomod_laws.specs.Counterexamples.{a_one, list_of_a}
 use Rattle.gomod_laws.specs.SameBytesLaws.{ShowsTheArrow}
 
--- where a v1.0.0 is replaced, the list `m`, `a v1.0.0` as it is
+-- where a.b v1.0.0 is replaced, the list `m`, `a.b v1.0.0` as it is
 abbrev pub ArrowIsNotAdded : Type 0
 ArrowIsNotAdded = (file changed : List ℕ) (sums : Option (List ℕ)) (main other : Main) (right : Right)
     (asked told : List (Name × Reply))

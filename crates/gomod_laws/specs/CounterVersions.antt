@@ -5,46 +5,46 @@ use Rattle.gm_file.specs.Directives.{pair}
 use Rattle.gm_graph_listing.specs.Outcomes.{Outcome, printed}
 use Rattle.gomod_laws.specs.VersionLaws.{LeavesOutRetracted, Retracts, ShowsVersions}
 
--- the store answered with this list file of a
+-- the store answered with this list file of a.b
 abbrev pub HasListFile : List (Name × Reply) → List ℕ → Type 0
-HasListFile asked list = answer_in asked (list_file (codes "a")) ≡ Some (bytes list)
+HasListFile asked list = answer_in asked (list_file (codes "a.b")) ≡ Some (bytes list)
 
--- `PrintsVersionsOfPath` for a, if a version stands twice,
+-- `PrintsVersionsOfPath` for a.b, if a version stands twice,
 abbrev pub VersionStandsTwice : Type 0
 VersionStandsTwice = (asked : List (Name × Reply)) (versions : List (List ℕ))
-    → ¬ (ShowsVersions asked (codes "a") versions (printed (codes "a v1.0.0 v1.0.0\n")))
+    → ¬ (ShowsVersions asked (codes "a.b") versions (printed (codes "a.b v1.0.0 v1.0.0\n")))
 
 -- if they do not ascend,
 abbrev pub VersionsDescend : Type 0
 VersionsDescend = (asked : List (Name × Reply)) (versions : List (List ℕ))
-    → ¬ (ShowsVersions asked (codes "a") versions (printed (codes "a v1.1.0 v1.0.0\n")))
+    → ¬ (ShowsVersions asked (codes "a.b") versions (printed (codes "a.b v1.1.0 v1.0.0\n")))
 
 -- if one doesn't fit the path,
 abbrev pub VersionDoesNotFit : Type 0
 VersionDoesNotFit = (asked : List (Name × Reply)) (versions : List (List ℕ))
-    → ¬ (ShowsVersions asked (codes "a") versions (printed (codes "a v2.0.0\n")))
+    → ¬ (ShowsVersions asked (codes "a.b") versions (printed (codes "a.b v2.0.0\n")))
 
 -- and if the list does not name one
 abbrev pub VersionIsUnlisted : Type 0
 VersionIsUnlisted = (asked : List (Name × Reply)) (versions : List (List ℕ)) → HasListFile asked (codes "v1.1.0\n")
-    → ¬ (ShowsVersions asked (codes "a") versions (printed (codes "a v1.0.0\n")))
+    → ¬ (ShowsVersions asked (codes "a.b") versions (printed (codes "a.b v1.0.0\n")))
 
--- both versions of a
+-- both versions of a.b
 abbrev pub both_of_a : Outcome
-both_of_a = printed (codes "a v1.0.0 v1.1.0\n")
+both_of_a = printed (codes "a.b v1.0.0 v1.1.0\n")
 
--- `RetractedAreLeftOut` for a, if a version is printed without `--retracted` that the latest one retracts,
+-- `RetractedAreLeftOut` for a.b, if a version is printed without `--retracted` that the latest one retracts,
 abbrev pub RetractedIsShown : Type 0
 RetractedIsShown = (asked : List (Name × Reply))
-    → Retracts asked (codes "a") (codes "v1.1.0") (pair (codes "v1.0.0") (codes "v1.0.0") ∷ [])
-    → ¬ (LeavesOutRetracted asked (codes "a") both_of_a both_of_a)
+    → Retracts asked (codes "a.b") (codes "v1.1.0") (pair (codes "v1.0.0") (codes "v1.0.0") ∷ [])
+    → ¬ (LeavesOutRetracted asked (codes "a.b") both_of_a both_of_a)
 
 -- if one is left out that the latest one does not retract,
 abbrev pub UnretractedIsLeftOut : Type 0
-UnretractedIsLeftOut = (asked : List (Name × Reply)) → Retracts asked (codes "a") (codes "v1.1.0") []
-    → ¬ (LeavesOutRetracted asked (codes "a") (printed (codes "a v1.1.0\n")) both_of_a)
+UnretractedIsLeftOut = (asked : List (Name × Reply)) → Retracts asked (codes "a.b") (codes "v1.1.0") []
+    → ¬ (LeavesOutRetracted asked (codes "a.b") (printed (codes "a.b v1.1.0\n")) both_of_a)
 
 -- and if one is not printed with `--retracted` that the list names
 abbrev pub ListedIsMissing : Type 0
 ListedIsMissing = (asked : List (Name × Reply)) (one : Outcome) → HasListFile asked (codes "v1.0.0\nv1.1.0\n")
-    → ¬ (LeavesOutRetracted asked (codes "a") one (printed (codes "a v1.1.0\n")))
+    → ¬ (LeavesOutRetracted asked (codes "a.b") one (printed (codes "a.b v1.1.0\n")))

@@ -1,9 +1,10 @@
 -- What is published later changes nothing that is printed.
-use Rattle.std.specs.Prelude.{◌≡◌, ◌↔◌, ◌⊎◌, ℕ, List, Option, Some, Contains}
-use Rattle.gm_store.specs.Asked.{Name, Reply, absent, answer_in, names_in}
+use Rattle.std.specs.Prelude.{◌≡◌, ◌⊎◌, ℕ, List, Option, Some}
+use Rattle.gm_store.specs.Asked.{Name, Reply, absent, answer_in}
 use Rattle.gm_graph_listing.specs.Outcomes.{Outcome}
 use Rattle.gomod_words.specs.declared.usage.Command.{Command}
 use Rattle.gomod_run.specs.Runs.{AskedInTurn, Needs}
+use Rattle.gomod_laws.specs.FolderLaws.{AskForTheSame}
 use Rattle.gomod_laws.specs.Runs.{HasOutcome, HasPrinted}
 
 -- For each file that both stores were asked for, the later answer is the earlier one, or there was no such file.
@@ -26,14 +27,10 @@ pub record RunsInTurn (command : Command) (main : List ℕ) (sums : Option (List
   pub ends : HasOutcome command main sums asked outcome
   pub in_turn : AskedInTurn (Needs command main sums) asked
 
--- the same files were asked for
-abbrev pub AskTheSame : List (Name × Reply) → List (Name × Reply) → Type 0
-AskTheSame asked later = (name : Name) → Contains (names_in later) name ↔ Contains (names_in asked) name
-
 -- Where a command prints, it asks the later store for the same files.
 abbrev pub LaterAsksTheSame : Type 0
 LaterAsksTheSame = (command : Command) (main : List ℕ) (sums : Option (List ℕ)) (asked later : List (Name × Reply))
     (one other : Outcome)
     → RunsInTurn command main sums asked one → HasPrinted one → OnlyAddsFiles asked later
     → RunsInTurn command main sums later other
-    → AskTheSame asked later
+    → AskForTheSame asked later

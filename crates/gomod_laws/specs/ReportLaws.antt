@@ -1,7 +1,7 @@
 -- A report is complete: where each module that it is about has a file that requires nothing, nothing else is wrong.
-use Rattle.std.specs.Prelude.{◌≡◌, ◌≢◌, ◌≤◌, ◌↔◌, ◌++◌, ℕ, List, [], Option, None, Some, Contains, codes, length, true, ⊤}
+use Rattle.std.specs.Prelude.{◌≡◌, ◌≢◌, ◌≤◌, ◌++◌, ℕ, List, [], Option, None, Some, Contains, codes, length, true, ⊤}
 use Rattle.gm_file.specs.Fields.{Dependency}
-use Rattle.gm_store.specs.Asked.{Name, Reply, answer_in, bytes, mod_file, names_in}
+use Rattle.gm_store.specs.Asked.{Name, Reply, answer_in, bytes, mod_file}
 use Rattle.gm_store_sums.specs.Hash.{file_hash}
 use Rattle.gm_store_sums.specs.Sums.{Says}
 use Rattle.gm_store_sums.specs.declared.sum_table.Sum.TheVariants.{Good}
@@ -17,6 +17,7 @@ use Rattle.gm_graph_listing.specs.Outcomes.{AreKnown, AreRows, Given, GivenFiles
 use Rattle.gomod_words.specs.declared.usage.Command.{Command}
 use Rattle.gomod_words.specs.declared.usage.Command.TheVariants.{Graph, List as Rows}
 use Rattle.gomod_run.specs.Runs.{is_query}
+use Rattle.gomod_laws.specs.FolderLaws.{AskForTheSame}
 use Rattle.gomod_laws.specs.Runs.{HasOutcome}
 use Rattle.gomod_laws.specs.Shown.{ReportsFaults, ShowsEdges, ShowsRows, run_over}
 
@@ -114,4 +115,4 @@ abbrev pub MendedAsksForTheSame : Gives → Type 0
 MendedAsksForTheSame Files = (command again : Command) (file : List ℕ) (sums : Option (List ℕ)) (main : Main)
     (faults : List Fault) (asked told : List (Name × Reply)) (first next : Outcome) → is_query again ≡ true
     → AreMended Files command again file sums main faults asked told first next
-    → (name : Name) → Contains (names_in told) name ↔ Contains (names_in asked) name
+    → AskForTheSame asked told

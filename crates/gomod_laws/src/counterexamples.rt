@@ -3,7 +3,6 @@
 
 pub mod additions;
 pub mod folders;
-pub mod later;
 pub mod listings;
 pub mod merges;
 pub mod others;

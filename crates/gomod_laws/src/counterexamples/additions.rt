@@ -2,22 +2,22 @@
 
 ghost use Rattle.gomod_laws.specs.CounterAdditions.{ChainIsByNoLine, ChainIsToAnother, LineIsLost, NeitherPrints, RowIsHigher, RowIsLower, UnlistedIsShown};
 
-/// That an addition lowers nothing is false of a list with a v1.1.0 and one with a v1.0.0 after it. That it loses no
-/// line is false of a graph with one line and one with another line after it.
+/// That an addition lowers nothing is false of a list with a.b v1.1.0 and one with a.b v1.0.0 after it. That it loses
+/// no line is false of a graph with one line and one with another line after it.
 pub fn an_addition_can_lower()
     ensures row { RowIsLower }
     ensures line { LineIsLost }
 {}
 
-/// That `list` prints and stays as it is, is false of a list with a v1.0.0 and one with a v1.1.0 after it, and of two
-/// refusals.
+/// That `list` prints and stays as it is, is false of a list with a.b v1.0.0 and one with a.b v1.1.0 after it, and of
+/// two refusals.
 pub fn a_requirement_can_change()
     ensures row { RowIsHigher }
     ensures refusal { NeitherPrints }
 {}
 
-/// Let `list` print `m` and `a v1.0.0`, and `graph` print `m a@v1.0.0`. That each row is explained is false if `chain
-/// a` prints `m`, `b@v1.0.0` and `a@v1.0.0`, or `m` and `b@v1.0.0`, and if `chain b` prints the latter.
+/// Let `list` print `m` and `a.b v1.0.0`, and `graph` print `m a.b@v1.0.0`. That each row is explained is false if
+/// `chain a.b` prints `m`, `b.c@v1.0.0` and `a.b@v1.0.0`, or `m` and `b.c@v1.0.0`, and if `chain b.c` prints that.
 pub fn a_row_can_be_unexplained()
     ensures way { ChainIsByNoLine }
     ensures end { ChainIsToAnother }

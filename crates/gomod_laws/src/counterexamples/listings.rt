@@ -14,34 +14,34 @@ pub fn a_list_can_be_no_build_list()
     ensures not_required { RowIsNotRequired }
 {}
 
-/// `b v1.0.0` is no part of `m`, `a v1.0.0`. All of a list is no part of one row, and not what follows a row.
+/// `b.c v1.0.0` is no part of `m`, `a.b v1.0.0`. All of a list is no part of one row, and not what follows a row.
 pub fn a_part_can_be_of_another_list()
     ensures another { PartHasAnotherRow }
     ensures long { PartIsTooLong }
     ensures whole { PartIsTheWhole }
 {}
 
-/// Pages of one row do not join to `m`, `a v1.0.0` if the page after m has a row of b, or if there is none.
+/// Pages of one row do not join to `m`, `a.b v1.0.0` if the page after m has a row of b.c, or if there is none.
 pub fn pages_can_fail_to_join()
     ensures another { PageHasAnotherRow }
     ensures missing { PageIsMissing }
 {}
 
-/// No shortest chain to b ends at a, and none begins elsewhere than with the main module. If that requires a, no
-/// shortest chain to a goes by b.
+/// No shortest chain to b.c ends at a.b, and none begins elsewhere than with the main module. If that requires
+/// a.b v1.0.0, no shortest chain to a.b goes by b.c.
 pub fn a_chain_can_be_no_shortest()
     ensures ends { ChainEndsElsewhere }
     ensures begins { ChainBeginsElsewhere }
     ensures long { ChainIsTooLong }
 {}
 
-/// A list with a row of b, and a chain to b, are not of the graph `m a@v1.0.0`.
+/// A list with a row of b.c, and a chain to b.c, are not of the graph `m a.b@v1.0.0`.
 pub fn outputs_can_be_of_two_graphs()
     ensures list { ListIsOfAnotherGraph }
     ensures chain { ChainIsOfAnotherGraph }
 {}
 
-/// A fault that is reported is a line: `a@v1.0.0: Missing`.
+/// A fault that is reported is a line: `a.b@v1.0.0: Missing`.
 pub fn a_reported_fault_is_a_line()
     ensures { FaultIsALine }
 {}

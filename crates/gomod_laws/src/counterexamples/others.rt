@@ -1,8 +1,8 @@
-//! What the laws of `edit`, of folders and of lines conclude, tried on outputs.
+//! What the laws of `edit` and of lines conclude, tried on outputs.
 
-ghost use Rattle.gomod_laws.specs.CounterOthers.{EdgeIsALine, FormatsAnother, GoIsAnother, ModuleIsSecond, NeitherFormats, OneMoreIsAskedFor, RowIsALine, StepIsALine, TwiceIsRefused, TwicePrintsAnother};
+ghost use Rattle.gomod_laws.specs.CounterOthers.{EdgeIsALine, FormatsAnother, GoIsAnother, ModuleIsSecond, NeitherFormats, RowIsALine, StepIsALine, TwiceIsRefused, TwicePrintsAnother};
 
-/// That the first line is `m` is false of `n`, `m v1.0.0`.
+/// That the first line is `a.b` is false of `m`, `a.b v1.0.0`.
 pub fn a_module_can_be_second()
     ensures { ModuleIsSecond }
 {}
@@ -25,12 +25,7 @@ pub fn nothing_can_be_formatted()
     ensures refuses { NeitherFormats }
 {}
 
-/// That the same files are asked for is false if one more is.
-pub fn one_more_can_be_asked_for()
-    ensures { OneMoreIsAskedFor }
-{}
-
-/// What is shown is a line: `a v1.0.0` of a list, `m a@v1.0.0` of a graph, and `a@v1.0.0` of a chain.
+/// What is shown is a line: `a.b v1.0.0` of a list, `m a.b@v1.0.0` of a graph, and `a.b@v1.0.0` of a chain.
 pub fn what_is_shown_is_a_line()
     ensures row { RowIsALine }
     ensures edge { EdgeIsALine }

@@ -1,4 +1,4 @@
-use Rattle.gomod_laws.proofs.ContradictedReports.{edge_is_not_required, file_is_one_more, report_is_no_graph, report_is_no_list, row_is_not_required}
+use Rattle.gomod_laws.proofs.ContradictedReports.{edge_is_not_required, report_is_no_graph, report_is_no_list, row_is_not_required}
 use Rattle.gomod_laws.proofs.counterexamples.reports.a_mended_run_can_contradict.Goals as goal
 
 pub returns-clause-list : goal.returns-clause-list
@@ -12,6 +12,3 @@ returns-clause-graph c = report_is_no_graph
 
 pub returns-clause-edge : goal.returns-clause-edge
 returns-clause-edge c = edge_is_not_required
-
-pub returns-clause-asks : goal.returns-clause-asks
-returns-clause-asks c = file_is_one_more
