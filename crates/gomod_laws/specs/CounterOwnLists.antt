@@ -3,7 +3,6 @@ use Rattle.std.specs.Prelude.{List, None, codes}
 use Rattle.gm_graph_cache.specs.Main.{Main}
 use Rattle.gm_graph_select.specs.BuildList.{Entry}
 use Rattle.gm_graph_listing.specs.Outcomes.{Given, Outcome, printed}
-use Rattle.gomod_laws.specs.Counterexamples.{list_of_a}
 use Rattle.gomod_laws.specs.OwnListLaws.{AreNotAbove}
 use Rattle.gomod_laws.specs.Shown.{ShowsRows}
 
@@ -11,9 +10,13 @@ use Rattle.gomod_laws.specs.Shown.{ShowsRows}
 abbrev pub own_list_of_d : Outcome
 own_list_of_d = printed (codes "d.e\na.b v1.1.0\n")
 
--- `OwnListIsNotAbove`, where the list over the main file, of m, shows a.b v1.0.0
+-- the list over the main file, which shows d.e and a.b v1.0.0
+abbrev pub list_with_d : Outcome
+list_with_d = printed (codes "m\na.b v1.0.0\nd.e v1.0.0\n")
+
+-- `OwnListIsNotAbove`, if these are the two lists
 abbrev pub OwnRowIsAbove : Type 0
 OwnRowIsAbove = (run own : Given) (main dependency : Main)
     → ¬ ((rows : List Entry) × (others : List Entry)
     × ShowsRows own dependency None None rows own_list_of_d
-    × ShowsRows run main None None others list_of_a × AreNotAbove main.path rows others)
+    × ShowsRows run main None None others list_with_d × AreNotAbove main.path rows others)
