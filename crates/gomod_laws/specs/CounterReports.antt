@@ -1,8 +1,9 @@
 -- What the laws of complete reports conclude is false of outputs that contradict them.
-use Rattle.std.specs.Prelude.{◌≡◌, [], codes}
+use Rattle.std.specs.Prelude.{◌≡◌, ◌∷◌, [], Some, codes}
+use Rattle.gm_store.specs.Asked.{absent, answer_in, mod_file}
 use Rattle.gm_graph_cache.specs.Main.{Main}
-use Rattle.gm_graph_listing.specs.Outcomes.{Given}
-use Rattle.gomod_laws.specs.Counterexamples.{fault_of_a, graph_of_a, list_of_a}
+use Rattle.gm_graph_listing.specs.Outcomes.{Given, Outcome, printed}
+use Rattle.gomod_laws.specs.Counterexamples.{a_one, fault_of_a}
 use Rattle.gomod_laws.specs.ReportLaws.{ShowsEdgesBy, ShowsRowsBy}
 
 -- `MendedIsListed` and `MendedIsGraphed`, where a fault is reported,
@@ -12,11 +13,22 @@ ReportIsNoList = (before run : Given) (main : Main) → ¬ (ShowsRowsBy before r
 abbrev pub ReportIsNoGraph : Type 0
 ReportIsNoGraph = (before run : Given) (main : Main) → ¬ (ShowsEdgesBy before run main fault_of_a)
 
--- and where a.b v1.0.0 is shown, and the main file requires nothing
-abbrev pub RowIsNotRequired : Type 0
-RowIsNotRequired = (before run : Given) (main : Main) → main.path ≡ codes "m" → main.requirements ≡ []
-    → ¬ (ShowsRowsBy before run main list_of_a)
+-- a list and a graph that show b.c v1.0.0, which a.b v1.0.0 requires
+abbrev pub list_with_b : Outcome
+list_with_b = printed (codes "m\na.b v1.0.0\nb.c v1.0.0\n")
 
-abbrev pub EdgeIsNotRequired : Type 0
-EdgeIsNotRequired = (before run : Given) (main : Main) → main.requirements ≡ []
-    → ¬ (ShowsEdgesBy before run main graph_of_a)
+abbrev pub graph_with_b : Outcome
+graph_with_b = printed (codes "m a.b@v1.0.0\na.b@v1.0.0 b.c@v1.0.0\n")
+
+-- The main file requires a.b v1.0.0 alone and replaces nothing. In this run there was no file of a.b v1.0.0.
+pub record MissesA (before : Given) (main : Main) : Type 0 where
+  pub requires : main.requirements ≡ a_one ∷ []
+  pub replaces : main.replaces ≡ []
+  pub missing : answer_in before.told.asked (mod_file a_one.0 a_one.1) ≡ Some absent
+
+-- and where a row or an edge is shown after such a run that no file of that run requires
+abbrev pub RowIsNew : Type 0
+RowIsNew = (before run : Given) (main : Main) → MissesA before main → ¬ (ShowsRowsBy before run main list_with_b)
+
+abbrev pub EdgeIsNew : Type 0
+EdgeIsNew = (before run : Given) (main : Main) → MissesA before main → ¬ (ShowsEdgesBy before run main graph_with_b)
