@@ -26,7 +26,7 @@ pub record MissesA (before : Given) (main : Main) : Type 0 where
   pub replaces : main.replaces ≡ []
   pub missing : answer_in before.told.asked (mod_file a_one.0 a_one.1) ≡ Some absent
 
--- and where a row or an edge is shown after such a run that no file of that run requires
+-- and where a module is shown after such a run that no file of that run requires
 abbrev pub RowIsNew : Type 0
 RowIsNew = (before run : Given) (main : Main) → MissesA before main → ¬ (ShowsRowsBy before run main list_with_b)
 
