@@ -20,7 +20,8 @@ pub fn a_replace_alone_adds_nothing()
 {}
 
 /// An exclude alone changes nothing. Let two main files be valid, and let one have one exclude more. If that version is
-/// not in the other's module graph, `list`, `graph` and `chain` come to the same over both, whether they print or refuse.
+/// not in the other's module graph, `list`, `graph` and `chain` come to the same over both, whether they print or
+/// refuse.
 pub fn an_exclude_alone_changes_nothing()
     ensures { ExcludeAloneChangesNothing }
 {}
