@@ -1,0 +1,509 @@
+"""Compares bin/gomod with an installed go command. tools/compare-go.sh starts it and says what it prints."""
+import argparse
+import collections
+import json
+import os
+import random
+import re
+import shutil
+import subprocess
+import sys
+import tempfile
+
+from go_worlds import UNFETCHABLE, World, escaped, fits, operations, order_of, read, write
+
+TOP = os.path.dirname(os.path.dirname(os.path.abspath(__file__)))
+GOMOD = os.path.join(TOP, "bin", "gomod")
+SAME, BOTH = "the same", "refused by both"
+MISFITS = ("Versions in a list that do not fit the path, as `v2.0.0` of a path without `/v2`, or are not canonical, as "
+           "`v1.2`")
+SECONDS = 120
+# What go says about a file of a module, and what gomod then reports.
+FAULTS = [
+    (r"missing go\.sum entry", {"NoSum", "Missing", "NotFetchable"}),
+    (r"checksum mismatch", {"SumDiffers"}),
+    (r"no such file or directory", {"Missing"}),
+    (r"missing dot in first path element|malformed module path", {"NotFetchable"}),
+    (r"declares its path as|missing module line", {"WrongPath"}),
+    (r"parsing go\.mod|errors parsing|go\.mod:\d+", {"Malformed"}),
+]
+NOT_CANONICAL = "Versions that are not canonical: `v1.2`, `latest`, a branch, a commit"
+EXCLUDED = "Versions that the main file excludes"
+DROPPED = "What `go mod edit` drops as it formats"
+TWO_REPLACES = "Two `replace` of one left side"
+IN_ONE_CALL = ("`retract` of what is there already; `dropretract`, or `dropreplace`, of what the same call added or "
+               "rewrote")
+
+
+class Differences:
+    """Counts by command and kind. A kind that isn't SAME or BOTH is the first field of a row of docs/GO.md."""
+
+    def __init__(self):
+        with open(os.path.join(TOP, "docs", "GO.md"), encoding="utf-8") as file:
+            self.names = {line.split("|")[1].strip() for line in file if line.startswith("| ")}
+        self.counts = collections.defaultdict(collections.Counter)
+        self.unexplained = 0
+
+    def count(self, command, kind, number=1):
+        if kind not in (SAME, BOTH) and kind not in self.names:
+            raise SystemExit(f"compare-go: docs/GO.md has no row '{kind}'")
+        self.counts[command][kind] += number
+
+    def report(self, where, command, came, wanted, note=""):
+        self.unexplained += 1
+        print(f"{where}: {command}: a difference that docs/GO.md does not name{note and ': ' + note}")
+        for what, text in (("gomod", came), ("go", wanted)):
+            print(f"  {what}:")
+            for line in text.splitlines() or ["(nothing)"]:
+                print(f"    {line}")
+        sys.stdout.flush()
+
+    def print(self):
+        for command, kinds in self.counts.items():
+            print(f"{command}:")
+            for kind, number in sorted(kinds.items(), key=lambda it: (it[0] not in (SAME, BOTH), -it[1], it[0])):
+                print(f"  {number:6} {kind}")
+        print(f"differences that docs/GO.md does not name: {self.unexplained}")
+
+
+class Result:
+    def __init__(self, ran):
+        self.status, self.out, self.err = ran.returncode, ran.stdout.decode(), ran.stderr.decode("utf-8", "replace")
+
+    def text(self):
+        return self.out if self.status == 0 else f"{self.err}status {self.status}\n"
+
+
+class Commands:
+    """go and gomod, in a scratch folder of their own, without a network."""
+
+    def __init__(self, go, room, proxy):
+        self.go, self.proxy, self.cache = go, proxy, f"{room}/cache"
+        self.environment = {
+            "PATH": os.path.dirname(go) + ":/usr/bin:/bin", "HOME": room, "GOPATH": f"{room}/gopath",
+            "GOMODCACHE": self.cache, "GOCACHE": f"{room}/build", "GOENV": "off", "GOWORK": "off",
+            "GOPROXY": f"file://{proxy}", "GOSUMDB": "off", "GONOSUMDB": "*", "GOPRIVATE": "", "GONOPROXY": "none",
+            "GOTOOLCHAIN": "local", "GOVCS": "*:off", "GO111MODULE": "on", "GOTELEMETRY": "off",
+        }
+
+    def ask_go(self, folder, *words, mod="readonly"):
+        flags = {"GOFLAGS": f"-mod={mod}"} if mod else {"GOFLAGS": ""}
+        return Result(subprocess.run([self.go, *words], cwd=folder, capture_output=True, timeout=SECONDS,
+                                     stdin=subprocess.DEVNULL, env={**self.environment, **flags}))
+
+    def ask(self, folder, *words):
+        return Result(subprocess.run([GOMOD, *words], cwd=folder, capture_output=True, timeout=SECONDS,
+                                     stdin=subprocess.DEVNULL))
+
+    def ask_graph(self, folder, *words, sums=False):
+        return self.ask(folder, *words, "--proxy", self.proxy, *(["--sum", "go.sum"] if sums else []))
+
+
+# The text of a go.mod, read loosely.
+
+
+def words_of(line):
+    words = re.findall(r'"[^"]*"|`[^`]*`|=>|[()\[\],]|[^\s()\[\],]+', line.partition("//")[0])
+    return [it.strip('"`') for it in words]
+
+
+def pieces_of(text):
+    """The directives of a go.mod, each with the comment on its line, and the comment lines."""
+    directives, comments, verb = [], [], None
+    for line in text.splitlines():
+        words, comment = words_of(line), line.partition("//")[2].strip()
+        if not words:
+            comments += [comment] if "//" in line else []
+        elif verb is None and words[-1] == "(":
+            verb = words[0]
+        elif words == [")"]:
+            verb = None
+        elif not (verb is None and words[1:] == ["(", ")"]):
+            directives.append((verb or words[0], tuple(words if verb else words[1:]), comment))
+    return collections.Counter(directives), collections.Counter(comments)
+
+
+# The comparison.
+
+
+def go_faults(text):
+    """The modules that go's report blames, each with the classes of gomod that say the same."""
+    blamed = list(re.finditer(r"([^\s:@]+@v[^\s:/]+)(?:/go\.mod)?(?: \(replaced by [^)]*\))?: ", text))
+    ends = [it.start() for it in blamed[1:]] + [len(text)]
+    for name, message in [(it[1], text[it.end():end]) for it, end in zip(blamed, ends)] or [(None, text)]:
+        yield name, next((classes for pattern, classes in FAULTS if re.search(pattern, message)), set())
+
+
+class Comparison:
+    """One world, or one cache and main file."""
+
+    def __init__(self, where, commands, found):
+        self.where, self.commands, self.found = where, commands, found
+        self.replaced = {}
+
+    def both_refuse(self, came, wanted):
+        """Whether gomod reports what go does: the module that it blames, or the line of the main file."""
+        line = re.match(r"go\.mod:(\d+): (\S+)", came.err)
+        if line:
+            same = r"conflicting replacements" if line[2] == "ConflictingReplace" else rf"go\.mod:{line[1]}\b"
+            return re.search(same, wanted.err) is not None
+        faults = re.findall(r"^(\S+@\S+?): (\S+)", came.err, re.M)
+        return any(kind in classes and blamed in (None, name, self.replaced.get(name))
+                   for name, kind in faults for blamed, classes in go_faults(wanted.err))
+
+    def same_lines(self, came, wanted, is_graph):
+        if came.status or wanted.status:
+            return False
+        ours, theirs = came.out.splitlines(), wanted.out.splitlines()
+        if is_graph:
+            newer = [it for it in theirs if re.search(r"(^| )(go|toolchain)@\S+", it)]
+            theirs = sorted(set(theirs) - set(newer), key=lambda it: it.encode())
+            if newer:
+                self.found.count("graph", "`go` and `toolchain` lines of newer graphs")
+            return sorted(set(ours), key=lambda it: it.encode()) == theirs and len(set(ours)) == len(ours)
+        return ours == theirs
+
+    def compare_graph(self, main, has_sums):
+        """list, graph and chain. Where go updates the main file, gomod reads what that leaves."""
+        mod, before = ("readonly" if has_sums else "mod"), read(f"{main}/go.mod")
+        wanted = self.commands.ask_go(main, "list", "-m", "all", mod=mod)
+        is_refused = "updates to go.mod needed" in wanted.err
+        if is_refused or pieces_of(read(f"{main}/go.mod")) != pieces_of(before):
+            self.found.count("list", "An untidy main file")
+            if is_refused:
+                mod, main = "mod", shutil.copytree(main, f"{main}.tidy")
+                wanted = self.commands.ask_go(main, "list", "-m", "all", mod=mod)
+            if wanted.status:
+                return
+        if not self.judge("list", main, has_sums, wanted):
+            return
+        graph = self.commands.ask_go(main, "mod", "graph", mod=mod)
+        if self.judge("graph", main, has_sums, graph) and wanted.status == 0 and graph.status == 0:
+            self.compare_chains(main, wanted.out.splitlines(), graph.out.splitlines())
+            came = self.commands.ask(main, "list", "--proxy", f"{self.commands.cache}/cache/download")
+            if not self.same_lines(came, wanted, False):
+                self.found.report(self.where, "list", came.text(), wanted.text(), "from the cache that go filled")
+
+    def judge(self, command, main, has_sums, wanted):
+        """Whether one command, with --sum if there is a go.sum, has the result of go."""
+        came = self.commands.ask_graph(main, command, sums=has_sums)
+        if has_sums and came.status and wanted.status == 0:
+            kinds = set(re.findall(r"^\S+@\S+: (\S+)$", came.err, re.M))
+            name = {("NoSum",): "Checksums", ("SumDiffers",): "A second hash of a file in go.sum"}.get(tuple(kinds))
+            if name and (name == "Checksums" or self.has_second_hashes(main, came)):
+                self.found.count(command, name)
+                came = self.commands.ask_graph(main, command)
+        if self.same_lines(came, wanted, command == "graph"):
+            self.found.count(command, SAME)
+            return True
+        kind = None
+        if came.status and wanted.status and self.both_refuse(came, wanted):
+            kind = BOTH
+        elif re.search(r"^(\S+@\S+: Malformed|go\.mod:)[ \d]+:? BadVersion$", came.err, re.M):
+            kind = NOT_CANONICAL
+        elif came.status == 0 and self.is_untidy(command, main, wanted):
+            kind = "An untidy main file"
+        elif command == "list" and came.status == 0 and self.is_unneeded(came, wanted):
+            kind = "A file that the list does not need"
+        if kind:
+            self.found.count(command, kind)
+        else:
+            self.found.report(self.where, command, came.text(), wanted.text())
+        return kind == BOTH
+
+    def is_untidy(self, command, main, wanted):
+        """Whether go's result is that of the main file as it updates it, or a refusal as it updates one."""
+        rows = dict(it.split(" ")[:2] for it in self.commands.ask_graph(main, "list").out.splitlines()[1:])
+        required = [args for verb, args, _ in pieces_of(read(f"{main}/go.mod"))[0] if verb == "require"]
+        if all(rows.get(path, version) == version for path, version in required):
+            return False
+        if wanted.status:
+            return True
+        copy = shutil.copytree(main, f"{main}.{command}")
+        self.commands.ask_go(copy, "list", "-m", "all", mod="mod")
+        return self.same_lines(self.commands.ask_graph(copy, command), wanted, command == "graph")
+
+    def is_unneeded(self, came, wanted):
+        """Whether go refuses the hash of a file that is listed and that gomod does not ask for."""
+        rows = [it.split(" ") for it in came.out.splitlines()[1:]]
+        names = {"@".join(it[:2]) for it in rows} | {"@".join(it[3:]) for it in rows}
+        return any(classes == {"SumDiffers"} and name in names for name, classes in go_faults(wanted.err))
+
+    def has_second_hashes(self, main, came):
+        sums = [line.split() for line in read(f"{main}/go.sum").splitlines()]
+        names = [f"{path}@{version.removesuffix('/go.mod')}" for path, version, _ in sums]
+        blamed = re.findall(r"^(\S+@\S+): ", came.err, re.M)
+        return all(names.count(self.replaced.get(it, it)) > 1 for it in blamed)
+
+    def compare_chains(self, main, rows, lines):
+        """A chain of gomod takes lines of go's graph, and none that is shorter leads there."""
+        edges = collections.defaultdict(list)
+        for line in lines:
+            left, right = line.split(" ")
+            edges[left].append(right)
+        levels, queue = {rows[0]: 0}, [rows[0]]
+        for step in queue:
+            for to in edges[step]:
+                if to not in levels:
+                    levels[to] = levels[step] + 1
+                    queue.append(to)
+        for row in random.Random(len(lines)).sample(rows, min(3, len(rows))):
+            path, *rest = row.split(" ")
+            step = f"{path}@{rest[0]}" if rest else path
+            came = self.commands.ask_graph(main, "chain", path)
+            steps = came.out.splitlines()
+            if (came.status == 0 and steps[0] == rows[0] and steps[-1] == step and len(steps) == levels[step] + 1
+                    and all(to in edges[at] for at, to in zip(steps, steps[1:]))):
+                self.found.count("chain", SAME)
+            else:
+                self.found.report(self.where, "chain", came.text(), f"a chain to {step} of {levels[step] + 1} steps\n")
+
+    def compare_versions(self, folder, paths, excludes):
+        """versions, asked for from a main module that requires nothing."""
+        write(f"{folder}/go.mod", "module example.com/asker\n\ngo 1.16\n"
+              + "".join(f"exclude {path} {version}\n" for path, version in excludes))
+        form = "{{.Path}}{{range .Versions}} {{.}}{{end}}\t{{with .Error}}{{printf \"%q\" .Err}}{{end}}"
+        for words in [], ["-retracted"]:
+            asked = ["list", "-m", "-e", "-versions", *words, "-f", form, *paths]
+            wanted = self.commands.ask_go(folder, *asked, mod="mod")
+            rows = dict.fromkeys(paths, ("", "no row"))
+            for line in wanted.out.splitlines():
+                row, _, error = line.partition("\t")
+                rows[row.split(" ")[0]] = row, error
+            for path in paths:
+                came = self.commands.ask_graph(folder, "versions", path, *(f"-{it}" for it in words))
+                self.compare_row(path, came, *rows[path], words, excludes)
+
+    def compare_row(self, path, came, row, error, words, excludes):
+        command = "versions --retracted" if words else "versions"
+        ours, theirs = came.out.split()[1:], row.split(" ")[1:]
+        if came.status == 0 and not error and ours == theirs:
+            return self.found.count(command, SAME)
+        lines = read(f"{self.commands.proxy}/{escaped(path)}/@v/list").splitlines()
+        listed = [it.split()[0] for it in lines if re.match(r"v\d+(\.\d+){0,2}([-+]|\s|$)", it)]
+        fitting = [it for it in listed if fits(path, it)]
+        if came.status == 0 and not error:
+            kept = [it for it in theirs if fits(path, it)]
+            shown = [it for it in ours if (path, it) not in excludes]
+            if kept == shown:
+                names = [EXCLUDED] * (shown != ours) + [MISFITS] * (kept != theirs)
+                return [self.found.count(command, name) for name in names]
+        if not error and fitting and all((path, it) in excludes for it in fitting):
+            return self.found.count(command, EXCLUDED)
+        if came.err.endswith("BadVersion\n"):
+            return self.found.count(command, NOT_CANONICAL)
+        if not words and latest_of(listed) not in fitting:
+            return self.found.count(command, MISFITS)
+        if not words and "+incompatible" in latest_of(fitting):
+            return self.found.count(command, "The latest version with `+incompatible`")
+        if came.status and error:
+            return self.found.count(command, BOTH)
+        return self.found.report(self.where, f"{command} {path}", came.text(), f"{row}\n{error}")
+
+    def compare_edit(self, main, operations):
+        flags = [f"-{it}" for it in operations]
+        wanted = self.commands.ask_go(main, "mod", "edit", "-print", *flags, "go.mod", mod="")
+        came = self.commands.ask(main, "edit", "go.mod", *operations)
+        kinds = [it for it in self.kinds_of_edit(main, came, wanted, operations) if it]
+        for kind in kinds:
+            self.found.count("edit", kind)
+        if not kinds:
+            note = "edit " + " ".join(f"'{it}'" for it in operations) + "\n" + read(f"{main}/go.mod")
+            self.found.report(self.where, "edit", came.text(), wanted.text(), note)
+
+    def kinds_of_edit(self, main, came, wanted, operations):
+        if came.status and wanted.status:
+            return [BOTH]
+        if came.status:
+            number = re.fullmatch(r"edit (\d+): (Misfit|Spelling)\n", came.err)
+            if number and number[2] == "Misfit":
+                return ["`require=P@V` where V does not fit P"]
+            if number and re.search(r"@(v\d+(\.\d+)?|latest|master)$", operations[int(number[1]) - 1]):
+                return [NOT_CANONICAL]
+            return [TWO_REPLACES] if came.err.endswith(": ConflictingReplace\n") else []
+        if wanted.status:
+            if "invalid -go" in wanted.err and any(re.fullmatch(r"go=.*(\..*\.|rc).*", it) for it in operations):
+                return ["A go version in `go mod edit -go`"]
+            if re.search(r"retract.*should be", wanted.err):
+                return ["An operation `retract` of a version that does not fit the path"]
+            return []
+        return self.kinds_of_texts(read(f"{main}/go.mod"), came.out, wanted.out, operations) or [SAME]
+
+    def kinds_of_texts(self, before, came, wanted, operations):
+        """The kinds of the differences of two texts; None is one that has no name."""
+        cut = any(it.endswith("=./a@b") for it in operations)
+        kinds = {"Words in grave accents; `replace=P=./x@y`"} if cut and "=> ./a b" in wanted else set()
+        wanted = wanted.replace("=> ./a b", "=> ./a@b") if kinds else wanted
+        (ours, our_comments), (theirs, their_comments) = pieces_of(came), pieces_of(wanted)
+        lost = our_comments - their_comments
+        if their_comments - our_comments:
+            return [None]
+        if lost - (lost_by_go(before) | lost_by_go(came)):
+            drops = any(it.startswith(("drop", "require", "replace")) for it in operations)
+            kinds.add("A comment on a line before an entry that an edit drops" if drops else None)
+        elif lost:
+            kinds.add(DROPPED)
+        for verb, args, _ in ours - theirs:
+            left = args[:args.index("=>")] if "=>" in args else args
+            kept = [them for it, them, _ in theirs if it == verb and them[:len(left)] == left]
+            again = [us for it, us, _ in ours.elements() if it == verb and us[:len(left)] == left]
+            if verb in ("exclude", "replace") and len(again) > 1 and kept:
+                kinds.add(DROPPED if args in kept else TWO_REPLACES)
+            else:
+                kinds.add(IN_ONE_CALL if verb == "replace" and is_rewritten(left[0], operations) else None)
+        for verb, args, _ in theirs - ours:
+            is_named = verb == "retract" and any("retract=" in it for it in operations)
+            is_named |= verb == "replace" and is_rewritten(args[0], operations)
+            kinds.add(IN_ONE_CALL if is_named else None)
+        return [None] if None in kinds else sorted(kinds)
+
+    def compare_layout(self, main, is_laid_out):
+        wanted = self.commands.ask_go(main, "mod", "edit", "-fmt", "-print", "go.mod", mod="")
+        came = self.commands.ask(main, "fmt", "go.mod")
+        if came.status or wanted.status:
+            if came.status and wanted.status:
+                return self.found.count("fmt", BOTH)
+            strict = self.commands.ask(main, "edit", "go.mod", "dropretract=v0.0.0")
+            if came.status == 0 and self.both_refuse(strict, wanted):
+                return self.found.count("fmt", "`fmt` of a file with a faulty directive")
+        elif came.out == wanted.out:
+            return self.found.count("fmt", SAME)
+        elif not is_laid_out:
+            kinds = self.kinds_of_texts(came.out, came.out, wanted.out, []) or ["The layout"]
+            if None not in kinds:
+                return [self.found.count("fmt", kind) for kind in kinds]
+        return self.found.report(self.where, "fmt", came.text(), wanted.text(), read(f"{main}/go.mod"))
+
+
+def is_rewritten(path, operations):
+    """Whether a replace of all versions of the path is followed by another operation on one of it."""
+    at = next((at for at, it in enumerate(operations) if it.startswith(f"replace={path}=")), len(operations))
+    return any(re.match(rf"(drop)?replace={re.escape(path)}(?![-\w/.])", it) for it in operations[at + 1:])
+
+
+def latest_of(versions):
+    versions = [it for it in versions if not re.search(r"\d{14}-[0-9a-f]{12}", it)]
+    releases = [it for it in versions if "-" not in it]
+    return max(releases or versions, key=order_of, default="")
+
+
+def lost_by_go(text):
+    """The comment lines that go loses as it formats: of a block that it drops or makes a line, and of repetitions."""
+    lost, block, before, inside, comments = collections.Counter(), None, [], [], []
+    times = pieces_of(text)[0]
+    for line in text.splitlines():
+        words = words_of(line)
+        if not words and "//" in line:
+            comments.append(line.strip()[2:].strip())
+        elif words and words[-1] == "(" and block is None:
+            block, before, inside, comments = words[0], comments, [], []
+        elif words == [")"]:
+            lost.update(before + comments if len(inside) < 2 else [])
+            block, comments = None, []
+        elif words:
+            verb, args = block or words[0], tuple(words if block else words[1:])
+            number = sum(times[it] for it in times if it[:2] == (verb, args))
+            if verb in ("exclude", "replace") and number > 1:
+                lost.update(comments)
+            if (verb, args) not in inside:
+                inside.append((verb, args))
+            before, comments = before + comments, []
+    return lost
+
+
+def compare_world(go, seed, room, found):
+    world = World(seed, room)
+    at = Comparison(f"world {seed}", Commands(go, room, world.proxy), found)
+    for (path, version), (right, _) in world.replaces.items():
+        for known in world.versions.get(path, []):
+            if version in (None, known) and " " in right:
+                at.replaced.setdefault(f"{path}@{known}", right.replace(" ", "@"))
+    for _ in range(2):
+        at.compare_edit(world.main, operations(world.random, world.requires, world.replaces, world.excludes))
+    at.compare_layout(world.main, world.is_laid_out)
+    paths = world.some([it for it in world.versions if it not in UNFETCHABLE], 1, 3)
+    at.compare_versions(f"{room}/asker", paths, world.excludes)
+    at.compare_graph(world.main, world.sums != "none")
+
+
+def lay_cache(cache, proxy):
+    """A proxy of the .mod files and lists of a cache, with an .info beside each file; and the paths with a list."""
+    paths = []
+    for folder, _, files in os.walk(cache):
+        if os.path.basename(folder) != "@v":
+            continue
+        base = os.path.join(proxy, os.path.relpath(folder, cache))
+        os.makedirs(base)
+        for name in files:
+            if name.endswith(".mod") or name == "list":
+                shutil.copy(os.path.join(folder, name), base)
+            if name.endswith(".mod"):
+                version = re.sub("!([a-z])", lambda it: it[1].upper(), name.removesuffix(".mod"))
+                info = {"Version": version, "Time": "2020-01-01T00:00:00Z"}
+                write(f"{base}/{name.removesuffix('.mod')}.info", json.dumps(info))
+        if "list" in files:
+            escaped_path = os.path.dirname(os.path.relpath(folder, cache))
+            paths.append(re.sub("!([a-z])", lambda it: it[1].upper(), escaped_path))
+    return sorted(paths)
+
+
+def compare_cache(go, cache, mod, edits, seed, room, found):
+    """The same on a cache and a main file. The go.mod files of folders that replace modules are copied."""
+    proxy, main, some = f"{room}/proxy", f"{room}/1/2/3/4/5/6/7/8/main", random.Random(seed)
+    paths, text = lay_cache(cache, proxy), read(mod)
+    write(f"{main}/go.mod", text)
+    sums = os.path.join(os.path.dirname(os.path.abspath(mod)), "go.sum")
+    if os.path.exists(sums):
+        shutil.copy(sums, main)
+    requires, replaces, excludes = {}, {}, []
+    for verb, args, _ in pieces_of(text)[0]:
+        if verb == "require":
+            requires[args[0]] = args[1]
+        elif verb == "exclude":
+            excludes.append(args[:2])
+        elif verb == "replace":
+            replaces[args[0], None if args[1] == "=>" else args[1]] = None
+            folder = os.path.join(os.path.dirname(os.path.abspath(mod)), args[-1])
+            if re.match(r"\.{1,2}(/|$)", args[-1]) and os.path.exists(f"{folder}/go.mod"):
+                write(os.path.normpath(f"{main}/{args[-1]}/go.mod"), read(f"{folder}/go.mod"))
+    at = Comparison(mod, Commands(go, room, proxy), found)
+    for _ in range(edits):
+        at.compare_edit(main, operations(some, requires, replaces, excludes))
+    at.compare_layout(main, False)
+    at.compare_versions(f"{room}/asker", some.sample(paths, min(len(paths), 100)), [])
+    at.compare_graph(main, os.path.exists(sums))
+
+
+def in_scratch(compare, *words):
+    room = tempfile.mkdtemp(prefix="gomod-world-")
+    try:
+        compare(*words[:-1], room, words[-1])
+    finally:
+        for folder, _, _ in os.walk(room):
+            os.chmod(folder, 0o755)
+        shutil.rmtree(room)
+
+
+def main():
+    parser = argparse.ArgumentParser(add_help=False)
+    parser.add_argument("worlds", nargs="?", type=int, default=100)
+    parser.add_argument("seed", nargs="?", type=int, default=1)
+    parser.add_argument("--go", default="go")
+    parser.add_argument("--cache")
+    parser.add_argument("--mod", default="go.mod")
+    asked = parser.parse_args()
+    go = shutil.which(asked.go)
+    if not go:
+        raise SystemExit(f"compare-go: there is no command '{asked.go}': install go, or name one with --go")
+    go, found = os.path.realpath(go), Differences()
+    print(subprocess.run([go, "version"], capture_output=True, text=True, check=True).stdout.strip())
+    if asked.cache:
+        in_scratch(compare_cache, go, asked.cache, asked.mod, asked.worlds, asked.seed, found)
+    else:
+        for seed in range(asked.seed, asked.seed + asked.worlds):
+            in_scratch(compare_world, go, seed, found)
+    found.print()
+    return 1 if found.unexplained else 0
+
+
+sys.exit(main())
