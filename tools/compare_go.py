@@ -187,12 +187,15 @@ class Comparison:
     def judge(self, command, main, has_sums, wanted):
         """Whether one command, with --sum if there is a go.sum, has the result of go."""
         came = self.commands.ask_graph(main, command, sums=has_sums)
-        if has_sums and came.status and wanted.status == 0:
-            kinds = set(re.findall(r"^\S+@\S+: (\S+)$", came.err, re.M))
-            name = {("NoSum",): "Checksums", ("SumDiffers",): "A second hash of a file in go.sum"}.get(tuple(kinds))
-            if name and (name == "Checksums" or self.has_second_hashes(main, came)):
-                self.found.count(command, name)
-                came = self.commands.ask_graph(main, command)
+        kinds = set(re.findall(r"^\S+@\S+: (\S+)$", came.err, re.M)) if has_sums else set()
+        name = None
+        if kinds == {"SumDiffers"} and self.has_second_hashes(main, came):
+            name = "A second hash of a file in go.sum"
+        elif kinds == {"NoSum"} and wanted.status == 0:
+            name = "Checksums"
+        if name:
+            self.found.count(command, name)
+            came = self.commands.ask_graph(main, command)
         if self.same_lines(came, wanted, command == "graph"):
             self.found.count(command, SAME)
             return True
