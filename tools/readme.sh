@@ -7,8 +7,9 @@
 # An example is a block of lines that are indented by four spaces, the first of which begins `$ `: each such line is a
 # command of a shell, and the lines up to the next one are what it prints, on both streams. A block runs in one shell,
 # at the top of a scratch folder that has links to the files of the repository, so that files which an example writes
-# don't stay. It also compares the pieces of code of docs/LIBRARY.md, fenced as rust, with the sources of
-# crates/library_example, and tests that each link of a document to a file of the repository leads to one.
+# don't stay, and with bin/ on its PATH. It also compares the pieces of code of docs/LIBRARY.md, fenced as rust, with
+# the sources of crates/library_example, and tests that each link of a document to a file of the repository leads to
+# one.
 #
 # It needs bin/gomod (./build makes it), bash and python3. It prints each difference and how many examples, pieces of
 # code and links were right and wrong. The status is 1 where one was wrong. .ci/run runs it after the merge gate.
@@ -64,7 +65,8 @@ def printed(commands):
             if name != ".git":
                 os.symlink(f"{TOP}/{name}", f"{room}/{name}")
         ran = subprocess.run(["bash", "-c", script], cwd=room, stdin=subprocess.DEVNULL, stdout=subprocess.PIPE,
-                             stderr=subprocess.STDOUT, timeout=SECONDS)
+                             stderr=subprocess.STDOUT, timeout=SECONDS,
+                             env={**os.environ, "PATH": f"{TOP}/bin:{os.environ['PATH']}"})
     return ran.stdout.decode("utf-8", "replace").split("\036")[1:]
 
 
