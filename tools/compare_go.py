@@ -126,6 +126,11 @@ def pieces_of(text):
 # The comparison.
 
 
+def left_of(args):
+    """What an exclude or a replace is about."""
+    return tuple(args[:args.index("=>")] if "=>" in args else args)
+
+
 def go_faults(text):
     """The modules that go's report blames, each with the classes of gomod that say the same."""
     blamed = list(re.finditer(r"([^\s:@]+@v[^\s:/]+)(?:/go\.mod)?(?: \(replaced by [^)]*\))?: ", text))
@@ -284,6 +289,7 @@ class Comparison:
             return self.found.count(command, SAME)
         lines = read(f"{self.commands.proxy}/{escaped(path)}/@v/list").splitlines()
         listed = [it.split()[0] for it in lines if re.match(r"v\d+(\.\d+){0,2}([-+]|\s|$)", it)]
+        listed = [it for it in listed if not re.search(r"\d{14}-[0-9a-f]{12}", it)]
         fitting = [it for it in listed if fits(path, it)]
         if came.status == 0 and not error:
             kept = [it for it in theirs if fits(path, it)]
@@ -323,7 +329,8 @@ class Comparison:
                 return ["`require=P@V` where V does not fit P"]
             if number and re.search(r"@(v\d+(\.\d+)?|latest|master)$", operations[int(number[1]) - 1]):
                 return [NOT_CANONICAL]
-            return [TWO_REPLACES] if came.err.endswith(": ConflictingReplace\n") else []
+            faults = {"ConflictingReplace": TWO_REPLACES, "BadVersion": NOT_CANONICAL}
+            return [faults[it] for it in faults if re.fullmatch(rf"go\.mod:\d+: {it}\n", came.err)]
         if wanted.status:
             if "invalid -go" in wanted.err and any(re.fullmatch(r"go=.*(\..*\.|rc).*", it) for it in operations):
                 return ["A go version in `go mod edit -go`"]
@@ -337,7 +344,9 @@ class Comparison:
         cut = any(it.endswith("=./a@b") for it in operations)
         kinds = {"Words in grave accents; `replace=P=./x@y`"} if cut and "=> ./a b" in wanted else set()
         wanted = wanted.replace("=> ./a b", "=> ./a@b") if kinds else wanted
-        (ours, our_comments), (theirs, their_comments) = pieces_of(came), pieces_of(wanted)
+        whole = re.sub(r"( v\d+\.\d+)(?=\s)", r"\1.0", came)
+        kinds |= {NOT_CANONICAL} if whole != came else set()
+        (ours, our_comments), (theirs, their_comments) = pieces_of(whole), pieces_of(wanted)
         lost = our_comments - their_comments
         if their_comments - our_comments:
             return [None]
@@ -347,7 +356,7 @@ class Comparison:
         elif lost:
             kinds.add(DROPPED)
         for verb, args, _ in ours - theirs:
-            left = args[:args.index("=>")] if "=>" in args else args
+            left = left_of(args)
             kept = [them for it, them, _ in theirs if it == verb and them[:len(left)] == left]
             again = [us for it, us, _ in ours.elements() if it == verb and us[:len(left)] == left]
             if verb in ("exclude", "replace") and len(again) > 1 and kept:
@@ -385,7 +394,6 @@ def is_rewritten(path, operations):
 
 
 def latest_of(versions):
-    versions = [it for it in versions if not re.search(r"\d{14}-[0-9a-f]{12}", it)]
     releases = [it for it in versions if "-" not in it]
     return max(releases or versions, key=order_of, default="")
 
@@ -393,7 +401,7 @@ def latest_of(versions):
 def lost_by_go(text):
     """The comment lines that go loses as it formats: of a block that it drops or makes a line, and of repetitions."""
     lost, block, before, inside, comments = collections.Counter(), None, [], [], []
-    times = pieces_of(text)[0]
+    times = collections.Counter((verb, left_of(args)) for verb, args, _ in pieces_of(text)[0].elements())
     for line in text.splitlines():
         words = words_of(line)
         if not words and "//" in line:
@@ -404,12 +412,11 @@ def lost_by_go(text):
             lost.update(before + comments if len(inside) < 2 else [])
             block, comments = None, []
         elif words:
-            verb, args = block or words[0], tuple(words if block else words[1:])
-            number = sum(times[it] for it in times if it[:2] == (verb, args))
-            if verb in ("exclude", "replace") and number > 1:
+            verb, left = block or words[0], left_of(words if block else words[1:])
+            if verb in ("exclude", "replace") and times[verb, left] > 1:
                 lost.update(comments)
-            if (verb, args) not in inside:
-                inside.append((verb, args))
+            if (verb, left) not in inside:
+                inside.append((verb, left))
             before, comments = before + comments, []
     return lost
 
