@@ -1,0 +1,474 @@
+#!/usr/bin/env bash
+# Checks what README.md and the documents of docs/ name: that each file, crate, function, clause, law, test, edit,
+# commit and title of a case is there, that the maps of files are complete, and that counts are right.
+#
+#   tools/documents.sh           README.md and all documents of docs/
+#   tools/documents.sh FILE..    these
+#
+# What is looked at is what stands in the notation of docs/DEVELOPING.md ("What a document names"); anything else isn't.
+# It needs git and python3, but no program. In a clone without its whole history commits are not looked for, and it says
+# so. It prints each thing that isn't there, with its file and line, and how many of each kind it looked at. The status
+# is 1 if one was wrong. .ci/run runs it before the merge gate.
+set -euo pipefail
+cd "$(dirname "$0")/.."
+# shellcheck source=tools/lib.sh
+. tools/lib.sh
+help_if_asked tools/documents.sh "$@"
+exec python3 - "$@" << 'PYTHON'
+import collections
+import fnmatch
+import glob
+import os
+import re
+import subprocess
+import sys
+
+# Names of the toolchain, of std and of other crates that the documents have.
+ELSEWHERE = set("""
+Abort AllPairs AllocError BTreeMap BTreeSet CowStr IfErr IfNone IfOk IfSome IsErrAnd IsPartitionPoint IsSorted
+IsStrictlySortedBy MatchResult NoneOf OnErr OnOk PartialEq PartialOrd RefCell RT_JOBS Type always_returns_same
+btree_map_get_iff by_true cp_al from_residual fun_ext into_iter is_err_and list_any ordering_then or_else
+partition_point respects_eq rfind_char saturating_add sort_unstable slice_index slice_set split_at_byte split_once
+take_while then_with vec_len index_mut thiserror rotate_left next_gives err_from_is_err_and invariant_loop_file
+get_or_insert get_or_insert_with append_assoc IsValid parts_text count_by sorted_far lists_ties on_total
+not-source searchable_from_sorted of_calls
+""".split())
+# What a path of names may begin with that is none of ours.
+OTHER_ROOTS = set("Env Error Rc String Vec anyhow clap env mem std str A".split())
+NUMBERS = "one two three four five six seven eight nine ten eleven twelve".split()
+
+TICKED = r"`([^`]+)`"
+LIST = r"`\w+`(?: \([^()]*\))?(?:(?:, and |, | and )`\w+`(?: \([^()]*\))?)*"
+CALL = r"`(\w+(?:::\w+)*)`"
+
+
+def lines_of(path):
+    with open(path, encoding="utf-8") as it:
+        return it.read().split("\n")
+
+
+def git(*words):
+    return subprocess.run(["git", *words], capture_output=True, text=True)
+
+
+class Sources:
+    """What the repository has."""
+
+    def __init__(self):
+        listed = git("ls-files", "-co", "--exclude-standard").stdout.split("\n")
+        self.files = {it for it in listed if it and os.path.lexists(it)}
+        self.folders = {"/".join(it.split("/")[:n]) for it in self.files for n in range(1, it.count("/") + 1)}
+        self.bases = {os.path.basename(it) for it in self.files}
+        self.roots = {it for it in self.folders if "/" not in it}
+        self.crates = {it.split("/")[1] for it in self.files if it.startswith("crates/") and it.count("/") > 1}
+        self.edits = {(it.split("/")[1], it.split("/")[3][:-5]) for it in self.files if it.endswith(".edit")}
+        self.modules = collections.defaultdict(set)  # module: crates
+        self.owners = set()  # types and traits
+        self.items = collections.defaultdict(set)  # name: (crate, module or type)
+        self.clauses = collections.defaultdict(set)  # (crate, module or type, function): names
+        self.passed_on = collections.defaultdict(set)  # crate: what its lib.rt exports
+        self.tests, self.laws, self.defined, self.mentioned = set(), set(), set(), set()
+        self.titles = collections.defaultdict(set)  # file: titles of cases
+        self.public = collections.defaultdict(set)  # (crate, module or type): public functions
+        self.kinds = {}  # (crate, item): struct, enum, trait or fn
+        for path in sorted(self.files):
+            crate = path.split("/")[1] if path.startswith("crates/") else ""
+            if path.endswith(".rt"):
+                self.read_code(crate, path)
+            elif path.endswith(".antt") and crate:
+                self.read_definitions(path)
+            elif path.startswith("crates/run_cases/data/") and path.endswith(".txt"):
+                self.titles[os.path.basename(path)] |= {it[4:] for it in lines_of(path) if it.startswith("=== ")}
+
+    def read_code(self, crate, path):
+        module = os.path.basename(path)[:-3]
+        parts = path.split("/")[3:-1] + [module]
+        for it in parts:
+            self.modules[it].add(crate)
+        owners, kind, function, is_test = [], "", "", False
+        text = "\n".join(lines_of(path))
+        if module == "lib":
+            for found in re.finditer(r"(?m)^pub (?:use (?:\w+::)*([^;:]+);|mod (?!laws)(\w+))", text):
+                self.passed_on[crate] |= set(re.findall(r"\w+", found[1] or found[2]))
+        for line in text.split("\n"):
+            if re.match(r"\s*//", line):
+                continue
+            head = re.match(r"impl(?:<.*?>+)? (?:(\w[\w:]*)(?:<.*?>+)? for )?&?(?:'\w+ )?(\w+)", line)
+            item = re.match(r"\s*(?:pub(?:\([a-z]+\))? )?(struct|enum|trait|type|const|static|mod) (\w+)", line)
+            called = re.match(r"(\s*)(pub )?(?:pub\([a-z]+\) )?(?:const )?fn (\w+)", line)
+            if head:
+                owners, kind = [it.split("::")[-1] for it in head.groups() if it], "impl" if not head[1] else "for"
+            elif item:
+                self.items[item[2]].add((crate, module))
+                if item[1] in ("struct", "enum", "trait", "type"):
+                    self.owners.add(item[2])
+                    self.kinds[crate, item[2]] = item[1]
+                    owners, kind = ([item[2]], item[1]) if not line.rstrip().endswith(";") else ([], "")
+            elif line.startswith("}"):
+                owners, kind = [], ""
+            if called:
+                function = called[3]
+                within = owners if called[1] and owners else parts
+                for it in {*within, *parts}:
+                    self.items[function].add((crate, it))
+                    self.clauses[crate, it, function] |= set()
+                if called[2] or kind == "trait":
+                    for it in within:
+                        self.public[crate, it].add(function)
+                if not called[1]:
+                    self.kinds[crate, function] = "fn"
+                if is_test:
+                    self.tests.add(function)
+                if "laws" in parts or crate == "gomod_laws":
+                    self.laws.add(function)
+            is_test = line.strip() == "#[test]" or (is_test and line.strip().startswith("#["))
+            clause = re.match(r"\s+(?:ensures|requires)\*? ([a-z]\w*)", line)
+            if clause and function:
+                for it in {*owners, *parts}:
+                    self.clauses[crate, it, function].add(clause[1])
+                self.defined.add(clause[1])
+            ghost = re.match(r"\s+ghost (\w+)", line)
+            if ghost:
+                self.defined.add(ghost[1])
+                self.clauses[crate, owners[0] if owners else module, "ghost"].add(ghost[1])
+            variant = re.match(r"    ([A-Z]\w*)\b", line) if kind == "enum" else None
+            field = re.match(r"    (?:pub(?:\([a-z]+\))? )?(\w+):", line) if kind == "struct" else None
+            for it in filter(None, (variant, field)):
+                self.items[it[1]].add((crate, owners[0]))
+            self.mentioned |= set(re.findall(r"(\w+):", line)) | set(re.findall(r"\blet (?:mut )?(\w+)", line))
+
+    def read_definitions(self, path):
+        word = r"[^\s:(){},;.]+"
+        self.defined.add(os.path.basename(path)[:-5])
+        for line in lines_of(path):
+            if line.startswith("--"):
+                continue
+            found = re.match(rf"\s*(?:(?:abbrev|unfoldable|pub|record|data|module|returns)\s+)*((?:{word}\s+)+):", line)
+            if found:
+                self.defined |= set(found[1].split())
+            found = re.match(rf"\s*(?:pub )?(?:record|data|module) ({word})", line)
+            if found:
+                self.defined.add(found[1])
+
+    def is_declared(self, name):
+        return (name in self.items or name in self.defined or name in self.crates or name in self.modules
+                or any(name == edit for _, edit in self.edits))
+
+    def is_name(self, name):
+        return self.is_declared(name) or name in self.mentioned or name in ELSEWHERE
+
+    def leads(self, path, crates):
+        """Whether a path of names, as `Type::function` or `crate::module::function`, leads to something."""
+        parts = path.split("::")
+        if parts[0] in self.crates:
+            crates, parts = {parts[0]}, parts[1:]
+        if len(parts) == 1:
+            named = {crate for crate, _ in self.items.get(parts[0], ())} | self.modules.get(parts[0], set())
+            return bool(named & crates) or any(parts[0] in self.passed_on[it] for it in crates)
+        places = {(crate, it) for crate, it in self.items.get(parts[-1], ()) if it == parts[-2]}
+        if not places:
+            return bool(crates & self.modules.get(parts[-1], set()) & self.modules.get(parts[-2], set()))
+        return any(crate in crates or any(parts[-2] in self.passed_on[it] for it in crates) for crate, _ in places)
+
+    def clauses_of(self, call, crates):
+        """The names of the clauses of the functions that a call may be, or None if there is no such function."""
+        parts = call.split("::")
+        if parts[0] in self.crates:
+            crates, parts = {parts[0]}, parts[1:]
+        within = parts[-2] if len(parts) > 1 else None
+        for among in (crates, self.crates):
+            found = [clauses for (crate, it, function), clauses in self.clauses.items()
+                     if function == parts[-1] and crate in among and within in (None, it)]
+            if found:
+                return set().union(*found)
+        return None
+
+    def counts(self):
+        """What can be counted, by its name in a document."""
+        cases = re.match(r"(\d+) passed, 0 failed, (\d+) runs", "\n".join(lines_of("crates/run_cases/stdout")))
+        return {
+            "cases": int(cases[1]),
+            "runs": int(cases[2]),
+            "edits": len(self.edits),
+            "crates": len(self.crates),
+            "programs": sum(f"crates/{it}/src/main.rt" in self.files for it in self.crates),
+            "libraries": sum(f"crates/{it}/src/lib.rt" in self.files for it in self.crates),
+            "tests": len(self.tests),
+            "commands": sum(("gomod_words", "Command") in it for it in self.items.values()),
+            "operations": sum(("gm_file_edit", "Name") in it for it in self.items.values()),
+        }
+
+
+class Document:
+    """One document, and what was found in it."""
+
+    def __init__(self, name, sources, tally):
+        self.name, self.sources, self.tally = name, sources, tally
+        self.number, self.section, self.header = 0, set(), []
+
+    def tell(self, kind, is_right, message):
+        self.tally[kind][is_right] += 1
+        if not is_right:
+            print(f"{self.name}:{self.number}: {message}")
+
+    def crates_for(self, line):
+        """The crates that a line may speak of: those of the section and those that it names, or else all."""
+        named = {it for it in re.findall(r"\w+", line) if it in self.sources.crates}
+        return (self.section | named) if self.section else self.sources.crates
+
+    def read(self):
+        is_fenced, lines = False, lines_of(self.name)
+        for self.number, line in enumerate(lines, 1):
+            if line.startswith("```"):
+                is_fenced = not is_fenced
+            if is_fenced:
+                continue
+            if line.startswith("## ") or (line.startswith("### ") and self.section):
+                named = {it for it in re.findall(r"\w+", line.split(":")[0]) if it in self.sources.crates}
+                self.section = named if line.startswith("## ") or named else self.section
+            if line.startswith("    "):
+                self.read_files(line)
+                continue
+            if line.startswith("|") and self.number < len(lines) and lines[self.number].startswith("|---"):
+                self.header = []
+                self.read_line(line)
+                self.header = [it.strip() for it in line.strip().strip("|").split(" | ")]
+                continue
+            if not line.startswith("|"):
+                self.header = []
+            self.read_line(line)
+
+    def read_line(self, line):
+        self.read_files(line)
+        self.read_names(line)
+        self.read_clauses(line)
+        self.read_edits(line)
+        self.read_commits(line)
+        self.read_titles(line)
+        self.read_counts(line)
+        for name, cell in self.cells(line):
+            self.read_cell(name, cell, line)
+
+    def cells(self, line):
+        if not line.startswith("|") or line.startswith("|---"):
+            return []
+        return list(zip(self.header, re.split(r"(?<!\\)\|", line.strip()[1:-1])))
+
+    def read_files(self, line):
+        sources = self.sources
+        for found in re.finditer(r"(?<![\w/.@:~$!-])\.?\w[\w.-]*(?:/[\w.*-]+)*/?", line):
+            word = found[0].rstrip(".").rstrip("/")
+            parts = word.split("/")
+            if word in ("proofs", "specs", "src") or "out" in parts:
+                continue
+            if parts[0] in sources.roots and len(parts) > 1:
+                self.tell("files", self.is_file(word), f"there is no file {word}")
+            elif parts[0] in sources.crates and len(parts) > 1 and parts[1] in ("src", "specs", "proofs", "data"):
+                self.tell("files", self.is_file(f"crates/{word}"), f"there is no file {word}")
+            elif parts[0] in ("src", "specs", "proofs") and len(parts) > 1:
+                crates = self.crates_for(line)
+                is_right = any(self.is_file(f"crates/{it}/{word}") for it in crates)
+                where = "" if crates == sources.crates else f" in {', '.join(sorted(crates))}"
+                self.tell("files", is_right, f"there is no file {word}{where}")
+            elif len(parts) == 1 and re.fullmatch(r"[\w-]+\.(?:rt|antt|sh|py|rs|txt|md)", word):
+                self.tell("files", word in sources.bases, f"there is no file {word}")
+
+    def is_file(self, path):
+        sources = self.sources
+        path = "/".join(re.sub(r"^[A-Z]+(?=\.|$)", "*", it) for it in path.split("/"))
+        names = (path, f"{path}.antt", f"{path}.rt")
+        if "*" in path:
+            return any(fnmatch.fnmatch(it, name) for it in sources.files | sources.folders for name in names)
+        return any(it in sources.files or it in sources.folders for it in names)
+
+    def read_names(self, line):
+        sources = self.sources
+        for found in re.finditer(TICKED, line):
+            text = found[1]
+            if re.fullmatch(r"\w+(?:::\w+)+", text):
+                if text.split("::")[0] not in OTHER_ROOTS:
+                    is_right = sources.leads(text, sources.crates)
+                    self.tell("paths of names", is_right, f"`{text}` leads to nothing")
+            elif re.fullmatch(r"[a-z]\w*_\w*|[A-Z][a-z]\w*[A-Z]\w*", text):
+                self.tell("names", sources.is_name(text), f"there is no `{text}`")
+            elif self.name == "docs/PROOFS.md" and re.fullmatch(r"[a-z]\w*(?:-\w+)+", text):
+                self.tell("names", sources.is_name(text), f"there is no `{text}`")
+        for found in re.finditer(r"(?<![\w/.@])(?:gm|gomod)_\w+", line):
+            self.tell("crates", sources.is_declared(found[0]), f"there is no crate {found[0]}")
+        for found in re.finditer(rf"\b(law|test)s? ({LIST})", line):
+            known = sources.laws if found[1] == "law" else sources.tests
+            for name in re.findall(r"`(\w+)`", re.sub(r" \([^()]*\)", "", found[2])):
+                self.tell(f"{found[1]}s", name in known, f"there is no {found[1]} `{name}`")
+
+    def read_clauses(self, line):
+        crates = self.crates_for(line)
+        form = rf"{CALL}(?: \([^()]*\))?,? \(?(?:and )?clauses? ({LIST})(?! of `)"
+        forms = [(it[1], it[2]) for it in re.finditer(form, line)]
+        forms += [(it[2], it[1]) for it in re.finditer(rf"clauses? ({LIST}) of {CALL}", line)]
+        forms += [(it[2], it[1]) for name, cell in self.cells(line) if name == "Clause"
+                  for it in re.finditer(rf"({LIST}) of {CALL}", cell)]
+        for call, names in forms:
+            known = self.sources.clauses_of(call, crates)
+            for name in re.findall(r"`(\w+)`", re.sub(r" \([^()]*\)", "", names)):
+                self.tell("clauses", known is not None and name in known, f"`{call}` has no clause `{name}`")
+
+    def read_edits(self, line):
+        sources = self.sources
+        went = bool(self.header) and self.header[0] == "Edit that went"
+        for found in re.finditer(r"(?<![\w/])(\w+)/([a-z]\w*)(?![\w/.])", line):
+            if found[1] in sources.crates and f"crates/{found[0]}" not in sources.folders | sources.files:
+                is_there = (found[1], found[2]) in sources.edits
+                self.tell("edits", is_there != went, f"the edit {found[0]} is {'still' if went else 'not'} there")
+        for found in re.finditer(rf"\bedits? ({LIST})", line):
+            for name in re.findall(r"`(\w+)`", found[1]):
+                if "_" in name:
+                    is_right = any(name == edit for _, edit in sources.edits)
+                    self.tell("edits", is_right, f"there is no edit `{name}`")
+
+    def read_commits(self, line):
+        for found in re.finditer(r"(?<![\w.=-])(?:[0-9a-f]{40}|[0-9a-f]{7,12})(?![\w-])", line):
+            if re.search("[a-f]", found[0]) and re.search("[0-9]", found[0]):
+                if IS_SHALLOW:
+                    self.tally["commits not looked for"][True] += 1
+                else:
+                    is_right = git("merge-base", "--is-ancestor", found[0], "HEAD").returncode == 0
+                    self.tell("commits", is_right, f"there is no commit {found[0]} before this one")
+
+    def read_titles(self, line):
+        known = set().union(*self.sources.titles.values())
+        after = set()
+        for found in re.finditer(r'\b([a-z_]+\.txt), ("[^"]+"(?:(?:, and |, | and )"[^"]+")*)', line):
+            for title in re.findall(r'"([^"]+)"', found[2]):
+                after.add(title)
+                is_right = title in self.sources.titles.get(found[1], ())
+                self.tell("titles of cases", is_right, f'{found[1]} has no case "{title}"')
+        for name, cell in self.cells(line):
+            if re.search(r"\bcase|\bfails\b", name, re.I):
+                for title in re.findall(r'"([^"]+)"', cell):
+                    if title not in after:
+                        self.tell("titles of cases", title in known, f'there is no case "{title}"')
+
+    def read_counts(self, line):
+        names = "|".join(COUNTS)
+        for found in re.finditer(rf"\b[Aa]ll (\d[\d,]*|{'|'.join(NUMBERS)}) ({names})\b", line):
+            number = NUMBERS.index(found[1]) + 1 if found[1] in NUMBERS else int(found[1].replace(",", ""))
+            there = COUNTS[found[2]]
+            self.tell("counts", number == there, f"there are {there:,} {found[2]}, not {found[1]}")
+
+    def read_cell(self, name, cell, line):
+        sources = self.sources
+        if re.search(r"\bCalls?\b|\bLaws?\b|\bClause\b|\bCarried by\b", name) and self.name != "docs/CASES.md":
+            bare = re.sub(r"\([^()]*\)", "", cell) if "Public" not in name else cell
+            for text in re.findall(r"`([a-z]+|[A-Z][a-z]+)`", bare):
+                is_right = text in ("ensures", "requires") or sources.is_declared(text)
+                self.tell("names", is_right, f"there is no `{text}`")
+        if name == "Crate" and re.fullmatch(r" *\w+(?:, \w+)* *", cell):
+            for it in re.findall(r"\w+", cell):
+                self.tell("crates", it in sources.crates, f"there is no crate {it}")
+        if name.startswith("Depends on"):
+            self.read_needs(line)
+        if name == "Public calls" and not cell.strip().startswith("none"):
+            self.read_public(cell, line)
+
+    def read_needs(self, line):
+        """A row of the crates that a crate depends on, beside the line of crates.txt."""
+        cells = dict(self.cells(line))
+        said = set(re.findall(r"\w+", cells[next(it for it in cells if it.startswith("Depends on"))])) - {"none"}
+        for crate in re.findall(r"\w+", cells["Crate"]):
+            needs = {it for row in lines_of("crates.txt") if row.startswith(f"{crate}:") for it in row.split()[1:]}
+            wrong = sorted((needs - {"thiserror"}) ^ said)
+            self.tell("rows of crates", not wrong, f"{crate} and crates.txt differ in {', '.join(wrong)}")
+
+    def read_public(self, cell, line):
+        """A row of public calls, beside what the crate's lib.rt exports."""
+        sources = self.sources
+        crate = dict(self.cells(line))["Crate"].strip()
+        wanted = set()
+        for name in sources.passed_on[crate]:
+            kind = sources.kinds.get((crate, name))
+            if kind == "fn":
+                wanted.add(name)
+            elif kind in ("struct", "enum", "trait") or crate in sources.modules.get(name, ()):
+                wanted |= {f"{name}::{it}" for it in sources.public.get((crate, name), ())}
+        said = set()
+        for head, rest in re.findall(r"`([\w:]+)`(?: \(([^()]*)\))?", cell):
+            said |= {f"{head}::{it}" for it in re.findall(r"`(\w+)`", rest)} if rest else {head}
+        for it in sorted(said | wanted):
+            what = "missing" if it in wanted else "not public"
+            self.tell("public calls", it in said & wanted, f"`{it}` of {crate} is {what} here")
+
+
+class Maps:
+    """The maps of files of a document: in a section on crates, the tables with a column on files."""
+
+    def __init__(self, name, sources, tally):
+        self.name, self.sources, self.tally = name, sources, tally
+        self.sections = {}  # crate: (line of its heading, named files)
+
+    def read(self):
+        document = Document(self.name, self.sources, self.tally)
+        crates, lines = [], lines_of(self.name)
+        for document.number, line in enumerate(lines, 1):
+            if re.match(r"#{2,3} ", line):
+                named = [it for it in re.findall(r"\w+", line.split(":")[0]) if it in self.sources.crates]
+                if named or line.startswith("## "):
+                    crates = named
+                for it in crates:
+                    self.sections.setdefault(it, (document.number, set()))
+            if line.startswith("|") and document.number < len(lines) and lines[document.number].startswith("|---"):
+                document.header = [it.strip() for it in line.strip().strip("|").split(" | ")]
+            elif line.startswith("|"):
+                self.read_row(document, crates, line)
+            else:
+                document.header = []
+        self.compare(document)
+
+    def read_row(self, document, crates, line):
+        for name, cell in document.cells(line):
+            if name not in ("File", "src/", "specs/", "proofs/") or not crates:
+                continue
+            folder = name.rstrip("/") if name != "File" else "src"
+            for word in re.split(r", | and |;", re.sub(r"\([^()]*\)", "", cell)):
+                word = word.strip().strip("`")
+                if not word:
+                    continue
+                if "/" in word:
+                    folder, word = word.split("/", 1)
+                stem = re.sub(r"\.(?:rt|antt)$", "", word)
+                end = "rt" if folder == "src" else "antt"
+                places = [it for it in crates if f"crates/{it}/{folder}/{stem}.{end}" in self.sources.files]
+                message = f"there is no file {folder}/{stem}.{end} in {', '.join(crates)}"
+                document.tell("rows of maps", bool(places), message)
+                for it in places:
+                    self.sections[it][1].add(f"{folder}/{stem}.{end}")
+
+    def compare(self, document):
+        for crate, (number, named) in sorted(self.sections.items(), key=lambda it: it[1][0]):
+            if not named:
+                continue
+            document.number = number
+            for path in sorted(self.sources.files):
+                found = re.fullmatch(rf"crates/{crate}/((?:src/\w+\.rt|specs/\w+\.antt))", path)
+                if found and os.path.basename(path) not in ("lib.rt", "main.rt", "Lib.antt"):
+                    message = f"{found[1]} of {crate} is in no map of its section"
+                    document.tell("rows of maps", found[1] in named, message)
+
+
+IS_SHALLOW = git("rev-parse", "--is-shallow-repository").stdout.strip() == "true"
+SOURCES = Sources()
+COUNTS = SOURCES.counts()
+
+
+def main(*names):
+    tally = collections.defaultdict(lambda: {True: 0, False: 0})
+    for name in names or ["README.md", *sorted(glob.glob("docs/*.md"))]:
+        Document(name, SOURCES, tally).read()
+        if os.path.basename(name) == "CONTRACTS.md":
+            Maps(name, SOURCES, tally).read()
+    for what, counts in tally.items():
+        print(f"{what}: {counts[True]} right, {counts[False]} wrong")
+    return 1 if any(it[False] for it in tally.values()) else 0
+
+
+sys.exit(main(*sys.argv[1:]))
+PYTHON
