@@ -424,7 +424,9 @@ class Maps:
         self.compare(document)
 
     def read_row(self, document, crates, line):
-        for name, cell in document.cells(line):
+        cells = document.cells(line)
+        crates = next((re.findall(r"\w+", cell) for name, cell in cells if name == "Crate"), crates)
+        for name, cell in cells:
             if name not in ("File", "src/", "specs/", "proofs/") or not crates:
                 continue
             folder = name.rstrip("/") if name != "File" else "src"
@@ -440,7 +442,7 @@ class Maps:
                 message = f"there is no file {folder}/{stem}.{end} in {', '.join(crates)}"
                 document.tell("rows of maps", bool(places), message)
                 for it in places:
-                    self.sections[it][1].add(f"{folder}/{stem}.{end}")
+                    self.sections.setdefault(it, (document.number, set()))[1].add(f"{folder}/{stem}.{end}")
 
     def compare(self, document):
         for crate, (number, named) in sorted(self.sections.items(), key=lambda it: it[1][0]):
