@@ -25,16 +25,14 @@ import sys
 
 # Names of the toolchain, of std and of other crates that the documents have.
 ELSEWHERE = set("""
-Abort AllPairs AllocError BTreeMap BTreeSet CowStr IfErr IfNone IfOk IfSome IsErrAnd IsPartitionPoint IsSorted
-IsStrictlySortedBy MatchResult NoneOf OnErr OnOk PartialEq PartialOrd RefCell RT_JOBS Type always_returns_same
-btree_map_get_iff by_true cp_al from_residual fun_ext into_iter is_err_and list_any ordering_then or_else
-partition_point respects_eq rfind_char saturating_add sort_unstable slice_index slice_set split_at_byte split_once
-take_while then_with vec_len index_mut thiserror rotate_left next_gives err_from_is_err_and invariant_loop_file
-get_or_insert get_or_insert_with append_assoc IsValid parts_text count_by sorted_far lists_ties on_total
-not-source searchable_from_sorted of_calls
+Abort AllocError append_assoc btree_map_get_iff BTreeMap BTreeSet by_true count_by CowStr err_from_is_err_and fun_ext
+get_or_insert get_or_insert_with IfOk index_mut into_iter IsErrAnd IsSorted IsStrictlySortedBy IsValid list_any
+lists_ties MatchResult not-source on_total OnErr OnOk or_else ordering_then PartialEq PartialOrd partition_point
+RefCell rfind_char rotate_left RT_JOBS saturating_add searchable_from_sorted slice_index slice_set sort_unstable
+sorted_far split_once take_while then_with thiserror
 """.split())
 # What a path of names may begin with that is none of ours.
-OTHER_ROOTS = set("Env Error Rc String Vec anyhow clap env mem std str A".split())
+OTHER_ROOTS = set("Env Rc String Vec anyhow env mem std str A".split())
 NUMBERS = "one two three four five six seven eight nine ten eleven twelve".split()
 
 TICKED = r"`([^`]+)`"
@@ -67,10 +65,13 @@ class Sources:
         self.items = collections.defaultdict(set)  # name: (crate, module or type)
         self.clauses = collections.defaultdict(set)  # (crate, module or type, function): names
         self.passed_on = collections.defaultdict(set)  # crate: what its lib.rt exports
-        self.tests, self.laws, self.defined, self.mentioned = set(), set(), set(), set()
+        self.tests, self.laws, self.defined = set(), set(), set()
+        self.inner = set()  # names of lemmas, parameters and variables
         self.titles = collections.defaultdict(set)  # file: titles of cases
         self.public = collections.defaultdict(set)  # (crate, module or type): public functions
+        self.of_traits = collections.defaultdict(set)  # (crate, type): functions of traits
         self.kinds = {}  # (crate, item): struct, enum, trait or fn
+        self.version = re.search(r'VERSION: &str = "(.*)"', "\n".join(lines_of("crates/gomod_words/src/help.rt")))[1]
         for path in sorted(self.files):
             crate = path.split("/")[1] if path.startswith("crates/") else ""
             if path.endswith(".rt"):
@@ -115,6 +116,9 @@ class Sources:
                 if called[2] or kind == "trait":
                     for it in within:
                         self.public[crate, it].add(function)
+                if kind == "for":
+                    for it in within:
+                        self.of_traits[crate, it].add(function)
                 if not called[1]:
                     self.kinds[crate, function] = "fn"
                 if is_test:
@@ -135,30 +139,31 @@ class Sources:
             field = re.match(r"    (?:pub(?:\([a-z]+\))? )?(\w+):", line) if kind == "struct" else None
             for it in filter(None, (variant, field)):
                 self.items[it[1]].add((crate, owners[0]))
-            self.mentioned |= set(re.findall(r"(\w+):", line)) | set(re.findall(r"\blet (?:mut )?(\w+)", line))
+            self.inner |= set(re.findall(r"(\w+):", line)) | set(re.findall(r"\blet (?:mut )?(\w+)", line))
 
     def read_definitions(self, path):
         word = r"[^\s:(){},;.]+"
+        names = self.defined if path.split("/")[2] == "specs" else self.inner
         self.defined.add(os.path.basename(path)[:-5])
         for line in lines_of(path):
             if line.startswith("--"):
                 continue
             found = re.match(rf"\s*(?:(?:abbrev|unfoldable|pub|record|data|module|returns)\s+)*((?:{word}\s+)+):", line)
             if found:
-                self.defined |= set(found[1].split())
+                names |= set(found[1].split())
             found = re.match(rf"\s*(?:pub )?(?:record|data|module) ({word})", line)
             if found:
-                self.defined.add(found[1])
+                names.add(found[1])
 
     def is_declared(self, name):
         return (name in self.items or name in self.defined or name in self.crates or name in self.modules
                 or any(name == edit for _, edit in self.edits))
 
-    def is_name(self, name):
-        return self.is_declared(name) or name in self.mentioned or name in ELSEWHERE
+    def is_name(self, name, is_inner):
+        return self.is_declared(name) or name in ELSEWHERE or (is_inner and name in self.inner)
 
-    def leads(self, path, crates):
-        """Whether a path of names, as `Type::function` or `crate::module::function`, leads to something."""
+    def leads(self, path, crates, is_public):
+        """Whether a path of names, as `Type::function` or `crate::module::function`, leads to something (public)."""
         parts = path.split("::")
         if parts[0] in self.crates:
             crates, parts = {parts[0]}, parts[1:]
@@ -166,6 +171,8 @@ class Sources:
             named = {crate for crate, _ in self.items.get(parts[0], ())} | self.modules.get(parts[0], set())
             return bool(named & crates) or any(parts[0] in self.passed_on[it] for it in crates)
         places = {(crate, it) for crate, it in self.items.get(parts[-1], ()) if it == parts[-2]}
+        if is_public and parts[-1][0].islower():
+            places = {it for it in places if parts[-1] in self.public[it] | self.of_traits[it]}
         if not places:
             return bool(crates & self.modules.get(parts[-1], set()) & self.modules.get(parts[-2], set()))
         return any(crate in crates or any(parts[-2] in self.passed_on[it] for it in crates) for crate, _ in places)
@@ -246,6 +253,7 @@ class Document:
         self.read_commits(line)
         self.read_titles(line)
         self.read_counts(line)
+        self.read_others(line)
         for name, cell in self.cells(line):
             self.read_cell(name, cell, line)
 
@@ -283,16 +291,18 @@ class Document:
 
     def read_names(self, line):
         sources = self.sources
+        is_inner = self.name == "docs/PROOFS.md" or "proofs/" in line
         for found in re.finditer(TICKED, line):
             text = found[1]
             if re.fullmatch(r"\w+(?:::\w+)+", text):
                 if text.split("::")[0] not in OTHER_ROOTS:
-                    is_right = sources.leads(text, sources.crates)
+                    is_public = self.name in ("README.md", "docs/LIBRARY.md")
+                    is_right = sources.leads(text, sources.crates, is_public)
                     self.tell("paths of names", is_right, f"`{text}` leads to nothing")
             elif re.fullmatch(r"[a-z]\w*_\w*|[A-Z][a-z]\w*[A-Z]\w*", text):
-                self.tell("names", sources.is_name(text), f"there is no `{text}`")
+                self.tell("names", sources.is_name(text, is_inner), f"there is no `{text}`")
             elif self.name == "docs/PROOFS.md" and re.fullmatch(r"[a-z]\w*(?:-\w+)+", text):
-                self.tell("names", sources.is_name(text), f"there is no `{text}`")
+                self.tell("names", sources.is_name(text, True), f"there is no `{text}`")
         for found in re.finditer(r"(?<![\w/.@])(?:gm|gomod)_\w+", line):
             self.tell("crates", sources.is_declared(found[0]), f"there is no crate {found[0]}")
         for found in re.finditer(rf"\b(law|test)s? ({LIST})", line):
@@ -350,10 +360,22 @@ class Document:
 
     def read_counts(self, line):
         names = "|".join(COUNTS)
-        for found in re.finditer(rf"\b[Aa]ll (\d[\d,]*|{'|'.join(NUMBERS)}) ({names})\b", line):
+        number = rf"(\d[\d,]*|{'|'.join(NUMBERS)}) ({names})"
+        for found in [*re.finditer(rf"\b[Aa]ll {number}\b", line), *re.finditer(rf"\b{number} in all\b", line)]:
             number = NUMBERS.index(found[1]) + 1 if found[1] in NUMBERS else int(found[1].replace(",", ""))
             there = COUNTS[found[2]]
             self.tell("counts", number == there, f"there are {there:,} {found[2]}, not {found[1]}")
+
+    def read_others(self, line):
+        version = self.sources.version
+        for found in re.finditer(r"gomod (\d+\.\d+\.\d+ \([^()]*\))", line):
+            self.tell("versions", found[1] == version, f"gomod --version prints {version}")
+        for found in re.finditer(r"\blogic (?:is )?`?([0-9a-f]{16})\b", line):
+            self.tell("versions", found[1] in version, f"gomod --version has not the logic {found[1]}")
+        for found in re.finditer(r'\b([A-Z]+\.md), "([^"]+)"', line):
+            path = next((it for it in self.sources.files if os.path.basename(it) == found[1]), None)
+            is_right = bool(path) and any(re.fullmatch(rf"#+ {re.escape(found[2])}", it) for it in lines_of(path))
+            self.tell("headings", is_right, f'{found[1]} has no section "{found[2]}"')
 
     def read_cell(self, name, cell, line):
         sources = self.sources
