@@ -478,6 +478,8 @@ class Maps:
                     document.tell("rows of maps", found[1] in named, message)
 
 
+if git("rev-parse", "HEAD").returncode:
+    sys.exit("documents: this is no repository of git, so nothing can be looked up")
 IS_SHALLOW = git("rev-parse", "--is-shallow-repository").stdout.strip() == "true"
 SOURCES = Sources()
 COUNTS = SOURCES.counts()
