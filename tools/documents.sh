@@ -234,7 +234,7 @@ class Document:
                 named = {it for it in re.findall(r"\w+", line.split(":")[0]) if it in self.sources.crates}
                 self.section = named if line.startswith("## ") or named else self.section
             if line.startswith("    "):
-                self.read_files(line)
+                self.read_files(line, True)
                 continue
             if line.startswith("|") and self.number < len(lines) and lines[self.number].startswith("|---"):
                 self.header = []
@@ -262,7 +262,7 @@ class Document:
             return []
         return list(zip(self.header, re.split(r"(?<!\\)\|", line.strip()[1:-1])))
 
-    def read_files(self, line):
+    def read_files(self, line, is_block=False):
         sources = self.sources
         for found in re.finditer(r"(?<![\w/.@:~$!-])\.?\w[\w.-]*(?:/[\w.*-]+)*/?", line):
             word = found[0].rstrip(".").rstrip("/")
@@ -278,7 +278,7 @@ class Document:
                 is_right = any(self.is_file(f"crates/{it}/{word}") for it in crates)
                 where = "" if crates == sources.crates else f" in {', '.join(sorted(crates))}"
                 self.tell("files", is_right, f"there is no file {word}{where}")
-            elif len(parts) == 1 and re.fullmatch(r"[\w-]+\.(?:rt|antt|sh|py|rs|txt|md)", word):
+            elif len(parts) == 1 and not is_block and re.fullmatch(r"[\w-]+\.(?:rt|antt|sh|py|rs|txt|md)", word):
                 self.tell("files", word in sources.bases, f"there is no file {word}")
 
     def is_file(self, path):
@@ -360,8 +360,7 @@ class Document:
 
     def read_counts(self, line):
         names = "|".join(COUNTS)
-        number = rf"(\d[\d,]*|{'|'.join(NUMBERS)}) ({names})"
-        for found in [*re.finditer(rf"\b[Aa]ll {number}\b", line), *re.finditer(rf"\b{number} in all\b", line)]:
+        for found in re.finditer(rf"\b[Aa]ll (\d[\d,]*|{'|'.join(NUMBERS)}) ({names})\b", line):
             number = NUMBERS.index(found[1]) + 1 if found[1] in NUMBERS else int(found[1].replace(",", ""))
             there = COUNTS[found[2]]
             self.tell("counts", number == there, f"there are {there:,} {found[2]}, not {found[1]}")
