@@ -25,11 +25,11 @@ import sys
 
 # Names of the toolchain, of std and of other crates that the documents have.
 ELSEWHERE = set("""
-Abort AllocError append_assoc btree_map_get_iff BTreeMap BTreeSet by_true count_by CowStr err_from_is_err_and fun_ext
-get_or_insert get_or_insert_with IfOk index_mut into_iter IsErrAnd IsSorted IsStrictlySortedBy IsValid list_any
-lists_ties MatchResult not-source on_total OnErr OnOk or_else ordering_then PartialEq PartialOrd partition_point
-RefCell rfind_char rotate_left RT_JOBS saturating_add searchable_from_sorted slice_index slice_set sort_unstable
-sorted_far split_once take_while then_with thiserror
+Abort AllByRecursion AllocError append_assoc btree_map_get_iff BTreeMap BTreeSet by_true count_by CowStr
+err_from_is_err_and fun_ext get_or_insert get_or_insert_with IfOk index_mut into_iter IsErrAnd IsSorted
+IsStrictlySortedBy IsValid length-map list_any lists_ties MatchResult not-source on_total OnErr OnOk or_else
+ordering_then PartialEq PartialOrd partition_point RefCell reserved-name rfind_char rotate_left RT_JOBS saturating_add
+searchable_from_sorted slice_index slice_set sort_unstable sorted_far split_once take_while then_with thiserror
 """.split())
 # What a path of names may begin with that is none of ours.
 OTHER_ROOTS = set("Env Rc String Vec anyhow env mem std str A".split())
