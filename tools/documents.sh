@@ -23,13 +23,11 @@ import re
 import subprocess
 import sys
 
-# Names of the toolchain, of std and of other crates that the documents have.
+# Names of the toolchain and of its crates that documents have and no source imports.
 ELSEWHERE = set("""
-Abort AllByRecursion AllocError append_assoc btree_map_get_iff BTreeMap BTreeSet by_true count_by CowStr
-err_from_is_err_and fun_ext get_or_insert get_or_insert_with IfOk index_mut into_iter IsErrAnd IsSorted
-IsStrictlySortedBy IsValid length-map list_any lists_ties MatchResult not-source on_total OnErr OnOk or_else
-ordering_then PartialEq PartialOrd partition_point RefCell reserved-name rfind_char rotate_left RT_JOBS saturating_add
-searchable_from_sorted slice_index slice_set sort_unstable sorted_far split_once take_while then_with thiserror
+Abort AllocError BTreeSet by_true CowStr get_or_insert get_or_insert_with index_mut into_iter not-source or_else
+PartialEq PartialOrd partition_point RefCell reserved-name rotate_left RT_JOBS saturating_add sort_unstable split_once
+then_with thiserror
 """.split())
 # What a path of names may begin with that is none of ours.
 OTHER_ROOTS = set("Env Rc String Vec anyhow env mem std str A".split())
@@ -67,6 +65,7 @@ class Sources:
         self.passed_on = collections.defaultdict(set)  # crate: what its lib.rt exports
         self.tests, self.laws, self.defined = set(), set(), set()
         self.inner = set()  # names of lemmas, parameters and variables
+        self.imported = set()  # names that src/ and specs/ import, those of the toolchain among them
         self.titles = collections.defaultdict(set)  # file: titles of cases
         self.public = collections.defaultdict(set)  # (crate, module or type): public functions
         self.of_traits = collections.defaultdict(set)  # (crate, type): functions of traits
@@ -74,6 +73,10 @@ class Sources:
         self.version = re.search(r'VERSION: &str = "(.*)"', "\n".join(lines_of("crates/gomod_words/src/help.rt")))[1]
         for path in sorted(self.files):
             crate = path.split("/")[1] if path.startswith("crates/") else ""
+            if path.endswith((".rt", ".antt")):
+                for found in re.finditer(r"(?m)^\s*(?:ghost )?use Rattle[^{\n]*\{([^}]*)\}", "\n".join(lines_of(path))):
+                    names = self.inner if "/proofs/" in path else self.imported
+                    names |= set(re.findall(r"[^\s,]+", found[1]))
             if path.endswith(".rt"):
                 self.read_code(crate, path)
             elif path.endswith(".antt") and crate:
@@ -160,7 +163,7 @@ class Sources:
                 or any(name == edit for _, edit in self.edits))
 
     def is_name(self, name, is_inner):
-        return self.is_declared(name) or name in ELSEWHERE or (is_inner and name in self.inner)
+        return self.is_declared(name) or name in ELSEWHERE | self.imported or (is_inner and name in self.inner)
 
     def leads(self, path, crates, is_public):
         """Whether a path of names, as `Type::function` or `crate::module::function`, leads to something (public)."""
