@@ -167,23 +167,29 @@ drop_changes_no_list operations path file text sums first second edges seen grap
 
 -- ---- `require=`
 
-pub kept_by_upgrade : (p : Pair) (lines : List (Line Placed)) → IsEditOf (SetRequire p) lines → (x : ModuleVersion)
+kept_by_upgrade : (p : Pair) (lines : List (Line Placed)) → IsEditOf (SetRequire p) lines → (x : ModuleVersion)
     → bytes_eq x.0 p.0 ≡ false → Contains (filter_map as_requirement (directives_of lines)) x
     → Contains (filter_map as_requirement (directives_of (edited (SetRequire p) lines))) x
 kept_by_upgrade p lines is x e there =
     required_in (directives_of (edited (SetRequire p) lines)) x
     (still_there p lines is x (required_of (directives_of lines) x there) (λ same. absurd (texts_differ x.0 p.0 e (sym same))))
 
+-- what both main files say but for what they require, and what the second still requires of other paths
+pub after_require : (p : Pair) (first second : Main) → AreSaidBy (SetRequire p) first second → DifferInRequirements first second
+    × ((x : ModuleVersion) → bytes_eq x.0 p.0 ≡ false → Contains first.requirements x → Contains second.requirements x)
+after_require p first second said =
+    let ds : List Directive = directives_of said.lines in
+    let es : List Directive = directives_of (edited (SetRequire p) said.lines) in (
+      said_differ ds es first second (rest_stays p said.lines said.edit) said.first_is said.second_is,
+      λ x e there.
+          subst (λ (m : Main). Contains m.requirements x) said.second_is
+          (kept_by_upgrade p said.lines said.edit x e (subst (λ (m : Main). Contains m.requirements x) (sym said.first_is) there)),
+    )
+
 pub upgrade_lowers_no_row : UpgradeLowersNoRow
 upgrade_lowers_no_row operations path version file text sums first second edges seen graph one next runs alike has shows stands =
     let p : Pair = pair path version in
     let said = said_by operations (SetRequire p) file text first second has runs.first_says runs.second_says in
-    let ds : List Directive = directives_of said.lines in
-    let es : List Directive = directives_of (edited (SetRequire p) said.lines) in
-    let rest = said_differ ds es first second (rest_stays p said.lines said.edit) said.first_is said.second_is in
-    let keeps : (x : ModuleVersion) → bytes_eq x.0 path ≡ false → Contains first.requirements x → Contains second.requirements x =
-    λ x e there.
-    subst (λ (m : Main). Contains m.requirements x) said.second_is
-    (kept_by_upgrade p said.lines said.edit x e (subst (λ (m : Main). Contains m.requirements x) (sym said.first_is) there)) in
+    let (rest, keeps) = after_require p first second said in
     no_row_is_lower file text sums first second edges seen graph one next runs alike shows rest
     (leaves_out first second rest edges path stands keeps)

@@ -15,8 +15,8 @@ use Rattle.gm_graph.specs.Graph.{IsTop}
 use Rattle.gomod_laws.specs.RequirableLaws.{DifferInRequirements}
 use Rattle.gomod_laws.specs.UpgradeLaws.{AreAmong, RequireLaterLowersNoRow}
 use Rattle.gomod_laws.proofs.AdditionsKept.{in_filtered, kept_of, kept_there}
-use Rattle.gomod_laws.proofs.RedundantEdits.{kept_by_upgrade, said_by, said_differ}
-use Rattle.gomod_laws.proofs.RequirableEdits.{required_in, rest_stays, set_there}
+use Rattle.gomod_laws.proofs.RedundantEdits.{after_require, said_by}
+use Rattle.gomod_laws.proofs.RequirableEdits.{required_in, set_there}
 use Rattle.gomod_laws.proofs.UpgradedRows.{later_versions_lower_no_row}
 
 -- The second main file requires a version of the path that is not below those that the first requires, and what else
@@ -46,13 +46,8 @@ pub require_later_lowers_no_row : RequireLaterLowersNoRow
 require_later_lowers_no_row operations path version file text sums first second one next runs has high kept no_less prints_first prints_second =
     let p : Pair = pair path version in
     let said = said_by operations (SetRequire p) file text first second has runs.first_says runs.second_says in
-    let ds : List Directive = directives_of said.lines in
     let es : List Directive = directives_of (edited (SetRequire p) said.lines) in
-    let rest = said_differ ds es first second (rest_stays p said.lines said.edit) said.first_is said.second_is in
-    let keeps : (x : ModuleVersion) → bytes_eq x.0 path ≡ false → Contains first.requirements x → Contains second.requirements x =
-    λ x e there.
-    subst (λ (m : Main). Contains m.requirements x) said.second_is
-    (kept_by_upgrade p said.lines said.edit x e (subst (λ (m : Main). Contains m.requirements x) (sym said.first_is) there)) in
+    let (rest, keeps) = after_require p first second said in
     let there : Contains second.requirements p =
     subst (λ (m : Main). Contains m.requirements p) said.second_is (required_in es p (set_there p said.lines said.edit)) in
     later_versions_lower_no_row file text sums first second one next runs rest
