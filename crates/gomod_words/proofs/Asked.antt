@@ -7,7 +7,7 @@ use Rattle.clap.specs.declared.error.kind.ErrorKind.{ErrorKind}
 use Rattle.clap.specs.declared.error.kind.ErrorKind.TheVariants.{DisplayHelp, DisplayHelpOnMissingArgumentOrSubcommand, DisplayVersion}
 use Rattle.clap.proofs.OnLiterals.{clap_on_literals}
 use Rattle.gomod_words.specs.Laws.{AreUsageError, AskForVersion}
-use Rattle.gomod_words.specs.Usage.{AskFor, IsFaultOf, IsVersionLine, gomod_app, is_line_or_memory}
+use Rattle.gomod_words.specs.Usage.{AskFor, IsReadFault, IsVersionLine, gomod_app, is_line_or_memory}
 use Rattle.gomod_words.specs.declared.usage.Command.{Command}
 use Rattle.gomod_words.specs.declared.usage.Places.{Places}
 use Rattle.gomod_words.specs.declared.usage.UsageFault.{UsageFault}
@@ -36,7 +36,7 @@ only_kind kind one kinds is among = elim (subst (IsAmong kind) is among) [
 no_command : (words : List Text) (kind : ErrorKind) → fault_of gomod_app words ≡ kind ∷ [] → (command : Command) (places : Places) → AskFor words command places → ⊥
 no_command words kind is command places asked = let none : [] ≡ kind ∷ [] = sym asked.taken ∙ is in cc none
 
-version_only : (words : List Text) → fault_of gomod_app words ≡ DisplayVersion ∷ [] → (fault : UsageFault) → IsFaultOf words fault → IsVersionLine fault
+version_only : (words : List Text) → fault_of gomod_app words ≡ DisplayVersion ∷ [] → (fault : UsageFault) → IsReadFault words fault → IsVersionLine fault
 version_only words is NoMemory known = tt
 version_only words is (Help text) known = let same : DisplayHelp ≡ DisplayVersion = only_kind DisplayHelp DisplayVersion _ is known.0 in cc same
 version_only words is (Version text) known = known.2
@@ -45,7 +45,7 @@ version_only words is (Line text) (inr accepted) = let none : [] ≡ DisplayVers
 version_only words is (BadPath text) known = let none : [] ≡ DisplayVersion ∷ [] = sym known.0 ∙ is in cc none
 version_only words is (BadProxy text) known = let none : [] ≡ DisplayVersion ∷ [] = sym known.0 ∙ is in cc none
 
-error_only : (words : List Text) → fault_of gomod_app words ≡ DisplayHelpOnMissingArgumentOrSubcommand ∷ [] → (fault : UsageFault) → IsFaultOf words fault
+error_only : (words : List Text) → fault_of gomod_app words ≡ DisplayHelpOnMissingArgumentOrSubcommand ∷ [] → (fault : UsageFault) → IsReadFault words fault
     → is_line_or_memory fault ≡ true
 error_only words is NoMemory known = refl
 error_only words is (Help text) known =

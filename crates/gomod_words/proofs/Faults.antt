@@ -1,5 +1,5 @@
 -- What is known about the words at each fault.
-use Rattle.std.proofs.Common.{◌≡◌, ◌≢◌, ◌∙◌, List, [], Option, Result, Ok, Err, IfErr, IfOk, true, sym, subst, inl, inr, refl}
+use Rattle.std.proofs.Common.{◌≡◌, ◌≢◌, ◌∙◌, List, [], Option, None, Result, Ok, Err, IfErr, IfOk, true, sym, subst, inl, inr, refl}
 use Rattle.clap.specs.Walk.{Row, Text}
 use Rattle.clap.specs.Simple.{App, HasMatchesOf, is_simple, subcommand_of, subcommand_rows_of}
 use Rattle.clap.specs.Faults.{fault_of, is_simple_and_free}
@@ -10,16 +10,27 @@ use Rattle.clap.specs.declared.error.Error.{Error}
 use Rattle.clap.specs.declared.parser.matches.ArgMatches.{ArgMatches}
 use Rattle.clap.specs.declared.error.kind.ErrorKind.{ErrorKind}
 use Rattle.clap.specs.declared.error.kind.ErrorKind.TheVariants.{DisplayHelp, DisplayVersion, OutOfMemory}
-use Rattle.gomod_words.specs.Usage.{AreRecognized, AreAccepted, AskFor, HasBadPath, HasBadProxy, IsEntriesFault, IsFaultOf, IsMeant, IsParserFault, gomod_app}
+use Rattle.gomod_words.specs.Dashed.{dashed_in}
+use Rattle.gomod_words.specs.Usage.{AreRecognized, AreAccepted, AskFor, HasBadPath, HasBadProxy, IsEntriesFault, IsFaultBy, IsFaultOf, IsMeant, IsParserFault, IsReadFault, gomod_app}
 use Rattle.gomod_words.specs.declared.usage.Command.{Command}
 use Rattle.gomod_words.specs.declared.usage.Places.{Places}
 use Rattle.gomod_words.specs.declared.usage.UsageFault.{UsageFault}
 use Rattle.gomod_words.specs.declared.usage.UsageFault.TheVariants.{NoMemory, Help, Version, Line, BadPath, BadProxy}
 use Rattle.std.specs.String.{string_bytes}
 
+-- if no operation has a dash, a fault of the words as the parser reads them is their fault
+pub read_fault : (words : List Text) (fault : UsageFault) → dashed_in words ≡ None → IsReadFault words fault → IsFaultOf words fault
+read_fault words fault undashed known = subst (λ (o : Option Text). IsFaultBy o words fault) (sym undashed) known
+
+-- the same of a result that may be a fault
+pub read_result : {T : Type 0} (words : List Text) (result : Result T UsageFault) → dashed_in words ≡ None → IfErr result (IsReadFault words)
+    → IfErr result (IsFaultOf words)
+read_result words (Ok value) undashed known = tt
+read_result words (Err fault) undashed known = read_fault words fault undashed known
+
 -- a fault of the entries is a fault of the words
 entries_fault : (words : List Text) (entered : Option (Text × List Row)) (fault : UsageFault) → AreAccepted words
-    → entered ≡ subcommand_of gomod_app words → IsEntriesFault entered fault → IsFaultOf words fault
+    → entered ≡ subcommand_of gomod_app words → IsEntriesFault entered fault → IsReadFault words fault
 entries_fault words entered NoMemory taken same known = tt
 entries_fault words entered (Help text) taken same known = absurd known
 entries_fault words entered (Version text) taken same known = absurd known
@@ -30,16 +41,16 @@ entries_fault words entered (BadProxy text) taken same known =
     let P : Option (Text × List Row) → Type 0 = λ o. HasBadProxy o (string_bytes text) in (taken, subst P same known)
 
 pub entries_result : {T : Type 0} (words : List Text) (entered : Option (Text × List Row)) (result : Result T UsageFault) → AreAccepted words
-    → entered ≡ subcommand_of gomod_app words → IfErr result (IsEntriesFault entered) → IfErr result (IsFaultOf words)
+    → entered ≡ subcommand_of gomod_app words → IfErr result (IsEntriesFault entered) → IfErr result (IsReadFault words)
 entries_result words entered (Ok value) taken same known = tt
 entries_result words entered (Err fault) taken same known = entries_fault words entered fault taken same known
 
 -- the words ask for what the entries mean
-pub entries_read : (words : List Text) (entered : Option (Text × List Row)) (result : Result (Command × Places) UsageFault) → AreAccepted words
+pub entries_read : (words : List Text) (entered : Option (Text × List Row)) (result : Result (Command × Places) UsageFault) → dashed_in words ≡ None → AreAccepted words
     → entered ≡ subcommand_of gomod_app words → IfOk result (λ read. IsMeant entered read.0 read.1) → IfOk result (λ read. AskFor words read.0 read.1)
-entries_read words entered (Ok read) taken same known =
-    let P : Option (Text × List Row) → Type 0 = λ o. IsMeant o read.0 read.1 in record { taken = taken; meant = subst P same known }
-entries_read words entered (Err fault) taken same known = tt
+entries_read words entered (Ok read) undashed taken same known =
+    let P : Option (Text × List Row) → Type 0 = λ o. IsMeant o read.0 read.1 in record { undashed = undashed; taken = taken; meant = subst P same known }
+entries_read words entered (Err fault) undashed taken same known = tt
 
 -- an error whose kind is not that memory ran out has a kind that applies to the words
 kind_among : (words : List Text) (error : Error) → HasKind (fault_of gomod_app words) error → kind_of error ≢ OutOfMemory
@@ -56,7 +67,7 @@ asked_among words error kind kinds asked other =
 
 -- a fault of the parser is a fault of the words
 pub parser_fault : (words : List Text) (error : Error) (fault : UsageFault) → HasKind (fault_of gomod_app words) error
-    → (takes gomod_app words ≡ true → kind_of error ≡ OutOfMemory) → IsParserFault error fault → IsFaultOf words fault
+    → (takes gomod_app words ≡ true → kind_of error ≡ OutOfMemory) → IsParserFault error fault → IsReadFault words fault
 parser_fault words error NoMemory kinds passes known = tt
 parser_fault words error (Help text) kinds passes known =
     (asked_among words error DisplayHelp kinds known (λ e. cc e), λ taken. let memory = passes taken in cc)

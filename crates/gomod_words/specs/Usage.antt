@@ -21,6 +21,7 @@ use Rattle.clap.specs.declared.error.kind.ErrorKind.TheVariants.{DisplayHelp, Di
 use Rattle.gm_name.specs.Path.{IsPath}
 use Rattle.gm_store.specs.Proxies.{folders_in, folders_of, is_folder, marks_in, marks_of}
 use Rattle.gm_store.specs.declared.proxy_list.ProxyList.{ProxyList}
+use Rattle.gomod_words.specs.Dashed.{dashed_in}
 use Rattle.gomod_words.specs.Limits.{limit_of}
 use Rattle.gomod_words.specs.declared.usage.Command.{Command}
 use Rattle.gomod_words.specs.declared.usage.Command.TheVariants.{Versions, Fmt, Edit, Graph, List as Rows, Chain}
@@ -182,9 +183,10 @@ AreRefused words =
 abbrev pub version_line : List ℕ
 version_line = codes "gomod 1.0.0 (Rattle, logic dac8208d650f15bf)\n"
 
--- The words ask for this command with these places: the parser accepts them, and its entries for them have
--- this meaning.
+-- The words ask for this command with these places: they have no operation with a dash in front, the parser accepts
+-- them, and its entries for them have this meaning.
 pub record AskFor (words : List Text) (command : Command) (places : Places) : Type 0 where
+  pub undashed : dashed_in words ≡ None
   pub taken : AreAccepted words
   pub meant : IsMeant (subcommand_of gomod_app words) command places
 
@@ -230,19 +232,45 @@ IsEntriesFault entered (Line text) = ¬ (AreRecognized entered)
 IsEntriesFault entered (BadPath text) = HasBadPath entered (string_bytes text)
 IsEntriesFault entered (BadProxy text) = HasBadProxy entered (string_bytes text)
 
--- What a fault says about the words: help is asked for; or the version is, which is this one; or the parser
--- refuses them for another reason; or it accepts them, but its entries stand for no command, the path is invalid,
--- or the value of `--proxy` is invalid.
-abbrev pub IsFaultOf : List Text → UsageFault → Type 0
-IsFaultOf words NoMemory = Unit {0}
-IsFaultOf words (Help text) = IsAmong DisplayHelp (fault_of gomod_app words) × (takes gomod_app words ≡ true → ⊥)
-IsFaultOf words (Version text) =
+-- What a fault says about words that the parser reads: help is asked for; or the version is, which is this one; or the
+-- parser refuses them for another reason; or it accepts them, but its entries stand for no command, the path is
+-- invalid, or the value of `--proxy` is invalid.
+abbrev pub IsReadFault : List Text → UsageFault → Type 0
+IsReadFault words NoMemory = Unit {0}
+IsReadFault words (Help text) = IsAmong DisplayHelp (fault_of gomod_app words) × (takes gomod_app words ≡ true → ⊥)
+IsReadFault words (Version text) =
     IsAmong DisplayVersion (fault_of gomod_app words) × (takes gomod_app words ≡ true → ⊥)
     × (string_bytes text ≡ version_line)
-IsFaultOf words (Line text) =
+IsReadFault words (Line text) =
     AreRefused words ⊎ (AreAccepted words × ¬ (AreRecognized (subcommand_of gomod_app words)))
-IsFaultOf words (BadPath text) = AreAccepted words × HasBadPath (subcommand_of gomod_app words) (string_bytes text)
-IsFaultOf words (BadProxy text) = AreAccepted words × HasBadProxy (subcommand_of gomod_app words) (string_bytes text)
+IsReadFault words (BadPath text) = AreAccepted words × HasBadPath (subcommand_of gomod_app words) (string_bytes text)
+IsReadFault words (BadProxy text) = AreAccepted words × HasBadProxy (subcommand_of gomod_app words) (string_bytes text)
+
+-- how a usage error reads: what is wrong, the usage line, and how to get help
+abbrev pub usage_text : List ℕ → List ℕ → List ℕ
+usage_text message usage =
+    message ++ codes "\n\nUsage: " ++ usage ++ codes "\n\nFor more information, try '--help'.\n"
+
+-- the fault is this usage error, or memory ran out
+abbrev pub IsLineOf : List ℕ → UsageFault → Type 0
+IsLineOf text NoMemory = Unit {0}
+IsLineOf text (Line line) = string_bytes line ≡ text
+IsLineOf text _ = ⊥
+
+-- the usage error of an operation that was written with a dash in front
+abbrev pub dashed_text : List ℕ → List ℕ
+dashed_text operation =
+    usage_text (codes "error: operations have no dash: " ++ operation) (codes "gomod edit <FILE> <OP>...")
+
+-- what a fault says about words with this operation with a dash in front, or with none
+abbrev pub IsFaultBy : Option Text → List Text → UsageFault → Type 0
+IsFaultBy (Some operation) words fault = IsLineOf (dashed_text operation) fault
+IsFaultBy None words fault = IsReadFault words fault
+
+-- What a fault says about the words: an operation of `edit` has a dash in front; or none has, and the parser reads the
+-- words.
+abbrev pub IsFaultOf : List Text → UsageFault → Type 0
+IsFaultOf words fault = IsFaultBy (dashed_in words) words fault
 
 -- the fault that a parser's error stands for
 abbrev pub IsParserFault : Error → UsageFault → Type 0
@@ -289,17 +317,6 @@ abbrev pub IsVersionLine : UsageFault → Type 0
 IsVersionLine NoMemory = Unit {0}
 IsVersionLine (Version text) = string_bytes text ≡ version_line
 IsVersionLine _ = ⊥
-
--- how a usage error reads: what is wrong, the usage line, and how to get help
-abbrev pub usage_text : List ℕ → List ℕ → List ℕ
-usage_text message usage =
-    message ++ codes "\n\nUsage: " ++ usage ++ codes "\n\nFor more information, try '--help'.\n"
-
--- the fault is this usage error, or memory ran out
-abbrev pub IsLineOf : List ℕ → UsageFault → Type 0
-IsLineOf text NoMemory = Unit {0}
-IsLineOf text (Line line) = string_bytes line ≡ text
-IsLineOf text _ = ⊥
 
 -- a word as it is shown where it is not UTF-8: each byte that prints as itself, and any other by its code, as `\xe9`
 abbrev pub shown_bytes : List ℕ → List ℕ

@@ -12,6 +12,7 @@
 #![tactic(auto)]
 
 mod command;
+mod dashed;
 mod help;
 pub mod laws;
 mod query;

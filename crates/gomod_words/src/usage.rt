@@ -13,6 +13,7 @@ ghost use Rattle.gm_name.specs.Path.{IsPath};
 ghost use Rattle.gomod_words.specs.declared.usage.UsageFault.TheVariants.{NoMemory};
 
 use crate::command::gomod_command;
+use crate::dashed::{dashed, dashed_in};
 use crate::help::{self, EDIT_USAGE, FMT_USAGE, GOMOD_USAGE, TRY_HELP, VERSION, VERSIONS_USAGE};
 use crate::query::{read_chain, read_graph, read_list};
 use clap::ArgMatches;
@@ -107,7 +108,9 @@ impl From<AllocError> for UsageFault {
 ///   it, and the kit that the program is proved with.
 /// - `Line` if the words do not match any command, or a command has too few or too many words. It holds the
 ///   parser's message. It also comes if the value of `--limit` is not one or more ASCII digits that form a
-///   number from 1 to 4,294,967,295. Without a word after the program's name it holds the help.
+///   number from 1 to 4,294,967,295. Without a word after the program's name it holds the help. It comes before
+///   anything else if the first word after `edit` that begins with a dash and is more than that is neither `--` nor
+///   `--help` and does not begin with `-h`: such a word is taken for an operation, which has no dash.
 /// - `BadPath` if all of that is valid, but PATH of `versions` or `chain`, or the value of `--after` of
 ///   `list`, is not a module path. It holds that text.
 /// - `BadProxy` if all of that is valid, but the value of `--proxy` has an empty piece between its `,` and
@@ -121,6 +124,9 @@ pub fn read_words<'a>(alloc: Global, words: &'a [&'a str]) -> Result<(Command, P
     ensures read { IfOk result (λ read. AskFor (map (λ word. word.now) words.entry.now) read.0 read.1) }
     ensures fault { IfErr result (IsFaultOf (map (λ word. word.now) words.entry.now)) }
 {
+    if let Some(operation) = dashed_in(words) {
+        return Err(dashed(alloc, operation));
+    }
     let command = gomod_command(alloc)?;
     match command.try_get_matches_from(words) {
         Ok(matches) => read_matches(alloc, &matches),
