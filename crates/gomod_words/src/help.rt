@@ -4,7 +4,7 @@
 //! The lines of help are at most 100 characters wide.
 
 /// The version of the program, and the kit that it is proved with.
-pub(crate) const VERSION: &str = "1.0.0 (Rattle, logic dac8208d650f15bf)";
+pub(crate) const VERSION: &str = "1.1.0 (Rattle, logic dac8208d650f15bf)";
 
 /// The usage line of the program.
 pub(crate) const GOMOD_USAGE: &str = "gomod <COMMAND>";
@@ -101,7 +101,8 @@ module is printed as its path, any other as PATH@VERSION.
 
 The go.mod files of other modules are read from the proxy folders, or from the folders that
 replace directives name. A cache that only go build filled may lack some of them. They are then
-Missing, and 'go mod graph' in the folder of the main module adds them to the cache.";
+Missing, and 'go mod download' in the folder of the main module adds them to the cache, and their
+hashes to its go.sum.";
 
 /// The long text about `list`.
 pub(crate) const LIST_ABOUT: &str = "\
@@ -111,7 +112,8 @@ a module is replaced, ' => ' and its replacement follow.
 
 The go.mod files of other modules are read from the proxy folders, or from the folders that
 replace directives name. A cache that only go build filled may lack some of them. They are then
-Missing, and 'go mod graph' in the folder of the main module adds them to the cache.";
+Missing, and 'go mod download' in the folder of the main module adds them to the cache, and their
+hashes to its go.sum.";
 
 /// The long text about `chain`.
 pub(crate) const CHAIN_ABOUT: &str = "\
@@ -122,7 +124,8 @@ them has two lines. It is not the chain of imports that go mod why prints.
 
 The go.mod files of other modules are read from the proxy folders, or from the folders that
 replace directives name. A cache that only go build filled may lack some of them. They are then
-Missing, and 'go mod graph' in the folder of the main module adds them to the cache.";
+Missing, and 'go mod download' in the folder of the main module adds them to the cache, and their
+hashes to its go.sum.";
 
 /// The long text about `versions`.
 pub(crate) const VERSIONS_ABOUT: &str = "\
