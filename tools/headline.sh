@@ -1,0 +1,385 @@
+#!/usr/bin/env bash
+# Keeps the pages that show what `gomod list` is proved to print in step with the definitions and with docs/SPEC.md.
+#
+#   tools/headline.sh          writes the shown definitions into the pages anew: HEADLINE, REPORTS, BYTES, DIRECTIVES
+#   tools/headline.sh --check  changes nothing, and tells which page is out of step
+#   tools/headline.sh --names  lists the names that stand in two files of specs/, and the private types reached
+#
+# Between the marks `<!-- show .. -->` and `<!-- end -->` of a page stands what the sources say, and it is written anew:
+#
+#   show FILE: NAME..           these definitions of a file below crates/, with their comments
+#   show contract FILE F: C..   these clauses of the function F in a source
+#   show worlds                 which functions of gomod_laws/src/example_world.rt try which definition
+#   show names                  each name that the page uses and doesn't define, and its file
+#
+# All other text of a page is written by hand. A quote (a line that begins with `>`) must stand in docs/SPEC.md word by
+# word. The same definition stands on one page only.
+#
+# The last lines count what one reads to believe a clause of `gomod_run::run`: a definition is reached if a name of it
+# stands in the clause or in a definition that is reached, and it has as many lines as are neither empty nor a comment.
+#
+# The status of --check is 1 if a page is out of step. .ci/run runs it before the merge gate. It needs python3.
+set -euo pipefail
+cd "$(dirname "$0")/.."
+# shellcheck source=tools/lib.sh
+. tools/lib.sh
+help_if_asked tools/headline.sh "$@"
+case $#:${1-} in
+  0: | 1:--check | 1:--names) ;;
+  *) refuse_arguments tools/headline.sh "it takes --check, --names or nothing" ;;
+esac
+exec python3 - "$@" << 'PYTHON'
+import functools
+import pathlib
+import re
+import sys
+from collections import defaultdict
+
+CRATES = pathlib.Path("crates")
+PAGES = [pathlib.Path("docs") / name for name in ("HEADLINE.md", "REPORTS.md", "BYTES.md", "DIRECTIVES.md")]
+RUNNING = "gomod_run/src/running.rt"
+LIST = [("Rattle.gm_graph_listing.specs.Outcomes", "IsListOutcome"), ("Rattle.gomod_run.specs.Written", "EndsAsStated")]
+HEAD = re.compile(r"(?:(?:abbrev|unfoldable|opaque)\s+)?(?:pub\s+)?(?:(record|data)\s+)?([^\s:({]+)")
+NAME = re.compile(r"(?<![\w.'])(?:([A-Za-z_]\w*)\.)?([A-Za-z_][\w'-]*)")
+SHOWN = re.compile(r"(?ms)^<!-- show ([^\n]*?) -->\n(.*?)^<!-- end -->$")
+
+
+def without_comments(text):
+    return re.sub(r"(?m)--.*$|//.*$", "", text)
+
+
+class Definition:
+    """A definition of a file in specs/: its comment, its text, and the names that it brings."""
+
+    def __init__(self, file, name, kind, comment, text, is_public):
+        self.file, self.name, self.kind = file, name, kind
+        self.comment, self.text, self.is_public = comment, text, is_public
+        self.code = without_comments(text)
+        self.constructors = set(re.findall(r"(?m)^  ([A-Za-z_]\w*) :", self.code)) if kind == "data" else set()
+
+    def lines(self):
+        return sum(bool(line.strip()) for line in self.code.split("\n"))
+
+
+class Scope:
+    """What the names of a file mean: a name, or a name of a module with a short name, to a place (module, name)."""
+
+    def __init__(self, text):
+        self.names, self.modules = {}, {}
+        for path, listed, short in re.findall(r"(?m)^(?:ghost )?use ([\w.]+?)(?:\.\{([^}]*)\}|\s+as (\w+));?$", text):
+            if short:
+                self.modules[short] = path
+            for one in listed.split(","):
+                name, _, other = one.strip().partition(" as ")
+                self.names[other or name] = (path, name)
+
+
+def read(file):
+    """The definitions of a file, in order, and its scope."""
+    text = (CRATES / file).read_text()
+    lines, found = text.split("\n"), {}
+    starts = [at for at, line in enumerate(lines) if re.match(r"[^\s}-]", line) and not line.startswith("use ")]
+    at, last = 0, -1
+    for at in starts:
+        if at <= last:
+            continue
+        last = at
+        while last + 1 < len(lines) and not ends_at(lines, last + 1):
+            last += 1
+        first = at
+        while first > 0 and lines[first - 1].startswith("--"):
+            first -= 1
+        head = HEAD.match(lines[at])
+        is_public = bool(re.match(r"(?:\w+ )?pub ", lines[at]))
+        comment, body = "\n".join(lines[first:at]), "\n".join(lines[at:last + 1])
+        found[head[2]] = Definition(file, head[2], head[1], comment, body, is_public)
+    return found, Scope(text)
+
+
+def ends_at(lines, at):
+    """Whether a definition ends before this line: it is empty, and what follows is not indented."""
+    if lines[at].strip():
+        return False
+    rest = [line for line in lines[at:] if line.strip()]
+    return not rest or not rest[0].startswith(" ")
+
+
+FILES = {}
+for path in sorted(CRATES.glob("*/specs/*.antt")):
+    if path.name != "Lib.antt":
+        file = str(path.relative_to(CRATES))
+        FILES[file] = read(file)
+
+
+class Leaf:
+    """A name that no file in specs/ defines: one of the standard library, of another package, or a type of the code."""
+
+    def __init__(self, name, source):
+        self.name, self.source = name, source
+
+
+@functools.cache
+def leaf(name, source):
+    return Leaf(name, source)
+
+
+def place(path, name):
+    """The definition of a name in a module, or the leaf that it is."""
+    parts = path.split(".")
+    if parts[0] != "Rattle" or not (CRATES / parts[1]).is_dir():
+        package = parts[1] if parts[0] == "Rattle" else parts[0]
+        return leaf(name, "the standard library" if package == "std" else f"the package {package}")
+    if parts[3] == "declared":
+        names = [it for it in parts[4:] if it != "TheVariants"]
+        of = f" of `{names[-1]}`" if parts[-1] == "TheVariants" else ""
+        return leaf(name, f"`crates/{parts[1]}/src/{'/'.join(names[:-1])}.rt`{of}")
+    file = f"{parts[1]}/specs/{'/'.join(parts[3:])}.antt"
+    if file not in FILES:
+        return leaf(name, f"`crates/{parts[1]}/{'/'.join(parts[2:])}.antt`")
+    for one in FILES[file][0].values():
+        if name == one.name or name in one.constructors:
+            return one
+    sys.exit(f"headline: {file} has no {name}")
+
+
+def bound_in(text, scope, own):
+    """The variables and fields of a definition."""
+    bound = set()
+    for group in re.findall(r"[({]((?:[a-z_]\w*'?\s+)*[a-z_]\w*'?) :(?! Type 0 where)", text):
+        bound.update(group.split())
+    for group in re.findall(r"λ ([^.]*)\.", text):
+        bound.update(re.findall(r"[a-z_]\w*'?", group.split(":")[0]))
+    bound.update(re.findall(r"(?m)^  pub ([a-z_]\w*) :", text))
+    bound.update(re.findall(r"\blet ([a-z_]\w*)", text))
+    bound.update(re.findall(r"[{;]\s*([a-z_]\w*) =(?!=)", text))
+    bound.update(re.findall(r"(?m)^  ([a-z_]\w*) = .*;$", text))
+    for left in re.findall(r"(?m)^[a-z_A-Z]\w*'? ([^=\n]*?) =(?!=)", text):
+        for name in re.findall(r"(?<![\w.])[a-z_]\w*'?", left):
+            target = place(*scope.names[name]) if name in scope.names else None
+            is_pattern = name in own or (target and isinstance(target, Definition) and name in target.constructors)
+            if not is_pattern:
+                bound.add(name)
+    return bound
+
+
+def used_in(text, scope, definitions, bound=frozenset()):
+    """What the names in a text mean: pairs of the name as it is written and a definition or a leaf."""
+    own = {name: one for one in definitions.values() for name in one.constructors | {one.name}}
+    text = re.sub(r"\"[^\"]*\"", "", without_comments(text))
+    bound = bound | bound_in(text, scope, {it for one in definitions.values() for it in one.constructors})
+    seen = {}
+    for module, name in NAME.findall(text):
+        if module in scope.modules:
+            seen[f"{module}.{name}"] = place(scope.modules[module], name)
+            continue
+        name = module or name
+        if name in bound:
+            continue
+        if name in own:
+            seen[name] = own[name]
+        elif name in scope.names:
+            seen[name] = place(*scope.names[name])
+    return seen
+
+
+def used_by(one):
+    definitions, scope = FILES[one.file]
+    return used_in(one.text, scope, definitions)
+
+
+def reached_from(found):
+    """All definitions that these names reach, and the leaves."""
+    reached, leaves, left = {}, {}, list(found)
+    while left:
+        one = left.pop()
+        if isinstance(one, Leaf):
+            leaves[one.source, one.name] = one
+        elif (one.file, one.name) not in reached:
+            reached[one.file, one.name] = one
+            left.extend(used_by(one).values())
+    return reached, leaves
+
+
+# ---- contracts
+
+
+def clauses_of(file, function):
+    """The clauses of the first function of this name in a source: name to its text, with the comments before it."""
+    lines = (CRATES / file).read_text().split("\n")
+    at = next(at for at, line in enumerate(lines) if re.search(rf"\bfn {function}\b", line))
+    clauses, comment, text, name = {}, [], [], None
+    for line in lines[at + 1:]:
+        head = re.match(r"    (?:requires|ensures) (?:(\w+) )?\{", line)
+        if head or line.startswith("{") or line.startswith("    //"):
+            if name:
+                clauses[name], text, name = "\n".join(text), [], None
+        if line.startswith("{"):
+            break
+        if line.startswith("    //"):
+            comment.append(line[4:])
+        elif head:
+            name, text, comment = head[1] or "", [*comment, line[4:]], []
+        elif name is not None:
+            text.append(line[4:])
+    return clauses
+
+
+# ---- pages
+
+
+def code(text):
+    return f"```\n{text}\n```\n"
+
+
+def shown(file, names):
+    """The definitions, and their text as the page shows it."""
+    definitions = FILES[file][0]
+    missing = [name for name in names if name not in definitions]
+    if missing:
+        sys.exit(f"headline: {file} has no {' '.join(missing)}")
+    found = [definitions[name] for name in names]
+    texts = [f"{one.comment}\n{one.text}".strip() for one in found]
+    return found, f"[{file}](../crates/{file}):\n" + code("\n\n".join(texts))
+
+
+def worlds():
+    """Which functions try which definition: the documentation of each says it in backquotes."""
+    file = "gomod_laws/src/example_world.rt"
+    text, rows = (CRATES / file).read_text(), []
+    for comment, name in re.findall(r"((?:^///.*\n)+)(?:^#\[.*\n)*^pub fn (\w+)", text, re.M):
+        rows.append((name, " ".join(it[3:].strip() for it in comment.strip().split("\n"))))
+    return f"[{file}](../crates/{file}):\n\n" + "".join(f"- `{name}`: {what}\n" for name, what in rows)
+
+
+class Page:
+    def __init__(self, path):
+        self.path, self.text = path, path.read_text()
+        self.defined, self.uses = {}, set()
+        for order, _ in SHOWN.findall(self.text):
+            if order in ("names", "worlds"):
+                continue
+            file, names = order.removeprefix("contract ").split(":")
+            if order.startswith("contract "):
+                file, function = file.split()
+                clauses = clauses_of(file, function)
+                scope = Scope((CRATES / file).read_text())
+                for name in names.split():
+                    self.uses.update(used_in(clauses[name], scope, {}).items())
+                continue
+            for one in shown(file, names.split())[0]:
+                self.defined[one.file, one.name] = one
+                self.uses.update(used_by(one).items())
+
+    def quotes(self):
+        for group in re.findall(r"(?m)(?:^>.*\n)+", self.text):
+            yield " ".join(group.replace("\n>", "\n").removeprefix(">").split())
+
+    def names(self, others):
+        """The names that the page uses and doesn't define."""
+        groups, renamed = defaultdict(set), set()
+        for name, one in self.uses:
+            short = name.split(".")[-1]
+            if short != one.name and not (isinstance(one, Definition) and short in one.constructors):
+                renamed.add((name, one))
+            if isinstance(one, Leaf):
+                groups[one.source].add(one.name)
+            elif (one.file, one.name) not in self.defined:
+                page = next((it for it in others if (one.file, one.name) in it.defined), None)
+                where = f"[{page.path.name}]({page.path.name})" if page else f"`crates/{one.file}`"
+                groups[where].add(one.name)
+        rows = [f"- {where}: {', '.join(f'`{name}`' for name in sorted(names))}\n"
+                for where, names in sorted(groups.items())]
+        for name, one in sorted(renamed, key=lambda it: it[0]):
+            rows.append(f"- Written `{name}` here: `{one.name}` of "
+                        + (one.source if isinstance(one, Leaf) else f"`crates/{one.file}`") + "\n")
+        return "".join(rows)
+
+    def renewed(self, others):
+        def renew(found):
+            order = found[1]
+            if order == "names":
+                body = self.names(others)
+            elif order == "worlds":
+                body = worlds()
+            elif order.startswith("contract "):
+                (file, function), names = order.split(":")[0].split()[1:], order.split(":")[1].split()
+                clauses = clauses_of(file, function)
+                body = f"[{file}](../crates/{file}), `{function}`:\n" + code("\n".join(clauses[it] for it in names))
+            else:
+                file, names = order.split(":")
+                body = shown(file, names.split())[1]
+            return f"<!-- show {order} -->\n{body}<!-- end -->"
+
+        return SHOWN.sub(renew, self.text)
+
+
+def duplicates():
+    """Public names that stand in two files of specs/."""
+    files = defaultdict(set)
+    for file, (definitions, _) in FILES.items():
+        for one in definitions.values():
+            if one.is_public:
+                files[one.name].add(file)
+    return {name: sorted(it) for name, it in files.items() if len(it) > 1}
+
+
+def is_private(leaf):
+    """Whether the code doesn't make a type public: it is declared without `pub`, or only for its crate."""
+    found = re.match(r"`(crates/\w+/src/.*\.rt)`$", leaf.source)
+    if not found or not pathlib.Path(found[1]).exists():
+        return False
+    text = pathlib.Path(found[1]).read_text()
+    declared = re.search(rf"(?m)^(pub(?:\([a-z]+\))? )?(?:struct|enum|type) {leaf.name}\b", text)
+    return bool(declared) and declared[1] != "pub "
+
+
+def counts(option):
+    clauses = clauses_of(RUNNING, "run")
+    scope = Scope((CRATES / RUNNING).read_text())
+    ends = list(used_in(clauses["ends"], scope, {}).values())
+    every = [it for clause in clauses.values() for it in used_in(clause, scope, {}).values()]
+    for title, found in (("`list`", [place(*it) for it in LIST]), ("clause `ends`", ends), ("all clauses", every)):
+        reached, leaves = reached_from(found)
+        private = sorted(f"{it.source.strip('`')}: {it.name}" for it in leaves.values() if is_private(it))
+        size, files = sum(it.lines() for it in reached.values()), {it.file for it in reached.values()}
+        print(f"gomod_run::run, {title}: {len(reached)} definitions, {size} lines, in {len(files)} files;"
+              f" {len(private)} private types of the code")
+        if option == "--names":
+            print("".join(f"  {it}\n" for it in private), end="")
+    found = duplicates()
+    print(f"{len(found)} names stand in two files of specs/")
+    if option == "--names":
+        for name, files in sorted(found.items()):
+            print(f"  {name}: {' '.join(files)}")
+
+
+def main():
+    option, wrong = (sys.argv[1:] or [""])[0], 0
+    pages = [Page(path) for path in PAGES if path.exists()]
+    spec = " ".join(pathlib.Path("docs/SPEC.md").read_text().split())
+    seen = {}
+    for page in pages:
+        for at in page.defined:
+            if at in seen:
+                print(f"{page.path}: {' '.join(at)} stands on {seen[at]}, too")
+                wrong += 1
+            seen[at] = page.path
+        for quote in page.quotes():
+            if quote not in spec:
+                print(f"{page.path}: docs/SPEC.md does not say: {quote}")
+                wrong += 1
+    for page in pages:
+        new = page.renewed([it for it in pages if it is not page])
+        if new != page.text and option == "--check":
+            print(f"{page.path}: it is not what the sources say: tools/headline.sh writes it anew")
+            wrong += 1
+        elif new != page.text and not option:
+            page.path.write_text(new)
+        size = sum(it.lines() for it in page.defined.values())
+        print(f"{page.path}: {len(page.defined)} definitions, {size} lines")
+    counts(option)
+    sys.exit(1 if wrong else 0)
+
+
+main()
+PYTHON
