@@ -91,13 +91,13 @@ one_zero_is_below = below one_zero one_one (decided one_zero one_one (1, 0, 0, [
 pub same_precedence : precedence (parts_in one_zero) (parts_in one_zero) ≡ Equal
 same_precedence = decided one_zero one_zero (1, 0, 0, [], []) (1, 0, 0, [], []) one_zero_parts one_zero_parts ∙ refl
 
-first_byte : (a b : ℕ) (x y : List ℕ) → a ∷ x ≡ b ∷ y → a ≡ b
+pub first_byte : (a b : ℕ) (x y : List ℕ) → a ∷ x ≡ b ∷ y → a ≡ b
 first_byte a b x y e = cc e
 
 pub versions_differ : one_zero ≡ one_one → ⊥
 versions_differ e = let digit : 48 ≡ 49 = first_byte 48 49 _ _ (ap (drop 3) e) in omega (arith, digit)
 
-not_above_itself : (o : Ordering) → o ≡ ordering_reverse o → is_gt o ≡ false
+pub not_above_itself : (o : Ordering) → o ≡ ordering_reverse o → is_gt o ≡ false
 not_above_itself Less e = refl
 not_above_itself Equal e = refl
 not_above_itself Greater e = cc e

@@ -1,0 +1,172 @@
+-- A small world of modules, on which the definitions of a run's outcome are tried. The main module m is pruned and
+-- requires top.org and mid.org at v1.0.0. It excludes low.org at v1.1.0, and replaces mid.org at v1.1.0 by a folder.
+use Rattle.std.specs.Prelude.{◌≡◌, ◌↔◌, ℕ, Bool, true, false, if◌then◌else◌, List, [], ◌∷◌, Option, Some, None, Result, Ok, Err, Contains, codes}
+use Rattle.gm_file.specs.Directives.{Folder, left_with, replacing}
+use Rattle.gm_file.specs.Fields.{Dependency}
+use Rattle.gm_store.specs.Asked.{Name, Reply, mod_file, folder_file, absent, same_name}
+use Rattle.gm_graph_cache.specs.Main.{Main, ModuleVersion, is_pruned_by}
+use Rattle.gm_graph_cache.specs.Reading.{Held, Readings, Tells, file_of, is_askable, is_unpruned, readings_by, vertex_fault, vertex_requirements}
+use Rattle.gm_graph_cache.specs.declared.class.Class.{Class}
+use Rattle.gm_graph_cache.specs.declared.class.Class.TheVariants.{Missing, NotFetchable, WrongPath}
+use Rattle.gm_graph_select.specs.declared.step.Step.TheVariants.{Main as FromMain, Of}
+use Rattle.gm_graph_select.specs.declared.step.Edge.{Edge}
+use Rattle.gm_graph_select.specs.BuildList.{Entry, main_entry}
+use Rattle.gm_graph_select.specs.Graph.{edge}
+use Rattle.gm_graph.specs.Graph.{IsDeep, IsEdge, IsOpened, IsTop}
+use Rattle.gm_graph.specs.Outcome.{AreEdges, AreFaults}
+use Rattle.gm_graph.specs.declared.fault.Fault.{Fault}
+use Rattle.gm_graph_listing.specs.Outcomes.{AreRows, Outcome, PrintsList, printed, refused}
+use Rattle.gm_graph_listing.specs.Reports.{faults_text}
+
+-- ---- the world
+
+abbrev pub top_one : ModuleVersion
+top_one = (codes "top.org", codes "v1.0.0")
+
+abbrev pub mid_one : ModuleVersion
+mid_one = (codes "mid.org", codes "v1.0.0")
+
+abbrev pub mid_two : ModuleVersion
+mid_two = (codes "mid.org", codes "v1.1.0")
+
+abbrev pub low_one : ModuleVersion
+low_one = (codes "low.org", codes "v1.0.0")
+
+abbrev pub low_two : ModuleVersion
+low_two = (codes "low.org", codes "v1.1.0")
+
+-- what the main file says
+abbrev pub world : Main
+world = record {
+  path = codes "m";
+  go = (1, 17);
+  requirements = top_one ∷ mid_one ∷ [];
+  excludes = low_two ∷ [];
+  replaces = replacing (left_with (codes "mid.org") (codes "v1.1.0")) (Folder (codes "./mid")) ∷ [];
+}
+
+-- a file with these contents that retracts nothing
+abbrev pub saying : Option (List ℕ) → ℕ × ℕ → List ModuleVersion → Dependency
+saying declared go requirements = record { declared = declared; go = go; requirements = requirements; retracts = [] }
+
+-- top.org is unpruned, and requires a later mid.org and an excluded low.org
+abbrev pub top_file : Dependency
+top_file = saying (Some (codes "top.org")) (1, 16) (mid_two ∷ low_two ∷ [])
+
+-- mid.org is pruned, and requires low.org
+abbrev pub mid_file : Dependency
+mid_file = saying (Some (codes "mid.org")) (1, 17) (low_one ∷ [])
+
+-- the folder declares no path, and requires nothing
+abbrev pub folder_says : Dependency
+folder_says = saying None (1, 17) []
+
+-- what is held of the files, where this is held of the folder's
+abbrev pub held_with : Result Dependency Class → Held
+held_with folder name =
+    if same_name name (mod_file (codes "top.org") (codes "v1.0.0")) then Some (Ok top_file)
+    else (if same_name name (mod_file (codes "mid.org") (codes "v1.0.0")) then Some (Ok mid_file)
+    else (if same_name name (folder_file (codes "./mid")) then Some folder else None))
+
+-- what each module's file says, where the folder's go.mod is there
+abbrev pub all_there : Readings
+all_there = readings_by world (held_with (Ok folder_says))
+
+-- and where it is missing
+abbrev pub one_missing : Readings
+one_missing = readings_by world (held_with (Err Missing))
+
+-- ---- what the definitions say of it
+
+-- The replaced version's file is the folder's. Any other version's is its own, which is asked for if the path can be
+-- fetched.
+pub record FilesHaveNames : Type 0 where
+  pub own : file_of world mid_one ≡ mod_file (codes "mid.org") (codes "v1.0.0")
+  pub replaced : file_of world mid_two ≡ folder_file (codes "./mid")
+  pub askable : is_askable (file_of world mid_one) ≡ true
+  pub folder_askable : is_askable (file_of world mid_two) ≡ true
+  pub not_askable : is_askable (mod_file (codes "m") (codes "v1.0.0")) ≡ false
+
+-- The store's answers, one of them that there is no such file, tell what is held.
+abbrev pub held_of_absent : Held
+held_of_absent name = if same_name name (folder_file (codes "./mid")) then Some (Err Missing) else None
+
+abbrev pub AnswersTell : Type 0
+AnswersTell = Tells None ((folder_file (codes "./mid"), absent) ∷ []) held_of_absent
+
+-- A folder may declare no path, and another file its own alone; what can't be fetched is not fetchable, whatever is
+-- held. What isn't held has no fault.
+pub record FaultsAreClassed : Type 0 where
+  pub folder : vertex_fault all_there mid_two ≡ None
+  pub missing : vertex_fault one_missing mid_two ≡ Some Missing
+  pub own : vertex_fault all_there top_one ≡ None
+  pub wrong : vertex_fault (readings_by world (λ name. Some (Ok top_file))) mid_one ≡ Some WrongPath
+  pub unfetchable : vertex_fault all_there (codes "m", codes "v1.0.0") ≡ Some NotFetchable
+  pub unknown : vertex_fault all_there low_one ≡ None
+
+-- The excluded version is no requirement; a module with a fault, or of which nothing is held, has none.
+pub record RequirementsAreLeft : Type 0 where
+  pub top : vertex_requirements world all_there top_one ≡ mid_two ∷ []
+  pub mid : vertex_requirements world all_there mid_one ≡ low_one ∷ []
+  pub folder : vertex_requirements world all_there mid_two ≡ []
+  pub faulty : vertex_requirements world one_missing mid_two ≡ []
+  pub unknown : vertex_requirements world all_there low_one ≡ []
+
+-- Go 1.17 and later is pruned, 1.16 is not. A module is unpruned if its file says so.
+pub record PrunedFrom17 : Type 0 where
+  pub before : is_pruned_by (1, 16) ≡ false
+  pub from : is_pruned_by (1, 17) ≡ true
+  pub later : is_pruned_by (2, 0) ≡ true
+  pub top : is_unpruned all_there top_one ≡ true
+  pub mid : is_unpruned all_there mid_one ≡ false
+  pub faulty : is_unpruned one_missing mid_two ≡ false
+
+abbrev pub opened_three : List ModuleVersion
+opened_three = top_one ∷ mid_one ∷ mid_two ∷ []
+
+-- Opened are the two that the main file requires and the one below the unpruned file; low.org, below the pruned file,
+-- is not.
+pub record ThreeAreOpened : Type 0 where
+  pub each : (x : ModuleVersion) → IsOpened world all_there x ↔ Contains opened_three x
+  pub not_low : ¬ (IsOpened world all_there low_one)
+  pub not_top : ¬ (IsTop world mid_two)
+  pub not_deep : ¬ (IsDeep world all_there mid_one)
+
+abbrev pub edges : List Edge
+edges = edge FromMain mid_one ∷ edge FromMain top_one ∷ edge (Of mid_one) low_one ∷ edge (Of top_one) mid_two ∷ []
+
+-- An edge leads to low.org, though it isn't opened, and none to the excluded version.
+pub record FourEdgesLead : Type 0 where
+  pub are : AreEdges world all_there edges
+  pub not_main : ¬ (IsEdge world all_there FromMain low_one)
+  pub not_excluded : ¬ (IsEdge world all_there (Of top_one) low_two)
+
+abbrev pub rows : List Entry
+rows = main_entry ∷ (Of low_one, None) ∷ (Of mid_two, Some (Folder (codes "./mid"))) ∷ (Of top_one, None) ∷ []
+
+-- The main module, then the others in path order, the later mid.org with its folder. No other list is the build list.
+pub record RowsAreFour : Type 0 where
+  pub are : AreRows world all_there rows
+  pub only : (others : List Entry) → AreRows world all_there others → others ≡ rows
+
+-- The text of the list, of its first two rows, and of what follows mid.org; a path that has no row is reported.
+pub record ListIsPrinted : Type 0 where
+  pub whole : PrintsList None None world all_there
+      (printed (codes "m\nlow.org v1.0.0\nmid.org v1.1.0 => ./mid\ntop.org v1.0.0\n"))
+  pub limited : PrintsList None (Some 2) world all_there (printed (codes "m\nlow.org v1.0.0\n"))
+  pub after : PrintsList (Some (codes "mid.org")) None world all_there (printed (codes "top.org v1.0.0\n"))
+  pub unlisted : PrintsList (Some (codes "b.org")) None world all_there (refused (codes "b.org: NotListed\n"))
+
+-- Nothing else is printed.
+abbrev pub OnlyListIsPrinted : Type 0
+OnlyListIsPrinted = (outcome : Outcome) → PrintsList None None world all_there outcome
+    → outcome ≡ printed (codes "m\nlow.org v1.0.0\nmid.org v1.1.0 => ./mid\ntop.org v1.0.0\n")
+
+abbrev pub fault_of_mid : Fault
+fault_of_mid = record { vertex = mid_two; class = Missing }
+
+-- No module has a fault, unless the folder's go.mod is missing: then mid.org at v1.1.0 has, and that is the report.
+pub record OneFaultIsReported : Type 0 where
+  pub none : AreFaults world all_there []
+  pub one : AreFaults world one_missing (fault_of_mid ∷ [])
+  pub text : faults_text (fault_of_mid ∷ []) ≡ codes "mid.org@v1.1.0: Missing\n"

@@ -1,0 +1,64 @@
+//! The definitions of which the outcome of `list` consists, tried on a small world of modules: a definition that meant
+//! something else than its comment says would fail here.
+//!
+//! The main module m (go 1.17) requires top.org v1.0.0 and mid.org v1.0.0, excludes low.org v1.1.0, and replaces
+//! mid.org v1.1.0 by the folder ./mid. The file of top.org (go 1.16) requires mid.org v1.1.0 and low.org v1.1.0, that
+//! of mid.org v1.0.0 (go 1.17) requires low.org v1.0.0, and the folder's requires nothing.
+
+ghost use Rattle.gomod_laws.specs.ExampleWorld.{AnswersTell, FaultsAreClassed, FilesHaveNames, FourEdgesLead, ListIsPrinted, OneFaultIsReported, OnlyListIsPrinted, PrunedFrom17, RequirementsAreLeft, RowsAreFour, ThreeAreOpened};
+
+/// `file_of`, `is_askable`: the file of mid.org v1.1.0 is the folder's, that of mid.org v1.0.0 its own. Both may be
+/// asked for, and the file of a path that is no host name may not.
+pub fn files_have_names()
+    ensures { FilesHaveNames }
+{}
+
+/// `Tells`: the answer that there is no file tells `Missing` of that file, and nothing of any other.
+pub fn answers_tell()
+    ensures { AnswersTell }
+{}
+
+/// `vertex_fault`: a missing file, a file that declares another path, and a path that can't be fetched are faults. A
+/// folder that declares no path is none.
+pub fn faults_are_classed()
+    ensures { FaultsAreClassed }
+{}
+
+/// `vertex_requirements`: top.org requires mid.org v1.1.0, and not the excluded low.org v1.1.0.
+pub fn requirements_are_left()
+    ensures { RequirementsAreLeft }
+{}
+
+/// `is_pruned_by`, `is_unpruned`: go 1.17 and 2.0 are pruned, 1.16 is not; so top.org is unpruned, and mid.org is not.
+pub fn pruned_from_17()
+    ensures { PrunedFrom17 }
+{}
+
+/// `IsTop`, `IsDeep`, `IsOpened`: opened are top.org v1.0.0, mid.org v1.0.0 and mid.org v1.1.0. low.org v1.0.0, which
+/// only the pruned mid.org v1.0.0 requires, is not.
+pub fn three_are_opened()
+    ensures { ThreeAreOpened }
+{}
+
+/// `IsEdge`, `AreEdges`: four edges, one of them from mid.org v1.0.0 to low.org v1.0.0, and none to low.org v1.1.0.
+pub fn four_edges_lead()
+    ensures { FourEdgesLead }
+{}
+
+/// `IsSelected`, `IsBuildList`, `AreRows`: m, low.org v1.0.0, mid.org v1.1.0 with its folder, and top.org v1.0.0. No
+/// other list is the build list.
+pub fn rows_are_four()
+    ensures { RowsAreFour }
+{}
+
+/// `list_text`, `PrintsRows`, `PrintsList`: the lines `m`, `low.org v1.0.0`, `mid.org v1.1.0 => ./mid` and
+/// `top.org v1.0.0`; the first two of them; the one after mid.org; and `b.org: NotListed` after a path without a row.
+pub fn list_is_printed()
+    ensures parts { ListIsPrinted }
+    ensures only { OnlyListIsPrinted }
+{}
+
+/// `AreFaults`, `faults_text`: none, or `mid.org@v1.1.0: Missing` if the folder's go.mod is missing.
+pub fn one_fault_is_reported()
+    ensures { OneFaultIsReported }
+{}
