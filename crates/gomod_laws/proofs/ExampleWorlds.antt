@@ -1,5 +1,5 @@
 -- What the definitions of a run's outcome say of the example world.
-use Rattle.std.proofs.Common.{◌≡◌, ◌∙◌, ◌<◌, ◌∷◌, ◌⊎◌, ℕ, zero, suc, Bool, true, false, List, [], Option, Some, None, Result, Ok, Err, Contains, ap, ap₂, arith, codes, inl, inr, length, refl, subst, sym}
+use Rattle.std.proofs.Common.{◌≡◌, ◌∙◌, ◌∷◌, ◌⊎◌, ℕ, zero, suc, Bool, true, false, List, [], Some, None, Result, Ok, Err, Contains, ap, ap₂, arith, codes, inl, inr, length, refl, subst, sym}
 use Rattle.std.specs.Prelude.{AllPairs, if◌then◌else◌}
 use Rattle.std.specs.List.{All, AllByRecursion}
 use Rattle.std.specs.Ordering.{is_gt}
@@ -24,9 +24,9 @@ use Rattle.gm_graph_select.specs.Graph.{IsEnd, edge, edge_cmp, vertex_cmp}
 use Rattle.gm_graph_select.proofs.Ascending.{member_cases, member_head, member_tail, no_member}
 use Rattle.gm_graph_select.proofs.Lawful.{same_build_lists}
 use Rattle.gm_graph.specs.Graph.{IsDeep, IsEdge, IsOpened, IsTop, from_deep, from_main, from_top}
-use Rattle.gm_graph.specs.Outcome.{AreEdges, AreFaults}
+use Rattle.gm_graph.specs.Outcome.{AreEdges}
 use Rattle.gm_graph.specs.declared.fault.Fault.{Fault}
-use Rattle.gm_graph_listing.specs.Outcomes.{AreRows, Outcome, printed}
+use Rattle.gm_graph_listing.specs.Outcomes.{AreRows, printed}
 use Rattle.gm_graph_listing.specs.Texts.{limited, list_text}
 use Rattle.gomod_laws.specs.ExampleWorld.{AnswersTell, FaultsAreClassed, FilesHaveNames, FourEdgesLead, ListIsPrinted, OneFaultIsReported, OnlyListIsPrinted, PrunedFrom17, RequirementsAreLeft, RowsAreFour, ThreeAreOpened, all_there, edges, fault_of_mid, folder_says, held_with, low_one, low_two, mid_one, mid_two, one_missing, opened_three, rows, top_one, world}
 use Rattle.gomod_laws.proofs.KnownVersions.{first_byte, not_above_itself, one_one_is_above, one_zero_is_below, versions_differ}
@@ -49,7 +49,7 @@ pub pruned_from_17 : PrunedFrom17
 unfolding is_fetchable
 pruned_from_17 = record { before = refl; from = refl; later = refl; top = refl; mid = refl; faulty = refl }
 
-told_by : (name : Name) (is : Bool) → IsTold None name (if is then Some absent else None) (if is then Some (Err Missing) else None)
+pub told_by : (name : Name) (is : Bool) → IsTold None name (if is then Some absent else None) (if is then Some (Err Missing) else None)
 told_by name true = refl
 told_by name false = tt
 
@@ -63,11 +63,11 @@ all_of P [] h k d below = absurd (omega (arith, below))
 all_of P (x ∷ xs) h zero d below = h.0
 all_of P (x ∷ xs) h (suc k) d below = all_of P xs h.1 k d (omega (arith, below))
 
-abbrev Pairs : {X : Type 0} → (X → X → Type 0) → List X → Type 0
+abbrev pub Pairs : {X : Type 0} → (X → X → Type 0) → List X → Type 0
 Pairs R [] = Unit {0}
 Pairs R (x ∷ xs) = AllByRecursion (R x) xs × Pairs R xs
 
-pairs_of : {X : Type 0} (R : X → X → Type 0) (xs : List X) → Pairs R xs → AllPairs R xs
+pub pairs_of : {X : Type 0} (R : X → X → Type 0) (xs : List X) → Pairs R xs → AllPairs R xs
 pairs_of R [] h = λ i j d lt below. absurd (omega (arith, below))
 pairs_of R (x ∷ xs) h = AllPairs-cons R x xs (all_of (R x) xs h.0) (pairs_of R xs h.1)
 
@@ -420,13 +420,13 @@ only_list_is_printed outcome (others, are, is) =
 
 -- ---- faults
 
-abbrev fault_with : ModuleVersion → Class → Fault
+abbrev pub fault_with : ModuleVersion → Class → Fault
 fault_with x class = record { vertex = x; class = class }
 
-no_class : (class : Class) → None ≡ Some class → ⊥
+pub no_class : (class : Class) → None ≡ Some class → ⊥
 no_class class e = cc e
 
-same_class : (a b : Class) → Some a ≡ Some b → a ≡ b
+pub same_class : (a b : Class) → Some a ≡ Some b → a ≡ b
 same_class a b e = cc e
 
 mid_has_none : vertex_fault all_there mid_one ≡ None

@@ -47,11 +47,11 @@ word_byte : (b : ℕ) → is_byte_of_path b ≡ true → is_word_byte b ≡ true
 unfolding is_word_byte is_blank is_bracket_or_comma is_quote is_bad
 word_byte b e = grind (arith, nat_tests)
 
-word_bytes : (text : List ℕ) → list_all is_byte_of_path text ≡ true → Passes is_word_byte text
+pub word_bytes : (text : List ℕ) → list_all is_byte_of_path text ≡ true → Passes is_word_byte text
 word_bytes [] all = tt
 word_bytes (b ∷ text) all = (word_byte b (first_so _ _ all), word_bytes text (second_so _ _ all))
 
-no_arrow : (text : List ℕ) → list_all is_byte_of_path text ≡ true → BeginsWithArrow text → ⊥
+pub no_arrow : (text : List ℕ) → list_all is_byte_of_path text ≡ true → BeginsWithArrow text → ⊥
 no_arrow text all (rest, is) = false≢true (subst (λ (t : List ℕ). list_all is_byte_of_path t ≡ true) is all)
 
 -- the text is empty, or begins neither with a slash nor with an asterisk
@@ -60,7 +60,7 @@ BeginsPlain [] = Unit {0}
 BeginsPlain (b ∷ text) = (b ≢ 47) × (b ≢ 42)
 
 -- what precedes a text without comments and has no slash opens none
-no_comment_before : (front rest : List ℕ) → Lacks 47 front → HoldsNoComment rest → HoldsNoComment (front ++ rest)
+pub no_comment_before : (front rest : List ℕ) → Lacks 47 front → HoldsNoComment rest → HoldsNoComment (front ++ rest)
 no_comment_before [] rest lack none = none
 no_comment_before (a ∷ []) [] lack none = tt
 no_comment_before (a ∷ []) (b ∷ rest) lack none = ((λ opens. lack.0 opens.0), none)
@@ -111,10 +111,10 @@ path_is_bare path is = record {
 
 -- ---- the line
 
-abbrev bare : List ℕ → Word
+abbrev pub bare : List ℕ → Word
 bare text = record { kind = Bare; spelling = text }
 
-abbrev words : List ℕ → List Word
+abbrev pub words : List ℕ → List Word
 words path = bare (codes "module") ∷ bare path ∷ []
 
 abbrev pub lines : List ℕ → List (Line Word)
@@ -152,7 +152,7 @@ laid_is : (path : List ℕ) → layout_lines initial_state (lines path) ≡ line
 unfolding layout_lines
 laid_is path = refl
 
-ascii : (text : List ℕ) → AllByRecursion (λ b. b < 128) text → (i : ℕ) → get_or text i 0 < 128
+pub ascii : (text : List ℕ) → AllByRecursion (λ b. b < 128) text → (i : ℕ) → get_or text i 0 < 128
 ascii [] low i = lit< tt
 ascii (b ∷ text) low zero = low.0
 ascii (b ∷ text) low (suc i) = ascii text low.1 i

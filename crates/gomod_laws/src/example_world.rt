@@ -3,8 +3,10 @@
 //!
 //! The main module m (go 1.17) requires top.org v1.0.0 and mid.org v1.0.0, excludes low.org v1.1.0, and replaces
 //! mid.org v1.1.0 by the folder ./mid. The file of top.org (go 1.16) requires mid.org v1.1.0 and low.org v1.1.0, that
-//! of mid.org v1.0.0 (go 1.17) requires low.org v1.0.0, and the folder's requires nothing.
+//! of mid.org v1.0.0 (go 1.17) requires low.org v1.0.0, and the folder's requires nothing. The last three functions are
+//! about runs over the bytes of smaller files.
 
+ghost use Rattle.gomod_laws.specs.ExampleRuns.{EmptyIsRefused, FilesAreRead, IsListedAlone, RequiredIsAsked};
 ghost use Rattle.gomod_laws.specs.ExampleWorld.{AnswersTell, FaultsAreClassed, FilesHaveNames, FourEdgesLead, ListIsPrinted, OneFaultIsReported, OnlyListIsPrinted, PrunedFrom17, RequirementsAreLeft, RowsAreFour, ThreeAreOpened};
 
 /// `file_of`, `is_askable`: the file of mid.org v1.1.0 is the folder's, that of mid.org v1.0.0 its own. Both may be
@@ -61,4 +63,22 @@ pub fn list_is_printed()
 /// `AreFaults`, `faults_text`: none, or `mid.org@v1.1.0: Missing` if the folder's go.mod is missing.
 pub fn one_fault_is_reported()
     ensures { OneFaultIsReported }
+{}
+
+/// `IsMainFile`: `module m`, alone or with `require top.org v1.0.0`, is read as what it says.
+pub fn files_are_read()
+    ensures { FilesAreRead }
+{}
+
+/// `IsListOutcome`: on `module m` alone `list` prints `m` and nothing else; on an empty file it reports
+/// `go.mod:0: NoModule`.
+pub fn one_is_listed()
+    ensures alone { IsListedAlone }
+    ensures empty { EmptyIsRefused }
+{}
+
+/// `IsDue`, `AreKnown`, `IsStopped`, `IsOutcomeOver`: on the two lines `list` reports `top.org@v1.0.0: Missing` if that
+/// is the answer, and `gomod: device at top.org@v1.0.0` if the device failed. Without either it has no outcome.
+pub fn required_is_asked()
+    ensures { RequiredIsAsked }
 {}

@@ -1,0 +1,49 @@
+-- Whole runs of `list` over the bytes of small files, on which the definitions of an outcome are tried.
+use Rattle.std.specs.Prelude.{◌≡◌, ℕ, List, [], ◌∷◌, None, codes}
+use Rattle.gm_store.specs.Asked.{Name, Reply, mod_file, absent}
+use Rattle.gm_graph_cache.specs.Main.{Main, ModuleVersion}
+use Rattle.gm_graph_listing.specs.Outcomes.{Given, IsListOutcome, IsMainFile, IsOutcomeOver, Outcome, PrintsList, answers, failed, given, printed, refused}
+use Rattle.gomod_laws.specs.ExampleWorld.{top_one}
+
+abbrev pub alone : List ℕ
+alone = codes "module m\n"
+
+abbrev pub requiring : List ℕ
+requiring = codes "module m\nrequire top.org v1.0.0\n"
+
+abbrev pub top_name : Name
+top_name = mod_file (codes "top.org") (codes "v1.0.0")
+
+-- a run over these bytes without a go.sum
+abbrev pub run_of : List ℕ → List (Name × Reply) → List Name → Given
+run_of file asked refusals = given file None (answers asked refusals)
+
+-- a main module m without a go version that requires these modules
+abbrev pub main_requiring : List ModuleVersion → Main
+main_requiring requirements =
+    record { path = codes "m"; go = (1, 16); requirements = requirements; excludes = []; replaces = [] }
+
+-- The bytes say what they are read as.
+pub record FilesAreRead : Type 0 where
+  pub one : IsMainFile alone (main_requiring [])
+  pub two : IsMainFile requiring (main_requiring (top_one ∷ []))
+
+-- A module that requires nothing is listed alone, and nothing else is an outcome.
+pub record IsListedAlone : Type 0 where
+  pub listed : IsListOutcome None None (run_of alone [] []) (printed (codes "m\n"))
+  pub only : (outcome : Outcome) → IsListOutcome None None (run_of alone [] []) outcome
+      → outcome ≡ printed (codes "m\n")
+
+-- The empty file declares no module.
+abbrev pub EmptyIsRefused : Type 0
+EmptyIsRefused = IsListOutcome None None (run_of [] [] []) (refused (codes "go.mod:0: NoModule\n"))
+
+-- If the required file is missing, that is reported; if the device failed on it, that is. If it was not asked for,
+-- there is no outcome.
+pub record RequiredIsAsked : Type 0 where
+  pub missing : IsListOutcome None None (run_of requiring ((top_name, absent) ∷ []) [])
+      (refused (codes "top.org@v1.0.0: Missing\n"))
+  pub device : IsListOutcome None None (run_of requiring [] (top_name ∷ []))
+      (failed (codes "gomod: device at top.org@v1.0.0\n"))
+  pub unasked : (outcome : Outcome)
+      → ¬ (IsOutcomeOver (PrintsList None None) (main_requiring (top_one ∷ [])) None (answers [] []) outcome)
