@@ -224,6 +224,15 @@ def clauses_of(file, function):
     return clauses
 
 
+def clauses_named(file, function, names):
+    """These clauses, in order."""
+    clauses = clauses_of(file, function)
+    missing = [name for name in names if name not in clauses]
+    if missing:
+        sys.exit(f"headline: {function} of {file} has no clause {' '.join(missing)}")
+    return [clauses[name] for name in names]
+
+
 # ---- pages
 
 
@@ -261,10 +270,9 @@ class Page:
             file, names = order.removeprefix("contract ").split(":")
             if order.startswith("contract "):
                 file, function = file.split()
-                clauses = clauses_of(file, function)
                 scope = Scope((CRATES / file).read_text())
-                for name in names.split():
-                    self.uses.update(used_in(clauses[name], scope, {}).items())
+                for clause in clauses_named(file, function, names.split()):
+                    self.uses.update(used_in(clause, scope, {}).items())
                 continue
             for one in shown(file, names.split())[0]:
                 self.defined[one.file, one.name] = one
@@ -303,8 +311,8 @@ class Page:
                 body = worlds()
             elif order.startswith("contract "):
                 (file, function), names = order.split(":")[0].split()[1:], order.split(":")[1].split()
-                clauses = clauses_of(file, function)
-                body = f"[{file}](../crates/{file}), `{function}`:\n" + code("\n".join(clauses[it] for it in names))
+                clauses = clauses_named(file, function, names)
+                body = f"[{file}](../crates/{file}), `{function}`:\n" + code("\n".join(clauses))
             else:
                 file, names = order.split(":")
                 body = shown(file, names.split())[1]
@@ -336,7 +344,7 @@ def is_private(leaf):
 def counts(option):
     clauses = clauses_of(RUNNING, "run")
     scope = Scope((CRATES / RUNNING).read_text())
-    ends = list(used_in(clauses["ends"], scope, {}).values())
+    ends = list(used_in(*clauses_named(RUNNING, "run", ["ends"]), scope, {}).values())
     every = [it for clause in clauses.values() for it in used_in(clause, scope, {}).values()]
     for title, found in (("`list`", [place(*it) for it in LIST]), ("clause `ends`", ends), ("all clauses", every)):
         reached, leaves = reached_from(found)
