@@ -415,8 +415,8 @@ def lost_by_go(text):
             verb, left = block or words[0], left_of(words if block else words[1:])
             if verb in ("exclude", "replace") and times[verb, left] > 1:
                 lost.update(comments)
-            if (verb, left) not in inside:
-                inside.append((verb, left))
+            else:
+                inside.append(left)
             before, comments = before + comments, []
     return lost
 
