@@ -26,7 +26,8 @@ import sys
 # Names of the toolchain and of its crates that documents have and no source imports.
 ELSEWHERE = set("""
 Abort AllocError BTreeSet by_true CowStr get_or_insert get_or_insert_with index_mut into_iter not-source or_else
-PartialEq PartialOrd partition_point RefCell reserved-name rotate_left RT_JOBS saturating_add sort_unstable split_once
+PartialEq PartialOrd partition_point RefCell reserved-name rotate_left RT_JOBS saturating_add sort_unstable split_first
+split_once
 then_with thiserror
 """.split())
 # What a path of names may begin with that is none of ours.
