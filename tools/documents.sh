@@ -392,6 +392,8 @@ class Document:
                 self.tell("crates", it in sources.crates, f"there is no crate {it}")
         if name.startswith("Depends on"):
             self.read_needs(line)
+        if name == "Copy":
+            self.read_closure(line)
         if name == "Public calls" and not cell.strip().startswith("none"):
             self.read_public(cell, line)
 
@@ -403,6 +405,20 @@ class Document:
             needs = {it for row in lines_of("crates.txt") if row.startswith(f"{crate}:") for it in row.split()[1:]}
             wrong = sorted((needs - {"thiserror"}) ^ said)
             self.tell("rows of crates", not wrong, f"{crate} and crates.txt differ in {', '.join(wrong)}")
+
+    def read_closure(self, line):
+        """A row of the crates to copy for one, beside that crate and all below it by crates.txt."""
+        cells = dict(self.cells(line))
+        needs = {row.split(":")[0]: row.split(":")[1].split() for row in lines_of("crates.txt") if ":" in row}
+        taken = cells["Take"].strip()
+        below, left = set(), [taken]
+        while left:
+            crate = left.pop()
+            if crate in needs and crate not in below:
+                below.add(crate)
+                left += needs[crate]
+        wrong = sorted(below ^ set(re.findall(r"\w+", cells["Copy"])))
+        self.tell("rows of crates", not wrong, f"below {taken} crates.txt differs in {', '.join(wrong)}")
 
     def read_public(self, cell, line):
         """A row of public calls, beside what the crate's lib.rt exports."""

@@ -16,9 +16,9 @@ fn layout(alloc: Global, text: &str) -> Result<String, SyntaxFault> {
     Ok(doc.format()?)
 }
 
-/// Reads the go.mod text of a main module.
-pub(crate) fn main_file<'a>(alloc: Global, text: &'a str) -> anyhow::Result<MainFile<'a>> {
-    let doc = Doc::parse(alloc, text.as_bytes())?;
+/// Reads the go.mod of a main module.
+pub(crate) fn main_file<'a>(alloc: Global, bytes: &'a [u8]) -> anyhow::Result<MainFile<'a>> {
+    let doc = Doc::parse(alloc, bytes)?;
     Ok(MainFile::read(alloc, doc)?)
 }
 
@@ -74,6 +74,6 @@ fn show_file(rt: &impl Print, alloc: Global, file: &mut MainFile<'_>) -> anyhow:
 pub(crate) fn show(rt: &impl Print, alloc: Global) -> anyhow::Result<()> {
     show_layout(rt, alloc)?;
     show_fault(rt, alloc)?;
-    let mut file = main_file(alloc, MAIN)?;
+    let mut file = main_file(alloc, MAIN.as_bytes())?;
     show_file(rt, alloc, &mut file)
 }

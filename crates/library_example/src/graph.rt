@@ -69,7 +69,7 @@ fn print_step(rt: &impl Print, main: &MainFile<'_>, step: &Step) -> io::Result<(
 }
 
 /// Prints the rows of a build list.
-fn print_rows(rt: &impl Print, main: &MainFile<'_>, rows: &[Row]) -> io::Result<()> {
+pub(crate) fn print_rows(rt: &impl Print, main: &MainFile<'_>, rows: &[Row]) -> io::Result<()> {
     for row in rows {
         print_step(rt, main, &row.step)?;
     }
@@ -116,6 +116,6 @@ fn show_over(rt: &impl Print, alloc: Global, main: &MainFile<'_>) -> anyhow::Res
 
 /// Selects the build list of the example.
 pub(crate) fn show(rt: &impl Print, alloc: Global) -> anyhow::Result<()> {
-    let main = main_file(alloc, MAIN)?;
+    let main = main_file(alloc, MAIN.as_bytes())?;
     show_over(rt, alloc, &main)
 }

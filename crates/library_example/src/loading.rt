@@ -1,0 +1,54 @@
+//! Loading the module graph of a main module from folders.
+
+use crate::files::main_file;
+use crate::graph::print_rows;
+use gm_file::MainFile;
+use gm_graph::{Fault, Loaded, load};
+use gm_store::{DiskFallback, ProxyList, folder_of, read_limited};
+use std::{fs, io};
+
+/// The main module's file.
+const MAIN: &str = "go.mod";
+
+/// The bytes of a file, or the first `LIMIT + 1` if there are more: so many are refused when they are parsed.
+fn bytes_of(rt: HostRuntime, path: &str) -> anyhow::Result<Vec<u8>> {
+    let mut file = fs::open(&rt, path)?;
+    Ok(read_limited(rt.alloc(), &mut file)?)
+}
+
+/// Loads the graph of a main module from proxy folders, `,` or `|` between each two.
+fn graph(rt: HostRuntime, main: &MainFile<'_>, proxies: &str) -> anyhow::Result<Loaded> {
+    let alloc = rt.alloc();
+    let folder = folder_of(alloc, MAIN)?;
+    let proxies = ProxyList::read(alloc, proxies)?;
+    let mut store = DiskFallback::new(rt, alloc, folder, proxies);
+    Ok(load(alloc, main, &mut store, None)?)
+}
+
+/// Prints which modules have no file that can be read, and why.
+fn print_faults(rt: HostRuntime, faults: &[Fault]) -> io::Result<()> {
+    for fault in faults {
+        println!(&rt; "{}: {}", fault.vertex, fault.class)?;
+    }
+    Ok(())
+}
+
+/// Prints the build list of a graph, or the faults of its modules if there are any.
+fn print_graph(rt: HostRuntime, main: &MainFile<'_>, graph: &Loaded) -> io::Result<()> {
+    let faults = graph.faults();
+    if faults.is_empty() {
+        return print_rows(&rt, main, graph.build_list());
+    }
+    print_faults(rt, faults)
+}
+
+/// Loads the example from its proxy folder, and from a folder that isn't there.
+pub(crate) fn show(rt: HostRuntime) -> anyhow::Result<()> {
+    let bytes = bytes_of(rt, MAIN)?;
+    let main = main_file(rt.alloc(), &bytes)?;
+    for proxies in ["proxy", "elsewhere"] {
+        let graph = graph(rt, &main, proxies)?;
+        print_graph(rt, &main, &graph)?;
+    }
+    Ok(())
+}
