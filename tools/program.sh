@@ -1,13 +1,16 @@
 #!/usr/bin/env bash
 # Runs bin/gomod itself over the cases of command lines, and compares standard output, standard error and the status.
 #
-#   tools/program.sh                      the cases of crates/run_cases/data
+#   tools/program.sh                      the cases of crates/run_cases/data and crates/run_sizes/data
 #   tools/program.sh FILE.txt.. TITLE..   those of these files, or those whose titles have one of these texts
 #
 # The merge gate runs the same cases inside a process, with outputs in memory; of the program itself it compares what
 # a few stored runs write to standard output. What this adds is standard error and the whole way from the words to the
 # system. .ci/run runs it after the gate. Calls, cases with a file at the root of the system, and those of files without
 # permission for root are left out.
+#
+# Of a case with sizes it runs the greatest, each command with an address space of 64 MiB and a hundred times the bytes
+# of the files of the case, which is the bound of README.md: a command that reserves more is told that memory ran out.
 #
 # Where REFUSE_MEMORY names the library that tools/refuse-memory.sh makes, each command runs again with each of its
 # allocations refused in turn: it then has to say that memory ran out, or to have the result of the case.
@@ -23,18 +26,21 @@ need_gomod tools/program.sh
 exec python3 - "$PWD/bin/gomod" "$@" << 'PYTHON'
 import os
 import re
+import resource
 import shutil
 import subprocess
 import sys
 import tempfile
 
-DATA = "crates/run_cases/data"
+DATA, SIZES = "crates/run_cases/data", "crates/run_sizes/data"
 ESCAPE = re.compile(rb'\\(?:(n|r|t|0|\\|"|x[0-9a-fA-F]{2})|\*([0-9]+)\*(.))', re.S)
 SIMPLE = {b"n": b"\n", b"r": b"\r", b"t": b"\t", b"0": b"\0", b"\\": b"\\", b'"': b'"'}
 NO_LINE_END = b"\\ No newline at end of file"
 REFUSE_MEMORY = os.environ.pop("REFUSE_MEMORY", None)
 NO_MEMORY = b"", b"gomod: no memory\n", 3
 PASSED = b"all allocations passed\n"
+# the address space that a command may have beside FACTOR times the bytes of its files
+SPARE, FACTOR = 64 << 20, 100
 
 
 def meant(escape):
@@ -51,12 +57,33 @@ def unescaped(text):
 def words_of(line):
     words = []
     for single, double, bare in re.findall(rb"""'([^']*)'|"((?:\\.|[^"\\])*)"|([^ ]+)""", line):
-        words.append(bare or single or unescaped(double))
+        several = re.fullmatch(rb"\*(\d+)\*(.*)", bare, re.S)
+        if several:
+            words.extend(each_numbered(several[2], int(several[1])))
+        else:
+            words.append(bare or single or unescaped(double))
     return words
 
 
 def numbered(text, number, most):
     return text.replace(b"{n}", b"%0*d" % (len(b"%d" % most), number))
+
+
+def each_numbered(text, most):
+    return (numbered(text, number, most) for number in range(1, most + 1))
+
+
+def sized(lines):
+    """The lines of a case at its greatest size, if it has sizes."""
+    found = lines[1:] and re.fullmatch(rb"% sizes \d+ to (\d+)", lines[1])
+    if not found:
+        return lines, False
+    size = int(found[1])
+    places = ((b"{N}", size), (b"{N-1}", size - 1), (b"{N+1}", size + 1))
+    text = b"\n".join([lines[0], b"", *lines[2:]])
+    for place, number in places:
+        text = text.replace(place, b"%d" % number)
+    return text.split(b"\n"), True
 
 
 class Run:
@@ -65,18 +92,15 @@ class Run:
         self.out, self.report, self.status = b"", b"", 0
 
     def take(self, line):
-        found = re.match(rb"([>!])(?:\*(\d+) |(\\) | |$)(.*)$", line, re.S)
+        found = re.match(rb"([>!])(?:\*(\d+))?(\\)?(?: |$)(.*)$", line, re.S)
         if found:
             mark, count, escape, text = found.groups()
-            if escape:
-                text = unescaped(text)
-            elif count:
-                text = b"".join(numbered(text, at, int(count)) + b"\n" for at in range(1, int(count) + 1))
-            elif text == NO_LINE_END:
+            if text == NO_LINE_END and not count and not escape:
                 self.cut(mark)
                 return
-            else:
-                text += b"\n"
+            text = unescaped(text) if escape else text + b"\n"
+            if count:
+                text = b"".join(each_numbered(text, int(count)))
             if mark == b">":
                 self.out += text
             else:
@@ -87,9 +111,16 @@ class Run:
     def wanted(self):
         return self.out, self.report, self.status
 
-    def comes_to(self, program, folder, stdin, refused=0):
+    def comes_to(self, program, folder, stdin, refused=0, most=resource.RLIM_INFINITY):
         refusing = {**os.environ, "LD_PRELOAD": REFUSE_MEMORY, "REFUSE_AT": str(refused)} if refused else None
-        got = subprocess.run([program, *self.words[1:]], cwd=folder, input=stdin, capture_output=True, env=refusing)
+        got = subprocess.run(
+            [program, *self.words[1:]],
+            cwd=folder,
+            input=stdin,
+            capture_output=True,
+            env=refusing,
+            preexec_fn=lambda: resource.setrlimit(resource.RLIMIT_AS, (most, most)),
+        )
         return got.stdout, got.stderr, got.returncode
 
     def refused(self, program, folder, stdin):
@@ -131,7 +162,7 @@ class Piece:
             most = int(self.argument)
             if number:
                 return numbered(text, number, most)
-            return b"".join(numbered(text, at, most) for at in range(1, most + 1))
+            return b"".join(each_numbered(text, most))
         return text
 
     def lay(self, folder):
@@ -156,7 +187,7 @@ class Piece:
 
 class Case:
     def __init__(self, line, title):
-        self.line, self.title, self.runs, self.pieces = line, title, [], []
+        self.line, self.title, self.runs, self.pieces, self.is_sized = line, title, [], [], False
 
     def is_left_out(self):
         return any(it.name.startswith(b"/") or (it.kind == b"mode" and not os.geteuid()) for it in self.pieces)
@@ -181,14 +212,20 @@ def read_cases(path):
     cases = []
     with open(path, "rb") as file:
         lines = file.read().removesuffix(b"\n").split(b"\n")
-    for number, line in enumerate(lines, 1):
-        if line.startswith(b"=== "):
-            cases.append(Case(number, line[4:].decode()))
-        elif cases:
-            cases[-1].take(number, line)
-    for case in cases:
+    titles = [at for at, line in enumerate(lines) if line.startswith(b"=== ")]
+    for begin, end in zip(titles, [*titles[1:], len(lines)]):
+        own, is_sized = sized(lines[begin:end])
+        case = Case(begin + 1, own[0][4:].decode())
+        case.is_sized = is_sized
+        for number, line in enumerate(own[1:], begin + 2):
+            case.take(number, line)
         case.end()
+        cases.append(case)
     return cases
+
+
+def bytes_below(folder):
+    return sum(os.path.getsize(os.path.join(at, name)) for at, _, names in os.walk(folder) for name in names)
 
 
 def told(what, out, report, status):
@@ -209,11 +246,12 @@ def passes(program, path, case):
         for piece in case.pieces:
             if piece.name != b"stdin":
                 piece.lay(folder)
+        most = SPARE + FACTOR * (len(stdin) + bytes_below(folder)) if case.is_sized else resource.RLIM_INFINITY
         for run in case.runs:
             if run.words[0] != b"gomod":
                 continue
-            over, got = "", run.comes_to(program, folder, stdin)
-            if got == run.wanted() and REFUSE_MEMORY:
+            over, got = "", run.comes_to(program, folder, stdin, most=most)
+            if got == run.wanted() and REFUSE_MEMORY and not case.is_sized:
                 number, got = run.refused(program, folder, stdin) or (0, got)
                 over = f", allocation {number} refused"
             if got != run.wanted():
@@ -230,7 +268,9 @@ def passes(program, path, case):
 
 def main(program, *words):
     files = [it for it in words if it.endswith(".txt")]
-    files = files or sorted(os.path.join(DATA, it) for it in os.listdir(DATA) if it.endswith(".txt"))
+    files = files or [
+        os.path.join(data, it) for data in (DATA, SIZES) for it in sorted(os.listdir(data)) if it.endswith(".txt")
+    ]
     titles = [it for it in words if not it.endswith(".txt")]
     counts = {True: 0, False: 0}
     for path in files:

@@ -2,6 +2,7 @@
 //! faults, and `?` turns these into one type.
 
 use gm_file::{DirectiveKind, FileFault};
+use gm_file_edit::{EditFault, OpFault};
 use gm_name::{EscapeFault, PathFault, VersionFault};
 use gm_store_sums::SumFault;
 use gm_syntax::{SyntaxFault, SyntaxKind};
@@ -24,6 +25,8 @@ pub(crate) enum CallFault {
     Misfit,
     /// A text is not an escaped name.
     BadEscape,
+    /// A text is not an operation.
+    Spelling,
     /// A file has too many bytes.
     TooMany,
     /// A file isn't UTF-8.
@@ -118,6 +121,24 @@ impl From<SumFault> for CallFault {
             SumFault::NoMemory => CallFault::NoMemory,
             SumFault::TooMany => CallFault::TooMany,
             SumFault::BadSum(line) => CallFault::BadSum(line),
+        }
+    }
+}
+
+impl From<OpFault> for CallFault {
+    fn from(fault: OpFault) -> CallFault {
+        match fault {
+            OpFault::NoMemory => CallFault::NoMemory,
+            OpFault::Spelling => CallFault::Spelling,
+        }
+    }
+}
+
+impl From<EditFault> for CallFault {
+    fn from(fault: EditFault) -> CallFault {
+        match fault {
+            EditFault::NoMemory => CallFault::NoMemory,
+            EditFault::Misfit => CallFault::Misfit,
         }
     }
 }

@@ -1,7 +1,7 @@
 //! Which function a call is of.
 
 use crate::call_faults::CallFault;
-use crate::{file_calls, name_calls, store_calls};
+use crate::{edit_calls, file_calls, name_calls, store_calls};
 use gomod_case_files::View;
 use std::alloc::{AllocError, Global};
 
@@ -62,6 +62,7 @@ fn about_file(alloc: Global, name: &str, bytes: &[u8]) -> Result<String, CallFau
         "spans" => file_calls::spans(alloc, bytes),
         "strict" => file_calls::strict(alloc, bytes),
         "lax" => file_calls::lax(alloc, bytes),
+        "copy" => edit_calls::copy(alloc, bytes),
         "hash" => store_calls::hash(alloc, bytes),
         _ => Err(CallFault::NoCall),
     }
@@ -81,6 +82,7 @@ fn about_two(
         "precedence" => name_calls::precedence(alloc, first, second),
         "step" => store_calls::step(alloc, first, second),
         "relative_name" => store_calls::place_named(alloc, first, second),
+        "apply" => edit_calls::apply(alloc, file(view, first)?, second),
         _ => about_list(alloc, name, first, file(view, second)?),
     }
 }

@@ -10,7 +10,7 @@ use std::alloc::{AllocError, Global};
 use std::slice;
 
 /// What some bytes say as a main file.
-fn main_file<'a>(alloc: Global, bytes: &'a [u8]) -> Result<MainFile<'a>, CallFault> {
+pub(crate) fn main_file<'a>(alloc: Global, bytes: &'a [u8]) -> Result<MainFile<'a>, CallFault> {
     let doc = Doc::parse(alloc, bytes)?;
     Ok(MainFile::read(alloc, doc)?)
 }

@@ -4,6 +4,7 @@
 
 mod call_faults;
 mod calls;
+mod edit_calls;
 mod file_calls;
 mod name_calls;
 mod store_calls;

@@ -128,6 +128,9 @@ pub struct Case<'a> {
     pub files: Vec<CaseFile>,
     /// Whether one of its files is made by repetition. Such a case is run once.
     pub is_large: bool,
+    /// Whether those of its commands that run in memory run there alone, as they do at all sizes of a case but the
+    /// greatest.
+    pub is_in_memory_alone: bool,
     /// Whether its files and outputs are cut at every byte, however many runs that takes.
     pub is_cut_everywhere: bool,
 }
@@ -141,6 +144,7 @@ impl<'a> Case<'a> {
             runs: Vec::new(alloc),
             files: Vec::new(alloc),
             is_large: false,
+            is_in_memory_alone: false,
             is_cut_everywhere: false,
         }
     }

@@ -26,6 +26,10 @@ pub enum LineFault {
     BadHeader,
     /// It is to be repeated, and its count is no number in range.
     BadCount,
+    /// It says at which sizes a case runs, and they can't be read, or the title above it doesn't name the size.
+    BadSizes,
+    /// It has a size, and its case is run at no sizes, or it has a place of a size that isn't known.
+    NoSize,
     /// It begins a case that has no command.
     NoCommand,
     /// It begins a text that has no case.
@@ -52,6 +56,9 @@ impl LineFault {
             LineFault::UnderCall => "stands under a call, of which only the output is compared",
             LineFault::BadHeader => "is no header of a file",
             LineFault::BadCount => "says how many, which is no number from 1 to 16777217",
+            LineFault::BadSizes =>
+                "has sizes that don't read, or that the title above doesn't name",
+            LineFault::NoSize => "has a size that its case doesn't have",
             LineFault::NoCommand => "is the title of a case without a command",
             LineFault::NoCase => "begins a file without a case",
             LineFault::LikeMark => "begins like a title or a header, and is none",

@@ -5,7 +5,7 @@ use std::fs::{OpenFile, OpenOptions, Permissions};
 use std::os::unix::fs::PermissionsExt;
 use std::{env, fs, io, process};
 
-/// The name of the folder of the case with this number, among the temporary files of the system.
+/// The name of the folder of the case at the line with this number, among the temporary files of the system.
 fn folder_of(rt: &HostRuntime, number: usize) -> io::Result<String> {
     let id = process::id(rt.process());
     let system = env::temp_dir(rt)?;

@@ -16,6 +16,9 @@
 //! line after `> ` as its output, an empty report, the status 0, and `a/go.mod` as the one file that it opens. Where a
 //! line belongs to no case, the result is a `CaseFault` with its number.
 //!
+//! `case_texts` divides a file of cases by its titles. A case that is run at several sizes is a text with places for
+//! the size, and `read_cases` reads what `CaseText::at` makes of it for each.
+//!
 //! `lay_files` writes the files of a case into a real folder. A `CaseRuntime` opens files in that folder alone,
 //! and records each in a `Log`. A `View` is the same files as bytes in memory, one of which may be cut off.
 //!
@@ -31,6 +34,7 @@ mod numbering;
 mod pieces;
 mod places;
 mod reading;
+mod sizes;
 mod views;
 mod words;
 
@@ -41,4 +45,5 @@ pub use crate::folders::{lay_files, make_folder};
 pub use crate::pieces::NO_LINE_END;
 pub use crate::places::tidied;
 pub use crate::reading::read_cases;
+pub use crate::sizes::{CaseText, case_texts};
 pub use crate::views::View;

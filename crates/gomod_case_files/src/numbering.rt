@@ -40,6 +40,37 @@ pub(crate) fn numbered(
     text.replace(alloc, NUMBER, digits.as_str())
 }
 
+/// The parts of a text between the places of its number.
+fn parts_of(alloc: Global, text: &str) -> Result<Vec<&str>, AllocError> {
+    let mut parts = Vec::new(alloc);
+    for part in text.split(NUMBER) {
+        parts.push(part)?;
+    }
+    Ok(parts)
+}
+
+/// Appends parts with digits between them.
+fn push_parts(bytes: &mut Vec<u8>, parts: &[&str], digits: &[u8]) -> Result<(), AllocError> {
+    for (index, part) in parts.iter().enumerate() {
+        if index > 0 {
+            bytes.extend_from_slice(digits)?;
+        }
+        bytes.extend_from_slice(part.as_bytes())?;
+    }
+    Ok(())
+}
+
+/// Adds one to the number that decimal digits are.
+fn add_one(digits: &mut [u8]) {
+    for digit in digits.iter_mut().rev() {
+        if *digit < b'9' {
+            *digit += 1;
+            return;
+        }
+        *digit = b'0';
+    }
+}
+
 /// Appends a text this many times, each with its number.
 pub(crate) fn push_numbered(
     alloc: Global,
@@ -47,9 +78,12 @@ pub(crate) fn push_numbered(
     text: &str,
     count: usize,
 ) -> Result<(), AllocError> {
-    for index in 0..count {
-        let text = numbered(alloc, text, index.saturating_add(1), count)?;
-        bytes.extend_from_slice(text.as_str().as_bytes())?;
+    let parts = parts_of(alloc, text)?;
+    let mut digits = Vec::new(alloc);
+    digits.resize(digit_count(count) as usize, b'0')?;
+    for _ in 0..count {
+        add_one(digits.as_mut_slice());
+        push_parts(bytes, parts.as_slice(), digits.as_slice())?;
     }
     Ok(())
 }

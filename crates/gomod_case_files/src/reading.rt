@@ -3,10 +3,12 @@
 use crate::cases::{Case, Run};
 use crate::escapes::push_unescaped;
 use crate::faults::{CaseFault, LineFault};
-use crate::numbering::{count_of, push_repeated};
+use crate::numbering::{count_of, push_numbered, push_repeated};
 use crate::pieces::{Piece, header, take_line};
+use crate::sizes::has_place;
 use crate::words::words_of_line;
 use std::alloc::Global;
+use std::str;
 
 /// The line of a case that is cut at every byte.
 const EVERY_BYTE: &str = "% every byte";
@@ -18,16 +20,23 @@ const FILES_ONLY: &str = "% files";
 #[derive(Drop)]
 struct Reader<'a> {
     alloc: Global,
+    /// The number of lines before the text.
+    lines_before: usize,
     /// The cases so far. The next line belongs to the last of them.
     cases: Vec<Case<'a>>,
     /// The piece of a file that the next line belongs to.
     piece: Option<Piece>,
 }
 
-/// The cases of a text, in the order of their titles' lines.
-pub fn read_cases<'a>(alloc: Global, text: &'a str) -> Result<Vec<Case<'a>>, CaseFault> {
+/// The cases of a text that follows this many lines, in the order of their titles' lines.
+pub fn read_cases<'a>(
+    alloc: Global,
+    lines_before: usize,
+    text: &'a str,
+) -> Result<Vec<Case<'a>>, CaseFault> {
     let mut reader = Reader {
         alloc,
+        lines_before,
         cases: Vec::new(alloc),
         piece: None,
     };
@@ -42,7 +51,8 @@ impl<'a> Reader<'a> {
         // what follows the last line end of a text is not a line
         let text = text.strip_suffix('\n').unwrap_or(text);
         for (index, line) in text.split('\n').enumerate() {
-            self.take(index.saturating_add(1), line)?;
+            let number = self.lines_before.saturating_add(index).saturating_add(1);
+            self.take(number, line)?;
         }
         if self.cases.is_empty() {
             return Err(CaseFault::Line(1, LineFault::NoCase));
@@ -52,6 +62,9 @@ impl<'a> Reader<'a> {
 
     /// Takes the next line.
     fn take(&mut self, number: usize, line: &'a str) -> Result<(), CaseFault> {
+        if has_place(line) {
+            return Err(CaseFault::Line(number, LineFault::NoSize));
+        }
         if let Some(title) = line.strip_prefix("=== ") {
             return self.begin_case(number, title);
         }
@@ -260,10 +273,33 @@ fn take_repeated(
     let Some((count, line)) = repetition(rest) else {
         return Err(CaseFault::Line(number, LineFault::NoMark));
     };
+    let (count, is_escaped) = match count.strip_suffix('\\') {
+        Some(count) => (count, true),
+        None => (count, false),
+    };
     let Some(count) = count_of(count) else {
         return Err(CaseFault::Line(number, LineFault::BadCount));
     };
+    if is_escaped {
+        return push_repeated_unescaped(alloc, text, number, line, count);
+    }
     Ok(push_repeated(alloc, text, line, count)?)
+}
+
+/// Appends what an escaped text denotes this many times, each with its number.
+fn push_repeated_unescaped(
+    alloc: Global,
+    text: &mut Vec<u8>,
+    number: usize,
+    line: &str,
+    count: usize,
+) -> Result<(), CaseFault> {
+    let mut bytes = Vec::new(alloc);
+    push_unescaped(alloc, &mut bytes, number, line)?;
+    match str::from_utf8(bytes.as_slice()) {
+        Ok(line) => Ok(push_numbered(alloc, text, line, count)?),
+        Err(_) => Err(CaseFault::Line(number, LineFault::BadEscape)),
+    }
 }
 
 /// The count of lines and the line after a mark and a `*`.

@@ -2,8 +2,9 @@
 
 use crate::escapes::Unescaper;
 use crate::faults::{CaseFault, LineFault, TextFault};
+use crate::numbering::{count_of, numbered};
 use std::alloc::Global;
-use std::mem;
+use std::{mem, str};
 
 /// Where a byte is in the words.
 #[derive(Clone, Copy, PartialEq, Eq)]
@@ -45,7 +46,7 @@ impl Cutter {
             self.take(*byte)?;
         }
         match self.state {
-            State::Bare => self.end(State::Between),
+            State::Bare => self.end_bare(),
             State::Single | State::Double => Err(TextFault::Invalid),
             State::Between | State::Closed => Ok(()),
         }
@@ -55,7 +56,7 @@ impl Cutter {
     fn take(&mut self, byte: u8) -> Result<(), TextFault> {
         match self.state {
             State::Between => self.begin(byte),
-            State::Bare if byte == b' ' => self.end(State::Between),
+            State::Bare if byte == b' ' => self.end_bare(),
             State::Bare => self.word.push(byte),
             State::Single if byte == b'\'' => self.end(State::Closed),
             State::Single => self.word.push(byte),
@@ -90,6 +91,33 @@ impl Cutter {
         Ok(())
     }
 
+    /// Ends a word without quotes, which may stand for several.
+    fn end_bare(&mut self) -> Result<(), TextFault> {
+        self.state = State::Between;
+        let word = mem::replace(&mut self.word, Unescaper::new(self.alloc)).into_bytes();
+        if word.first() != Some(&b'*') {
+            self.words.push(word)?;
+            return Ok(());
+        }
+        match str::from_utf8(word.as_slice()) {
+            Ok(word) => self.push_several(word),
+            Err(_) => Err(TextFault::Invalid),
+        }
+    }
+
+    /// Adds the words that a word stands for which begins with a `*`: a number, a second `*`, and what each of so many
+    /// words is.
+    fn push_several(&mut self, word: &str) -> Result<(), TextFault> {
+        let Some((count, text)) = several(word) else {
+            return Err(TextFault::Invalid);
+        };
+        for index in 0..count {
+            let one = numbered(self.alloc, text, index.saturating_add(1), count)?;
+            self.words.push(one.into_bytes())?;
+        }
+        Ok(())
+    }
+
     /// Ends a word.
     fn end(&mut self, state: State) -> Result<(), TextFault> {
         let word = mem::replace(&mut self.word, Unescaper::new(self.alloc));
@@ -97,6 +125,12 @@ impl Cutter {
         self.state = state;
         Ok(())
     }
+}
+
+/// How many words a word stands for which begins with a `*`, and what each of them is.
+fn several(word: &str) -> Option<(usize, &str)> {
+    let (count, text) = word.strip_prefix('*')?.split_once('*')?;
+    Some((count_of(count)?, text))
 }
 
 /// The words of a text.

@@ -27,12 +27,11 @@ pub(crate) fn room_for(run: &Run<'_>) -> Room {
 /// runs.
 pub(crate) fn check_case(
     rt: &HostRuntime,
-    number: usize,
     case: &Case<'_>,
     count: &Count,
     differences: &mut Differences,
 ) -> io::Result<()> {
-    let root = make_folder(rt, number)?;
+    let root = make_folder(rt, case.line)?;
     let root = root.as_str();
     let checked = check_below(rt, root, case, count, differences);
     let removed = fs::remove_dir_all(rt, root);
@@ -50,7 +49,9 @@ fn check_below(
 ) -> io::Result<()> {
     let folder = format!(in rt.alloc(); "{root}/main")?;
     let folder = folder.as_str();
-    lay_files(rt, folder, case)?;
+    if !case.is_in_memory_alone {
+        lay_files(rt, folder, case)?;
+    }
     let workspace = Workspace {
         system: *rt,
         folder,
@@ -94,7 +95,9 @@ fn check_run(
     if !run.is_command_line() {
         return check_call(workspace, run, differences);
     }
-    check_real(workspace, run, differences)?;
+    if !workspace.case.is_in_memory_alone || parsed_run.parsed.is_none() {
+        check_real(workspace, run, differences)?;
+    }
     check_in_memory(workspace, parsed_run, differences)
 }
 
@@ -230,7 +233,7 @@ fn report_difference(run: &Run<'_>, outcome: &Outcome, differences: &mut Differe
 }
 
 /// Whether a command had the result that the case states.
-fn is_wanted(run: &Run<'_>, outcome: &Outcome) -> bool {
+pub(crate) fn is_wanted(run: &Run<'_>, outcome: &Outcome) -> bool {
     outcome.out.bytes() == run.out.as_slice()
         && outcome.report.bytes() == run.report.as_slice()
         && outcome.status == run.wanted_status()

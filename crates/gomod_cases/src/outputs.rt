@@ -1,5 +1,6 @@
-//! Commands over outputs with room for fewer bytes than they write.
+//! Commands over outputs with room for exactly what they write, and for fewer bytes.
 
+use crate::checking::is_wanted;
 use crate::cutting::{begins_line, is_cut, is_short};
 use crate::differences::Differences;
 use crate::outcomes::{DEVICE, Outcome, Room};
@@ -50,8 +51,8 @@ impl Output {
     }
 }
 
-/// Runs a command over outputs with room for fewer bytes than it writes. It must write as much as there is room for,
-/// and end with status 3.
+/// Runs a command over outputs with room for exactly what it writes, and for fewer bytes. With exactly that room it
+/// must have the result of the case; with less it must write as much as there is room for, and end with status 3.
 pub(crate) fn sweep_outputs(
     workspace: &Workspace<'_>,
     parsed_run: &ParsedRun<'_>,
@@ -60,6 +61,8 @@ pub(crate) fn sweep_outputs(
     let run = parsed_run.run;
     let longer = run.out.len().max(run.report.len());
     let is_cut_everywhere = workspace.case.is_cut_everywhere || is_short(longer);
+    check_exact(workspace, parsed_run, false, differences)?;
+    check_exact(workspace, parsed_run, true, differences)?;
     sweep_output(
         workspace,
         parsed_run,
@@ -74,6 +77,26 @@ pub(crate) fn sweep_outputs(
         is_cut_everywhere,
         differences,
     )
+}
+
+/// Runs a command over outputs with room for exactly what it writes.
+fn check_exact(
+    workspace: &Workspace<'_>,
+    parsed_run: &ParsedRun<'_>,
+    is_real: bool,
+    differences: &mut Differences,
+) -> Result<(), AllocError> {
+    let run = parsed_run.run;
+    let room = Room {
+        out: run.out.len(),
+        report: run.report.len(),
+    };
+    let outcome = outcome_within(workspace, parsed_run, room, is_real)?;
+    if !is_wanted(run, &outcome) {
+        differences.command(run, "over outputs with exactly the room of what it writes");
+        differences.outcome(&outcome);
+    }
+    Ok(())
 }
 
 /// Runs a command with less room for one of its outputs than it needs.

@@ -3,7 +3,9 @@
 use crate::checking::check_case;
 use crate::counting::Count;
 use crate::differences::Differences;
-use gomod_case_files::{Case, CaseFault, CaseFile, Content, LineFault, read_cases};
+use gomod_case_files::{
+    Case, CaseFault, CaseFile, CaseText, Content, LineFault, case_texts, read_cases,
+};
 use std::alloc::AllocError;
 use std::process::ExitCode;
 use std::{env, fs, io};
@@ -139,10 +141,55 @@ impl<'a> Session<'a> {
 
     /// Runs the cases of a text.
     fn run_text(&mut self, name: &str, text: &str) -> io::Result<()> {
-        match read_cases(self.system.alloc(), text) {
-            Ok(cases) => self.run_copied(name, cases),
-            Err(CaseFault::Line(number, fault)) => self.fail_line(name, number, fault),
-            Err(CaseFault::NoMemory) => Err(io::Error::from(io::ErrorKind::OutOfMemory)),
+        for case in &case_texts(self.system.alloc(), text)? {
+            self.run_case_text(name, case)?;
+        }
+        Ok(())
+    }
+
+    /// Runs a case as it stands, or at each of its sizes.
+    fn run_case_text(&mut self, name: &str, case: &CaseText<'_>) -> io::Result<()> {
+        match case.sizes(self.system.alloc()) {
+            Ok(None) => self.run_read(name, case.lines_before, case.text.as_str(), None),
+            Ok(Some(sizes)) => self.run_sized(name, case, sizes.as_slice()),
+            Err(fault) => self.fail_case(name, fault),
+        }
+    }
+
+    /// Runs a case at each of its sizes, if the words choose it.
+    fn run_sized(&mut self, name: &str, case: &CaseText<'_>, sizes: &[usize]) -> io::Result<()> {
+        let title = case.title.unwrap_or("");
+        if !is_chosen(title, self.words, &mut self.unmatched) {
+            return Ok(());
+        }
+        for (index, size) in sizes.iter().enumerate() {
+            let is_greatest = index.saturating_add(1) == sizes.len();
+            let text = case.at(self.system.alloc(), *size)?;
+            self.run_read(name, case.lines_before, text.as_str(), Some(is_greatest))?;
+        }
+        Ok(())
+    }
+
+    /// Runs the case of a text that follows this many lines. Where it is one of several sizes, it is said whether that
+    /// is the greatest.
+    fn run_read(
+        &mut self,
+        name: &str,
+        lines_before: usize,
+        text: &str,
+        is_greatest: Option<bool>,
+    ) -> io::Result<()> {
+        match read_cases(self.system.alloc(), lines_before, text) {
+            Ok(cases) => self.run_copied(name, cases, is_greatest),
+            Err(fault) => self.fail_case(name, fault),
+        }
+    }
+
+    /// Reports why a case can't be read.
+    fn fail_case(&mut self, name: &str, fault: CaseFault) -> io::Result<()> {
+        match fault {
+            CaseFault::Line(number, fault) => self.fail_line(name, number, fault),
+            CaseFault::NoMemory => Err(io::Error::from(io::ErrorKind::OutOfMemory)),
         }
     }
 
@@ -152,29 +199,27 @@ impl<'a> Session<'a> {
         self.fail(line.as_str())
     }
 
-    /// Runs cases after it reads the files that they copy.
-    fn run_copied(&mut self, name: &str, cases: Vec<Case<'_>>) -> io::Result<()> {
-        let mut cases = cases;
-        for case in &mut cases {
-            read_copies(&self.system, case)?;
-        }
-        self.run_cases(name, cases.as_slice())
-    }
-
-    /// Runs those of the cases that the words choose.
-    fn run_cases(&mut self, name: &str, cases: &[Case<'_>]) -> io::Result<()> {
-        for (number, case) in cases.iter().enumerate() {
-            if is_chosen(case, self.words, &mut self.unmatched) {
-                self.run_case(name, number, case)?;
+    /// Runs those of the cases that the words choose, after it reads the files that they copy.
+    fn run_copied(
+        &mut self,
+        name: &str,
+        cases: Vec<Case<'_>>,
+        is_greatest: Option<bool>,
+    ) -> io::Result<()> {
+        for case in cases {
+            let mut case = case;
+            if is_greatest.is_some() || is_chosen(case.title, self.words, &mut self.unmatched) {
+                prepare(&self.system, &mut case, is_greatest)?;
+                self.run_case(name, &case)?;
             }
         }
         Ok(())
     }
 
     /// Runs a case.
-    fn run_case(&mut self, name: &str, number: usize, case: &Case<'_>) -> io::Result<()> {
+    fn run_case(&mut self, name: &str, case: &Case<'_>) -> io::Result<()> {
         let mut differences = Differences::new(self.system.alloc());
-        check_case(&self.system, number, case, &self.count, &mut differences)?;
+        check_case(&self.system, case, &self.count, &mut differences)?;
         self.end_case(name, case, differences.finished()?)
     }
 
@@ -205,6 +250,15 @@ impl<'a> Session<'a> {
     }
 }
 
+/// Reads the files that a case copies, and says how it is run where it is at one of several sizes.
+fn prepare(rt: &HostRuntime, case: &mut Case<'_>, is_greatest: Option<bool>) -> io::Result<()> {
+    if let Some(is_greatest) = is_greatest {
+        case.is_large = true;
+        case.is_in_memory_alone = !is_greatest;
+    }
+    read_copies(rt, case)
+}
+
 /// Reads the files that a case copies.
 fn read_copies(rt: &HostRuntime, case: &mut Case<'_>) -> io::Result<()> {
     for file in &mut case.files {
@@ -223,14 +277,14 @@ fn read_copy(rt: &HostRuntime, file: &mut CaseFile) -> io::Result<()> {
     Ok(())
 }
 
-/// Whether the words choose a case. If no word chooses titles, all cases are chosen. It notes the words that are in the
-/// title.
-fn is_chosen(case: &Case<'_>, words: &[String], unmatched: &mut [bool]) -> bool {
+/// Whether the words choose the case with a title. If no word chooses titles, all cases are chosen. It notes the words
+/// that are in the title.
+fn is_chosen(title: &str, words: &[String], unmatched: &mut [bool]) -> bool {
     let (mut chooses, mut is_chosen) = (false, false);
     for (word, is_unmatched) in words.iter().zip(unmatched) {
         if !names_file(word.as_str()) {
             chooses = true;
-            if case.title.contains(word.as_str()) {
+            if title.contains(word.as_str()) {
                 is_chosen = true;
                 *is_unmatched = false;
             }

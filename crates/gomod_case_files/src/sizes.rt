@@ -1,0 +1,189 @@
+//! Cases as text, each of which may be run at several sizes.
+
+use crate::faults::{CaseFault, LineFault};
+use crate::numbering::count_of;
+use std::alloc::{AllocError, Global};
+use std::mem;
+
+/// What the title of a case begins with.
+const TITLE: &str = "=== ";
+
+/// What the line directly below a title begins with, if the case is run at several sizes.
+const SIZES: &str = "% sizes ";
+
+/// What every place of a size begins with.
+const PLACE: &str = "{N";
+
+/// The place of the size.
+const SIZE: &str = "{N}";
+
+/// The place of the number before the size.
+const BEFORE: &str = "{N-1}";
+
+/// The place of the number after the size.
+const AFTER: &str = "{N+1}";
+
+/// How many times the size that precedes it a size is.
+const STEP: usize = 4;
+
+/// The greatest number of sizes of a case.
+const MOST_SIZES: usize = 16;
+
+/// The line that says at which sizes a case is run.
+#[derive(Clone, Copy)]
+struct SizesLine<'a> {
+    number: usize,
+    /// What follows the mark.
+    text: &'a str,
+}
+
+/// A case as text.
+#[derive(Drop)]
+pub struct CaseText<'a> {
+    /// The number of lines before it.
+    pub lines_before: usize,
+    /// Its title. Only a text without any case has none.
+    pub title: Option<&'a str>,
+    /// Its lines, of which the one that has the sizes is blank here.
+    pub text: String,
+    sizes: Option<SizesLine<'a>>,
+}
+
+impl<'a> CaseText<'a> {
+    /// A case without lines.
+    fn new(alloc: Global, lines_before: usize) -> CaseText<'a> {
+        CaseText {
+            lines_before,
+            title: None,
+            text: String::new(alloc),
+            sizes: None,
+        }
+    }
+
+    /// Takes the next line.
+    fn take(&mut self, line: &str) -> Result<(), AllocError> {
+        self.text.push_str(line)?;
+        self.text.push('\n')
+    }
+
+    /// The sizes that it is run at, or none if it is run as it stands.
+    pub fn sizes(&self, alloc: Global) -> Result<Option<Vec<usize>>, CaseFault> {
+        let Some(line) = self.sizes else {
+            return Ok(None);
+        };
+        let names_size = self.title.is_some_and(|title| title.contains(SIZE));
+        match range_of(line.text) {
+            Some((least, most)) if names_size => Ok(Some(sizes_between(alloc, least, most)?)),
+            _ => Err(CaseFault::Line(line.number, LineFault::BadSizes)),
+        }
+    }
+
+    /// Its text at a size.
+    pub fn at(&self, alloc: Global, size: usize) -> Result<String, AllocError> {
+        let text = placed(alloc, self.text.as_str(), SIZE, size)?;
+        let text = placed(alloc, text.as_str(), BEFORE, size.saturating_sub(1))?;
+        placed(alloc, text.as_str(), AFTER, size.saturating_add(1))
+    }
+}
+
+/// A text with a number at each of these places.
+fn placed(alloc: Global, text: &str, place: &str, number: usize) -> Result<String, AllocError> {
+    let digits = format!(in alloc; "{number}")?;
+    text.replace(alloc, place, digits.as_str())
+}
+
+/// Whether a text has a place of a size.
+pub(crate) fn has_place(text: &str) -> bool {
+    text.contains(PLACE)
+}
+
+/// The least and the greatest size that a text names.
+fn range_of(text: &str) -> Option<(usize, usize)> {
+    let (least, most) = text.split_once(" to ")?;
+    let (least, most) = (count_of(least)?, count_of(most)?);
+    if least < most {
+        Some((least, most))
+    } else {
+        None
+    }
+}
+
+/// The sizes from one to another: each four times the one before it, and the greatest.
+fn sizes_between(alloc: Global, least: usize, most: usize) -> Result<Vec<usize>, AllocError> {
+    let mut sizes = Vec::new(alloc);
+    let mut size = least;
+    for _ in 0..MOST_SIZES {
+        if size < most {
+            sizes.push(size)?;
+            size = size.saturating_mul(STEP);
+        }
+    }
+    sizes.push(most)?;
+    Ok(sizes)
+}
+
+/// Takes the lines of a text, and divides them by cases.
+#[derive(Drop)]
+struct Divider<'a> {
+    alloc: Global,
+    /// The cases before the last one.
+    cases: Vec<CaseText<'a>>,
+    /// The case that the next line belongs to, unless that is a title.
+    last: CaseText<'a>,
+    /// Whether the line before the next one is a title.
+    is_below_title: bool,
+}
+
+/// The cases of a text, in order, each as text. What stands before the first title belongs to the first of them.
+pub fn case_texts<'a>(alloc: Global, text: &'a str) -> Result<Vec<CaseText<'a>>, AllocError> {
+    let mut divider = Divider {
+        alloc,
+        cases: Vec::new(alloc),
+        last: CaseText::new(alloc, 0),
+        is_below_title: false,
+    };
+    divider.take_text(text)?;
+    let Divider { cases, last, .. } = divider;
+    let mut cases = cases;
+    cases.push(last)?;
+    Ok(cases)
+}
+
+impl<'a> Divider<'a> {
+    /// Takes a whole text.
+    fn take_text(&mut self, text: &'a str) -> Result<(), AllocError> {
+        // what follows the last line end of a text is not a line
+        let text = text.strip_suffix('\n').unwrap_or(text);
+        for (index, line) in text.split('\n').enumerate() {
+            self.take(index, line)?;
+        }
+        Ok(())
+    }
+
+    /// Takes the line after this many others.
+    fn take(&mut self, index: usize, line: &'a str) -> Result<(), AllocError> {
+        if let Some(title) = line.strip_prefix(TITLE) {
+            return self.begin_case(index, line, title);
+        }
+        let is_below_title = mem::replace(&mut self.is_below_title, false);
+        match line.strip_prefix(SIZES) {
+            Some(text) if is_below_title => {
+                let number = index.saturating_add(1);
+                self.last.sizes = Some(SizesLine { number, text });
+                self.last.take("")
+            }
+            _ => self.last.take(line),
+        }
+    }
+
+    /// Begins the case with a title, which is the line after this many others.
+    fn begin_case(&mut self, index: usize, line: &str, title: &'a str) -> Result<(), AllocError> {
+        if self.last.title.is_some() {
+            let case = mem::replace(&mut self.last, CaseText::new(self.alloc, index));
+            self.cases.push(case)?;
+        }
+        self.last.title = Some(title);
+        self.is_below_title = true;
+        self.last.take(line)
+    }
+}
