@@ -2,7 +2,7 @@
 use Rattle.std.proofs.Common.{◌≡◌, ℕ, suc, ◌+◌, ◌<◌, ◌≤◌, not, Bool, true, false, List, [], ◌∷◌, ◌++◌, length, take, set, Option, Some, None, is_some, refl, sym, ap, subst, ◌∙◌, append-nil, append_assoc, arith, inl, inr, drop, get_or, map}
 use Rattle.std.specs.Prelude.{if◌then◌else◌, take_while}
 use Rattle.std.specs.List.{prefix_len}
-use Rattle.std.specs.Option.{option_map, option_to_list}
+use Rattle.std.specs.Option.{option_to_list}
 use Rattle.std.proofs.Math.ListN.{get_or-map}
 use Rattle.std.proofs.lemmas.List.{length-map}
 use Rattle.std.proofs.lemmas.Bool.{cases_Bool}
@@ -19,8 +19,10 @@ use Rattle.gm_file_edit.specs.Marks.{marks_from}
 use Rattle.gm_file_edit.specs.Packs.{fate_by, line_at, marked}
 use Rattle.gm_file_edit.specs.Searching.{is_there_from}
 use Rattle.gm_file_edit.specs.declared.keys.Key.{Key}
-use Rattle.gm_file_edit.specs.Keys.{key_of, may_concern, text_number}
-use Rattle.gm_file_edit.specs.Targets.{edited_path}
+use Rattle.gm_file_edit.specs.declared.keys.Scope.{Scope}
+use Rattle.gm_file_edit.specs.declared.keys.Sought.{Sought}
+use Rattle.gm_file_edit.specs.Keys.{key_of, may_concern, scope_of, sought_of, text_number}
+use Rattle.gm_file_edit.specs.Targets.{verb_of}
 use Rattle.gm_file_edit.proofs.Packs.{get_or-default, get_or-other}
 use Rattle.gm_file_edit.proofs.PassedOver.{passed-over}
 use Rattle.gm_file_edit.proofs.Sound.{SoundFrom}
@@ -64,14 +66,15 @@ mark-read test whole n block next_block line marks next mark lt is behind tested
     mark-more test whole (drop n whole) (drop (n + 1) whole) block next_block line marks next mark (here whole n line lt is) behind tested pushed so
 
 -- a line that is passed over for its key
-pub mark-over : (edit : Edit) (number : Option ℕ) (whole : List (Line Placed)) (n : ℕ) (block : Option Placed) (keys : List Key) (key : Key) (marks next : List Bool) → n < length whole → keys ≡ map key_of whole
-    → number ≡ option_map text_number (edited_path edit) → may_concern number (get_or keys n key) ≡ false → next ≡ marks ++ false ∷ [] → IsMarkedTo (about edit) whole (drop n whole) block marks → IsMarkedTo (about edit) whole (drop (n + 1) whole) block next
-mark-over edit number whole n block keys key marks next lt are of off pushed so =
+pub mark-over : (edit : Edit) (number : ℕ) (seeks : Sought) (at : Scope) (whole : List (Line Placed)) (n : ℕ) (block : Option Placed) (keys : List Key) (key : Key) (marks next : List Bool) → n < length whole → keys ≡ map key_of whole
+    → number ≡ text_number (verb_of edit) → seeks ≡ sought_of edit → at ≡ scope_of (verb_of edit) block → may_concern number seeks at (get_or keys n key) ≡ false → next ≡ marks ++ false ∷ []
+    → IsMarkedTo (about edit) whole (drop n whole) block marks → IsMarkedTo (about edit) whole (drop (n + 1) whole) block next
+mark-over edit number seeks at whole n block keys key marks next lt are of sought_so at_so off pushed so =
     let line = line_at whole n in
     let count = length-map whole key_of in
     let own : get_or keys n key ≡ key_of line =
     ap (λ (ks : List Key). get_or ks n key) are ∙ get_or-other (map key_of whole) n key (key_of Blank) (omega (arith, lt, count)) ∙ get_or-map key_of whole n Blank in
-    let over = passed-over edit number block line of (ap (may_concern number) (sym own) ∙ off) in
+    let over = passed-over edit block line (rw (sym of, sym sought_so, sym at_so) (ap (may_concern number seeks at) (sym own) ∙ off)) in
     mark-read (about edit) whole n block block line marks next false lt refl (sym over.1) (sym over.0) pushed so
 
 pub mark-end : (test : Directive → Bool) (whole rest : List (Line Placed)) (block : Option Placed) (marks : List Bool) → rest ≡ [] → IsMarkedTo test whole rest block marks → marks ≡ marks_from test None whole

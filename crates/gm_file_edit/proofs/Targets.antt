@@ -10,19 +10,16 @@ use Rattle.gm_syntax.specs.Words.{Word}
 use Rattle.std.proofs.lemmas.List.{take_rest}
 use Rattle.gm_syntax.specs.Tokens.{Placed, words_of}
 use Rattle.gm_syntax.specs.Document.{Line, Entry}
-use Rattle.gm_syntax.specs.declared.word.Kind.{Kind}
-use Rattle.gm_syntax.specs.declared.word.Kind.TheVariants.{Bare, Text, Mark}
-use Rattle.gm_syntax.specs.Values.{value_of, value_of_kind}
-use Rattle.gm_file.specs.Values.{argument, argument_of_kind, both}
+use Rattle.gm_file.specs.Values.{argument, both}
 use Rattle.gm_file.specs.Directives.{Verb, ForModule, ForGo, ForRequire, ForExclude, ForReplace, ForRetract, ForNothing, Unknown, Strict, Pair, pair, Left, Right, replacing, Directive, DeclaresModule, DeclaresGo, Requires, Excludes, Replaces, Retracts, Kept, Item, Silent, Opening, Saying, directive_in, directive_of, ends_of, is_arrow, is_empty_block, item_at, left_of, left_with, left_without, main_verb, one_of, pair_of, replacing_of, right_of}
-use Rattle.gm_file_edit.specs.About.{about, excludes_pair, is_covered_by, is_replaced_by, replaces_left, requires_path, retracts_ends}
-use Rattle.gm_file.specs.Faults.{entry_kinds, is_go, is_module, is_same_left, item_kinds}
+use Rattle.gm_file_edit.specs.About.{about, excludes_pair, is_replaced_by, replaces_left, requires_path, retracts_ends}
+use Rattle.gm_file.specs.Faults.{entry_kinds, is_go, is_module, item_kinds}
 use Rattle.gm_file_edit.specs.Edits.{Edit, SetModule, SetGo, SetRequire, DropRequire, AddExclude, DropExclude, SetReplace, DropReplace, AddRetract, DropRetract}
 use Rattle.gm_file_edit.specs.Fates.{IsValidAt, directive_at, item_of, passes}
 use Rattle.gm_file_edit.specs.Adding.{is_exclude, is_of, is_replace, is_require, is_retract, verb_text}
 use Rattle.gm_file_edit.specs.declared.adding.AddedVerb.{AddedVerb}
 use Rattle.gm_file_edit.specs.declared.adding.AddedVerb.TheVariants as verb
-use Rattle.gm_file_edit.specs.Targets.{begins_with, is_entry_of, is_first, is_text, edited_path, verb_of}
+use Rattle.gm_file_edit.specs.Targets.{is_entry_of, is_first, is_text, verb_of}
 
 -- ---- the verb of a directive
 
@@ -37,7 +34,7 @@ verb_said (Retracts ends) = ForRetract
 verb_said Kept = ForNothing
 
 -- the verb of the directives that an operation targets
-abbrev verb_about : Edit → Verb
+abbrev pub verb_about : Edit → Verb
 verb_about (SetModule path) = ForModule
 verb_about (SetGo text) = ForGo
 verb_about (SetRequire p) = ForRequire
@@ -194,43 +191,23 @@ other-verb edit text words other = none-passes edit text words (directive_of (ma
 
 -- ---- the first argument of an entry
 
-text-of-kind : (kind : Kind) (spelling value : List ℕ) → kind ≡ Text → value_of_kind kind spelling ≡ value → argument_of_kind kind spelling ≡ Some value
-text-of-kind Bare spelling value e is = absurd cc
-text-of-kind Text spelling value e is = ap Some is
-text-of-kind Mark spelling value e is = absurd cc
-
--- the value of a string is the value of an argument
-pub text-value : (word : Word) (text value : List ℕ) → word.kind ≡ Text → value_of word ≡ value → bytes_eq value text ≡ is_text text (argument word)
-text-value word text value kind is = ap (is_text text) (sym (text-of-kind word.kind word.spelling value kind is))
-
 other-required : (path : List ℕ) (a b : Option (List ℕ)) → is_text path a ≡ false → passes (requires_path path) (option_map Requires (both pair a b)) ≡ false
 other-required path None b other = refl
 other-required path (Some p) None other = refl
 other-required path (Some p) (Some v) other = other
 
-required : (path : List ℕ) (words : List Word) → is_first path words ≡ false → passes (requires_path path) (option_map Requires (pair_of words)) ≡ false
+pub required : (path : List ℕ) (words : List Word) → is_first path words ≡ false → passes (requires_path path) (option_map Requires (pair_of words)) ≡ false
 required path [] other = refl
 required path (p ∷ []) other = refl
 required path (p ∷ v ∷ []) other = other-required path (argument p) (argument v) other
 required path (p ∷ v ∷ w ∷ words) other = refl
 
-other-excluded : (q : Pair) (a b : Option (List ℕ)) → is_text q.0 a ≡ false → passes (excludes_pair q) (option_map Excludes (both pair a b)) ≡ false
-other-excluded q None b other = refl
-other-excluded q (Some p) None other = refl
-other-excluded q (Some p) (Some v) other = rw other refl
-
-excluded : (q : Pair) (words : List Word) → is_first q.0 words ≡ false → passes (excludes_pair q) (option_map Excludes (pair_of words)) ≡ false
-excluded q [] other = refl
-excluded q (p ∷ []) other = refl
-excluded q (p ∷ v ∷ []) other = other-excluded q (argument p) (argument v) other
-excluded q (p ∷ v ∷ w ∷ words) other = refl
-
 -- a test of left sides that fails for all but one path
-abbrev IsOfPath : List ℕ → (Left → Bool) → Type 0
+abbrev pub IsOfPath : List ℕ → (Left → Bool) → Type 0
 IsOfPath path test = (left : Left) → bytes_eq left.path path ≡ false → test left ≡ false
 
 -- a left side passes the test
-abbrev left_passes : (Left → Bool) → Option Left → Bool
+abbrev pub left_passes : (Left → Bool) → Option Left → Bool
 left_passes test None = false
 left_passes test (Some left) = test left
 
@@ -250,7 +227,7 @@ other-left path test only (p ∷ v ∷ []) other = two-left path test only (argu
 other-left path test only (p ∷ v ∷ w ∷ words) other = refl
 
 -- what stands before a word begins with the first word, unless that is nothing
-before-cons : {X : Type 0} (test : X → Bool) (x : X) (xs : List X) → (before_first test (x ∷ xs) ≡ []) ⊎ ((ys : List X) × (before_first test (x ∷ xs) ≡ x ∷ ys))
+pub before-cons : {X : Type 0} (test : X → Bool) (x : X) (xs : List X) → (before_first test (x ∷ xs) ≡ []) ⊎ ((ys : List X) × (before_first test (x ∷ xs) ≡ x ∷ ys))
 before-cons test x xs = elim (cases_Bool (test x)) [
   | inl holds ↦ inl (rw holds refl)
   | inr fails ↦ let more : 1 + prefix_len (λ y. not (test y)) xs ≡ suc (prefix_len (λ y. not (test y)) xs) = omega arith in inr (before_first test xs, rw fails (ap (λ (n : ℕ). take n (x ∷ xs)) more))
@@ -263,23 +240,19 @@ first-before path (w ∷ words) other = elim (before-cons is_arrow w words) [
   | inr some ↦ ap (is_first path) some.1 ∙ other
 ]
 
-sides-pass : (test : Left → Bool) (about_it : Directive → Bool) → ((left : Left) (right : Right) → about_it (Replaces (replacing left right)) ≡ test left) → (l : Option Left) (r : Option Right)
+pub sides-pass : (test : Left → Bool) (about_it : Directive → Bool) → ((left : Left) (right : Right) → about_it (Replaces (replacing left right)) ≡ test left) → (l : Option Left) (r : Option Right)
     → left_passes test l ≡ false → passes about_it (option_map Replaces (both replacing l r)) ≡ false
 sides-pass test about_it is None r fails = refl
 sides-pass test about_it is (Some left) None fails = refl
 sides-pass test about_it is (Some left) (Some right) fails = is left right ∙ fails
 
-replaced : (path : List ℕ) (test : Left → Bool) (about_it : Directive → Bool) → IsOfPath path test → ((left : Left) (right : Right) → about_it (Replaces (replacing left right)) ≡ test left)
+pub replaced : (path : List ℕ) (test : Left → Bool) (about_it : Directive → Bool) → IsOfPath path test → ((left : Left) (right : Right) → about_it (Replaces (replacing left right)) ≡ test left)
     → (words : List Word) → is_first path words ≡ false → passes about_it (option_map Replaces (replacing_of words)) ≡ false
 replaced path test about_it only is words other =
     sides-pass test about_it is (left_of (before_first is_arrow words)) (right_of (after_first is_arrow words)) (other-left path test only (before_first is_arrow words) (first-before path words other))
 
-covered-path : (left : Left) (version : Option (List ℕ)) → IsOfPath left.path (is_covered_by left version)
-covered-path left None other fails = fails
-covered-path left (Some v) other fails = rw fails refl
-
 -- the verb of a text that spells the verb of an operation
-same-verb : (edit : Edit) → main_verb (verb_of edit) ≡ verb_about edit
+pub same-verb : (edit : Edit) → main_verb (verb_of edit) ≡ verb_about edit
 same-verb (SetModule path) = refl
 same-verb (SetGo text) = refl
 same-verb (SetRequire p) = refl
@@ -290,26 +263,6 @@ same-verb (SetReplace r) = refl
 same-verb (DropReplace left) = refl
 same-verb (AddRetract ends) = refl
 same-verb (DropRetract ends) = refl
-
-other-begin : (edit : Edit) (words : List Word) → begins_with (edited_path edit) words ≡ false → passes (about edit) (directive_of (verb_about edit) words) ≡ false
-unfolding directive_of
-other-begin (SetModule path) words other = absurd cc
-other-begin (SetGo text) words other = absurd cc
-other-begin (SetRequire p) words other = required p.0 words other
-other-begin (DropRequire path) words other = required path words other
-other-begin (AddExclude p) words other = excluded p words other
-other-begin (DropExclude p) words other = excluded p words other
-other-begin (SetReplace r) words other = replaced r.0.path (is_covered_by r.0 r.0.version) (is_replaced_by r.0) (covered-path r.0 r.0.version) (λ left right. refl) words other
-other-begin (DropReplace left) words other = replaced left.path (λ side. is_same_left side left) (replaces_left left) (λ side fails. rw fails refl) (λ side right. refl) words other
-other-begin (AddRetract ends) words other = absurd cc
-other-begin (DropRetract ends) words other = absurd cc
-
--- an entry with the verb and another first argument isn't targeted
-pub other-path : (edit : Edit) (text : List ℕ) (words : List Word) → bytes_eq text (verb_of edit) ≡ true → begins_with (edited_path edit) words ≡ false → passes (about edit) (directive_of (main_verb text) words) ≡ false
-other-path edit text words named other =
-    let is : text ≡ verb_of edit = (bytes_eq-Decides text (verb_of edit)).0 named in
-    let verb : main_verb text ≡ verb_about edit = ap main_verb is ∙ same-verb edit in
-    ap (λ (v : Verb). passes (about edit) (directive_of v words)) verb ∙ other-begin edit words other
 
 -- ---- lines
 
@@ -327,17 +280,6 @@ pub no-words-other : (edit : Edit) (words : List Placed) (suffix : Option (List 
 unfolding item_at
 no-words-other edit [] suffix short = refl
 no-words-other edit (word ∷ words) suffix short = absurd (omega (arith, short))
-
-pub words-other : (edit : Edit) (verb : Placed) (words : List Placed) (suffix : Option (List ℕ)) → 1 ≤ length words → verb ≡ get_or words 0 verb
-    → passes (about edit) (directive_of (main_verb verb.word.spelling) (words_of (take (length words - 1) (drop 1 words)))) ≡ false
-    → passes (about edit) (directive_at None (Entry words suffix)) ≡ false
-words-other edit verb [] suffix long is fails = absurd (omega (arith, long))
-words-other edit verb (word ∷ words) suffix long is fails =
-    let rest : take (length (word ∷ words) - 1) (drop 1 (word ∷ words)) ≡ words = take_rest (word ∷ words) 1 in
-    let same : passes (about edit) (directive_of (main_verb word.word.spelling) (words_of words)) ≡ false =
-    ap (λ (w : Placed). passes (about edit) (directive_of (main_verb w.word.spelling) (words_of words))) (sym is)
-    ∙ ap (λ (ws : List Placed). passes (about edit) (directive_of (main_verb verb.word.spelling) (words_of ws))) (sym rest) ∙ fails in
-    loose-other edit word words suffix same
 
 pub block-other : (edit : Edit) (verb : Placed) (words : List Placed) (suffix : Option (List ℕ))
     → passes (about edit) (directive_of (main_verb verb.word.spelling) (map (λ t. t.word) words)) ≡ false
@@ -498,12 +440,3 @@ pub no-words-of : (text : List ℕ) (words : List Placed) (suffix : Option (List
 unfolding item_at
 no-words-of text [] suffix short = refl
 no-words-of text (word ∷ words) suffix short = absurd (omega (arith, short))
-
--- whether words begin with a path
-pub begins-none : (path : List ℕ) (words : List Placed) → length words < 1 → false ≡ begins_with (Some path) (words_of words)
-begins-none path [] short = refl
-begins-none path (word ∷ words) short = absurd (omega (arith, short))
-
-pub begins-one : (path : List ℕ) (words : List Placed) (first : Placed) → 1 ≤ length words → first ≡ get_or words 0 first → is_text path (argument first.word) ≡ begins_with (Some path) (words_of words)
-begins-one path [] first long is = absurd (omega (arith, long))
-begins-one path (word ∷ words) first long is = ap (λ (w : Placed). is_text path (argument w.word)) is

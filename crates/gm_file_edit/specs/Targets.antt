@@ -1,5 +1,5 @@
 -- What a line must have to hold a directive that an operation targets: a verb, and mostly a first argument.
-use Rattle.std.specs.Prelude.{ℕ, Bool, true, false, List, [], ◌∷◌, codes, Option, Some, None}
+use Rattle.std.specs.Prelude.{ℕ, Bool, false, List, [], ◌∷◌, codes, Option, Some, None}
 use Rattle.std.specs.Str.{bytes_eq}
 use Rattle.gm_syntax.specs.Words.{Word}
 use Rattle.gm_file.specs.Directives.{Item, Silent, Opening, Saying}
@@ -19,19 +19,6 @@ verb_of (DropReplace left) = codes "replace"
 verb_of (AddRetract ends) = codes "retract"
 verb_of (DropRetract ends) = codes "retract"
 
--- the path that these directives have as their first argument
-abbrev pub edited_path : Edit → Option (List ℕ)
-edited_path (SetModule path) = None
-edited_path (SetGo text) = None
-edited_path (SetRequire p) = Some p.0
-edited_path (DropRequire path) = Some path
-edited_path (AddExclude p) = Some p.0
-edited_path (DropExclude p) = Some p.0
-edited_path (SetReplace r) = Some r.0.path
-edited_path (DropReplace left) = Some left.path
-edited_path (AddRetract ends) = None
-edited_path (DropRetract ends) = None
-
 -- whether a word is an argument with this value
 abbrev pub is_text : List ℕ → Option (List ℕ) → Bool
 is_text text None = false
@@ -41,11 +28,6 @@ is_text text (Some value) = bytes_eq value text
 abbrev pub is_first : List ℕ → List Word → Bool
 is_first text [] = false
 is_first text (word ∷ words) = is_text text (argument word)
-
--- whether the words of an entry begin with the path, if there is one
-abbrev pub begins_with : Option (List ℕ) → List Word → Bool
-begins_with None words = true
-begins_with (Some path) words = is_first path words
 
 -- whether what a line says is an entry with this verb
 abbrev pub is_entry_of : List ℕ → Item → Bool

@@ -1,56 +1,122 @@
 //! Keys of lines.
 //!
-//! An operation looks for one path. A line's key has the numbers of its first two words, so most lines are passed over
-//! without a look at their words, which are elsewhere in memory.
+//! An operation looks for one path, for one path at one version, or for one interval. A line's key has numbers of these,
+//! so most lines are passed over without a look at their words, which are elsewhere in memory. Which numbers count
+//! depends on whether the line is in a block, so a key has those for either place: it then depends on the line alone.
 
-ghost use Rattle.std.specs.Prelude.{◌≡◌, ◌%◌};
+ghost use Rattle.std.specs.Prelude.{◌≡◌, ◌%◌, ◌^◌};
 ghost use Rattle.std.specs.Option.{option_map};
 ghost use Rattle.gm_syntax.specs.LineViews.{line_of};
-ghost use Rattle.gm_file_edit.specs.Keys.{key_of, may_concern, may_name, number_at, text_number, word_number, words_key};
+ghost use Rattle.gm_file_edit.specs.Keys.{ends_number, joined, key_of, key_with, may_be_about, may_concern, may_equal, number_at, target_number, text_number, word_number, words_key};
 
 use gm_name::fingerprint;
 use gm_syntax::{Kind, Line, Token};
 
-/// The numbers of the first two words of a line.
+/// The numbers of a line.
 #[derive(Clone, Copy)]
 pub(crate) struct Key {
     /// The number of the first word.
-    first: u16,
+    first: u32,
     /// The number of the second word.
-    second: u16,
+    second: u32,
+    /// The number of what the words are about if they are the arguments of an entry in a block.
+    inside: u32,
+    /// The number of what the words after the first are about if that one is the verb.
+    outside: u32,
 }
 
-/// The number of a line without words, and of a mark.
-const NONE: u16 = 1;
+/// The numbers that the lines have that an operation targets.
+#[derive(Clone, Copy)]
+pub(crate) enum Sought {
+    /// Any.
+    Any,
+    /// The number of the first argument.
+    Path(u32),
+    /// The number of all that the arguments are about: a path and a version, a path without one, or an interval.
+    Target(u32),
+}
 
-/// The number of a line that every operation reads.
-const ANY: u16 = 0;
+/// Where a line is, as far as entries with the verb of an operation are concerned.
+#[derive(Clone, Copy)]
+pub(crate) enum Scope {
+    /// Outside blocks.
+    Outside,
+    /// In a block of the verb.
+    Own,
+    /// In a block of another verb.
+    Other,
+}
 
-/// The number of a fingerprint.
-pub(crate) fn short(fingerprint: u64) -> u16
-    ensures { result ≡ fingerprint % 65536 }
+/// The number of a word that is missing, and of a line without words.
+pub(crate) const NONE: u32 = 1;
+
+/// The number of a line or a word that has to be read.
+const ANY: u32 = 0;
+
+/// An odd number near 2^32 divided by the golden ratio, whose multiples are spread evenly.
+const FACTOR: u32 = 2_654_435_769;
+
+/// The number of a text.
+pub(crate) fn text_number(text: &str) -> u32
+    ensures { result ≡ text_number text.now }
 {
-    (fingerprint % 65_536) as u16
+    (fingerprint(0, text) % 4_294_967_296) as u32
 }
 
-/// The number of a word: that of its text, or `ANY` for a string, whose value is not its text.
-fn word_number(word: &Token) -> u16
-    ensures { result ≡ word_number word.now.word }
+/// The number of two numbers, or `ANY` if one of them is that.
+pub(crate) fn joined(a: u32, b: u32) -> u32
+    ensures { result ≡ joined a b }
+{
+    if a == ANY || b == ANY {
+        return ANY;
+    }
+    a.wrapping_mul(FACTOR).wrapping_add(b)
+}
+
+/// The number of the ends of an interval. Equal ends have that of one version, since they are written as one.
+pub(crate) fn ends_number(low: u32, high: u32) -> u32
+    ensures { result ≡ ends_number low high }
+{
+    if low == high {
+        return joined(low, NONE);
+    }
+    joined(low, high)
+}
+
+/// The number of a word: that of its text, `ANY` for a string, whose value is not its text, and `mark` for a mark.
+fn word_number(mark: u32, word: &Token) -> u32
+    ensures { result ≡ word_number mark word.now.word }
 {
     match word.kind() {
-        Kind::Bare => short(fingerprint(0, word.spelling())),
+        Kind::Bare => text_number(word.spelling()),
         Kind::Text => ANY,
-        Kind::Mark => NONE,
+        Kind::Mark => mark,
     }
 }
 
 /// The number of a word, if there is one.
-fn number_at(word: Option<&Token>) -> u16
-    ensures { result ≡ number_at (option_map (λ t. t.now) word.entry) }
+fn number_at(mark: u32, word: Option<&Token>) -> u32
+    ensures { result ≡ number_at mark (option_map (λ t. t.now) word.entry) }
 {
     match word {
         None => NONE,
-        Some(word) => word_number(word),
+        Some(word) => word_number(mark, word),
+    }
+}
+
+/// The number of what arguments are about, by the first, the second and the fourth: the ends in brackets if the first
+/// is a mark, and otherwise the first two.
+fn target_number(first: Option<&Token>, second: Option<&Token>, fourth: Option<&Token>) -> u32
+    ensures { result ≡ target_number (option_map (λ t. t.now) first.entry) (option_map (λ t. t.now) second.entry)
+        (option_map (λ t. t.now) fourth.entry) }
+{
+    match first {
+        None => NONE,
+        Some(word) => match word.kind() {
+            Kind::Bare => joined(word_number(NONE, word), number_at(NONE, second)),
+            Kind::Text => joined(word_number(NONE, word), number_at(NONE, second)),
+            Kind::Mark => ends_number(number_at(NONE, second), number_at(NONE, fourth)),
+        },
     }
 }
 
@@ -59,8 +125,22 @@ fn words_key(words: &[Token]) -> Key
     ensures { result ≡ words_key words.now }
 {
     Key {
-        first: number_at(words.get(0)),
-        second: number_at(words.get(1)),
+        first: number_at(ANY, words.get(0)),
+        second: number_at(ANY, words.get(1)),
+        inside: target_number(words.get(0), words.get(1), words.get(3)),
+        outside: target_number(words.get(1), words.get(2), words.get(4)),
+    }
+}
+
+/// The key with a number four times.
+fn key_with(number: u32) -> Key
+    ensures { result ≡ key_with number }
+{
+    Key {
+        first: number,
+        second: number,
+        inside: number,
+        outside: number,
     }
 }
 
@@ -69,40 +149,43 @@ pub(crate) fn key_of(line: &Line) -> Key
     ensures { result ≡ key_of (line_of line.now) }
 {
     match line {
-        Line::Blank => Key {
-            first: NONE,
-            second: NONE,
-        },
-        Line::Comment(_) => Key {
-            first: NONE,
-            second: NONE,
-        },
-        Line::Open(_, _) => Key {
-            first: ANY,
-            second: ANY,
-        },
-        Line::Close(_) => Key {
-            first: ANY,
-            second: ANY,
-        },
+        Line::Blank => key_with(NONE),
+        Line::Comment(_) => key_with(NONE),
+        Line::Open(_, _) => key_with(ANY),
+        Line::Close(_) => key_with(ANY),
         Line::Entry(words, _) => words_key(words.as_slice()),
     }
 }
 
-/// Whether a line with this key may be a bracket, or an entry with a text of this number as its first argument.
-fn may_name(number: u16, key: Key) -> bool
-    ensures { result ≡ may_name number key }
+/// Whether a number may be the one that is looked for.
+fn may_equal(number: u32, own: u32) -> bool
+    ensures { result ≡ may_equal number own }
 {
-    key.first == ANY || key.second == ANY || key.first == number || key.second == number
+    own == ANY || own == number
 }
 
-/// Whether a line with this key may be a bracket, or an entry with a text of this number as its first argument, or with
-/// any argument if there is no number.
-pub(crate) fn may_concern(number: Option<u16>, key: Key) -> bool
-    ensures { result ≡ may_concern number key }
+/// Whether arguments whose first has the number `path`, and which are about the number `target`, may be those of an
+/// operation.
+fn may_be_about(sought: Sought, path: u32, target: u32) -> bool
+    ensures { result ≡ may_be_about sought path target }
 {
-    match number {
-        None => true,
-        Some(number) => may_name(number, key),
+    match sought {
+        Sought::Any => true,
+        Sought::Path(number) => may_equal(number, path),
+        Sought::Target(number) => may_equal(number, target),
+    }
+}
+
+/// Whether a line with this key may be a bracket, or an entry that an operation targets. `verb` is the number of the
+/// operation's verb.
+pub(crate) fn may_concern(verb: u32, sought: Sought, scope: Scope, key: Key) -> bool
+    ensures { result ≡ may_concern verb sought scope key }
+{
+    match scope {
+        Scope::Outside => {
+            may_equal(verb, key.first) && may_be_about(sought, key.second, key.outside)
+        }
+        Scope::Own => may_be_about(sought, key.first, key.inside),
+        Scope::Other => key.inside == ANY,
     }
 }

@@ -12,9 +12,9 @@ ghost use Rattle.gm_file_edit.specs.Marks.{marks_from};
 ghost use Rattle.gm_file_edit.specs.Views.{edit_of};
 
 use crate::keyed_lines::KeyedLines;
-use crate::keys::may_concern;
+use crate::keys::{Scope, may_concern, text_number};
 use crate::op::Change;
-use crate::targeting::{block_after_line, is_about_at, path_number};
+use crate::targeting::{block_after_line, is_about_at, scope_of, sought_of, verb_of};
 use std::alloc::{AllocError, Global};
 
 /// A mark for each line of a valid file: whether it holds a directive that an operation targets.
@@ -27,15 +27,19 @@ pub(crate) fn marks(
     requires sound { fault_of Strict (plain_lines lines.now) ≡ None }
     ensures { IfOk result (λ v. v.items ≡ marks_from (about (edit_of change.now)) None lines.now) }
 {
-    let number = path_number(change);
+    let verb = verb_of(change);
+    let number = text_number(verb);
+    let sought = sought_of(change);
     let mut marks = Vec::with_capacity(alloc, lines.len())?;
     let mut block = None;
+    let mut scope = Scope::Outside;
     for (n, key) in lines.keys().iter().enumerate() {
         let mut mark = false;
-        if may_concern(number, *key) {
+        if may_concern(number, sought, scope, *key) {
             let line = lines.line(n);
             mark = is_about_at(alloc, change, block, line)?;
             block = block_after_line(block, line);
+            scope = scope_of(verb, block);
         }
         marks.push(mark)?;
     }

@@ -1,7 +1,7 @@
 //! Which lines an operation targets.
 //!
-//! A line is read only if its verb and its first argument are those of the operation, so that an operation reads few
-//! lines of a large file.
+//! A line is read only if its key has the number that the operation looks for, so that an operation reads few lines of
+//! a large file.
 
 ghost use Rattle.std.specs.Prelude.{◌≡◌, ℕ, List, Option, IfOk, None, false};
 ghost use Rattle.std.specs.Option.{option_map};
@@ -10,18 +10,19 @@ ghost use Rattle.gm_syntax.specs.LineViews.{line_of};
 ghost use Rattle.gm_syntax.specs.Tokens.{words_of};
 ghost use Rattle.gm_file.specs.Directives.{block_after_line, directive_of, is_empty_block, main_verb};
 ghost use Rattle.gm_file.specs.DirectiveViews.{directive_view};
+ghost use Rattle.gm_file.specs.Views.{interval_view};
 ghost use Rattle.gm_file.specs.Values.{argument};
 ghost use Rattle.gm_file_edit.specs.About.{about};
 ghost use Rattle.gm_file_edit.specs.Fates.{directive_at, item_of, passes, IsValidAt};
-ghost use Rattle.gm_file_edit.specs.Keys.{text_number};
-ghost use Rattle.gm_file_edit.specs.Targets.{begins_with, is_entry_of, is_text, edited_path, verb_of};
-ghost use Rattle.gm_file_edit.specs.Views.{edit_of};
+ghost use Rattle.gm_file_edit.specs.Keys.{ends_number, left_number, pair_number, scope_of, sought_of, sought_of_left, text_number};
+ghost use Rattle.gm_file_edit.specs.Targets.{is_entry_of, verb_of};
+ghost use Rattle.gm_file_edit.specs.Views.{edit_of, left_of_parts};
 
 use crate::about::is_about;
-use crate::keys::short;
+use crate::keys::{NONE, Scope, Sought, ends_number, joined, text_number};
 use crate::op::Change;
-use gm_file::{Directive, LineFault, Mode, read_line};
-use gm_name::ModPath;
+use gm_file::{Directive, Interval, LineFault, Mode, read_line};
+use gm_name::{ModPath, ModVersion};
 use gm_syntax::{Kind, Line, Token};
 use std::alloc::{AllocError, Global};
 
@@ -43,7 +44,7 @@ pub(crate) fn block_after_line<'w, 'a>(
 }
 
 /// The verb of the directives that an operation targets.
-fn verb_of(change: &Change) -> &'static str
+pub(crate) fn verb_of(change: &Change) -> &'static str
     ensures { result.now ≡ verb_of (edit_of change.now) }
 {
     match change {
@@ -60,106 +61,74 @@ fn verb_of(change: &Change) -> &'static str
     }
 }
 
-/// The path that these directives have as their first argument, if they have one.
-fn path_of(change: &Change) -> Option<&ModPath>
-    ensures { option_map (λ path. path.now) result ≡ edited_path (edit_of change.now) }
+/// The number of a path and a version.
+fn pair_number(path: &ModPath, version: &ModVersion) -> u32
+    ensures { result ≡ pair_number (path.now, version.now) }
+{
+    joined(text_number(path.as_str()), text_number(version.as_str()))
+}
+
+/// The number of the left side of a `replace`.
+fn left_number(path: &ModPath, version: &Option<ModVersion>) -> u32
+    ensures { result ≡ left_number (left_of_parts path.now version.now) }
+{
+    match version {
+        None => joined(text_number(path.as_str()), NONE),
+        Some(version) => pair_number(path, version),
+    }
+}
+
+/// What the left sides that a new one supersedes have.
+fn sought_of_left(path: &ModPath, version: &Option<ModVersion>) -> Sought
+    ensures { result ≡ sought_of_left (text_number path.now) version.now }
+{
+    match version {
+        None => Sought::Path(text_number(path.as_str())),
+        Some(version) => Sought::Target(pair_number(path, version)),
+    }
+}
+
+/// The number of an interval.
+fn interval_number(ends: &Interval) -> u32
+    ensures { result ≡ ends_number (text_number (interval_view ends.now).0) (text_number (interval_view ends.now).1) }
+{
+    ends_number(
+        text_number(ends.low.as_str()),
+        text_number(ends.high.as_str()),
+    )
+}
+
+/// The number that the lines have that an operation targets.
+pub(crate) fn sought_of(change: &Change) -> Sought
+    ensures { result ≡ sought_of (edit_of change.now) }
 {
     match change {
-        Change::SetRequire((path, _)) => Some(path),
-        Change::DropRequire(path) => Some(path),
-        Change::AddExclude((path, _)) => Some(path),
-        Change::DropExclude((path, _)) => Some(path),
-        Change::SetReplace(replace) => Some(&replace.left),
-        Change::DropReplace(side) => Some(&side.path),
-        _ => None,
+        Change::SetModule(_) => Sought::Any,
+        Change::SetGo(_) => Sought::Any,
+        Change::SetRequire((path, _)) => Sought::Path(text_number(path.as_str())),
+        Change::DropRequire(path) => Sought::Path(text_number(path.as_str())),
+        Change::AddExclude((path, version)) => Sought::Target(pair_number(path, version)),
+        Change::DropExclude((path, version)) => Sought::Target(pair_number(path, version)),
+        Change::SetReplace(replace) => sought_of_left(&replace.left, &replace.version),
+        Change::DropReplace(side) => Sought::Target(left_number(&side.path, &side.version)),
+        Change::AddRetract(ends) => Sought::Target(interval_number(ends)),
+        Change::DropRetract(ends) => Sought::Target(interval_number(ends)),
     }
 }
 
-/// The number of that path.
-pub(crate) fn path_number(change: &Change) -> Option<u16>
-    ensures { result ≡ option_map text_number (edited_path (edit_of change.now)) }
-{
-    match path_of(change) {
-        None => None,
-        Some(path) => Some(short(path.fingerprint())),
-    }
-}
-
-/// Whether a word is an argument with this value. Only a string with an escape takes memory.
-fn is_text(alloc: Global, text: &str, word: &Token) -> Result<bool, AllocError>
-    ensures { IfOk result (λ b. b ≡ is_text text.now (argument word.now.word)) }
-{
-    match word.kind() {
-        Kind::Bare => Ok(word.spelling() == text),
-        Kind::Text => Ok(word.value(alloc)?.as_str() == text),
-        Kind::Mark => Ok(false),
-    }
-}
-
-/// Whether the words of an entry begin with the path, if there is one.
-fn begins_with(alloc: Global, path: Option<&ModPath>, words: &[Token]) -> Result<bool, AllocError>
-    ensures { IfOk result (λ b. b ≡ begins_with (option_map (λ path. path.now) path.entry) (words_of words.now)) }
-{
-    match path {
-        None => Ok(true),
-        Some(path) => match words {
-            [] => Ok(false),
-            [first, ..] => is_text(alloc, path.as_str(), first),
-        },
-    }
-}
-
-/// Whether an entry with this verb and these arguments may be one that an operation targets.
-fn may_be(
-    alloc: Global,
-    change: &Change,
-    verb: &Token,
-    arguments: &[Token],
-) -> Result<bool, AllocError>
-    ensures { IfOk result (λ b. b ≡ false → passes (about (edit_of change.now))
-        (directive_of (main_verb verb.now.word.spelling) (words_of arguments.now)) ≡ false) }
-{
-    if verb.spelling() == verb_of(change) {
-        return begins_with(alloc, path_of(change), arguments);
-    }
-    Ok(false)
-}
-
-/// Whether an entry with these words may be one that an operation targets.
-fn may_be_entry(
-    alloc: Global,
-    change: &Change,
-    block: Option<&Token>,
-    words: &[Token],
-) -> Result<bool, AllocError>
-    ensures { IfOk result (λ b. b ≡ false → (suffix : Option (List ℕ)) → passes (about (edit_of change.now))
-        (directive_at (option_map (λ t. t.now) block.entry) (Entry words.now suffix)) ≡ false) }
+/// Where the lines after the opening of a block are, or those outside blocks if none is open.
+pub(crate) fn scope_of(verb: &str, block: Option<&Token>) -> Scope
+    ensures { result ≡ scope_of verb.now (option_map (λ t. t.now) block.entry) }
 {
     match block {
-        Some(verb) => may_be(alloc, change, verb, words),
-        None => match words {
-            [] => Ok(false),
-            [verb, arguments @ ..] => may_be(alloc, change, verb, arguments),
-        },
-    }
-}
-
-/// Whether a line may be one that an operation targets.
-fn may_be_at(
-    alloc: Global,
-    change: &Change,
-    block: Option<&Token>,
-    line: &Line,
-) -> Result<bool, AllocError>
-    ensures { IfOk result (λ b. b ≡ false → passes (about (edit_of change.now))
-        (directive_at (option_map (λ t. t.now) block.entry) (line_of line.now)) ≡ false) }
-{
-    match line {
-        Line::Blank => Ok(false),
-        Line::Comment(_) => Ok(false),
-        Line::Open(_, _) => Ok(false),
-        Line::Close(_) => Ok(false),
-        Line::Entry(words, _) => may_be_entry(alloc, change, block, words.as_slice()),
+        None => Scope::Outside,
+        Some(open) => {
+            if open.spelling() == verb {
+                Scope::Own
+            } else {
+                Scope::Other
+            }
+        }
     }
 }
 
@@ -254,9 +223,6 @@ pub(crate) fn is_about_at(
     ensures { IfOk result (λ b. b
         ≡ passes (about (edit_of change.now)) (directive_at (option_map (λ t. t.now) block.entry) (line_of line.now))) }
 {
-    if !may_be_at(alloc, change, block, line)? {
-        return Ok(false);
-    }
     let held = held_at(alloc, block, line)?;
     Ok(passes(change, &held))
 }

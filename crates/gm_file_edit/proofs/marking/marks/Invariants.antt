@@ -1,9 +1,13 @@
-use Rattle.std.proofs.Common.{drop}
+use Rattle.std.proofs.Common.{◌≡◌, drop}
 use Rattle.std.specs.Option.{option_map}
 use Rattle.gm_file_edit.specs.About.{about}
+use Rattle.gm_file_edit.specs.Keys.{scope_of}
+use Rattle.gm_file_edit.specs.Targets.{verb_of}
 use Rattle.gm_file_edit.specs.Views.{edit_of}
 use Rattle.gm_file_edit.proofs.Marks.{IsMarkedTo}
 use Rattle.gm_file_edit.proofs.marking.marks.Given as goal
 
 abbrev pub invariant-loop-n : goal.invariant-loop-n
-invariant-loop-n l = IsMarkedTo (about (edit_of l.change)) l.lines (drop l.n l.lines) (option_map (λ t. t.now) l.block) l.marks.items
+invariant-loop-n l =
+    IsMarkedTo (about (edit_of l.change)) l.lines (drop l.n l.lines) (option_map (λ t. t.now) l.block) l.marks.items
+    × (l.scope ≡ scope_of (verb_of (edit_of l.change)) (option_map (λ t. t.now) l.block))
