@@ -53,6 +53,10 @@ abbrev pub better : ℕ → Option Placed → Bool → Option Spot → Option Sp
 better n block true best = Some (record { before = n + 1; inside = is_some block })
 better n block false best = best
 
+pub some-mapped : {X Y : Type 0} (f : X → Y) (o : Option X) → is_some o ≡ is_some (option_map f o)
+some-mapped f None = refl
+some-mapped f (Some x) = refl
+
 place-more : (n : ℕ) (block : Option Placed) (b : Bool) (best later : Option Spot)
     → option_or (option_map (shifted (n + 1)) later) (better n block b best) ≡ option_or (option_map (shifted n) (option_or (option_map further later) (if b then Some (spot_after_line block) else None))) best
 place-more n block b best (Some spot) = ap Some (shifted-further n spot)

@@ -15,8 +15,9 @@ ghost use Rattle.gm_file_edit.specs.NewWords.{made_word};
 ghost use Rattle.gm_file_edit.specs.Fates.{directive_at, passes, IsValidAt};
 
 use crate::keyed_lines::KeyedLines;
+use crate::keys::Scope;
 use crate::new_words::one_word;
-use crate::targeting::{block_after_line, is_entry_of};
+use crate::targeting::{block_after_line, is_entry_in, is_entry_of, scope_after_line};
 use gm_syntax::{Line, Token};
 use std::alloc::{AllocError, Global};
 
@@ -55,14 +56,6 @@ fn verb_text(verb: AddedVerb) -> &'static str
     }
 }
 
-/// Whether a line of a valid file holds a directive with this verb.
-fn holds(verb: AddedVerb, block: Option<&Token>, line: &Line) -> bool
-    requires { IsValidAt (option_map (λ t. t.now) block) (line_of line.now) }
-    ensures { result ≡ passes (is_of verb) (directive_at (option_map (λ t. t.now) block.entry) (line_of line.now)) }
-{
-    is_entry_of(verb_text(verb), block, line)
-}
-
 /// Whether a line of a valid file declares the module path.
 fn declares_module(block: Option<&Token>, line: &Line) -> bool
     requires { IsValidAt (option_map (λ t. t.now) block) (line_of line.now) }
@@ -77,16 +70,19 @@ fn last_spot(verb: AddedVerb, lines: &[Line]) -> Option<Spot>
     requires sound { fault_of Strict (plain_lines (line_views lines.now)) ≡ None }
     ensures { result ≡ spot_after_last (is_of verb) None (line_views lines.now) }
 {
+    let text = verb_text(verb);
     let mut spot = None;
     let mut block = None;
+    let mut scope = Scope::Outside;
     for (n, line) in lines.iter().enumerate() {
-        if holds(verb, block, line) {
+        if is_entry_in(text, scope, line) {
             spot = Some(Spot {
                 before: n + 1,
                 inside: block.is_some(),
             });
         }
         block = block_after_line(block, line);
+        scope = scope_after_line(text, scope, line);
     }
     spot
 }

@@ -7,7 +7,7 @@ ghost use Rattle.std.specs.Prelude.{◌≡◌, ℕ, List, Option, IfOk, None, fa
 ghost use Rattle.std.specs.Option.{option_map};
 ghost use Rattle.gm_syntax.specs.Document.{Entry, is_mark};
 ghost use Rattle.gm_syntax.specs.LineViews.{line_of};
-ghost use Rattle.gm_syntax.specs.Tokens.{words_of};
+ghost use Rattle.gm_syntax.specs.Tokens.{Placed, words_of};
 ghost use Rattle.gm_file.specs.Directives.{block_after_line, directive_of, is_empty_block, main_verb};
 ghost use Rattle.gm_file.specs.DirectiveViews.{directive_view};
 ghost use Rattle.gm_file.specs.Views.{interval_view};
@@ -132,6 +132,20 @@ pub(crate) fn scope_of(verb: &str, block: Option<&Token>) -> Scope
     }
 }
 
+/// Where the line after a line is.
+pub(crate) fn scope_after_line(verb: &str, scope: Scope, line: &Line) -> Scope
+    ensures { (block : Option Placed) → scope ≡ scope_of verb.now block
+        → result ≡ scope_of verb.now (block_after_line block (line_of line.now)) }
+{
+    match line {
+        Line::Blank => scope,
+        Line::Comment(_) => scope,
+        Line::Open(open, _) => scope_of(verb, Some(open)),
+        Line::Close(_) => Scope::Outside,
+        Line::Entry(_, _) => scope,
+    }
+}
+
 /// Whether a word is the punctuation that consists of this one byte.
 fn is_mark(byte: u8, word: &Token) -> bool
     ensures { result ≡ is_mark byte word.now.word }
@@ -179,6 +193,25 @@ pub(crate) fn is_entry_of(verb: &str, block: Option<&Token>, line: &Line) -> boo
         Line::Entry(words, _) => match block {
             Some(open) => open.spelling() == verb,
             None => is_single_of(verb, words.as_slice()),
+        },
+    }
+}
+
+/// The same of a line by where it is. In a block of the verb no text is compared.
+#[tactic(auto, unfolding(gm_file::specs::Directives::item_at))]
+pub(crate) fn is_entry_in(verb: &str, scope: Scope, line: &Line) -> bool
+    ensures { (block : Option Placed) → scope ≡ scope_of verb.now block
+        → result ≡ is_entry_of verb.now (item_of block (line_of line.now)) }
+{
+    match line {
+        Line::Blank => false,
+        Line::Comment(_) => false,
+        Line::Open(_, _) => false,
+        Line::Close(_) => false,
+        Line::Entry(words, _) => match scope {
+            Scope::Outside => is_single_of(verb, words.as_slice()),
+            Scope::Own => true,
+            Scope::Other => false,
         },
     }
 }
