@@ -1,10 +1,10 @@
 -- The marks of lines, and what removing marked lines leaves.
-use Rattle.std.proofs.Common.{◌≡◌, ℕ, suc, ◌+◌, ◌<◌, ◌≤◌, not, Bool, true, false, List, [], ◌∷◌, ◌++◌, length, take, set, Option, Some, None, is_some, refl, sym, ap, subst, ◌∙◌, append-nil, append_assoc, arith, inl, inr, drop, get_or, map}
+use Rattle.std.proofs.Common.{◌≡◌, ℕ, suc, ◌+◌, ◌<◌, ◌≤◌, not, Bool, true, false, List, [], ◌∷◌, ◌++◌, length, take, set, replicate, Option, Some, None, is_some, refl, sym, ap, subst, ◌∙◌, append_assoc, arith, inl, inr, drop, get_or, map}
 use Rattle.std.specs.Prelude.{if◌then◌else◌, take_while}
 use Rattle.std.specs.List.{prefix_len}
 use Rattle.std.specs.Option.{option_to_list}
 use Rattle.std.proofs.Math.ListN.{get_or-map}
-use Rattle.std.proofs.lemmas.List.{length-map}
+use Rattle.std.proofs.lemmas.List.{length-append, length-map}
 use Rattle.std.proofs.lemmas.Bool.{cases_Bool}
 use Rattle.gm_syntax.specs.Tokens.{Placed}
 use Rattle.gm_syntax.specs.Document.{Line, Blank}
@@ -30,61 +30,116 @@ use Rattle.gm_file_edit.proofs.Walking.{drop-next}
 
 -- ---- the loop that marks lines
 
--- Loop invariant: the marks so far and those of the rest are the marks of the whole, and the rest is valid.
-pub record IsMarkedTo (test : Directive → Bool) (whole rest : List (Line Placed)) (block : Option Placed) (marks : List Bool) : Type 0 where
+pub marks-count : (test : Directive → Bool) (block : Option Placed) (lines : List (Line Placed)) → length (marks_from test block lines) ≡ length lines
+marks-count test block [] = refl
+marks-count test block (line ∷ lines) = ap suc (marks-count test (block_after_line block line) lines)
+
+-- a mark for each line, which none has yet
+abbrev pub no_marks : List (Line Placed) → List Bool
+no_marks [] = []
+no_marks (line ∷ lines) = false ∷ no_marks lines
+
+-- Loop invariant: the first marks and those of the rest are the marks of the whole, the other lines have none yet, and
+-- the rest is valid.
+pub record IsMarkedTo (test : Directive → Bool) (whole rest : List (Line Placed)) (block : Option Placed) (n : ℕ) (marks : List Bool) : Type 0 where
   pub sound : (earlier : List Directive) × SoundFrom earlier block rest
-  pub left : marks ++ marks_from test block rest ≡ marks_from test None whole
+  pub front : List Bool
+  pub count : length front ≡ n
+  pub all : marks ≡ front ++ no_marks rest
+  pub left : front ++ marks_from test block rest ≡ marks_from test None whole
 
-pub mark-begin : (test : Directive → Bool) (whole : List (Line Placed)) → SoundFrom [] None whole → (marks : List Bool) → marks ≡ [] → IsMarkedTo test whole whole None marks
-mark-begin test whole sound marks is = record { sound = ([], sound); left = ap (λ (ms : List Bool). ms ++ marks_from test None whole) is }
+none-so-far : (lines : List (Line Placed)) → replicate (length lines) false ≡ no_marks lines
+none-so-far [] = refl
+none-so-far (line ∷ lines) = ap (λ (ms : List Bool). false ∷ ms) (none-so-far lines)
 
-pub mark-right : (test : Directive → Bool) (whole rest more : List (Line Placed)) (block : Option Placed) (line : Line Placed) (marks : List Bool) → rest ≡ line ∷ more → IsMarkedTo test whole rest block marks → IsValidAt block line
-mark-right test whole rest more block line marks is so = let s = subst (SoundFrom so.sound.0 block) is so.sound.1 in (so.sound.0, s.1)
+pub mark-begin : (test : Directive → Bool) (whole : List (Line Placed)) → SoundFrom [] None whole → (marks : List Bool) (n : ℕ) → n ≡ length whole → marks ≡ replicate n false → IsMarkedTo test whole whole None 0 marks
+mark-begin test whole sound marks n long is =
+    record { sound = ([], sound); front = []; count = refl; all = is ∙ ap (λ (k : ℕ). replicate k false) long ∙ none-so-far whole; left = refl }
 
-pub mark-more : (test : Directive → Bool) (whole rest more : List (Line Placed)) (block next_block : Option Placed) (line : Line Placed) (marks next : List Bool) (mark : Bool) → rest ≡ line ∷ more → next_block ≡ block_after_line block line
-    → mark ≡ passes test (directive_at block line) → next ≡ marks ++ mark ∷ [] → IsMarkedTo test whole rest block marks → IsMarkedTo test whole more next_block next
-mark-more test whole rest more block next_block line marks next mark is behind tested pushed so =
+marks-count-of : (lines : List (Line Placed)) → length (no_marks lines) ≡ length lines
+marks-count-of [] = refl
+marks-count-of (line ∷ lines) = ap suc (marks-count-of lines)
+
+pub mark-right : (test : Directive → Bool) (whole rest more : List (Line Placed)) (block : Option Placed) (n : ℕ) (line : Line Placed) (marks : List Bool) → rest ≡ line ∷ more → IsMarkedTo test whole rest block n marks → IsValidAt block line
+mark-right test whole rest more block n line marks is so = let s = subst (SoundFrom so.sound.0 block) is so.sound.1 in (so.sound.0, s.1)
+
+set-next : (front back : List Bool) (mark : Bool) (n : ℕ) → length front ≡ n → set (front ++ false ∷ back) n mark ≡ (front ++ mark ∷ []) ++ back
+set-next front back mark n count = ap (λ (k : ℕ). set (front ++ false ∷ back) k mark) (sym count) ∙ written front
+  where
+    written : (front : List Bool) → set (front ++ false ∷ back) (length front) mark ≡ (front ++ mark ∷ []) ++ back
+    written [] = refl
+    written (m ∷ front) = ap (λ (ms : List Bool). m ∷ ms) (written front)
+
+pub mark-more : (test : Directive → Bool) (whole rest more : List (Line Placed)) (block next_block : Option Placed) (n : ℕ) (line : Line Placed) (marks next : List Bool) (mark : Bool) → rest ≡ line ∷ more → next_block ≡ block_after_line block line
+    → mark ≡ passes test (directive_at block line) → next ≡ set marks n mark → IsMarkedTo test whole rest block n marks → IsMarkedTo test whole more next_block (n + 1) next
+mark-more test whole rest more block next_block n line marks next mark is behind tested put so =
     let s = subst (SoundFrom so.sound.0 block) is so.sound.1 in
-    rw (behind, pushed, tested) (record {
+    let long = length-append so.front (mark ∷ []) in
+    let count = so.count in
+    rw behind (record {
       sound = (so.sound.0 ++ option_to_list (directive_at block line), s.2);
+      front = so.front ++ mark ∷ [];
+      count = omega (arith, long, count);
+      all =
+          put ∙ ap (λ (ms : List Bool). set ms n mark) (so.all ∙ ap (λ (ls : List (Line Placed)). so.front ++ no_marks ls) is) ∙ set-next so.front (no_marks more) mark n so.count;
       left =
-          append_assoc marks (passes test (directive_at block line) ∷ []) (marks_from test (block_after_line block line) more)
-          ∙ ap (λ (ls : List (Line Placed)). marks ++ marks_from test block ls) (sym is) ∙ so.left;
+          ap (λ (m : Bool). (so.front ++ m ∷ []) ++ marks_from test (block_after_line block line) more) tested
+          ∙ append_assoc so.front (passes test (directive_at block line) ∷ []) (marks_from test (block_after_line block line) more)
+          ∙ ap (λ (ls : List (Line Placed)). so.front ++ marks_from test block ls) (sym is) ∙ so.left;
     })
 
 here : (whole : List (Line Placed)) (n : ℕ) (line : Line Placed) → n < length whole → line ≡ line_at whole n → drop n whole ≡ line ∷ drop (n + 1) whole
 here whole n line lt is = drop-next whole n line lt (is ∙ get_or-default whole n Blank lt ∙ ap (get_or whole n) (sym is))
 
 pub mark-right-at : (test : Directive → Bool) (whole : List (Line Placed)) (n : ℕ) (block : Option Placed) (line : Line Placed) (marks : List Bool) → n < length whole → line ≡ line_at whole n
-    → IsMarkedTo test whole (drop n whole) block marks → IsValidAt block line
-mark-right-at test whole n block line marks lt is so = mark-right test whole (drop n whole) (drop (n + 1) whole) block line marks (here whole n line lt is) so
+    → IsMarkedTo test whole (drop n whole) block n marks → IsValidAt block line
+mark-right-at test whole n block line marks lt is so = mark-right test whole (drop n whole) (drop (n + 1) whole) block n line marks (here whole n line lt is) so
 
 -- a line that is read
 pub mark-read : (test : Directive → Bool) (whole : List (Line Placed)) (n : ℕ) (block next_block : Option Placed) (line : Line Placed) (marks next : List Bool) (mark : Bool) → n < length whole → line ≡ line_at whole n
-    → next_block ≡ block_after_line block line → mark ≡ passes test (directive_at block line) → next ≡ marks ++ mark ∷ [] → IsMarkedTo test whole (drop n whole) block marks → IsMarkedTo test whole (drop (n + 1) whole) next_block next
-mark-read test whole n block next_block line marks next mark lt is behind tested pushed so =
-    mark-more test whole (drop n whole) (drop (n + 1) whole) block next_block line marks next mark (here whole n line lt is) behind tested pushed so
+    → next_block ≡ block_after_line block line → mark ≡ passes test (directive_at block line) → next ≡ set marks n mark → IsMarkedTo test whole (drop n whole) block n marks → IsMarkedTo test whole (drop (n + 1) whole) next_block (n + 1) next
+mark-read test whole n block next_block line marks next mark lt is behind tested put so =
+    mark-more test whole (drop n whole) (drop (n + 1) whole) block next_block n line marks next mark (here whole n line lt is) behind tested put so
+
+-- a line without a mark, which needs none
+unchanged : (front back : List Bool) (n : ℕ) → length front ≡ n → front ++ false ∷ back ≡ set (front ++ false ∷ back) n false
+unchanged front back n count = sym (append_assoc front (false ∷ []) back) ∙ sym (set-next front back false n count)
+
+left-as-is : (test : Directive → Bool) (whole rest more : List (Line Placed)) (block : Option Placed) (n : ℕ) (line : Line Placed) (marks : List Bool) → rest ≡ line ∷ more → IsMarkedTo test whole rest block n marks → marks ≡ set marks n false
+left-as-is test whole rest more block n line marks is so =
+    let all : marks ≡ so.front ++ false ∷ no_marks more = so.all ∙ ap (λ (ls : List (Line Placed)). so.front ++ no_marks ls) is in
+    all ∙ unchanged so.front (no_marks more) n so.count ∙ ap (λ (ms : List Bool). set ms n false) (sym all)
 
 -- a line that is passed over for its key
-pub mark-over : (edit : Edit) (number : ℕ) (seeks : Sought) (at : Scope) (whole : List (Line Placed)) (n : ℕ) (block : Option Placed) (keys : List Key) (key : Key) (marks next : List Bool) → n < length whole → keys ≡ map key_of whole
-    → number ≡ text_number (verb_of edit) → seeks ≡ sought_of edit → at ≡ scope_of (verb_of edit) block → may_concern number seeks at (get_or keys n key) ≡ false → next ≡ marks ++ false ∷ []
-    → IsMarkedTo (about edit) whole (drop n whole) block marks → IsMarkedTo (about edit) whole (drop (n + 1) whole) block next
-mark-over edit number seeks at whole n block keys key marks next lt are of sought_so at_so off pushed so =
+pub mark-over : (edit : Edit) (number : ℕ) (seeks : Sought) (at : Scope) (whole : List (Line Placed)) (n : ℕ) (block : Option Placed) (keys : List Key) (key : Key) (marks : List Bool) → n < length whole → keys ≡ map key_of whole
+    → number ≡ text_number (verb_of edit) → seeks ≡ sought_of edit → at ≡ scope_of (verb_of edit) block → may_concern number seeks at (get_or keys n key) ≡ false
+    → IsMarkedTo (about edit) whole (drop n whole) block n marks → IsMarkedTo (about edit) whole (drop (n + 1) whole) block (n + 1) marks
+mark-over edit number seeks at whole n block keys key marks lt are of sought_so at_so off so =
     let line = line_at whole n in
     let count = length-map whole key_of in
     let own : get_or keys n key ≡ key_of line =
     ap (λ (ks : List Key). get_or ks n key) are ∙ get_or-other (map key_of whole) n key (key_of Blank) (omega (arith, lt, count)) ∙ get_or-map key_of whole n Blank in
     let over = passed-over edit block line (rw (sym of, sym sought_so, sym at_so) (ap (may_concern number seeks at) (sym own) ∙ off)) in
-    mark-read (about edit) whole n block block line marks next false lt refl (sym over.1) (sym over.0) pushed so
+    mark-read (about edit) whole n block block line marks marks false lt refl (sym over.1) (sym over.0)
+    (left-as-is (about edit) whole (drop n whole) (drop (n + 1) whole) block n line marks (here whole n line lt refl) so) so
 
-pub mark-end : (test : Directive → Bool) (whole rest : List (Line Placed)) (block : Option Placed) (marks : List Bool) → rest ≡ [] → IsMarkedTo test whole rest block marks → marks ≡ marks_from test None whole
-mark-end test whole rest block marks is so = sym (append-nil marks) ∙ ap (λ (ls : List (Line Placed)). marks ++ marks_from test block ls) (sym is) ∙ so.left
+pub mark-end : (test : Directive → Bool) (whole rest : List (Line Placed)) (block : Option Placed) (n : ℕ) (marks : List Bool) → rest ≡ [] → IsMarkedTo test whole rest block n marks → marks ≡ marks_from test None whole
+mark-end test whole rest block n marks is so =
+    so.all ∙ ap (λ (ls : List (Line Placed)). so.front ++ no_marks ls) is ∙ sym (ap (λ (ls : List (Line Placed)). so.front ++ marks_from test block ls) is) ∙ so.left
+
+-- each line has its mark
+pub mark-size : (test : Directive → Bool) (whole rest : List (Line Placed)) (block : Option Placed) (n : ℕ) (marks : List Bool) → IsMarkedTo test whole rest block n marks → length marks ≡ length whole
+mark-size test whole rest block n marks so =
+    let a = ap length so.all in
+    let b = length-append so.front (no_marks rest) in
+    let c = marks-count-of rest in
+    let d = length-append so.front (marks_from test block rest) in
+    let e = marks-count test block rest in
+    let f = ap length so.left in
+    let g = marks-count test None whole in
+    omega (arith, a, b, c, d, e, f, g)
 
 -- ---- the first mark
-
-pub marks-count : (test : Directive → Bool) (block : Option Placed) (lines : List (Line Placed)) → length (marks_from test block lines) ≡ length lines
-marks-count test block [] = refl
-marks-count test block (line ∷ lines) = ap suc (marks-count test (block_after_line block line) lines)
 
 -- the number of marks before the first
 abbrev pub first_of : List Bool → ℕ

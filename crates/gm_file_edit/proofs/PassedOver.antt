@@ -18,7 +18,7 @@ use Rattle.gm_file.specs.Values.{argument, argument_of_kind, both}
 use Rattle.gm_file_edit.specs.About.{about, excludes_pair, is_covered_by, is_replaced_by, replaces_left, retracts_ends}
 use Rattle.gm_file_edit.specs.Edits.{Edit, SetModule, SetGo, SetRequire, DropRequire, AddExclude, DropExclude, SetReplace, DropReplace, AddRetract, DropRetract}
 use Rattle.gm_file_edit.specs.Fates.{directive_at, passes}
-use Rattle.gm_file_edit.specs.Keys.{ends_number, joined, key_of, key_with, left_number, left_number_of, may_be_about, may_concern, may_equal, number_at, number_by_kind, pair_number, scope_if, scope_of, sought_of, sought_of_left, target_by_kind, target_number, text_number}
+use Rattle.gm_file_edit.specs.Keys.{ends_number, joined, key_of, key_with, left_number, left_number_of, may_be_about, may_concern, may_equal, may_spell, number_at, number_by_kind, pair_number, scope_if, scope_of, sought_of, sought_of_left, target_by_kind, target_number, text_number}
 use Rattle.gm_file_edit.specs.Targets.{is_first, is_text, verb_of}
 use Rattle.gm_file_edit.specs.declared.keys.Scope.{Scope}
 use Rattle.gm_file_edit.specs.declared.keys.Scope.TheVariants as scope
@@ -78,15 +78,15 @@ same-text a b same = (bytes_eq-Decides a b).0 same
 -- ---- a path
 
 -- a word with another number is another argument
-text-other : (path : List ℕ) (k : Kind) (text : List ℕ) → may_equal (text_number path) (number_by_kind 0 k text) ≡ false → is_text path (argument_of_kind k text) ≡ false
+text-other : (path : List ℕ) (k : Kind) (text : List ℕ) → may_equal (text_number path) (number_by_kind k text) ≡ false → is_text path (argument_of_kind k text) ≡ false
 text-other path kind.Bare text off = elim (cases_Bool (bytes_eq text path)) [
   | inl same ↦ absurd (differs (text_number path) (text_number text) off (ap text_number (same-text text path same)))
   | inr other ↦ other
 ]
 text-other path kind.Text text off = absurd cc
-text-other path kind.Mark text off = absurd cc
+text-other path kind.Mark text off = refl
 
-first-other : (path : List ℕ) (words : List Placed) → may_equal (text_number path) (number_at 0 (slice_get words 0)) ≡ false → is_first path (words_of words) ≡ false
+first-other : (path : List ℕ) (words : List Placed) → may_equal (text_number path) (number_at (slice_get words 0)) ≡ false → is_first path (words_of words) ≡ false
 first-other path [] off = refl
 first-other path (word ∷ words) off = text-other path word.word.kind word.word.spelling off
 
@@ -96,7 +96,7 @@ first-other path (word ∷ words) off = text-other path word.word.kind word.word
 abbrev target_of : List Placed → ℕ
 target_of words = target_number (slice_get words 0) (slice_get words 1) (slice_get words 3)
 
-two-other : (p : Pair) (k l : Kind) (text version : List ℕ) → may_equal (pair_number p) (target_by_kind k (number_by_kind 1 k text) (number_by_kind 1 l version) 1) ≡ false
+two-other : (p : Pair) (k l : Kind) (text version : List ℕ) → may_equal (pair_number p) (target_by_kind k (number_by_kind k text) (number_by_kind l version) 1) ≡ false
     → passes (excludes_pair p) (option_map Excludes (both pair (argument_of_kind k text) (argument_of_kind l version))) ≡ false
 two-other p kind.Mark l text version off = refl
 two-other p kind.Text l text version off = absurd cc
@@ -132,13 +132,13 @@ same-left other left same =
     ∙ ap (left_number_of (text_number left.path)) (same-version other.version left.version parts.1)
 
 -- one argument, where no other follows, or a mark
-one-may : (k : Kind) (text : List ℕ) (fourth : ℕ) (left : Left) → option_map left_without (argument_of_kind k text) ≡ Some left → may_equal (left_number left) (target_by_kind k (number_by_kind 1 k text) 1 fourth) ≡ true
+one-may : (k : Kind) (text : List ℕ) (fourth : ℕ) (left : Left) → option_map left_without (argument_of_kind k text) ≡ Some left → may_equal (left_number left) (target_by_kind k (number_by_kind k text) 1 fourth) ≡ true
 one-may kind.Mark text fourth left is = absurd cc
 one-may kind.Text text fourth left is = refl
 one-may kind.Bare text fourth left is = let e : left_without text ≡ left = cc in may-same (left_number left) (joined (text_number text) 1) (ap left_number e)
 
 two-may : (k l : Kind) (text version : List ℕ) (fourth : ℕ) (left : Left) → both left_with (argument_of_kind k text) (argument_of_kind l version) ≡ Some left
-    → may_equal (left_number left) (target_by_kind k (number_by_kind 1 k text) (number_by_kind 1 l version) fourth) ≡ true
+    → may_equal (left_number left) (target_by_kind k (number_by_kind k text) (number_by_kind l version) fourth) ≡ true
 two-may kind.Mark l text version fourth left is = absurd cc
 two-may kind.Text l text version fourth left is = refl
 two-may kind.Bare kind.Mark text version fourth left is = absurd cc
@@ -146,7 +146,7 @@ two-may kind.Bare kind.Text text version fourth left is = may-none (left_number 
 two-may kind.Bare kind.Bare text version fourth left is =
     let e : left_with text version ≡ left = cc in may-same (left_number left) (joined (text_number text) (text_number version)) (ap left_number e)
 
-arrow-number : (k : Kind) (text : List ℕ) → is_of_arrow k text ≡ true → number_by_kind 1 k text ≡ 1
+arrow-number : (k : Kind) (text : List ℕ) → is_of_arrow k text ≡ true → number_by_kind k text ≡ 1
 arrow-number kind.Bare text is = absurd cc
 arrow-number kind.Text text is = absurd cc
 arrow-number kind.Mark text is = refl
@@ -163,7 +163,7 @@ too-many : (a b c : Word) (words : List Word) (left : Left) → left_of (a ∷ b
 too-many a b c words left is = absurd cc
 
 third-may : (a b : Placed) (words : List Placed) (fourth : ℕ) (left : Left) → left_of (a.word ∷ b.word ∷ before_first is_arrow (words_of words)) ≡ Some left
-    → may_equal (left_number left) (target_by_kind a.word.kind (number_by_kind 1 a.word.kind a.word.spelling) (number_by_kind 1 b.word.kind b.word.spelling) fourth) ≡ true
+    → may_equal (left_number left) (target_by_kind a.word.kind (number_by_kind a.word.kind a.word.spelling) (number_by_kind b.word.kind b.word.spelling) fourth) ≡ true
 third-may a b [] fourth left is = two-may a.word.kind b.word.kind a.word.spelling b.word.spelling fourth left is
 third-may a b (c ∷ words) fourth left is = elim (cases_Bool (is_arrow c.word)) [
   | inl arrow ↦
@@ -176,18 +176,18 @@ third-may a b (c ∷ words) fourth left is = elim (cases_Bool (is_arrow c.word))
 
 -- the first word is before the arrow, and so is the second unless it is the arrow
 second-may : (a b : Placed) (words : List Placed) (fourth : ℕ) (left : Left) → left_of (a.word ∷ before_first is_arrow (b.word ∷ words_of words)) ≡ Some left
-    → may_equal (left_number left) (target_by_kind a.word.kind (number_by_kind 1 a.word.kind a.word.spelling) (number_by_kind 1 b.word.kind b.word.spelling) fourth) ≡ true
+    → may_equal (left_number left) (target_by_kind a.word.kind (number_by_kind a.word.kind a.word.spelling) (number_by_kind b.word.kind b.word.spelling) fourth) ≡ true
 second-may a b words fourth left is = elim (cases_Bool (is_arrow b.word)) [
   | inl arrow ↦
       let one : option_map left_without (argument a.word) ≡ Some left = sym (ap (λ (ws : List Word). left_of (a.word ∷ ws)) (before-arrow b.word (words_of words) arrow)) ∙ is in
-      ap (λ (n : ℕ). may_equal (left_number left) (target_by_kind a.word.kind (number_by_kind 1 a.word.kind a.word.spelling) n fourth)) (arrow-number b.word.kind b.word.spelling arrow)
+      ap (λ (n : ℕ). may_equal (left_number left) (target_by_kind a.word.kind (number_by_kind a.word.kind a.word.spelling) n fourth)) (arrow-number b.word.kind b.word.spelling arrow)
       ∙ one-may a.word.kind a.word.spelling fourth left one
   | inr word ↦ third-may a b words fourth left (sym (ap (λ (ws : List Word). left_of (a.word ∷ ws)) (no-arrow b.word (words_of words) word)) ∙ is)
 ]
 
 first-may : (a : Placed) (words : List Placed) (left : Left) → left_of (a.word ∷ before_first is_arrow (words_of words)) ≡ Some left → may_equal (left_number left) (target_of (a ∷ words)) ≡ true
 first-may a [] left is = one-may a.word.kind a.word.spelling 1 left is
-first-may a (b ∷ words) left is = second-may a b words (number_at 1 (slice_get (a ∷ b ∷ words) 3)) left is
+first-may a (b ∷ words) left is = second-may a b words (number_at (slice_get (a ∷ b ∷ words) 3)) left is
 
 left-may : (words : List Placed) (left : Left) → left_of (before_first is_arrow (words_of words)) ≡ Some left → may_equal (left_number left) (target_of words) ≡ true
 left-may [] left is = absurd cc
@@ -213,7 +213,7 @@ left-other left about_it is words off =
 
 -- one that a new left side doesn't supersede
 covered-other : (left : Left) (version : Option (List ℕ)) → left.version ≡ version → (words : List Placed)
-    → may_be_about (sought_of_left (text_number left.path) version) (number_at 0 (slice_get words 0)) (target_of words) ≡ false → passes (is_replaced_by left) (option_map Replaces (replacing_of (words_of words))) ≡ false
+    → may_be_about (sought_of_left (text_number left.path) version) (number_at (slice_get words 0)) (target_of words) ≡ false → passes (is_replaced_by left) (option_map Replaces (replacing_of (words_of words))) ≡ false
 covered-other left None is words off =
     replaced left.path (λ other. bytes_eq other.path left.path) (is_replaced_by left) (λ other fails. fails) (λ other right. ap (λ (v : Option (List ℕ)). is_covered_by left v other) is) (words_of words) (first-other left.path words off)
 covered-other left (Some version) is words off =
@@ -222,7 +222,7 @@ covered-other left (Some version) is words off =
 
 -- ---- an interval
 
-single-other : (ends : Pair) (k : Kind) (text : List ℕ) → may_equal (ends_number (text_number ends.0) (text_number ends.1)) (target_by_kind k (number_by_kind 1 k text) 1 1) ≡ false
+single-other : (ends : Pair) (k : Kind) (text : List ℕ) → may_equal (ends_number (text_number ends.0) (text_number ends.1)) (target_by_kind k (number_by_kind k text) 1 1) ≡ false
     → passes (retracts_ends ends) (option_map Retracts (option_map (λ w. pair w w) (argument_of_kind k text))) ≡ false
 single-other ends kind.Mark text off = refl
 single-other ends kind.Text text off = absurd cc
@@ -232,10 +232,10 @@ single-other ends kind.Bare text off =
     (sym (ends-same (text_number text)) ∙ ap (λ (t : List ℕ). ends_number (text_number t) (text_number text)) (same-text text ends.0 low)
     ∙ ap (λ (t : List ℕ). ends_number (text_number ends.0) (text_number t)) (same-text text ends.1 high)))
 
-both-ends-other : (ends : Pair) (k l : Kind) (low high : List ℕ) → may_equal (ends_number (text_number ends.0) (text_number ends.1)) (ends_number (number_by_kind 1 k low) (number_by_kind 1 l high)) ≡ false
+both-ends-other : (ends : Pair) (k l : Kind) (low high : List ℕ) → may_equal (ends_number (text_number ends.0) (text_number ends.1)) (ends_number (number_by_kind k low) (number_by_kind l high)) ≡ false
     → passes (retracts_ends ends) (option_map Retracts (both pair (argument_of_kind k low) (argument_of_kind l high))) ≡ false
 both-ends-other ends kind.Mark l low high off = refl
-both-ends-other ends kind.Text l low high off = absurd (is-none (ends_number (text_number ends.0) (text_number ends.1)) (ends_number 0 (number_by_kind 1 l high)) off (no-ends (number_by_kind 1 l high)))
+both-ends-other ends kind.Text l low high off = absurd (is-none (ends_number (text_number ends.0) (text_number ends.1)) (ends_number 0 (number_by_kind l high)) off (no-ends (number_by_kind l high)))
 both-ends-other ends kind.Bare kind.Mark low high off = refl
 both-ends-other ends kind.Bare kind.Text low high off = absurd (is-none (ends_number (text_number ends.0) (text_number ends.1)) (ends_number (text_number low) 0) off (ends-none (text_number low)))
 both-ends-other ends kind.Bare kind.Bare low high off =
@@ -246,7 +246,7 @@ both-ends-other ends kind.Bare kind.Bare low high off =
 
 -- only what begins with a mark is in brackets
 brackets-other : (ends : Pair) (k : Kind) (text : List ℕ) (v w : Placed) (comma close : Bool)
-    → may_equal (ends_number (text_number ends.0) (text_number ends.1)) (target_by_kind k (number_by_kind 1 k text) (number_at 1 (Some v)) (number_at 1 (Some w))) ≡ false
+    → may_equal (ends_number (text_number ends.0) (text_number ends.1)) (target_by_kind k (number_by_kind k text) (number_at (Some v)) (number_at (Some w))) ≡ false
     → passes (retracts_ends ends) (option_map Retracts (if is_mark_byte 91 k text && comma && close then both pair (argument v.word) (argument w.word) else None)) ≡ false
 brackets-other ends kind.Bare text v w comma close off = refl
 brackets-other ends kind.Text text v w comma close off = refl
@@ -267,7 +267,7 @@ ends-other ends (a ∷ v ∷ b ∷ w ∷ c ∷ d ∷ words) off = refl
 -- ---- entries
 
 -- arguments with other numbers
-arguments-other : (edit : Edit) (words : List Placed) → may_be_about (sought_of edit) (number_at 0 (slice_get words 0)) (target_of words) ≡ false → passes (about edit) (directive_of (verb_about edit) (words_of words)) ≡ false
+arguments-other : (edit : Edit) (words : List Placed) → may_be_about (sought_of edit) (number_at (slice_get words 0)) (target_of words) ≡ false → passes (about edit) (directive_of (verb_about edit) (words_of words)) ≡ false
 unfolding directive_of
 arguments-other (SetModule path) words off = absurd cc
 arguments-other (SetGo text) words off = absurd cc
@@ -280,7 +280,7 @@ arguments-other (DropReplace left) words off = left-other left (replaces_left le
 arguments-other (AddRetract ends) words off = ends-other ends words off
 arguments-other (DropRetract ends) words off = ends-other ends words off
 
-own-other : (edit : Edit) (text : List ℕ) (words : List Placed) → bytes_eq text (verb_of edit) ≡ true → may_be_about (sought_of edit) (number_at 0 (slice_get words 0)) (target_of words) ≡ false
+own-other : (edit : Edit) (text : List ℕ) (words : List Placed) → bytes_eq text (verb_of edit) ≡ true → may_be_about (sought_of edit) (number_at (slice_get words 0)) (target_of words) ≡ false
     → passes (about edit) (directive_of (main_verb text) (words_of words)) ≡ false
 own-other edit text words named off =
     let verb : main_verb text ≡ verb_about edit = ap main_verb (same-text text (verb_of edit) named) ∙ same-verb edit in
@@ -305,15 +305,15 @@ in-block edit verb words suffix true own off = block-other edit verb words suffi
 in-block edit verb words suffix false own off = block-other edit verb words suffix (other-verb edit verb.word.spelling (words_of words) own)
 
 -- a word that spells a verb has its number
-verb-may : (verb : List ℕ) (k : Kind) (text : List ℕ) → bytes_eq text verb ≡ true → may_equal (text_number verb) (number_by_kind 0 k text) ≡ true
-verb-may verb kind.Bare text named = may-same (text_number verb) (text_number text) (ap text_number (same-text text verb named))
+verb-may : (verb : List ℕ) (k : Kind) (text : List ℕ) → bytes_eq text verb ≡ true → may_spell (text_number verb) (number_by_kind k text) ≡ true
+verb-may verb kind.Bare text named = ap (λ (b : Bool). b || (text_number text == 1)) (may-same (text_number verb) (text_number text) (ap text_number (same-text text verb named)))
 verb-may verb kind.Text text named = refl
-verb-may verb kind.Mark text named = refl
+verb-may verb kind.Mark text named = or-true (may_equal (text_number verb) 1)
 
 loose-off : (edit : Edit) (verb : Placed) (words : List Placed) (suffix : Option (List ℕ)) → bytes_eq verb.word.spelling (verb_of edit) ≡ true
-    → may_concern (text_number (verb_of edit)) (sought_of edit) scope.Outside (key_of (Entry (verb ∷ words) suffix)) ≡ false → may_be_about (sought_of edit) (number_at 0 (slice_get words 0)) (target_of words) ≡ false
+    → may_concern (text_number (verb_of edit)) (sought_of edit) scope.Outside (key_of (Entry (verb ∷ words) suffix)) ≡ false → may_be_about (sought_of edit) (number_at (slice_get words 0)) (target_of words) ≡ false
 loose-off edit verb words suffix named off =
-    sym (ap (λ (b : Bool). b && may_be_about (sought_of edit) (number_at 0 (slice_get words 0)) (target_of words)) (verb-may (verb_of edit) verb.word.kind verb.word.spelling named)) ∙ off
+    sym (ap (λ (b : Bool). b && may_be_about (sought_of edit) (number_at (slice_get words 0)) (target_of words)) (verb-may (verb_of edit) verb.word.kind verb.word.spelling named)) ∙ off
 
 outside-blocks : (edit : Edit) (words : List Placed) (suffix : Option (List ℕ)) → may_concern (text_number (verb_of edit)) (sought_of edit) scope.Outside (key_of (Entry words suffix)) ≡ false
     → passes (about edit) (directive_at None (Entry words suffix)) ≡ false

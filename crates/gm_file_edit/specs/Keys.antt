@@ -21,19 +21,19 @@ use Rattle.gm_file_edit.specs.Edits.{Edit, SetModule, SetGo, SetRequire, DropReq
 abbrev pub text_number : List ℕ → ℕ
 text_number text = fingerprint 0 text % 2 ^ 32
 
-abbrev pub number_by_kind : ℕ → Kind → List ℕ → ℕ
-number_by_kind mark kind.Bare text = text_number text
-number_by_kind mark kind.Text text = 0
-number_by_kind mark kind.Mark text = mark
+abbrev pub number_by_kind : Kind → List ℕ → ℕ
+number_by_kind kind.Bare text = text_number text
+number_by_kind kind.Text text = 0
+number_by_kind kind.Mark text = 1
 
--- the number of a word: that of its text, 0 for a string, whose value is not its text, and the first number for a mark
-abbrev pub word_number : ℕ → Word → ℕ
-word_number mark word = number_by_kind mark word.kind word.spelling
+-- the number of a word: that of its text, 0 for a string, whose value is not its text, and 1 for a mark
+abbrev pub word_number : Word → ℕ
+word_number word = number_by_kind word.kind word.spelling
 
 -- the number of a word, or 1 if there is none
-abbrev pub number_at : ℕ → Option Placed → ℕ
-number_at mark None = 1
-number_at mark (Some word) = word_number mark word.word
+abbrev pub number_at : Option Placed → ℕ
+number_at None = 1
+number_at (Some word) = word_number word.word
 
 -- the number of two numbers, or 0 if one of them is 0
 abbrev pub joined : ℕ → ℕ → ℕ
@@ -50,10 +50,13 @@ target_by_kind kind.Bare first second fourth = joined first second
 target_by_kind kind.Text first second fourth = joined first second
 target_by_kind kind.Mark first second fourth = ends_number second fourth
 
+-- the same by the first argument, by the numbers of the first two, and by the fourth
+abbrev pub target_from : Option Placed → ℕ → ℕ → Option Placed → ℕ
+target_from None one two fourth = 1
+target_from (Some first) one two fourth = target_by_kind first.word.kind one two (number_at fourth)
+
 abbrev pub target_number : Option Placed → Option Placed → Option Placed → ℕ
-target_number None second fourth = 1
-target_number (Some first) second fourth =
-    target_by_kind first.word.kind (word_number 1 first.word) (number_at 1 second) (number_at 1 fourth)
+target_number first second fourth = target_from first (number_at first) (number_at second) fourth
 
 -- ---- the keys of lines
 
@@ -62,8 +65,8 @@ target_number (Some first) second fourth =
 abbrev pub words_key : List Placed → Key
 words_key words =
     record {
-      first = number_at 0 (slice_get words 0);
-      second = number_at 0 (slice_get words 1);
+      first = number_at (slice_get words 0);
+      second = number_at (slice_get words 1);
       inside = target_number (slice_get words 0) (slice_get words 1) (slice_get words 3);
       outside = target_number (slice_get words 1) (slice_get words 2) (slice_get words 4);
     }
@@ -74,8 +77,8 @@ key_with number = record { first = number; second = number; inside = number; out
 
 -- the key of a line; 0 stands for a bracket, which every operation reads
 abbrev pub key_of : Line Placed → Key
-key_of Blank = key_with 1
-key_of (Comment text) = key_with 1
+key_of Blank = key_with 2
+key_of (Comment text) = key_with 2
 key_of (Open verb suffix) = key_with 0
 key_of (Close suffix) = key_with 0
 key_of (Entry words suffix) = words_key words
@@ -126,6 +129,10 @@ scope_of text (Some verb) = scope_if (bytes_eq verb.word.spelling text)
 abbrev pub may_equal : ℕ → ℕ → Bool
 may_equal number own = (own == 0) || (own == number)
 
+-- whether a first word with this number may spell the verb; a mark is not ruled out
+abbrev pub may_spell : ℕ → ℕ → Bool
+may_spell verb own = may_equal verb own || (own == 1)
+
 -- whether arguments whose first has this number, and which are about this number, may be those of an operation
 abbrev pub may_be_about : Sought → ℕ → ℕ → Bool
 may_be_about sought.Any path target = true
@@ -134,6 +141,6 @@ may_be_about (sought.Target number) path target = may_equal number target
 
 -- whether a line may be a bracket, or an entry with the verb of this number and such arguments
 abbrev pub may_concern : ℕ → Sought → Scope → Key → Bool
-may_concern verb sought scope.Outside key = may_equal verb key.first && may_be_about sought key.second key.outside
+may_concern verb sought scope.Outside key = may_spell verb key.first && may_be_about sought key.second key.outside
 may_concern verb sought scope.Own key = may_be_about sought key.first key.inside
 may_concern verb sought scope.Other key = key.inside == 0

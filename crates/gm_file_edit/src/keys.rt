@@ -4,10 +4,10 @@
 //! so most lines are passed over without a look at their words, which are elsewhere in memory. Which numbers count
 //! depends on whether the line is in a block, so a key has those for either place: it then depends on the line alone.
 
-ghost use Rattle.std.specs.Prelude.{◌≡◌, ◌%◌, ◌^◌};
+ghost use Rattle.std.specs.Prelude.{◌≡◌, ◌%◌, ◌^◌, slice_get};
 ghost use Rattle.std.specs.Option.{option_map};
 ghost use Rattle.gm_syntax.specs.LineViews.{line_of};
-ghost use Rattle.gm_file_edit.specs.Keys.{ends_number, joined, key_of, key_with, may_be_about, may_concern, may_equal, number_at, target_number, text_number, word_number, words_key};
+ghost use Rattle.gm_file_edit.specs.Keys.{ends_number, joined, key_of, key_with, may_be_about, may_concern, may_equal, may_spell, number_at, target_from, text_number, word_number, words_key};
 
 use gm_name::fingerprint;
 use gm_syntax::{Kind, Line, Token};
@@ -47,8 +47,11 @@ pub(crate) enum Scope {
     Other,
 }
 
-/// The number of a word that is missing, and of a line without words.
+/// The number of a mark, and of a word that is missing.
 pub(crate) const NONE: u32 = 1;
+
+/// The number of a line without words.
+const SILENT: u32 = 2;
 
 /// The number of a line or a word that has to be read.
 const ANY: u32 = 0;
@@ -83,52 +86,69 @@ pub(crate) fn ends_number(low: u32, high: u32) -> u32
     joined(low, high)
 }
 
-/// The number of a word: that of its text, `ANY` for a string, whose value is not its text, and `mark` for a mark.
-fn word_number(mark: u32, word: &Token) -> u32
-    ensures { result ≡ word_number mark word.now.word }
+/// The number of a word: that of its text, `ANY` for a string, whose value is not its text, and `NONE` for a mark.
+fn word_number(word: &Token) -> u32
+    ensures { result ≡ word_number word.now.word }
 {
     match word.kind() {
         Kind::Bare => text_number(word.spelling()),
         Kind::Text => ANY,
-        Kind::Mark => mark,
+        Kind::Mark => NONE,
     }
 }
 
 /// The number of a word, if there is one.
-fn number_at(mark: u32, word: Option<&Token>) -> u32
-    ensures { result ≡ number_at mark (option_map (λ t. t.now) word.entry) }
+fn number_at(word: Option<&Token>) -> u32
+    ensures { result ≡ number_at (option_map (λ t. t.now) word.entry) }
 {
     match word {
         None => NONE,
-        Some(word) => word_number(mark, word),
+        Some(word) => word_number(word),
     }
 }
 
-/// The number of what arguments are about, by the first, the second and the fourth: the ends in brackets if the first
-/// is a mark, and otherwise the first two.
-fn target_number(first: Option<&Token>, second: Option<&Token>, fourth: Option<&Token>) -> u32
-    ensures { result ≡ target_number (option_map (λ t. t.now) first.entry) (option_map (λ t. t.now) second.entry)
-        (option_map (λ t. t.now) fourth.entry) }
+/// The number of what arguments are about, by the first, the numbers of the first two, and the fourth: the ends in
+/// brackets if the first is a mark, and otherwise the first two.
+fn target_from(first: Option<&Token>, one: u32, two: u32, fourth: Option<&Token>) -> u32
+    ensures { result ≡ target_from (option_map (λ t. t.now) first.entry) one two (option_map (λ t. t.now) fourth.entry) }
 {
     match first {
         None => NONE,
         Some(word) => match word.kind() {
-            Kind::Bare => joined(word_number(NONE, word), number_at(NONE, second)),
-            Kind::Text => joined(word_number(NONE, word), number_at(NONE, second)),
-            Kind::Mark => ends_number(number_at(NONE, second), number_at(NONE, fourth)),
+            Kind::Bare => joined(one, two),
+            Kind::Text => joined(one, two),
+            Kind::Mark => ends_number(two, number_at(fourth)),
         },
     }
+}
+
+/// The number of the word at an index.
+fn number_in(words: &[Token], at: usize) -> u32
+    ensures { result ≡ number_at (slice_get words.now at) }
+{
+    number_at(words.get(at))
+}
+
+/// The number of what the arguments from an index on are about, by the numbers of the first two. The fourth is at another
+/// index.
+fn target_in(words: &[Token], at: usize, one: u32, two: u32, fourth: usize) -> u32
+    ensures { result ≡ target_from (slice_get words.now at) one two (slice_get words.now fourth) }
+{
+    target_from(words.get(at), one, two, words.get(fourth))
 }
 
 /// The key of the words of an entry.
 fn words_key(words: &[Token]) -> Key
     ensures { result ≡ words_key words.now }
 {
+    let first = number_in(words, 0);
+    let second = number_in(words, 1);
+    let third = number_in(words, 2);
     Key {
-        first: number_at(ANY, words.get(0)),
-        second: number_at(ANY, words.get(1)),
-        inside: target_number(words.get(0), words.get(1), words.get(3)),
-        outside: target_number(words.get(1), words.get(2), words.get(4)),
+        first,
+        second,
+        inside: target_in(words, 0, first, second, 3),
+        outside: target_in(words, 1, second, third, 4),
     }
 }
 
@@ -149,8 +169,8 @@ pub(crate) fn key_of(line: &Line) -> Key
     ensures { result ≡ key_of (line_of line.now) }
 {
     match line {
-        Line::Blank => key_with(NONE),
-        Line::Comment(_) => key_with(NONE),
+        Line::Blank => key_with(SILENT),
+        Line::Comment(_) => key_with(SILENT),
         Line::Open(_, _) => key_with(ANY),
         Line::Close(_) => key_with(ANY),
         Line::Entry(words, _) => words_key(words.as_slice()),
@@ -162,6 +182,14 @@ fn may_equal(number: u32, own: u32) -> bool
     ensures { result ≡ may_equal number own }
 {
     own == ANY || own == number
+}
+
+/// Whether a first word with this number may spell the verb. A mark is not ruled out: that no mark spells one need not be
+/// known here.
+fn may_spell(verb: u32, own: u32) -> bool
+    ensures { result ≡ may_spell verb own }
+{
+    may_equal(verb, own) || own == NONE
 }
 
 /// Whether arguments whose first has the number `path`, and which are about the number `target`, may be those of an
@@ -183,7 +211,7 @@ pub(crate) fn may_concern(verb: u32, sought: Sought, scope: Scope, key: Key) -> 
 {
     match scope {
         Scope::Outside => {
-            may_equal(verb, key.first) && may_be_about(sought, key.second, key.outside)
+            may_spell(verb, key.first) && may_be_about(sought, key.second, key.outside)
         }
         Scope::Own => may_be_about(sought, key.first, key.inside),
         Scope::Other => key.inside == ANY,

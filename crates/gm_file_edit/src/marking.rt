@@ -30,18 +30,17 @@ pub(crate) fn marks(
     let verb = verb_of(change);
     let number = text_number(verb);
     let sought = sought_of(change);
-    let mut marks = Vec::with_capacity(alloc, lines.len())?;
+    let mut marks = vec![in alloc; false; lines.len()]?;
     let mut block = None;
     let mut scope = Scope::Outside;
     for (n, key) in lines.keys().iter().enumerate() {
-        let mut mark = false;
         if may_concern(number, sought, scope, *key) {
             let line = lines.line(n);
-            mark = is_about_at(alloc, change, block, line)?;
+            let mark = is_about_at(alloc, change, block, line)?;
+            marks[n] = mark;
             block = block_after_line(block, line);
             scope = scope_of(verb, block);
         }
-        marks.push(mark)?;
     }
     Ok(marks)
 }

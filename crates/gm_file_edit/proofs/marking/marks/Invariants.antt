@@ -9,5 +9,5 @@ use Rattle.gm_file_edit.proofs.marking.marks.Given as goal
 
 abbrev pub invariant-loop-n : goal.invariant-loop-n
 invariant-loop-n l =
-    IsMarkedTo (about (edit_of l.change)) l.lines (drop l.n l.lines) (option_map (λ t. t.now) l.block) l.marks.items
+    IsMarkedTo (about (edit_of l.change)) l.lines (drop l.n l.lines) (option_map (λ t. t.now) l.block) l.n l.marks.items
     × (l.scope ≡ scope_of (verb_of (edit_of l.change)) (option_map (λ t. t.now) l.block))
