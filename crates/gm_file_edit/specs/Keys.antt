@@ -43,8 +43,8 @@ joined a b = if (a == 0) || (b == 0) then 0 else (a * 2654435769 % 2 ^ 32 + b) %
 abbrev pub ends_number : ℕ → ℕ → ℕ
 ends_number low high = if low == high then joined low 1 else joined low high
 
--- the number of what arguments are about, by the first, the second and the fourth: the ends in brackets if the first is
--- a mark, and otherwise the first two
+-- the number of what arguments are about, by the numbers of the first, the second and the fourth: the ends in brackets
+-- if the first is a mark, and otherwise the first two
 abbrev pub target_by_kind : Kind → ℕ → ℕ → ℕ → ℕ
 target_by_kind kind.Bare first second fourth = joined first second
 target_by_kind kind.Text first second fourth = joined first second
@@ -60,8 +60,8 @@ target_number first second fourth = target_from first (number_at first) (number_
 
 -- ---- the keys of lines
 
--- The key of the words of an entry: the numbers of the first two words, and of what the arguments are about if all words
--- are arguments, as in a block, and if the first is the verb.
+-- The key of the words of an entry: the numbers of the first two words, and of what the arguments are about, if all
+-- words are arguments, as in a block, and if the first is the verb.
 abbrev pub words_key : List Placed → Key
 words_key words =
     record {

@@ -1,8 +1,9 @@
 //! Keys of lines.
 //!
-//! An operation looks for one path, for one path at one version, or for one interval. A line's key has numbers of these,
-//! so most lines are passed over without a look at their words, which are elsewhere in memory. Which numbers count
-//! depends on whether the line is in a block, so a key has those for either place: it then depends on the line alone.
+//! An operation looks for one path, for one path at one version, or for one interval. A line's key has numbers of
+//! these, so most lines are passed over without a look at their words, which are elsewhere in memory. Which numbers
+//! count depends on whether the line is in a block, so a key has those for either place: it then depends on the line
+//! alone.
 
 ghost use Rattle.std.specs.Prelude.{◌≡◌, ◌%◌, ◌^◌, slice_get};
 ghost use Rattle.std.specs.Option.{option_map};
@@ -110,7 +111,8 @@ fn number_at(word: Option<&Token>) -> u32
 /// The number of what arguments are about, by the first, the numbers of the first two, and the fourth: the ends in
 /// brackets if the first is a mark, and otherwise the first two.
 fn target_from(first: Option<&Token>, one: u32, two: u32, fourth: Option<&Token>) -> u32
-    ensures { result ≡ target_from (option_map (λ t. t.now) first.entry) one two (option_map (λ t. t.now) fourth.entry) }
+    ensures { result
+        ≡ target_from (option_map (λ t. t.now) first.entry) one two (option_map (λ t. t.now) fourth.entry) }
 {
     match first {
         None => NONE,
@@ -129,8 +131,8 @@ fn number_in(words: &[Token], at: usize) -> u32
     number_at(words.get(at))
 }
 
-/// The number of what the arguments from an index on are about, by the numbers of the first two. The fourth is at another
-/// index.
+/// The number of what the arguments from an index on are about, by the numbers of the first two. The fourth is at
+/// another index.
 fn target_in(words: &[Token], at: usize, one: u32, two: u32, fourth: usize) -> u32
     ensures { result ≡ target_from (slice_get words.now at) one two (slice_get words.now fourth) }
 {
@@ -184,8 +186,8 @@ fn may_equal(number: u32, own: u32) -> bool
     own == ANY || own == number
 }
 
-/// Whether a first word with this number may spell the verb. A mark is not ruled out: that no mark spells one need not be
-/// known here.
+/// Whether a first word with this number may spell the verb. A mark is not ruled out: that no mark spells one need not
+/// be known here.
 fn may_spell(verb: u32, own: u32) -> bool
     ensures { result ≡ may_spell verb own }
 {
