@@ -1,11 +1,13 @@
 #!/usr/bin/env bash
 # Times `gomod versions` on a list of a million lines and `sort -V -u` beside it, on the same list in a proxy folder
-# with a million retractions in the latest version's go.mod, and on three lists of 16 MiB without a version.
+# with a million retractions in the latest version's go.mod, on those of its lines that fit the path, without a
+# retraction, with `go list -m -versions` beside it if there is a go command, and on three lists of 16 MiB without a
+# version.
 #
 #   bench/versions.sh            what docs/BENCHMARKS.md has
 #   bench/versions.sh --small    20,000 lines and retractions and lists of 1 MiB, to see in seconds whether it runs
 #
-# It needs bin/gomod (./build makes it), python3, awk and sort of GNU coreutils, 100 MB for temporary files and 700 MB
+# It needs bin/gomod (./build makes it), python3, awk and sort of GNU coreutils, 130 MB for temporary files and 700 MB
 # of memory. It prints the size of the list, then for each command, of three runs (one with --small), the fastest:
 # elapsed seconds, CPU seconds, and peak memory; the ratio of gomod to sort; and for the three lists the status too. The
 # status is 1 if gomod fails on the list of versions, or if there is none.
@@ -57,6 +59,18 @@ for place in range(count):
     retractions.append(f"[{low},{high}]" if place % 8 == 0 else low)
 with open(f"{folder}/v1.500.0.mod", "w", encoding="ascii") as out:
     out.write("module example.com/p\n\nretract (\n" + "\n".join(retractions) + "\n)\n")
+# The lines that fit the path, as go takes others too, and a latest version that retracts nothing.
+folder = f"{work}/plain/example.com/p/@v"
+os.makedirs(folder)
+with open(f"{folder}/list", "w", encoding="ascii") as out:
+    out.write("".join(f"{line}\n" for line in [*lines, "v1.500.0"] if line[:2] in ("v0", "v1")))
+with open(f"{folder}/v1.500.0.mod", "w", encoding="ascii") as out:
+    out.write("module example.com/p\n")
+with open(f"{folder}/v1.500.0.info", "w", encoding="ascii") as out:
+    out.write('{"Version": "v1.500.0"}\n')
+os.makedirs(f"{work}/main")
+with open(f"{work}/main/go.mod", "w", encoding="ascii") as out:
+    out.write("module example.com/m\n\ngo 1.16\n")
 for name, byte in [("one-line", b"v"), ("line-ends", b"\n"), ("nuls", b"\0")]:
     with open(f"{work}/{name}", "wb") as out:
         out.write(byte * limit)
@@ -80,6 +94,23 @@ read -r mine busy memory status < <(best - "$gomod" versions example.com/p --pro
 awk -v count="$count" -v mine="$mine" -v busy="$busy" -v memory="$memory" 'BEGIN {
   printf "with a proxy and %d retractions  %4.2f s, CPU %4.2f s, %5.0f MB\n", count, mine, busy, memory / 1e6
 }'
+read -r mine busy memory status < <(best - "$gomod" versions example.com/p --proxy "$work/plain")
+[ "$status" = 0 ] || { echo "gomod versions --proxy ended with status $status" >&2; exit 1; }
+lines=$(wc -l < "$work/plain/example.com/p/@v/list")
+tell() {
+  awk -v name="$1" -v lines="$2" -v took="$3" -v busy="$4" -v memory="$5" 'BEGIN {
+    printf "%s, %d lines that fit  %4.2f s, CPU %4.2f s, %5.0f MB\n", name, lines, took, busy, memory / 1e6
+  }'
+}
+tell "gomod versions --proxy" "$lines" "$mine" "$busy" "$memory"
+if command -v go > /dev/null; then
+  export GOPROXY="file://$work/plain" GOFLAGS='-mod=mod -modcacherw' GONOSUMDB='*' GOMODCACHE="$work/cache"
+  read -r mine busy memory status < <(
+    best - sh -c 'cd "$1" && exec go list -m -versions example.com/p' go "$work/main"
+  )
+  [ "$status" = 0 ] || { echo "go list -m -versions ended with status $status" >&2; exit 1; }
+  tell "go list -m -versions" "$lines" "$mine" "$busy" "$memory"
+fi
 for name in one-line line-ends nuls; do
   read -r mine _ memory status < <(best "$work/$name" "$gomod" versions example.com/p)
   awk -v name="$name" -v mine="$mine" -v memory="$memory" -v status="$status" 'BEGIN {
