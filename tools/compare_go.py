@@ -29,6 +29,7 @@ FAULTS = [
 ]
 NOT_CANONICAL = "Versions that are not canonical: `v1.2`, `latest`, a branch, a commit"
 EXCLUDED = "Versions that the main file excludes"
+TWICE = "A version that stands twice in a list"
 DROPPED = "What `go mod edit` drops as it formats"
 TWO_REPLACES = "Two `replace` of one left side"
 IN_ONE_CALL = ("`retract` of what is there already; `dropretract`, or `dropreplace`, of what the same call added or "
@@ -194,9 +195,10 @@ class Comparison:
         came = self.commands.ask_graph(main, command, sums=has_sums)
         kinds = set(re.findall(r"^\S+@\S+: (\S+)$", came.err, re.M)) if has_sums else set()
         name = None
-        if kinds == {"SumDiffers"} and self.has_second_hashes(main, came):
+        is_mismatch = "checksum mismatch" in wanted.err
+        if kinds == {"SumDiffers"} and not is_mismatch and self.has_second_hashes(main, came):
             name = "A second hash of a file in go.sum"
-        elif kinds == {"NoSum"} and wanted.status == 0:
+        elif "NoSum" in kinds and "missing go.sum entry" not in wanted.err:
             name = "Checksums"
         if name:
             self.found.count(command, name)
@@ -228,6 +230,8 @@ class Comparison:
         if wanted.status:
             return True
         copy = shutil.copytree(main, f"{main}.{command}")
+        if not any(verb == "go" for verb, _, _ in pieces_of(read(f"{main}/go.mod"))[0]):
+            self.commands.ask_go(copy, "mod", "edit", "-go=1.16", mod="")  # an update would write its own version
         self.commands.ask_go(copy, "list", "-m", "all", mod="mod")
         return self.same_lines(self.commands.ask_graph(copy, command), wanted, command == "graph")
 
@@ -285,17 +289,18 @@ class Comparison:
     def compare_row(self, path, came, row, error, words, excludes):
         command = "versions --retracted" if words else "versions"
         ours, theirs = came.out.split()[1:], row.split(" ")[1:]
-        if came.status == 0 and not error and ours == theirs:
-            return self.found.count(command, SAME)
+        once = list(dict.fromkeys(theirs))
+        if came.status == 0 and not error and ours == once:
+            return self.found.count(command, SAME if once == theirs else TWICE)
         lines = read(f"{self.commands.proxy}/{escaped(path)}/@v/list").splitlines()
         listed = [it.split()[0] for it in lines if re.match(r"v\d+(\.\d+){0,2}([-+]|\s|$)", it)]
         listed = [it for it in listed if not re.search(r"\d{14}-[0-9a-f]{12}", it)]
         fitting = [it for it in listed if fits(path, it)]
         if came.status == 0 and not error:
-            kept = [it for it in theirs if fits(path, it)]
+            kept = [it for it in once if fits(path, it)]
             shown = [it for it in ours if (path, it) not in excludes]
             if kept == shown:
-                names = [EXCLUDED] * (shown != ours) + [MISFITS] * (kept != theirs)
+                names = [EXCLUDED] * (shown != ours) + [MISFITS] * (kept != once) + [TWICE] * (once != theirs)
                 return [self.found.count(command, name) for name in names]
         if not error and fitting and all((path, it) in excludes for it in fitting):
             return self.found.count(command, EXCLUDED)
@@ -378,6 +383,8 @@ class Comparison:
             strict = self.commands.ask(main, "edit", "go.mod", "dropretract=v0.0.0")
             if came.status == 0 and self.both_refuse(strict, wanted):
                 return self.found.count("fmt", "`fmt` of a file with a faulty directive")
+            if came.status == 0 and re.match(r"go\.mod:\d+: BadVersion$", strict.err, re.M):
+                return self.found.count("fmt", NOT_CANONICAL)
         elif came.out == wanted.out:
             return self.found.count("fmt", SAME)
         elif not is_laid_out:

@@ -254,7 +254,8 @@ class World:
             write(f"{base}/{escaped(version)}.info",
                   json.dumps({"Version": version, "Time": "2020-01-01T00:00:00Z"}))
         for base, versions in lists.items():
-            extra = self.random.choice([[]] * 8 + [["v9.0.0"], ["master", "v1.2"], ["v1.4.0 2020-01-01T00:00:00Z"]])
+            extra = self.random.choice(
+                [[]] * 8 + [["v9.0.0"], ["master", "v1.2"], ["v1.4.0 2020-01-01T00:00:00Z"], versions[:1]])
             if extra and extra[0] == "v1.4.0" and "/v2" in base:
                 extra = []
             write(f"{base}/list", "".join(f"{it}\n" for it in versions + extra))
