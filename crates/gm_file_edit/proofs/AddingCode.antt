@@ -11,8 +11,10 @@ use Rattle.gm_syntax.specs.declared.line.Line as declared
 use Rattle.gm_syntax.specs.LineViews.{line_of, line_views}
 use Rattle.gm_file.specs.Directives.{Directive, block_after_line}
 use Rattle.gm_file_edit.specs.declared.adding.Spot.{Spot}
-use Rattle.gm_file_edit.specs.Adding.{added, added_at, after_first_that, spot_after_first, spot_after_last, spot_after_line, close_len, entry_at, further, past_block, insert_at_spot, single}
-use Rattle.gm_file_edit.specs.Fates.{IsValidAt, directive_at, passes}
+use Rattle.gm_file_edit.specs.Adding.{added, added_at, after_first_that, spot_after_first, spot_after_last, spot_after_line, close_len, further, past_block, insert_at_spot}
+use Rattle.gm_file_edit.specs.NewWords.{entry_at, single}
+use Rattle.gm_file_edit.specs.Fates.{IsValidAt}
+use Rattle.gm_file_edit.specs.Holding.{directive_at, passes}
 use Rattle.gm_file_edit.proofs.Sound.{SoundFrom}
 
 -- the same position with `n` more lines before it

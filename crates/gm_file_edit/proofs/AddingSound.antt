@@ -22,8 +22,9 @@ use Rattle.gm_file.specs.Faults.{conflicts, directive_kinds, fault_of, go_in, is
 use Rattle.gm_file_edit.specs.declared.adding.AddedVerb.{AddedVerb}
 use Rattle.gm_file_edit.specs.declared.adding.AddedVerb.TheVariants as verb
 use Rattle.gm_file_edit.specs.declared.adding.Spot.{Spot}
-use Rattle.gm_file_edit.specs.Adding.{added, added_at, after_first_that, spot_after_first, spot_after_last, spot_after_line, close_len, entry_at, further, is_of, past_block, insert_at_spot, single, verb_text}
-use Rattle.gm_file_edit.specs.Fates.{directive_at, item_of, passes, word_of}
+use Rattle.gm_file_edit.specs.Adding.{added, added_at, after_first_that, spot_after_first, spot_after_last, spot_after_line, close_len, further, is_of, past_block, insert_at_spot, verb_text}
+use Rattle.gm_file_edit.specs.NewWords.{entry_at, single}
+use Rattle.gm_file_edit.specs.Holding.{directive_at, item_of, passes, word_of}
 use Rattle.gm_file_edit.proofs.Sound.{SoundFrom, both-nil, file-sound, nil-parts, sound-file}
 use Rattle.gm_file_edit.proofs.Leaving.{AreMild, Near, clashes, kinds-near}
 

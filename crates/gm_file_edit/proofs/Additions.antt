@@ -10,13 +10,16 @@ use Rattle.gm_file_edit.specs.declared.adding.AddedVerb.TheVariants as verb
 use Rattle.gm_file_edit.specs.declared.adding.Spot.{Spot}
 use Rattle.gm_file_edit.specs.Edits.{Edit, SetModule, SetGo, SetRequire, DropRequire, AddExclude, DropExclude, SetReplace, DropReplace, AddRetract, DropRetract}
 use Rattle.gm_file_edit.specs.About.{about}
-use Rattle.gm_file_edit.specs.Adding.{added, added_at, entry_at, is_of, single, spot_after_last, verb_text}
-use Rattle.gm_file_edit.specs.Changes.{edited, put_in}
+use Rattle.gm_file_edit.specs.Adding.{added, added_at, is_of, spot_after_last, verb_text}
+use Rattle.gm_file_edit.specs.NewWords.{entry_at, single}
+use Rattle.gm_file_edit.specs.Edited.{edited}
+use Rattle.gm_file_edit.specs.Pass.{edited_by_pass, put_in}
 use Rattle.gm_file_edit.specs.EditLaws.{AdditionFollowsItsVerb, AdditionOfANewVerbIsLast, arguments_added, verb_added}
-use Rattle.gm_file_edit.specs.Fates.{directive_at, passes}
+use Rattle.gm_file_edit.specs.Holding.{directive_at, passes}
 use Rattle.gm_file_edit.specs.Laws.{directives_of}
 use Rattle.gm_file_edit.specs.Searching.{is_there, is_there_from}
 use Rattle.gm_file_edit.proofs.Idle.{there-said}
+use Rattle.gm_file_edit.proofs.BySections.{edited-is-pass}
 
 or-none : (a b : Bool) → (a || b) ≡ false → (a ≡ false) × (b ≡ false)
 or-none true b e = absurd cc
@@ -75,12 +78,16 @@ put-is (DropReplace left) v lines e = absurd cc
 put-is (AddRetract ends) v lines e = subst (AddsOf (AddRetract ends) lines) (ap verb_or_require e) refl
 put-is (DropRetract ends) v lines e = absurd cc
 
-edited-added : (edit : Edit) (v : AddedVerb) (lines : List (Line Placed)) → verb_added edit ≡ Some v → list_any (about edit) (directives_of lines) ≡ false
-    → edited edit lines ≡ added (is_of v) (verb_text v) (arguments_added edit) lines
-unfolding edited
-edited-added edit v lines adds none =
+pass-added : (edit : Edit) (v : AddedVerb) (lines : List (Line Placed)) → verb_added edit ≡ Some v → list_any (about edit) (directives_of lines) ≡ false
+    → edited_by_pass edit lines ≡ added (is_of v) (verb_text v) (arguments_added edit) lines
+unfolding edited_by_pass
+pass-added edit v lines adds none =
     let absent : is_there (about edit) lines ≡ false = there-said (about edit) lines ∙ none in
     rw absent (put-is edit v lines adds)
+
+edited-added : (edit : Edit) (v : AddedVerb) (lines : List (Line Placed)) → verb_added edit ≡ Some v → list_any (about edit) (directives_of lines) ≡ false
+    → edited edit lines ≡ added (is_of v) (verb_text v) (arguments_added edit) lines
+edited-added edit v lines adds none = edited-is-pass edit lines ∙ pass-added edit v lines adds none
 
 pub addition-follows : AdditionFollowsItsVerb
 addition-follows edit v front back line adds none is =

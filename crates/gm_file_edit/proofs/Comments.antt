@@ -10,12 +10,13 @@ use Rattle.gm_syntax.specs.Document.{Line, Blank, Comment, Open, Close, Entry}
 use Rattle.gm_file.specs.Directives.{Directive, item_at}
 use Rattle.gm_file_edit.specs.Edits.{Edit, SetModule, SetGo, SetRequire, DropRequire, AddExclude, DropExclude, SetReplace, DropReplace, AddRetract, DropRetract}
 use Rattle.gm_file_edit.specs.About.{about}
-use Rattle.gm_file_edit.specs.Adding.{added, added_at, after_first_that, entry_at, insert_at_spot, past_block, single, spot_after_first, spot_after_last}
+use Rattle.gm_file_edit.specs.Adding.{added, added_at, after_first_that, insert_at_spot, past_block, spot_after_first, spot_after_last}
 use Rattle.gm_file_edit.specs.declared.adding.Spot.{Spot}
-use Rattle.gm_file_edit.specs.Changes.{changed, edited, put_in}
-use Rattle.gm_file_edit.specs.EditLaws.{CommentLinesStay, is_comment_line}
-use Rattle.gm_file_edit.specs.Fates.{Begun, Fate, begin, directive_at, dropped, dropping_from, is_emptied, itself, kept, leaves_nothing, passes, remaining_from, renewed, renewing_from, with_line}
-use Rattle.gm_file_edit.specs.NewWords.{made_word}
+use Rattle.gm_file_edit.specs.Pass.{changed, edited_by_pass, put_in}
+use Rattle.gm_file_edit.specs.EditLaws.{is_comment_line}
+use Rattle.gm_file_edit.specs.Fates.{Begun, Fate, begin, dropped, dropping_from, is_emptied, itself, kept, leaves_nothing, remaining_from, renewed, renewing_from, with_line}
+use Rattle.gm_file_edit.specs.Holding.{directive_at, passes}
+use Rattle.gm_file_edit.specs.NewWords.{entry_at, made_word, single}
 use Rattle.gm_file_edit.specs.Renewing.{made_new}
 use Rattle.gm_file_edit.specs.Searching.{is_there}
 use Rattle.gm_file_edit.proofs.Leaving.{emptied-inner}
@@ -184,9 +185,9 @@ put-comments (DropReplace left) lines = refl
 put-comments (AddRetract ends) lines = added-comments _ _ _ lines
 put-comments (DropRetract ends) lines = refl
 
-pub edited-comments : CommentLinesStay
-unfolding edited
-edited-comments edit lines = elim (cases_Bool (is_there (about edit) lines)) [
+pub pass-comments : (edit : Edit) (lines : List (Line Placed)) → filter is_comment_line (edited_by_pass edit lines) ≡ filter is_comment_line lines
+unfolding edited_by_pass
+pass-comments edit lines = elim (cases_Bool (is_there (about edit) lines)) [
   | inl there ↦ rw there (changed-comments edit lines)
   | inr none ↦ rw none (put-comments edit lines)
 ]

@@ -12,7 +12,8 @@ use Rattle.gm_file.specs.DirectiveViews.{IsLineRead, directive_view}
 use Rattle.gm_file.specs.Directives.{Strict, Directive, DeclaresModule, DeclaresGo, Requires, Excludes, Replaces, Retracts, Kept, Item, block_after_line, directive_in, item_at}
 use Rattle.gm_file.specs.Faults.{item_kinds}
 use Rattle.gm_file.specs.Fields.{first}
-use Rattle.gm_file_edit.specs.Fates.{Fate, IsValidAt, dropped, dropping_from, fate_of, directive_at, remaining_from, passes, word_of}
+use Rattle.gm_file_edit.specs.Fates.{Fate, IsValidAt, dropped, dropping_from, fate_of, remaining_from}
+use Rattle.gm_file_edit.specs.Holding.{directive_at, passes, word_of}
 use Rattle.gm_file_edit.proofs.Sound.{SoundFrom}
 use Rattle.gm_file_edit.proofs.Leaving.{AreMarked, AreMild, IsGone, Marked, Near, fates_in, left-sound, lines_in}
 use Rattle.gm_file.specs.Faults.{is_module}

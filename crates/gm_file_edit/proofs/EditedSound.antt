@@ -1,5 +1,5 @@
 -- The lines after an operation are a document without a fault.
-use Rattle.std.proofs.Common.{◌≡◌, ℕ, ◌==◌, ◌||◌, not, Bool, true, false, List, [], ◌∷◌, Option, Some, None, refl, sym, ap, ◌∙◌, arith, inl, inr}
+use Rattle.std.proofs.Common.{◌≡◌, ℕ, ◌==◌, ◌||◌, not, Bool, true, false, List, [], ◌∷◌, Option, Some, None, refl, sym, ap, ◌∙◌, arith, inl, inr, subst}
 use Rattle.std.specs.Prelude.{codes}
 use Rattle.std.specs.Option.{option_to_list}
 use Rattle.std.specs.List.{list_any}
@@ -23,10 +23,13 @@ use Rattle.gm_file_edit.specs.declared.adding.AddedVerb.{AddedVerb}
 use Rattle.gm_file_edit.specs.declared.adding.AddedVerb.TheVariants as verb
 use Rattle.gm_file_edit.specs.Edits.{Edit, SetModule, SetGo, SetRequire, DropRequire, AddExclude, DropExclude, SetReplace, DropReplace, AddRetract, DropRetract}
 use Rattle.gm_file_edit.specs.About.{about, excludes_pair, is_replaced_by, replaces_left, requires_path, retracts_ends}
-use Rattle.gm_file_edit.specs.Adding.{single, verb_text}
-use Rattle.gm_file_edit.specs.Changes.{changed, edited, is_fit, put_in}
-use Rattle.gm_file_edit.specs.Fates.{directive_at, passes, renewed}
-use Rattle.gm_file_edit.specs.NewWords.{interval_words, made_word, pair_words, replace_words}
+use Rattle.gm_file_edit.specs.Adding.{verb_text}
+use Rattle.gm_file_edit.specs.Pass.{changed, edited_by_pass, put_in}
+use Rattle.gm_file_edit.specs.Edited.{edited}
+use Rattle.gm_file_edit.specs.Kinds.{is_fit}
+use Rattle.gm_file_edit.specs.Fates.{renewed}
+use Rattle.gm_file_edit.specs.Holding.{directive_at, passes}
+use Rattle.gm_file_edit.specs.NewWords.{interval_words, made_word, pair_words, replace_words, single}
 use Rattle.gm_file_edit.specs.Renewing.{made_new, with_arguments, with_last}
 use Rattle.gm_file_edit.specs.Searching.{is_there, is_there_from}
 use Rattle.gm_file_edit.specs.Sound.{AreVersions, IsPairOfNames, IsSoundEdit}
@@ -38,6 +41,7 @@ use Rattle.gm_file_edit.proofs.Leaving.{AreMild}
 use Rattle.gm_file_edit.proofs.Renewals.{go-kinds, go-renewal, go-says, module-renewal, pair-kinds, replace-are, replace-kinds, replace-mild, replace-renewal, replace-says, require-renewal}
 use Rattle.gm_file_edit.proofs.Renews.{renewed-sound}
 use Rattle.gm_file_edit.proofs.Sound.{SoundFrom, file-sound, sound-file}
+use Rattle.gm_file_edit.proofs.BySections.{edited-is-pass}
 
 -- ---- if no entry is targeted
 
@@ -256,12 +260,15 @@ put-sound (AddRetract ends) lines good fit none sound =
     added-sound verb.Retract (interval_words ends) (Retracts ends) lines (addition verb.Retract (interval_words ends) (Retracts ends) (ends-are ends good) (ends-says ends good)) (ends-kinds ends (directives Strict (plain_lines lines)) good) sound
 put-sound (DropRetract ends) lines good fit none sound = sound
 
-pub edited-sound : (edit : Edit) (lines : List (Line Placed)) → IsSoundEdit edit → is_fit edit ≡ true → SoundFrom [] None lines → SoundFrom [] None (edited edit lines)
-unfolding edited
-edited-sound edit lines good fit sound = elim (cases_Bool (is_there (about edit) lines)) [
+pass-sound : (edit : Edit) (lines : List (Line Placed)) → IsSoundEdit edit → is_fit edit ≡ true → SoundFrom [] None lines → SoundFrom [] None (edited_by_pass edit lines)
+unfolding edited_by_pass
+pass-sound edit lines good fit sound = elim (cases_Bool (is_there (about edit) lines)) [
   | inl there ↦ rw there (changed-sound edit lines good fit sound)
   | inr none ↦ rw none (put-sound edit lines good fit none sound)
 ]
+
+pub edited-sound : (edit : Edit) (lines : List (Line Placed)) → IsSoundEdit edit → is_fit edit ≡ true → SoundFrom [] None lines → SoundFrom [] None (edited edit lines)
+edited-sound edit lines good fit sound = subst (SoundFrom [] None) (sym (edited-is-pass edit lines)) (pass-sound edit lines good fit sound)
 
 pub edited-document : (edit : Edit) (lines : List (Line Placed)) → IsSoundEdit edit → is_fit edit ≡ true → IsDocument (plain_lines lines) → fault_of Strict (plain_lines lines) ≡ None
     → IsDocument (plain_lines (edited edit lines)) × (fault_of Strict (plain_lines (edited edit lines)) ≡ None)

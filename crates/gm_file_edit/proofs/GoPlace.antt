@@ -10,13 +10,15 @@ use Rattle.gm_file_edit.specs.declared.adding.Spot.{Spot}
 use Rattle.gm_file_edit.specs.Edits.{SetGo}
 use Rattle.gm_file_edit.specs.About.{about}
 use Rattle.gm_file_edit.specs.Adding.{after_first_that, close_len, insert_at_spot, past_block, spot_after_first}
-use Rattle.gm_file_edit.specs.Changes.{edited, put_in}
+use Rattle.gm_file_edit.specs.Edited.{edited, new_go}
+use Rattle.gm_file_edit.specs.Pass.{edited_by_pass, put_in}
 use Rattle.gm_file_edit.specs.EditLaws.{is_loose}
-use Rattle.gm_file_edit.specs.Fates.{directive_at, passes}
-use Rattle.gm_file_edit.specs.GoPlace.{GoFollowsModule, GoFollowsModuleBlock, IsFirstModule, new_go}
+use Rattle.gm_file_edit.specs.Holding.{directive_at, passes}
+use Rattle.gm_file_edit.specs.GoPlace.{GoFollowsModule, GoFollowsModuleBlock, IsFirstModule}
 use Rattle.gm_file_edit.specs.Laws.{directives_of}
 use Rattle.gm_file_edit.specs.Searching.{is_there, is_there_from}
 use Rattle.gm_file_edit.proofs.Idle.{there-said}
+use Rattle.gm_file_edit.proofs.BySections.{edited-is-pass}
 
 or-none : (a b : Bool) → (a || b) ≡ false → (a ≡ false) × (b ≡ false)
 or-none true b e = absurd cc
@@ -68,11 +70,14 @@ past-inside front inner back line last e loose =
     ∙ ap (λ (n : ℕ). suc (length front) + n) (to-close inner back last loose)
     ∙ length-past front inner line)
 
-edited-go : (text : List ℕ) (lines : List (Line Placed)) → list_any is_go (directives_of lines) ≡ false → edited (SetGo text) lines ≡ after_first_that is_module (new_go text) lines
-unfolding edited put_in
-edited-go text lines none =
+pass-go : (text : List ℕ) (lines : List (Line Placed)) → list_any is_go (directives_of lines) ≡ false → edited_by_pass (SetGo text) lines ≡ after_first_that is_module (new_go text) lines
+unfolding edited_by_pass put_in
+pass-go text lines none =
     let absent : is_there (about (SetGo text)) lines ≡ false = there-said is_go lines ∙ none in
     rw absent refl
+
+edited-go : (text : List ℕ) (lines : List (Line Placed)) → list_any is_go (directives_of lines) ≡ false → edited (SetGo text) lines ≡ after_first_that is_module (new_go text) lines
+edited-go text lines none = edited-is-pass (SetGo text) lines ∙ pass-go text lines none
 
 go-placed : (text : List ℕ) (front back : List (Line Placed)) (line : Line Placed) → IsFirstModule front line → list_any is_go (directives_of (front ++ line ∷ back)) ≡ false
     → edited (SetGo text) (front ++ line ∷ back) ≡ put_by (front ++ line ∷ back) (new_go text) (past_block (front ++ line ∷ back) (past None front))

@@ -8,12 +8,15 @@ use Rattle.gm_syntax.specs.Document.{Line}
 use Rattle.gm_file.specs.Directives.{Directive}
 use Rattle.gm_file_edit.specs.Edits.{Edit, SetModule, SetGo, SetRequire, DropRequire, AddExclude, DropExclude, SetReplace, DropReplace, AddRetract, DropRetract}
 use Rattle.gm_file_edit.specs.About.{about}
-use Rattle.gm_file_edit.specs.Changes.{changed, edited, put_in}
+use Rattle.gm_file_edit.specs.Pass.{changed, edited_by_pass, put_in}
+use Rattle.gm_file_edit.specs.Edited.{edited}
 use Rattle.gm_file_edit.specs.EditLaws.{IdleAdditionChangesNothing, IdleDropChangesNothing, SecondAdditionChangesNothing, SecondDropChangesNothing}
-use Rattle.gm_file_edit.specs.Laws.{added_by, directives_of, is_drop}
+use Rattle.gm_file_edit.specs.Laws.{directives_of}
+use Rattle.gm_file_edit.specs.Kinds.{added_by, is_drop}
 use Rattle.gm_file_edit.specs.Searching.{is_there}
 use Rattle.gm_file_edit.proofs.AddingSound.{file-held}
 use Rattle.gm_file_edit.proofs.SaidAfter.{added-is-there, dropped-is-gone, there-is}
+use Rattle.gm_file_edit.proofs.BySections.{edited-is-pass}
 
 pub there-said : (test : Directive → Bool) (lines : List (Line Placed)) → is_there test lines ≡ list_any test (directives_of lines)
 there-said test lines = there-is test None lines ∙ ap (list_any test) (sym (file-held lines))
@@ -31,11 +34,14 @@ drop-puts-nothing (DropReplace left) lines e = refl
 drop-puts-nothing (AddRetract ends) lines e = absurd cc
 drop-puts-nothing (DropRetract ends) lines e = refl
 
-pub idle-drop : IdleDropChangesNothing
-unfolding edited
-idle-drop edit lines drop none =
+idle-pass : (edit : Edit) (lines : List (Line Placed)) → is_drop edit ≡ true → list_any (about edit) (directives_of lines) ≡ false → edited_by_pass edit lines ≡ lines
+unfolding edited_by_pass
+idle-pass edit lines drop none =
     let absent : is_there (about edit) lines ≡ false = there-said (about edit) lines ∙ none in
     rw absent (drop-puts-nothing edit lines drop)
+
+pub idle-drop : IdleDropChangesNothing
+idle-drop edit lines drop none = edited-is-pass edit lines ∙ idle-pass edit lines drop none
 
 addition-changes-nothing : (edit : Edit) (lines : List (Line Placed)) (d : Directive) → added_by edit ≡ Some d → changed edit lines ≡ lines
 unfolding changed
@@ -50,11 +56,14 @@ addition-changes-nothing (DropReplace left) lines d e = absurd cc
 addition-changes-nothing (AddRetract ends) lines d e = refl
 addition-changes-nothing (DropRetract ends) lines d e = absurd cc
 
-pub idle-addition : IdleAdditionChangesNothing
-unfolding edited
-idle-addition edit lines d adds some =
+addition-pass : (edit : Edit) (lines : List (Line Placed)) (d : Directive) → added_by edit ≡ Some d → list_any (about edit) (directives_of lines) ≡ true → edited_by_pass edit lines ≡ lines
+unfolding edited_by_pass
+addition-pass edit lines d adds some =
     let present : is_there (about edit) lines ≡ true = there-said (about edit) lines ∙ some in
     rw present (addition-changes-nothing edit lines d adds)
+
+pub idle-addition : IdleAdditionChangesNothing
+idle-addition edit lines d adds some = edited-is-pass edit lines ∙ addition-pass edit lines d adds some
 
 pub second-drop : SecondDropChangesNothing
 second-drop edit lines drop = idle-drop edit (edited edit lines) drop (dropped-is-gone edit lines drop)

@@ -13,7 +13,8 @@ use Rattle.gm_file.specs.declared.fault.DirectiveKind.{DirectiveKind}
 use Rattle.gm_file.specs.declared.fault.DirectiveKind.TheVariants.{BadGo, Repeated, ConflictingReplace}
 use Rattle.gm_file.specs.Directives.{Strict, Directive, DeclaresModule, DeclaresGo, Requires, Excludes, Replaces, Retracts, Kept, Item, Silent, Opening, Saying, Verb, block_after_line, directive_in, directive_of, item_at, verb_in}
 use Rattle.gm_file.specs.Faults.{conflicts, directive_kinds, go_in, is_go, is_module, item_kinds, path_kinds, entry_kinds, sides_kinds, unless}
-use Rattle.gm_file_edit.specs.Fates.{Begun, Fate, directive_at, is_blank_source_line, is_emptied, item_of, kept, leaves_nothing, remaining_from, with_line}
+use Rattle.gm_file_edit.specs.Fates.{Begun, Fate, is_emptied, kept, leaves_nothing, remaining_from, with_line}
+use Rattle.gm_file_edit.specs.Holding.{directive_at, is_blank_source_line, item_of}
 use Rattle.gm_file_edit.proofs.Sound.{SoundFrom, both-nil, nil-parts}
 use Rattle.gm_name.proofs.NameTests.{and_both}
 

@@ -26,6 +26,8 @@ pub mod Comments
 pub mod Untouched
 pub mod Sections
 pub mod SectionRenewals
+pub mod SectionAdditions
+pub mod BySections
 pub mod Additions
 pub mod GoPlace
 pub mod Twice

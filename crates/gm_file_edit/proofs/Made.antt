@@ -18,7 +18,7 @@ use Rattle.gm_syntax.proofs.Changes.{entry_stands, standing_entry}
 use Rattle.gm_file.specs.Values.{argument, argument_of_kind}
 use Rattle.gm_file.specs.Directives.{Strict, Pair, pair, Directive, DeclaresModule, DeclaresGo, Requires, Excludes, Replaces, Retracts, Kept, Saying, Verb, ForModule, ForGo, ForRequire, ForExclude, ForReplace, ForRetract, ForNothing, Unknown, directive_in, directive_of, ends_of, is_empty_block, item_at, main_verb, one_of, pair_of, replacing_of}
 use Rattle.gm_file.specs.Faults.{directive_kinds, is_module, item_kinds, entry_kinds}
-use Rattle.gm_file_edit.specs.Fates.{directive_at, item_of}
+use Rattle.gm_file_edit.specs.Holding.{directive_at, item_of}
 use Rattle.gm_file_edit.specs.NewWords.{made_word}
 use Rattle.gm_file_edit.specs.Renewing.{with_arguments, with_last}
 use Rattle.gm_file_edit.proofs.Leaving.{IsMadeNew, clashes}

@@ -9,11 +9,13 @@ use Rattle.std.proofs.lemmas.Bool.{cases_Bool}
 use Rattle.gm_syntax.specs.Tokens.{Placed}
 use Rattle.gm_syntax.specs.Document.{Line, Blank}
 use Rattle.gm_file.specs.Directives.{Directive, block_after_line, block_after_lines}
-use Rattle.gm_file_edit.specs.Fates.{Fate, IsValidAt, directive_at, dropped, dropping_from, passes, remaining_from, renewed, renewing_from}
+use Rattle.gm_file_edit.specs.Fates.{Fate, IsValidAt, dropped, dropping_from, remaining_from, renewed, renewing_from}
+use Rattle.gm_file_edit.specs.Holding.{directive_at, passes}
 use Rattle.gm_file_edit.specs.About.{about}
-use Rattle.gm_file_edit.specs.Changes.{changed, edited, put_in}
+use Rattle.gm_file_edit.specs.Pass.{changed, edited_by_pass, put_in}
+use Rattle.gm_file_edit.specs.Edited.{edited}
 use Rattle.gm_file_edit.specs.Edits.{Edit, SetModule, SetGo, SetRequire, DropRequire, AddExclude, DropExclude, SetReplace, DropReplace, AddRetract, DropRetract}
-use Rattle.gm_file_edit.specs.Laws.{is_drop, set_by}
+use Rattle.gm_file_edit.specs.Kinds.{is_drop, set_by}
 use Rattle.gm_file_edit.specs.Renewing.{made_new}
 use Rattle.gm_file_edit.specs.Marks.{marks_from}
 use Rattle.gm_file_edit.specs.Packs.{fate_by, line_at, marked}
@@ -27,6 +29,7 @@ use Rattle.gm_file_edit.proofs.Packs.{get_or-default, get_or-other}
 use Rattle.gm_file_edit.proofs.PassedOver.{passed-over}
 use Rattle.gm_file_edit.proofs.Sound.{SoundFrom}
 use Rattle.gm_file_edit.proofs.Walking.{drop-next}
+use Rattle.gm_file_edit.proofs.BySections.{edited-is-pass}
 
 -- ---- the loop that marks lines
 
@@ -264,13 +267,19 @@ adds-changed (DropReplace left) lines e f = absurd cc
 adds-changed (AddRetract ends) lines e f = refl
 adds-changed (DropRetract ends) lines e f = absurd cc
 
+pass-there : (edit : Edit) (lines : List (Line Placed)) → first_of (marks_from (about edit) None lines) < length lines → edited_by_pass edit lines ≡ changed edit lines
+unfolding edited_by_pass
+pass-there edit lines lt = rw (some-mark (about edit) None lines lt) refl
+
 pub edited-there : (edit : Edit) (lines : List (Line Placed)) → first_of (marks_from (about edit) None lines) < length lines → edited edit lines ≡ changed edit lines
-unfolding edited
-edited-there edit lines lt = rw (some-mark (about edit) None lines lt) refl
+edited-there edit lines lt = edited-is-pass edit lines ∙ pass-there edit lines lt
+
+pass-new : (edit : Edit) (lines : List (Line Placed)) → length lines ≤ first_of (marks_from (about edit) None lines) → edited_by_pass edit lines ≡ put_in edit lines
+unfolding edited_by_pass
+pass-new edit lines le = rw (no-mark (about edit) None lines le) refl
 
 pub edited-new : (edit : Edit) (lines : List (Line Placed)) → length lines ≤ first_of (marks_from (about edit) None lines) → edited edit lines ≡ put_in edit lines
-unfolding edited
-edited-new edit lines le = rw (no-mark (about edit) None lines le) refl
+edited-new edit lines le = edited-is-pass edit lines ∙ pass-new edit lines le
 
 -- what is left of lines of which the first with a mark is rewritten
 pub renew-is : (edit : Edit) (lines new : List (Line Placed)) (marks others : List Bool) (first : ℕ) (line : Line Placed)

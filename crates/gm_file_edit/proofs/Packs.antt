@@ -16,7 +16,8 @@ use Rattle.gm_syntax.specs.Tokens.{Placed}
 use Rattle.gm_syntax.specs.Document.{Line, Blank, Comment, Open, Close, Entry}
 use Rattle.gm_file_edit.specs.declared.packing.OpenBlock.{OpenBlock}
 use Rattle.gm_file_edit.specs.declared.packing.Packing.{Packing}
-use Rattle.gm_file_edit.specs.Fates.{Begun, Fate, is_blank_source_line, is_emptied, itself, kept, leaves_nothing, remaining_from, with_line}
+use Rattle.gm_file_edit.specs.Fates.{Begun, Fate, is_emptied, itself, kept, leaves_nothing, remaining_from, with_line}
+use Rattle.gm_file_edit.specs.Holding.{is_blank_source_line}
 use Rattle.gm_file_edit.specs.Packs.{EndsWithBlock, IsNext, IsOpenedAt, begun_by, begun_of, inner_fates, is_bare_part, is_bare_block, is_uncommented, closing, line_at, marked, fate_by, opened, packed_by, packed_from, with_loss}
 
 -- ---- what matters of an open block

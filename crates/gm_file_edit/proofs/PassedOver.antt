@@ -17,7 +17,7 @@ use Rattle.gm_file.specs.Faults.{is_same_left, is_same_version}
 use Rattle.gm_file.specs.Values.{argument, argument_of_kind, both}
 use Rattle.gm_file_edit.specs.About.{about, excludes_pair, is_covered_by, is_replaced_by, replaces_left, retracts_ends}
 use Rattle.gm_file_edit.specs.Edits.{Edit, SetModule, SetGo, SetRequire, DropRequire, AddExclude, DropExclude, SetReplace, DropReplace, AddRetract, DropRetract}
-use Rattle.gm_file_edit.specs.Fates.{directive_at, passes}
+use Rattle.gm_file_edit.specs.Holding.{directive_at, passes}
 use Rattle.gm_file_edit.specs.Keys.{ends_number, joined, key_of, key_with, left_number, left_number_of, may_be_about, may_concern, may_equal, may_spell, number_at, number_by_kind, pair_number, scope_if, scope_of, sought_of, sought_of_left, target_by_kind, target_number, text_number}
 use Rattle.gm_file_edit.specs.Targets.{is_first, is_text, verb_of}
 use Rattle.gm_file_edit.specs.declared.keys.Scope.{Scope}

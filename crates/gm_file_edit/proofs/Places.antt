@@ -14,13 +14,17 @@ use Rattle.gm_syntax.proofs.Edits.{map-insert}
 use Rattle.gm_file.specs.Directives.{Strict, Directive, Pair, Right, Folder, Module, Replacing, block_after_line, directive_in, item_at}
 use Rattle.gm_file.specs.Faults.{is_go, is_module}
 use Rattle.gm_file_edit.specs.Edits.{Edit, SetModule, SetGo, SetRequire, DropRequire, AddExclude, DropExclude, SetReplace, DropReplace, AddRetract, DropRetract}
-use Rattle.gm_file_edit.specs.NewWords.{interval_words, left_words, left_words_of, made_mark, made_word, pair_words, replace_words, right_words, unplaced}
-use Rattle.gm_file_edit.specs.Fates.{Begun, Fate, begin, block_lines, dropped, dropping_from, directive_at, is_emptied, kept, leaves_nothing, remaining_from, passes, renewed, renewing_from, with_line, word_of}
+use Rattle.gm_file_edit.specs.NewWords.{entry_at, interval_words, left_words, left_words_of, made_mark, made_word, pair_words, replace_words, right_words, single, unplaced}
+use Rattle.gm_file_edit.specs.Fates.{Begun, Fate, begin, block_lines, dropped, dropping_from, is_emptied, kept, leaves_nothing, remaining_from, renewed, renewing_from, with_line}
+use Rattle.gm_file_edit.specs.Holding.{directive_at, passes, word_of}
 use Rattle.gm_file_edit.specs.Renewing.{before_arguments, with_arguments, with_last}
 use Rattle.gm_file_edit.specs.About.{about, excludes_pair, is_replaced_by, replaces_left, requires_path, retracts_ends}
 use Rattle.gm_file_edit.specs.Searching.{is_there, is_there_from}
-use Rattle.gm_file_edit.specs.Adding.{added, added_at, after_first_that, spot_after_first, spot_after_last, spot_after_line, close_len, entry_at, further, is_exclude, is_replace, is_require, is_retract, past_block, insert_at_spot, single}
-use Rattle.gm_file_edit.specs.Changes.{changed, edited, put_in}
+use Rattle.gm_file_edit.specs.Adding.{added, added_at, after_first_that, spot_after_first, spot_after_last, spot_after_line, close_len, further, past_block, insert_at_spot}
+use Rattle.gm_file_edit.specs.Verbs.{is_exclude, is_replace, is_require, is_retract}
+use Rattle.gm_file_edit.specs.Pass.{changed, edited_by_pass, put_in}
+use Rattle.gm_file_edit.specs.Edited.{edited}
+use Rattle.gm_file_edit.proofs.BySections.{edited-is-pass}
 
 -- ---- lines without source positions
 
@@ -368,15 +372,17 @@ put-in-loose (DropReplace left) lines = refl
 put-in-loose (AddRetract ends) lines = added-loose is_retract (codes "retract") (interval_words ends) (interval-are ends) lines
 put-in-loose (DropRetract ends) lines = refl
 
-edited-loose : (edit : Edit) (lines : List (Line Placed)) → edited edit (loose_lines lines) ≡ loose_lines (edited edit lines)
-unfolding edited
-edited-loose edit lines =
+pass-loose : (edit : Edit) (lines : List (Line Placed)) → edited_by_pass edit (loose_lines lines) ≡ loose_lines (edited_by_pass edit lines)
+unfolding edited_by_pass
+pass-loose edit lines =
     chosen loose_lines (is_there (about edit) (loose_lines lines)) (is_there (about edit) lines) (changed edit (loose_lines lines)) (put_in edit (loose_lines lines)) (changed edit lines) (put_in edit lines)
     (there-loose (about edit) None lines) (changed-loose edit lines) (put-in-loose edit lines)
 
 -- an operation gives the same result for lines that differ only in source positions
 pub edited-same : (edit : Edit) (lines others : List (Line Placed)) → plain_lines lines ≡ plain_lines others → plain_lines (edited edit lines) ≡ plain_lines (edited edit others)
 edited-same edit lines others e =
-    sym (plain_lines-loose (edited edit lines)) ∙ ap plain_lines (sym (edited-loose edit lines))
-    ∙ ap (λ (ls : List (Line Placed)). plain_lines (edited edit ls)) (same-loose lines others e)
-    ∙ ap plain_lines (edited-loose edit others) ∙ plain_lines-loose (edited edit others)
+    ap plain_lines (edited-is-pass edit lines)
+    ∙ sym (plain_lines-loose (edited_by_pass edit lines)) ∙ ap plain_lines (sym (pass-loose edit lines))
+    ∙ ap (λ (ls : List (Line Placed)). plain_lines (edited_by_pass edit ls)) (same-loose lines others e)
+    ∙ ap plain_lines (pass-loose edit others) ∙ plain_lines-loose (edited_by_pass edit others)
+    ∙ ap plain_lines (sym (edited-is-pass edit others))

@@ -23,7 +23,7 @@ use Rattle.gm_file.specs.GoVersions.{strict_go}
 use Rattle.gm_file.specs.Directives.{Strict, Pair, Left, Right, Folder, Module, Replacing, Directive, DeclaresModule, DeclaresGo, Requires, Excludes, Replaces, Retracts, Kept, Verb, ForModule, ForGo, ForRequire, ForReplace, directive_of, is_arrow, left_of, main_verb, one_of, pair_of, replacing, right_of}
 use Rattle.gm_file.specs.Faults.{conflicts, directive_kinds, does_left_fit, is_go, is_module, is_same_left, is_same_right, is_same_version, left_version_kinds, path_kinds, pair_kinds, right_path_kinds, right_version_kinds, sides_kinds, unless}
 use Rattle.gm_file_edit.specs.About.{is_covered_by, is_replaced_by, requires_path}
-use Rattle.gm_file_edit.specs.Fates.{directive_at}
+use Rattle.gm_file_edit.specs.Holding.{directive_at}
 use Rattle.gm_file_edit.specs.NewWords.{left_words_of, made_mark, made_word, replace_words, right_words}
 use Rattle.gm_file_edit.specs.Renewing.{with_arguments, with_last}
 use Rattle.gm_file_edit.specs.Sound.{IsPairOfNames, IsSoundLeft, IsSoundRight, IsSoundVersion}

@@ -11,7 +11,8 @@ use Rattle.gm_syntax.specs.LineViews.{plain}
 use Rattle.gm_file.specs.declared.fault.DirectiveKind.TheVariants.{Repeated}
 use Rattle.gm_file.specs.Directives.{Strict, Directive, DeclaresModule, DeclaresGo, Requires, Excludes, Replaces, Retracts, Kept, Item, Silent, Opening, Saying, Verb, block_after_line, directive_in, directive_of, verb_in}
 use Rattle.gm_file.specs.Faults.{directive_kinds, is_module, item_kinds, path_kinds, entry_kinds, unless}
-use Rattle.gm_file_edit.specs.Fates.{Fate, directive_at, item_of, remaining_from, passes, renewed, renewing_from}
+use Rattle.gm_file_edit.specs.Fates.{Fate, remaining_from, renewed, renewing_from}
+use Rattle.gm_file_edit.specs.Holding.{directive_at, item_of, passes}
 use Rattle.gm_file_edit.proofs.Sound.{SoundFrom, nil-parts}
 use Rattle.gm_file_edit.proofs.Leaving.{AreMarked, AreMild, IsMadeNew, Marked, Near, fates_in, left-sound, lines_in}
 use Rattle.gm_file_edit.proofs.Drops.{dropping, dropping-fates, dropping-lines, gone-line}

@@ -12,8 +12,10 @@ use Rattle.gm_syntax.specs.LineViews.{plain}
 use Rattle.gm_file.specs.Directives.{Directive, LineInBlock, block_after_lines, block_after_line, item_at}
 use Rattle.gm_file_edit.specs.declared.adding.AddedVerb.{AddedVerb}
 use Rattle.gm_file_edit.specs.declared.adding.Spot.{Spot}
-use Rattle.gm_file_edit.specs.Adding.{added, added_at, after_first_that, spot_after_first, spot_after_last, entry_at, is_of, past_block, insert_at_spot, single, verb_text}
-use Rattle.gm_file_edit.specs.Fates.{Begun, Fate, dropped, dropping_from, directive_at, kept, remaining_from, passes, renewed, renewing_from}
+use Rattle.gm_file_edit.specs.Adding.{added, added_at, after_first_that, spot_after_first, spot_after_last, is_of, past_block, insert_at_spot, verb_text}
+use Rattle.gm_file_edit.specs.NewWords.{entry_at, single}
+use Rattle.gm_file_edit.specs.Fates.{Begun, Fate, dropped, dropping_from, kept, remaining_from, renewed, renewing_from}
+use Rattle.gm_file_edit.specs.Holding.{directive_at, passes}
 use Rattle.gm_file_edit.specs.Searching.{is_there, is_there_from}
 use Rattle.gm_file_edit.proofs.AddingSound.{Fits, IsAddition, IsIn, IsVerbSpot, back-sound, entry-fits, first-is-in, held-append, held_from, last-is, passing-level, past-outside}
 use Rattle.gm_file_edit.proofs.Leaving.{IsMadeNew}

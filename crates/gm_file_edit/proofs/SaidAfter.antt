@@ -14,11 +14,11 @@ use Rattle.gm_file.specs.Faults.{is_go, is_module}
 use Rattle.gm_file_edit.specs.declared.adding.AddedVerb.TheVariants as verb
 use Rattle.gm_file_edit.specs.Edits.{Edit, SetModule, SetGo, SetRequire, DropRequire, AddExclude, DropExclude, SetReplace, DropReplace, AddRetract, DropRetract}
 use Rattle.gm_file_edit.specs.About.{about, excludes_pair, is_covered_by, is_replaced_by, is_same_pair, replaces_left, requires_path, retracts_ends}
-use Rattle.gm_file_edit.specs.Adding.{single}
-use Rattle.gm_file_edit.specs.Changes.{changed, edited, is_fit, put_in}
-use Rattle.gm_file_edit.specs.Fates.{directive_at, passes}
-use Rattle.gm_file_edit.specs.Laws.{AddedIsThere, DroppedIsGone, IsEditOf, OthersStay, SetStandsAlone, added_by, is_drop, set_by}
-use Rattle.gm_file_edit.specs.NewWords.{interval_words, made_word, pair_words, replace_words}
+use Rattle.gm_file_edit.specs.Pass.{changed, edited_by_pass, put_in}
+use Rattle.gm_file_edit.specs.Kinds.{added_by, is_drop, is_fit, set_by}
+use Rattle.gm_file_edit.specs.Holding.{directive_at, passes}
+use Rattle.gm_file_edit.specs.Laws.{AddedIsThere, DroppedIsGone, IsEditOf, OthersStay, SetStandsAlone, directives_of}
+use Rattle.gm_file_edit.specs.NewWords.{interval_words, made_word, pair_words, replace_words, single}
 use Rattle.gm_file_edit.specs.Renewing.{with_arguments, with_last}
 use Rattle.gm_file_edit.specs.Searching.{is_there, is_there_from}
 use Rattle.gm_file_edit.specs.Sound.{AreVersions, IsPairOfNames, IsSoundEdit, IsSoundLeft, IsSoundRight}
@@ -30,6 +30,7 @@ use Rattle.gm_file_edit.proofs.Renewals.{go-renewal, go-says, module-renewal, re
 use Rattle.gm_file_edit.proofs.Said.{IsPutIn, added-put, after-first-put, dropped-held, others, others-none, others-twice, put-alone, put-others, renewed-alone, renewed-others}
 use Rattle.gm_file_edit.proofs.Sound.{SoundFrom, sound-file}
 use Rattle.gm_file_edit.proofs.Written.{written-sound}
+use Rattle.gm_file_edit.proofs.BySections.{edited-is-pass}
 
 -- ---- an operation targets what it sets or adds
 
@@ -136,8 +137,8 @@ put-in-others (AddRetract ends) lines good sound = put-others (retracts_ends end
 put-in-others (DropRetract ends) lines good sound = refl
 
 others-after : (edit : Edit) (lines : List (Line Placed)) → IsSoundEdit edit → is_fit edit ≡ true → SoundFrom [] None lines
-    → filter (others (about edit)) (held_from None (edited edit lines)) ≡ filter (others (about edit)) (held_from None lines)
-unfolding edited
+    → filter (others (about edit)) (held_from None (edited_by_pass edit lines)) ≡ filter (others (about edit)) (held_from None lines)
+unfolding edited_by_pass
 others-after edit lines good fit sound = elim (cases_Bool (is_there (about edit) lines)) [
   | inl there ↦ rw there (changed-others edit lines good fit sound)
   | inr none ↦ rw none (put-in-others edit lines good sound)
@@ -171,8 +172,8 @@ drop-puts-nothing (AddExclude p) lines e = absurd cc
 drop-puts-nothing (SetReplace r) lines e = absurd cc
 drop-puts-nothing (AddRetract ends) lines e = absurd cc
 
-gone-after : (edit : Edit) (lines : List (Line Placed)) → is_drop edit ≡ true → list_any (about edit) (held_from None (edited edit lines)) ≡ false
-unfolding edited
+gone-after : (edit : Edit) (lines : List (Line Placed)) → is_drop edit ≡ true → list_any (about edit) (held_from None (edited_by_pass edit lines)) ≡ false
+unfolding edited_by_pass
 gone-after edit lines e = elim (cases_Bool (is_there (about edit) lines)) [
   | inl there ↦ rw there (changed-gone edit lines e)
   | inr none ↦ rw none (ap (λ (ls : List (Line Placed)). list_any (about edit) (held_from None ls)) (drop-puts-nothing edit lines e) ∙ none-from (about edit) None lines none)
@@ -226,8 +227,8 @@ put-in-alone (AddRetract ends) lines d good sound none e = absurd cc
 put-in-alone (DropRetract ends) lines d good sound none e = absurd cc
 
 alone-after : (edit : Edit) (lines : List (Line Placed)) (d : Directive) → IsSoundEdit edit → is_fit edit ≡ true → SoundFrom [] None lines → set_by edit ≡ Some d
-    → filter (about edit) (held_from None (edited edit lines)) ≡ d ∷ []
-unfolding edited
+    → filter (about edit) (held_from None (edited_by_pass edit lines)) ≡ d ∷ []
+unfolding edited_by_pass
 alone-after edit lines d good fit sound e = elim (cases_Bool (is_there (about edit) lines)) [
   | inl there ↦ rw there (changed-alone edit lines d good fit sound there e)
   | inr none ↦ rw none (put-in-alone edit lines d good sound none e)
@@ -271,8 +272,8 @@ abbrev once_or_as_before : Edit → Directive → List Directive → List Direct
 once_or_as_before edit d said = if list_any (about edit) said then filter (about edit) said else d ∷ []
 
 added-after : (edit : Edit) (lines : List (Line Placed)) (d : Directive) → IsSoundEdit edit → SoundFrom [] None lines → added_by edit ≡ Some d
-    → filter (about edit) (held_from None (edited edit lines)) ≡ once_or_as_before edit d (held_from None lines)
-unfolding edited
+    → filter (about edit) (held_from None (edited_by_pass edit lines)) ≡ once_or_as_before edit d (held_from None lines)
+unfolding edited_by_pass
 added-after edit lines d good sound e = elim (cases_Bool (is_there (about edit) lines)) [
   | inl there ↦
       let any : list_any (about edit) (held_from None lines) ≡ true = sym (there-is (about edit) None lines) ∙ there in
@@ -286,19 +287,19 @@ sound-of : (edit : Edit) (lines : List (Line Placed)) → IsEditOf edit lines �
 sound-of edit lines is = (written-sound is.0.0 edit is.0.1, sound-file lines is.2 is.3)
 
 pub dropped-is-gone : DroppedIsGone
-dropped-is-gone = λ edit lines e. ap (list_any (about edit)) (file-held (edited edit lines)) ∙ gone-after edit lines e
+dropped-is-gone = λ edit lines e. ap (λ (ls : List (Line Placed)). list_any (about edit) (directives_of ls)) (edited-is-pass edit lines) ∙ ap (list_any (about edit)) (file-held (edited_by_pass edit lines)) ∙ gone-after edit lines e
 
 pub set-stands-alone : SetStandsAlone
 set-stands-alone = λ edit lines d is e.
     let sound = sound-of edit lines is in
-    ap (filter (about edit)) (file-held (edited edit lines)) ∙ alone-after edit lines d sound.0 is.1 sound.1 e
+    ap (λ (ls : List (Line Placed)). filter (about edit) (directives_of ls)) (edited-is-pass edit lines) ∙ ap (filter (about edit)) (file-held (edited_by_pass edit lines)) ∙ alone-after edit lines d sound.0 is.1 sound.1 e
 
 pub added-is-there : AddedIsThere
 added-is-there = λ edit lines d is e.
     let sound = sound-of edit lines is in
-    ap (filter (about edit)) (file-held (edited edit lines)) ∙ added-after edit lines d sound.0 sound.1 e ∙ ap (once_or_as_before edit d) (sym (file-held lines))
+    ap (λ (ls : List (Line Placed)). filter (about edit) (directives_of ls)) (edited-is-pass edit lines) ∙ ap (filter (about edit)) (file-held (edited_by_pass edit lines)) ∙ added-after edit lines d sound.0 sound.1 e ∙ ap (once_or_as_before edit d) (sym (file-held lines))
 
 pub others-stay : OthersStay
 others-stay = λ edit lines is.
     let sound = sound-of edit lines is in
-    ap (filter (others (about edit))) (file-held (edited edit lines)) ∙ others-after edit lines sound.0 is.1 sound.1 ∙ ap (filter (others (about edit))) (sym (file-held lines))
+    ap (λ (ls : List (Line Placed)). filter (others (about edit)) (directives_of ls)) (edited-is-pass edit lines) ∙ ap (filter (others (about edit))) (file-held (edited_by_pass edit lines)) ∙ others-after edit lines sound.0 is.1 sound.1 ∙ ap (filter (others (about edit))) (sym (file-held lines))

@@ -7,7 +7,8 @@ use Rattle.std.proofs.lemmas.List.Elements.{filter_map-append}
 use Rattle.gm_syntax.specs.Tokens.{Placed}
 use Rattle.gm_syntax.specs.Document.{Line, Blank, Comment, Open, Close, Entry}
 use Rattle.gm_file.specs.Directives.{LineInBlock, block_after_line, block_after_lines, item_at}
-use Rattle.gm_file_edit.specs.Fates.{Begun, Fate, begin, directive_at, is_emptied, itself, kept, leaves_nothing, opened_lines, remaining_from, with_line}
+use Rattle.gm_file_edit.specs.Fates.{Begun, Fate, begin, is_emptied, itself, kept, leaves_nothing, opened_lines, remaining_from, with_line}
+use Rattle.gm_file_edit.specs.Holding.{directive_at}
 use Rattle.gm_file_edit.proofs.Leaving.{emptied-inner}
 
 -- the line with the verb of its block, if it holds a directive

@@ -14,7 +14,7 @@ use Rattle.gm_file.specs.Directives.{Strict, Directive, LineInBlock, block_after
 use Rattle.gm_file.specs.Faults.{Fault, fault_of, faults, faults_after, first_of, is_module, item_kinds, missing_module, with_before_from}
 use Rattle.gm_syntax.proofs.Changes.{AreValidFrom, lines_stand, standing_lines}
 use Rattle.gm_file.proofs.First.{first-none}
-use Rattle.gm_file_edit.specs.Fates.{directive_at, item_of, word_of}
+use Rattle.gm_file_edit.specs.Holding.{directive_at, item_of, word_of}
 
 -- Each line can be in its place and is valid after the earlier directives. At the end no block is open, and a module
 -- is declared.

@@ -15,8 +15,10 @@ use Rattle.gm_file.specs.Directives.{Verb, ForModule, ForGo, ForRequire, ForExcl
 use Rattle.gm_file_edit.specs.About.{about, excludes_pair, is_replaced_by, replaces_left, requires_path, retracts_ends}
 use Rattle.gm_file.specs.Faults.{entry_kinds, is_go, is_module, item_kinds}
 use Rattle.gm_file_edit.specs.Edits.{Edit, SetModule, SetGo, SetRequire, DropRequire, AddExclude, DropExclude, SetReplace, DropReplace, AddRetract, DropRetract}
-use Rattle.gm_file_edit.specs.Fates.{IsValidAt, directive_at, item_of, passes}
-use Rattle.gm_file_edit.specs.Adding.{is_exclude, is_of, is_replace, is_require, is_retract, verb_text}
+use Rattle.gm_file_edit.specs.Fates.{IsValidAt}
+use Rattle.gm_file_edit.specs.Holding.{directive_at, item_of, passes}
+use Rattle.gm_file_edit.specs.Adding.{is_of, verb_text}
+use Rattle.gm_file_edit.specs.Verbs.{is_exclude, is_replace, is_require, is_retract}
 use Rattle.gm_file_edit.specs.declared.adding.AddedVerb.{AddedVerb}
 use Rattle.gm_file_edit.specs.declared.adding.AddedVerb.TheVariants as verb
 use Rattle.gm_file_edit.specs.Targets.{is_entry_of, is_first, is_text, verb_of}

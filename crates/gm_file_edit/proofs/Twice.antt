@@ -14,11 +14,14 @@ use Rattle.gm_file_edit.specs.declared.adding.AddedVerb.TheVariants as verb
 use Rattle.gm_file_edit.specs.declared.adding.Spot.{Spot}
 use Rattle.gm_file_edit.specs.Edits.{Edit, SetModule, SetGo, SetRequire, DropRequire, AddExclude, DropExclude, SetReplace, DropReplace, AddRetract, DropRetract}
 use Rattle.gm_file_edit.specs.About.{about}
-use Rattle.gm_file_edit.specs.Adding.{added, added_at, after_first_that, entry_at, insert_at_spot, is_of, past_block, single, spot_after_first, spot_after_last, verb_text}
-use Rattle.gm_file_edit.specs.Changes.{changed, edited, put_in}
-use Rattle.gm_file_edit.specs.Fates.{Fate, directive_at, dropping_from, kept, passes, remaining_from, renewing_from}
-use Rattle.gm_file_edit.specs.Laws.{directives_of, set_by}
-use Rattle.gm_file_edit.specs.NewWords.{made_word, pair_words, replace_words}
+use Rattle.gm_file_edit.specs.Adding.{added, added_at, after_first_that, insert_at_spot, is_of, past_block, spot_after_first, spot_after_last, verb_text}
+use Rattle.gm_file_edit.specs.Pass.{changed, edited_by_pass, put_in}
+use Rattle.gm_file_edit.specs.Edited.{edited}
+use Rattle.gm_file_edit.specs.Fates.{Fate, dropping_from, kept, remaining_from, renewing_from}
+use Rattle.gm_file_edit.specs.Holding.{directive_at, passes}
+use Rattle.gm_file_edit.specs.Laws.{directives_of}
+use Rattle.gm_file_edit.specs.Kinds.{set_by}
+use Rattle.gm_file_edit.specs.NewWords.{entry_at, made_word, pair_words, replace_words, single}
 use Rattle.gm_file_edit.specs.Renewing.{made_new, with_arguments, with_last}
 use Rattle.gm_file_edit.specs.Searching.{is_there, is_there_from}
 use Rattle.gm_file_edit.specs.Twice.{SecondOperationChangesNothing, SecondSettingChangesNothing}
@@ -29,6 +32,7 @@ use Rattle.gm_file_edit.proofs.SaidAfter.{set-stands-alone, there-is}
 use Rattle.gm_file_edit.proofs.Seats.{left-seats, seats-append, seats_from}
 use Rattle.gm_file_edit.proofs.Sound.{SoundFrom, sound-file}
 use Rattle.gm_file_edit.proofs.Untouched.{all-lines-stay, all_stay, none-dropped-from, or-none}
+use Rattle.gm_file_edit.proofs.BySections.{edited-is-pass}
 
 -- how an operation rewrites a line, given the verb of its block
 abbrev Rewriting : Type 0
@@ -264,12 +268,15 @@ put-set (DropReplace left) lines d sets sound none = absurd cc
 put-set (AddRetract ends) lines d sets sound none = absurd cc
 put-set (DropRetract ends) lines d sets sound none = absurd cc
 
-edited-set : (edit : Edit) (lines : List (Line Placed)) (d : Directive) → set_by edit ≡ Some d → SoundFrom [] None lines → LinesAreSet (about edit) (made_new edit) None (edited edit lines)
-unfolding edited
-edited-set edit lines d sets sound = elim (cases_Bool (is_there (about edit) lines)) [
+pass-set : (edit : Edit) (lines : List (Line Placed)) (d : Directive) → set_by edit ≡ Some d → SoundFrom [] None lines → LinesAreSet (about edit) (made_new edit) None (edited_by_pass edit lines)
+unfolding edited_by_pass
+pass-set edit lines d sets sound = elim (cases_Bool (is_there (about edit) lines)) [
   | inl there ↦ rw there (changed-set edit lines d sets)
   | inr none ↦ rw none (put-set edit lines d sets sound none)
 ]
+
+edited-set : (edit : Edit) (lines : List (Line Placed)) (d : Directive) → set_by edit ≡ Some d → SoundFrom [] None lines → LinesAreSet (about edit) (made_new edit) None (edited edit lines)
+edited-set edit lines d sets sound = subst (LinesAreSet (about edit) (made_new edit) None) (sym (edited-is-pass edit lines)) (pass-set edit lines d sets sound)
 
 -- ---- such lines stay, if only one of them is targeted
 
@@ -314,9 +321,12 @@ again-changes (DropRetract ends) lines d sets are alone = absurd cc
 
 -- ---- the laws
 
+pass-changes : (edit : Edit) (lines : List (Line Placed)) → is_there (about edit) lines ≡ true → edited_by_pass edit lines ≡ changed edit lines
+unfolding edited_by_pass
+pass-changes edit lines there = rw there refl
+
 changes-there : (edit : Edit) (lines : List (Line Placed)) → is_there (about edit) lines ≡ true → edited edit lines ≡ changed edit lines
-unfolding edited
-changes-there edit lines there = rw there refl
+changes-there edit lines there = edited-is-pass edit lines ∙ pass-changes edit lines there
 
 pub second-setting : SecondSettingChangesNothing
 second-setting edit lines d is sets =

@@ -7,7 +7,8 @@ use Rattle.std.proofs.lemmas.List.Folds.{list_any-append}
 use Rattle.gm_syntax.specs.Tokens.{Placed}
 use Rattle.gm_syntax.specs.Document.{Line, Blank, Comment, Open, Close, Entry}
 use Rattle.gm_file.specs.Directives.{Directive, block_after_line}
-use Rattle.gm_file_edit.specs.Fates.{Begun, Fate, begin, directive_at, dropped, dropping_from, itself, kept, opened_lines, passes, remaining_from, with_line}
+use Rattle.gm_file_edit.specs.Fates.{Begun, Fate, begin, dropped, dropping_from, itself, kept, opened_lines, remaining_from, with_line}
+use Rattle.gm_file_edit.specs.Holding.{directive_at, passes}
 use Rattle.gm_file_edit.specs.Searching.{is_there, is_there_from}
 
 abbrev pub all_stay : List (Line Placed) → List Fate

@@ -1,32 +1,17 @@
--- The lines of a file with an added entry, and where it goes.
-use Rattle.std.specs.Prelude.{ℕ, suc, ◌+◌, if◌then◌else◌, Bool, true, false, List, [], ◌∷◌, ◌++◌, take, drop, insert, codes, Option, Some, None, is_some}
+-- The lines of a file with an added entry, and where it goes, by positions. No public contract cites it.
+use Rattle.std.specs.Prelude.{ℕ, suc, ◌+◌, if◌then◌else◌, Bool, List, [], ◌∷◌, ◌++◌, take, drop, insert, codes, Option, Some, None, is_some}
 use Rattle.std.specs.Option.{option_map, option_or}
-use Rattle.gm_syntax.specs.Bare.{new_word}
 use Rattle.gm_syntax.specs.Tokens.{Placed}
-use Rattle.gm_syntax.specs.Document.{Line, Blank, Close, Entry}
-use Rattle.gm_file.specs.Directives.{Directive, Requires, Excludes, Replaces, Retracts, block_after_line}
+use Rattle.gm_syntax.specs.Document.{Line, Blank, Close}
+use Rattle.gm_file.specs.Directives.{Directive, block_after_line}
 use Rattle.gm_file_edit.specs.declared.adding.AddedVerb.{AddedVerb}
 use Rattle.gm_file_edit.specs.declared.adding.AddedVerb.TheVariants as verb
 use Rattle.gm_file_edit.specs.declared.adding.Spot.{Spot}
-use Rattle.gm_file_edit.specs.Fates.{directive_at, passes}
+use Rattle.gm_file_edit.specs.Holding.{directive_at, passes}
+use Rattle.gm_file_edit.specs.NewWords.{entry_at, single}
+use Rattle.gm_file_edit.specs.Verbs.{is_exclude, is_replace, is_require, is_retract}
 
 -- ---- the verb of a directive
-
-abbrev pub is_require : Directive → Bool
-is_require (Requires p) = true
-is_require _ = false
-
-abbrev pub is_exclude : Directive → Bool
-is_exclude (Excludes p) = true
-is_exclude _ = false
-
-abbrev pub is_replace : Directive → Bool
-is_replace (Replaces r) = true
-is_replace _ = false
-
-abbrev pub is_retract : Directive → Bool
-is_retract (Retracts ends) = true
-is_retract _ = false
 
 -- whether a directive has this verb
 abbrev pub is_of : AddedVerb → Directive → Bool
@@ -41,17 +26,6 @@ verb_text verb.Require = codes "require"
 verb_text verb.Exclude = codes "exclude"
 verb_text verb.Replace = codes "replace"
 verb_text verb.Retract = codes "retract"
-
--- ---- new entries
-
--- an entry outside blocks; its verb has no source position
-abbrev pub single : List ℕ → List Placed → Line Placed
-single verb arguments = Entry (record { word = new_word verb; line = 0; span = None } ∷ arguments) None
-
--- an entry, in a block of its verb if the flag says so; the verb is then left out
-abbrev pub entry_at : Bool → List ℕ → List Placed → Line Placed
-entry_at false verb arguments = single verb arguments
-entry_at true verb arguments = Entry arguments None
 
 -- ---- where new entries go
 

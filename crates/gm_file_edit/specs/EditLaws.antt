@@ -1,6 +1,6 @@
 -- What an operation does to the lines of a file, in the words of a reader of that file (go help mod edit).
-use Rattle.std.specs.Prelude.{◌≡◌, ℕ, ◌&&◌, not, if◌then◌else◌, Bool, true, false, List, [], ◌∷◌, ◌++◌, Option, Some, None, is_none, is_some, filter}
-use Rattle.std.specs.List.{flat_map, list_all, list_any}
+use Rattle.std.specs.Prelude.{◌≡◌, Bool, true, false, List, [], ◌∷◌, ◌++◌, Option, Some, None, is_some, filter}
+use Rattle.std.specs.List.{list_all, list_any}
 use Rattle.gm_syntax.specs.Tokens.{Placed}
 use Rattle.gm_syntax.specs.Document.{Line, Blank, Comment, Open, Close, Entry, IsDocument, is_level}
 use Rattle.gm_syntax.specs.LineViews.{plain, plain_lines}
@@ -8,13 +8,12 @@ use Rattle.gm_file.specs.Directives.{Directive, block_after_lines}
 use Rattle.gm_file_edit.specs.declared.adding.AddedVerb.{AddedVerb}
 use Rattle.gm_file_edit.specs.declared.adding.AddedVerb.TheVariants as verb
 use Rattle.gm_file_edit.specs.About.{about}
-use Rattle.gm_file_edit.specs.Adding.{entry_at, is_of, single, verb_text}
-use Rattle.gm_file_edit.specs.Changes.{edited}
+use Rattle.gm_file_edit.specs.Adding.{is_of, verb_text}
+use Rattle.gm_file_edit.specs.Edited.{Block, Section, Single, Unclosed, edited, holds, lines_of_sections, sections_of}
 use Rattle.gm_file_edit.specs.Edits.{Edit, SetRequire, AddExclude, SetReplace, AddRetract}
-use Rattle.gm_file_edit.specs.Fates.{directive_at, is_blank_source_line, passes}
-use Rattle.gm_file_edit.specs.Laws.{added_by, directives_of, is_drop, IsEditOf, set_by}
-use Rattle.gm_file_edit.specs.NewWords.{interval_words, pair_words, replace_words}
-use Rattle.gm_file_edit.specs.Renewing.{made_new}
+use Rattle.gm_file_edit.specs.Laws.{directives_of, IsEditOf}
+use Rattle.gm_file_edit.specs.Kinds.{added_by, is_drop}
+use Rattle.gm_file_edit.specs.NewWords.{entry_at, interval_words, pair_words, replace_words, single}
 use Rattle.gm_file_edit.specs.Searching.{is_there_from}
 
 -- ---- operations with nothing to do
@@ -54,22 +53,11 @@ abbrev pub CommentLinesStay : Type 0
 CommentLinesStay = (edit : Edit) (lines : List (Line Placed))
     → filter is_comment_line (edited edit lines) ≡ filter is_comment_line lines
 
--- ---- the sections of a file (Go Modules Reference, "go.mod files", section "Grammar")
+-- ---- the sections of a file
 
--- a single line outside blocks, or a block: the verb and the comment of its opening, the lines in it, and the
--- comment of its closing
-pub data Section : Type 0 where
-  Single : Line Placed → Section
-  Block : Placed → Option (List ℕ) → List (Line Placed) → Option (List ℕ) → Section
-
--- the lines of a section
-abbrev pub section_lines : Section → List (Line Placed)
-section_lines (Single line) = line ∷ []
-section_lines (Block verb suffix inner last) = Open verb suffix ∷ (inner ++ Close last ∷ [])
-
--- the lines of sections, one section after another
-abbrev pub lines_of_sections : List Section → List (Line Placed)
-lines_of_sections sections = flat_map section_lines sections
+-- the lines are those of their sections
+abbrev pub SectionsHaveTheLines : Type 0
+SectionsHaveTheLines = (lines : List (Line Placed)) → lines_of_sections (sections_of lines) ≡ lines
 
 -- whether a line neither opens nor closes a block
 abbrev pub is_loose : Line Placed → Bool
@@ -79,95 +67,12 @@ is_loose line = is_level (plain line)
 abbrev pub is_section : Section → Bool
 is_section (Single line) = is_loose line
 is_section (Block verb suffix inner last) = list_all is_loose inner
+is_section (Unclosed verb suffix inner) = false
 
--- the lines are those of sections, one after another
-pub record ConsistOfSections (lines : List (Line Placed)) : Type 0 where
-  pub sections : List Section
-  pub are_sections : list_all is_section sections ≡ true
-  pub all_lines : lines ≡ lines_of_sections sections
-
--- every document consists of sections
-abbrev pub DocumentsConsistOfSections : Type 0
-DocumentsConsistOfSections = (lines : List (Line Placed)) → IsDocument (plain_lines lines) → ConsistOfSections lines
-
--- ---- what a drop leaves
-
--- whether a line, in the block of this verb if there is one, holds a directive that passes the test
-abbrev pub holds : (Directive → Bool) → Option Placed → Line Placed → Bool
-holds test block line = passes test (directive_at block line)
-
--- the lines in a block of this verb, without those that hold such a directive
-abbrev pub left_inside : (Directive → Bool) → Placed → List (Line Placed) → List (Line Placed)
-left_inside test verb inner = filter (λ line. not (holds test (Some verb) line)) inner
-
--- Whether a block is emptied: it loses an entry, nothing but blank lines stays in it, and neither of its brackets has
--- a comment.
-abbrev pub empties : (Directive → Bool) → Placed → Option (List ℕ) → List (Line Placed) → Option (List ℕ) → Bool
-empties test verb suffix inner last =
-    list_any (holds test (Some verb)) inner && list_all is_blank_source_line (left_inside test verb inner)
-    && is_none suffix && is_none last
-
--- what a drop leaves of a section: the section that stays, or the place of a block that is emptied
-pub data Remains : Type 0 where
-  Stays : Section → Remains
-  Emptied : Remains
-
--- A single line that holds such a directive goes, a block loses its lines that do, and an emptied block goes as
--- a whole. All else stays.
-abbrev pub remains_of : (Directive → Bool) → Section → List Remains
-remains_of test (Single line) = if holds test None line then [] else Stays (Single line) ∷ []
-remains_of test (Block verb suffix inner last) =
-    (if empties test verb suffix inner last then Emptied
-    else Stays (Block verb suffix (left_inside test verb inner) last)) ∷ []
-
--- the sections that stay; a blank line directly after an emptied block goes with the block
-abbrev pub without_emptied : List Remains → List Section
-without_emptied [] = []
-without_emptied (Emptied ∷ Stays (Single Blank) ∷ rest) = without_emptied rest
-without_emptied (Emptied ∷ rest) = without_emptied rest
-without_emptied (Stays section ∷ rest) = section ∷ without_emptied rest
-
--- the sections without the entries that hold a directive that passes the test, and without the blocks that this
--- empties
-abbrev pub sections_without : (Directive → Bool) → List Section → List Section
-sections_without test sections = without_emptied (flat_map (remains_of test) sections)
-
--- an operation that drops directives leaves these sections
-abbrev pub DropLeavesSections : Type 0
-DropLeavesSections = (edit : Edit) (sections : List Section) → is_drop edit ≡ true
-    → list_all is_section sections ≡ true
-    → edited edit (lines_of_sections sections) ≡ lines_of_sections (sections_without (about edit) sections)
-
--- ---- what a setting leaves
-
--- the lines in a block of this verb, with the first that holds such a directive rewritten, and without the later ones
-abbrev pub renewed_inside : (Directive → Bool) → (Option Placed → Line Placed → Line Placed) → Placed
-    → List (Line Placed) → List (Line Placed)
-renewed_inside test new verb [] = []
-renewed_inside test new verb (line ∷ inner) =
-    if holds test (Some verb) line then new (Some verb) line ∷ left_inside test verb inner
-    else line ∷ renewed_inside test new verb inner
-
--- The sections with the first entry that holds such a directive rewritten, and without the later ones. A block that
--- loses its last entry goes as in a drop; the one with the rewritten entry stays.
-abbrev pub sections_renewed : (Directive → Bool) → (Option Placed → Line Placed → Line Placed) → List Section
-    → List Section
-sections_renewed test new [] = []
-sections_renewed test new (Single line ∷ rest) =
-    if holds test None line then Single (new None line) ∷ sections_without test rest
-    else Single line ∷ sections_renewed test new rest
-sections_renewed test new (Block verb suffix inner last ∷ rest) =
-    if list_any (holds test (Some verb)) inner
-    then Block verb suffix (renewed_inside test new verb inner) last ∷ sections_without test rest
-    else Block verb suffix inner last ∷ sections_renewed test new rest
-
--- an operation that sets a directive leaves these sections if it targets some directive of the file
-abbrev pub SettingLeavesSections : Type 0
-SettingLeavesSections = (edit : Edit) (sections : List Section) (d : Directive) → set_by edit ≡ Some d
-    → list_all is_section sections ≡ true
-    → list_any (about edit) (directives_of (lines_of_sections sections)) ≡ true
-    → edited edit (lines_of_sections sections)
-    ≡ lines_of_sections (sections_renewed (about edit) (made_new edit) sections)
+-- in a document each line is in a block that is closed, or is a single line that is no bracket
+abbrev pub DocumentsHaveWholeSections : Type 0
+DocumentsHaveWholeSections = (lines : List (Line Placed)) → IsDocument (plain_lines lines)
+    → list_all is_section (sections_of lines) ≡ true
 
 -- ---- where an addition goes
 
@@ -191,7 +96,7 @@ arguments_added _ = []
 -- lines may be none.
 pub record IsLastOfVerb (v : AddedVerb) (front : List (Line Placed)) (line : Line Placed) (back : List (Line Placed))
     : Type 0 where
-  pub is_of_verb : holds (is_of v) (block_after_lines None front) line ≡ true
+  pub is_of_verb : holds (is_of v) (block_after_lines None front, line) ≡ true
   pub none_later : is_there_from (is_of v) (block_after_lines None (front ++ line ∷ [])) back ≡ false
 
 -- If an operation targets no directive and the file has a directive of its verb, the new entry goes directly after

@@ -1,30 +1,12 @@
--- What happens to the lines of a file: some entries are rewritten, some are removed, and emptied blocks are removed
--- with their entries.
+-- What one pass over the lines of a file does with each: some entries are rewritten, some are removed, and emptied
+-- blocks are removed with their entries. No public contract cites it.
 use Rattle.std.specs.Prelude.{◌≡◌, ℕ, ◌&&◌, if◌then◌else◌, Bool, true, false, List, [], ◌∷◌, ◌++◌, Option, Some, None, is_none}
-use Rattle.std.specs.Option.{option_map}
 use Rattle.std.specs.List.{filter_map, list_all, list_any}
-use Rattle.gm_syntax.specs.Words.{Word}
 use Rattle.gm_syntax.specs.Tokens.{Placed}
 use Rattle.gm_syntax.specs.Document.{Line, Blank, Comment, Open, Close, Entry}
-use Rattle.gm_syntax.specs.LineViews.{plain}
 use Rattle.gm_file.specs.Faults.{item_kinds}
-use Rattle.gm_file.specs.Directives.{Strict, Directive, Item, item_at, directive_in, block_after_line}
-
-abbrev pub word_of : Placed → Word
-word_of t = t.word
-
--- what a line says, given the verb of the open block, if any
-abbrev pub item_of : Option Placed → Line Placed → Item
-item_of block line = item_at (option_map word_of block, plain line)
-
--- the directive that a line holds
-abbrev pub directive_at : Option Placed → Line Placed → Option Directive
-directive_at block line = directive_in Strict (item_of block line)
-
--- whether there is a directive that passes the test
-abbrev pub passes : (Directive → Bool) → Option Directive → Bool
-passes test None = false
-passes test (Some d) = test d
+use Rattle.gm_file.specs.Directives.{Strict, Directive, block_after_line}
+use Rattle.gm_file_edit.specs.Holding.{directive_at, is_blank_source_line, item_of, passes}
 
 -- the line is valid in its block, after some list of earlier directives
 abbrev pub IsValidAt : Option Placed → Line Placed → Type 0
@@ -56,13 +38,6 @@ itself fate = fate
 -- the lines that stay
 abbrev pub kept : List Fate → List (Line Placed)
 kept fates = filter_map itself fates
-
-abbrev pub is_blank_source_line : Line Placed → Bool
-is_blank_source_line Blank = true
-is_blank_source_line (Comment text) = false
-is_blank_source_line (Open verb suffix) = false
-is_blank_source_line (Close suffix) = false
-is_blank_source_line (Entry words suffix) = false
 
 -- whether nothing but a blank line stays
 abbrev pub leaves_nothing : Fate → Bool

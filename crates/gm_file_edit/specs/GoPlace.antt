@@ -1,26 +1,20 @@
 -- Where an operation puts a new go directive (go help mod edit).
-use Rattle.std.specs.Prelude.{◌≡◌, ℕ, true, false, List, [], ◌∷◌, ◌++◌, codes, Option, None, is_some}
+use Rattle.std.specs.Prelude.{◌≡◌, ℕ, true, false, List, ◌∷◌, ◌++◌, Option, None, is_some}
 use Rattle.std.specs.List.{list_all, list_any}
 use Rattle.gm_syntax.specs.Tokens.{Placed}
-use Rattle.gm_syntax.specs.Document.{Line, Blank, Close}
+use Rattle.gm_syntax.specs.Document.{Line, Close}
 use Rattle.gm_file.specs.Directives.{block_after_lines}
 use Rattle.gm_file.specs.Faults.{is_go, is_module}
-use Rattle.gm_file_edit.specs.Adding.{single}
-use Rattle.gm_file_edit.specs.Changes.{edited}
-use Rattle.gm_file_edit.specs.EditLaws.{holds, is_loose}
+use Rattle.gm_file_edit.specs.Edited.{edited, holds, new_go}
+use Rattle.gm_file_edit.specs.EditLaws.{is_loose}
 use Rattle.gm_file_edit.specs.Edits.{SetGo}
 use Rattle.gm_file_edit.specs.Laws.{directives_of}
-use Rattle.gm_file_edit.specs.NewWords.{made_word}
 use Rattle.gm_file_edit.specs.Searching.{is_there}
-
--- a blank line and a go directive outside blocks
-abbrev pub new_go : List ℕ → List (Line Placed)
-new_go text = Blank ∷ single (codes "go") (made_word text ∷ []) ∷ []
 
 -- the line holds a module directive, and no line before it does
 pub record IsFirstModule (front : List (Line Placed)) (line : Line Placed) : Type 0 where
   pub none_earlier : is_there is_module front ≡ false
-  pub is_module_line : holds is_module (block_after_lines None front) line ≡ true
+  pub is_module_line : holds is_module (block_after_lines None front, line) ≡ true
 
 -- a new go directive goes after the first module directive, if that one is in no block
 abbrev pub GoFollowsModule : Type 0

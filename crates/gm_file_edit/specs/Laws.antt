@@ -1,40 +1,19 @@
 -- Laws about what a file says before and after an operation (go help mod edit). They concern the definitions alone.
-use Rattle.std.specs.Prelude.{◌≡◌, if◌then◌else◌, ℕ, Bool, true, false, not, List, [], ◌∷◌, Option, Some, None, filter}
+use Rattle.std.specs.Prelude.{◌≡◌, if◌then◌else◌, ℕ, true, false, not, List, [], ◌∷◌, Some, None, filter}
 use Rattle.std.specs.List.{list_any}
 use Rattle.gm_syntax.specs.Tokens.{Placed}
 use Rattle.gm_syntax.specs.Document.{Line, IsDocument}
 use Rattle.gm_syntax.specs.LineViews.{plain_lines}
-use Rattle.gm_file.specs.Directives.{Strict, Directive, DeclaresModule, DeclaresGo, Requires, Excludes, Replaces, Retracts, directives}
+use Rattle.gm_file.specs.Directives.{Strict, Directive, directives}
 use Rattle.gm_file.specs.Faults.{fault_of}
 use Rattle.gm_file_edit.specs.About.{about}
-use Rattle.gm_file_edit.specs.Changes.{edited, is_fit}
-use Rattle.gm_file_edit.specs.Edits.{Edit, SetModule, SetGo, SetRequire, DropRequire, AddExclude, DropExclude, SetReplace, DropReplace, AddRetract, DropRetract, edit_in}
+use Rattle.gm_file_edit.specs.Edited.{edited}
+use Rattle.gm_file_edit.specs.Kinds.{added_by, is_drop, is_fit, set_by}
+use Rattle.gm_file_edit.specs.Edits.{Edit, edit_in}
 
 -- the directives that lines hold, in order
 abbrev pub directives_of : List (Line Placed) → List Directive
 directives_of lines = directives Strict (plain_lines lines)
-
--- whether an operation drops the directives that it targets
-abbrev pub is_drop : Edit → Bool
-is_drop (DropRequire path) = true
-is_drop (DropExclude p) = true
-is_drop (DropReplace left) = true
-is_drop (DropRetract ends) = true
-is_drop _ = false
-
--- the directive that an operation sets, in place of all that it targets
-abbrev pub set_by : Edit → Option Directive
-set_by (SetModule path) = Some (DeclaresModule path)
-set_by (SetGo text) = Some (DeclaresGo text)
-set_by (SetRequire p) = Some (Requires p)
-set_by (SetReplace r) = Some (Replaces r)
-set_by _ = None
-
--- the directive that an operation adds if none is targeted
-abbrev pub added_by : Edit → Option Directive
-added_by (AddExclude p) = Some (Excludes p)
-added_by (AddRetract ends) = Some (Retracts ends)
-added_by _ = None
 
 -- the operation is spelled by some text and isn't refused, and the lines are a file without a fault
 abbrev pub IsEditOf : Edit → List (Line Placed) → Type 0

@@ -1,5 +1,8 @@
 pub mod Edits
+pub mod Kinds
+pub mod Verbs
 pub mod Views
+pub mod Holding
 pub mod Fates
 pub mod About
 pub mod Targets
@@ -10,7 +13,8 @@ pub mod Renewing
 pub mod Sound
 pub mod Searching
 pub mod Adding
-pub mod Changes
+pub mod Pass
+pub mod Edited
 pub mod Laws
 pub mod EditLaws
 pub mod GoPlace

@@ -3,7 +3,7 @@ use Rattle.std.specs.Prelude.{Bool, List, [], ◌∷◌, Option}
 use Rattle.gm_syntax.specs.Tokens.{Placed}
 use Rattle.gm_syntax.specs.Document.{Line}
 use Rattle.gm_file.specs.Directives.{Directive, block_after_line}
-use Rattle.gm_file_edit.specs.Fates.{directive_at, passes}
+use Rattle.gm_file_edit.specs.Holding.{directive_at, passes}
 
 -- whether each line holds a directive that passes the test, given the verb of the open block, if any
 abbrev pub marks_from : (Directive → Bool) → Option Placed → List (Line Placed) → List Bool

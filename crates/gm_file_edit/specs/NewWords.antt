@@ -1,5 +1,5 @@
--- The words of new entries.
-use Rattle.std.specs.Prelude.{ℕ, if◌then◌else◌, List, [], ◌∷◌, ◌++◌, Option, Some, None}
+-- New entries and their words.
+use Rattle.std.specs.Prelude.{ℕ, if◌then◌else◌, Bool, true, false, List, [], ◌∷◌, ◌++◌, Option, Some, None}
 use Rattle.std.specs.Str.{bytes_eq}
 use Rattle.gm_syntax.specs.declared.word.Kind.TheVariants.{Mark}
 use Rattle.gm_syntax.specs.declared.word.Punct.{Punct}
@@ -7,6 +7,7 @@ use Rattle.gm_syntax.specs.declared.word.Punct.TheVariants.{LeftBracket, RightBr
 use Rattle.gm_syntax.specs.Words.{Word, mark_text}
 use Rattle.gm_syntax.specs.Bare.{new_word}
 use Rattle.gm_syntax.specs.Tokens.{Placed}
+use Rattle.gm_syntax.specs.Document.{Line, Entry}
 use Rattle.gm_file.specs.Directives.{Pair, Left, Right, Folder, Module, Replacing}
 
 -- a word with no source position
@@ -47,3 +48,14 @@ abbrev pub interval_words : Pair → List Placed
 interval_words ends =
     if bytes_eq ends.0 ends.1 then made_word ends.0 ∷ []
     else made_mark LeftBracket ∷ made_word ends.0 ∷ made_mark Comma ∷ made_word ends.1 ∷ made_mark RightBracket ∷ []
+
+-- ---- new entries
+
+-- an entry outside blocks; its verb has no source position
+abbrev pub single : List ℕ → List Placed → Line Placed
+single verb arguments = Entry (record { word = new_word verb; line = 0; span = None } ∷ arguments) None
+
+-- an entry, in a block of its verb if the flag says so; the verb is then left out
+abbrev pub entry_at : Bool → List ℕ → List Placed → Line Placed
+entry_at false verb arguments = single verb arguments
+entry_at true verb arguments = Entry arguments None

@@ -5,7 +5,8 @@ use Rattle.gm_syntax.specs.Tokens.{Placed}
 use Rattle.gm_syntax.specs.Document.{Line, Blank, Comment, Open, Close, Entry}
 use Rattle.gm_file_edit.specs.declared.packing.OpenBlock.{OpenBlock}
 use Rattle.gm_file_edit.specs.declared.packing.Packing.{Packing}
-use Rattle.gm_file_edit.specs.Fates.{Begun, Fate, is_blank_source_line, remaining_from}
+use Rattle.gm_file_edit.specs.Fates.{Begun, Fate, remaining_from}
+use Rattle.gm_file_edit.specs.Holding.{is_blank_source_line}
 
 -- the fate of a line, which is removed if it has a mark
 abbrev pub fate_by : Bool → Line Placed → Fate

@@ -3,9 +3,10 @@ use Rattle.std.specs.Prelude.{◌≡◌, List, Some}
 use Rattle.gm_syntax.specs.Tokens.{Placed}
 use Rattle.gm_syntax.specs.Document.{Line}
 use Rattle.gm_file.specs.Directives.{Directive}
-use Rattle.gm_file_edit.specs.Changes.{edited}
+use Rattle.gm_file_edit.specs.Edited.{edited}
 use Rattle.gm_file_edit.specs.Edits.{Edit}
-use Rattle.gm_file_edit.specs.Laws.{IsEditOf, set_by}
+use Rattle.gm_file_edit.specs.Laws.{IsEditOf}
+use Rattle.gm_file_edit.specs.Kinds.{set_by}
 
 -- a setting that follows the same setting changes nothing
 abbrev pub SecondSettingChangesNothing : Type 0

@@ -9,10 +9,11 @@ ghost use Rattle.gm_syntax.specs.Tokens.{Placed};
 ghost use Rattle.gm_syntax.specs.LineViews.{line_of, line_views, plain_lines};
 ghost use Rattle.gm_file.specs.Directives.{Strict, block_after_line};
 ghost use Rattle.gm_file.specs.Faults.{fault_of, is_module};
-ghost use Rattle.gm_file_edit.specs.Adding.{added, after_first_that, spot_after_first, spot_after_last, close_len, entry_at, is_of, past_block, single, verb_text};
+ghost use Rattle.gm_file_edit.specs.Adding.{added, after_first_that, spot_after_first, spot_after_last, close_len, is_of, past_block, verb_text};
 ghost use Rattle.gm_syntax.specs.Lines.{HasNoLineFeed};
-ghost use Rattle.gm_file_edit.specs.NewWords.{made_word};
-ghost use Rattle.gm_file_edit.specs.Fates.{directive_at, passes, IsValidAt};
+ghost use Rattle.gm_file_edit.specs.NewWords.{entry_at, made_word, single};
+ghost use Rattle.gm_file_edit.specs.Fates.{IsValidAt};
+ghost use Rattle.gm_file_edit.specs.Holding.{directive_at, passes};
 
 use crate::keyed_lines::KeyedLines;
 use crate::keys::Scope;

@@ -10,8 +10,9 @@ ghost use Rattle.gm_file.specs.Faults.{does_left_fit, fault_of};
 ghost use Rattle.gm_name.specs.Names.{does_fit};
 ghost use Rattle.gm_file_edit.specs.About.{about};
 ghost use Rattle.gm_file_edit.specs.Adding.{added, is_of, verb_text};
-ghost use Rattle.gm_file_edit.specs.Changes.{changed, edited, is_fit, put_in};
-ghost use Rattle.gm_file_edit.specs.Laws.{is_drop, set_by};
+ghost use Rattle.gm_file_edit.specs.Pass.{changed, put_in};
+ghost use Rattle.gm_file_edit.specs.Edited.{edited};
+ghost use Rattle.gm_file_edit.specs.Kinds.{is_drop, is_fit, set_by};
 ghost use Rattle.gm_file_edit.specs.Marks.{marks_from};
 ghost use Rattle.gm_file_edit.specs.NewWords.{pair_words};
 ghost use Rattle.gm_file_edit.specs.Sound.{IsSoundEdit};
@@ -134,7 +135,7 @@ fn add_pair<'a>(
 }
 
 /// Adds the entry of an operation that targets no line, if it adds one. If memory runs out, the lines stay as they are.
-#[tactic(auto, unfolding(crate::specs::Changes::put_in))]
+#[tactic(auto, unfolding(crate::specs::Pass::put_in))]
 fn put_in<'a>(alloc: Global, change: &Change, lines: &mut KeyedLines<'a>) -> Result<(), AllocError>
     requires written { IsSoundEdit (edit_of change.now) }
     requires document { IsDocument (plain_lines lines.old) }
@@ -163,7 +164,6 @@ fn put_in<'a>(alloc: Global, change: &Change, lines: &mut KeyedLines<'a>) -> Res
 }
 
 /// Changes the lines of a file by an operation. If memory runs out, they stay as they are.
-#[tactic(auto, unfolding(crate::specs::Changes::edited))]
 pub(crate) fn edit_lines<'a>(
     alloc: Global,
     change: &Change,

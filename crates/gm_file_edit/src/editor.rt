@@ -6,7 +6,8 @@ ghost use Rattle.std.specs.Prelude.{◌≡◌, ◌↔◌, IfOk, IsErrOf, OnErr, 
 ghost use Rattle.gm_syntax.specs.LineViews.{line_views, plain_lines};
 ghost use Rattle.gm_file.specs.Directives.{Strict};
 ghost use Rattle.gm_file.specs.Faults.{fault_of};
-ghost use Rattle.gm_file_edit.specs.Changes.{edited, is_fit};
+ghost use Rattle.gm_file_edit.specs.Edited.{edited};
+ghost use Rattle.gm_file_edit.specs.Kinds.{is_fit};
 
 use crate::applying::{edit_lines, is_fit};
 use crate::fault::EditFault;

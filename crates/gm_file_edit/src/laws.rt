@@ -8,8 +8,9 @@ ghost use Rattle.gm_syntax.specs.Document.{IsDocument, Line};
 ghost use Rattle.gm_syntax.specs.LineViews.{plain_lines};
 ghost use Rattle.gm_file.specs.Directives.{Strict};
 ghost use Rattle.gm_file.specs.Faults.{fault_of};
-ghost use Rattle.gm_file_edit.specs.Changes.{edited, is_fit};
-ghost use Rattle.gm_file_edit.specs.EditLaws.{AdditionFollowsItsVerb, AdditionOfANewVerbIsLast, CommentLinesStay, DocumentsConsistOfSections, DropLeavesSections, IdleAdditionChangesNothing, IdleDropChangesNothing, SecondAdditionChangesNothing, SecondDropChangesNothing, SettingLeavesSections};
+ghost use Rattle.gm_file_edit.specs.Edited.{edited};
+ghost use Rattle.gm_file_edit.specs.Kinds.{is_fit};
+ghost use Rattle.gm_file_edit.specs.EditLaws.{AdditionFollowsItsVerb, AdditionOfANewVerbIsLast, CommentLinesStay, DocumentsHaveWholeSections, IdleAdditionChangesNothing, IdleDropChangesNothing, SecondAdditionChangesNothing, SecondDropChangesNothing, SectionsHaveTheLines};
 ghost use Rattle.gm_file_edit.specs.Edits.{Edit, edit_in};
 ghost use Rattle.gm_file_edit.specs.GoPlace.{GoFollowsModule, GoFollowsModuleBlock};
 ghost use Rattle.gm_file_edit.specs.Laws.{AddedIsThere, DroppedIsGone, OthersStay, SetStandsAlone};
@@ -92,22 +93,14 @@ pub fn comment_lines_stay()
     ensures { CommentLinesStay }
 {}
 
-/// The lines of a file are those of single lines and blocks, one after another.
-pub fn documents_consist_of_sections()
-    ensures { DocumentsConsistOfSections }
+/// The sections of lines are these lines: none is added or left out, and their order stays.
+pub fn sections_have_the_lines()
+    ensures { SectionsHaveTheLines }
 {}
 
-/// What an operation that drops directives leaves of the single lines and the blocks of a file. Each line that holds
-/// such a directive goes. A block that this empties goes as a whole, with one blank line directly after it, unless
-/// a comment stands in it or at one of its brackets. All else stays, in order.
-pub fn drops_leave_sections()
-    ensures { DropLeavesSections }
-{}
-
-/// What an operation that sets a directive leaves of the single lines and the blocks of a file that has one that it
-/// targets. The first such entry is rewritten in its place. Later ones go as in a drop.
-pub fn settings_leave_sections()
-    ensures { SettingLeavesSections }
+/// In a document every section is a single line that is no bracket, or a closed block with no bracket in it.
+pub fn documents_have_whole_sections()
+    ensures { DocumentsHaveWholeSections }
 {}
 
 /// A new entry stands directly after the last directive of its verb, in the same block if that one is in a block.

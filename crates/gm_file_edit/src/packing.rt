@@ -7,7 +7,8 @@
 ghost use Rattle.std.specs.Prelude.{◌≡◌, ◌+◌, ◌∷◌, ◌++◌, ◌<◌, ◌≤◌, ◌&&◌, [], false, not, length, take, drop, None, Some};
 ghost use Rattle.std.specs.List.{list_all, list_any};
 ghost use Rattle.gm_syntax.specs.LineViews.{line_of, line_views};
-ghost use Rattle.gm_file_edit.specs.Fates.{is_blank_source_line, remaining_from};
+ghost use Rattle.gm_file_edit.specs.Fates.{remaining_from};
+ghost use Rattle.gm_file_edit.specs.Holding.{is_blank_source_line};
 ghost use Rattle.gm_file_edit.specs.Packs.{EndsWithBlock, IsNext, IsOpenedAt, closing, fate_by, is_bare_part, is_uncommented, line_at, marked, opened, with_loss};
 
 use crate::keyed_lines::KeyedLines;

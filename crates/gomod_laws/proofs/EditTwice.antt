@@ -6,7 +6,7 @@ use Rattle.std.specs.Option.{option_map, option_to_list}
 use Rattle.std.specs.Prelude.{String}
 use Rattle.gm_syntax.specs.Document.{Line}
 use Rattle.gm_syntax.specs.Tokens.{Placed}
-use Rattle.gm_file_edit.specs.Changes.{edited}
+use Rattle.gm_file_edit.specs.Edited.{edited}
 use Rattle.gm_file_edit.specs.Edits.{Edit as Operation, edit_in}
 use Rattle.gm_file_edit.proofs.Twice.{second-operation}
 use Rattle.gm_graph_listing.specs.Outcomes.{Outcome, refused}

@@ -26,11 +26,14 @@ use Rattle.gm_file.specs.Directives.{Directive, Pair, Left, Right, Folder, Modul
 use Rattle.gm_file.specs.Faults.{is_go, is_module}
 use Rattle.gm_file.specs.Values.{is_folder_path}
 use Rattle.gm_file_edit.specs.About.{about, excludes_pair, is_replaced_by, replaces_left, requires_path, retracts_ends}
-use Rattle.gm_file_edit.specs.Adding.{added, added_at, after_first_that, entry_at, insert_at_spot, is_exclude, is_replace, is_require, is_retract, past_block, single, spot_after_first, spot_after_last, spot_after_line}
-use Rattle.gm_file_edit.specs.Changes.{changed, edited, put_in}
+use Rattle.gm_file_edit.specs.Adding.{added, added_at, after_first_that, insert_at_spot, past_block, spot_after_first, spot_after_last, spot_after_line}
+use Rattle.gm_file_edit.specs.Verbs.{is_exclude, is_replace, is_require, is_retract}
+use Rattle.gm_file_edit.specs.Pass.{changed, edited_by_pass, put_in}
+use Rattle.gm_file_edit.specs.Edited.{edited}
 use Rattle.gm_file_edit.specs.Edits.{Edit, SetModule, SetGo, SetRequire, DropRequire, AddExclude, DropExclude, SetReplace, DropReplace, AddRetract, DropRetract, edit_in, go_text_in, has_byte, interval_in, left_in, module_of_pair, named, named_in, pair_in, path_in, replacing_in, right_in, sides_in, split_at_byte}
-use Rattle.gm_file_edit.specs.Fates.{Begun, Fate, begin, directive_at, dropped, dropping_from, is_emptied, kept, passes, remaining_from, renewed, renewing_from, with_line}
-use Rattle.gm_file_edit.specs.NewWords.{interval_words, left_words, made_mark, made_word, pair_words, replace_words, right_words}
+use Rattle.gm_file_edit.specs.Fates.{Begun, Fate, begin, dropped, dropping_from, is_emptied, kept, remaining_from, renewed, renewing_from, with_line}
+use Rattle.gm_file_edit.specs.Holding.{directive_at, passes}
+use Rattle.gm_file_edit.specs.NewWords.{entry_at, interval_words, left_words, made_mark, made_word, pair_words, replace_words, right_words, single}
 use Rattle.gm_file_edit.specs.Renewing.{before_arguments, with_arguments, with_last}
 use Rattle.gm_file_edit.specs.Searching.{is_there}
 use Rattle.gm_file_edit.specs.Sound.{AreVersions, IsPairOfNames, IsSoundEdit, IsSoundLeft, IsSoundRight, IsSoundVersion}
@@ -473,10 +476,13 @@ put_in_good (DropReplace left) lines sound utf8 are = are
 put_in_good (AddRetract ends) lines sound utf8 are = added_good is_retract (codes "retract") (interval_words ends) lines (verb_utf8 (codes "retract") refl) (interval_good ends sound) are
 put_in_good (DropRetract ends) lines sound utf8 are = are
 
-pub edited_good : (text : List ℕ) (edit : Edit) (lines : List (Line Placed)) → IsUtf8 text → edit_in text ≡ Some edit → IsSoundEdit edit → AreGood lines → AreGood (edited edit lines)
-unfolding edited
-edited_good text edit lines utf8 written sound are = by_test (is_there (about edit) lines)
+pass_good : (text : List ℕ) (edit : Edit) (lines : List (Line Placed)) → IsUtf8 text → edit_in text ≡ Some edit → IsSoundEdit edit → AreGood lines → AreGood (edited_by_pass edit lines)
+unfolding edited_by_pass
+pass_good text edit lines utf8 written sound are = by_test (is_there (about edit) lines)
   where
     by_test : (there : Bool) → AreGood (if there then changed edit lines else put_in edit lines)
     by_test true = changed_good edit lines sound (written_utf8 text edit utf8 written) are
     by_test false = put_in_good edit lines sound (written_utf8 text edit utf8 written) are
+
+pub edited_good : (text : List ℕ) (edit : Edit) (lines : List (Line Placed)) → IsUtf8 text → edit_in text ≡ Some edit → IsSoundEdit edit → AreGood lines → AreGood (edited edit lines)
+edited_good text edit lines utf8 written sound are = subst AreGood (sym (edited-is-pass edit lines)) (pass_good text edit lines utf8 written sound are)

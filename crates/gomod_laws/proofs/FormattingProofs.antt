@@ -15,7 +15,8 @@ use Rattle.gm_syntax.specs.Words.{Word}
 use Rattle.gm_file.specs.Directives.{Strict, directives}
 use Rattle.gm_file.specs.Faults.{fault_of}
 use Rattle.gm_file.specs.Fields.{first}
-use Rattle.gm_file_edit.specs.Changes.{edited, is_fit}
+use Rattle.gm_file_edit.specs.Edited.{edited}
+use Rattle.gm_file_edit.specs.Kinds.{is_fit}
 use Rattle.gm_file_edit.specs.Edits.{Edit as Change, edit_in}
 use Rattle.gm_file_edit.proofs.EditedSound.{edited-document}
 use Rattle.gm_file_edit.proofs.Written.{written-sound}

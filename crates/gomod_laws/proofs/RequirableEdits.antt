@@ -11,7 +11,8 @@ use Rattle.gm_file.specs.Directives.{Strict, Pair, Directive, DeclaresModule, De
 use Rattle.gm_file.specs.Faults.{fault_of}
 use Rattle.gm_file.specs.Fields.{as_exclusion, as_go, as_module, as_replacing, as_requirement}
 use Rattle.gm_file_edit.specs.About.{requires_path}
-use Rattle.gm_file_edit.specs.Changes.{edited, is_fit}
+use Rattle.gm_file_edit.specs.Edited.{edited}
+use Rattle.gm_file_edit.specs.Kinds.{is_fit}
 use Rattle.gm_file_edit.specs.Edits.{SetRequire, edit_in}
 use Rattle.gm_file_edit.specs.Laws.{IsEditOf, directives_of}
 use Rattle.gm_file_edit.proofs.EditedSound.{edited-document}

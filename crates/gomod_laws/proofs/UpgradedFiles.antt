@@ -4,7 +4,7 @@ use Rattle.std.specs.Ordering.{is_gt}
 use Rattle.std.specs.Str.{bytes_eq}
 use Rattle.gm_name.specs.Version.{version_cmp}
 use Rattle.gm_file.specs.Directives.{Directive, Pair, pair}
-use Rattle.gm_file_edit.specs.Changes.{edited}
+use Rattle.gm_file_edit.specs.Edited.{edited}
 use Rattle.gm_file_edit.specs.Edits.{SetRequire}
 use Rattle.gm_file_edit.specs.Laws.{directives_of}
 use Rattle.gm_graph_cache.specs.Main.{Main, ModuleVersion, is_excluded, without_excluded}

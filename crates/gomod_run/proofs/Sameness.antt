@@ -9,7 +9,7 @@ use Rattle.gm_syntax.specs.LineViews.{plain_lines}
 use Rattle.gm_syntax.specs.Parsed.{IsParsedAs}
 use Rattle.gm_syntax.specs.Tokens.{Placed}
 use Rattle.gm_syntax.specs.Words.{Word}
-use Rattle.gm_file_edit.specs.Changes.{edited}
+use Rattle.gm_file_edit.specs.Edited.{edited}
 use Rattle.gm_file_edit.specs.Edits.{Edit as Change, edit_in}
 use Rattle.gm_file_edit.proofs.Places.{edited-same}
 use Rattle.gm_store.specs.Asked.{Reply, absent, bytes, list_file, mod_file, too_long}

@@ -7,7 +7,8 @@ use Rattle.gm_syntax.specs.Document.{Line}
 use Rattle.gm_syntax.specs.Layout.{layout}
 use Rattle.gm_syntax.specs.LineViews.{plain_lines}
 use Rattle.gm_syntax.specs.Tokens.{Placed}
-use Rattle.gm_file_edit.specs.Changes.{edited, is_fit}
+use Rattle.gm_file_edit.specs.Edited.{edited}
+use Rattle.gm_file_edit.specs.Kinds.{is_fit}
 use Rattle.gm_file_edit.specs.Edits.{Edit, edit_in}
 use Rattle.gm_graph_listing.specs.Outcomes.{IsMainOf, IsMalformedMain, Outcome, printed, refused}
 use Rattle.gm_graph_listing.specs.Reports.{Place, main_line}

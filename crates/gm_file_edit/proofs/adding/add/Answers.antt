@@ -2,7 +2,8 @@ use Rattle.std.proofs.Common.{◌≡◌, ◌∙◌, ◌∷◌, [], List, ℕ, On
 use Rattle.gm_syntax.specs.Document.{Blank, Line}
 use Rattle.gm_syntax.specs.LineViews.{line_of}
 use Rattle.gm_syntax.specs.Tokens.{Placed}
-use Rattle.gm_file_edit.specs.Adding.{is_of, single, spot_after_last, verb_text}
+use Rattle.gm_file_edit.specs.Adding.{is_of, spot_after_last, verb_text}
+use Rattle.gm_file_edit.specs.NewWords.{single}
 use Rattle.gm_file_edit.proofs.AddingCode.{add-last, add-there, at-end}
 use Rattle.gm_file_edit.proofs.AddingSound.{last-in-range}
 use Rattle.gm_file_edit.proofs.adding.add.Goals as goal

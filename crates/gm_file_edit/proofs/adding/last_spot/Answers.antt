@@ -3,7 +3,7 @@ use Rattle.std.specs.Option.{option_map}
 use Rattle.gm_syntax.specs.LineViews.{line_of, line_views}
 use Rattle.gm_file.specs.Directives.{block_after_line}
 use Rattle.gm_file_edit.specs.Adding.{is_of, verb_text}
-use Rattle.gm_file_edit.specs.Fates.{directive_at, item_of, passes}
+use Rattle.gm_file_edit.specs.Holding.{directive_at, item_of, passes}
 use Rattle.gm_file_edit.specs.Keys.{scope_of}
 use Rattle.gm_file_edit.specs.Targets.{is_entry_of}
 use Rattle.gm_file_edit.proofs.AddingCode.{better, seek-begin, seek-more, seek-right, some-mapped}

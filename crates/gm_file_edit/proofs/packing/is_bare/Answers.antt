@@ -1,7 +1,7 @@
 use Rattle.std.proofs.Common.{Bool, ap, drop, length, refl, sym, take, ◌&&◌, ◌-◌, ◌∙◌}
 use Rattle.std.specs.List.{list_all}
 use Rattle.gm_syntax.specs.LineViews.{line_of}
-use Rattle.gm_file_edit.specs.Fates.{is_blank_source_line}
+use Rattle.gm_file_edit.specs.Holding.{is_blank_source_line}
 use Rattle.gm_file_edit.proofs.Packs.{bare-is, bare-none}
 use Rattle.gm_file_edit.proofs.packing.is_bare.Goals as goal
 

@@ -1,5 +1,5 @@
 use Rattle.std.proofs.Common.{ap, sym, ◌&&◌, ◌∙◌}
-use Rattle.gm_file_edit.specs.Fates.{is_blank_source_line}
+use Rattle.gm_file_edit.specs.Holding.{is_blank_source_line}
 use Rattle.gm_file_edit.specs.Packs.{opened}
 use Rattle.gm_file_edit.proofs.Packs.{blank-skipped, outside-kept}
 use Rattle.gm_file_edit.proofs.packing.outside.Goals as goal

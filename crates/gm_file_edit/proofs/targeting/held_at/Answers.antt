@@ -4,7 +4,7 @@ use Rattle.gm_syntax.specs.LineViews.{line_of, plain}
 use Rattle.gm_file.specs.declared.fault.LineFault.{LineFault}
 use Rattle.gm_file.specs.DirectiveViews.{IsLineRead}
 use Rattle.gm_file.specs.Directives.{Strict, item_at}
-use Rattle.gm_file_edit.specs.Fates.{directive_at}
+use Rattle.gm_file_edit.specs.Holding.{directive_at}
 use Rattle.gm_file_edit.proofs.Drops.{line-read, never-wrong}
 use Rattle.gm_file_edit.proofs.targeting.held_at.Goals as goal
 

@@ -1,30 +1,16 @@
--- The lines of a file after each operation (go help mod edit).
-use Rattle.std.specs.Prelude.{if◌then◌else◌, Bool, true, List, [], ◌∷◌, codes}
+-- The lines of a file after each operation, as one pass over them gives them. No public contract cites it.
+use Rattle.std.specs.Prelude.{if◌then◌else◌, List, [], ◌∷◌, codes}
 use Rattle.gm_syntax.specs.Tokens.{Placed}
 use Rattle.gm_syntax.specs.Document.{Line, Blank}
-use Rattle.gm_name.specs.Names.{does_fit}
-use Rattle.gm_file.specs.Faults.{does_left_fit, is_go, is_module}
+use Rattle.gm_file.specs.Faults.{is_go, is_module}
 use Rattle.gm_file_edit.specs.Edits.{Edit, SetModule, SetGo, SetRequire, DropRequire, AddExclude, DropExclude, SetReplace, DropReplace, AddRetract, DropRetract}
-use Rattle.gm_file_edit.specs.NewWords.{interval_words, made_word, pair_words, replace_words}
+use Rattle.gm_file_edit.specs.NewWords.{interval_words, made_word, pair_words, replace_words, single}
 use Rattle.gm_file_edit.specs.Renewing.{with_arguments, with_last}
 use Rattle.gm_file_edit.specs.Fates.{dropped, renewed}
 use Rattle.gm_file_edit.specs.About.{about, excludes_pair, is_replaced_by, replaces_left, requires_path, retracts_ends}
 use Rattle.gm_file_edit.specs.Searching.{is_there}
-use Rattle.gm_file_edit.specs.Adding.{added, after_first_that, is_exclude, is_replace, is_require, is_retract, single}
-
--- Whether the versions of an operation fit their paths: those that it requires or excludes, and the one in the left
--- side of its replace. The right side of a replace isn't checked.
-abbrev pub is_fit : Edit → Bool
-is_fit (SetModule path) = true
-is_fit (SetGo text) = true
-is_fit (SetRequire p) = does_fit p.0 p.1
-is_fit (DropRequire path) = true
-is_fit (AddExclude p) = does_fit p.0 p.1
-is_fit (DropExclude p) = true
-is_fit (SetReplace r) = does_left_fit r.0.path r.0.version
-is_fit (DropReplace left) = true
-is_fit (AddRetract ends) = true
-is_fit (DropRetract ends) = true
+use Rattle.gm_file_edit.specs.Adding.{added, after_first_that}
+use Rattle.gm_file_edit.specs.Verbs.{is_exclude, is_replace, is_require, is_retract}
 
 -- the lines after the operation if some entry is targeted
 unfoldable pub changed : Edit → List (Line Placed) → List (Line Placed)
@@ -53,5 +39,5 @@ put_in (AddRetract ends) lines = added is_retract (codes "retract") (interval_wo
 put_in (DropRetract ends) lines = lines
 
 -- the lines after the operation
-unfoldable pub edited : Edit → List (Line Placed) → List (Line Placed)
-edited edit lines = if is_there (about edit) lines then changed edit lines else put_in edit lines
+unfoldable pub edited_by_pass : Edit → List (Line Placed) → List (Line Placed)
+edited_by_pass edit lines = if is_there (about edit) lines then changed edit lines else put_in edit lines
