@@ -8,7 +8,7 @@ use Rattle.gm_file.specs.Directives.{Directive, block_after_line, block_after_li
 use Rattle.gm_file_edit.specs.declared.adding.AddedVerb.{AddedVerb}
 use Rattle.gm_file_edit.specs.declared.adding.AddedVerb.TheVariants as verb
 use Rattle.gm_file_edit.specs.declared.adding.Spot.{Spot}
-use Rattle.gm_file_edit.specs.Edits.{Edit, SetModule, SetGo, SetRequire, DropRequire, AddExclude, DropExclude, SetReplace, DropReplace, AddRetract, DropRetract}
+use Rattle.gm_file_edit.specs.Edits.{Edit, Set, ModuleIs, GoIs, RequireAt, Drop, Add, Exclude, ReplaceWith, Retract}
 use Rattle.gm_file_edit.specs.About.{about}
 use Rattle.gm_file_edit.specs.Adding.{added, added_at, is_of, spot_after_last, verb_text}
 use Rattle.gm_file_edit.specs.NewWords.{entry_at, single}
@@ -67,16 +67,13 @@ AddsOf edit lines v = put_in edit lines ≡ added (is_of v) (verb_text v) (argum
 
 put-is : (edit : Edit) (v : AddedVerb) (lines : List (Line Placed)) → verb_added edit ≡ Some v → AddsOf edit lines v
 unfolding put_in
-put-is (SetModule path) v lines e = absurd cc
-put-is (SetGo text) v lines e = absurd cc
-put-is (SetRequire p) v lines e = subst (AddsOf (SetRequire p) lines) (ap verb_or_require e) refl
-put-is (DropRequire path) v lines e = absurd cc
-put-is (AddExclude p) v lines e = subst (AddsOf (AddExclude p) lines) (ap verb_or_require e) refl
-put-is (DropExclude p) v lines e = absurd cc
-put-is (SetReplace r) v lines e = subst (AddsOf (SetReplace r) lines) (ap verb_or_require e) refl
-put-is (DropReplace left) v lines e = absurd cc
-put-is (AddRetract ends) v lines e = subst (AddsOf (AddRetract ends) lines) (ap verb_or_require e) refl
-put-is (DropRetract ends) v lines e = absurd cc
+put-is (Set (ModuleIs path)) v lines e = absurd cc
+put-is (Set (GoIs text)) v lines e = absurd cc
+put-is (Set (RequireAt p)) v lines e = subst (AddsOf (Set (RequireAt p)) lines) (ap verb_or_require e) refl
+put-is (Drop t) v lines e = absurd cc
+put-is (Add (Exclude p)) v lines e = subst (AddsOf (Add (Exclude p)) lines) (ap verb_or_require e) refl
+put-is (Set (ReplaceWith r)) v lines e = subst (AddsOf (Set (ReplaceWith r)) lines) (ap verb_or_require e) refl
+put-is (Add (Retract ends)) v lines e = subst (AddsOf (Add (Retract ends)) lines) (ap verb_or_require e) refl
 
 pass-added : (edit : Edit) (v : AddedVerb) (lines : List (Line Placed)) → verb_added edit ≡ Some v → list_any (about edit) (directives_of lines) ≡ false
     → edited_by_pass edit lines ≡ added (is_of v) (verb_text v) (arguments_added edit) lines

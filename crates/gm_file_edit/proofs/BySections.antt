@@ -5,10 +5,9 @@ use Rattle.std.proofs.lemmas.Bool.{cases_Bool}
 use Rattle.gm_syntax.specs.Tokens.{Placed}
 use Rattle.gm_syntax.specs.Document.{Line}
 use Rattle.gm_file.specs.Faults.{is_module}
-use Rattle.gm_file_edit.specs.Edits.{Edit, SetModule, SetGo, SetRequire, DropRequire, AddExclude, DropExclude, SetReplace, DropReplace, AddRetract, DropRetract}
+use Rattle.gm_file_edit.specs.Edits.{Edit, Set, ModuleIs, GoIs, RequireAt, Drop, Add, Exclude, ReplaceWith, Retract}
 use Rattle.gm_file_edit.specs.About.{about}
 use Rattle.gm_file_edit.specs.Edited.{edited, lines_of_sections, new_go, sections_changed, sections_of, with_new}
-use Rattle.gm_file_edit.specs.Kinds.{put_by}
 use Rattle.gm_file_edit.specs.NewWords.{interval_words, pair_words, replace_words}
 use Rattle.gm_file_edit.specs.Verbs.{is_exclude, is_replace, is_require, is_retract}
 use Rattle.gm_file_edit.specs.Pass.{changed, edited_by_pass, put_in}
@@ -20,29 +19,22 @@ use Rattle.gm_file_edit.proofs.Sections.{dropped-by-sections, sections-have-line
 
 changed-by-sections : (edit : Edit) (lines : List (Line Placed)) → lines_of_sections (sections_changed edit (sections_of lines)) ≡ changed edit lines
 unfolding changed
-changed-by-sections (SetModule path) lines = renewed-by-sections (about (SetModule path)) (made_new (SetModule path)) (λ block words suffix. record { words = _; suffix = suffix; is = refl }) lines
-changed-by-sections (SetGo text) lines = renewed-by-sections (about (SetGo text)) (made_new (SetGo text)) (λ block words suffix. record { words = _; suffix = suffix; is = refl }) lines
-changed-by-sections (SetRequire p) lines = renewed-by-sections (about (SetRequire p)) (made_new (SetRequire p)) (λ block words suffix. record { words = _; suffix = suffix; is = refl }) lines
-changed-by-sections (DropRequire path) lines = dropped-by-sections (about (DropRequire path)) lines
-changed-by-sections (AddExclude p) lines = sections-have-lines lines
-changed-by-sections (DropExclude p) lines = dropped-by-sections (about (DropExclude p)) lines
-changed-by-sections (SetReplace r) lines = renewed-by-sections (about (SetReplace r)) (made_new (SetReplace r)) (λ block words suffix. record { words = _; suffix = suffix; is = refl }) lines
-changed-by-sections (DropReplace left) lines = dropped-by-sections (about (DropReplace left)) lines
-changed-by-sections (AddRetract ends) lines = sections-have-lines lines
-changed-by-sections (DropRetract ends) lines = dropped-by-sections (about (DropRetract ends)) lines
+changed-by-sections (Set (ModuleIs path)) lines = renewed-by-sections (about (Set (ModuleIs path))) (made_new (Set (ModuleIs path))) (λ block words suffix. record { words = _; suffix = suffix; is = refl }) lines
+changed-by-sections (Set (GoIs text)) lines = renewed-by-sections (about (Set (GoIs text))) (made_new (Set (GoIs text))) (λ block words suffix. record { words = _; suffix = suffix; is = refl }) lines
+changed-by-sections (Set (RequireAt p)) lines = renewed-by-sections (about (Set (RequireAt p))) (made_new (Set (RequireAt p))) (λ block words suffix. record { words = _; suffix = suffix; is = refl }) lines
+changed-by-sections (Drop t) lines = dropped-by-sections (about (Drop t)) lines
+changed-by-sections (Add a) lines = sections-have-lines lines
+changed-by-sections (Set (ReplaceWith r)) lines = renewed-by-sections (about (Set (ReplaceWith r))) (made_new (Set (ReplaceWith r))) (λ block words suffix. record { words = _; suffix = suffix; is = refl }) lines
 
-new-by-sections : (edit : Edit) (lines : List (Line Placed)) → with_new (put_by edit) lines ≡ put_in edit lines
+new-by-sections : (edit : Edit) (lines : List (Line Placed)) → with_new edit lines ≡ put_in edit lines
 unfolding put_in
-new-by-sections (SetModule path) lines = refl
-new-by-sections (SetGo text) lines = lines-by-sections is_module (new_go text) lines
-new-by-sections (SetRequire p) lines = entry-by-blocks is_require (codes "require") (pair_words p) lines
-new-by-sections (DropRequire path) lines = refl
-new-by-sections (AddExclude p) lines = entry-by-blocks is_exclude (codes "exclude") (pair_words p) lines
-new-by-sections (DropExclude p) lines = refl
-new-by-sections (SetReplace r) lines = entry-by-blocks is_replace (codes "replace") (replace_words r) lines
-new-by-sections (DropReplace left) lines = refl
-new-by-sections (AddRetract ends) lines = entry-by-blocks is_retract (codes "retract") (interval_words ends) lines
-new-by-sections (DropRetract ends) lines = refl
+new-by-sections (Set (ModuleIs path)) lines = refl
+new-by-sections (Set (GoIs text)) lines = lines-by-sections is_module (new_go text) lines
+new-by-sections (Set (RequireAt p)) lines = entry-by-blocks is_require (codes "require") (pair_words p) lines
+new-by-sections (Drop t) lines = refl
+new-by-sections (Add (Exclude p)) lines = entry-by-blocks is_exclude (codes "exclude") (pair_words p) lines
+new-by-sections (Set (ReplaceWith r)) lines = entry-by-blocks is_replace (codes "replace") (replace_words r) lines
+new-by-sections (Add (Retract ends)) lines = entry-by-blocks is_retract (codes "retract") (interval_words ends) lines
 
 pub edited-is-pass : (edit : Edit) (lines : List (Line Placed)) → edited edit lines ≡ edited_by_pass edit lines
 unfolding edited edited_by_pass

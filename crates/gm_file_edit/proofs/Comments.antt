@@ -8,7 +8,7 @@ use Rattle.std.proofs.lemmas.List.Elements.{filter-append, filter_map-append}
 use Rattle.gm_syntax.specs.Tokens.{Placed}
 use Rattle.gm_syntax.specs.Document.{Line, Blank, Comment, Open, Close, Entry}
 use Rattle.gm_file.specs.Directives.{Directive, item_at}
-use Rattle.gm_file_edit.specs.Edits.{Edit, SetModule, SetGo, SetRequire, DropRequire, AddExclude, DropExclude, SetReplace, DropReplace, AddRetract, DropRetract}
+use Rattle.gm_file_edit.specs.Edits.{Edit, Set, ModuleIs, GoIs, RequireAt, Drop, Add, Exclude, ReplaceWith, Retract}
 use Rattle.gm_file_edit.specs.About.{about}
 use Rattle.gm_file_edit.specs.Adding.{added, added_at, after_first_that, insert_at_spot, past_block, spot_after_first, spot_after_last}
 use Rattle.gm_file_edit.specs.declared.adding.Spot.{Spot}
@@ -161,29 +161,22 @@ after-first-comments test new lines none = spot-comments new lines none (spot_af
 
 changed-comments : (edit : Edit) (lines : List (Line Placed)) → comments (changed edit lines) ≡ comments lines
 unfolding changed
-changed-comments (SetModule path) lines = renewed-comments _ (made_new (SetModule path)) (λ block words suffix. refl) lines
-changed-comments (SetGo text) lines = renewed-comments _ (made_new (SetGo text)) (λ block words suffix. refl) lines
-changed-comments (SetRequire p) lines = renewed-comments _ (made_new (SetRequire p)) (λ block words suffix. refl) lines
-changed-comments (DropRequire path) lines = dropped-comments _ lines
-changed-comments (AddExclude p) lines = refl
-changed-comments (DropExclude p) lines = dropped-comments _ lines
-changed-comments (SetReplace r) lines = renewed-comments _ (made_new (SetReplace r)) (λ block words suffix. refl) lines
-changed-comments (DropReplace left) lines = dropped-comments _ lines
-changed-comments (AddRetract ends) lines = refl
-changed-comments (DropRetract ends) lines = dropped-comments _ lines
+changed-comments (Set (ModuleIs path)) lines = renewed-comments _ (made_new (Set (ModuleIs path))) (λ block words suffix. refl) lines
+changed-comments (Set (GoIs text)) lines = renewed-comments _ (made_new (Set (GoIs text))) (λ block words suffix. refl) lines
+changed-comments (Set (RequireAt p)) lines = renewed-comments _ (made_new (Set (RequireAt p))) (λ block words suffix. refl) lines
+changed-comments (Drop t) lines = dropped-comments _ lines
+changed-comments (Add a) lines = refl
+changed-comments (Set (ReplaceWith r)) lines = renewed-comments _ (made_new (Set (ReplaceWith r))) (λ block words suffix. refl) lines
 
 put-comments : (edit : Edit) (lines : List (Line Placed)) → comments (put_in edit lines) ≡ comments lines
 unfolding put_in
-put-comments (SetModule path) lines = refl
-put-comments (SetGo text) lines = after-first-comments _ (Blank ∷ single (codes "go") (made_word text ∷ []) ∷ []) lines refl
-put-comments (SetRequire p) lines = added-comments _ _ _ lines
-put-comments (DropRequire path) lines = refl
-put-comments (AddExclude p) lines = added-comments _ _ _ lines
-put-comments (DropExclude p) lines = refl
-put-comments (SetReplace r) lines = added-comments _ _ _ lines
-put-comments (DropReplace left) lines = refl
-put-comments (AddRetract ends) lines = added-comments _ _ _ lines
-put-comments (DropRetract ends) lines = refl
+put-comments (Set (ModuleIs path)) lines = refl
+put-comments (Set (GoIs text)) lines = after-first-comments _ (Blank ∷ single (codes "go") (made_word text ∷ []) ∷ []) lines refl
+put-comments (Set (RequireAt p)) lines = added-comments _ _ _ lines
+put-comments (Drop t) lines = refl
+put-comments (Add (Exclude p)) lines = added-comments _ _ _ lines
+put-comments (Add (Retract ends)) lines = added-comments _ _ _ lines
+put-comments (Set (ReplaceWith r)) lines = added-comments _ _ _ lines
 
 pub pass-comments : (edit : Edit) (lines : List (Line Placed)) → filter is_comment_line (edited_by_pass edit lines) ≡ filter is_comment_line lines
 unfolding edited_by_pass

@@ -21,7 +21,7 @@ use Rattle.gm_file.specs.Directives.{Strict, Pair, Left, Replacing, Directive, D
 use Rattle.gm_file.specs.Faults.{conflicts, directive_kinds, fault_of, is_go, is_module}
 use Rattle.gm_file_edit.specs.declared.adding.AddedVerb.{AddedVerb}
 use Rattle.gm_file_edit.specs.declared.adding.AddedVerb.TheVariants as verb
-use Rattle.gm_file_edit.specs.Edits.{Edit, SetModule, SetGo, SetRequire, DropRequire, AddExclude, DropExclude, SetReplace, DropReplace, AddRetract, DropRetract}
+use Rattle.gm_file_edit.specs.Edits.{Edit, Set, ModuleIs, GoIs, RequireAt, Drop, AnyRequire, Add, Exclude, AnyExclude, ReplaceWith, AnyReplace, Retract, AnyRetract}
 use Rattle.gm_file_edit.specs.About.{about, excludes_pair, is_replaced_by, replaces_left, requires_path, retracts_ends}
 use Rattle.gm_file_edit.specs.Adding.{verb_text}
 use Rattle.gm_file_edit.specs.Pass.{changed, edited_by_pass, put_in}
@@ -196,34 +196,33 @@ ends-other x (Replaces r) e = refl
 ends-other x (Retracts ends) e = refl
 ends-other x Kept e = refl
 
-pub module-changed : (path : List ℕ) (lines : List (Line Placed)) → changed (SetModule path) lines ≡ renewed (about (SetModule path)) (made_new (SetModule path)) lines
+pub module-changed : (path : List ℕ) (lines : List (Line Placed)) → changed (Set (ModuleIs path)) lines ≡ renewed (about (Set (ModuleIs path))) (made_new (Set (ModuleIs path))) lines
 unfolding changed
 module-changed path lines = refl
 
-pub go-changed : (text : List ℕ) (lines : List (Line Placed)) → changed (SetGo text) lines ≡ renewed (about (SetGo text)) (made_new (SetGo text)) lines
+pub go-changed : (text : List ℕ) (lines : List (Line Placed)) → changed (Set (GoIs text)) lines ≡ renewed (about (Set (GoIs text))) (made_new (Set (GoIs text))) lines
 unfolding changed
 go-changed text lines = refl
 
-pub require-changed : (p : Pair) (lines : List (Line Placed)) → changed (SetRequire p) lines ≡ renewed (about (SetRequire p)) (made_new (SetRequire p)) lines
+pub require-changed : (p : Pair) (lines : List (Line Placed)) → changed (Set (RequireAt p)) lines ≡ renewed (about (Set (RequireAt p))) (made_new (Set (RequireAt p))) lines
 unfolding changed
 require-changed p lines = refl
 
-pub replace-changed : (r : Replacing) (lines : List (Line Placed)) → changed (SetReplace r) lines ≡ renewed (about (SetReplace r)) (made_new (SetReplace r)) lines
+pub replace-changed : (r : Replacing) (lines : List (Line Placed)) → changed (Set (ReplaceWith r)) lines ≡ renewed (about (Set (ReplaceWith r))) (made_new (Set (ReplaceWith r))) lines
 unfolding changed
 replace-changed r lines = refl
 
 changed-sound : (edit : Edit) (lines : List (Line Placed)) → IsSoundEdit edit → is_fit edit ≡ true → SoundFrom [] None lines → SoundFrom [] None (changed edit lines)
 unfolding changed
-changed-sound (SetModule path) lines good fit sound = renewed-sound is_module (DeclaresModule path) (with_last path) (module-renewal path good) lines sound
-changed-sound (SetGo text) lines good fit sound = renewed-sound is_go (DeclaresGo text) (with_last text) (go-renewal text good) lines sound
-changed-sound (SetRequire p) lines good fit sound = renewed-sound (requires_path p.0) (Requires p) (with_last p.1) (require-renewal p good fit) lines sound
-changed-sound (DropRequire path) lines good fit sound = dropped-sound (requires_path path) (path-other path) lines sound
-changed-sound (AddExclude p) lines good fit sound = sound
-changed-sound (DropExclude p) lines good fit sound = dropped-sound (excludes_pair p) (pair-other p) lines sound
-changed-sound (SetReplace r) lines good fit sound = renewed-sound (is_replaced_by r.0) (Replaces r) (with_arguments (replace_words r)) (replace-renewal r good.0 good.1 fit) lines sound
-changed-sound (DropReplace left) lines good fit sound = dropped-sound (replaces_left left) (left-other left) lines sound
-changed-sound (AddRetract ends) lines good fit sound = sound
-changed-sound (DropRetract ends) lines good fit sound = dropped-sound (retracts_ends ends) (ends-other ends) lines sound
+changed-sound (Set (ModuleIs path)) lines good fit sound = renewed-sound is_module (DeclaresModule path) (with_last path) (module-renewal path good) lines sound
+changed-sound (Set (GoIs text)) lines good fit sound = renewed-sound is_go (DeclaresGo text) (with_last text) (go-renewal text good) lines sound
+changed-sound (Set (RequireAt p)) lines good fit sound = renewed-sound (requires_path p.0) (Requires p) (with_last p.1) (require-renewal p good fit) lines sound
+changed-sound (Drop (AnyRequire path)) lines good fit sound = dropped-sound (requires_path path) (path-other path) lines sound
+changed-sound (Add a) lines good fit sound = sound
+changed-sound (Drop (AnyExclude p)) lines good fit sound = dropped-sound (excludes_pair p) (pair-other p) lines sound
+changed-sound (Set (ReplaceWith r)) lines good fit sound = renewed-sound (is_replaced_by r.0) (Replaces r) (with_arguments (replace_words r)) (replace-renewal r good.0 good.1 fit) lines sound
+changed-sound (Drop (AnyReplace left)) lines good fit sound = dropped-sound (replaces_left left) (left-other left) lines sound
+changed-sound (Drop (AnyRetract ends)) lines good fit sound = dropped-sound (retracts_ends ends) (ends-other ends) lines sound
 
 clear-one : (r : Replacing) (d : Directive) → AreMild (Replaces r) (Some d) → conflicts r d ≡ false
 clear-one r d mild = mild.1
@@ -237,8 +236,8 @@ no-conflicts r (d ∷ ds) e =
 
 put-sound : (edit : Edit) (lines : List (Line Placed)) → IsSoundEdit edit → is_fit edit ≡ true → is_there (about edit) lines ≡ false → SoundFrom [] None lines → SoundFrom [] None (put_in edit lines)
 unfolding put_in
-put-sound (SetModule path) lines good fit none sound = sound
-put-sound (SetGo text) lines good fit none sound =
+put-sound (Set (ModuleIs path)) lines good fit none sound = sound
+put-sound (Set (GoIs text)) lines good fit none sound =
     let plain_text = go-feed text good in
     let arguments : List Placed = made_word text ∷ [] in
     let are : AreArguments arguments = one-are text plain_text in
@@ -246,19 +245,16 @@ put-sound (SetGo text) lines good fit none sound =
     after-first-sound is_module (DeclaresGo text) (single (codes "go") arguments) lines
     (single-fits (codes "go") ForGo arguments (DeclaresGo text) go-named refl (go-says text plain_text) alone)
     (go-kinds text good (directives Strict (plain_lines lines)) (none-there is_go lines none)) sound
-put-sound (SetRequire p) lines good fit none sound =
+put-sound (Set (RequireAt p)) lines good fit none sound =
     added-sound verb.Require (pair_words p) (Requires p) lines (addition verb.Require (pair_words p) (Requires p) (pair-are p good) (require-says p good)) (require-kinds p (directives Strict (plain_lines lines)) good fit) sound
-put-sound (DropRequire path) lines good fit none sound = sound
-put-sound (AddExclude p) lines good fit none sound =
+put-sound (Drop t) lines good fit none sound = sound
+put-sound (Add (Exclude p)) lines good fit none sound =
     added-sound verb.Exclude (pair_words p) (Excludes p) lines (addition verb.Exclude (pair_words p) (Excludes p) (pair-are p good) (exclude-says p good)) (exclude-kinds p (directives Strict (plain_lines lines)) good fit) sound
-put-sound (DropExclude p) lines good fit none sound = sound
-put-sound (SetReplace r) lines good fit none sound =
+put-sound (Set (ReplaceWith r)) lines good fit none sound =
     added-sound verb.Replace (replace_words r) (Replaces r) lines (addition verb.Replace (replace_words r) (Replaces r) (replace-are r good.0 good.1) (replace-says r good.0 good.1))
     (replace-kinds r good.0 good.1 fit (directives Strict (plain_lines lines)) (no-conflicts r (directives Strict (plain_lines lines)) (none-there (is_replaced_by r.0) lines none))) sound
-put-sound (DropReplace left) lines good fit none sound = sound
-put-sound (AddRetract ends) lines good fit none sound =
+put-sound (Add (Retract ends)) lines good fit none sound =
     added-sound verb.Retract (interval_words ends) (Retracts ends) lines (addition verb.Retract (interval_words ends) (Retracts ends) (ends-are ends good) (ends-says ends good)) (ends-kinds ends (directives Strict (plain_lines lines)) good) sound
-put-sound (DropRetract ends) lines good fit none sound = sound
 
 pass-sound : (edit : Edit) (lines : List (Line Placed)) → IsSoundEdit edit → is_fit edit ≡ true → SoundFrom [] None lines → SoundFrom [] None (edited_by_pass edit lines)
 unfolding edited_by_pass

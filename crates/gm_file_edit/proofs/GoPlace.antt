@@ -7,7 +7,7 @@ use Rattle.gm_syntax.specs.Document.{Line, Blank, Comment, Open, Close, Entry}
 use Rattle.gm_file.specs.Directives.{Directive, block_after_line, block_after_lines}
 use Rattle.gm_file.specs.Faults.{is_go, is_module}
 use Rattle.gm_file_edit.specs.declared.adding.Spot.{Spot}
-use Rattle.gm_file_edit.specs.Edits.{SetGo}
+use Rattle.gm_file_edit.specs.Edits.{Set, GoIs}
 use Rattle.gm_file_edit.specs.About.{about}
 use Rattle.gm_file_edit.specs.Adding.{after_first_that, close_len, insert_at_spot, past_block, spot_after_first}
 use Rattle.gm_file_edit.specs.Edited.{edited, new_go}
@@ -70,17 +70,17 @@ past-inside front inner back line last e loose =
     ∙ ap (λ (n : ℕ). suc (length front) + n) (to-close inner back last loose)
     ∙ length-past front inner line)
 
-pass-go : (text : List ℕ) (lines : List (Line Placed)) → list_any is_go (directives_of lines) ≡ false → edited_by_pass (SetGo text) lines ≡ after_first_that is_module (new_go text) lines
+pass-go : (text : List ℕ) (lines : List (Line Placed)) → list_any is_go (directives_of lines) ≡ false → edited_by_pass (Set (GoIs text)) lines ≡ after_first_that is_module (new_go text) lines
 unfolding edited_by_pass put_in
 pass-go text lines none =
-    let absent : is_there (about (SetGo text)) lines ≡ false = there-said is_go lines ∙ none in
+    let absent : is_there (about (Set (GoIs text))) lines ≡ false = there-said is_go lines ∙ none in
     rw absent refl
 
-edited-go : (text : List ℕ) (lines : List (Line Placed)) → list_any is_go (directives_of lines) ≡ false → edited (SetGo text) lines ≡ after_first_that is_module (new_go text) lines
-edited-go text lines none = edited-is-pass (SetGo text) lines ∙ pass-go text lines none
+edited-go : (text : List ℕ) (lines : List (Line Placed)) → list_any is_go (directives_of lines) ≡ false → edited (Set (GoIs text)) lines ≡ after_first_that is_module (new_go text) lines
+edited-go text lines none = edited-is-pass (Set (GoIs text)) lines ∙ pass-go text lines none
 
 go-placed : (text : List ℕ) (front back : List (Line Placed)) (line : Line Placed) → IsFirstModule front line → list_any is_go (directives_of (front ++ line ∷ back)) ≡ false
-    → edited (SetGo text) (front ++ line ∷ back) ≡ put_by (front ++ line ∷ back) (new_go text) (past_block (front ++ line ∷ back) (past None front))
+    → edited (Set (GoIs text)) (front ++ line ∷ back) ≡ put_by (front ++ line ∷ back) (new_go text) (past_block (front ++ line ∷ back) (past None front))
 unfolding after_first_that
 go-placed text front back line first none =
     edited-go text (front ++ line ∷ back) none ∙ ap (insert_at_spot (new_go text) (front ++ line ∷ back)) (first-spot is_module None front back line first.none_earlier first.is_module_line)

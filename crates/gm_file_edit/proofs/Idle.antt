@@ -6,7 +6,7 @@ use Rattle.std.proofs.lemmas.Bool.{cases_Bool}
 use Rattle.gm_syntax.specs.Tokens.{Placed}
 use Rattle.gm_syntax.specs.Document.{Line}
 use Rattle.gm_file.specs.Directives.{Directive}
-use Rattle.gm_file_edit.specs.Edits.{Edit, SetModule, SetGo, SetRequire, DropRequire, AddExclude, DropExclude, SetReplace, DropReplace, AddRetract, DropRetract}
+use Rattle.gm_file_edit.specs.Edits.{Edit, Set, Drop, Add}
 use Rattle.gm_file_edit.specs.About.{about}
 use Rattle.gm_file_edit.specs.Pass.{changed, edited_by_pass, put_in}
 use Rattle.gm_file_edit.specs.Edited.{edited}
@@ -23,16 +23,9 @@ there-said test lines = there-is test None lines ∙ ap (list_any test) (sym (fi
 
 pub drop-puts-nothing : (edit : Edit) (lines : List (Line Placed)) → is_drop edit ≡ true → put_in edit lines ≡ lines
 unfolding put_in
-drop-puts-nothing (SetModule path) lines e = absurd cc
-drop-puts-nothing (SetGo text) lines e = absurd cc
-drop-puts-nothing (SetRequire p) lines e = absurd cc
-drop-puts-nothing (DropRequire path) lines e = refl
-drop-puts-nothing (AddExclude p) lines e = absurd cc
-drop-puts-nothing (DropExclude p) lines e = refl
-drop-puts-nothing (SetReplace r) lines e = absurd cc
-drop-puts-nothing (DropReplace left) lines e = refl
-drop-puts-nothing (AddRetract ends) lines e = absurd cc
-drop-puts-nothing (DropRetract ends) lines e = refl
+drop-puts-nothing (Set s) lines e = absurd cc
+drop-puts-nothing (Drop t) lines e = refl
+drop-puts-nothing (Add a) lines e = absurd cc
 
 idle-pass : (edit : Edit) (lines : List (Line Placed)) → is_drop edit ≡ true → list_any (about edit) (directives_of lines) ≡ false → edited_by_pass edit lines ≡ lines
 unfolding edited_by_pass
@@ -45,16 +38,9 @@ idle-drop edit lines drop none = edited-is-pass edit lines ∙ idle-pass edit li
 
 addition-changes-nothing : (edit : Edit) (lines : List (Line Placed)) (d : Directive) → added_by edit ≡ Some d → changed edit lines ≡ lines
 unfolding changed
-addition-changes-nothing (SetModule path) lines d e = absurd cc
-addition-changes-nothing (SetGo text) lines d e = absurd cc
-addition-changes-nothing (SetRequire p) lines d e = absurd cc
-addition-changes-nothing (DropRequire path) lines d e = absurd cc
-addition-changes-nothing (AddExclude p) lines d e = refl
-addition-changes-nothing (DropExclude p) lines d e = absurd cc
-addition-changes-nothing (SetReplace r) lines d e = absurd cc
-addition-changes-nothing (DropReplace left) lines d e = absurd cc
-addition-changes-nothing (AddRetract ends) lines d e = refl
-addition-changes-nothing (DropRetract ends) lines d e = absurd cc
+addition-changes-nothing (Set s) lines d e = absurd cc
+addition-changes-nothing (Drop t) lines d e = absurd cc
+addition-changes-nothing (Add a) lines d e = refl
 
 addition-pass : (edit : Edit) (lines : List (Line Placed)) (d : Directive) → added_by edit ≡ Some d → list_any (about edit) (directives_of lines) ≡ true → edited_by_pass edit lines ≡ lines
 unfolding edited_by_pass

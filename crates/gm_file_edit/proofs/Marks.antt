@@ -14,7 +14,7 @@ use Rattle.gm_file_edit.specs.Holding.{directive_at, passes}
 use Rattle.gm_file_edit.specs.About.{about}
 use Rattle.gm_file_edit.specs.Pass.{changed, edited_by_pass, put_in}
 use Rattle.gm_file_edit.specs.Edited.{edited}
-use Rattle.gm_file_edit.specs.Edits.{Edit, SetModule, SetGo, SetRequire, DropRequire, AddExclude, DropExclude, SetReplace, DropReplace, AddRetract, DropRetract}
+use Rattle.gm_file_edit.specs.Edits.{Edit, Set, Drop, Add}
 use Rattle.gm_file_edit.specs.Kinds.{is_drop, set_by}
 use Rattle.gm_file_edit.specs.Renewing.{made_new}
 use Rattle.gm_file_edit.specs.Marks.{marks_from}
@@ -230,42 +230,21 @@ renewed-marked test new lines lt = ap (remaining_from false None) (renewing-mark
 
 pub sets-changed : (edit : Edit) (lines : List (Line Placed)) → is_some (set_by edit) ≡ true → changed edit lines ≡ renewed (about edit) (made_new edit) lines
 unfolding changed
-sets-changed (SetModule path) lines e = refl
-sets-changed (SetGo text) lines e = refl
-sets-changed (SetRequire p) lines e = refl
-sets-changed (DropRequire path) lines e = absurd cc
-sets-changed (AddExclude p) lines e = absurd cc
-sets-changed (DropExclude p) lines e = absurd cc
-sets-changed (SetReplace r) lines e = refl
-sets-changed (DropReplace left) lines e = absurd cc
-sets-changed (AddRetract ends) lines e = absurd cc
-sets-changed (DropRetract ends) lines e = absurd cc
+sets-changed (Set s) lines e = refl
+sets-changed (Drop t) lines e = absurd cc
+sets-changed (Add a) lines e = absurd cc
 
 pub drops-changed : (edit : Edit) (lines : List (Line Placed)) → is_drop edit ≡ true → changed edit lines ≡ dropped (about edit) lines
 unfolding changed
-drops-changed (SetModule path) lines e = absurd cc
-drops-changed (SetGo text) lines e = absurd cc
-drops-changed (SetRequire p) lines e = absurd cc
-drops-changed (DropRequire path) lines e = refl
-drops-changed (AddExclude p) lines e = absurd cc
-drops-changed (DropExclude p) lines e = refl
-drops-changed (SetReplace r) lines e = absurd cc
-drops-changed (DropReplace left) lines e = refl
-drops-changed (AddRetract ends) lines e = absurd cc
-drops-changed (DropRetract ends) lines e = refl
+drops-changed (Set s) lines e = absurd cc
+drops-changed (Drop t) lines e = refl
+drops-changed (Add a) lines e = absurd cc
 
 pub adds-changed : (edit : Edit) (lines : List (Line Placed)) → is_some (set_by edit) ≡ false → is_drop edit ≡ false → changed edit lines ≡ lines
 unfolding changed
-adds-changed (SetModule path) lines e f = absurd cc
-adds-changed (SetGo text) lines e f = absurd cc
-adds-changed (SetRequire p) lines e f = absurd cc
-adds-changed (DropRequire path) lines e f = absurd cc
-adds-changed (AddExclude p) lines e f = refl
-adds-changed (DropExclude p) lines e f = absurd cc
-adds-changed (SetReplace r) lines e f = absurd cc
-adds-changed (DropReplace left) lines e f = absurd cc
-adds-changed (AddRetract ends) lines e f = refl
-adds-changed (DropRetract ends) lines e f = absurd cc
+adds-changed (Set s) lines e f = absurd cc
+adds-changed (Drop t) lines e f = absurd cc
+adds-changed (Add a) lines e f = refl
 
 pass-there : (edit : Edit) (lines : List (Line Placed)) → first_of (marks_from (about edit) None lines) < length lines → edited_by_pass edit lines ≡ changed edit lines
 unfolding edited_by_pass

@@ -16,7 +16,7 @@ use Rattle.gm_file.specs.Directives.{Directive, Excludes, Left, Pair, Replaces, 
 use Rattle.gm_file.specs.Faults.{is_same_left, is_same_version}
 use Rattle.gm_file.specs.Values.{argument, argument_of_kind, both}
 use Rattle.gm_file_edit.specs.About.{about, excludes_pair, is_covered_by, is_replaced_by, replaces_left, retracts_ends}
-use Rattle.gm_file_edit.specs.Edits.{Edit, SetModule, SetGo, SetRequire, DropRequire, AddExclude, DropExclude, SetReplace, DropReplace, AddRetract, DropRetract}
+use Rattle.gm_file_edit.specs.Edits.{Edit, Set, ModuleIs, GoIs, RequireAt, Drop, AnyRequire, Add, Exclude, AnyExclude, ReplaceWith, AnyReplace, Retract, AnyRetract}
 use Rattle.gm_file_edit.specs.Holding.{directive_at, passes}
 use Rattle.gm_file_edit.specs.Keys.{ends_number, joined, key_of, key_with, left_number, left_number_of, may_be_about, may_concern, may_equal, may_spell, number_at, number_by_kind, pair_number, scope_if, scope_of, sought_of, sought_of_left, target_by_kind, target_number, text_number}
 use Rattle.gm_file_edit.specs.Targets.{is_first, is_text, verb_of}
@@ -269,16 +269,16 @@ ends-other ends (a ∷ v ∷ b ∷ w ∷ c ∷ d ∷ words) off = refl
 -- arguments with other numbers
 arguments-other : (edit : Edit) (words : List Placed) → may_be_about (sought_of edit) (number_at (slice_get words 0)) (target_of words) ≡ false → passes (about edit) (directive_of (verb_about edit) (words_of words)) ≡ false
 unfolding directive_of
-arguments-other (SetModule path) words off = absurd cc
-arguments-other (SetGo text) words off = absurd cc
-arguments-other (SetRequire p) words off = required p.0 (words_of words) (first-other p.0 words off)
-arguments-other (DropRequire path) words off = required path (words_of words) (first-other path words off)
-arguments-other (AddExclude p) words off = pair-other p words off
-arguments-other (DropExclude p) words off = pair-other p words off
-arguments-other (SetReplace r) words off = covered-other r.0 r.0.version refl words off
-arguments-other (DropReplace left) words off = left-other left (replaces_left left) (λ other right. refl) words off
-arguments-other (AddRetract ends) words off = ends-other ends words off
-arguments-other (DropRetract ends) words off = ends-other ends words off
+arguments-other (Set (ModuleIs path)) words off = absurd cc
+arguments-other (Set (GoIs text)) words off = absurd cc
+arguments-other (Set (RequireAt p)) words off = required p.0 (words_of words) (first-other p.0 words off)
+arguments-other (Drop (AnyRequire path)) words off = required path (words_of words) (first-other path words off)
+arguments-other (Add (Exclude p)) words off = pair-other p words off
+arguments-other (Drop (AnyExclude p)) words off = pair-other p words off
+arguments-other (Set (ReplaceWith r)) words off = covered-other r.0 r.0.version refl words off
+arguments-other (Drop (AnyReplace left)) words off = left-other left (replaces_left left) (λ other right. refl) words off
+arguments-other (Add (Retract ends)) words off = ends-other ends words off
+arguments-other (Drop (AnyRetract ends)) words off = ends-other ends words off
 
 own-other : (edit : Edit) (text : List ℕ) (words : List Placed) → bytes_eq text (verb_of edit) ≡ true → may_be_about (sought_of edit) (number_at (slice_get words 0)) (target_of words) ≡ false
     → passes (about edit) (directive_of (main_verb text) (words_of words)) ≡ false

@@ -13,12 +13,12 @@ use Rattle.gm_syntax.specs.LineViews.{plain, plain_lines}
 use Rattle.gm_syntax.proofs.Edits.{map-insert}
 use Rattle.gm_file.specs.Directives.{Strict, Directive, Pair, Right, Folder, Module, Replacing, block_after_line, directive_in, item_at}
 use Rattle.gm_file.specs.Faults.{is_go, is_module}
-use Rattle.gm_file_edit.specs.Edits.{Edit, SetModule, SetGo, SetRequire, DropRequire, AddExclude, DropExclude, SetReplace, DropReplace, AddRetract, DropRetract}
+use Rattle.gm_file_edit.specs.Edits.{Edit, Set, ModuleIs, GoIs, RequireAt, Drop, Add, Exclude, ReplaceWith, Retract}
 use Rattle.gm_file_edit.specs.NewWords.{entry_at, interval_words, left_words, left_words_of, made_mark, made_word, pair_words, replace_words, right_words, single, unplaced}
 use Rattle.gm_file_edit.specs.Fates.{Begun, Fate, begin, block_lines, dropped, dropping_from, is_emptied, kept, leaves_nothing, remaining_from, renewed, renewing_from, with_line}
 use Rattle.gm_file_edit.specs.Holding.{directive_at, passes, word_of}
 use Rattle.gm_file_edit.specs.Renewing.{before_arguments, with_arguments, with_last}
-use Rattle.gm_file_edit.specs.About.{about, excludes_pair, is_replaced_by, replaces_left, requires_path, retracts_ends}
+use Rattle.gm_file_edit.specs.About.{about, is_replaced_by, requires_path}
 use Rattle.gm_file_edit.specs.Searching.{is_there, is_there_from}
 use Rattle.gm_file_edit.specs.Adding.{added, added_at, after_first_that, spot_after_first, spot_after_last, spot_after_line, close_len, further, past_block, insert_at_spot}
 use Rattle.gm_file_edit.specs.Verbs.{is_exclude, is_replace, is_require, is_retract}
@@ -348,29 +348,22 @@ behind-first-loose test new lines are = ap (insert_at_spot new (loose_lines line
 
 changed-loose : (edit : Edit) (lines : List (Line Placed)) → changed edit (loose_lines lines) ≡ loose_lines (changed edit lines)
 unfolding changed
-changed-loose (SetModule path) lines = renewed-loose is_module (with_last path) (last-blind path) lines
-changed-loose (SetGo text) lines = renewed-loose is_go (with_last text) (last-blind text) lines
-changed-loose (SetRequire p) lines = renewed-loose (requires_path p.0) (with_last p.1) (last-blind p.1) lines
-changed-loose (DropRequire path) lines = dropped-loose (requires_path path) lines
-changed-loose (AddExclude p) lines = refl
-changed-loose (DropExclude p) lines = dropped-loose (excludes_pair p) lines
-changed-loose (SetReplace r) lines = renewed-loose (is_replaced_by r.0) (with_arguments (replace_words r)) (arguments-blind (replace_words r) (replace-are r)) lines
-changed-loose (DropReplace left) lines = dropped-loose (replaces_left left) lines
-changed-loose (AddRetract ends) lines = refl
-changed-loose (DropRetract ends) lines = dropped-loose (retracts_ends ends) lines
+changed-loose (Set (ModuleIs path)) lines = renewed-loose is_module (with_last path) (last-blind path) lines
+changed-loose (Set (GoIs text)) lines = renewed-loose is_go (with_last text) (last-blind text) lines
+changed-loose (Set (RequireAt p)) lines = renewed-loose (requires_path p.0) (with_last p.1) (last-blind p.1) lines
+changed-loose (Drop t) lines = dropped-loose (about (Drop t)) lines
+changed-loose (Add a) lines = refl
+changed-loose (Set (ReplaceWith r)) lines = renewed-loose (is_replaced_by r.0) (with_arguments (replace_words r)) (arguments-blind (replace_words r) (replace-are r)) lines
 
 put-in-loose : (edit : Edit) (lines : List (Line Placed)) → put_in edit (loose_lines lines) ≡ loose_lines (put_in edit lines)
 unfolding put_in
-put-in-loose (SetModule path) lines = refl
-put-in-loose (SetGo text) lines = behind-first-loose is_module (Blank ∷ single (codes "go") (made_word text ∷ []) ∷ []) lines refl
-put-in-loose (SetRequire p) lines = added-loose is_require (codes "require") (pair_words p) refl lines
-put-in-loose (DropRequire path) lines = refl
-put-in-loose (AddExclude p) lines = added-loose is_exclude (codes "exclude") (pair_words p) refl lines
-put-in-loose (DropExclude p) lines = refl
-put-in-loose (SetReplace r) lines = added-loose is_replace (codes "replace") (replace_words r) (replace-are r) lines
-put-in-loose (DropReplace left) lines = refl
-put-in-loose (AddRetract ends) lines = added-loose is_retract (codes "retract") (interval_words ends) (interval-are ends) lines
-put-in-loose (DropRetract ends) lines = refl
+put-in-loose (Set (ModuleIs path)) lines = refl
+put-in-loose (Set (GoIs text)) lines = behind-first-loose is_module (Blank ∷ single (codes "go") (made_word text ∷ []) ∷ []) lines refl
+put-in-loose (Set (RequireAt p)) lines = added-loose is_require (codes "require") (pair_words p) refl lines
+put-in-loose (Drop t) lines = refl
+put-in-loose (Add (Exclude p)) lines = added-loose is_exclude (codes "exclude") (pair_words p) refl lines
+put-in-loose (Set (ReplaceWith r)) lines = added-loose is_replace (codes "replace") (replace_words r) (replace-are r) lines
+put-in-loose (Add (Retract ends)) lines = added-loose is_retract (codes "retract") (interval_words ends) (interval-are ends) lines
 
 pass-loose : (edit : Edit) (lines : List (Line Placed)) → edited_by_pass edit (loose_lines lines) ≡ loose_lines (edited_by_pass edit lines)
 unfolding edited_by_pass

@@ -12,8 +12,8 @@ use Rattle.gm_syntax.specs.Document.{Line}
 use Rattle.gm_file.specs.Directives.{Pair, Left, Replacing, Directive, DeclaresModule, DeclaresGo, Requires, Excludes, Replaces, Retracts, ForGo, block_after_line}
 use Rattle.gm_file.specs.Faults.{is_go, is_module}
 use Rattle.gm_file_edit.specs.declared.adding.AddedVerb.TheVariants as verb
-use Rattle.gm_file_edit.specs.Edits.{Edit, SetModule, SetGo, SetRequire, DropRequire, AddExclude, DropExclude, SetReplace, DropReplace, AddRetract, DropRetract}
-use Rattle.gm_file_edit.specs.About.{about, excludes_pair, is_covered_by, is_replaced_by, is_same_pair, replaces_left, requires_path, retracts_ends}
+use Rattle.gm_file_edit.specs.Edits.{Edit, Set, ModuleIs, GoIs, RequireAt, Drop, Add, Exclude, ReplaceWith, Retract}
+use Rattle.gm_file_edit.specs.About.{about, excludes_pair, is_covered_by, is_replaced_by, is_same_pair, requires_path, retracts_ends}
 use Rattle.gm_file_edit.specs.Pass.{changed, edited_by_pass, put_in}
 use Rattle.gm_file_edit.specs.Kinds.{added_by, is_drop, is_fit, set_by}
 use Rattle.gm_file_edit.specs.Holding.{directive_at, passes}
@@ -76,7 +76,7 @@ module-there P lines sound none = absurd (true≢false (sym (declares [] None li
 
 -- ---- if no entry is targeted
 
-go-put : (text : List ℕ) (lines : List (Line Placed)) → IsSoundEdit (SetGo text) → SoundFrom [] None lines → IsPutIn (DeclaresGo text) (held_from None lines) (held_from None (put_in (SetGo text) lines))
+go-put : (text : List ℕ) (lines : List (Line Placed)) → IsSoundEdit (Set (GoIs text)) → SoundFrom [] None lines → IsPutIn (DeclaresGo text) (held_from None lines) (held_from None (put_in (Set (GoIs text)) lines))
 unfolding put_in
 go-put text lines good sound =
     let plain_text = go-feed text good in
@@ -85,20 +85,20 @@ go-put text lines good sound =
     let alone = entry-alone (codes "go") arguments (no-feed (λ b. not (b == 10)) refl (codes "go") refl) are in
     after-first-put is_module (DeclaresGo text) (single (codes "go") arguments) lines (single-fits (codes "go") ForGo arguments (DeclaresGo text) go-named refl (go-says text plain_text) alone) sound
 
-require-put : (p : Pair) (lines : List (Line Placed)) → IsPairOfNames p → SoundFrom [] None lines → IsPutIn (Requires p) (held_from None lines) (held_from None (put_in (SetRequire p) lines))
+require-put : (p : Pair) (lines : List (Line Placed)) → IsPairOfNames p → SoundFrom [] None lines → IsPutIn (Requires p) (held_from None lines) (held_from None (put_in (Set (RequireAt p)) lines))
 unfolding put_in
 require-put p lines good sound = added-put verb.Require (pair_words p) (Requires p) lines (addition verb.Require (pair_words p) (Requires p) (pair-are p good) (require-says p good)) sound
 
-exclude-put : (p : Pair) (lines : List (Line Placed)) → IsPairOfNames p → SoundFrom [] None lines → IsPutIn (Excludes p) (held_from None lines) (held_from None (put_in (AddExclude p) lines))
+exclude-put : (p : Pair) (lines : List (Line Placed)) → IsPairOfNames p → SoundFrom [] None lines → IsPutIn (Excludes p) (held_from None lines) (held_from None (put_in (Add (Exclude p)) lines))
 unfolding put_in
 exclude-put p lines good sound = added-put verb.Exclude (pair_words p) (Excludes p) lines (addition verb.Exclude (pair_words p) (Excludes p) (pair-are p good) (exclude-says p good)) sound
 
-replace-put : (r : Replacing) (lines : List (Line Placed)) → IsSoundLeft r.0 → IsSoundRight r.1 → SoundFrom [] None lines → IsPutIn (Replaces r) (held_from None lines) (held_from None (put_in (SetReplace r) lines))
+replace-put : (r : Replacing) (lines : List (Line Placed)) → IsSoundLeft r.0 → IsSoundRight r.1 → SoundFrom [] None lines → IsPutIn (Replaces r) (held_from None lines) (held_from None (put_in (Set (ReplaceWith r)) lines))
 unfolding put_in
 replace-put r lines left right sound =
     added-put verb.Replace (replace_words r) (Replaces r) lines (addition verb.Replace (replace_words r) (Replaces r) (replace-are r left right) (replace-says r left right)) sound
 
-retract-put : (ends : Pair) (lines : List (Line Placed)) → AreVersions ends → SoundFrom [] None lines → IsPutIn (Retracts ends) (held_from None lines) (held_from None (put_in (AddRetract ends) lines))
+retract-put : (ends : Pair) (lines : List (Line Placed)) → AreVersions ends → SoundFrom [] None lines → IsPutIn (Retracts ends) (held_from None lines) (held_from None (put_in (Add (Retract ends)) lines))
 unfolding put_in
 retract-put ends lines good sound =
     added-put verb.Retract (interval_words ends) (Retracts ends) lines (addition verb.Retract (interval_words ends) (Retracts ends) (ends-are ends good) (ends-says ends good)) sound
@@ -111,30 +111,23 @@ drop-others test lines after is = ap (filter (others test)) is ∙ others-twice 
 changed-others : (edit : Edit) (lines : List (Line Placed)) → IsSoundEdit edit → is_fit edit ≡ true → SoundFrom [] None lines
     → filter (others (about edit)) (held_from None (changed edit lines)) ≡ filter (others (about edit)) (held_from None lines)
 unfolding changed
-changed-others (SetModule path) lines good fit sound = let by = module-renewal path good in renewed-others is_module (DeclaresModule path) (with_last path) refl by.made lines sound
-changed-others (SetGo text) lines good fit sound = let by = go-renewal text good in renewed-others is_go (DeclaresGo text) (with_last text) refl by.made lines sound
-changed-others (SetRequire p) lines good fit sound = let by = require-renewal p good fit in renewed-others (requires_path p.0) (Requires p) (with_last p.1) (text-itself p.0) by.made lines sound
-changed-others (DropRequire path) lines good fit sound = drop-others (requires_path path) lines _ (dropped-held (requires_path path) lines)
-changed-others (AddExclude p) lines good fit sound = refl
-changed-others (DropExclude p) lines good fit sound = drop-others (excludes_pair p) lines _ (dropped-held (excludes_pair p) lines)
-changed-others (SetReplace r) lines good fit sound =
+changed-others (Set (ModuleIs path)) lines good fit sound = let by = module-renewal path good in renewed-others is_module (DeclaresModule path) (with_last path) refl by.made lines sound
+changed-others (Set (GoIs text)) lines good fit sound = let by = go-renewal text good in renewed-others is_go (DeclaresGo text) (with_last text) refl by.made lines sound
+changed-others (Set (RequireAt p)) lines good fit sound = let by = require-renewal p good fit in renewed-others (requires_path p.0) (Requires p) (with_last p.1) (text-itself p.0) by.made lines sound
+changed-others (Drop t) lines good fit sound = drop-others (about (Drop t)) lines _ (dropped-held (about (Drop t)) lines)
+changed-others (Add a) lines good fit sound = refl
+changed-others (Set (ReplaceWith r)) lines good fit sound =
     let by = replace-renewal r good.0 good.1 fit in renewed-others (is_replaced_by r.0) (Replaces r) (with_arguments (replace_words r)) (replace-itself r) by.made lines sound
-changed-others (DropReplace left) lines good fit sound = drop-others (replaces_left left) lines _ (dropped-held (replaces_left left) lines)
-changed-others (AddRetract ends) lines good fit sound = refl
-changed-others (DropRetract ends) lines good fit sound = drop-others (retracts_ends ends) lines _ (dropped-held (retracts_ends ends) lines)
 
 put-in-others : (edit : Edit) (lines : List (Line Placed)) → IsSoundEdit edit → SoundFrom [] None lines → filter (others (about edit)) (held_from None (put_in edit lines)) ≡ filter (others (about edit)) (held_from None lines)
 unfolding put_in
-put-in-others (SetModule path) lines good sound = refl
-put-in-others (SetGo text) lines good sound = put-others is_go (DeclaresGo text) (held_from None lines) _ refl (go-put text lines good sound)
-put-in-others (SetRequire p) lines good sound = put-others (requires_path p.0) (Requires p) (held_from None lines) _ (text-itself p.0) (require-put p lines good sound)
-put-in-others (DropRequire path) lines good sound = refl
-put-in-others (AddExclude p) lines good sound = put-others (excludes_pair p) (Excludes p) (held_from None lines) _ (pair-itself p) (exclude-put p lines good sound)
-put-in-others (DropExclude p) lines good sound = refl
-put-in-others (SetReplace r) lines good sound = put-others (is_replaced_by r.0) (Replaces r) (held_from None lines) _ (replace-itself r) (replace-put r lines good.0 good.1 sound)
-put-in-others (DropReplace left) lines good sound = refl
-put-in-others (AddRetract ends) lines good sound = put-others (retracts_ends ends) (Retracts ends) (held_from None lines) _ (pair-itself ends) (retract-put ends lines good sound)
-put-in-others (DropRetract ends) lines good sound = refl
+put-in-others (Set (ModuleIs path)) lines good sound = refl
+put-in-others (Set (GoIs text)) lines good sound = put-others is_go (DeclaresGo text) (held_from None lines) _ refl (go-put text lines good sound)
+put-in-others (Set (RequireAt p)) lines good sound = put-others (requires_path p.0) (Requires p) (held_from None lines) _ (text-itself p.0) (require-put p lines good sound)
+put-in-others (Drop t) lines good sound = refl
+put-in-others (Add (Exclude p)) lines good sound = put-others (excludes_pair p) (Excludes p) (held_from None lines) _ (pair-itself p) (exclude-put p lines good sound)
+put-in-others (Set (ReplaceWith r)) lines good sound = put-others (is_replaced_by r.0) (Replaces r) (held_from None lines) _ (replace-itself r) (replace-put r lines good.0 good.1 sound)
+put-in-others (Add (Retract ends)) lines good sound = put-others (retracts_ends ends) (Retracts ends) (held_from None lines) _ (pair-itself ends) (retract-put ends lines good sound)
 
 others-after : (edit : Edit) (lines : List (Line Placed)) → IsSoundEdit edit → is_fit edit ≡ true → SoundFrom [] None lines
     → filter (others (about edit)) (held_from None (edited_by_pass edit lines)) ≡ filter (others (about edit)) (held_from None lines)
@@ -148,29 +141,15 @@ others-after edit lines good fit sound = elim (cases_Bool (is_there (about edit)
 
 changed-gone : (edit : Edit) (lines : List (Line Placed)) → is_drop edit ≡ true → list_any (about edit) (held_from None (changed edit lines)) ≡ false
 unfolding changed
-changed-gone (DropRequire path) lines e = ap (list_any (requires_path path)) (dropped-held (requires_path path) lines) ∙ others-none (requires_path path) (held_from None lines)
-changed-gone (DropExclude p) lines e = ap (list_any (excludes_pair p)) (dropped-held (excludes_pair p) lines) ∙ others-none (excludes_pair p) (held_from None lines)
-changed-gone (DropReplace left) lines e = ap (list_any (replaces_left left)) (dropped-held (replaces_left left) lines) ∙ others-none (replaces_left left) (held_from None lines)
-changed-gone (DropRetract ends) lines e = ap (list_any (retracts_ends ends)) (dropped-held (retracts_ends ends) lines) ∙ others-none (retracts_ends ends) (held_from None lines)
-changed-gone (SetModule path) lines e = absurd cc
-changed-gone (SetGo text) lines e = absurd cc
-changed-gone (SetRequire p) lines e = absurd cc
-changed-gone (AddExclude p) lines e = absurd cc
-changed-gone (SetReplace r) lines e = absurd cc
-changed-gone (AddRetract ends) lines e = absurd cc
+changed-gone (Drop t) lines e = ap (list_any (about (Drop t))) (dropped-held (about (Drop t)) lines) ∙ others-none (about (Drop t)) (held_from None lines)
+changed-gone (Set s) lines e = absurd cc
+changed-gone (Add a) lines e = absurd cc
 
 drop-puts-nothing : (edit : Edit) (lines : List (Line Placed)) → is_drop edit ≡ true → put_in edit lines ≡ lines
 unfolding put_in
-drop-puts-nothing (DropRequire path) lines e = refl
-drop-puts-nothing (DropExclude p) lines e = refl
-drop-puts-nothing (DropReplace left) lines e = refl
-drop-puts-nothing (DropRetract ends) lines e = refl
-drop-puts-nothing (SetModule path) lines e = absurd cc
-drop-puts-nothing (SetGo text) lines e = absurd cc
-drop-puts-nothing (SetRequire p) lines e = absurd cc
-drop-puts-nothing (AddExclude p) lines e = absurd cc
-drop-puts-nothing (SetReplace r) lines e = absurd cc
-drop-puts-nothing (AddRetract ends) lines e = absurd cc
+drop-puts-nothing (Drop t) lines e = refl
+drop-puts-nothing (Set s) lines e = absurd cc
+drop-puts-nothing (Add a) lines e = absurd cc
 
 gone-after : (edit : Edit) (lines : List (Line Placed)) → is_drop edit ≡ true → list_any (about edit) (held_from None (edited_by_pass edit lines)) ≡ false
 unfolding edited_by_pass
@@ -184,47 +163,39 @@ gone-after edit lines e = elim (cases_Bool (is_there (about edit) lines)) [
 changed-alone : (edit : Edit) (lines : List (Line Placed)) (d : Directive) → IsSoundEdit edit → is_fit edit ≡ true → SoundFrom [] None lines → is_there (about edit) lines ≡ true → set_by edit ≡ Some d
     → filter (about edit) (held_from None (changed edit lines)) ≡ d ∷ []
 unfolding changed
-changed-alone (SetModule path) lines d good fit sound there e =
+changed-alone (Set (ModuleIs path)) lines d good fit sound there e =
     let by = module-renewal path good in
     let same : DeclaresModule path ≡ d = cc in
     renewed-alone is_module (DeclaresModule path) (with_last path) refl by.made lines sound there ∙ ap (λ (x : Directive). x ∷ []) same
-changed-alone (SetGo text) lines d good fit sound there e =
+changed-alone (Set (GoIs text)) lines d good fit sound there e =
     let by = go-renewal text good in
     let same : DeclaresGo text ≡ d = cc in
     renewed-alone is_go (DeclaresGo text) (with_last text) refl by.made lines sound there ∙ ap (λ (x : Directive). x ∷ []) same
-changed-alone (SetRequire p) lines d good fit sound there e =
+changed-alone (Set (RequireAt p)) lines d good fit sound there e =
     let by = require-renewal p good fit in
     let same : Requires p ≡ d = cc in
     renewed-alone (requires_path p.0) (Requires p) (with_last p.1) (text-itself p.0) by.made lines sound there ∙ ap (λ (x : Directive). x ∷ []) same
-changed-alone (SetReplace r) lines d good fit sound there e =
+changed-alone (Set (ReplaceWith r)) lines d good fit sound there e =
     let by = replace-renewal r good.0 good.1 fit in
     let same : Replaces r ≡ d = cc in
     renewed-alone (is_replaced_by r.0) (Replaces r) (with_arguments (replace_words r)) (replace-itself r) by.made lines sound there ∙ ap (λ (x : Directive). x ∷ []) same
-changed-alone (DropRequire path) lines d good fit sound there e = absurd cc
-changed-alone (AddExclude p) lines d good fit sound there e = absurd cc
-changed-alone (DropExclude p) lines d good fit sound there e = absurd cc
-changed-alone (DropReplace left) lines d good fit sound there e = absurd cc
-changed-alone (AddRetract ends) lines d good fit sound there e = absurd cc
-changed-alone (DropRetract ends) lines d good fit sound there e = absurd cc
+changed-alone (Drop t) lines d good fit sound there e = absurd cc
+changed-alone (Add a) lines d good fit sound there e = absurd cc
 
 put-in-alone : (edit : Edit) (lines : List (Line Placed)) (d : Directive) → IsSoundEdit edit → SoundFrom [] None lines → is_there (about edit) lines ≡ false → set_by edit ≡ Some d
     → filter (about edit) (held_from None (put_in edit lines)) ≡ d ∷ []
-put-in-alone (SetModule path) lines d good sound none e = module-there (filter (about (SetModule path)) (held_from None (put_in (SetModule path) lines)) ≡ d ∷ []) lines sound none
-put-in-alone (SetGo text) lines d good sound none e =
+put-in-alone (Set (ModuleIs path)) lines d good sound none e = module-there (filter (about (Set (ModuleIs path))) (held_from None (put_in (Set (ModuleIs path)) lines)) ≡ d ∷ []) lines sound none
+put-in-alone (Set (GoIs text)) lines d good sound none e =
     let same : DeclaresGo text ≡ d = cc in
     put-alone is_go (DeclaresGo text) (held_from None lines) _ refl (none-from is_go None lines none) (go-put text lines good sound) ∙ ap (λ (x : Directive). x ∷ []) same
-put-in-alone (SetRequire p) lines d good sound none e =
+put-in-alone (Set (RequireAt p)) lines d good sound none e =
     let same : Requires p ≡ d = cc in
     put-alone (requires_path p.0) (Requires p) (held_from None lines) _ (text-itself p.0) (none-from (requires_path p.0) None lines none) (require-put p lines good sound) ∙ ap (λ (x : Directive). x ∷ []) same
-put-in-alone (SetReplace r) lines d good sound none e =
+put-in-alone (Set (ReplaceWith r)) lines d good sound none e =
     let same : Replaces r ≡ d = cc in
     put-alone (is_replaced_by r.0) (Replaces r) (held_from None lines) _ (replace-itself r) (none-from (is_replaced_by r.0) None lines none) (replace-put r lines good.0 good.1 sound) ∙ ap (λ (x : Directive). x ∷ []) same
-put-in-alone (DropRequire path) lines d good sound none e = absurd cc
-put-in-alone (AddExclude p) lines d good sound none e = absurd cc
-put-in-alone (DropExclude p) lines d good sound none e = absurd cc
-put-in-alone (DropReplace left) lines d good sound none e = absurd cc
-put-in-alone (AddRetract ends) lines d good sound none e = absurd cc
-put-in-alone (DropRetract ends) lines d good sound none e = absurd cc
+put-in-alone (Drop t) lines d good sound none e = absurd cc
+put-in-alone (Add a) lines d good sound none e = absurd cc
 
 alone-after : (edit : Edit) (lines : List (Line Placed)) (d : Directive) → IsSoundEdit edit → is_fit edit ≡ true → SoundFrom [] None lines → set_by edit ≡ Some d
     → filter (about edit) (held_from None (edited_by_pass edit lines)) ≡ d ∷ []
@@ -238,35 +209,22 @@ alone-after edit lines d good fit sound e = elim (cases_Bool (is_there (about ed
 
 addition-changes-nothing : (edit : Edit) (lines : List (Line Placed)) (d : Directive) → added_by edit ≡ Some d → changed edit lines ≡ lines
 unfolding changed
-addition-changes-nothing (AddExclude p) lines d e = refl
-addition-changes-nothing (AddRetract ends) lines d e = refl
-addition-changes-nothing (SetModule path) lines d e = absurd cc
-addition-changes-nothing (SetGo text) lines d e = absurd cc
-addition-changes-nothing (SetRequire p) lines d e = absurd cc
-addition-changes-nothing (DropRequire path) lines d e = absurd cc
-addition-changes-nothing (DropExclude p) lines d e = absurd cc
-addition-changes-nothing (SetReplace r) lines d e = absurd cc
-addition-changes-nothing (DropReplace left) lines d e = absurd cc
-addition-changes-nothing (DropRetract ends) lines d e = absurd cc
+addition-changes-nothing (Add a) lines d e = refl
+addition-changes-nothing (Set s) lines d e = absurd cc
+addition-changes-nothing (Drop t) lines d e = absurd cc
 
 put-in-once : (edit : Edit) (lines : List (Line Placed)) (d : Directive) → IsSoundEdit edit → SoundFrom [] None lines → is_there (about edit) lines ≡ false → added_by edit ≡ Some d
     → filter (about edit) (held_from None (put_in edit lines)) ≡ d ∷ []
-put-in-once (AddExclude p) lines d good sound none e =
+put-in-once (Add (Exclude p)) lines d good sound none e =
     let test : Directive → Bool = excludes_pair p in
     let same : Excludes p ≡ d = cc in
     put-alone test (Excludes p) (held_from None lines) _ (pair-itself p) (none-from test None lines none) (exclude-put p lines good sound) ∙ ap (λ (x : Directive). x ∷ []) same
-put-in-once (AddRetract ends) lines d good sound none e =
+put-in-once (Add (Retract ends)) lines d good sound none e =
     let test : Directive → Bool = retracts_ends ends in
     let same : Retracts ends ≡ d = cc in
     put-alone test (Retracts ends) (held_from None lines) _ (pair-itself ends) (none-from test None lines none) (retract-put ends lines good sound) ∙ ap (λ (x : Directive). x ∷ []) same
-put-in-once (SetModule path) lines d good sound none e = absurd cc
-put-in-once (SetGo text) lines d good sound none e = absurd cc
-put-in-once (SetRequire p) lines d good sound none e = absurd cc
-put-in-once (DropRequire path) lines d good sound none e = absurd cc
-put-in-once (DropExclude p) lines d good sound none e = absurd cc
-put-in-once (SetReplace r) lines d good sound none e = absurd cc
-put-in-once (DropReplace left) lines d good sound none e = absurd cc
-put-in-once (DropRetract ends) lines d good sound none e = absurd cc
+put-in-once (Set s) lines d good sound none e = absurd cc
+put-in-once (Drop t) lines d good sound none e = absurd cc
 
 abbrev once_or_as_before : Edit → Directive → List Directive → List Directive
 once_or_as_before edit d said = if list_any (about edit) said then filter (about edit) said else d ∷ []

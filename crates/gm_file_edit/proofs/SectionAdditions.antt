@@ -85,8 +85,10 @@ after-last-is test verb arguments block (line ∷ lines) e = elim (cases_Bool (l
           | inl hit ↦ rw (hit, later) refl
           | inr miss ↦ rw miss refl
         ]
+
         placed : put_at (λ within. entry_at within verb arguments) (line ∷ lines) (spot_after_last test block (line ∷ lines)) ≡ line ∷ put_at (λ within. entry_at within verb arguments) lines (Some has.spot)
         placed = rw has.is refl
+
     by_none : list_any (holds test) (with_blocks_from (block_after_line block line) lines) ≡ false
         → after_last test verb arguments (with_blocks_from block (line ∷ lines)) ≡ put_at (λ within. entry_at within verb arguments) (line ∷ lines) (spot_after_last test block (line ∷ lines))
     by_none none = first ∙ sym placed
@@ -96,8 +98,10 @@ after-last-is test verb arguments block (line ∷ lines) e = elim (cases_Bool (l
           | inl hit ↦ hit
           | inr miss ↦ absurd (true≢false (sym e ∙ rw (miss, none) refl))
         ]
+
         first : after_last test verb arguments (with_blocks_from block (line ∷ lines)) ≡ line ∷ entry_at (is_some block) verb arguments ∷ lines
         first = rw (here, none) (ap (λ (ls : List (Line Placed)). line ∷ entry_at (is_some block) verb arguments ∷ ls) (lines-in-blocks (block_after_line block line) lines))
+
         placed : put_at (λ within. entry_at within verb arguments) (line ∷ lines) (spot_after_last test block (line ∷ lines)) ≡ line ∷ entry_at (is_some block) verb arguments ∷ lines
         placed = rw (no-spot test (block_after_line block line) lines none, here) refl
 

@@ -14,7 +14,7 @@ use Rattle.gm_file.specs.Values.{argument, both}
 use Rattle.gm_file.specs.Directives.{Verb, ForModule, ForGo, ForRequire, ForExclude, ForReplace, ForRetract, ForNothing, Unknown, Strict, Pair, pair, Left, Right, replacing, Directive, DeclaresModule, DeclaresGo, Requires, Excludes, Replaces, Retracts, Kept, Item, Silent, Opening, Saying, directive_in, directive_of, ends_of, is_arrow, is_empty_block, item_at, left_of, left_with, left_without, main_verb, one_of, pair_of, replacing_of, right_of}
 use Rattle.gm_file_edit.specs.About.{about, excludes_pair, is_replaced_by, replaces_left, requires_path, retracts_ends}
 use Rattle.gm_file.specs.Faults.{entry_kinds, is_go, is_module, item_kinds}
-use Rattle.gm_file_edit.specs.Edits.{Edit, SetModule, SetGo, SetRequire, DropRequire, AddExclude, DropExclude, SetReplace, DropReplace, AddRetract, DropRetract}
+use Rattle.gm_file_edit.specs.Edits.{Edit, Set, ModuleIs, GoIs, RequireAt, Drop, AnyRequire, Add, Exclude, AnyExclude, ReplaceWith, AnyReplace, Retract, AnyRetract}
 use Rattle.gm_file_edit.specs.Fates.{IsValidAt}
 use Rattle.gm_file_edit.specs.Holding.{directive_at, item_of, passes}
 use Rattle.gm_file_edit.specs.Adding.{is_of, verb_text}
@@ -37,16 +37,16 @@ verb_said Kept = ForNothing
 
 -- the verb of the directives that an operation targets
 abbrev pub verb_about : Edit → Verb
-verb_about (SetModule path) = ForModule
-verb_about (SetGo text) = ForGo
-verb_about (SetRequire p) = ForRequire
-verb_about (DropRequire path) = ForRequire
-verb_about (AddExclude p) = ForExclude
-verb_about (DropExclude p) = ForExclude
-verb_about (SetReplace r) = ForReplace
-verb_about (DropReplace left) = ForReplace
-verb_about (AddRetract ends) = ForRetract
-verb_about (DropRetract ends) = ForRetract
+verb_about (Set (ModuleIs path)) = ForModule
+verb_about (Set (GoIs text)) = ForGo
+verb_about (Set (RequireAt p)) = ForRequire
+verb_about (Drop (AnyRequire path)) = ForRequire
+verb_about (Add (Exclude p)) = ForExclude
+verb_about (Drop (AnyExclude p)) = ForExclude
+verb_about (Set (ReplaceWith r)) = ForReplace
+verb_about (Drop (AnyReplace left)) = ForReplace
+verb_about (Add (Retract ends)) = ForRetract
+verb_about (Drop (AnyRetract ends)) = ForRetract
 
 is-module-verb : (d : Directive) → is_module d ≡ true → verb_said d ≡ ForModule
 is-module-verb (DeclaresModule m) holds = refl
@@ -112,16 +112,16 @@ retracts-ends-verb ends (Retracts e) holds = refl
 retracts-ends-verb ends Kept holds = absurd cc
 
 about-verb : (edit : Edit) (d : Directive) → about edit d ≡ true → verb_said d ≡ verb_about edit
-about-verb (SetModule path) d holds = is-module-verb d holds
-about-verb (SetGo text) d holds = is-go-verb d holds
-about-verb (SetRequire p) d holds = requires-path-verb p.0 d holds
-about-verb (DropRequire path) d holds = requires-path-verb path d holds
-about-verb (AddExclude p) d holds = excludes-pair-verb p d holds
-about-verb (DropExclude p) d holds = excludes-pair-verb p d holds
-about-verb (SetReplace r) d holds = is-replaced-by-verb r.0 d holds
-about-verb (DropReplace left) d holds = replaces-left-verb left d holds
-about-verb (AddRetract ends) d holds = retracts-ends-verb ends d holds
-about-verb (DropRetract ends) d holds = retracts-ends-verb ends d holds
+about-verb (Set (ModuleIs path)) d holds = is-module-verb d holds
+about-verb (Set (GoIs text)) d holds = is-go-verb d holds
+about-verb (Set (RequireAt p)) d holds = requires-path-verb p.0 d holds
+about-verb (Drop (AnyRequire path)) d holds = requires-path-verb path d holds
+about-verb (Add (Exclude p)) d holds = excludes-pair-verb p d holds
+about-verb (Drop (AnyExclude p)) d holds = excludes-pair-verb p d holds
+about-verb (Set (ReplaceWith r)) d holds = is-replaced-by-verb r.0 d holds
+about-verb (Drop (AnyReplace left)) d holds = replaces-left-verb left d holds
+about-verb (Add (Retract ends)) d holds = retracts-ends-verb ends d holds
+about-verb (Drop (AnyRetract ends)) d holds = retracts-ends-verb ends d holds
 
 -- ---- the verb of an entry
 
@@ -166,16 +166,16 @@ spelled text =
     (chosen (bytes_eq text (codes "toolchain") || bytes_eq text (codes "godebug") || bytes_eq text (codes "tool") || bytes_eq text (codes "ignore")) ForNothing Unknown text (λ e. tt) tt))))))
 
 verb-spelled : (edit : Edit) (text : List ℕ) → Spells (verb_about edit) text → bytes_eq text (verb_of edit) ≡ true
-verb-spelled (SetModule path) text e = e
-verb-spelled (SetGo version) text e = e
-verb-spelled (SetRequire p) text e = e
-verb-spelled (DropRequire path) text e = e
-verb-spelled (AddExclude p) text e = e
-verb-spelled (DropExclude p) text e = e
-verb-spelled (SetReplace r) text e = e
-verb-spelled (DropReplace left) text e = e
-verb-spelled (AddRetract ends) text e = e
-verb-spelled (DropRetract ends) text e = e
+verb-spelled (Set (ModuleIs path)) name e = e
+verb-spelled (Set (GoIs text)) name e = e
+verb-spelled (Set (RequireAt p)) name e = e
+verb-spelled (Set (ReplaceWith r)) name e = e
+verb-spelled (Add (Exclude p)) name e = e
+verb-spelled (Add (Retract ends)) name e = e
+verb-spelled (Drop (AnyRequire path)) name e = e
+verb-spelled (Drop (AnyExclude p)) name e = e
+verb-spelled (Drop (AnyReplace left)) name e = e
+verb-spelled (Drop (AnyRetract ends)) name e = e
 
 none-passes : (edit : Edit) (text : List ℕ) (words : List Word) (o : Option Directive) → directive_of (main_verb text) words ≡ o → bytes_eq text (verb_of edit) ≡ false → passes (about edit) o ≡ false
 none-passes edit text words None is other = refl
@@ -255,16 +255,16 @@ replaced path test about_it only is words other =
 
 -- the verb of a text that spells the verb of an operation
 pub same-verb : (edit : Edit) → main_verb (verb_of edit) ≡ verb_about edit
-same-verb (SetModule path) = refl
-same-verb (SetGo text) = refl
-same-verb (SetRequire p) = refl
-same-verb (DropRequire path) = refl
-same-verb (AddExclude p) = refl
-same-verb (DropExclude p) = refl
-same-verb (SetReplace r) = refl
-same-verb (DropReplace left) = refl
-same-verb (AddRetract ends) = refl
-same-verb (DropRetract ends) = refl
+same-verb (Set (ModuleIs path)) = refl
+same-verb (Set (GoIs text)) = refl
+same-verb (Set (RequireAt p)) = refl
+same-verb (Set (ReplaceWith r)) = refl
+same-verb (Add (Exclude p)) = refl
+same-verb (Add (Retract ends)) = refl
+same-verb (Drop (AnyRequire path)) = refl
+same-verb (Drop (AnyExclude p)) = refl
+same-verb (Drop (AnyReplace left)) = refl
+same-verb (Drop (AnyRetract ends)) = refl
 
 -- ---- lines
 

@@ -12,7 +12,7 @@ use Rattle.gm_file.specs.Faults.{is_go, is_module}
 use Rattle.gm_file_edit.specs.declared.adding.AddedVerb.{AddedVerb}
 use Rattle.gm_file_edit.specs.declared.adding.AddedVerb.TheVariants as verb
 use Rattle.gm_file_edit.specs.declared.adding.Spot.{Spot}
-use Rattle.gm_file_edit.specs.Edits.{Edit, SetModule, SetGo, SetRequire, DropRequire, AddExclude, DropExclude, SetReplace, DropReplace, AddRetract, DropRetract}
+use Rattle.gm_file_edit.specs.Edits.{Edit, Set, ModuleIs, GoIs, RequireAt, Drop, Add, ReplaceWith}
 use Rattle.gm_file_edit.specs.About.{about}
 use Rattle.gm_file_edit.specs.Adding.{added, added_at, after_first_that, insert_at_spot, is_of, past_block, spot_after_first, spot_after_last, verb_text}
 use Rattle.gm_file_edit.specs.Pass.{changed, edited_by_pass, put_in}
@@ -20,7 +20,7 @@ use Rattle.gm_file_edit.specs.Edited.{edited}
 use Rattle.gm_file_edit.specs.Fates.{Fate, dropping_from, kept, remaining_from, renewing_from}
 use Rattle.gm_file_edit.specs.Holding.{directive_at, passes}
 use Rattle.gm_file_edit.specs.Laws.{directives_of}
-use Rattle.gm_file_edit.specs.Kinds.{set_by}
+use Rattle.gm_file_edit.specs.Kinds.{directive_added, directive_set, set_by}
 use Rattle.gm_file_edit.specs.NewWords.{entry_at, made_word, pair_words, replace_words, single}
 use Rattle.gm_file_edit.specs.Renewing.{made_new, with_arguments, with_last}
 use Rattle.gm_file_edit.specs.Searching.{is_there, is_there_from}
@@ -162,16 +162,12 @@ remaining-set test new sets lines = subst (AreSet test new) (sym (left-seats fal
 
 changed-set : (edit : Edit) (lines : List (Line Placed)) (d : Directive) → set_by edit ≡ Some d → LinesAreSet (about edit) (made_new edit) None (changed edit lines)
 unfolding changed
-changed-set (SetModule path) lines d sets = remaining-set (about (SetModule path)) (made_new (SetModule path)) (last-sets is_module path) lines
-changed-set (SetGo text) lines d sets = remaining-set (about (SetGo text)) (made_new (SetGo text)) (last-sets is_go text) lines
-changed-set (SetRequire p) lines d sets = remaining-set (about (SetRequire p)) (made_new (SetRequire p)) (last-sets (about (SetRequire p)) p.1) lines
-changed-set (SetReplace r) lines d sets = remaining-set (about (SetReplace r)) (made_new (SetReplace r)) (arguments-set (about (SetReplace r)) (replace_words r)) lines
-changed-set (DropRequire path) lines d sets = absurd cc
-changed-set (AddExclude p) lines d sets = absurd cc
-changed-set (DropExclude p) lines d sets = absurd cc
-changed-set (DropReplace left) lines d sets = absurd cc
-changed-set (AddRetract ends) lines d sets = absurd cc
-changed-set (DropRetract ends) lines d sets = absurd cc
+changed-set (Set (ModuleIs path)) lines d sets = remaining-set (about (Set (ModuleIs path))) (made_new (Set (ModuleIs path))) (last-sets is_module path) lines
+changed-set (Set (GoIs text)) lines d sets = remaining-set (about (Set (GoIs text))) (made_new (Set (GoIs text))) (last-sets is_go text) lines
+changed-set (Set (RequireAt p)) lines d sets = remaining-set (about (Set (RequireAt p))) (made_new (Set (RequireAt p))) (last-sets (about (Set (RequireAt p))) p.1) lines
+changed-set (Set (ReplaceWith r)) lines d sets = remaining-set (about (Set (ReplaceWith r))) (made_new (Set (ReplaceWith r))) (arguments-set (about (Set (ReplaceWith r))) (replace_words r)) lines
+changed-set (Drop t) lines d sets = absurd cc
+changed-set (Add a) lines d sets = absurd cc
 
 -- ---- the lines that a setting leaves, if it targets none
 
@@ -249,24 +245,20 @@ go-set text lines sound none = behind-set is_go (with_last text) (codes "go") (m
 
 put-set : (edit : Edit) (lines : List (Line Placed)) (d : Directive) → set_by edit ≡ Some d → SoundFrom [] None lines → is_there (about edit) lines ≡ false → LinesAreSet (about edit) (made_new edit) None (put_in edit lines)
 unfolding put_in
-put-set (SetModule path) lines d sets sound none = none-set is_module (made_new (SetModule path)) None lines none
-put-set (SetGo text) lines d sets sound none = go-set text lines sound none
-put-set (SetRequire p) lines d sets sound none = added-set (about (SetRequire p)) (made_new (SetRequire p)) verb.Require (pair_words p) lines require-entry sound none
+put-set (Set (ModuleIs path)) lines d sets sound none = none-set is_module (made_new (Set (ModuleIs path))) None lines none
+put-set (Set (GoIs text)) lines d sets sound none = go-set text lines sound none
+put-set (Set (RequireAt p)) lines d sets sound none = added-set (about (Set (RequireAt p))) (made_new (Set (RequireAt p))) verb.Require (pair_words p) lines require-entry sound none
   where
     require-entry : EntryIsSet (with_last p.1) (verb_text verb.Require) (pair_words p)
     require-entry None = refl
     require-entry (Some block) = refl
-put-set (SetReplace r) lines d sets sound none = added-set (about (SetReplace r)) (made_new (SetReplace r)) verb.Replace (replace_words r) lines replace-entry sound none
+put-set (Set (ReplaceWith r)) lines d sets sound none = added-set (about (Set (ReplaceWith r))) (made_new (Set (ReplaceWith r))) verb.Replace (replace_words r) lines replace-entry sound none
   where
     replace-entry : EntryIsSet (with_arguments (replace_words r)) (verb_text verb.Replace) (replace_words r)
     replace-entry None = refl
     replace-entry (Some block) = refl
-put-set (DropRequire path) lines d sets sound none = absurd cc
-put-set (AddExclude p) lines d sets sound none = absurd cc
-put-set (DropExclude p) lines d sets sound none = absurd cc
-put-set (DropReplace left) lines d sets sound none = absurd cc
-put-set (AddRetract ends) lines d sets sound none = absurd cc
-put-set (DropRetract ends) lines d sets sound none = absurd cc
+put-set (Drop t) lines d sets sound none = absurd cc
+put-set (Add a) lines d sets sound none = absurd cc
 
 pass-set : (edit : Edit) (lines : List (Line Placed)) (d : Directive) → set_by edit ≡ Some d → SoundFrom [] None lines → LinesAreSet (about edit) (made_new edit) None (edited_by_pass edit lines)
 unfolding edited_by_pass
@@ -308,16 +300,12 @@ stays test new d lines are alone = ap (remaining_from false None) (renewing-stay
 
 again-changes : (edit : Edit) (lines : List (Line Placed)) (d : Directive) → set_by edit ≡ Some d → LinesAreSet (about edit) (made_new edit) None lines → filter (about edit) (held_from None lines) ≡ d ∷ [] → changed edit lines ≡ lines
 unfolding changed
-again-changes (SetModule path) lines d sets are alone = stays (about (SetModule path)) (made_new (SetModule path)) d lines are alone
-again-changes (SetGo text) lines d sets are alone = stays (about (SetGo text)) (made_new (SetGo text)) d lines are alone
-again-changes (SetRequire p) lines d sets are alone = stays (about (SetRequire p)) (made_new (SetRequire p)) d lines are alone
-again-changes (SetReplace r) lines d sets are alone = stays (about (SetReplace r)) (made_new (SetReplace r)) d lines are alone
-again-changes (DropRequire path) lines d sets are alone = absurd cc
-again-changes (AddExclude p) lines d sets are alone = absurd cc
-again-changes (DropExclude p) lines d sets are alone = absurd cc
-again-changes (DropReplace left) lines d sets are alone = absurd cc
-again-changes (AddRetract ends) lines d sets are alone = absurd cc
-again-changes (DropRetract ends) lines d sets are alone = absurd cc
+again-changes (Set (ModuleIs path)) lines d sets are alone = stays (about (Set (ModuleIs path))) (made_new (Set (ModuleIs path))) d lines are alone
+again-changes (Set (GoIs text)) lines d sets are alone = stays (about (Set (GoIs text))) (made_new (Set (GoIs text))) d lines are alone
+again-changes (Set (RequireAt p)) lines d sets are alone = stays (about (Set (RequireAt p))) (made_new (Set (RequireAt p))) d lines are alone
+again-changes (Set (ReplaceWith r)) lines d sets are alone = stays (about (Set (ReplaceWith r))) (made_new (Set (ReplaceWith r))) d lines are alone
+again-changes (Drop t) lines d sets are alone = absurd cc
+again-changes (Add a) lines d sets are alone = absurd cc
 
 -- ---- the laws
 
@@ -337,13 +325,6 @@ second-setting edit lines d is sets =
     ∙ again-changes edit after d sets (edited-set edit lines d sets (sound-file lines is.2 is.3)) (ap (filter (about edit)) (sym (file-held after)) ∙ alone)
 
 pub second-operation : SecondOperationChangesNothing
-second-operation (SetModule path) lines is = second-setting (SetModule path) lines _ is refl
-second-operation (SetGo text) lines is = second-setting (SetGo text) lines _ is refl
-second-operation (SetRequire p) lines is = second-setting (SetRequire p) lines _ is refl
-second-operation (DropRequire path) lines is = second-drop (DropRequire path) lines refl
-second-operation (AddExclude p) lines is = second-addition (AddExclude p) lines _ is refl
-second-operation (DropExclude p) lines is = second-drop (DropExclude p) lines refl
-second-operation (SetReplace r) lines is = second-setting (SetReplace r) lines _ is refl
-second-operation (DropReplace left) lines is = second-drop (DropReplace left) lines refl
-second-operation (AddRetract ends) lines is = second-addition (AddRetract ends) lines _ is refl
-second-operation (DropRetract ends) lines is = second-drop (DropRetract ends) lines refl
+second-operation (Set s) lines is = second-setting (Set s) lines (directive_set s) is refl
+second-operation (Add a) lines is = second-addition (Add a) lines (directive_added a) is refl
+second-operation (Drop t) lines is = second-drop (Drop t) lines refl

@@ -1,13 +1,13 @@
 -- The arguments of a parsed operation are valid.
-use Rattle.std.proofs.Common.{◌≡◌, ℕ, true, List, Some, is_some, subst, inl, inr}
+use Rattle.std.proofs.Common.{◌≡◌, ℕ, true, List, Some, None, is_some, subst, inl, inr}
+use Rattle.std.specs.Prelude.{codes}
+use Rattle.std.specs.Str.{bytes_eq}
 use Rattle.std.proofs.lemmas.Bool.{cases_Bool}
 use Rattle.gm_name.specs.Names.{is_path, is_version}
 use Rattle.gm_file.specs.Values.{is_folder_path}
 use Rattle.gm_file.specs.GoVersions.{strict_go}
 use Rattle.gm_file.specs.Directives.{Pair, pair, Left, left_without, Right, Folder, Replacing, replacing}
-use Rattle.gm_file_edit.specs.declared.name.Name.{Name}
-use Rattle.gm_file_edit.specs.declared.name.Name.TheVariants as name
-use Rattle.gm_file_edit.specs.Edits.{Edit, SetModule, SetGo, SetRequire, DropRequire, AddExclude, DropExclude, SetReplace, DropReplace, AddRetract, DropRetract, both_versions_in, split_at_byte, edit_in, go_text_in, has_byte, inside_brackets, interval_in, is_bracketed, left_in, left_of_pair, module_of_pair, name_in, named, named_in, pair_in, path_and_version_in, path_in, replacing_in, right_in, sides_in, trimmed, two_versions_in, version_in}
+use Rattle.gm_file_edit.specs.Edits.{Edit, Set, ModuleIs, GoIs, RequireAt, Drop, AnyRequire, Add, Exclude, AnyExclude, ReplaceWith, AnyReplace, Retract, AnyRetract, both_versions_in, split_at_byte, edit_in, go_text_in, has_byte, inside_brackets, interval_in, is_bracketed, left_in, left_of_pair, module_of_pair, named, named_in, pair_in, path_and_version_in, path_in, replacing_in, right_in, sides_in, trimmed, two_versions_in, version_in}
 use Rattle.gm_file_edit.specs.Sound.{AreVersions, IsPairOfNames, IsSoundEdit, IsSoundLeft, IsSoundRight}
 use Rattle.gm_file_edit.proofs.Feeds.{if-some, if-other}
 use Rattle.gm_file_edit.proofs.Parts.{both-are, map-some, then-some}
@@ -80,23 +80,81 @@ ends-sound text ends e = elim (cases_Bool (is_bracketed text)) [
       subst AreVersions m.2 (v, v)
 ]
 
-pub named-sound : (text : List ℕ) (n : Name) (edit : Edit) → named text n ≡ Some edit → IsSoundEdit edit
+-- what holds of each operation that a text spells as its argument
+pub record HoldsOfEach (P : Edit → Type 0) (text : List ℕ) : Type 0 where
+  pub of_module : (x : List ℕ) → path_in text ≡ Some x → P (Set (ModuleIs x))
+  pub of_go : (x : List ℕ) → go_text_in text ≡ Some x → P (Set (GoIs x))
+  pub of_require : (x : Pair) → pair_in text ≡ Some x → P (Set (RequireAt x))
+  pub of_droprequire : (x : List ℕ) → path_in text ≡ Some x → P (Drop (AnyRequire x))
+  pub of_exclude : (x : Pair) → pair_in text ≡ Some x → P (Add (Exclude x))
+  pub of_dropexclude : (x : Pair) → pair_in text ≡ Some x → P (Drop (AnyExclude x))
+  pub of_replace : (x : Replacing) → replacing_in text ≡ Some x → P (Set (ReplaceWith x))
+  pub of_dropreplace : (x : Left) → left_in text ≡ Some x → P (Drop (AnyReplace x))
+  pub of_retract : (x : Pair) → interval_in text ≡ Some x → P (Add (Retract x))
+  pub of_dropretract : (x : Pair) → interval_in text ≡ Some x → P (Drop (AnyRetract x))
+
+pub named-by : (P : Edit → Type 0) (name text : List ℕ) (edit : Edit) → HoldsOfEach P text → named name text ≡ Some edit → P edit
 unfolding named
-named-sound text name.Module edit e = let m = map-some SetModule (path_in text) edit e in subst IsSoundEdit m.2 (path-sound text m.0 m.1)
-named-sound text name.Go edit e = let m = map-some SetGo (go_text_in text) edit e in subst IsSoundEdit m.2 (go-sound text m.0 m.1)
-named-sound text name.Require edit e = let m = map-some SetRequire (pair_in text) edit e in subst IsSoundEdit m.2 (pair-sound text m.0 m.1)
-named-sound text name.DropRequire edit e = let m = map-some DropRequire (path_in text) edit e in subst IsSoundEdit m.2 tt
-named-sound text name.Exclude edit e = let m = map-some AddExclude (pair_in text) edit e in subst IsSoundEdit m.2 (pair-sound text m.0 m.1)
-named-sound text name.DropExclude edit e = let m = map-some DropExclude (pair_in text) edit e in subst IsSoundEdit m.2 tt
-named-sound text name.Replace edit e = let m = map-some SetReplace (replacing_in text) edit e in subst IsSoundEdit m.2 (replacing-sound text m.0 m.1)
-named-sound text name.DropReplace edit e = let m = map-some DropReplace (left_in text) edit e in subst IsSoundEdit m.2 tt
-named-sound text name.Retract edit e = let m = map-some AddRetract (interval_in text) edit e in subst IsSoundEdit m.2 (ends-sound text m.0 m.1)
-named-sound text name.DropRetract edit e = let m = map-some DropRetract (interval_in text) edit e in subst IsSoundEdit m.2 tt
+named-by P name text edit each e =
+    elim (cases_Bool (bytes_eq name (codes "module"))) [
+      | inl is ↦ let m = map-some (λ path. Set (ModuleIs path)) (path_in text) edit (rw is at e) in subst P m.2 (each.of_module m.0 m.1)
+      | inr not_module ↦
+          elim (cases_Bool (bytes_eq name (codes "go"))) [
+            | inl is ↦ let m = map-some (λ version. Set (GoIs version)) (go_text_in text) edit (rw (not_module, is) at e) in subst P m.2 (each.of_go m.0 m.1)
+            | inr not_go ↦
+                elim (cases_Bool (bytes_eq name (codes "require"))) [
+                  | inl is ↦ let m = map-some (λ p. Set (RequireAt p)) (pair_in text) edit (rw (not_module, not_go, is) at e) in subst P m.2 (each.of_require m.0 m.1)
+                  | inr not_require ↦
+                      elim (cases_Bool (bytes_eq name (codes "droprequire"))) [
+                        | inl is ↦ let m = map-some (λ path. Drop (AnyRequire path)) (path_in text) edit (rw (not_module, not_go, not_require, is) at e) in subst P m.2 (each.of_droprequire m.0 m.1)
+                        | inr not_droprequire ↦
+                            elim (cases_Bool (bytes_eq name (codes "exclude"))) [
+                              | inl is ↦ let m = map-some (λ p. Add (Exclude p)) (pair_in text) edit (rw (not_module, not_go, not_require, not_droprequire, is) at e) in subst P m.2 (each.of_exclude m.0 m.1)
+                              | inr not_exclude ↦
+                                  elim (cases_Bool (bytes_eq name (codes "dropexclude"))) [
+                                    | inl is ↦ let m = map-some (λ p. Drop (AnyExclude p)) (pair_in text) edit (rw (not_module, not_go, not_require, not_droprequire, not_exclude, is) at e) in subst P m.2 (each.of_dropexclude m.0 m.1)
+                                    | inr not_dropexclude ↦
+                                        elim (cases_Bool (bytes_eq name (codes "replace"))) [
+                                          | inl is ↦ let m = map-some (λ r. Set (ReplaceWith r)) (replacing_in text) edit (rw (not_module, not_go, not_require, not_droprequire, not_exclude, not_dropexclude, is) at e) in subst P m.2 (each.of_replace m.0 m.1)
+                                          | inr not_replace ↦
+                                              elim (cases_Bool (bytes_eq name (codes "dropreplace"))) [
+                                                | inl is ↦ let m = map-some (λ left. Drop (AnyReplace left)) (left_in text) edit (rw (not_module, not_go, not_require, not_droprequire, not_exclude, not_dropexclude, not_replace, is) at e) in subst P m.2 (each.of_dropreplace m.0 m.1)
+                                                | inr not_dropreplace ↦
+                                                    elim (cases_Bool (bytes_eq name (codes "retract"))) [
+                                                      | inl is ↦ let m = map-some (λ ends. Add (Retract ends)) (interval_in text) edit (rw (not_module, not_go, not_require, not_droprequire, not_exclude, not_dropexclude, not_replace, not_dropreplace, is) at e) in subst P m.2 (each.of_retract m.0 m.1)
+                                                      | inr not_retract ↦
+                                                          elim (cases_Bool (bytes_eq name (codes "dropretract"))) [
+                                                            | inl is ↦ let m = map-some (λ ends. Drop (AnyRetract ends)) (interval_in text) edit (rw (not_module, not_go, not_require, not_droprequire, not_exclude, not_dropexclude, not_replace, not_dropreplace, not_retract, is) at e) in subst P m.2 (each.of_dropretract m.0 m.1)
+                                                            | inr not_dropretract ↦
+                                                                let none : None ≡ Some edit = rw (not_module, not_go, not_require, not_droprequire, not_exclude, not_dropexclude, not_replace, not_dropreplace, not_retract, not_dropretract) at e in absurd cc
+                                                          ]
+                                                    ]
+                                              ]
+                                        ]
+                                  ]
+                            ]
+                      ]
+                ]
+          ]
+    ]
+
+pub named-sound : (name text : List ℕ) (edit : Edit) → named name text ≡ Some edit → IsSoundEdit edit
+named-sound name text edit e = named-by IsSoundEdit name text edit (record {
+  of_module = path-sound text;
+  of_go = go-sound text;
+  of_require = pair-sound text;
+  of_droprequire = λ path is. tt;
+  of_exclude = pair-sound text;
+  of_dropexclude = λ p is. tt;
+  of_replace = replacing-sound text;
+  of_dropreplace = λ left is. tt;
+  of_retract = ends-sound text;
+  of_dropretract = λ ends is. tt;
+}) e
 
 -- an operation that some text spells has valid arguments
 pub written-sound : (text : List ℕ) (edit : Edit) → edit_in text ≡ Some edit → IsSoundEdit edit
 unfolding edit_in
 written-sound text edit e =
     let cut = then-some named_in (split_at_byte 61 text) edit e in
-    let n = then-some (named cut.0.1) (name_in cut.0.0) edit cut.2 in
-    named-sound cut.0.1 n.0 edit n.2
+    named-sound cut.0.0 cut.0.1 edit cut.2

@@ -3,7 +3,7 @@ use Rattle.std.specs.Prelude.{ℕ, ◌&&◌, Bool, false, List, Option, Some, No
 use Rattle.std.specs.Str.{bytes_eq}
 use Rattle.gm_file.specs.Directives.{Pair, Left, Directive, Requires, Excludes, Replaces, Retracts}
 use Rattle.gm_file.specs.Faults.{is_go, is_module, is_same_left}
-use Rattle.gm_file_edit.specs.Edits.{Edit, SetModule, SetGo, SetRequire, DropRequire, AddExclude, DropExclude, SetReplace, DropReplace, AddRetract, DropRetract}
+use Rattle.gm_file_edit.specs.Edits.{Edit, Set, ModuleIs, GoIs, RequireAt, Drop, AnyRequire, Add, Exclude, AnyExclude, ReplaceWith, AnyReplace, Retract, AnyRetract}
 
 -- the same path and version, or the same ends of an interval
 abbrev pub is_same_pair : Pair → Pair → Bool
@@ -43,13 +43,13 @@ retracts_ends ends _ = false
 -- Whether an operation targets a directive. It changes or drops such directives, or does nothing if there is one
 -- already.
 abbrev pub about : Edit → Directive → Bool
-about (SetModule path) d = is_module d
-about (SetGo text) d = is_go d
-about (SetRequire p) d = requires_path p.0 d
-about (DropRequire path) d = requires_path path d
-about (AddExclude p) d = excludes_pair p d
-about (DropExclude p) d = excludes_pair p d
-about (SetReplace r) d = is_replaced_by r.0 d
-about (DropReplace left) d = replaces_left left d
-about (AddRetract ends) d = retracts_ends ends d
-about (DropRetract ends) d = retracts_ends ends d
+about (Set (ModuleIs path)) d = is_module d
+about (Set (GoIs text)) d = is_go d
+about (Set (RequireAt p)) d = requires_path p.0 d
+about (Drop (AnyRequire path)) d = requires_path path d
+about (Add (Exclude p)) d = excludes_pair p d
+about (Drop (AnyExclude p)) d = excludes_pair p d
+about (Set (ReplaceWith r)) d = is_replaced_by r.0 d
+about (Drop (AnyReplace left)) d = replaces_left left d
+about (Add (Retract ends)) d = retracts_ends ends d
+about (Drop (AnyRetract ends)) d = retracts_ends ends d

@@ -10,7 +10,7 @@ use Rattle.gm_file_edit.specs.declared.adding.AddedVerb.TheVariants as verb
 use Rattle.gm_file_edit.specs.About.{about}
 use Rattle.gm_file_edit.specs.Adding.{is_of, verb_text}
 use Rattle.gm_file_edit.specs.Edited.{Block, Section, Single, Unclosed, edited, holds, lines_of_sections, sections_of}
-use Rattle.gm_file_edit.specs.Edits.{Edit, SetRequire, AddExclude, SetReplace, AddRetract}
+use Rattle.gm_file_edit.specs.Edits.{Edit, Set, RequireAt, Add, Exclude, ReplaceWith, Retract}
 use Rattle.gm_file_edit.specs.Laws.{directives_of, IsEditOf}
 use Rattle.gm_file_edit.specs.Kinds.{added_by, is_drop}
 use Rattle.gm_file_edit.specs.NewWords.{entry_at, interval_words, pair_words, replace_words, single}
@@ -78,18 +78,18 @@ DocumentsHaveWholeSections = (lines : List (Line Placed)) → IsDocument (plain_
 
 -- the verb of the entry that an operation adds if it targets no directive
 abbrev pub verb_added : Edit → Option AddedVerb
-verb_added (SetRequire p) = Some verb.Require
-verb_added (AddExclude p) = Some verb.Exclude
-verb_added (SetReplace r) = Some verb.Replace
-verb_added (AddRetract ends) = Some verb.Retract
+verb_added (Set (RequireAt p)) = Some verb.Require
+verb_added (Add (Exclude p)) = Some verb.Exclude
+verb_added (Set (ReplaceWith r)) = Some verb.Replace
+verb_added (Add (Retract ends)) = Some verb.Retract
 verb_added _ = None
 
 -- the words of that entry after its verb
 abbrev pub arguments_added : Edit → List Placed
-arguments_added (SetRequire p) = pair_words p
-arguments_added (AddExclude p) = pair_words p
-arguments_added (SetReplace r) = replace_words r
-arguments_added (AddRetract ends) = interval_words ends
+arguments_added (Set (RequireAt p)) = pair_words p
+arguments_added (Add (Exclude p)) = pair_words p
+arguments_added (Set (ReplaceWith r)) = replace_words r
+arguments_added (Add (Retract ends)) = interval_words ends
 arguments_added _ = []
 
 -- Lines around a line that holds a directive of this verb, where no later line holds one. The first and the last

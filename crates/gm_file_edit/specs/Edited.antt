@@ -3,12 +3,11 @@ use Rattle.std.specs.Prelude.{ℕ, ◌&&◌, not, if◌then◌else◌, Bool, Lis
 use Rattle.std.specs.List.{flat_map, list_all, list_any}
 use Rattle.gm_syntax.specs.Tokens.{Placed}
 use Rattle.gm_syntax.specs.Document.{Line, Blank, Open, Close}
-use Rattle.gm_file.specs.Directives.{Directive, DeclaresGo, Requires, Excludes, Replaces, Retracts, LineInBlock, with_blocks, with_blocks_from}
+use Rattle.gm_file.specs.Directives.{Directive, LineInBlock, with_blocks, with_blocks_from}
 use Rattle.gm_file.specs.Faults.{is_module}
 use Rattle.gm_file_edit.specs.About.{about}
-use Rattle.gm_file_edit.specs.Edits.{Edit}
+use Rattle.gm_file_edit.specs.Edits.{Edit, Set, Add, Drop, ModuleIs, GoIs, RequireAt, ReplaceWith, Exclude, Retract}
 use Rattle.gm_file_edit.specs.Holding.{directive_at, is_blank_source_line, passes}
-use Rattle.gm_file_edit.specs.Kinds.{is_drop, put_by, set_by}
 use Rattle.gm_file_edit.specs.NewWords.{entry_at, interval_words, made_word, pair_words, replace_words, single}
 use Rattle.gm_file_edit.specs.Renewing.{made_new}
 use Rattle.gm_file_edit.specs.Verbs.{is_exclude, is_replace, is_require, is_retract}
@@ -172,26 +171,27 @@ new_go text = Blank ∷ single (codes "go") (made_word text ∷ []) ∷ []
 
 -- ---- the operation
 
--- the sections after an operation that targets a directive: a drop drops it, a setting sets it, and an addition finds
--- it there
+-- the sections after an operation that targets a directive: a setting sets it, an addition finds it there, and a drop
+-- drops it
 abbrev pub sections_changed : Edit → List Section → List Section
-sections_changed edit sections =
-    if is_drop edit then sections_without (about edit) sections
-    else (if is_some (set_by edit) then sections_renewed (about edit) (made_new edit) sections else sections)
+sections_changed (Set s) sections = sections_renewed (about (Set s)) (made_new (Set s)) sections
+sections_changed (Add a) sections = sections
+sections_changed (Drop t) sections = sections_without (about (Drop t)) sections
 
--- The lines with the directive that an operation puts in: after the last one of its verb, but a go directive after the
--- module directive or its block. No module directive is put in.
-abbrev pub with_new : Option Directive → List (Line Placed) → List (Line Placed)
-with_new (Some (Requires p)) lines = with_entry is_require (codes "require") (pair_words p) lines
-with_new (Some (Excludes p)) lines = with_entry is_exclude (codes "exclude") (pair_words p) lines
-with_new (Some (Replaces r)) lines = with_entry is_replace (codes "replace") (replace_words r) lines
-with_new (Some (Retracts ends)) lines = with_entry is_retract (codes "retract") (interval_words ends) lines
-with_new (Some (DeclaresGo text)) lines = after_first_section is_module (new_go text) (sections_of lines)
-with_new _ lines = lines
+-- The lines after an operation that targets none: a directive is put in, after the last one of its verb, but a go
+-- directive after the module directive or its block. No module directive is put in.
+abbrev pub with_new : Edit → List (Line Placed) → List (Line Placed)
+with_new (Set (ModuleIs path)) lines = lines
+with_new (Set (GoIs text)) lines = after_first_section is_module (new_go text) (sections_of lines)
+with_new (Set (RequireAt p)) lines = with_entry is_require (codes "require") (pair_words p) lines
+with_new (Set (ReplaceWith r)) lines = with_entry is_replace (codes "replace") (replace_words r) lines
+with_new (Add (Exclude p)) lines = with_entry is_exclude (codes "exclude") (pair_words p) lines
+with_new (Add (Retract ends)) lines = with_entry is_retract (codes "retract") (interval_words ends) lines
+with_new (Drop t) lines = lines
 
 -- the lines after the operation
 unfoldable pub edited : Edit → List (Line Placed) → List (Line Placed)
 edited edit lines =
     if list_any (holds (about edit)) (with_blocks lines)
     then lines_of_sections (sections_changed edit (sections_of lines))
-    else with_new (put_by edit) lines
+    else with_new edit lines

@@ -3,25 +3,35 @@ use Rattle.std.specs.Prelude.{ℕ, ◌-◌, ◌==◌, ◌&&◌, ◌||◌, nat_lt
 use Rattle.std.specs.Option.{option_map}
 use Rattle.std.specs.List.{after_first, before_first, list_any, suffix_len}
 use Rattle.std.specs.Str.{bytes_eq}
-use Rattle.gm_file_edit.specs.declared.name.Name.{Name}
-use Rattle.gm_file_edit.specs.declared.name.Name.TheVariants as name
 use Rattle.gm_name.specs.Names.{is_path, is_version}
 use Rattle.gm_file.specs.Values.{both, is_folder_path}
 use Rattle.gm_file.specs.GoVersions.{strict_go}
 use Rattle.gm_file.specs.Directives.{Pair, pair, Left, left_with, left_without, Right, Folder, Module, Replacing, replacing}
 
+-- a directive that an operation sets: there is then one of its kind, and it says this
+pub data Setting : Type 0 where
+  ModuleIs : List ℕ → Setting
+  GoIs : List ℕ → Setting
+  RequireAt : Pair → Setting
+  ReplaceWith : Replacing → Setting
+
+-- a directive that an operation adds if it isn't there
+pub data Addition : Type 0 where
+  Exclude : Pair → Addition
+  Retract : Pair → Addition
+
+-- the directives that an operation drops: those of a path, of a pair, of a left side, of an interval
+pub data Target : Type 0 where
+  AnyRequire : List ℕ → Target
+  AnyExclude : Pair → Target
+  AnyReplace : Left → Target
+  AnyRetract : Pair → Target
+
 -- an operation with its arguments
 pub data Edit : Type 0 where
-  SetModule : List ℕ → Edit
-  SetGo : List ℕ → Edit
-  SetRequire : Pair → Edit
-  DropRequire : List ℕ → Edit
-  AddExclude : Pair → Edit
-  DropExclude : Pair → Edit
-  SetReplace : Replacing → Edit
-  DropReplace : Left → Edit
-  AddRetract : Pair → Edit
-  DropRetract : Pair → Edit
+  Set : Setting → Edit
+  Add : Addition → Edit
+  Drop : Target → Edit
 
 -- ---- how an operation is spelled: a name, `=` and an argument
 
@@ -122,37 +132,24 @@ two_versions_in text = option_and_then both_versions_in (split_at_byte 44 text)
 unfoldable pub interval_in : List ℕ → Option Pair
 interval_in text = if is_bracketed text then two_versions_in (inside_brackets text) else one_version_in text
 
--- the name that a text spells
-abbrev pub name_in : List ℕ → Option Name
-name_in text =
-    if bytes_eq text (codes "module") then Some name.Module
-    else (if bytes_eq text (codes "go") then Some name.Go
-    else (if bytes_eq text (codes "require") then Some name.Require
-    else (if bytes_eq text (codes "droprequire") then Some name.DropRequire
-    else (if bytes_eq text (codes "exclude") then Some name.Exclude
-    else (if bytes_eq text (codes "dropexclude") then Some name.DropExclude
-    else (if bytes_eq text (codes "replace") then Some name.Replace
-    else (if bytes_eq text (codes "dropreplace") then Some name.DropReplace
-    else (if bytes_eq text (codes "retract") then Some name.Retract
-    else (if bytes_eq text (codes "dropretract") then Some name.DropRetract
+-- the operation with this name and this argument
+unfoldable pub named : List ℕ → List ℕ → Option Edit
+named name text =
+    if bytes_eq name (codes "module") then option_map (λ path. Set (ModuleIs path)) (path_in text)
+    else (if bytes_eq name (codes "go") then option_map (λ version. Set (GoIs version)) (go_text_in text)
+    else (if bytes_eq name (codes "require") then option_map (λ p. Set (RequireAt p)) (pair_in text)
+    else (if bytes_eq name (codes "droprequire") then option_map (λ path. Drop (AnyRequire path)) (path_in text)
+    else (if bytes_eq name (codes "exclude") then option_map (λ p. Add (Exclude p)) (pair_in text)
+    else (if bytes_eq name (codes "dropexclude") then option_map (λ p. Drop (AnyExclude p)) (pair_in text)
+    else (if bytes_eq name (codes "replace") then option_map (λ r. Set (ReplaceWith r)) (replacing_in text)
+    else (if bytes_eq name (codes "dropreplace") then option_map (λ left. Drop (AnyReplace left)) (left_in text)
+    else (if bytes_eq name (codes "retract") then option_map (λ ends. Add (Retract ends)) (interval_in text)
+    else (if bytes_eq name (codes "dropretract") then option_map (λ ends. Drop (AnyRetract ends)) (interval_in text)
     else None)))))))))
-
--- the operation with this argument and this name
-unfoldable pub named : List ℕ → Name → Option Edit
-named text name.Module = option_map SetModule (path_in text)
-named text name.Go = option_map SetGo (go_text_in text)
-named text name.Require = option_map SetRequire (pair_in text)
-named text name.DropRequire = option_map DropRequire (path_in text)
-named text name.Exclude = option_map AddExclude (pair_in text)
-named text name.DropExclude = option_map DropExclude (pair_in text)
-named text name.Replace = option_map SetReplace (replacing_in text)
-named text name.DropReplace = option_map DropReplace (left_in text)
-named text name.Retract = option_map AddRetract (interval_in text)
-named text name.DropRetract = option_map DropRetract (interval_in text)
 
 -- both parts of a split text, as a name and its argument
 abbrev pub named_in : Pair → Option Edit
-named_in parts = option_and_then (named parts.1) (name_in parts.0)
+named_in parts = named parts.0 parts.1
 
 -- the operation that a text spells
 unfoldable pub edit_in : List ℕ → Option Edit

@@ -13,7 +13,7 @@ use Rattle.gm_file_edit.specs.declared.keys.Scope.{Scope}
 use Rattle.gm_file_edit.specs.declared.keys.Scope.TheVariants as scope
 use Rattle.gm_file_edit.specs.declared.keys.Sought.{Sought}
 use Rattle.gm_file_edit.specs.declared.keys.Sought.TheVariants as sought
-use Rattle.gm_file_edit.specs.Edits.{Edit, SetModule, SetGo, SetRequire, DropRequire, AddExclude, DropExclude, SetReplace, DropReplace, AddRetract, DropRetract}
+use Rattle.gm_file_edit.specs.Edits.{Edit, Set, ModuleIs, GoIs, RequireAt, Drop, AnyRequire, Add, Exclude, AnyExclude, ReplaceWith, AnyReplace, Retract, AnyRetract}
 
 -- ---- the numbers of words
 
@@ -104,16 +104,16 @@ sought_of_left path (Some version) = sought.Target (joined path (text_number ver
 
 -- the number that the lines have that an operation targets: that of a path, or of all that an entry is about
 abbrev pub sought_of : Edit → Sought
-sought_of (SetModule path) = sought.Any
-sought_of (SetGo text) = sought.Any
-sought_of (SetRequire p) = sought.Path (text_number p.0)
-sought_of (DropRequire path) = sought.Path (text_number path)
-sought_of (AddExclude p) = sought.Target (pair_number p)
-sought_of (DropExclude p) = sought.Target (pair_number p)
-sought_of (SetReplace r) = sought_of_left (text_number r.0.path) r.0.version
-sought_of (DropReplace left) = sought.Target (left_number left)
-sought_of (AddRetract ends) = sought.Target (ends_number (text_number ends.0) (text_number ends.1))
-sought_of (DropRetract ends) = sought.Target (ends_number (text_number ends.0) (text_number ends.1))
+sought_of (Set (ModuleIs path)) = sought.Any
+sought_of (Set (GoIs text)) = sought.Any
+sought_of (Set (RequireAt p)) = sought.Path (text_number p.0)
+sought_of (Drop (AnyRequire path)) = sought.Path (text_number path)
+sought_of (Add (Exclude p)) = sought.Target (pair_number p)
+sought_of (Drop (AnyExclude p)) = sought.Target (pair_number p)
+sought_of (Set (ReplaceWith r)) = sought_of_left (text_number r.0.path) r.0.version
+sought_of (Drop (AnyReplace left)) = sought.Target (left_number left)
+sought_of (Add (Retract ends)) = sought.Target (ends_number (text_number ends.0) (text_number ends.1))
+sought_of (Drop (AnyRetract ends)) = sought.Target (ends_number (text_number ends.0) (text_number ends.1))
 
 -- ---- which lines may be those
 

@@ -2,7 +2,7 @@
 use Rattle.std.specs.Prelude.{ℕ, ◌-◌, List, [], ◌∷◌, ◌++◌, length, take, Option, Some, None}
 use Rattle.gm_syntax.specs.Tokens.{Placed}
 use Rattle.gm_syntax.specs.Document.{Line, Blank, Comment, Open, Close, Entry}
-use Rattle.gm_file_edit.specs.Edits.{Edit, SetModule, SetGo, SetRequire, DropRequire, AddExclude, DropExclude, SetReplace, DropReplace, AddRetract, DropRetract}
+use Rattle.gm_file_edit.specs.Edits.{Edit, Set, Add, Drop, ModuleIs, GoIs, RequireAt, ReplaceWith}
 use Rattle.gm_file_edit.specs.NewWords.{made_word, replace_words}
 
 -- an entry with its last word replaced
@@ -28,13 +28,9 @@ with_arguments arguments block (Entry words suffix) = Entry (take (before_argume
 
 -- the first targeted entry as the operation rewrites it
 abbrev pub made_new : Edit → Option Placed → Line Placed → Line Placed
-made_new (SetModule path) block line = with_last path block line
-made_new (SetGo text) block line = with_last text block line
-made_new (SetRequire p) block line = with_last p.1 block line
-made_new (DropRequire path) block line = line
-made_new (AddExclude p) block line = line
-made_new (DropExclude p) block line = line
-made_new (SetReplace r) block line = with_arguments (replace_words r) block line
-made_new (DropReplace left) block line = line
-made_new (AddRetract ends) block line = line
-made_new (DropRetract ends) block line = line
+made_new (Set (ModuleIs path)) block line = with_last path block line
+made_new (Set (GoIs text)) block line = with_last text block line
+made_new (Set (RequireAt p)) block line = with_last p.1 block line
+made_new (Set (ReplaceWith r)) block line = with_arguments (replace_words r) block line
+made_new (Add a) block line = line
+made_new (Drop t) block line = line

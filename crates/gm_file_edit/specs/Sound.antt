@@ -4,7 +4,7 @@ use Rattle.gm_name.specs.Names.{is_path, is_version}
 use Rattle.gm_file.specs.Values.{is_folder_path}
 use Rattle.gm_file.specs.GoVersions.{strict_go}
 use Rattle.gm_file.specs.Directives.{Pair, Left, Right, Folder, Module}
-use Rattle.gm_file_edit.specs.Edits.{Edit, SetModule, SetGo, SetRequire, DropRequire, AddExclude, DropExclude, SetReplace, DropReplace, AddRetract, DropRetract, edit_in, has_byte}
+use Rattle.gm_file_edit.specs.Edits.{Edit, Set, ModuleIs, GoIs, RequireAt, Drop, Add, Exclude, ReplaceWith, Retract, edit_in, has_byte}
 
 -- a path and a version
 abbrev pub IsPairOfNames : Pair → Type 0
@@ -31,16 +31,13 @@ IsSoundRight (Module path version) = (is_path path ≡ true) × (is_version vers
 -- The arguments that an operation puts into a file are valid. Those of drops aren't put in, so nothing is said of
 -- them.
 abbrev pub IsSoundEdit : Edit → Type 0
-IsSoundEdit (SetModule path) = is_path path ≡ true
-IsSoundEdit (SetGo text) = is_some (strict_go text) ≡ true
-IsSoundEdit (SetRequire p) = IsPairOfNames p
-IsSoundEdit (DropRequire path) = ⊤
-IsSoundEdit (AddExclude p) = IsPairOfNames p
-IsSoundEdit (DropExclude p) = ⊤
-IsSoundEdit (SetReplace r) = IsSoundLeft r.0 × IsSoundRight r.1
-IsSoundEdit (DropReplace left) = ⊤
-IsSoundEdit (AddRetract ends) = AreVersions ends
-IsSoundEdit (DropRetract ends) = ⊤
+IsSoundEdit (Set (ModuleIs path)) = is_path path ≡ true
+IsSoundEdit (Set (GoIs text)) = is_some (strict_go text) ≡ true
+IsSoundEdit (Set (RequireAt p)) = IsPairOfNames p
+IsSoundEdit (Drop t) = ⊤
+IsSoundEdit (Add (Exclude p)) = IsPairOfNames p
+IsSoundEdit (Set (ReplaceWith r)) = IsSoundLeft r.0 × IsSoundRight r.1
+IsSoundEdit (Add (Retract ends)) = AreVersions ends
 
 -- some text spells the operation
 abbrev pub HasSpelling : Edit → Type 0

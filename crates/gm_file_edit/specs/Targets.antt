@@ -4,20 +4,20 @@ use Rattle.std.specs.Str.{bytes_eq}
 use Rattle.gm_syntax.specs.Words.{Word}
 use Rattle.gm_file.specs.Directives.{Item, Silent, Opening, Saying}
 use Rattle.gm_file.specs.Values.{argument}
-use Rattle.gm_file_edit.specs.Edits.{Edit, SetModule, SetGo, SetRequire, DropRequire, AddExclude, DropExclude, SetReplace, DropReplace, AddRetract, DropRetract}
+use Rattle.gm_file_edit.specs.Edits.{Edit, Set, ModuleIs, GoIs, RequireAt, Drop, AnyRequire, Add, Exclude, AnyExclude, ReplaceWith, AnyReplace, Retract, AnyRetract}
 
 -- the verb of the directives that an operation targets
 abbrev pub verb_of : Edit → List ℕ
-verb_of (SetModule path) = codes "module"
-verb_of (SetGo text) = codes "go"
-verb_of (SetRequire p) = codes "require"
-verb_of (DropRequire path) = codes "require"
-verb_of (AddExclude p) = codes "exclude"
-verb_of (DropExclude p) = codes "exclude"
-verb_of (SetReplace r) = codes "replace"
-verb_of (DropReplace left) = codes "replace"
-verb_of (AddRetract ends) = codes "retract"
-verb_of (DropRetract ends) = codes "retract"
+verb_of (Set (ModuleIs path)) = codes "module"
+verb_of (Set (GoIs text)) = codes "go"
+verb_of (Set (RequireAt p)) = codes "require"
+verb_of (Drop (AnyRequire path)) = codes "require"
+verb_of (Add (Exclude p)) = codes "exclude"
+verb_of (Drop (AnyExclude p)) = codes "exclude"
+verb_of (Set (ReplaceWith r)) = codes "replace"
+verb_of (Drop (AnyReplace left)) = codes "replace"
+verb_of (Add (Retract ends)) = codes "retract"
+verb_of (Drop (AnyRetract ends)) = codes "retract"
 
 -- whether a word is an argument with this value
 abbrev pub is_text : List ℕ → Option (List ℕ) → Bool

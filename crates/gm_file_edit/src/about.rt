@@ -9,7 +9,7 @@ ghost use Rattle.gm_file.specs.Views.{interval_view, replace_view};
 ghost use Rattle.gm_file_edit.specs.About.{about, excludes_pair, is_covered_by, is_replaced_by, is_same_pair, replaces_left, requires_path, retracts_ends};
 ghost use Rattle.gm_file_edit.specs.Views.{edit_of, left_of_parts, left_seen};
 
-use crate::op::Change;
+use crate::op::{Addition, Change, Setting, Target};
 use crate::part::LeftSide;
 use gm_file::{Directive, Interval, Replace};
 use gm_name::{ModPath, ModVersion};
@@ -113,15 +113,15 @@ pub(crate) fn is_about(change: &Change, directive: &Directive) -> bool
     ensures { result ≡ about (edit_of change.now) (directive_view directive.now) }
 {
     match change {
-        Change::SetModule(_) => is_module(directive),
-        Change::SetGo(_) => is_go(directive),
-        Change::SetRequire((path, _)) => requires_path(path, directive),
-        Change::DropRequire(path) => requires_path(path, directive),
-        Change::AddExclude((path, version)) => excludes_pair(path, version, directive),
-        Change::DropExclude((path, version)) => excludes_pair(path, version, directive),
-        Change::SetReplace(replace) => is_replaced_by(replace, directive),
-        Change::DropReplace(side) => replaces_left(&side.path, &side.version, directive),
-        Change::AddRetract(ends) => retracts_ends(ends, directive),
-        Change::DropRetract(ends) => retracts_ends(ends, directive),
+        Change::Set(Setting::Module(_)) => is_module(directive),
+        Change::Set(Setting::Go(_)) => is_go(directive),
+        Change::Set(Setting::Require((path, _))) => requires_path(path, directive),
+        Change::Drop(Target::Require(path)) => requires_path(path, directive),
+        Change::Add(Addition::Exclude((path, version))) => excludes_pair(path, version, directive),
+        Change::Drop(Target::Exclude((path, version))) => excludes_pair(path, version, directive),
+        Change::Set(Setting::Replace(replace)) => is_replaced_by(replace, directive),
+        Change::Drop(Target::Replace(side)) => replaces_left(&side.path, &side.version, directive),
+        Change::Add(Addition::Retract(ends)) => retracts_ends(ends, directive),
+        Change::Drop(Target::Retract(ends)) => retracts_ends(ends, directive),
     }
 }

@@ -11,12 +11,13 @@ ghost use Rattle.gm_name.specs.Names.{does_fit};
 ghost use Rattle.gm_file_edit.specs.About.{about};
 ghost use Rattle.gm_file_edit.specs.Adding.{added, is_of, verb_text};
 ghost use Rattle.gm_file_edit.specs.Pass.{changed, put_in};
+ghost use Rattle.gm_file_edit.specs.Edits.{Add, Set};
 ghost use Rattle.gm_file_edit.specs.Edited.{edited};
 ghost use Rattle.gm_file_edit.specs.Kinds.{is_drop, is_fit, set_by};
 ghost use Rattle.gm_file_edit.specs.Marks.{marks_from};
 ghost use Rattle.gm_file_edit.specs.NewWords.{pair_words};
 ghost use Rattle.gm_file_edit.specs.Sound.{IsSoundEdit};
-ghost use Rattle.gm_file_edit.specs.Views.{edit_of};
+ghost use Rattle.gm_file_edit.specs.Views.{addition_of, edit_of, setting_of};
 
 use crate::adding::{AddedVerb, add, add_go};
 use crate::editor::Editor;
@@ -24,7 +25,7 @@ use crate::fault::EditFault;
 use crate::keyed_lines::KeyedLines;
 use crate::marking::{first_mark, marks};
 use crate::new_words::{interval_words, pair_words, replace_words};
-use crate::op::{Change, Op};
+use crate::op::{Addition, Change, Op, Setting};
 use crate::packing::pack;
 use crate::renewing::{new_line, renew};
 use gm_file::MainFile;
@@ -55,36 +56,10 @@ pub(crate) fn is_fit(change: &Change) -> bool
     ensures { result ≡ is_fit (edit_of change.now) }
 {
     match change {
-        Change::SetRequire((path, version)) => does_fit(path, version),
-        Change::AddExclude((path, version)) => does_fit(path, version),
-        Change::SetReplace(replace) => does_left_fit(&replace.left, &replace.version),
+        Change::Set(Setting::Require((path, version))) => does_fit(path, version),
+        Change::Add(Addition::Exclude((path, version))) => does_fit(path, version),
+        Change::Set(Setting::Replace(replace)) => does_left_fit(&replace.left, &replace.version),
         _ => true,
-    }
-}
-
-/// Whether an operation leaves one directive in place of all that it targets.
-fn sets(change: &Change) -> bool
-    ensures { result ≡ is_some (set_by (edit_of change.now)) }
-{
-    match change {
-        Change::SetModule(_) => true,
-        Change::SetGo(_) => true,
-        Change::SetRequire((_, _)) => true,
-        Change::SetReplace(_) => true,
-        _ => false,
-    }
-}
-
-/// Whether an operation removes the directives that it targets.
-fn drops(change: &Change) -> bool
-    ensures { result ≡ is_drop (edit_of change.now) }
-{
-    match change {
-        Change::DropRequire(_) => true,
-        Change::DropExclude((_, _)) => true,
-        Change::DropReplace(_) => true,
-        Change::DropRetract(_) => true,
-        _ => false,
     }
 }
 
@@ -104,16 +79,18 @@ fn change_lines<'a>(
     ensures ok { OnOk result (lines.new ≡ changed (edit_of change.now) lines.old) }
     ensures err { OnErr result (lines.new ≡ lines.old) }
 {
-    if sets(change) {
-        let line = new_line(alloc, change, lines, first)?;
-        renew(lines, marks, first, line);
-        return Ok(());
+    match change {
+        Change::Set(setting) => {
+            let line = new_line(alloc, setting, lines, first)?;
+            renew(lines, marks, first, line);
+            Ok(())
+        }
+        Change::Add(_) => Ok(()),
+        Change::Drop(_) => {
+            pack(lines, marks.as_slice());
+            Ok(())
+        }
     }
-    if drops(change) {
-        pack(lines, marks.as_slice());
-        return Ok(());
-    }
-    Ok(())
 }
 
 /// Adds an entry of a path and a version. If memory runs out, the lines stay as they are.
@@ -134,6 +111,56 @@ fn add_pair<'a>(
     add(alloc, verb, words, lines)
 }
 
+/// Adds the entry of a setting that targets no line, if it adds one. If memory runs out, the lines stay as they are.
+#[tactic(auto, unfolding(crate::specs::Pass::put_in))]
+fn put_setting<'a>(
+    alloc: Global,
+    setting: &Setting,
+    lines: &mut KeyedLines<'a>,
+) -> Result<(), AllocError>
+    requires written { IsSoundEdit (Set (setting_of setting.now)) }
+    requires document { IsDocument (plain_lines lines.old) }
+    requires sound { fault_of Strict (plain_lines lines.old) ≡ None }
+    ensures ok { OnOk result (lines.new ≡ put_in (Set (setting_of setting.now)) lines.old) }
+    ensures err { OnErr result (lines.new ≡ lines.old) }
+{
+    match setting {
+        Setting::Module(_) => Ok(()),
+        Setting::Go(text) => add_go(alloc, text.as_str(), lines),
+        Setting::Require((path, version)) => {
+            add_pair(alloc, AddedVerb::Require, path, version, lines)
+        }
+        Setting::Replace(replace) => {
+            let words = replace_words(alloc, replace)?;
+            add(alloc, AddedVerb::Replace, words, lines)
+        }
+    }
+}
+
+/// Adds the entry of an addition that targets no line. If memory runs out, the lines stay as they are.
+#[tactic(auto, unfolding(crate::specs::Pass::put_in))]
+fn put_addition<'a>(
+    alloc: Global,
+    addition: &Addition,
+    lines: &mut KeyedLines<'a>,
+) -> Result<(), AllocError>
+    requires written { IsSoundEdit (Add (addition_of addition.now)) }
+    requires document { IsDocument (plain_lines lines.old) }
+    requires sound { fault_of Strict (plain_lines lines.old) ≡ None }
+    ensures ok { OnOk result (lines.new ≡ put_in (Add (addition_of addition.now)) lines.old) }
+    ensures err { OnErr result (lines.new ≡ lines.old) }
+{
+    match addition {
+        Addition::Exclude((path, version)) => {
+            add_pair(alloc, AddedVerb::Exclude, path, version, lines)
+        }
+        Addition::Retract(ends) => {
+            let words = interval_words(alloc, ends)?;
+            add(alloc, AddedVerb::Retract, words, lines)
+        }
+    }
+}
+
 /// Adds the entry of an operation that targets no line, if it adds one. If memory runs out, the lines stay as they are.
 #[tactic(auto, unfolding(crate::specs::Pass::put_in))]
 fn put_in<'a>(alloc: Global, change: &Change, lines: &mut KeyedLines<'a>) -> Result<(), AllocError>
@@ -144,22 +171,9 @@ fn put_in<'a>(alloc: Global, change: &Change, lines: &mut KeyedLines<'a>) -> Res
     ensures err { OnErr result (lines.new ≡ lines.old) }
 {
     match change {
-        Change::SetGo(text) => add_go(alloc, text.as_str(), lines),
-        Change::SetRequire((path, version)) => {
-            add_pair(alloc, AddedVerb::Require, path, version, lines)
-        }
-        Change::AddExclude((path, version)) => {
-            add_pair(alloc, AddedVerb::Exclude, path, version, lines)
-        }
-        Change::SetReplace(replace) => {
-            let words = replace_words(alloc, replace)?;
-            add(alloc, AddedVerb::Replace, words, lines)
-        }
-        Change::AddRetract(ends) => {
-            let words = interval_words(alloc, ends)?;
-            add(alloc, AddedVerb::Retract, words, lines)
-        }
-        _ => Ok(()),
+        Change::Set(setting) => put_setting(alloc, setting, lines),
+        Change::Add(addition) => put_addition(alloc, addition, lines),
+        Change::Drop(_) => Ok(()),
     }
 }
 

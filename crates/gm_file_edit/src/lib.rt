@@ -18,7 +18,6 @@ mod keyed_lines;
 mod keys;
 pub mod laws;
 mod marking;
-mod name;
 mod new_words;
 mod op;
 mod packing;

@@ -7,7 +7,6 @@ ghost use Rattle.gm_file_edit.specs.Edits.{edit_in, named};
 ghost use Rattle.gm_file_edit.specs.Views.{IsParsedPart, edit_of};
 
 use crate::fault::OpFault;
-use crate::name::{Name, name_in};
 use crate::part::{
     LeftSide, read_go, read_interval, read_left, read_pair, read_path, read_replace,
     split_at_equals,
@@ -17,31 +16,51 @@ use gm_name::{ModPath, ModVersion};
 use std::alloc::Global;
 use std::marker::Model;
 
-/// What an operation does. `Set` leaves one directive in place of all that it targets, and adds one if there is none
-/// (a valid file always declares its module). `Add` does nothing if a targeted directive exists. `Drop` removes all
-/// targeted directives.
+/// A directive that an operation sets.
+#[derive(Drop)]
+pub(crate) enum Setting {
+    /// `module=PATH`: the module path.
+    Module(ModPath),
+    /// `go=VERSION`: the go version.
+    Go(String),
+    /// `require=PATH@VERSION`: the required version of a path.
+    Require((ModPath, ModVersion)),
+    /// `replace=LEFT=RIGHT`: a replacement. A left side without a version targets all replacements of its path.
+    Replace(Replace),
+}
+
+/// A directive that an operation adds.
+#[derive(Drop)]
+pub(crate) enum Addition {
+    /// `exclude=PATH@VERSION`: an exclusion.
+    Exclude((ModPath, ModVersion)),
+    /// `retract=INTERVAL`: a retraction.
+    Retract(Interval),
+}
+
+/// The directives that an operation drops.
+#[derive(Drop)]
+pub(crate) enum Target {
+    /// `droprequire=PATH`: the requirements of a path, whatever their versions.
+    Require(ModPath),
+    /// `dropexclude=PATH@VERSION`: the exclusions of a version of a path.
+    Exclude((ModPath, ModVersion)),
+    /// `dropreplace=LEFT`: the replacements with exactly this left side.
+    Replace(LeftSide),
+    /// `dropretract=INTERVAL`: the retractions of exactly this interval.
+    Retract(Interval),
+}
+
+/// What an operation does.
 #[derive(Drop)]
 pub(crate) enum Change {
-    /// `module=PATH`: sets the module path.
-    SetModule(ModPath),
-    /// `go=VERSION`: sets the go version.
-    SetGo(String),
-    /// `require=PATH@VERSION`: sets the required version of a path.
-    SetRequire((ModPath, ModVersion)),
-    /// `droprequire=PATH`: drops the requirements of a path, whatever their versions.
-    DropRequire(ModPath),
-    /// `exclude=PATH@VERSION`: adds an exclusion.
-    AddExclude((ModPath, ModVersion)),
-    /// `dropexclude=PATH@VERSION`: drops an exclusion.
-    DropExclude((ModPath, ModVersion)),
-    /// `replace=LEFT=RIGHT`: sets a replacement. A left side without a version targets all replacements of its path.
-    SetReplace(Replace),
-    /// `dropreplace=LEFT`: drops the replacements with exactly this left side.
-    DropReplace(LeftSide),
-    /// `retract=INTERVAL`: adds a retraction.
-    AddRetract(Interval),
-    /// `dropretract=INTERVAL`: drops the retractions of exactly this interval.
-    DropRetract(Interval),
+    /// Leaves one directive in place of all that the operation targets, and adds one if there is none. (A valid file
+    /// always declares its module.)
+    Set(Setting),
+    /// Adds a directive, unless it is there.
+    Add(Addition),
+    /// Removes directives.
+    Drop(Target),
 }
 
 /// An operation on the go.mod file of a main module (go help mod edit). It owns its texts.
@@ -63,22 +82,23 @@ impl Model for Op {
     ghost invariant = { λ o. IsSoundEdit (edit_of o.change) };
 }
 
-/// Parses the argument of the operation `name`.
+/// Parses the argument of the operation with this name. Any other name is refused with `Spelling`.
 #[tactic(auto, unfolding(crate::specs::Edits::named))]
-fn read_named(alloc: Global, name: Name, text: &str) -> Result<Change, OpFault>
-    ensures { IsParsedPart edit_of (named text.now name) result }
+fn read_named(alloc: Global, name: &str, text: &str) -> Result<Change, OpFault>
+    ensures { IsParsedPart edit_of (named name.now text.now) result }
 {
     match name {
-        Name::Module => Ok(Change::SetModule(read_path(alloc, text)?)),
-        Name::Go => Ok(Change::SetGo(read_go(alloc, text)?)),
-        Name::Require => Ok(Change::SetRequire(read_pair(alloc, text)?)),
-        Name::DropRequire => Ok(Change::DropRequire(read_path(alloc, text)?)),
-        Name::Exclude => Ok(Change::AddExclude(read_pair(alloc, text)?)),
-        Name::DropExclude => Ok(Change::DropExclude(read_pair(alloc, text)?)),
-        Name::Replace => Ok(Change::SetReplace(read_replace(alloc, text)?)),
-        Name::DropReplace => Ok(Change::DropReplace(read_left(alloc, text)?)),
-        Name::Retract => Ok(Change::AddRetract(read_interval(alloc, text)?)),
-        Name::DropRetract => Ok(Change::DropRetract(read_interval(alloc, text)?)),
+        "module" => Ok(Change::Set(Setting::Module(read_path(alloc, text)?))),
+        "go" => Ok(Change::Set(Setting::Go(read_go(alloc, text)?))),
+        "require" => Ok(Change::Set(Setting::Require(read_pair(alloc, text)?))),
+        "droprequire" => Ok(Change::Drop(Target::Require(read_path(alloc, text)?))),
+        "exclude" => Ok(Change::Add(Addition::Exclude(read_pair(alloc, text)?))),
+        "dropexclude" => Ok(Change::Drop(Target::Exclude(read_pair(alloc, text)?))),
+        "replace" => Ok(Change::Set(Setting::Replace(read_replace(alloc, text)?))),
+        "dropreplace" => Ok(Change::Drop(Target::Replace(read_left(alloc, text)?))),
+        "retract" => Ok(Change::Add(Addition::Retract(read_interval(alloc, text)?))),
+        "dropretract" => Ok(Change::Drop(Target::Retract(read_interval(alloc, text)?))),
+        _ => Err(OpFault::Spelling),
     }
 }
 
@@ -103,9 +123,6 @@ impl Op {
         ensures spelling { IsErrOf result OpFault.Spelling → edit_in text.now ≡ None }
     {
         let Some((name, argument)) = split_at_equals(text) else {
-            return Err(OpFault::Spelling);
-        };
-        let Some(name) = name_in(name) else {
             return Err(OpFault::Spelling);
         };
         let change = read_named(alloc, name, argument)?;

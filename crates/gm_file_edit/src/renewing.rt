@@ -9,16 +9,17 @@ ghost use Rattle.gm_syntax.specs.Lines.{HasNoLineFeed};
 ghost use Rattle.gm_syntax.specs.Tokens.{Placed};
 ghost use Rattle.gm_file.specs.Directives.{block_after_lines};
 ghost use Rattle.gm_file.specs.Views.{replace_view};
+ghost use Rattle.gm_file_edit.specs.Edits.{Set};
 ghost use Rattle.gm_file_edit.specs.Fates.{remaining_from};
 ghost use Rattle.gm_file_edit.specs.Renewing.{before_arguments, made_new, with_arguments, with_last};
 ghost use Rattle.gm_file_edit.specs.NewWords.{replace_words};
 ghost use Rattle.gm_file_edit.specs.Packs.{line_at, marked};
 ghost use Rattle.gm_file_edit.specs.Sound.{IsSoundEdit, IsSoundRight};
-ghost use Rattle.gm_file_edit.specs.Views.{edit_of};
+ghost use Rattle.gm_file_edit.specs.Views.{setting_of};
 
 use crate::keyed_lines::KeyedLines;
 use crate::new_words::{push_replace, push_word};
-use crate::op::Change;
+use crate::op::Setting;
 use crate::packing::pack;
 use crate::targeting::block_after_line;
 use gm_file::Replace;
@@ -77,23 +78,22 @@ fn set_arguments<'a>(
     }
 }
 
-/// Rewrites a targeted line as the operation does. If memory runs out, some of its words may be missing.
+/// Rewrites a targeted line as a setting does. If memory runs out, some of its words may be missing.
 fn rewrite<'a>(
     alloc: Global,
-    change: &Change,
+    setting: &Setting,
     block: Option<&Token>,
     line: &mut Line<'a>,
 ) -> Result<(), AllocError>
-    requires { IsSoundEdit (edit_of change.now) }
+    requires { IsSoundEdit (Set (setting_of setting.now)) }
     ensures { OnOk result (line_of line.new
-        ≡ made_new (edit_of change.now) (option_map (λ t. t.now) block.entry) (line_of line.old)) }
+        ≡ made_new (Set (setting_of setting.now)) (option_map (λ t. t.now) block.entry) (line_of line.old)) }
 {
-    match change {
-        Change::SetModule(path) => set_last(alloc, line, path.as_str()),
-        Change::SetGo(text) => set_last(alloc, line, text.as_str()),
-        Change::SetRequire((_, version)) => set_last(alloc, line, version.as_str()),
-        Change::SetReplace(replace) => set_arguments(alloc, block, line, replace),
-        _ => Ok(()),
+    match setting {
+        Setting::Module(path) => set_last(alloc, line, path.as_str()),
+        Setting::Go(text) => set_last(alloc, line, text.as_str()),
+        Setting::Require((_, version)) => set_last(alloc, line, version.as_str()),
+        Setting::Replace(replace) => set_arguments(alloc, block, line, replace),
     }
 }
 
@@ -108,20 +108,20 @@ fn open_after<'w, 'a>(lines: &'w [Line<'a>]) -> Option<&'w Token<'a>>
     block
 }
 
-/// The line at an index as the operation rewrites it.
+/// The line at an index as a setting rewrites it.
 pub(crate) fn new_line<'a>(
     alloc: Global,
-    change: &Change,
+    setting: &Setting,
     lines: &KeyedLines<'a>,
     at: usize,
 ) -> Result<Line<'a>, AllocError>
-    requires written { IsSoundEdit (edit_of change.now) }
+    requires written { IsSoundEdit (Set (setting_of setting.now)) }
     requires in_range { at < length lines.now }
     ensures { IfOk result (λ l. line_of l
-        ≡ made_new (edit_of change.now) (block_after_lines None (take at lines.now)) (line_at lines.now at)) }
+        ≡ made_new (Set (setting_of setting.now)) (block_after_lines None (take at lines.now)) (line_at lines.now at)) }
 {
     let mut line = lines.line(at).copy(alloc)?;
-    rewrite(alloc, change, open_after(&lines.lines()[..at]), &mut line)?;
+    rewrite(alloc, setting, open_after(&lines.lines()[..at]), &mut line)?;
     Ok(line)
 }
 

@@ -21,7 +21,7 @@ ghost use Rattle.gm_file_edit.specs.Views.{edit_of, left_of_parts};
 
 use crate::about::is_about;
 use crate::keys::{NONE, Scope, Sought, ends_number, joined, text_number};
-use crate::op::Change;
+use crate::op::{Addition, Change, Setting, Target};
 use gm_file::{Directive, Interval, LineFault, Mode, read_line};
 use gm_name::{ModPath, ModVersion};
 use gm_syntax::{Kind, Line, Token};
@@ -49,16 +49,16 @@ pub(crate) fn verb_of(change: &Change) -> &'static str
     ensures { result.now ≡ verb_of (edit_of change.now) }
 {
     match change {
-        Change::SetModule(_) => "module",
-        Change::SetGo(_) => "go",
-        Change::SetRequire((_, _)) => "require",
-        Change::DropRequire(_) => "require",
-        Change::AddExclude((_, _)) => "exclude",
-        Change::DropExclude((_, _)) => "exclude",
-        Change::SetReplace(_) => "replace",
-        Change::DropReplace(_) => "replace",
-        Change::AddRetract(_) => "retract",
-        Change::DropRetract(_) => "retract",
+        Change::Set(Setting::Module(_)) => "module",
+        Change::Set(Setting::Go(_)) => "go",
+        Change::Set(Setting::Require((_, _))) => "require",
+        Change::Drop(Target::Require(_)) => "require",
+        Change::Add(Addition::Exclude((_, _))) => "exclude",
+        Change::Drop(Target::Exclude((_, _))) => "exclude",
+        Change::Set(Setting::Replace(_)) => "replace",
+        Change::Drop(Target::Replace(_)) => "replace",
+        Change::Add(Addition::Retract(_)) => "retract",
+        Change::Drop(Target::Retract(_)) => "retract",
     }
 }
 
@@ -104,16 +104,23 @@ pub(crate) fn sought_of(change: &Change) -> Sought
     ensures { result ≡ sought_of (edit_of change.now) }
 {
     match change {
-        Change::SetModule(_) => Sought::Any,
-        Change::SetGo(_) => Sought::Any,
-        Change::SetRequire((path, _)) => Sought::Path(text_number(path.as_str())),
-        Change::DropRequire(path) => Sought::Path(text_number(path.as_str())),
-        Change::AddExclude((path, version)) => Sought::Target(pair_number(path, version)),
-        Change::DropExclude((path, version)) => Sought::Target(pair_number(path, version)),
-        Change::SetReplace(replace) => sought_of_left(&replace.left, &replace.version),
-        Change::DropReplace(side) => Sought::Target(left_number(&side.path, &side.version)),
-        Change::AddRetract(ends) => Sought::Target(interval_number(ends)),
-        Change::DropRetract(ends) => Sought::Target(interval_number(ends)),
+        Change::Set(Setting::Module(_)) => Sought::Any,
+        Change::Set(Setting::Go(_)) => Sought::Any,
+        Change::Set(Setting::Require((path, _))) => Sought::Path(text_number(path.as_str())),
+        Change::Drop(Target::Require(path)) => Sought::Path(text_number(path.as_str())),
+        Change::Add(Addition::Exclude((path, version))) => Sought::Target(pair_number(
+            path, version,
+        )),
+        Change::Drop(Target::Exclude((path, version))) => Sought::Target(pair_number(
+            path, version,
+        )),
+        Change::Set(Setting::Replace(replace)) => sought_of_left(&replace.left, &replace.version),
+        Change::Drop(Target::Replace(side)) => Sought::Target(left_number(
+            &side.path,
+            &side.version,
+        )),
+        Change::Add(Addition::Retract(ends)) => Sought::Target(interval_number(ends)),
+        Change::Drop(Target::Retract(ends)) => Sought::Target(interval_number(ends)),
     }
 }
 

@@ -11,7 +11,7 @@ use Rattle.gm_syntax.specs.Parsed.{IsParsedAs}
 use Rattle.gm_syntax.specs.Tokens.{Placed}
 use Rattle.gm_file_edit.specs.Edited.{edited}
 use Rattle.gm_file_edit.specs.Kinds.{is_fit}
-use Rattle.gm_file_edit.specs.Edits.{Edit as Operation, SetModule, SetGo, SetRequire, DropRequire, AddExclude, DropExclude, SetReplace, DropReplace, AddRetract, DropRetract, edit_in}
+use Rattle.gm_file_edit.specs.Edits.{Edit as Operation, Set, ModuleIs, GoIs, RequireAt, Drop, AnyRequire, Add, Exclude, AnyExclude, ReplaceWith, AnyReplace, Retract, AnyRetract, edit_in}
 use Rattle.gm_file_edit.specs.Laws.{IsEditOf, directives_of}
 use Rattle.gm_file_edit.proofs.SaidAfter.{others-stay}
 use Rattle.gm_graph_cache.specs.Main.{Main, main_of}
@@ -68,18 +68,18 @@ is_edit text operation lines written fit sound = ((text, written), fit, sound.do
 
 retraction_stays : (text : List ℕ) (operation : Operation) (lines : List (Line Placed)) → edit_in text ≡ Some operation → is_fit operation ≡ true → AreSoundLines lines → is_retraction operation ≡ true
     → main_said (directives_of (edited operation lines)) ≡ main_said (directives_of lines)
-retraction_stays text (AddRetract ends) lines written fit sound is =
-    main_without_retractions ends (directives_of (edited (AddRetract ends) lines)) (directives_of lines) (others-stay (AddRetract ends) lines (is_edit text (AddRetract ends) lines written fit sound))
-retraction_stays text (DropRetract ends) lines written fit sound is =
-    main_without_retractions ends (directives_of (edited (DropRetract ends) lines)) (directives_of lines) (others-stay (DropRetract ends) lines (is_edit text (DropRetract ends) lines written fit sound))
-retraction_stays text (SetModule path) lines written fit sound is = absurd cc
-retraction_stays text (SetGo go) lines written fit sound is = absurd cc
-retraction_stays text (SetRequire p) lines written fit sound is = absurd cc
-retraction_stays text (DropRequire path) lines written fit sound is = absurd cc
-retraction_stays text (AddExclude p) lines written fit sound is = absurd cc
-retraction_stays text (DropExclude p) lines written fit sound is = absurd cc
-retraction_stays text (SetReplace r) lines written fit sound is = absurd cc
-retraction_stays text (DropReplace left) lines written fit sound is = absurd cc
+retraction_stays text (Add (Retract ends)) lines written fit sound is =
+    main_without_retractions ends (directives_of (edited (Add (Retract ends)) lines)) (directives_of lines) (others-stay (Add (Retract ends)) lines (is_edit text (Add (Retract ends)) lines written fit sound))
+retraction_stays text (Drop (AnyRetract ends)) lines written fit sound is =
+    main_without_retractions ends (directives_of (edited (Drop (AnyRetract ends)) lines)) (directives_of lines) (others-stay (Drop (AnyRetract ends)) lines (is_edit text (Drop (AnyRetract ends)) lines written fit sound))
+retraction_stays text (Set (ModuleIs path)) lines written fit sound is = absurd cc
+retraction_stays text (Set (GoIs go)) lines written fit sound is = absurd cc
+retraction_stays text (Set (RequireAt p)) lines written fit sound is = absurd cc
+retraction_stays text (Drop (AnyRequire path)) lines written fit sound is = absurd cc
+retraction_stays text (Add (Exclude p)) lines written fit sound is = absurd cc
+retraction_stays text (Drop (AnyExclude p)) lines written fit sound is = absurd cc
+retraction_stays text (Set (ReplaceWith r)) lines written fit sound is = absurd cc
+retraction_stays text (Drop (AnyReplace left)) lines written fit sound is = absurd cc
 
 -- ---- operations in turn
 

@@ -30,7 +30,7 @@ use Rattle.gm_file_edit.specs.Adding.{added, added_at, after_first_that, insert_
 use Rattle.gm_file_edit.specs.Verbs.{is_exclude, is_replace, is_require, is_retract}
 use Rattle.gm_file_edit.specs.Pass.{changed, edited_by_pass, put_in}
 use Rattle.gm_file_edit.specs.Edited.{edited}
-use Rattle.gm_file_edit.specs.Edits.{Edit, SetModule, SetGo, SetRequire, DropRequire, AddExclude, DropExclude, SetReplace, DropReplace, AddRetract, DropRetract, edit_in, go_text_in, has_byte, interval_in, left_in, module_of_pair, named, named_in, pair_in, path_in, replacing_in, right_in, sides_in, split_at_byte}
+use Rattle.gm_file_edit.specs.Edits.{Edit, Set, ModuleIs, GoIs, RequireAt, Drop, AnyRequire, Add, Exclude, AnyExclude, ReplaceWith, AnyReplace, Retract, AnyRetract, edit_in, go_text_in, has_byte, interval_in, left_in, module_of_pair, named, named_in, pair_in, path_in, replacing_in, right_in, sides_in, split_at_byte}
 use Rattle.gm_file_edit.specs.Fates.{Begun, Fate, begin, dropped, dropping_from, is_emptied, kept, remaining_from, renewed, renewing_from, with_line}
 use Rattle.gm_file_edit.specs.Holding.{directive_at, passes}
 use Rattle.gm_file_edit.specs.NewWords.{entry_at, interval_words, left_words, made_mark, made_word, pair_words, replace_words, right_words, single}
@@ -40,6 +40,8 @@ use Rattle.gm_file_edit.specs.Sound.{AreVersions, IsPairOfNames, IsSoundEdit, Is
 use Rattle.gm_file_edit.proofs.Feeds.{if-other, if-some}
 use Rattle.gm_file_edit.proofs.Parts.{both-are, map-some, then-some}
 use Rattle.gomod_laws.proofs.FormattingUtf8.{AreUtf8, AreUtf8Words, BeginsAscii, TypeOf, IsUtf8Line, IsUtf8Suffix, after_ascii, ascii_before, before_ascii, one_ascii}
+use Rattle.gm_file_edit.proofs.BySections.{edited-is-pass}
+use Rattle.gm_file_edit.proofs.Written.{named-by}
 
 -- ---- the words that an operation makes
 
@@ -89,16 +91,12 @@ IsUtf8Folder (Module path version) = Unit {0}
 
 -- the texts of an operation that are neither a path nor a version are UTF-8
 abbrev HasUtf8 : Edit → Type 0
-HasUtf8 (SetModule path) = Unit {0}
-HasUtf8 (SetGo text) = IsUtf8 text
-HasUtf8 (SetRequire p) = Unit {0}
-HasUtf8 (DropRequire path) = Unit {0}
-HasUtf8 (AddExclude p) = Unit {0}
-HasUtf8 (DropExclude p) = Unit {0}
-HasUtf8 (SetReplace r) = IsUtf8Folder r.1
-HasUtf8 (DropReplace left) = Unit {0}
-HasUtf8 (AddRetract ends) = Unit {0}
-HasUtf8 (DropRetract ends) = Unit {0}
+HasUtf8 (Set (ModuleIs path)) = Unit {0}
+HasUtf8 (Set (GoIs text)) = IsUtf8 text
+HasUtf8 (Set (RequireAt p)) = Unit {0}
+HasUtf8 (Drop t) = Unit {0}
+HasUtf8 (Add a) = Unit {0}
+HasUtf8 (Set (ReplaceWith r)) = IsUtf8Folder r.1
 
 right_utf8 : (text : List ℕ) (right : Right) → IsUtf8 text → right_in text ≡ Some right → IsUtf8Folder right
 unfolding right_in
@@ -126,49 +124,19 @@ go_utf8 text go utf8 e =
     let same : text ≡ go = cc in
     subst IsUtf8 same utf8
 
-named_utf8 : (word text : List ℕ) (edit : Edit) → IsUtf8 text → named_in (pair word text) ≡ Some edit → HasUtf8 edit
-unfolding named
-named_utf8 word text edit utf8 e =
-    elim (cases_Bool (bytes_eq word (codes "module"))) [
-      | inl is ↦ let m = map-some SetModule (path_in text) edit (rw is at e) in subst HasUtf8 {x = SetModule m.0} m.2 tt
-      | inr not_module ↦
-          elim (cases_Bool (bytes_eq word (codes "go"))) [
-            | inl is ↦ let m = map-some SetGo (go_text_in text) edit (rw (not_module, is) at e) in subst HasUtf8 {x = SetGo m.0} m.2 (go_utf8 text m.0 utf8 m.1)
-            | inr not_go ↦
-                elim (cases_Bool (bytes_eq word (codes "require"))) [
-                  | inl is ↦ let m = map-some SetRequire (pair_in text) edit (rw (not_module, not_go, is) at e) in subst HasUtf8 {x = SetRequire m.0} m.2 tt
-                  | inr not_require ↦
-                      elim (cases_Bool (bytes_eq word (codes "droprequire"))) [
-                        | inl is ↦ let m = map-some DropRequire (path_in text) edit (rw (not_module, not_go, not_require, is) at e) in subst HasUtf8 {x = DropRequire m.0} m.2 tt
-                        | inr not_droprequire ↦
-                            elim (cases_Bool (bytes_eq word (codes "exclude"))) [
-                              | inl is ↦ let m = map-some AddExclude (pair_in text) edit (rw (not_module, not_go, not_require, not_droprequire, is) at e) in subst HasUtf8 {x = AddExclude m.0} m.2 tt
-                              | inr not_exclude ↦
-                                  elim (cases_Bool (bytes_eq word (codes "dropexclude"))) [
-                                    | inl is ↦ let m = map-some DropExclude (pair_in text) edit (rw (not_module, not_go, not_require, not_droprequire, not_exclude, is) at e) in subst HasUtf8 {x = DropExclude m.0} m.2 tt
-                                    | inr not_dropexclude ↦
-                                        elim (cases_Bool (bytes_eq word (codes "replace"))) [
-                                          | inl is ↦ let m = map-some SetReplace (replacing_in text) edit (rw (not_module, not_go, not_require, not_droprequire, not_exclude, not_dropexclude, is) at e) in subst HasUtf8 {x = SetReplace m.0} m.2 (replacing_utf8 text m.0 utf8 m.1)
-                                          | inr not_replace ↦
-                                              elim (cases_Bool (bytes_eq word (codes "dropreplace"))) [
-                                                | inl is ↦ let m = map-some DropReplace (left_in text) edit (rw (not_module, not_go, not_require, not_droprequire, not_exclude, not_dropexclude, not_replace, is) at e) in subst HasUtf8 {x = DropReplace m.0} m.2 tt
-                                                | inr not_dropreplace ↦
-                                                    elim (cases_Bool (bytes_eq word (codes "retract"))) [
-                                                      | inl is ↦ let m = map-some AddRetract (interval_in text) edit (rw (not_module, not_go, not_require, not_droprequire, not_exclude, not_dropexclude, not_replace, not_dropreplace, is) at e) in subst HasUtf8 {x = AddRetract m.0} m.2 tt
-                                                      | inr not_retract ↦
-                                                          elim (cases_Bool (bytes_eq word (codes "dropretract"))) [
-                                                            | inl is ↦ let m = map-some DropRetract (interval_in text) edit (rw (not_module, not_go, not_require, not_droprequire, not_exclude, not_dropexclude, not_replace, not_dropreplace, not_retract, is) at e) in subst HasUtf8 {x = DropRetract m.0} m.2 tt
-                                                            | inr not_dropretract ↦ let none : None ≡ Some edit = rw (not_module, not_go, not_require, not_droprequire, not_exclude, not_dropexclude, not_replace, not_dropreplace, not_retract, not_dropretract) at e in absurd cc
-                                                          ]
-                                                    ]
-                                              ]
-                                        ]
-                                  ]
-                            ]
-                      ]
-                ]
-          ]
-    ]
+named_utf8 : (word text : List ℕ) (edit : Edit) → IsUtf8 text → named word text ≡ Some edit → HasUtf8 edit
+named_utf8 word text edit utf8 e = named-by HasUtf8 word text edit (record {
+  of_module = λ path is. tt;
+  of_go = λ go is. go_utf8 text go utf8 is;
+  of_require = λ p is. tt;
+  of_droprequire = λ path is. tt;
+  of_exclude = λ p is. tt;
+  of_dropexclude = λ p is. tt;
+  of_replace = λ r is. replacing_utf8 text r utf8 is;
+  of_dropreplace = λ left is. tt;
+  of_retract = λ ends is. tt;
+  of_dropretract = λ ends is. tt;
+}) e
 
 written_utf8 : (text : List ℕ) (edit : Edit) → IsUtf8 text → edit_in text ≡ Some edit → HasUtf8 edit
 unfolding edit_in
@@ -451,30 +419,23 @@ verb_utf8 text all = low_text (λ b. nat_lt b 128) (λ b e. grind (arith, nat_te
 
 changed_good : (edit : Edit) (lines : List (Line Placed)) → IsSoundEdit edit → HasUtf8 edit → AreGood lines → AreGood (changed edit lines)
 unfolding changed
-changed_good (SetModule path) lines sound utf8 are = renewed_good is_module (with_last path) lines (last_good path (path_utf8 path sound)) are
-changed_good (SetGo text) lines sound utf8 are = renewed_good is_go (with_last text) lines (last_good text utf8) are
-changed_good (SetRequire p) lines sound utf8 are = renewed_good (requires_path p.0) (with_last p.1) lines (last_good p.1 (version_utf8 p.1 sound.1)) are
-changed_good (DropRequire path) lines sound utf8 are = dropped_good (requires_path path) lines are
-changed_good (AddExclude p) lines sound utf8 are = are
-changed_good (DropExclude p) lines sound utf8 are = dropped_good (excludes_pair p) lines are
-changed_good (SetReplace r) lines sound utf8 are = renewed_good (is_replaced_by r.0) (with_arguments (replace_words r)) lines (arguments_good (replace_words r) (replace_good r sound.0 sound.1 utf8)) are
-changed_good (DropReplace left) lines sound utf8 are = dropped_good (replaces_left left) lines are
-changed_good (AddRetract ends) lines sound utf8 are = are
-changed_good (DropRetract ends) lines sound utf8 are = dropped_good (retracts_ends ends) lines are
+changed_good (Set (ModuleIs path)) lines sound utf8 are = renewed_good is_module (with_last path) lines (last_good path (path_utf8 path sound)) are
+changed_good (Set (GoIs text)) lines sound utf8 are = renewed_good is_go (with_last text) lines (last_good text utf8) are
+changed_good (Set (RequireAt p)) lines sound utf8 are = renewed_good (requires_path p.0) (with_last p.1) lines (last_good p.1 (version_utf8 p.1 sound.1)) are
+changed_good (Drop t) lines sound utf8 are = dropped_good (about (Drop t)) lines are
+changed_good (Add a) lines sound utf8 are = are
+changed_good (Set (ReplaceWith r)) lines sound utf8 are = renewed_good (is_replaced_by r.0) (with_arguments (replace_words r)) lines (arguments_good (replace_words r) (replace_good r sound.0 sound.1 utf8)) are
 
 put_in_good : (edit : Edit) (lines : List (Line Placed)) → IsSoundEdit edit → HasUtf8 edit → AreGood lines → AreGood (put_in edit lines)
 unfolding put_in
-put_in_good (SetModule path) lines sound utf8 are = are
-put_in_good (SetGo text) lines sound utf8 are =
+put_in_good (Set (ModuleIs path)) lines sound utf8 are = are
+put_in_good (Set (GoIs text)) lines sound utf8 are =
     after_first_good is_module (Blank ∷ single (codes "go") (made_word text ∷ []) ∷ []) lines (tt, (single_good (codes "go") (made_word text ∷ []) (verb_utf8 (codes "go") refl) (new_utf8 text utf8, tt), tt)) are
-put_in_good (SetRequire p) lines sound utf8 are = added_good is_require (codes "require") (pair_words p) lines (verb_utf8 (codes "require") refl) (pair_good p sound) are
-put_in_good (DropRequire path) lines sound utf8 are = are
-put_in_good (AddExclude p) lines sound utf8 are = added_good is_exclude (codes "exclude") (pair_words p) lines (verb_utf8 (codes "exclude") refl) (pair_good p sound) are
-put_in_good (DropExclude p) lines sound utf8 are = are
-put_in_good (SetReplace r) lines sound utf8 are = added_good is_replace (codes "replace") (replace_words r) lines (verb_utf8 (codes "replace") refl) (replace_good r sound.0 sound.1 utf8) are
-put_in_good (DropReplace left) lines sound utf8 are = are
-put_in_good (AddRetract ends) lines sound utf8 are = added_good is_retract (codes "retract") (interval_words ends) lines (verb_utf8 (codes "retract") refl) (interval_good ends sound) are
-put_in_good (DropRetract ends) lines sound utf8 are = are
+put_in_good (Set (RequireAt p)) lines sound utf8 are = added_good is_require (codes "require") (pair_words p) lines (verb_utf8 (codes "require") refl) (pair_good p sound) are
+put_in_good (Drop t) lines sound utf8 are = are
+put_in_good (Add (Exclude p)) lines sound utf8 are = added_good is_exclude (codes "exclude") (pair_words p) lines (verb_utf8 (codes "exclude") refl) (pair_good p sound) are
+put_in_good (Set (ReplaceWith r)) lines sound utf8 are = added_good is_replace (codes "replace") (replace_words r) lines (verb_utf8 (codes "replace") refl) (replace_good r sound.0 sound.1 utf8) are
+put_in_good (Add (Retract ends)) lines sound utf8 are = added_good is_retract (codes "retract") (interval_words ends) lines (verb_utf8 (codes "retract") refl) (interval_good ends sound) are
 
 pass_good : (text : List ℕ) (edit : Edit) (lines : List (Line Placed)) → IsUtf8 text → edit_in text ≡ Some edit → IsSoundEdit edit → AreGood lines → AreGood (edited_by_pass edit lines)
 unfolding edited_by_pass

@@ -14,7 +14,7 @@ use Rattle.gm_file.specs.Directives.{Directive, DeclaresModule, DeclaresGo, Requ
 use Rattle.gm_file.specs.Fields.{as_exclusion, as_go, as_module, as_replacing, as_requirement}
 use Rattle.gm_file_edit.specs.About.{requires_path}
 use Rattle.gm_file_edit.specs.Edited.{edited}
-use Rattle.gm_file_edit.specs.Edits.{Edit as Operation, DropRequire, SetRequire, edit_in}
+use Rattle.gm_file_edit.specs.Edits.{Edit as Operation, Drop, AnyRequire, Set, RequireAt, edit_in}
 use Rattle.gm_file_edit.specs.Laws.{IsEditOf, directives_of}
 use Rattle.gm_file_edit.proofs.SaidAfter.{dropped-is-gone, others-stay}
 use Rattle.gm_graph_cache.specs.Main.{Main, ModuleVersion}
@@ -105,19 +105,19 @@ requires_only part none path (Replaces r) is = absurd (false≢true is)
 requires_only part none path (Retracts ends) is = absurd (false≢true is)
 requires_only part none path Kept is = absurd (false≢true is)
 
-module _ (path : List ℕ) (lines : List (Line Placed)) (is : IsEditOf (DropRequire path) lines) where
+module _ (path : List ℕ) (lines : List (Line Placed)) (is : IsEditOf (Drop (AnyRequire path)) lines) where
   abbrev before : List Directive
   before = directives_of lines
 
   abbrev after : List Directive
-  after = directives_of (edited (DropRequire path) lines)
+  after = directives_of (edited (Drop (AnyRequire path)) lines)
 
   abbrev test : Directive → Bool
   test d = requires_path path d
 
   rest_after_drop : SameRest before after
   rest_after_drop =
-      let same = others-stay (DropRequire path) lines is in
+      let same = others-stay (Drop (AnyRequire path)) lines is in
       record {
         modules = sym (said_stays as_module test after before (requires_only as_module (λ p. refl) path) same);
         gos = sym (said_stays as_go test after before (requires_only as_go (λ p. refl) path) same);
@@ -128,7 +128,7 @@ module _ (path : List ℕ) (lines : List (Line Placed)) (is : IsEditOf (DropRequ
   kept_by_drop : (x : ModuleVersion) → bytes_eq x.0 path ≡ false → Contains (filter_map as_requirement before) x
       → Contains (filter_map as_requirement after) x
   kept_by_drop x e there =
-      let same = others-stay (DropRequire path) lines is in
+      let same = others-stay (Drop (AnyRequire path)) lines is in
       let kept = in_filtered (λ d. not (test d)) before (Requires x) (required_of before x there) (ap not e) in
       required_in after x (from_filtered (λ d. not (test d)) after (Requires x)
       (subst (λ (ds : List Directive). Contains ds (Requires x)) (sym same) kept)).0
@@ -139,18 +139,18 @@ module _ (path : List ℕ) (lines : List (Line Placed)) (is : IsEditOf (DropRequ
     where
       go : (b : Bool) → bytes_eq x.0 path ≡ b → Contains (filter_map as_requirement before) x
       go true e =
-          absurd (not_required path after (dropped-is-gone (DropRequire path) lines refl) x there (texts_same x.0 path e))
+          absurd (not_required path after (dropped-is-gone (Drop (AnyRequire path)) lines refl) x there (texts_same x.0 path e))
       go false e =
-          let same = others-stay (DropRequire path) lines is in
+          let same = others-stay (Drop (AnyRequire path)) lines is in
           let kept = in_filtered (λ d. not (test d)) after (Requires x) (required_of after x there) (ap not e) in
           required_in before x (from_filtered (λ d. not (test d)) before (Requires x)
           (subst (λ (ds : List Directive). Contains ds (Requires x)) same kept)).0
 
 pub drop_changes_no_list : DropChangesNoList
 drop_changes_no_list operations path file text sums first second edges seen graph one next runs alike has shows stands =
-    let said = said_by operations (DropRequire path) file text first second has runs.first_says runs.second_says in
+    let said = said_by operations (Drop (AnyRequire path)) file text first second has runs.first_says runs.second_says in
     let ds : List Directive = directives_of said.lines in
-    let es : List Directive = directives_of (edited (DropRequire path) said.lines) in
+    let es : List Directive = directives_of (edited (Drop (AnyRequire path)) said.lines) in
     let rest = said_differ ds es first second (rest_after_drop path said.lines said.edit) said.first_is said.second_is in
     let keeps : (x : ModuleVersion) → bytes_eq x.0 path ≡ false → Contains first.requirements x → Contains second.requirements x =
     λ x e there.
@@ -167,19 +167,19 @@ drop_changes_no_list operations path file text sums first second edges seen grap
 
 -- ---- `require=`
 
-kept_by_upgrade : (p : Pair) (lines : List (Line Placed)) → IsEditOf (SetRequire p) lines → (x : ModuleVersion)
+kept_by_upgrade : (p : Pair) (lines : List (Line Placed)) → IsEditOf (Set (RequireAt p)) lines → (x : ModuleVersion)
     → bytes_eq x.0 p.0 ≡ false → Contains (filter_map as_requirement (directives_of lines)) x
-    → Contains (filter_map as_requirement (directives_of (edited (SetRequire p) lines))) x
+    → Contains (filter_map as_requirement (directives_of (edited (Set (RequireAt p)) lines))) x
 kept_by_upgrade p lines is x e there =
-    required_in (directives_of (edited (SetRequire p) lines)) x
+    required_in (directives_of (edited (Set (RequireAt p)) lines)) x
     (still_there p lines is x (required_of (directives_of lines) x there) (λ same. absurd (texts_differ x.0 p.0 e (sym same))))
 
 -- what both main files say but for what they require, and what the second still requires of other paths
-pub after_require : (p : Pair) (first second : Main) → AreSaidBy (SetRequire p) first second → DifferInRequirements first second
+pub after_require : (p : Pair) (first second : Main) → AreSaidBy (Set (RequireAt p)) first second → DifferInRequirements first second
     × ((x : ModuleVersion) → bytes_eq x.0 p.0 ≡ false → Contains first.requirements x → Contains second.requirements x)
 after_require p first second said =
     let ds : List Directive = directives_of said.lines in
-    let es : List Directive = directives_of (edited (SetRequire p) said.lines) in (
+    let es : List Directive = directives_of (edited (Set (RequireAt p)) said.lines) in (
       said_differ ds es first second (rest_stays p said.lines said.edit) said.first_is said.second_is,
       λ x e there.
           subst (λ (m : Main). Contains m.requirements x) said.second_is
@@ -189,7 +189,7 @@ after_require p first second said =
 pub upgrade_lowers_no_row : UpgradeLowersNoRow
 upgrade_lowers_no_row operations path version file text sums first second edges seen graph one next runs alike has shows stands =
     let p : Pair = pair path version in
-    let said = said_by operations (SetRequire p) file text first second has runs.first_says runs.second_says in
+    let said = said_by operations (Set (RequireAt p)) file text first second has runs.first_says runs.second_says in
     let (rest, keeps) = after_require p first second said in
     no_row_is_lower file text sums first second edges seen graph one next runs alike shows rest
     (leaves_out first second rest edges path stands keeps)

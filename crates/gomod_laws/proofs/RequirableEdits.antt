@@ -13,7 +13,7 @@ use Rattle.gm_file.specs.Fields.{as_exclusion, as_go, as_module, as_replacing, a
 use Rattle.gm_file_edit.specs.About.{requires_path}
 use Rattle.gm_file_edit.specs.Edited.{edited}
 use Rattle.gm_file_edit.specs.Kinds.{is_fit}
-use Rattle.gm_file_edit.specs.Edits.{SetRequire, edit_in}
+use Rattle.gm_file_edit.specs.Edits.{Set, RequireAt, edit_in}
 use Rattle.gm_file_edit.specs.Laws.{IsEditOf, directives_of}
 use Rattle.gm_file_edit.proofs.EditedSound.{edited-document}
 use Rattle.gm_file_edit.proofs.SaidAfter.{others-stay, set-stands-alone}
@@ -135,19 +135,19 @@ required_of (d ∷ ds) x there = go d there (required_of ds x)
 -- ---- one edit that requires a module
 
 -- the directives before and after an edit that requires p
-module _ (p : Pair) (lines : List (Line Placed)) (is : IsEditOf (SetRequire p) lines) where
+module _ (p : Pair) (lines : List (Line Placed)) (is : IsEditOf (Set (RequireAt p)) lines) where
   abbrev before : List Directive
   before = directives_of lines
 
   abbrev after : List Directive
-  after = directives_of (edited (SetRequire p) lines)
+  after = directives_of (edited (Set (RequireAt p)) lines)
 
   abbrev test : Directive → Bool
   test d = requires_path p.0 d
 
   pub rest_stays : SameRest before after
   rest_stays =
-      let same = others-stay (SetRequire p) lines is in
+      let same = others-stay (Set (RequireAt p)) lines is in
       record {
         modules = same_after as_module test before after (no_module p.0) same;
         gos = same_after as_go test before after (no_go p.0) same;
@@ -157,7 +157,7 @@ module _ (p : Pair) (lines : List (Line Placed)) (is : IsEditOf (SetRequire p) l
 
   pub set_there : Contains after (Requires p)
   set_there =
-      let alone = set-stands-alone (SetRequire p) lines (Requires p) is refl in
+      let alone = set-stands-alone (Set (RequireAt p)) lines (Requires p) is refl in
       (from_filtered test after (Requires p)
       (subst (λ (ds : List Directive). Contains ds (Requires p)) (sym alone) (member_head (Requires p) []))).0
 
@@ -166,14 +166,14 @@ module _ (p : Pair) (lines : List (Line Placed)) (is : IsEditOf (SetRequire p) l
     where
       go : (b : Bool) → bytes_eq x.0 p.0 ≡ b → (p ≡ x) ⊎ Contains before (Requires x)
       go true e =
-          let alone = set-stands-alone (SetRequire p) lines (Requires p) is refl in
+          let alone = set-stands-alone (Set (RequireAt p)) lines (Requires p) is refl in
           let inside = subst (λ (ds : List Directive). Contains ds (Requires x)) alone (in_filtered test after (Requires x) there e) in
           elim (member_cases (Requires p) (Requires x) [] inside) [
             | inl same ↦ inl (one_requirement p x same)
             | inr none ↦ absurd (no_member (Requires x) none)
           ]
       go false e =
-          let same = others-stay (SetRequire p) lines is in
+          let same = others-stay (Set (RequireAt p)) lines is in
           let kept = in_filtered (λ d. not (test d)) after (Requires x) there (ap not e) in
           inr (from_filtered (λ d. not (test d)) before (Requires x)
           (subst (λ (ds : List Directive). Contains ds (Requires x)) same kept)).0
@@ -184,7 +184,7 @@ module _ (p : Pair) (lines : List (Line Placed)) (is : IsEditOf (SetRequire p) l
       go : (b : Bool) → bytes_eq x.0 p.0 ≡ b → Contains after (Requires x)
       go true e = subst (λ (q : Pair). Contains after (Requires q)) (one (sym (texts_same x.0 p.0 e))) set_there
       go false e =
-          let same = others-stay (SetRequire p) lines is in
+          let same = others-stay (Set (RequireAt p)) lines is in
           let kept = in_filtered (λ d. not (test d)) before (Requires x) there (ap not e) in
           (from_filtered (λ d. not (test d)) after (Requires x)
           (subst (λ (ds : List Directive). Contains ds (Requires x)) (sym same) kept)).0
@@ -199,8 +199,8 @@ pub record AreFaultless (lines : List (Line Placed)) : Type 0 where
 -- an edit can require the module
 pub record IsRequirable (p : Pair) : Type 0 where
   pub spelling : List ℕ
-  pub spelled : edit_in spelling ≡ Some (SetRequire p)
-  pub fits : is_fit (SetRequire p) ≡ true
+  pub spelled : edit_in spelling ≡ Some (Set (RequireAt p))
+  pub fits : is_fit (Set (RequireAt p)) ≡ true
 
 -- What a file says after the modules were required, of which no two have the same path.
 pub record AreRequired (ps : List Pair) (lines after : List (Line Placed)) : Type 0 where
@@ -215,7 +215,7 @@ pub record AreRequired (ps : List Pair) (lines after : List (Line Placed)) : Typ
 pub required_in_turn : (ps : List Pair) (lines : List (Line Placed)) → AreFaultless lines
     → ((p : Pair) → Contains ps p → IsRequirable p)
     → ((p q : Pair) → Contains ps p → Contains ps q → p.0 ≡ q.0 → p ≡ q)
-    → AreRequired ps lines (edited_in_turn (map SetRequire ps) lines)
+    → AreRequired ps lines (edited_in_turn (map (λ p. Set (RequireAt p)) ps) lines)
 required_in_turn [] lines are can one = record {
   sound = are;
   rest = record { modules = refl; gos = refl; exclusions = refl; replaces = refl };
@@ -225,9 +225,9 @@ required_in_turn [] lines are can one = record {
 }
 required_in_turn (p ∷ ps) lines are can one =
     let able = can p (member_head p ps) in
-    let is : IsEditOf (SetRequire p) lines = ((able.spelling, able.spelled), able.fits, are.document, are.faultless) in
-    let next = edited (SetRequire p) lines in
-    let good = edited-document (SetRequire p) lines (written-sound able.spelling (SetRequire p) able.spelled) able.fits are.document are.faultless in
+    let is : IsEditOf (Set (RequireAt p)) lines = ((able.spelling, able.spelled), able.fits, are.document, are.faultless) in
+    let next = edited (Set (RequireAt p)) lines in
+    let good = edited-document (Set (RequireAt p)) lines (written-sound able.spelling (Set (RequireAt p)) able.spelled) able.fits are.document are.faultless in
     let sound : AreFaultless next = record { document = good.0; faultless = good.1 } in
     let later = required_in_turn ps next sound (λ q there. can q (member_tail p q ps there))
     (λ q r a b. one q r (member_tail p q ps a) (member_tail p r ps b)) in
@@ -241,7 +241,7 @@ required_in_turn (p ∷ ps) lines are can one =
         replaces = here.replaces ∙ later.rest.replaces;
       };
       each = λ x there. elim (member_cases p x ps there) [
-        | inl same ↦ subst (λ (q : Pair). Contains (directives_of (edited_in_turn (map SetRequire ps) next)) (Requires q)) same
+        | inl same ↦ subst (λ (q : Pair). Contains (directives_of (edited_in_turn (map (λ p. Set (RequireAt p)) ps) next)) (Requires q)) same
             (later.keeps p (set_there p lines is) (λ q inside. one q p (member_tail p q ps inside) (member_head p ps)))
         | inr behind ↦ later.each x behind
       ];

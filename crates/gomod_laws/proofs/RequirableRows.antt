@@ -10,7 +10,7 @@ use Rattle.gm_syntax.specs.Tokens.{Placed}
 use Rattle.gm_file.specs.Directives.{Strict, Directive, Pair, Replacing}
 use Rattle.gm_file.specs.Faults.{go_in}
 use Rattle.gm_file.specs.Fields.{first, replacement_of}
-use Rattle.gm_file_edit.specs.Edits.{Edit as Change, SetRequire, edit_in}
+use Rattle.gm_file_edit.specs.Edits.{Edit as Change, Set, RequireAt, edit_in}
 use Rattle.gm_file_edit.specs.Laws.{directives_of}
 use Rattle.gm_store.specs.Asked.{Name, Reply}
 use Rattle.gm_graph_cache.specs.Main.{Main, is_pruned_by, main_of}
@@ -50,24 +50,24 @@ differ ds es same = record {
 
 -- what the operations require
 pub record AreRows (rows : List Entry) (texts : List (List ℕ)) (ps : List Pair) : Type 0 where
-  pub edits : filter_map edit_in texts ≡ map SetRequire ps
+  pub edits : filter_map edit_in texts ≡ map (λ p. Set (RequireAt p)) ps
   pub able : (p : Pair) → Contains ps p → IsRequirable p
   pub listed : (p : Pair) → Contains ps p → HasRow rows p
-  pub each : (text : List ℕ) (x : Pair) → Contains texts text → edit_in text ≡ Some (SetRequire x) → Contains ps x
+  pub each : (text : List ℕ) (x : Pair) → Contains texts text → edit_in text ≡ Some (Set (RequireAt x)) → Contains ps x
 
-same_required : (p q : Pair) → Some (SetRequire p) ≡ Some (SetRequire q) → p ≡ q
+same_required : (p q : Pair) → Some (Set (RequireAt p)) ≡ Some (Set (RequireAt q)) → p ≡ q
 same_required p q e = cc e
 
 rows_of : (rows : List Entry) (number : ℕ) (texts : List (List ℕ))
-    → ((text : List ℕ) → Contains texts text → (x : Pair) × HasRow rows x × (edit_in text ≡ Some (SetRequire x)))
+    → ((text : List ℕ) → Contains texts text → (x : Pair) × HasRow rows x × (edit_in text ≡ Some (Set (RequireAt x))))
     → refusals_from number texts ≡ [] → (ps : List Pair) × AreRows rows texts ps
 rows_of rows number [] are none =
     ([], record { edits = refl; able = λ p there. absurd (no_member p there); listed = λ p there. absurd (no_member p there); each = λ text x there e. absurd (no_member text there) })
 rows_of rows number (text ∷ texts) are none =
     let (p, has, spelled) = are text (member_head text texts) in
-    let now : option_to_list (option_map (numbered number) (refusal_of (Some (SetRequire p)))) ++ refusals_from (number + 1) texts ≡ [] =
+    let now : option_to_list (option_map (numbered number) (refusal_of (Some (Set (RequireAt p))))) ++ refusals_from (number + 1) texts ≡ [] =
     subst (λ (o : Option Change). option_to_list (option_map (numbered number) (refusal_of o)) ++ refusals_from (number + 1) texts ≡ []) spelled none in
-    let (fit, later) = no_refusal number (SetRequire p) (refusals_from (number + 1) texts) now in
+    let (fit, later) = no_refusal number (Set (RequireAt p)) (refusals_from (number + 1) texts) now in
     let (ps, rest) = rows_of rows (number + 1) texts (λ t there. are t (member_tail text t texts there)) later in (
       p ∷ ps,
       record {
@@ -109,7 +109,7 @@ edited_rows_stay operations file text sums main rows asked later one next alike 
     let (ps, are) = rows_of rows 1 texts (λ t there. require.are_rows t there) edit.none in
     let start_is : AreFaultless lines = record { document = edit.sound.document; faultless = edit.sound.faultless } in
     let turn = required_in_turn ps lines start_is are.able (λ p q a b same. one_row file sums asked main rows one shows p q (are.listed p a) (are.listed q b) same) in
-    let end = edited_in_turn (map SetRequire ps) lines in
+    let end = edited_in_turn (map (λ p. Set (RequireAt p)) ps) lines in
     let turns : edited_in_turn (filter_map edit_in texts) lines ≡ end = ap (λ (es : List Change). edited_in_turn es lines) are.edits in
     let sound : AreSoundLines end = subst AreSoundLines turns (in_turn_sound 1 texts lines (texts_utf8 operations.items) edit.none edit.sound) in
     let second : Main = main_said (directives_of end) in

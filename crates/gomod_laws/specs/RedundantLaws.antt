@@ -3,7 +3,7 @@
 use Rattle.std.specs.Prelude.{◌≡◌, ◌⊎◌, ◌∷◌, ℕ, false, List, [], Option, Some, None, String}
 use Rattle.std.specs.Global.{Global, Vec}
 use Rattle.gm_file.specs.Directives.{pair}
-use Rattle.gm_file_edit.specs.Edits.{Edit as Operation, DropRequire, SetRequire, edit_in}
+use Rattle.gm_file_edit.specs.Edits.{Edit as Operation, Drop, AnyRequire, Set, RequireAt, edit_in}
 use Rattle.gm_store.specs.Asked.{Name, Reply}
 use Rattle.gm_graph_cache.specs.Main.{Main, ModuleVersion, is_pruned_by}
 use Rattle.gm_graph_select.specs.declared.step.Edge.{Edge}
@@ -70,7 +70,7 @@ abbrev pub DropChangesNoList : Type 0
 DropChangesNoList = (operations : Vec (String Global)) (path file text : List ℕ) (sums : Option (List ℕ))
     (first second : Main) (edges : List Edge) (seen : List (Name × Reply)) (graph one next : Outcome)
     (runs : AreTwoRuns (Rows None None) file text sums first second one next) → AnswerAlike seen runs.later
-    → IsEditedBy operations (DropRequire path) file text → ShowsEdges (run_over text sums seen) second edges graph
+    → IsEditedBy operations (Drop (AnyRequire path)) file text → ShowsEdges (run_over text sums seen) second edges graph
     → EachStillStands first second edges path → PrintsAndStays one next
 
 -- If so, `require=PATH@VERSION` lowers no row, that of the path included, and `list` prints before and after.
@@ -78,6 +78,6 @@ abbrev pub UpgradeLowersNoRow : Type 0
 UpgradeLowersNoRow = (operations : Vec (String Global)) (path version file text : List ℕ) (sums : Option (List ℕ))
     (first second : Main) (edges : List Edge) (seen : List (Name × Reply)) (graph one next : Outcome)
     (runs : AreTwoRuns (Rows None None) file text sums first second one next) → AnswerAlike seen runs.later
-    → IsEditedBy operations (SetRequire (pair path version)) file text
+    → IsEditedBy operations (Set (RequireAt (pair path version))) file text
     → ShowsEdges (run_over text sums seen) second edges graph → EachStillStands first second edges path
     → LowersNothing (run_over file sums runs.asked) (run_over text sums runs.later) first second one next

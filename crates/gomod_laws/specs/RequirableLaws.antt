@@ -2,7 +2,7 @@
 use Rattle.std.specs.Prelude.{◌≡◌, ◌↔◌, ◌⊎◌, ◌≤◌, ℕ, false, List, Option, Some, None, Contains, String, length}
 use Rattle.std.specs.Global.{Global, Vec}
 use Rattle.gm_file.specs.Directives.{Right}
-use Rattle.gm_file_edit.specs.Edits.{SetRequire, edit_in}
+use Rattle.gm_file_edit.specs.Edits.{Set, RequireAt, edit_in}
 use Rattle.gm_store.specs.Asked.{Name, Reply}
 use Rattle.gm_graph_cache.specs.Main.{Main, ModuleVersion, is_pruned_by, replacement_in}
 use Rattle.gm_graph_select.specs.declared.step.Edge.{Edge}
@@ -90,9 +90,9 @@ RowsCanBeRequired = (file more : List ℕ) (sums : Option (List ℕ)) (first sec
 -- Each operation is `require=` of a row, and each row has one.
 pub record RequireTheRows (rows : List Entry) (operations : List (List ℕ)) : Type 0 where
   pub are_rows : (text : List ℕ) → Contains operations text
-      → (x : ModuleVersion) × HasRow rows x × (edit_in text ≡ Some (SetRequire x))
+      → (x : ModuleVersion) × HasRow rows x × (edit_in text ≡ Some (Set (RequireAt x)))
   pub each_row : (x : ModuleVersion) → HasRow rows x
-      → (text : List ℕ) × Contains operations text × (edit_in text ≡ Some (SetRequire x))
+      → (text : List ℕ) × Contains operations text × (edit_in text ≡ Some (Set (RequireAt x)))
 
 -- If the main file is not pruned and `list` prints, it prints the same over what `edit` prints with `require=` of each
 -- row, if that has at most 16,777,216 bytes. More can't be read.

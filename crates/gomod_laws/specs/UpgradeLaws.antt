@@ -6,7 +6,7 @@ use Rattle.std.specs.Ordering.{is_gt, is_lt}
 use Rattle.gm_name.specs.Version.{version_cmp}
 use Rattle.gm_file.specs.Directives.{pair}
 use Rattle.gm_file.specs.Fields.{Dependency}
-use Rattle.gm_file_edit.specs.Edits.{SetRequire}
+use Rattle.gm_file_edit.specs.Edits.{Set, RequireAt}
 use Rattle.gm_store.specs.Asked.{Name, Reply, answer_in, bytes}
 use Rattle.gm_graph_cache.specs.Main.{Main, ModuleVersion, is_excluded, is_pruned_by, without_excluded}
 use Rattle.gm_graph_cache.specs.Reading.{IsReadAsDependency, file_of}
@@ -62,7 +62,7 @@ abbrev pub RequireLaterLowersNoRow : Type 0
 RequireLaterLowersNoRow = (operations : Vec (String Global)) (path version file text : List ℕ)
     (sums : Option (List ℕ)) (first second : Main) (one next : Outcome)
     (runs : AreTwoRuns (Rows None None) file text sums first second one next)
-    → IsEditedBy operations (SetRequire (pair path version)) file text
+    → IsEditedBy operations (Set (RequireAt (pair path version))) file text
     → ((old : List ℕ) → IsTop first (path, old) → is_gt (version_cmp old version) ≡ false)
     → is_excluded first (path, version) ≡ false → LaterRequireNoLess first runs.asked runs.later
     → HasPrinted one → HasPrinted next

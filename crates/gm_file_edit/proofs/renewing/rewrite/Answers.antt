@@ -1,35 +1,35 @@
 use Rattle.std.proofs.Common.{subst}
 use Rattle.std.specs.Option.{option_map}
 use Rattle.std.specs.String.{string_bytes}
-use Rattle.gm_file_edit.specs.declared.op.Change.{Change}
-use Rattle.gm_file_edit.specs.Edits.{SetGo}
+use Rattle.gm_file_edit.specs.declared.op.Setting.{Setting}
+use Rattle.gm_file_edit.specs.Edits.{Set, GoIs}
 use Rattle.gm_file_edit.specs.Sound.{IsSoundEdit}
-use Rattle.gm_file_edit.specs.Views.{edit_of}
+use Rattle.gm_file_edit.specs.Views.{setting_of}
 use Rattle.gm_file_edit.proofs.Feeds.{go-feed, path-plain, version-plain}
 use Rattle.gm_file_edit.proofs.renewing.rewrite.Goals as goal
 
 pub set_last-requires : goal.set_last-requires
-set_last-requires c = rw c.as_str.ensures.text (path-plain c.in-SetModule.path c.as_str.ensures.path)
+set_last-requires c = rw c.as_str.ensures.text (path-plain c.in-Module.path c.as_str.ensures.path)
 
-pub set_last-requires-in-SetGo : goal.set_last-requires-in-SetGo
-set_last-requires-in-SetGo c =
-    let sound : IsSoundEdit (SetGo (string_bytes c.in-SetGo.text)) = subst (λ (x : Change). IsSoundEdit (edit_of x)) c.in-SetGo.is c.requires in
-    rw c.as_str-in-SetGo.ensures.value (go-feed (string_bytes c.in-SetGo.text) sound)
+pub set_last-requires-in-Go : goal.set_last-requires-in-Go
+set_last-requires-in-Go c =
+    let sound : IsSoundEdit (Set (GoIs (string_bytes c.in-Go.text))) = subst (λ (x : Setting). IsSoundEdit (Set (setting_of x))) c.in-Go.is c.requires in
+    rw c.as_str-in-Go.ensures.value (go-feed (string_bytes c.in-Go.text) sound)
 
-pub set_last-requires-in-SetRequire : goal.set_last-requires-in-SetRequire
-set_last-requires-in-SetRequire c = rw c.as_str-in-SetRequire.ensures.text (version-plain c.in-SetRequire.version c.as_str-in-SetRequire.ensures.version)
+pub set_last-requires-in-Require : goal.set_last-requires-in-Require
+set_last-requires-in-Require c = rw c.as_str-in-Require.ensures.text (version-plain c.in-Require.version c.as_str-in-Require.ensures.version)
 
-pub returns-in-SetModule : goal.returns-in-SetModule
-returns-in-SetModule c =
+pub returns-in-Module : goal.returns-in-Module
+returns-in-Module c =
     let block = option_map (λ t. t.now) c.args.block in
-    rw c.in-SetModule.is (rw c.as_str.ensures.text at c.set_last.ensures block)
+    rw c.in-Module.is (rw c.as_str.ensures.text at c.set_last.ensures block)
 
-pub returns-in-SetGo : goal.returns-in-SetGo
-returns-in-SetGo c =
+pub returns-in-Go : goal.returns-in-Go
+returns-in-Go c =
     let block = option_map (λ t. t.now) c.args.block in
-    rw c.in-SetGo.is (rw c.as_str-in-SetGo.ensures.value at c.set_last-in-SetGo.ensures block)
+    rw c.in-Go.is (rw c.as_str-in-Go.ensures.value at c.set_last-in-Go.ensures block)
 
-pub returns-in-SetRequire : goal.returns-in-SetRequire
-returns-in-SetRequire c =
+pub returns-in-Require : goal.returns-in-Require
+returns-in-Require c =
     let block = option_map (λ t. t.now) c.args.block in
-    rw c.in-SetRequire.is (rw c.as_str-in-SetRequire.ensures.text at c.set_last-in-SetRequire.ensures block)
+    rw c.in-Require.is (rw c.as_str-in-Require.ensures.text at c.set_last-in-Require.ensures block)
