@@ -201,12 +201,14 @@ impl Fields {
     }
 }
 
-/// The verb of the block that is open after a line, given the verb of the one that is open before it.
-pub(crate) fn block_after_line<'w, 'a>(
+/// The verb of the block that is open after a line, given the verb of the one that is open before it. Takes no memory.
+pub fn block_after_line<'w, 'a>(
     block: Option<&'w Token<'a>>,
     line: &'w Line<'a>,
 ) -> Option<&'w Token<'a>>
-    ensures { option_map (λ t. t.now.word) result
+    ensures placed { option_map (λ t. t.now) result
+        ≡ block_after_line (option_map (λ t. t.now) block.entry) (line_of line.now) }
+    ensures words { option_map (λ t. t.now.word) result
         ≡ block_after_line (option_map (λ t. t.now.word) block.entry) (plain (line_of line.now)) }
 {
     match line {

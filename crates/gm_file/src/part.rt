@@ -5,7 +5,6 @@ ghost use Rattle.std.specs.Prelude.{◌≡◌, IfErr, IfOk, Some};
 ghost use Rattle.std.specs.Option.{option_map};
 ghost use Rattle.std.specs.Cow.{cow_str_bytes};
 ghost use Rattle.std.specs.String.{string_bytes};
-ghost use Rattle.gm_syntax.specs.Document.{is_mark};
 ghost use Rattle.gm_syntax.specs.Tokens.{words_of};
 ghost use Rattle.gm_syntax.specs.Values.{value_of};
 ghost use Rattle.gm_file.specs.Values.{argument, both};
@@ -156,27 +155,13 @@ pub(crate) fn interval_of_texts(
     Ok(Interval { low, high })
 }
 
-/// Whether a word is the punctuation mark of this byte.
-fn is_mark(byte: u8, token: &Token) -> bool
-    ensures { result ≡ is_mark byte token.now.word }
-{
-    match token.kind() {
-        Kind::Mark => match token.spelling().as_bytes() {
-            [b] => *b == byte,
-            _ => false,
-        },
-        Kind::Bare => false,
-        Kind::Text => false,
-    }
-}
-
 /// Whether the words after a verb are just `(` and `)`. The parser reads such a line as an entry, but it is a block
-/// with no entries.
-pub(crate) fn is_empty_block(words: &[Token]) -> bool
+/// with no entries. Takes no memory.
+pub fn is_empty_block(words: &[Token]) -> bool
     ensures { result ≡ is_empty_block (words_of words.now) }
 {
     match words {
-        [open, close] => is_mark(b'(', open) && is_mark(b')', close),
+        [open, close] => open.is_mark(b'(') && close.is_mark(b')'),
         _ => false,
     }
 }
@@ -221,7 +206,7 @@ pub(crate) fn read_interval(
     match words {
         [version] => single_interval(alloc, names, version),
         [open, low, comma, high, close] => {
-            if !(is_mark(b'[', open) && is_mark(b',', comma) && is_mark(b']', close)) {
+            if !(open.is_mark(b'[') && comma.is_mark(b',') && close.is_mark(b']')) {
                 return Err(LineFault::Kind(DirectiveKind::WrongArguments));
             }
             interval_between(alloc, names, low, high)

@@ -149,8 +149,9 @@ fn read_left_version(
     }
 }
 
-/// Whether the version of the left side fits its path. A side without a version always fits.
-fn does_left_fit(path: &ModPath, version: &Option<ModVersion>) -> bool
+/// Whether the version of the left side of a `replace` fits its path. A side without a version always fits. Takes no
+/// memory.
+pub fn does_left_fit(path: &ModPath, version: &Option<ModVersion>) -> bool
     ensures { result ≡ does_left_fit path.now version.now }
 {
     match version {

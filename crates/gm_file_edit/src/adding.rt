@@ -18,7 +18,8 @@ ghost use Rattle.gm_file_edit.specs.Holding.{directive_at, passes};
 use crate::keyed_lines::KeyedLines;
 use crate::keys::Scope;
 use crate::new_words::one_word;
-use crate::targeting::{block_after_line, is_entry_in, is_entry_of, scope_after_line};
+use crate::targeting::{is_entry_in, is_entry_of, scope_after_line};
+use gm_file::block_after_line;
 use gm_syntax::{Line, Token};
 use std::alloc::{AllocError, Global};
 

@@ -28,27 +28,10 @@ use crate::new_words::{interval_words, pair_words, replace_words};
 use crate::op::{Addition, Change, Op, Setting};
 use crate::packing::pack;
 use crate::renewing::{new_line, renew};
-use gm_file::MainFile;
+use gm_file::{MainFile, does_left_fit};
 use gm_name::{ModPath, ModVersion, fits};
 use std::alloc::{AllocError, Global};
 use std::mem;
-
-/// Whether a version fits its path.
-fn does_fit(path: &ModPath, version: &ModVersion) -> bool
-    ensures { result ≡ does_fit path.now version.now }
-{
-    fits(path, version)
-}
-
-/// Whether the version of a left side fits its path. Without a version there is nothing to check.
-fn does_left_fit(path: &ModPath, version: &Option<ModVersion>) -> bool
-    ensures { result ≡ does_left_fit path.now version.now }
-{
-    match version {
-        None => true,
-        Some(version) => does_fit(path, version),
-    }
-}
 
 /// Whether the versions of an operation fit their paths. Only versions that it requires or excludes and the one in
 /// the left side of a `replace` are checked, since strict reading of the result refuses those.
@@ -56,8 +39,8 @@ pub(crate) fn is_fit(change: &Change) -> bool
     ensures { result ≡ is_fit (edit_of change.now) }
 {
     match change {
-        Change::Set(Setting::Require((path, version))) => does_fit(path, version),
-        Change::Add(Addition::Exclude((path, version))) => does_fit(path, version),
+        Change::Set(Setting::Require((path, version))) => fits(path, version),
+        Change::Add(Addition::Exclude((path, version))) => fits(path, version),
         Change::Set(Setting::Replace(replace)) => does_left_fit(&replace.left, &replace.version),
         _ => true,
     }

@@ -43,17 +43,6 @@ impl<'a> Model for Editor<'a> {
     ghost invariant = { λ e. IsDocument (plain_lines e.lines) × (fault_of Strict (plain_lines e.lines) ≡ None) };
 }
 
-/// A copy of the lines.
-fn copy_lines<'a>(alloc: Global, lines: &[Line<'a>]) -> Result<Vec<Line<'a>>, AllocError>
-    ensures { IfOk result (λ v. line_views v.items ≡ line_views lines.now) }
-{
-    let mut copies = Vec::with_capacity(alloc, lines.len())?;
-    for line in lines {
-        copies.push(line.copy(alloc)?)?;
-    }
-    Ok(copies)
-}
-
 impl<'a> Editor<'a> {
     /// An editor of a file's lines, which it takes. Fails only if memory runs out.
     pub fn of(alloc: Global, file: MainFile<'a>) -> Result<Editor<'a>, AllocError>
@@ -67,8 +56,7 @@ impl<'a> Editor<'a> {
     pub fn new(alloc: Global, file: &MainFile<'a>) -> Result<Editor<'a>, AllocError>
         ensures { IfOk result (λ editor. editor ≡ file.now) }
     {
-        let copies = copy_lines(alloc, file.doc().lines())?;
-        let lines = KeyedLines::new(alloc, copies)?;
+        let lines = KeyedLines::new(alloc, file.doc().copy()?.into_lines())?;
         Ok(Editor { alloc, lines })
     }
 

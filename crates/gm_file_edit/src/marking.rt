@@ -14,7 +14,8 @@ ghost use Rattle.gm_file_edit.specs.Views.{edit_of};
 use crate::keyed_lines::KeyedLines;
 use crate::keys::{Scope, may_concern, text_number};
 use crate::op::Change;
-use crate::targeting::{block_after_line, is_about_at, scope_of, sought_of, verb_of};
+use crate::targeting::{is_about_at, scope_of, sought_of, verb_of};
+use gm_file::block_after_line;
 use std::alloc::{AllocError, Global};
 
 /// A mark for each line of a valid file: whether it holds a directive that an operation targets.

@@ -21,8 +21,7 @@ use crate::keyed_lines::KeyedLines;
 use crate::new_words::{push_replace, push_word};
 use crate::op::Setting;
 use crate::packing::pack;
-use crate::targeting::block_after_line;
-use gm_file::Replace;
+use gm_file::{Replace, block_after_line};
 use gm_syntax::{Line, Token};
 use std::alloc::{AllocError, Global};
 

@@ -5,10 +5,10 @@
 
 ghost use Rattle.std.specs.Prelude.{◌≡◌, ℕ, List, Option, IfOk, None, false};
 ghost use Rattle.std.specs.Option.{option_map};
-ghost use Rattle.gm_syntax.specs.Document.{Entry, is_mark};
+ghost use Rattle.gm_syntax.specs.Document.{Entry};
 ghost use Rattle.gm_syntax.specs.LineViews.{line_of};
 ghost use Rattle.gm_syntax.specs.Tokens.{Placed, words_of};
-ghost use Rattle.gm_file.specs.Directives.{block_after_line, directive_of, is_empty_block, main_verb};
+ghost use Rattle.gm_file.specs.Directives.{block_after_line, directive_of, main_verb};
 ghost use Rattle.gm_file.specs.DirectiveViews.{directive_view};
 ghost use Rattle.gm_file.specs.Views.{interval_view};
 ghost use Rattle.gm_file.specs.Values.{argument};
@@ -22,27 +22,10 @@ ghost use Rattle.gm_file_edit.specs.Views.{edit_of, left_of_parts};
 use crate::about::is_about;
 use crate::keys::{NONE, Scope, Sought, ends_number, joined, text_number};
 use crate::op::{Addition, Change, Setting, Target};
-use gm_file::{Directive, Interval, LineFault, Mode, read_line};
+use gm_file::{Directive, Interval, LineFault, Mode, is_empty_block, read_line};
 use gm_name::{ModPath, ModVersion};
-use gm_syntax::{Kind, Line, Token};
+use gm_syntax::{Line, Token};
 use std::alloc::{AllocError, Global};
-
-/// The verb of the block that is open after a line, given the one that is open before it.
-pub(crate) fn block_after_line<'w, 'a>(
-    block: Option<&'w Token<'a>>,
-    line: &'w Line<'a>,
-) -> Option<&'w Token<'a>>
-    ensures { option_map (λ t. t.now) result
-        ≡ block_after_line (option_map (λ t. t.now) block.entry) (line_of line.now) }
-{
-    match line {
-        Line::Blank => block,
-        Line::Comment(_) => block,
-        Line::Open(verb, _) => Some(verb),
-        Line::Close(_) => None,
-        Line::Entry(_, _) => block,
-    }
-}
 
 /// The verb of the directives that an operation targets.
 pub(crate) fn verb_of(change: &Change) -> &'static str
@@ -151,30 +134,6 @@ pub(crate) fn scope_after_line(verb: &str, scope: Scope, line: &Line) -> Scope
         Line::Open(open, _) => scope_of(verb, Some(open)),
         Line::Close(_) => Scope::Outside,
         Line::Entry(_, _) => scope,
-    }
-}
-
-/// Whether a word is the punctuation that consists of this one byte.
-fn is_mark(byte: u8, word: &Token) -> bool
-    ensures { result ≡ is_mark byte word.now.word }
-{
-    match word.kind() {
-        Kind::Mark => match word.spelling().as_bytes() {
-            [b] => *b == byte,
-            _ => false,
-        },
-        Kind::Bare => false,
-        Kind::Text => false,
-    }
-}
-
-/// Whether the words after a verb are just `(` and `)`, a block with no entries.
-fn is_empty_block(words: &[Token]) -> bool
-    ensures { result ≡ is_empty_block (words_of words.now) }
-{
-    match words {
-        [open, close] => is_mark(b'(', open) && is_mark(b')', close),
-        _ => false,
     }
 }
 

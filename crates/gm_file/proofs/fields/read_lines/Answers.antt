@@ -10,7 +10,7 @@ loop-n-init c = read-none (mode_view c.args.mode) c.new-fields.result (c.new-fie
 
 pub loop-n-preserved : goal.loop-n-preserved
 loop-n-preserved c =
-    rw (lines-next c.args.lines.now c.loop-n.n c.index-lines-n.result c.loop-n-test.true c.index-lines-n.is, c.block_after_line-block.ensures)
+    rw (lines-next c.args.lines.now c.loop-n.n c.index-lines-n.result c.loop-n-test.true c.index-lines-n.is, c.block_after_line-block.ensures.words)
     (read-more (mode_view c.args.mode) (take c.loop-n.n (plain_lines (line_views c.args.lines.now))) (option_map (λ t. t.now.word) c.loop-n.block) (plain (line_of c.index-lines-n.result))
     c.loop-n.fields c.read_line.new.self c.loop-n.invariant c.in_default.ensures.found c.in_default.ensures.added)
 
