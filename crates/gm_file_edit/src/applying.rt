@@ -33,14 +33,21 @@ use gm_name::{ModPath, ModVersion, fits};
 use std::alloc::{AllocError, Global};
 use std::mem;
 
+/// Whether a version fits its path.
+fn does_fit(path: &ModPath, version: &ModVersion) -> bool
+    ensures { result ≡ does_fit path.now version.now }
+{
+    fits(path, version)
+}
+
 /// Whether the versions of an operation fit their paths. Only versions that it requires or excludes and the one in
 /// the left side of a `replace` are checked, since strict reading of the result refuses those.
 pub(crate) fn is_fit(change: &Change) -> bool
     ensures { result ≡ is_fit (edit_of change.now) }
 {
     match change {
-        Change::Set(Setting::Require((path, version))) => fits(path, version),
-        Change::Add(Addition::Exclude((path, version))) => fits(path, version),
+        Change::Set(Setting::Require((path, version))) => does_fit(path, version),
+        Change::Add(Addition::Exclude((path, version))) => does_fit(path, version),
         Change::Set(Setting::Replace(replace)) => does_left_fit(&replace.left, &replace.version),
         _ => true,
     }

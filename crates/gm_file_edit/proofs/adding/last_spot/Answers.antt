@@ -36,8 +36,8 @@ loop-n-preserved c =
           (w.spot-is ∙ ap (λ (inside : Bool). Some (record { before = c.loop-n.n + 1; inside = inside })) (w.is_some.ensures ∙ some-mapped (λ t. t.now) c.loop-n.block))
       | else-is_entry_in w ↦ rw w.if-is_entry_in.false w.spot-is
     ] in (
-      seek-more test whole rest more block (option_map (λ t. t.now) c.block_after_line-block.result) n c.loop-n.spot c.if-is_entry_in.spot line next c.block_after_line-block.ensures
+      seek-more test whole rest more block (option_map (λ t. t.now) c.block_after_line-block.result) n c.loop-n.spot c.if-is_entry_in.spot line next c.block_after_line-block.ensures.placed
           (found ∙ ap (λ (b : Bool). better c.loop-n.n block b c.loop-n.spot) held) c.loop-n.invariant.0,
       c.scope_after_line-scope.ensures block scope ∙ ap (λ (text : List ℕ). scope_of text (block_after_line block line)) c.verb_text-text.ensures.text
-          ∙ ap (scope_of (verb_text c.args.verb)) (sym c.block_after_line-block.ensures),
+          ∙ ap (scope_of (verb_text c.args.verb)) (sym c.block_after_line-block.ensures.placed),
     )

@@ -27,7 +27,7 @@ loop-n-preserved c =
       | then-may_concern+in_ok-mark w ↦ (
         rw (w.block-is, w.marks-is)
             (mark-read (about e) lines c.loop-n.n block (option_map (λ t. t.now) w.block_after_line-block.result) (line_of w.line-line.result.now) c.loop-n.marks.items _ w.in_ok-mark.mark (omega (arith, count, c.loop-n-test.true))
-            w.line-line.ensures.line w.block_after_line-block.ensures w.in_ok-mark.ensures refl c.loop-n.invariant.0),
+            w.line-line.ensures.line w.block_after_line-block.ensures.placed w.in_ok-mark.ensures refl c.loop-n.invariant.0),
         rw w.block-is
             (w.scope-is ∙ w.scope_of-scope.ensures
             ∙ ap (λ (verb : List ℕ). scope_of verb (option_map (λ t. t.now) w.block_after_line-block.result)) c.verb_of-verb.ensures),
