@@ -1,5 +1,5 @@
 -- The marks of lines, and what removing marked lines leaves.
-use Rattle.std.proofs.Common.{◌≡◌, ℕ, suc, ◌+◌, ◌<◌, ◌≤◌, not, Bool, true, false, List, [], ◌∷◌, ◌++◌, length, take, set, replicate, Option, Some, None, is_some, refl, sym, ap, subst, ◌∙◌, append_assoc, arith, inl, inr, drop, get_or, map}
+use Rattle.std.proofs.Common.{◌≡◌, ℕ, suc, ◌+◌, ◌<◌, ◌≤◌, not, Bool, true, false, List, [], ◌∷◌, ◌++◌, length, take, set, replicate, Option, Some, None, is_some, refl, sym, ap, subst, ◌∙◌, append_assoc, arith, inl, inr, drop, get_or, map, zero}
 use Rattle.std.specs.Prelude.{if◌then◌else◌, take_while}
 use Rattle.std.specs.List.{prefix_len}
 use Rattle.std.specs.Option.{option_to_list}
@@ -126,6 +126,48 @@ mark-over edit number seeks at whole n block keys key marks lt are of sought_so 
     mark-read (about edit) whole n block block line marks marks false lt refl (sym over.1) (sym over.0)
     (left-as-is (about edit) whole (drop n whole) (drop (n + 1) whole) block n line marks (here whole n line lt refl) so) so
 
+at-drop : (keys : List Key) (n : ℕ) (key : Key) (more : List Key) → drop n keys ≡ key ∷ more → (get_or keys n key ≡ key) × (n < length keys) × (drop (suc n) keys ≡ more)
+at-drop [] zero key more is = absurd cc
+at-drop [] (suc n) key more is = absurd cc
+at-drop (first ∷ keys) zero key more is = (cc, omega arith, cc)
+at-drop (first ∷ keys) (suc n) key more is = let r = at-drop keys n key more is in let lt = r.1 in (r.0, omega (arith, lt), r.2)
+
+one-passed : (test : Key → Bool) (key : Key) (rest : List Key) → test key ≡ true → length (take_while test (key ∷ rest)) ≡ suc (length (take_while test rest))
+one-passed test key rest over =
+    let step : 1 + prefix_len test rest ≡ suc (prefix_len test rest) = omega arith in
+    rw over (ap (λ (n : ℕ). length (take n (key ∷ rest))) step)
+
+none-passed : (test : Key → Bool) (key : Key) (rest : List Key) → test key ≡ false → length (take_while test (key ∷ rest)) ≡ 0
+none-passed test key rest no_more = rw no_more refl
+
+-- the lines that are passed over at once, up to the first whose key may concern the operation
+pub mark-past : (edit : Edit) (number : ℕ) (seeks : Sought) (at : Scope) (whole : List (Line Placed)) (block : Option Placed) (keys : List Key) (marks : List Bool) → keys ≡ map key_of whole
+    → number ≡ text_number (verb_of edit) → seeks ≡ sought_of edit → at ≡ scope_of (verb_of edit) block
+    → (rest : List Key) (n k : ℕ) → drop n keys ≡ rest → k ≡ length (take_while (λ key. not (may_concern number seeks at key)) rest)
+    → IsMarkedTo (about edit) whole (drop n whole) block n marks → IsMarkedTo (about edit) whole (drop (n + k) whole) block (n + k) marks
+mark-past edit number seeks at whole block keys marks are of sought_so at_so [] n k is many so =
+    let same : n ≡ n + k = omega (arith, many) in
+    subst (λ (m : ℕ). IsMarkedTo (about edit) whole (drop m whole) block m marks) same so
+mark-past edit number seeks at whole block keys marks are of sought_so at_so (key ∷ rest) n k is many so = elim (cases_Bool (may_concern number seeks at key)) [
+  | inl near ↦
+      let none : k ≡ 0 = many ∙ none-passed (λ key. not (may_concern number seeks at key)) key rest (ap not near) in
+      let same : n ≡ n + k = omega (arith, none) in
+      subst (λ (m : ℕ). IsMarkedTo (about edit) whole (drop m whole) block m marks) same so
+  | inr far ↦
+      let others : ℕ = length (take_while (λ key. not (may_concern number seeks at key)) rest) in
+      let more : k ≡ suc others = many ∙ one-passed (λ key. not (may_concern number seeks at key)) key rest (ap not far) in
+      let there = at-drop keys n key rest is in
+      let within = there.1 in
+      let count = ap length are ∙ length-map whole key_of in
+      let off : may_concern number seeks at (get_or keys n key) ≡ false = ap (may_concern number seeks at) there.0 ∙ far in
+      let next = mark-over edit number seeks at whole n block keys key marks (omega (arith, within, count)) are of sought_so at_so off so in
+      let step : suc n ≡ n + 1 = omega arith in
+      let behind : drop (n + 1) keys ≡ rest = ap (λ (m : ℕ). drop m keys) (sym step) ∙ there.2 in
+      let same : n + 1 + others ≡ n + k = omega (arith, more) in
+      subst (λ (m : ℕ). IsMarkedTo (about edit) whole (drop m whole) block m marks) same
+      (mark-past edit number seeks at whole block keys marks are of sought_so at_so rest (n + 1) others behind refl next)
+]
+
 pub mark-end : (test : Directive → Bool) (whole rest : List (Line Placed)) (block : Option Placed) (n : ℕ) (marks : List Bool) → rest ≡ [] → IsMarkedTo test whole rest block n marks → marks ≡ marks_from test None whole
 mark-end test whole rest block n marks is so =
     so.all ∙ ap (λ (ls : List (Line Placed)). so.front ++ no_marks ls) is ∙ sym (ap (λ (ls : List (Line Placed)). so.front ++ marks_from test block ls) is) ∙ so.left
@@ -141,6 +183,15 @@ mark-size test whole rest block n marks so =
     let f = ap length so.left in
     let g = marks-count test None whole in
     omega (arith, a, b, c, d, e, f, g)
+
+-- no more lines are marked than there are
+pub mark-within : (test : Directive → Bool) (whole rest : List (Line Placed)) (block : Option Placed) (n : ℕ) (marks : List Bool) → IsMarkedTo test whole rest block n marks → n ≤ length whole
+mark-within test whole rest block n marks so =
+    let size = mark-size test whole rest block n marks so in
+    let a = ap length so.all in
+    let b = length-append so.front (no_marks rest) in
+    let count = so.count in
+    omega (arith, size, a, b, count)
 
 -- ---- the first mark
 

@@ -8,11 +8,12 @@ ghost use Rattle.gm_syntax.specs.LineViews.{plain_lines};
 ghost use Rattle.gm_file.specs.Directives.{Strict};
 ghost use Rattle.gm_file.specs.Faults.{fault_of};
 ghost use Rattle.gm_file_edit.specs.About.{about};
+ghost use Rattle.gm_file_edit.specs.Keys.{may_concern};
 ghost use Rattle.gm_file_edit.specs.Marks.{marks_from};
 ghost use Rattle.gm_file_edit.specs.Views.{edit_of};
 
 use crate::keyed_lines::KeyedLines;
-use crate::keys::{Scope, may_concern, text_number};
+use crate::keys::{Key, Scope, Sought, may_concern, text_number};
 use crate::op::Change;
 use crate::targeting::{is_about_at, scope_of, sought_of, verb_of};
 use gm_file::block_after_line;
@@ -34,16 +35,29 @@ pub(crate) fn marks(
     let mut marks = vec![in alloc; false; lines.len()]?;
     let mut block = None;
     let mut scope = Scope::Outside;
-    for (n, key) in lines.keys().iter().enumerate() {
-        if may_concern(number, sought, scope, *key) {
+    let mut n = 0;
+    'lines: while n < lines.len() {
+        let (_, left) = lines.keys().split_at(n);
+        n += passed_over(left, number, sought, scope);
+        if n < lines.len() {
             let line = lines.line(n);
-            let mark = is_about_at(alloc, change, block, line)?;
-            marks[n] = mark;
+            marks[n] = is_about_at(alloc, change, block, line)?;
             block = block_after_line(block, line);
             scope = scope_of(verb, block);
+            n += 1;
         }
     }
     Ok(marks)
+}
+
+/// How many of these keys, up to the first that may concern an operation, don't.
+fn passed_over(keys: &[Key], verb: u32, sought: Sought, scope: Scope) -> usize
+    ensures { result ≡ length (take_while (λ key. not (may_concern verb sought scope key)) keys.now) }
+{
+    // A loop of its own is short enough to keep all that it needs in registers.
+    keys.iter()
+        .take_while(|key| !may_concern(verb, sought, scope, **key))
+        .count()
 }
 
 /// The number of lines before the first that is marked, or of all lines if none is.
