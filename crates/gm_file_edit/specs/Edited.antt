@@ -80,7 +80,8 @@ left_inside test verb inner = lines_left test (inside verb inner)
 -- a comment.
 abbrev pub empties : (Directive → Bool) → Placed → Option (List ℕ) → List (Line Placed) → Option (List ℕ) → Bool
 empties test verb suffix inner last =
-    holds_inside test verb inner && list_all is_blank_source_line (left_inside test verb inner) && is_none suffix && is_none last
+    holds_inside test verb inner && list_all is_blank_source_line (left_inside test verb inner)
+    && is_none suffix && is_none last
 
 -- what a drop leaves of a section: the section that stays, or the place of a block that is emptied
 pub data Remains : Type 0 where

@@ -21,7 +21,8 @@ changed (Drop t) lines = dropped (about (Drop t)) lines
 -- the lines after the operation if no entry is targeted
 unfoldable pub put_in : Edit → List (Line Placed) → List (Line Placed)
 put_in (Set (ModuleIs path)) lines = lines
-put_in (Set (GoIs text)) lines = after_first_that is_module (Blank ∷ single (codes "go") (made_word text ∷ []) ∷ []) lines
+put_in (Set (GoIs text)) lines =
+    after_first_that is_module (Blank ∷ single (codes "go") (made_word text ∷ []) ∷ []) lines
 put_in (Set (RequireAt p)) lines = added is_require (codes "require") (pair_words p) lines
 put_in (Set (ReplaceWith r)) lines = added is_replace (codes "replace") (replace_words r) lines
 put_in (Add (Exclude p)) lines = added is_exclude (codes "exclude") (pair_words p) lines
