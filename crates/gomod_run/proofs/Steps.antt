@@ -15,7 +15,7 @@ use Rattle.gm_graph_listing.specs.declared.output.Stop.{Stop}
 use Rattle.gm_graph_listing.specs.Outcomes.{Outcome, StopsWith, failed, outcome_view, printed, refused}
 use Rattle.gm_graph_listing.proofs.CommandOutcomes.{IsOutputOf, output_of}
 use Rattle.gm_graph_listing.specs.Reports.{device_line}
-use Rattle.gomod_run.specs.Asking.{IsAnsweredWith, IsAsked, IsFailedAsk, IsLatestAsked}
+use Rattle.gomod_run.specs.Asking.{IsAnsweredAsk, IsAsked, IsFailedAsk, IsLatestAsked}
 use Rattle.gomod_run.specs.Listing.{IsListAnswered}
 use Rattle.gomod_run.specs.Kinds.{list_line}
 use Rattle.gm_store.specs.States.{StoreState}
@@ -208,7 +208,7 @@ pub record IsListState (path : List ℕ) (may : Name → Reply → Type 0) (old 
   pub listed : AreListed path list versions
 
 pub list_answered : (path : List ℕ) (may : Name → Reply → Type 0) (old new : StoreState) (reply : Reply) → is_fetchable path ≡ true → old.asked ≡ []
-    → IsAnsweredWith (list_file path) may old new reply → IsListAnswered path may old new reply
+    → IsAnsweredAsk (list_file path) may old new reply → IsListAnswered path may old new reply
 list_answered path may old new reply fetchable none answered = record {
   fetchable = fetchable;
   allowed = answered.0;
@@ -345,7 +345,7 @@ latest_failed path versions latest may old new (Err e) is failed = inl failed
 
 -- the output follows from the latest version's go.mod
 pub shown_asked : {E : Type 0} (path : List ℕ) (versions : List (List ℕ)) (latest : List ℕ) (may : Name → Reply → Type 0) (old new : StoreState) (answer reply : Reply)
-    (result : Result Output E) → IsAnsweredWith (mod_file path latest) may old new reply → answer ≡ reply → IsWithinLimit answer
+    (result : Result Output E) → IsAnsweredAsk (mod_file path latest) may old new reply → answer ≡ reply → IsWithinLimit answer
     → IfOk result (λ output. IsWithinLimit answer → IsShownOutcome path versions latest answer (outcome_view output)) → IsLatestAsked path versions latest may old new result
 shown_asked path versions latest may old new answer reply (Ok output) answered same within known =
     inl (reply, answered, subst (λ (r : Reply). IsShownOutcome path versions latest r (outcome_view output)) same (known within))
