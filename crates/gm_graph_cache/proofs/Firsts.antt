@@ -9,7 +9,7 @@ use Rattle.gm_graph_cache.specs.declared.kept_files.KeptFile.{KeptFile}
 use Rattle.gm_graph_cache.specs.declared.kept_files.KeptFiles.{KeptFiles}
 use Rattle.gm_graph_cache.specs.declared.name_key.NameKey.{NameKey}
 use Rattle.gm_graph_cache.specs.declared.summary.Kept.{Kept}
-use Rattle.gm_graph_cache.specs.KeptFiles.{file_at, first_or, first_with, is_free}
+use Rattle.gm_graph_cache.specs.KeptFiles.{kept_file_at, first_or, first_with, is_free}
 use Rattle.gm_graph_cache.specs.Marks.{IsNameKey, name_fingerprint}
 
 -- A name that is the same as a key's has the key's number.
@@ -25,7 +25,7 @@ not_first (Some file) name other rest free apart =
 
 -- One more file at the end of a list does not count for another name, whatever the place.
 one_more : (files : List KeptFile) (file : KeptFile) (place : Option ℕ) (other : Name) (rest : Option Kept) → same_name other (name_of file.name) ≡ false
-    → first_or (file_at (files ++ file ∷ []) place) other rest ≡ first_or (file_at files place) other rest
+    → first_or (kept_file_at (files ++ file ∷ []) place) other rest ≡ first_or (kept_file_at files place) other rest
 one_more files file None other rest apart = refl
 one_more [] file (Some zero) other rest apart = ap (λ (b : Bool). cond b (Some file.kept) rest) apart
 one_more [] file (Some (suc place)) other rest apart = refl
@@ -33,13 +33,13 @@ one_more (first ∷ files) file (Some zero) other rest apart = refl
 one_more (first ∷ files) file (Some (suc place)) other rest apart = one_more files file (Some place) other rest apart
 
 -- A file that was added to a list is at the place that its length was.
-last_file : (files : List KeptFile) (file : KeptFile) → file_at (files ++ file ∷ []) (Some (length files)) ≡ Some file
+last_file : (files : List KeptFile) (file : KeptFile) → kept_file_at (files ++ file ∷ []) (Some (length files)) ≡ Some file
 last_file [] file = refl
 last_file (first ∷ files) file = last_file files file
 
 first_by : (b n : Bool) (files : List KeptFile) (file : KeptFile) (old : Option ℕ) (other : Name) (rest : Option Kept) → b ≡ same_name other (name_of file.name)
-    → (b ≡ true → n ≡ true) → (n ≡ true → b ≡ false → first_or (file_at files old) other rest ≡ rest)
-    → first_or (file_at (files ++ file ∷ []) (cond n (Some (length files)) old)) other rest ≡ cond b (Some file.kept) (first_or (file_at files old) other rest)
+    → (b ≡ true → n ≡ true) → (n ≡ true → b ≡ false → first_or (kept_file_at files old) other rest ≡ rest)
+    → first_or (kept_file_at (files ++ file ∷ []) (cond n (Some (length files)) old)) other rest ≡ cond b (Some file.kept) (first_or (kept_file_at files old) other rest)
 first_by true true files file old other rest is here gone =
     ap (λ (o : Option KeptFile). first_or o other rest) (last_file files file) ∙ ap (λ (t : Bool). cond t (Some file.kept) rest) (sym is)
 first_by true false files file old other rest is here gone = absurd (cc (here refl))
@@ -49,16 +49,16 @@ first_by false false files file old other rest is here gone = one_more files fil
 
 -- A file was put first: its place in the map, and then the file at the end of the list.
 pub put_first : (files : List KeptFile) (old new : Places) (key : NameKey) (kept : Kept) → IsNameKey key
-    → is_free (file_at files (place_at old key.number)) (name_of key.name) ≡ true → PutsPlace old new key.number (length files) → (other : Name) (rest : Option Kept)
-    → first_or (file_at (files ++ record { name = key.name; kept = kept } ∷ []) (place_at new (name_fingerprint other))) other rest
-    ≡ cond (same_name other (name_of key.name)) (Some kept) (first_or (file_at files (place_at old (name_fingerprint other))) other rest)
+    → is_free (kept_file_at files (place_at old key.number)) (name_of key.name) ≡ true → PutsPlace old new key.number (length files) → (other : Name) (rest : Option Kept)
+    → first_or (kept_file_at (files ++ record { name = key.name; kept = kept } ∷ []) (place_at new (name_fingerprint other))) other rest
+    ≡ cond (same_name other (name_of key.name)) (Some kept) (first_or (kept_file_at files (place_at old (name_fingerprint other))) other rest)
 put_first files old new key kept marked free puts other rest =
     let file : KeptFile = record { name = key.name; kept = kept } in
-    ap (λ (o : Option ℕ). first_or (file_at (files ++ file ∷ []) o) other rest) (puts (name_fingerprint other))
+    ap (λ (o : Option ℕ). first_or (kept_file_at (files ++ file ∷ []) o) other rest) (puts (name_fingerprint other))
     ∙ first_by (same_name other (name_of key.name)) (nat_eq key.number (name_fingerprint other)) files file (place_at old (name_fingerprint other)) other rest refl
     (λ same. eq-eqb _ _ (same_number key other marked same))
-    (λ number apart. not_first (file_at files (place_at old (name_fingerprint other))) (name_of key.name) other rest
-    (subst (λ (n : ℕ). is_free (file_at files (place_at old n)) (name_of key.name) ≡ true) (eqb-true _ _ number) free) apart)
+    (λ number apart. not_first (kept_file_at files (place_at old (name_fingerprint other))) (name_of key.name) other rest
+    (subst (λ (n : ℕ). is_free (kept_file_at files (place_at old n)) (name_of key.name) ≡ true) (eqb-true _ _ number) free) apart)
 
 -- A first file that is not that of a name does not count for it.
 pub taken_by : (o : Option KeptFile) (name : Name) (rest : Option Kept) → is_free o name ≡ false → first_or o name rest ≡ rest

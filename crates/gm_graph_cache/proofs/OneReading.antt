@@ -16,14 +16,12 @@ use Rattle.gm_graph_cache.specs.declared.class.Class.TheVariants.{NotFetchable, 
 use Rattle.gm_graph_cache.specs.declared.class.Misreading.TheVariants as misreading
 use Rattle.gm_graph_cache.specs.Reading.{IsContentReading, IsFileReading, IsReadUnless, sum_fault}
 
--- what bytes are: too many, not text, or lines that end in a given state
+-- what bytes are: not text, or lines that end in a given state
 data Seen : Type 0 where
-  Long : Seen
   Garbled : Seen
   Ended : List (Line Word) → Finish → Seen
 
 abbrev IsSeen : List ℕ → Seen → Type 0
-IsSeen content Long = 16777216 < length content
 IsSeen content Garbled = (length content ≤ 16777216) × ¬ IsUtf8 content
 IsSeen content (Ended lines finish) = IsText content × IsOnlyText content lines finish
 
@@ -32,7 +30,6 @@ unless_faulty lines None = Ok (dependency_of lines)
 unless_faulty lines (Some fault) = Err (Malformed fault.0 (misreading.Directive fault.1))
 
 abbrev reading_of : Seen → Result Dependency Class
-reading_of Long = Err (Malformed 0 misreading.TooMany)
 reading_of Garbled = Err (Malformed 0 misreading.NotUtf8)
 reading_of (Ended lines Whole) = unless_faulty lines (fault_of Lax lines)
 reading_of (Ended lines (Faulty line kind)) = Err (Malformed line (misreading.Syntax kind))
@@ -42,7 +39,7 @@ Seeing content reading = (seen : Seen) × IsSeen content seen × (reading_of see
 
 seeing : (content : List ℕ) (reading : Result Dependency Class) → IsContentReading content reading → Seeing content reading
 seeing content (Ok file) is = (Ended (plain_lines is.0) Whole, is.1, ap (unless_faulty (plain_lines is.0)) is.2 ∙ ap (λ (f : Dependency). Ok f) is.3)
-seeing content (Err (Malformed line misreading.TooMany)) is = (Long, is.1, ap (λ (n : ℕ). Err (Malformed n misreading.TooMany)) (sym is.0))
+seeing content (Err (Malformed line misreading.TooMany)) is = absurd is
 seeing content (Err (Malformed line misreading.NotUtf8)) is = (Garbled, is.1, ap (λ (n : ℕ). Err (Malformed n misreading.NotUtf8)) (sym is.0))
 seeing content (Err (Malformed line (misreading.Syntax kind))) is = (Ended is.1 (Faulty line kind), (is.0, is.2), refl)
 seeing content (Err (Malformed line (misreading.Directive kind))) is = (Ended (plain_lines is.0) Whole, is.1, ap (unless_faulty (plain_lines is.0)) is.2)
@@ -54,13 +51,8 @@ seeing content (Err SumDiffers) is = absurd is
 seeing content (Err WrongPath) is = absurd is
 
 one_seen : (content : List ℕ) (a b : Seen) → IsSeen content a → IsSeen content b → a ≡ b
-one_seen content Long Long is other = refl
-one_seen content Long Garbled is other = absurd (omega (arith, is, other.0))
-one_seen content Long (Ended lines finish) is other = absurd (omega (arith, is, other.0.0))
-one_seen content Garbled Long is other = absurd (omega (arith, is.0, other))
 one_seen content Garbled Garbled is other = refl
 one_seen content Garbled (Ended lines finish) is other = absurd (is.1 other.0.1)
-one_seen content (Ended lines finish) Long is other = absurd (omega (arith, is.0.0, other))
 one_seen content (Ended lines finish) Garbled is other = absurd (other.1 is.0.1)
 one_seen content (Ended lines finish) (Ended others end) is other =
     let same = is.1.only others end other.1.reads in

@@ -9,13 +9,13 @@ use Rattle.gm_graph_cache.specs.declared.summary.Kept.{Kept}
 use Rattle.gm_graph_cache.specs.Marks.{name_fingerprint}
 
 -- the file at a place of a list: there is none if there is no place, or if it is past the end
-abbrev pub file_at : List KeptFile → Option ℕ → Option KeptFile
-file_at files None = None
-file_at files (Some place) = slice_get files place
+abbrev pub kept_file_at : List KeptFile → Option ℕ → Option KeptFile
+kept_file_at files None = None
+kept_file_at files (Some place) = slice_get files place
 
 -- the first file with a fingerprint
 abbrev pub first_with : KeptFiles → ℕ → Option KeptFile
-first_with files number = file_at files.files.items (place_at files.first number)
+first_with files number = kept_file_at files.files.items (place_at files.first number)
 
 -- what is kept of the file of a name, given the first file with its fingerprint and what is found among the others
 abbrev pub first_or : Option KeptFile → Name → Option Kept → Option Kept

@@ -70,9 +70,10 @@ abbrev pub IsReadAsDependency : List ℕ → Dependency → Type 0
 IsReadAsDependency content file = (doc : List (Line Placed)) × IsParsedAs content (Ok doc)
     × (directive_fault Lax (plain_lines doc) ≡ None) × (dependency_of (plain_lines doc) ≡ file)
 
--- the contents of the bytes as a dependency's file, or why they can't be read
+-- The contents of the bytes as a dependency's file, or why they can't be read. No store gives too many bytes.
 abbrev pub IsContentReading : List ℕ → Result Dependency Class → Type 0
 IsContentReading content (Ok file) = IsReadAsDependency content file
+IsContentReading content (Err (Malformed line misreading.TooMany)) = ⊥
 IsContentReading content (Err (Malformed line kind)) = IsMisreadAt content line kind
 IsContentReading content (Err class) = ⊥
 

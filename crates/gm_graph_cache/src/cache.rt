@@ -5,7 +5,7 @@
 
 ghost use Rattle.std.specs.Prelude.{◌≡◌, ◌≤◌, ◌++◌, ◌∷◌, [], ℕ, List, IfOk, OnOk, OnErr, None, Some, Ok, Err, true};
 ghost use Rattle.std.specs.Option.{option_copied, option_map};
-ghost use Rattle.gm_store.specs.Asked.{Name, Reply, answer_in, name_of, reply_of};
+ghost use Rattle.gm_store.specs.Asked.{IsWithinLimit, Name, Reply, answer_in, name_of, reply_of};
 ghost use Rattle.gm_store.specs.States.{AddsAnswer, CountsFailure};
 ghost use Rattle.gm_store.specs.declared.files.FileName.{FileName};
 ghost use Rattle.gm_graph_cache.specs.Main.{ModuleVersion, main_of};
@@ -71,8 +71,9 @@ fn names_for(alloc: Global, main: &MainFile) -> Result<KnownNames, NoMemory> {
 fn last_answer<F: Files>(files: &F) -> &Answer
     requires { (pairs : List (Name × Reply)) × (name : Name) × (reply : Reply)
         × ((F.state files.now).asked ≡ pairs ++ (name, reply) ∷ []) }
-    ensures { (pairs : List (Name × Reply)) (name : Name) (reply : Reply)
+    ensures value { (pairs : List (Name × Reply)) (name : Name) (reply : Reply)
         → (F.state files.now).asked ≡ pairs ++ (name, reply) ∷ [] → reply_of result.now ≡ reply }
+    ensures within_limit { IsWithinLimit (reply_of result.now) }
 {
     files.answer(files.count() - 1)
 }
@@ -95,8 +96,8 @@ fn summarize(
     name: &FileName,
     answer: &Answer,
 ) -> Result<Kept, NoMemory>
-    ensures reading { IfOk result (λ kept.
-        IsFileReading (option_copied sums.entry) (name_of name.now) (reply_of answer.now) (summary_reading kept)) }
+    ensures reading { IfOk result (λ kept. IsWithinLimit (reply_of answer.now)
+        → IsFileReading (option_copied sums.entry) (name_of name.now) (reply_of answer.now) (summary_reading kept)) }
     ensures kept { IfOk result (IsKept (main_of main.now)) }
 {
     expect_path(names, name)?;

@@ -1,9 +1,9 @@
 //! From a store's answer to the contents of a dependency's file.
 
-ghost use Rattle.std.specs.Prelude.{◌≡◌, ℕ, List, Err, IfOk};
+ghost use Rattle.std.specs.Prelude.{◌≡◌, ◌≤◌, ◌<◌, ℕ, List, length, Err, IfOk};
 ghost use Rattle.gm_file.specs.DepLines.{IsMisread};
 ghost use Rattle.std.specs.Option.{option_copied};
-ghost use Rattle.gm_store.specs.Asked.{name_of, reply_of};
+ghost use Rattle.gm_store.specs.Asked.{IsWithinLimit, name_of, reply_of};
 ghost use Rattle.gm_graph_cache.specs.Reading.{IsContentReading, IsFileReading, class_of_sum, sum_fault};
 ghost use Rattle.gm_graph_cache.specs.Summaries.{reading_of};
 
@@ -24,13 +24,17 @@ pub enum FileReading {
 }
 
 impl FileReading {
-    /// What a dependency's file with these bytes says, or why they can't be read. The only refusal is `NoMemory`.
+    /// What a dependency's file with these bytes says, or why they can't be read: `Malformed` with `TooMany` exactly
+    /// if there are more than 16 MiB. The only refusal is `NoMemory`.
     pub fn of_bytes(
         alloc: Global,
         names: &mut KnownNames,
         content: &[u8],
     ) -> Result<FileReading, NoMemory>
-        ensures { IfOk result (λ read. IsContentReading content.now (reading_of read)) }
+        ensures reading { IfOk result (λ read. length content.now ≤ 16777216
+            → IsContentReading content.now (reading_of read)) }
+        ensures too_many { IfOk result (λ read. 16777216 < length content.now
+            → reading_of read ≡ Err (Class.Malformed 0 Misreading.TooMany)) }
     {
         match DepFile::read_bytes(alloc, names, content) {
             Ok(file) => Ok(FileReading::Valid(file)),
@@ -64,8 +68,10 @@ fn sum_fault(sums: Option<&SumTable>, name: &FileName, content: &[u8]) -> Option
 
 /// The class of bytes that can't be read for this reason. The only refusal is `NoMemory`.
 fn class_of_misread(fault: ReadFault) -> Result<Class, NoMemory>
-    ensures { IfOk result (λ class. (content : List ℕ) → IsMisread content fault
-        → IsContentReading content (Err class)) }
+    ensures reading { IfOk result (λ class. (content : List ℕ) → IsMisread content fault
+        → length content ≤ 16777216 → IsContentReading content (Err class)) }
+    ensures too_many { IfOk result (λ class. (content : List ℕ) → IsMisread content fault
+        → 16777216 < length content → class ≡ Class.Malformed 0 Misreading.TooMany) }
 {
     match fault {
         ReadFault::NoMemory => Err(AllocError),
@@ -83,7 +89,7 @@ fn malformed(line: usize, kind: Misreading) -> Class
     Class::Malformed { line, kind }
 }
 
-/// What an answer says, or what is wrong with it.
+/// What an answer says, or what is wrong with it. No store's answer is over the limit.
 pub(crate) fn read_answer(
     alloc: Global,
     names: &mut KnownNames,
@@ -91,8 +97,8 @@ pub(crate) fn read_answer(
     name: &FileName,
     answer: &Answer,
 ) -> Result<FileReading, NoMemory>
-    ensures { IfOk result (λ read.
-        IsFileReading (option_copied sums.entry) (name_of name.now) (reply_of answer.now) (reading_of read)) }
+    ensures { IfOk result (λ read. IsWithinLimit (reply_of answer.now)
+        → IsFileReading (option_copied sums.entry) (name_of name.now) (reply_of answer.now) (reading_of read)) }
 {
     match answer {
         Answer::Absent => Ok(FileReading::Faulty(Class::Missing)),

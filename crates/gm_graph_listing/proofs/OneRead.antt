@@ -1,5 +1,5 @@
 -- A main module's file and a go.sum can be read in exactly one way.
-use Rattle.std.proofs.Common.{◌≡◌, ◌⊎◌, ◌∙◌, ℕ, List, [], Option, Some, None, Result, Ok, Err, sym, ap, ap₂, refl, subst, arith, inl, inr}
+use Rattle.std.proofs.Common.{◌≡◌, ◌≤◌, ◌<◌, ◌⊎◌, ◌∙◌, ℕ, List, [], length, Option, Some, None, Result, Ok, Err, sym, ap, ap₂, refl, subst, arith, inl, inr}
 use Rattle.std.specs.Prelude.{unwrap_or}
 use Rattle.gm_syntax.specs.Words.{Word}
 use Rattle.gm_syntax.specs.Document.{Line, Whole, Faulty}
@@ -71,15 +71,25 @@ broken_or_lines content (number, misreading.NotUtf8) lines is other = is.1.1 oth
 broken_or_lines content (number, misreading.Syntax kind) lines is other = let ends = (other.1.only is.1 (Faulty number kind) is.2.reads).1 in cc ends
 broken_or_lines content (number, misreading.Directive kind) lines is other = is
 
--- These bytes read the same as a dependency's file, and that file is known to have exactly one reading.
+-- Bytes that aren't too many read the same as a dependency's file, and that file is known to have exactly one reading.
 abbrev as_dependency : Place → Result Dependency Class
 as_dependency place = Err (Malformed place.0 place.1)
 
-broken_reading : (content : List ℕ) (place : Place) → IsBroken content place → IsFileReading None (folder_file []) (bytes content) (as_dependency place)
-broken_reading content (number, misreading.TooMany) is = is
-broken_reading content (number, misreading.NotUtf8) is = is
-broken_reading content (number, misreading.Syntax kind) is = is
-broken_reading content (number, misreading.Directive kind) is = absurd is
+broken_reading : (content : List ℕ) (place : Place) → length content ≤ 16777216 → IsBroken content place → IsFileReading None (folder_file []) (bytes content) (as_dependency place)
+broken_reading content (number, misreading.TooMany) few is = absurd (omega (arith, few, is.1))
+broken_reading content (number, misreading.NotUtf8) few is = is
+broken_reading content (number, misreading.Syntax kind) few is = is
+broken_reading content (number, misreading.Directive kind) few is = absurd is
+
+-- the bytes are too many, and that is their place
+abbrev IsLong : List ℕ → Place → Type 0
+IsLong content place = (16777216 < length content) × (place ≡ (0, misreading.TooMany))
+
+few_or_long : (content : List ℕ) (place : Place) → IsBroken content place → (length content ≤ 16777216) ⊎ IsLong content place
+few_or_long content (number, misreading.TooMany) is = inr (is.1, ap (λ (n : ℕ). let place : Place = (n, misreading.TooMany) in place) is.0)
+few_or_long content (number, misreading.NotUtf8) is = inl is.1.0
+few_or_long content (number, misreading.Syntax kind) is = inl is.0.0
+few_or_long content (number, misreading.Directive kind) is = absurd is
 
 same_place : (here there : Place) → as_dependency here ≡ as_dependency there → here ≡ there
 same_place (number, kind) (other, sort) same = let numbers : number ≡ other = cc same in let kinds : kind ≡ sort = cc same in ap₂ (λ (n : ℕ) (k : Misreading). let place : Place = (n, k) in place) numbers kinds
@@ -91,8 +101,14 @@ same_fault content here there (lines, fault, parsed, first, is) (others, next, o
     is ∙ ap place_of faults ∙ sym at
 
 same_misreading : (content : List ℕ) (here there : Place) → IsBroken content here ⊎ IsFaulty content here → IsBroken content there ⊎ IsFaulty content there → here ≡ there
-same_misreading content here there (inl is) (inl other) =
-    same_place here there (one_reading None (folder_file []) (bytes content) (as_dependency here) (as_dependency there) (broken_reading content here is) (broken_reading content there other))
+same_misreading content here there (inl is) (inl other) = by_length (few_or_long content here is) (few_or_long content there other)
+  where
+    by_length : (length content ≤ 16777216) ⊎ IsLong content here → (length content ≤ 16777216) ⊎ IsLong content there → here ≡ there
+    by_length (inl few) any =
+        same_place here there
+        (one_reading None (folder_file []) (bytes content) (as_dependency here) (as_dependency there) (broken_reading content here few is) (broken_reading content there few other))
+    by_length (inr long) (inl few) = absurd (omega (arith, long.0, few))
+    by_length (inr long) (inr too) = long.1 ∙ sym too.1
 same_misreading content here there (inl is) (inr other) = absurd (broken_or_lines content here other.0 is other.2)
 same_misreading content here there (inr is) (inl other) = absurd (broken_or_lines content there is.0 other is.2)
 same_misreading content here there (inr is) (inr other) = same_fault content here there is other

@@ -11,8 +11,8 @@ use Rattle.gm_graph_cache.specs.Reading.{Held, Readings, readings_by}
 use Rattle.gm_graph_select.specs.declared.step.Edge.{Edge}
 use Rattle.gm_graph_select.specs.declared.step.Step.TheVariants.{Main as FromMain}
 use Rattle.gm_graph_select.specs.BuildList.{Entry, IsBuildList, IsRestAfter, IsSelected, path_of}
-use Rattle.gm_graph_select.specs.Graph.{Edges, IsEnd, among, edge}
-use Rattle.gm_graph_select.specs.Laws.{ArePages as AreRowPages, joined, no_more, one_more}
+use Rattle.gm_graph_select.specs.Graph.{Edges, IsEdgeEnd, among, edge}
+use Rattle.gm_graph_select.specs.Laws.{ArePages as AreRowPages, entries_of_pages, no_more, one_more}
 use Rattle.gm_graph_select.proofs.Ascending.{member_cases, member_head, member_tail, no_member}
 use Rattle.gm_graph_select.proofs.Lawful.{pages_exist, pages_join as rows_join, row_selected, rows_satisfy}
 use Rattle.gm_graph_select.proofs.RestRows.{texts_differ, texts_same}
@@ -103,7 +103,7 @@ module _ (main : List ℕ) (replaces : List Replacing) (E : Edges) (rows : List 
   abbrev own_edges : List Edge
   own_edges = map (edge FromMain) list.selected
 
-  own_end : (x : ModuleVersion) → IsEnd (among own_edges) x → Contains list.selected x
+  own_end : (x : ModuleVersion) → IsEdgeEnd (among own_edges) x → Contains list.selected x
   own_end x (s, there) =
       let (z, inside, same) = from_mapped (edge FromMain) list.selected (edge s x) there in
       subst (λ (w : ModuleVersion). Contains list.selected w) (ap (λ (e : Edge). e.to) same) inside
@@ -124,7 +124,7 @@ module _ (main : List ℕ) (replaces : List Replacing) (E : Edges) (rows : List 
     each = λ x. (own_selected x, (λ is. own_end x is.is_end));
   }
 
-  pub row_pages : (n : ℕ) → 0 < n → (pages : List (List Entry)) × AreRowPages main rows n rows pages × (joined pages ≡ rows)
+  pub row_pages : (n : ℕ) → 0 < n → (pages : List (List Entry)) × AreRowPages main rows n rows pages × (entries_of_pages pages ≡ rows)
   row_pages n some =
       let (pages, are) = pages_exist main replaces own_edges rows n some own_list in
       (pages, are, rows_join main replaces own_edges rows n pages own_list are)
@@ -133,9 +133,9 @@ take_none : (n : ℕ) → take {A = Entry} n [] ≡ []
 take_none zero = refl
 take_none (suc n) = refl
 
-pub texts_join : (main : List ℕ) (pages : List (List Entry)) → list_text main (joined pages) ≡ flat_map (list_text main) pages
+pub texts_join : (main : List ℕ) (pages : List (List Entry)) → list_text main (entries_of_pages pages) ≡ flat_map (list_text main) pages
 texts_join main [] = refl
-texts_join main (page ∷ pages) = flat_map-append _ page (joined pages) ∙ ap (λ (t : List ℕ). list_text main page ++ t) (texts_join main pages)
+texts_join main (page ∷ pages) = flat_map-append _ page (entries_of_pages pages) ∙ ap (λ (t : List ℕ). list_text main page ++ t) (texts_join main pages)
 
 module _ (run : Given) (main : Main) (held : Held) (found : AllFilesAreValid run main held) (rows : List Entry) (list : AreRows main (readings_by main held) rows) (n : ℕ) where
   -- the rows that remain after a path, or all rows

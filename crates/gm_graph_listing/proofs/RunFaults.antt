@@ -12,6 +12,7 @@ use Rattle.gm_store_sums.specs.declared.sum_table.Sum.TheVariants.{Good, Unliste
 use Rattle.gm_store_sums.specs.declared.sum_table.SumTable.{SumTable}
 use Rattle.gm_graph_cache.specs.declared.class.Class.{Class}
 use Rattle.gm_graph_cache.specs.declared.class.Class.TheVariants.{NotFetchable, Missing, TooLong, NoSum, SumDiffers, Malformed, WrongPath}
+use Rattle.gm_graph_cache.specs.declared.class.Misreading.TheVariants as misreading
 use Rattle.gm_graph_cache.specs.Main.{Main, ModuleVersion, replacement_in}
 use Rattle.gm_graph_cache.specs.Reading.{IsContentReading, IsFileReading, IsReadUnless, IsTold, class_of_sum, fault_in, file_of, is_askable, is_right_path, reading_if, readings_by, sum_fault, with_right_path}
 use Rattle.gm_graph_listing.specs.PrintedLines.{IsProperClass, RunHasProperFaults}
@@ -40,7 +41,10 @@ sum_sound (Some table) (list_file path) content class is = absurd (cc is)
 
 content_sound : (content : List ℕ) (reading : Result Dependency Class) → IsContentReading content reading → IsSound (Some reading)
 content_sound content (Ok file) is = tt
-content_sound content (Err (Malformed number kind)) is = misread_few content number kind is
+content_sound content (Err (Malformed number misreading.TooMany)) is = absurd is
+content_sound content (Err (Malformed number misreading.NotUtf8)) is = misread_few content number misreading.NotUtf8 is
+content_sound content (Err (Malformed number (misreading.Syntax kind))) is = misread_few content number (misreading.Syntax kind) is
+content_sound content (Err (Malformed number (misreading.Directive kind))) is = misread_few content number (misreading.Directive kind) is
 content_sound content (Err NotFetchable) is = tt
 content_sound content (Err Missing) is = tt
 content_sound content (Err TooLong) is = tt

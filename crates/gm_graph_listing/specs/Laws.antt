@@ -15,7 +15,7 @@ use Rattle.gm_graph_select.specs.declared.step.Step.TheVariants.{Main as FromMai
 use Rattle.gm_graph_select.specs.BuildList.{Entry, IsBuildList, IsEntryOf, entry_of, main_entry, path_cmp, path_of}
 use Rattle.gm_graph_select.specs.Chains.{IsChain}
 use Rattle.gm_graph_select.specs.Graph.{Edges, among}
-use Rattle.gm_graph_select.specs.Laws.{joined}
+use Rattle.gm_graph_select.specs.Laws.{entries_of_pages}
 use Rattle.gm_graph_select.specs.Order.{IsAscending}
 use Rattle.gm_graph.specs.Graph.{IsEdge, IsVertex}
 use Rattle.gm_graph.specs.Outcome.{AreEdges, AreFaults}
@@ -145,7 +145,7 @@ pub data ArePrintedPages (run : Given) (main : List ℕ) (n : ℕ) : Option (Lis
 abbrev pub JoinsPages : ℕ → Given → Outcome → Type 0
 JoinsPages n run whole =
     (main : Main) × (held : Held) × (pages : List (List Entry)) × AllFilesAreValid run main held
-    × AreRows main (readings_by main held) (joined pages) × ArePrintedPages run main.path n None pages
+    × AreRows main (readings_by main held) (entries_of_pages pages) × ArePrintedPages run main.path n None pages
     × (whole.text ≡ flat_map (list_text main.path) pages)
 
 -- this holds of what `list` prints without a limit

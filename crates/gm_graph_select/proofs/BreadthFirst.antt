@@ -20,7 +20,7 @@ use Rattle.gm_graph_select.specs.Graph.{Vertex, Edges, edge, step_cmp}
 use Rattle.gm_graph_select.specs.Chains.{IsChain, IsLevel, IsPredecessor, IsReached, Leads, along, at_main, begins, goes_on}
 use Rattle.gm_graph_select.specs.Numbering.{AreSources, source_edges, step_at, steps_of}
 use Rattle.gm_graph_select.specs.Order.{IsAscending}
-use Rattle.gm_graph_select.specs.Searching.{AreTraced, AreTried, IsDue, IsFollowed, IsSearchedTo, IsTraced, IsTracedTo, IsTurn, IsWithin, State, count_left, first_state, flag, is_found_at, visit_at, visited}
+use Rattle.gm_graph_select.specs.Searching.{AreTraced, AreTried, IsVisitedNext, IsFollowed, IsSearchedTo, IsTraced, IsTracedTo, IsTurn, IsWithin, State, count_left, first_state, flag, is_found_at, visit_at, visited}
 use Rattle.gm_graph_select.proofs.NumberedSteps.{less_number, same_number, source_number}
 
 -- ---- vertices
@@ -349,7 +349,7 @@ level_begins S goal level start due h = record {
 
 -- A visit of the level is due after those before it.
 pub due_next : (S : Sources) (goal : Vertex) (level : ℕ) (start state : State) (due : List Visit) (tried : List Edge) (i : ℕ) (v : Visit) → AreSources S → IsSearchedTo S goal level start due → i < length due → v ≡ get_or due i v → AreTried S (take i due) tried
-    → IsTraced (source_edges S) (steps_of S) state.visits (length state.visits) v → IsFollowed S goal level start.found tried state → IsDue S goal level start.found tried state v
+    → IsTraced (source_edges S) (steps_of S) state.visits (length state.visits) v → IsFollowed S goal level start.found tried state → IsVisitedNext S goal level start.found tried state v
 due_next S goal level start state due tried i v are h below is all traced f = record {
   turn = record { on_level = h.on_level v member; lower = lower; full = λ j inside w. (h.found j inside).1 w };
   far = h.far;

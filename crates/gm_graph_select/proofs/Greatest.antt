@@ -12,12 +12,12 @@ use Rattle.std.proofs.lemmas.List.Elements.{Contains-append_left, Contains-push,
 use Rattle.gm_name.specs.Version.{version_cmp}
 use Rattle.gm_name.specs.VersionOrder.{version_total}
 use Rattle.gm_graph_select.specs.declared.step.Step.TheVariants.{Main}
-use Rattle.gm_graph_select.specs.Graph.{Edges, Vertex, IsEnd}
+use Rattle.gm_graph_select.specs.Graph.{Edges, Vertex, IsEdgeEnd}
 use Rattle.gm_graph_select.specs.BuildList.{IsSelected}
 
 -- There is none if no edge leads to the path, or if it is the main module's.
 abbrev pub IsGreatest : List ℕ → Edges → List ℕ → Option Vertex → Type 0
-IsGreatest main edges path None = (y : Vertex) → IsEnd edges y → y.0 ≡ path → path ≡ main
+IsGreatest main edges path None = (y : Vertex) → IsEdgeEnd edges y → y.0 ≡ path → path ≡ main
 IsGreatest main edges path (Some x) = (x.0 ≡ path) × IsSelected main edges x
 
 -- The version is above that of the other vertex, if there is one.
@@ -58,13 +58,13 @@ equal_itself a = not_above_itself (version_cmp a a) (version_total.antisymm a a)
 
 -- ---- one more vertex
 
-end_cases : (ends : List Vertex) (e y : Vertex) → IsEnd (ending (ends ++ e ∷ [])) y → IsEnd (ending ends) y ⊎ (e ≡ y)
+end_cases : (ends : List Vertex) (e y : Vertex) → IsEdgeEnd (ending (ends ++ e ∷ [])) y → IsEdgeEnd (ending ends) y ⊎ (e ≡ y)
 end_cases ends e y (s, h) = elim (Contains-push_cases ends e y h) [ inl there ↦ inl (s, there) | inr same ↦ inr same ]
 
-end_kept : (ends : List Vertex) (e y : Vertex) → IsEnd (ending ends) y → IsEnd (ending (ends ++ e ∷ [])) y
+end_kept : (ends : List Vertex) (e y : Vertex) → IsEdgeEnd (ending ends) y → IsEdgeEnd (ending (ends ++ e ∷ [])) y
 end_kept ends e y (s, h) = (s, Contains-append_left ends (e ∷ []) y h)
 
-end_new : (ends : List Vertex) (e : Vertex) → IsEnd (ending (ends ++ e ∷ [])) e
+end_new : (ends : List Vertex) (e : Vertex) → IsEdgeEnd (ending (ends ++ e ∷ [])) e
 end_new ends e = (Main, Contains-push ends e)
 
 -- A vertex that is not above the greatest of its path changes nothing.
@@ -100,7 +100,7 @@ greatest_new main ends e o not_main above g = (refl, record { not_main = not_mai
     itself : (y : Vertex) → e ≡ y → is_gt (version_cmp y.1 e.1) ≡ false
     itself y new = subst (λ (z : Vertex). is_gt (version_cmp z.1 e.1) ≡ false) new (equal_itself e.1)
 
-    top : (o : Option Vertex) → is_above e o ≡ true → IsGreatest main (ending ends) e.0 o → (y : Vertex) → IsEnd (ending (ends ++ e ∷ [])) y → y.0 ≡ e.0 → is_gt (version_cmp y.1 e.1) ≡ false
+    top : (o : Option Vertex) → is_above e o ≡ true → IsGreatest main (ending ends) e.0 o → (y : Vertex) → IsEdgeEnd (ending (ends ++ e ∷ [])) y → y.0 ≡ e.0 → is_gt (version_cmp y.1 e.1) ≡ false
     top None above g y h same = elim (end_cases ends e y h) [ inl there ↦ absurd (not_main (g y there same)) | inr new ↦ itself y new ]
     top (Some x) above g y h same = elim (end_cases ends e y h) [ inl there ↦ below_more y.1 x.1 e.1 (g.1.greatest y there (same ∙ sym g.0)) above | inr new ↦ itself y new ]
 

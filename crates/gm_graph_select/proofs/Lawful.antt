@@ -20,7 +20,7 @@ use Rattle.gm_graph_select.specs.Graph.{Vertex, Edges, among, step_cmp}
 use Rattle.gm_graph_select.specs.StepOrder.{step-anti, step_total}
 use Rattle.gm_graph_select.specs.BuildList.{Entry, IsAt, IsBuildList, IsEntryOf, IsSelected, entry_of, main_entry, path_cmp, path_of}
 use Rattle.gm_graph_select.specs.Chains.{at_main, along, IsPredecessor, IsChain, begins, goes_on, IsLevel, IsReached, IsRooted}
-use Rattle.gm_graph_select.specs.Laws.{ArePages, no_more, one_more, joined, ChainIsShortest, EntriesAreReached, MainIsFirst, OneBuildList, OneChain, OneRest, PagesExist, PagesJoin, RowsAreEnds, RowsSatisfy}
+use Rattle.gm_graph_select.specs.Laws.{ArePages, no_more, one_more, entries_of_pages, ChainIsShortest, EntriesAreReached, MainIsFirst, OneBuildList, OneChain, OneRest, PagesExist, PagesJoin, RowsAreEnds, RowsSatisfy}
 use Rattle.gm_graph_select.proofs.Ascending.{less_itself, member_cases, member_head, member_tail, pairs_split, same_lists}
 use Rattle.gm_graph_select.proofs.Greatest.{IsGreatest, bests, ending}
 use Rattle.gm_graph_select.proofs.Same.{EndAlike, alike_selected, ending_ends, ends_alike, ends_of}
@@ -202,7 +202,7 @@ module _ (main : List ℕ) (entries : List Entry) (apart : AllPairs (λ (a b : E
   further : (before left : List Entry) → entries ≡ before ++ left → entries ≡ (before ++ take n left) ++ drop n left
   further before left whole = whole ∙ ap (λ (l : List Entry). before ++ l) (sym (take-append-drop n left)) ∙ sym (append_assoc before (take n left) (drop n left))
 
-  pages_join_from : (before left : List Entry) (pages : List (List Entry)) → entries ≡ before ++ left → ArePages main entries n left pages → joined pages ≡ left
+  pages_join_from : (before left : List Entry) (pages : List (List Entry)) → entries ≡ before ++ left → ArePages main entries n left pages → entries_of_pages pages ≡ left
   pages_join_from before _ _ whole no_more = refl
   pages_join_from before left _ whole (one_more {rest} {pages} front last page after more) =
       let (entry, at) = after in

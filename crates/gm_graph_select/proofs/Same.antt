@@ -7,7 +7,7 @@ use Rattle.gm_file.specs.Directives.{Replacing}
 use Rattle.gm_graph_select.specs.declared.step.Edge.{Edge}
 use Rattle.gm_graph_select.specs.declared.step.Step.{Step}
 use Rattle.gm_graph_select.specs.declared.step.Step.TheVariants.{Main, Of}
-use Rattle.gm_graph_select.specs.Graph.{AreEnds, Vertex, Edges, IsEnd, among, edge}
+use Rattle.gm_graph_select.specs.Graph.{AreEnds, Vertex, Edges, IsEdgeEnd, among, edge}
 use Rattle.gm_graph_select.specs.BuildList.{Entry, IsSelected, IsBuildList}
 use Rattle.gm_graph_select.specs.Order.{HaveSame}
 use Rattle.gm_graph_select.proofs.Greatest.{ending}
@@ -22,7 +22,7 @@ same_back E F h s y = ((h s y).1, (h s y).0)
 
 -- The two relations lead to the same vertices.
 abbrev pub EndAlike : Edges → Edges → Type 0
-EndAlike E F = (y : Vertex) → IsEnd E y ↔ IsEnd F y
+EndAlike E F = (y : Vertex) → IsEdgeEnd E y ↔ IsEdgeEnd F y
 
 alike_back : (E F : Edges) → EndAlike E F → EndAlike F E
 alike_back E F h y = ((h y).1, (h y).0)
@@ -43,13 +43,13 @@ ends_same xs ys E same are y = ((λ h. (are y).0 ((same y).1 h)), (λ end. (same
 pub ends_of : (edges : List Edge) → AreEnds (map (λ (e : Edge). e.to) edges) (among edges)
 ends_of edges y = (from, to)
   where
-    from : Contains (map (λ (e : Edge). e.to) edges) y → IsEnd (among edges) y
+    from : Contains (map (λ (e : Edge). e.to) edges) y → IsEdgeEnd (among edges) y
     from (k, below, at) =
         let inside : k < length edges = rw length-map at below in
         let e = get_or edges k (edge Main y) in
         (e.from, subst (λ (z : Vertex). Contains edges (edge e.from z)) (sym (get_or-map (λ (e : Edge). e.to) edges k (edge Main y) y inside) ∙ at) (Contains-get_or edges k (edge Main y) inside))
 
-    to : IsEnd (among edges) y → Contains (map (λ (e : Edge). e.to) edges) y
+    to : IsEdgeEnd (among edges) y → Contains (map (λ (e : Edge). e.to) edges) y
     to (s, there) =
         let (k, below, at) = there in
         (k, rw length-map below, get_or-map (λ (e : Edge). e.to) edges k (edge s y) y below ∙ ap (λ (e : Edge). e.to) at)

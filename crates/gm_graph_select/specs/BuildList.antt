@@ -15,7 +15,7 @@ use Rattle.gm_file.specs.Views.{right_view}
 use Rattle.gm_graph_select.specs.declared.step.Step.{Step}
 use Rattle.gm_graph_select.specs.declared.step.Step.TheVariants.{Main, Of}
 use Rattle.gm_graph_select.specs.declared.row.Row.{Row}
-use Rattle.gm_graph_select.specs.Graph.{Vertex, Edges, IsEnd}
+use Rattle.gm_graph_select.specs.Graph.{Vertex, Edges, IsEdgeEnd}
 use Rattle.gm_graph_select.specs.Order.{IsAscending}
 
 -- a module of the build list, and its replacement
@@ -32,8 +32,8 @@ entries_of_rows rows = map entry_of_row rows
 -- The vertex has the greatest version of a path that is not the main module's.
 pub record IsSelected (main : List ℕ) (edges : Edges) (x : Vertex) : Type 0 where
   pub not_main : x.0 ≢ main
-  pub is_end : IsEnd edges x
-  pub greatest : (y : Vertex) → IsEnd edges y → y.0 ≡ x.0 → is_gt (version_cmp y.1 x.1) ≡ false
+  pub is_end : IsEdgeEnd edges x
+  pub greatest : (y : Vertex) → IsEdgeEnd edges y → y.0 ≡ x.0 → is_gt (version_cmp y.1 x.1) ≡ false
 
 -- the order of vertices by the bytes of their paths alone
 abbrev pub path_cmp : Vertex → Vertex → Ordering

@@ -26,12 +26,12 @@ abbrev pub among : List Edge → Edges
 among edges s y = Contains edges (edge s y)
 
 -- An edge leads to the vertex.
-abbrev pub IsEnd : Edges → Vertex → Type 0
-IsEnd edges x = (s : Step) × edges s x
+abbrev pub IsEdgeEnd : Edges → Vertex → Type 0
+IsEdgeEnd edges x = (s : Step) × edges s x
 
 -- The list has exactly the vertices that edges lead to.
 abbrev pub AreEnds : List Vertex → Edges → Type 0
-AreEnds ends edges = (x : Vertex) → Contains ends x ↔ IsEnd edges x
+AreEnds ends edges = (x : Vertex) → Contains ends x ↔ IsEdgeEnd edges x
 
 -- the order of vertices: by the bytes of the path, then by the version
 abbrev pub vertex_cmp : Vertex → Vertex → Ordering

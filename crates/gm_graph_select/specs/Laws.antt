@@ -6,7 +6,7 @@ use Rattle.gm_file.specs.Directives.{Replacing, Right}
 use Rattle.gm_graph_select.specs.declared.step.Step.{Step}
 use Rattle.gm_graph_select.specs.declared.step.Step.TheVariants.{Main, Of}
 use Rattle.gm_graph_select.specs.declared.step.Edge.{Edge}
-use Rattle.gm_graph_select.specs.Graph.{Vertex, IsEnd, among}
+use Rattle.gm_graph_select.specs.Graph.{Vertex, IsEdgeEnd, among}
 use Rattle.gm_graph_select.specs.BuildList.{Entry, IsBuildList, IsEntryOf, IsRestAfter, path_of}
 use Rattle.gm_graph_select.specs.Chains.{IsChain, IsLevel, IsReached, IsRooted}
 
@@ -14,14 +14,14 @@ use Rattle.gm_graph_select.specs.Chains.{IsChain, IsLevel, IsReached, IsRooted}
 abbrev pub RowsAreEnds : Type 0
 RowsAreEnds = (main : List ℕ) (replaces : List Replacing) (edges : List Edge) (entries : List Entry)
     → IsBuildList main replaces (among edges) entries
-    → (x : Vertex) (right : Option Right) → Contains entries (Of x, right) → IsEnd (among edges) x
+    → (x : Vertex) (right : Option Right) → Contains entries (Of x, right) → IsEdgeEnd (among edges) x
 
 -- Each path other than the main module's that an edge leads to has a row, whose version is not below that of the
 -- edge.
 abbrev pub RowsSatisfy : Type 0
 RowsSatisfy = (main : List ℕ) (replaces : List Replacing) (edges : List Edge) (entries : List Entry)
     → IsBuildList main replaces (among edges) entries
-    → (y : Vertex) → IsEnd (among edges) y → y.0 ≢ main
+    → (y : Vertex) → IsEdgeEnd (among edges) y → y.0 ≢ main
     → (x : Vertex) × (right : Option Right) × Contains entries (Of x, right) × (x.0 ≡ y.0)
     × (is_gt (version_cmp y.1 x.1) ≡ false)
 
@@ -47,15 +47,16 @@ pub data ArePages (main : List ℕ) (entries : List Entry) (n : ℕ) : List Entr
       → take n left ≡ front ++ last ∷ [] → IsRestAfter main entries (path_of main last.0) rest
       → ArePages main entries n rest pages → ArePages main entries n left (take n left ∷ pages)
 
-abbrev pub joined : List (List Entry) → List Entry
-joined [] = []
-joined (page ∷ pages) = page ++ joined pages
+-- the entries of the pages, in order
+abbrev pub entries_of_pages : List (List Entry) → List Entry
+entries_of_pages [] = []
+entries_of_pages (page ∷ pages) = page ++ entries_of_pages pages
 
--- The joined pages are the build list.
+-- The entries of the pages are the build list.
 abbrev pub PagesJoin : Type 0
 PagesJoin = (main : List ℕ) (replaces : List Replacing) (edges : List Edge) (entries : List Entry) (n : ℕ)
     (pages : List (List Entry)) → IsBuildList main replaces (among edges) entries
-    → ArePages main entries n entries pages → joined pages ≡ entries
+    → ArePages main entries n entries pages → entries_of_pages pages ≡ entries
 
 -- Such pages exist.
 abbrev pub PagesExist : Type 0

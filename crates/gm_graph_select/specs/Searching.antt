@@ -123,7 +123,7 @@ pub record IsTurn (sources : Sources) (level : ℕ) (before : List Bool) (tried 
       → IsWithin (source_edges sources) level (step_at (steps_of sources) i) → is_found_at before i ≡ true
 
 -- The visit comes next, after those whose edges were followed.
-pub record IsDue (sources : Sources) (goal : Vertex) (level : ℕ) (before : List Bool) (tried : List Edge)
+pub record IsVisitedNext (sources : Sources) (goal : Vertex) (level : ℕ) (before : List Bool) (tried : List Edge)
     (state : State) (visit : Visit) : Type 0 where
   pub turn : IsTurn sources level before tried (step_at (steps_of sources) visit.number)
   pub far : IsWithin (source_edges sources) level (Of goal) → ⊥

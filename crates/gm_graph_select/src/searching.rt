@@ -11,7 +11,7 @@ ghost use Rattle.gm_graph_select.specs.Graph.{Vertex};
 ghost use Rattle.gm_graph_select.specs.Order.{HaveSame};
 ghost use Rattle.gm_graph_select.specs.Chains.{IsReached};
 ghost use Rattle.gm_graph_select.specs.Numbering.{AreSources, source_edges, step_at, steps_of};
-ghost use Rattle.gm_graph_select.specs.Searching.{AreOnce, AreTried, IsDue, IsFollowed, IsSearchedTo, IsTracedTo, IsTurn, first_state, state_of, visit_at, visited};
+ghost use Rattle.gm_graph_select.specs.Searching.{AreOnce, AreTried, IsVisitedNext, IsFollowed, IsSearchedTo, IsTracedTo, IsTurn, first_state, state_of, visit_at, visited};
 
 use crate::numbering::Sources;
 use crate::sorting::sorted;
@@ -85,10 +85,10 @@ impl Search {
         ensures size { length self.new.is_found.items ≡ length (steps_of sources.now) }
         ensures visits { OnOk result (self.new.visits.items ≡ self.old.visits.items ++ visit ∷ []) }
         ensures found { IfOk result (λ is_goal. is_goal ≡ true → (level : ℕ) (found : List Bool) (tried : List Edge)
-            → IsDue sources.now goal.now level found tried (state_of self.old) visit
+            → IsVisitedNext sources.now goal.now level found tried (state_of self.old) visit
             → IsTracedTo sources.now goal.now self.new.visits.items) }
         ensures missed { IfOk result (λ is_goal. is_goal ≡ false → (level : ℕ) (found : List Bool) (tried : List Edge)
-            → IsDue sources.now goal.now level found tried (state_of self.old) visit
+            → IsVisitedNext sources.now goal.now level found tried (state_of self.old) visit
             → (more : List Edge) × IsFollowed sources.now goal.now level found (tried ++ more) (state_of self.new)
             × AreTried sources.now (visit ∷ []) more) }
     {

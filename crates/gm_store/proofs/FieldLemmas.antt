@@ -1,12 +1,12 @@
--- The fields of a line: its first word, and then the fields of the rest.
-use Rattle.std.proofs.Common.{◌≡◌, ◌+◌, ◌-◌, ◌==◌, ℕ, Bool, true, false, suc, List, [], ◌∷◌, length, take, drop, ap, ◌∙◌, sym, refl, arith}
+-- Cutting the first word off a line; the fields of a line are that word, and then the fields of the rest.
+use Rattle.std.proofs.Common.{◌≡◌, ◌+◌, ◌-◌, ◌==◌, ◌++◌, ℕ, Bool, true, false, suc, List, [], ◌∷◌, length, take, drop, ap, ◌∙◌, subst, sym, refl, arith}
 use Rattle.std.proofs.lemmas.Grind.{common_steps}
 use Rattle.std.proofs.lemmas.Bool.Decides.{Decides-eqb, nat_tests}
 use Rattle.std.proofs.lemmas.List.Splits.{slice_split-cons_no, slice_split-cons_yes}
-use Rattle.std.specs.Prelude.{nat_lt}
-use Rattle.std.specs.List.{filter, onto_first, position_or_len, slice_split}
+use Rattle.std.specs.Prelude.{◌&&◌, ◌||◌, nat_lt}
+use Rattle.std.specs.List.{filter, list_all, list_any, onto_first, position_or_len, slice_split}
 use Rattle.gm_store.specs.Lines.{after_blanks, fields, first_word, is_blank}
-use Rattle.gm_store.specs.Words.{prepend_word}
+use Rattle.gm_store.specs.Words.{EndsWord, IsCut, prepend_word}
 
 fields-blank : (b : ℕ) (xs : List ℕ) → is_blank b ≡ true → fields (b ∷ xs) ≡ fields xs
 fields-blank b xs e = ap (filter (λ word. nat_lt 0 (length word))) (slice_split-cons_yes is_blank b xs e)
@@ -87,6 +87,69 @@ fields_from (x ∷ xs) word =
 -- the fields of a line are its first word, if there is one, and the fields of the rest
 pub fields_step : (line : List ℕ) → fields line ≡ prepend_word (first_word line) (fields (drop (position_or_len is_blank (after_blanks line)) (after_blanks line)))
 fields_step line = fields-after line ∙ fields_from (after_blanks line) (begins line)
+
+-- ---- the cut of a line
+
+-- the bytes before the first blank of a text, and the rest
+record EndsAtBlank (xs : List ℕ) : Type 0 where
+  parts : xs ≡ take (position_or_len is_blank xs) xs ++ drop (position_or_len is_blank xs) xs
+  is_word : list_any is_blank (take (position_or_len is_blank xs) xs) ≡ false
+  ends_word : EndsWord (drop (position_or_len is_blank xs) xs)
+
+blank_step : (x : ℕ) (xs : List ℕ) (blank : Bool) → is_blank x ≡ blank → EndsAtBlank xs → EndsAtBlank (x ∷ xs)
+blank_step x xs true e ends = record {
+  parts = ap (λ n. take n (x ∷ xs) ++ drop n (x ∷ xs)) (sym (none_before x xs e));
+  is_word = ap (λ n. list_any is_blank (take n (x ∷ xs))) (none_before x xs e);
+  ends_word = subst (λ n. EndsWord (drop n (x ∷ xs))) (sym (none_before x xs e)) e;
+}
+blank_step x xs false e ends = record {
+  parts = ap (λ text. x ∷ text) ends.parts ∙ ap (λ word. word ++ drop (position_or_len is_blank xs) xs) (sym (take_before x xs e))
+      ∙ ap (λ rest. take (position_or_len is_blank (x ∷ xs)) (x ∷ xs) ++ rest) (sym (drop_before x xs e));
+  is_word = ap (list_any is_blank) (take_before x xs e) ∙ ap (λ b. b || list_any is_blank (take (position_or_len is_blank xs) xs)) e ∙ ends.is_word;
+  ends_word = subst EndsWord (sym (drop_before x xs e)) ends.ends_word;
+}
+
+ends_at_blank : (xs : List ℕ) → EndsAtBlank xs
+ends_at_blank [] = record { parts = refl; is_word = refl; ends_word = tt }
+ends_at_blank (x ∷ xs) = blank_step x xs (is_blank x) refl (ends_at_blank xs)
+
+abbrev pub rest_of : List ℕ → List ℕ
+rest_of line = drop (position_or_len is_blank (after_blanks line)) (after_blanks line)
+
+-- a line that begins with its word
+word_first : (b : ℕ) (xs : List ℕ) → is_blank b ≡ false → IsCut (b ∷ xs) (first_word (b ∷ xs)) (rest_of (b ∷ xs))
+word_first b xs e =
+    let same = after-word b xs e in
+    let ends = ends_at_blank (b ∷ xs) in
+    subst (λ text. IsCut (b ∷ xs) (take (position_or_len is_blank text) text) (drop (position_or_len is_blank text) text)) (sym same) (record {
+      blanks = [];
+      parts = ends.parts;
+      are_blank = refl;
+      is_word = ends.is_word;
+      ends_word = ends.ends_word;
+      all_blank = λ none. cc (sym (take_before b xs e) ∙ none);
+    })
+
+-- a line that begins with a blank
+blank_first : (b : ℕ) (xs : List ℕ) → is_blank b ≡ true → IsCut xs (first_word xs) (rest_of xs) → IsCut (b ∷ xs) (first_word (b ∷ xs)) (rest_of (b ∷ xs))
+blank_first b xs e cut =
+    subst (λ text. IsCut (b ∷ xs) (take (position_or_len is_blank text) text) (drop (position_or_len is_blank text) text)) (sym (after-blank b xs e)) (record {
+      blanks = b ∷ cut.blanks;
+      parts = ap (λ text. b ∷ text) cut.parts;
+      are_blank = ap (λ blank. blank && list_all is_blank cut.blanks) e ∙ cut.are_blank;
+      is_word = cut.is_word;
+      ends_word = cut.ends_word;
+      all_blank = cut.all_blank;
+    })
+
+first_by : (b : ℕ) (xs : List ℕ) (blank : Bool) → is_blank b ≡ blank → IsCut xs (first_word xs) (rest_of xs) → IsCut (b ∷ xs) (first_word (b ∷ xs)) (rest_of (b ∷ xs))
+first_by b xs true e cut = blank_first b xs e cut
+first_by b xs false e cut = word_first b xs e
+
+-- a line is cut at the end of its first word
+pub is_cut : (line : List ℕ) → IsCut line (first_word line) (rest_of line)
+is_cut [] = record { blanks = []; parts = refl; are_blank = refl; is_word = refl; ends_word = tt; all_blank = λ none. refl }
+is_cut (b ∷ xs) = first_by b xs (is_blank b) refl (is_cut xs)
 
 pub drop_whole : (n : ℕ) (xs : List ℕ) → take (length xs - n) (drop n xs) ≡ drop n xs
 drop_whole n xs = grind (arith, common_steps)

@@ -6,7 +6,7 @@
 ghost use Rattle.std.specs.Prelude.{◌≡◌, ◌≤◌, length};
 ghost use Rattle.std.specs.List.{position_or_len, prefix_len};
 ghost use Rattle.gm_store.specs.Lines.{after_blanks, fields, first_word, is_blank};
-ghost use Rattle.gm_store.specs.Words.{prepend_word};
+ghost use Rattle.gm_store.specs.Words.{IsCut, prepend_word};
 
 /// Whether a byte is a blank: a space, a tab or a CR.
 pub(crate) fn is_blank(byte: u8) -> bool
@@ -47,13 +47,15 @@ pub struct Cut<'a> {
     pub rest: &'a [u8],
 }
 
-/// Cuts the first word off a line. The words of the rest are the line's other words, in order.
+/// Cuts the first word off a line, with the blanks before it. The rest is empty or begins with a blank; its words
+/// are the line's other words, in order.
 ///
 /// Words are separated by spaces, tabs and CRs. The result borrows from the line; each byte up to the word's end is
 /// looked at once.
 pub fn cut_word(line: &[u8]) -> Cut<'_>
     ensures word { result.word.now ≡ first_word line.now }
-    ensures rest { fields line.now ≡ prepend_word (first_word line.now) (fields result.rest.now) }
+    ensures cut { IsCut line.now result.word.now result.rest.now }
+    ensures fields { fields line.now ≡ prepend_word (first_word line.now) (fields result.rest.now) }
 {
     let words = after_blanks(line);
     let end = bytes_before_blank(words);

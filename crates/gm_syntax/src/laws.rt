@@ -2,8 +2,10 @@
 //!
 //! A proof uses a law by calling its function: it then knows what the contract says.
 
-ghost use Rattle.std.specs.Prelude.{◌≡◌, ◌↔◌, ◌⊎◌, ◌++◌, ◌∷◌, ◌≤◌, ℕ, Bool, true, false, List, Option, Some, Result, Ok, take, insert, slice_range};
+ghost use Rattle.std.specs.Prelude.{◌≡◌, ◌↔◌, ◌⊎◌, ◌++◌, ◌∷◌, ◌≤◌, ℕ, Bool, true, false, List, Option, Some, Result, Ok, String, take, insert, slice_range};
 ghost use Rattle.std.specs.List.{AllByRecursion, list_all};
+ghost use Rattle.std.specs.String.{string_bytes};
+ghost use Rattle.std.specs.declared.alloc.Global.{Global};
 ghost use Rattle.gm_syntax.specs.declared.fault.SyntaxKind.{SyntaxKind};
 ghost use Rattle.gm_syntax.specs.declared.fault.SyntaxKind.TheVariants.{OpenBlock};
 ghost use Rattle.gm_syntax.specs.declared.fault.SyntaxFault.{SyntaxFault};
@@ -53,12 +55,13 @@ pub fn layout_is_stable()
     ensures { (doc : List (Line Word)) → IsDocument doc → (again : List (Line Word)) × IsStable doc again }
 {}
 
-/// Reading the layout of a document gives the same lines, blank ones aside, and they have the same layout. The
-/// reading can fail only if memory runs out, if the layout is longer than `Doc::parse` accepts, or if it is not
-/// UTF-8. No line of it is faulty.
+/// Reading the layout of a document, in a string such as `Doc::format` returns, gives the same lines, blank ones
+/// aside, and they have the same layout. The reading can fail only if memory runs out, or if the layout is longer
+/// than `Doc::parse` accepts. The layout is UTF-8, and no line of it is faulty.
 pub fn layout_is_read_back()
-    ensures { (lines : List (Line Word)) (answer : Result (List (Line Placed)) SyntaxFault)
-        → IsDocument lines → IsParsedAs (layout lines) answer → IsReadBack lines answer }
+    ensures { (lines : List (Line Word)) (text : String Global) (answer : Result (List (Line Placed)) SyntaxFault)
+        → IsDocument lines → string_bytes text ≡ layout lines
+        → IsParsedAs (string_bytes text) answer → IsReadBack lines answer }
 {}
 
 /// A document has one placing: two results of reading the same bytes, each placed in them, have the same words

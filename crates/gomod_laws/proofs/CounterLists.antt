@@ -12,7 +12,7 @@ use Rattle.gm_graph_cache.specs.Main.{Main, ModuleVersion, without_excluded}
 use Rattle.gm_graph_cache.specs.Reading.{Held, Readings, readings_by}
 use Rattle.gm_graph_select.specs.declared.step.Step.TheVariants.{Main as FromMain, Of}
 use Rattle.gm_graph_select.specs.BuildList.{Entry, entry_of, main_entry, path_of}
-use Rattle.gm_graph_select.specs.Laws.{joined}
+use Rattle.gm_graph_select.specs.Laws.{entries_of_pages}
 use Rattle.gm_graph_select.proofs.Ascending.{member_cases, member_head, member_tail, no_member}
 use Rattle.gm_graph.specs.Graph.{IsDeep, IsOpened, IsTop, IsVertex, from_deep, from_main, from_top}
 use Rattle.gm_graph_listing.specs.Laws.{AllFilesAreValid, AreGreatest, ArePrintedPages, ShowsBuildList, no_row, one_page}
@@ -328,19 +328,19 @@ m_proper = each_of IsProperRow (main_entry ∷ []) (refl, tt)
 
 module _ (run : Given) (main : Main) (held : Held) (valid : AllFilesAreValid run main held) where
   abbrev AreJoined : List (List Entry) → Type 0
-  AreJoined pages = AreRows main (readings_by main held) (joined pages)
+  AreJoined pages = AreRows main (readings_by main held) (entries_of_pages pages)
 
   abbrev IsText : List (List Entry) → Type 0
   IsText pages = list_of_a.text ≡ flat_map (list_text main.path) pages
 
-  joined_are : (pages : List (List Entry)) → AreJoined pages → IsText pages → (main.path ≡ codes "m") × (joined pages ≡ rows_with_a)
-  joined_are pages are text = whole_is run main held (joined pages) valid are (ap printed (text ∙ sym (texts_join main.path pages)))
+  joined_are : (pages : List (List Entry)) → AreJoined pages → IsText pages → (main.path ≡ codes "m") × (entries_of_pages pages ≡ rows_with_a)
+  joined_are pages are text = whole_is run main held (entries_of_pages pages) valid are (ap printed (text ∙ sym (texts_join main.path pages)))
 
   -- the first page is that of the main module
   first_is : (page : List Entry) (pages : List (List Entry)) → AreJoined (page ∷ pages) → IsText (page ∷ pages) → list_text main.path page ≡ only_m → page ≡ main_entry ∷ []
   first_is page pages are text says =
       let own = (joined_are (page ∷ pages) are text).0 in
-      some_are run main held (joined (page ∷ pages)) valid are page (main_entry ∷ []) (λ row there. Contains-append_left page (joined pages) row there) m_proper
+      some_are run main held (entries_of_pages (page ∷ pages)) valid are page (main_entry ∷ []) (λ row there. Contains-append_left page (entries_of_pages pages) row there) m_proper
       (says ∙ ap (λ (m : List ℕ). list_text m (main_entry ∷ [])) (sym own))
 
   -- what the second is, if this is the text of the second page
@@ -351,22 +351,22 @@ module _ (run : Given) (main : Main) (held : Held) (valid : AllFilesAreValid run
       page_case run main.path text is (subst (λ (p : List ℕ). ArePrintedPages run main.path 1 (Some p) pages) path more)
 
   module _ (page : List Entry) (first : page ≡ main_entry ∷ []) where
-    in_second : (second : List Entry) (pages : List (List Entry)) (row : Entry) → Contains second row → Contains (joined (page ∷ second ∷ pages)) row
-    in_second second pages row there = Contains-append_right page (second ++ joined pages) row (Contains-append_left second (joined pages) row there)
+    in_second : (second : List Entry) (pages : List (List Entry)) (row : Entry) → Contains second row → Contains (entries_of_pages (page ∷ second ∷ pages)) row
+    in_second second pages row there = Contains-append_right page (second ++ entries_of_pages pages) row (Contains-append_left second (entries_of_pages pages) row there)
 
     missing_second : {pages : List (List Entry)} → AreJoined (page ∷ pages) → IsText (page ∷ pages) → PageCase run main.path [] pages → ⊥
     missing_second are text (none_left none) =
         only_main (sym (append-nil (main_entry ∷ [])) ∙ ap (λ (es : List Entry). es ++ []) (sym first) ∙ (joined_are (page ∷ []) are text).1)
     missing_second are text (some_left {pages} front last says more) =
         let second : List Entry = front ++ last ∷ [] in
-        no_last front last (some_are run main held (joined (page ∷ second ∷ pages)) valid are second [] (λ row there. in_second second pages row there) (each_of IsProperRow [] tt) says)
+        no_last front last (some_are run main held (entries_of_pages (page ∷ second ∷ pages)) valid are second [] (λ row there. in_second second pages row there) (each_of IsProperRow [] tt) says)
 
     other_second : {pages : List (List Entry)} → AreJoined (page ∷ pages) → IsText (page ∷ pages) → PageCase run main.path (codes "b.c v1.0.0\n") pages → ⊥
     other_second are text (none_left none) = cc none
     other_second are text (some_left {pages} front last says more) =
         let second : List Entry = front ++ last ∷ [] in
         let is : second ≡ row_at b_one ∷ [] =
-        some_are run main held (joined (page ∷ second ∷ pages)) valid are second (row_at b_one ∷ []) (λ row there. in_second second pages row there) (each_of IsProperRow (row_at b_one ∷ []) (b_proper, tt)) says in
+        some_are run main held (entries_of_pages (page ∷ second ∷ pages)) valid are second (row_at b_one ∷ []) (λ row there. in_second second pages row there) (each_of IsProperRow (row_at b_one ∷ []) (b_proper, tt)) says in
         let there : Contains second (row_at b_one) = subst (λ (es : List Entry). Contains es (row_at b_one)) (sym is) (member_head (row_at b_one) []) in
         b_is_no_row (subst (λ (es : List Entry). Contains es (row_at b_one)) (joined_are (page ∷ second ∷ pages) are text).1 (in_second second pages (row_at b_one) there))
 

@@ -17,7 +17,7 @@ use Rattle.gm_graph_cache.specs.declared.class.Class.TheVariants.{Missing}
 use Rattle.gm_graph_cache.specs.declared.class.Misreading.TheVariants as misreading
 use Rattle.gm_graph_select.specs.declared.step.Step.TheVariants.{Main as FromMain, Of}
 use Rattle.gm_graph_select.specs.BuildList.{main_entry, path_cmp}
-use Rattle.gm_graph_select.specs.Graph.{IsEnd, vertex_cmp}
+use Rattle.gm_graph_select.specs.Graph.{IsEdgeEnd, vertex_cmp}
 use Rattle.gm_graph_select.proofs.Ascending.{member_cases, member_head, no_member}
 use Rattle.gm_graph.specs.Graph.{IsEdge, IsOpened, IsTop, from_deep, from_main, from_top, same_vertex}
 use Rattle.gm_graph.specs.Loading.{AreFew, AreTooMany}
@@ -69,7 +69,7 @@ none_known = record {
   none_failed = refl;
 }
 
-none_leads : (x : ModuleVersion) → IsEnd (IsEdge (main_requiring []) none_said) x → ⊥
+none_leads : (x : ModuleVersion) → IsEdgeEnd (IsEdge (main_requiring []) none_said) x → ⊥
 none_leads x (FromMain, top) = no_member x top
 none_leads x (Of y, (opens, there)) = none_opened y opens
 

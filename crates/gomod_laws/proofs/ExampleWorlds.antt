@@ -20,7 +20,7 @@ use Rattle.gm_graph_select.specs.declared.step.Edge.{Edge}
 use Rattle.gm_graph_select.specs.declared.step.Step.{Step}
 use Rattle.gm_graph_select.specs.declared.step.Step.TheVariants.{Main as FromMain, Of}
 use Rattle.gm_graph_select.specs.BuildList.{Entry, HasEntryFor, IsSelected, main_entry, path_cmp, path_of}
-use Rattle.gm_graph_select.specs.Graph.{IsEnd, edge, edge_cmp, vertex_cmp}
+use Rattle.gm_graph_select.specs.Graph.{IsEdgeEnd, edge, edge_cmp, vertex_cmp}
 use Rattle.gm_graph_select.proofs.Ascending.{member_cases, member_head, member_tail, no_member}
 use Rattle.gm_graph_select.proofs.Lawful.{same_build_lists}
 use Rattle.gm_graph.specs.Graph.{IsDeep, IsEdge, IsOpened, IsTop, from_deep, from_main, from_top}
@@ -268,7 +268,7 @@ four_edges_lead = record {
 abbrev Leading : Step → ModuleVersion → Type 0
 Leading s y = IsEdge world all_there s y
 
-end_cases : (y : ModuleVersion) → IsEnd Leading y → (y ≡ top_one) ⊎ ((y ≡ mid_one) ⊎ ((y ≡ mid_two) ⊎ (y ≡ low_one)))
+end_cases : (y : ModuleVersion) → IsEdgeEnd Leading y → (y ≡ top_one) ⊎ ((y ≡ mid_one) ⊎ ((y ≡ mid_two) ⊎ (y ≡ low_one)))
 end_cases y (FromMain, top) = elim (top_cases y top) [
   | inl is ↦ inl is
   | inr is ↦ inr (inl is)

@@ -1,8 +1,8 @@
 -- Runs of `versions` over a store, step by step.
-use Rattle.std.proofs.Common.{◌≡◌, ◌⊎◌, ◌∙◌, ◌++◌, ◌∷◌, zero, suc, ℕ, ◌<◌, Bool, true, false, List, [], Option, Some, None, Result, Ok, Err, Contains, IfErr, IfNone, IfOk, IfSome, ap, arith, codes, inl, inr, refl, subst, sym}
+use Rattle.std.proofs.Common.{◌≡◌, ◌⊎◌, ◌∙◌, ◌++◌, ◌∷◌, zero, suc, ℕ, ◌<◌, ◌≤◌, length, Bool, true, false, List, [], Option, Some, None, Result, Ok, Err, Contains, IfErr, IfNone, IfOk, IfSome, ap, arith, codes, inl, inr, refl, subst, sym}
 use Rattle.std.specs.Result.{IsErr}
 use Rattle.gm_name.specs.Path.{is_fetchable}
-use Rattle.gm_store.specs.Asked.{Name, Reply, absent, answer_in, bytes, list_file, mod_file, too_long}
+use Rattle.gm_store.specs.Asked.{IsWithinLimit, Name, Reply, absent, answer_in, bytes, list_file, mod_file, too_long}
 use Rattle.gm_store.specs.Latest.{IsLatest}
 use Rattle.gm_store.specs.Listed.{AreListed}
 use Rattle.gm_file.specs.Fields.{Dependency}
@@ -15,7 +15,7 @@ use Rattle.gm_graph_listing.specs.declared.output.Stop.{Stop}
 use Rattle.gm_graph_listing.specs.Outcomes.{Outcome, StopsWith, failed, outcome_view, printed, refused}
 use Rattle.gm_graph_listing.proofs.CommandOutcomes.{IsOutputOf, output_of}
 use Rattle.gm_graph_listing.specs.Reports.{device_line}
-use Rattle.gomod_run.specs.Asking.{IsAnsweredWith, IsAsked, IsFailedAsk, IsLatestAsked}
+use Rattle.gomod_run.specs.Asking.{IsAnsweredAsk, IsAsked, IsFailedAsk, IsLatestAsked}
 use Rattle.gomod_run.specs.Listing.{IsListAnswered}
 use Rattle.gomod_run.specs.Kinds.{list_line}
 use Rattle.gm_store.specs.States.{StoreState}
@@ -208,7 +208,7 @@ pub record IsListState (path : List ℕ) (may : Name → Reply → Type 0) (old 
   pub listed : AreListed path list versions
 
 pub list_answered : (path : List ℕ) (may : Name → Reply → Type 0) (old new : StoreState) (reply : Reply) → is_fetchable path ≡ true → old.asked ≡ []
-    → IsAnsweredWith (list_file path) may old new reply → IsListAnswered path may old new reply
+    → IsAnsweredAsk (list_file path) may old new reply → IsListAnswered path may old new reply
 list_answered path may old new reply fetchable none answered = record {
   fetchable = fetchable;
   allowed = answered.0;
@@ -345,11 +345,11 @@ latest_failed path versions latest may old new (Err e) is failed = inl failed
 
 -- the output follows from the latest version's go.mod
 pub shown_asked : {E : Type 0} (path : List ℕ) (versions : List (List ℕ)) (latest : List ℕ) (may : Name → Reply → Type 0) (old new : StoreState) (answer reply : Reply)
-    (result : Result Output E) → IsAnsweredWith (mod_file path latest) may old new reply → answer ≡ reply
-    → IfOk result (λ output. IsShownOutcome path versions latest answer (outcome_view output)) → IsLatestAsked path versions latest may old new result
-shown_asked path versions latest may old new answer reply (Ok output) answered same known =
-    inl (reply, answered, subst (λ (r : Reply). IsShownOutcome path versions latest r (outcome_view output)) same known)
-shown_asked path versions latest may old new answer reply (Err e) answered same known = inr (reply, answered)
+    (result : Result Output E) → IsAnsweredAsk (mod_file path latest) may old new reply → answer ≡ reply → IsWithinLimit answer
+    → IfOk result (λ output. IsWithinLimit answer → IsShownOutcome path versions latest answer (outcome_view output)) → IsLatestAsked path versions latest may old new result
+shown_asked path versions latest may old new answer reply (Ok output) answered same within known =
+    inl (reply, answered, subst (λ (r : Reply). IsShownOutcome path versions latest r (outcome_view output)) same (known within))
+shown_asked path versions latest may old new answer reply (Err e) answered same within known = inr (reply, answered)
 
 module _ (path : List ℕ) (mid new : StoreState) (latest : List ℕ) where
   grown : (list : List ℕ) (reply : Reply) → mid.asked ≡ (list_file path, bytes list) ∷ [] → new.asked ≡ mid.asked ++ (mod_file path latest, reply) ∷ []
@@ -405,9 +405,10 @@ module _ {E : Type 0} (path : List ℕ) (all : Bool) (may later : Name → Reply
 
 -- what an answer says, by what its bytes say
 pub answer_says : {E : Type 0} (name : Name) (reply : Reply) (content : List ℕ) (result : Result FileReading E) → reply ≡ bytes content
-    → IfOk result (λ read. IsContentReading content (reading_of read)) → IfOk result (λ read. IsFileReading None name reply (reading_of read))
+    → IfOk result (λ read. length content ≤ 16777216 → IsContentReading content (reading_of read))
+    → IfOk result (λ read. IsWithinLimit reply → IsFileReading None name reply (reading_of read))
 answer_says name reply content (Err e) is says = tt
-answer_says name reply content (Ok read) is says = subst (λ (r : Reply). IsFileReading None name r (reading_of read)) (sym is) says
+answer_says name reply content (Ok read) is says = subst (λ (r : Reply). IsWithinLimit r → IsFileReading None name r (reading_of read)) (sym is) says
 
 -- the outcome by what the latest version's go.mod says, or what is wrong with it
 pub shown_read : (path : List ℕ) (versions : List (List ℕ)) (latest : List ℕ) (reply : Reply) (read reading : Result Dependency Class) (outcome : Outcome)

@@ -14,8 +14,8 @@ IsFailedAsk name old new =
     × ((new.refused ≡ old.refused) ⊎ (new.refused ≡ old.refused ++ name ∷ []))
 
 -- the file is answered, with a reply that the store may give
-abbrev pub IsAnsweredWith : Name → (Name → Reply → Type 0) → StoreState → StoreState → Reply → Type 0
-IsAnsweredWith name may old new reply =
+abbrev pub IsAnsweredAsk : Name → (Name → Reply → Type 0) → StoreState → StoreState → Reply → Type 0
+IsAnsweredAsk name may old new reply =
     may name reply
     × (new.asked ≡ old.asked ++ (name, reply) ∷ [])
     × (new.refused ≡ old.refused)
@@ -30,7 +30,7 @@ IsRefusedAt name old new output =
 -- the file is asked for: the store answers, its device fails and an output reports it, or memory runs out
 abbrev pub IsAsked : {E : Type 0} → Name → (Name → Reply → Type 0)
     → StoreState → StoreState → Result (Option Output) E → Type 0
-IsAsked name may old new (Ok None) = (reply : Reply) × IsAnsweredWith name may old new reply
+IsAsked name may old new (Ok None) = (reply : Reply) × IsAnsweredAsk name may old new reply
 IsAsked name may old new (Ok (Some output)) = IsRefusedAt name old new output
 IsAsked name may old new (Err e) = IsFailedAsk name old new
 
@@ -39,9 +39,9 @@ abbrev pub IsLatestAsked : {E : Type 0} → List ℕ → List (List ℕ) → Lis
     → (Name → Reply → Type 0) → StoreState → StoreState → Result Output E → Type 0
 IsLatestAsked path versions latest may old new (Ok output) =
     ((reply : Reply)
-    × IsAnsweredWith (mod_file path latest) may old new reply
+    × IsAnsweredAsk (mod_file path latest) may old new reply
     × IsShownOutcome path versions latest reply (outcome_view output))
     ⊎ IsRefusedAt (mod_file path latest) old new output
 IsLatestAsked path versions latest may old new (Err e) =
     IsFailedAsk (mod_file path latest) old new
-    ⊎ ((reply : Reply) × IsAnsweredWith (mod_file path latest) may old new reply)
+    ⊎ ((reply : Reply) × IsAnsweredAsk (mod_file path latest) may old new reply)

@@ -1,7 +1,7 @@
 //! Asking a store for one file. A separate step, because a failing device ends a run with a report of its own.
 
 ghost use Rattle.std.specs.Prelude.{◌≡◌, ◌<◌, ◌≤◌, ◌++◌, ◌∷◌, [], List, None, length};
-ghost use Rattle.gm_store.specs.Asked.{Name, Reply, answer_in, name_of, reply_of};
+ghost use Rattle.gm_store.specs.Asked.{IsWithinLimit, Name, Reply, answer_in, name_of, reply_of};
 ghost use Rattle.gm_store.specs.States.{RefusesWithCause};
 ghost use Rattle.gomod_run.specs.Asking.{IsAsked};
 
@@ -36,8 +36,9 @@ pub(crate) fn ask_for<F: Files>(
 /// The answer to the last ask. The store must have been asked at least once.
 pub(crate) fn last_answer<F: Files>(files: &F) -> &Answer
     requires { 0 < length (F.state files.now).asked }
-    ensures { (before : List (Name × Reply)) (last : Name × Reply)
+    ensures value { (before : List (Name × Reply)) (last : Name × Reply)
         → (F.state files.now).asked ≡ before ++ last ∷ [] → reply_of result.now ≡ last.1 }
+    ensures within_limit { IsWithinLimit (reply_of result.now) }
 {
     let count = files.count();
     files.answer(count - 1)

@@ -7,7 +7,7 @@ ghost use Rattle.std.specs.List.Sorted.{IsStrictlySortedBy};
 ghost use Rattle.gm_name.specs.Version.{version_cmp};
 ghost use Rattle.gm_file.specs.Views.{interval_views};
 ghost use Rattle.gm_file_retract.specs.Shown.{shown_of};
-ghost use Rattle.gm_store.specs.Asked.{Name, Reply, answer_in, bytes, list_file, mod_file, reply_of};
+ghost use Rattle.gm_store.specs.Asked.{IsWithinLimit, Name, Reply, answer_in, bytes, list_file, mod_file, reply_of};
 ghost use Rattle.gm_store.specs.States.{RefusesWithCause};
 ghost use Rattle.gm_graph_cache.specs.Reading.{IsFileReading};
 ghost use Rattle.gm_graph_cache.specs.Summaries.{reading_of};
@@ -112,8 +112,8 @@ fn list_copy(alloc: Global, path: &ModPath, answer: &Answer) -> Result<Vec<u8>, 
 
 /// What the answer for a go.mod says, or what is wrong with it. No hash is checked.
 fn read_answer(alloc: Global, answer: &Answer) -> Result<FileReading, NoMemory>
-    ensures { (name : Name) → IfOk result (λ read.
-        IsFileReading None name (reply_of answer.now) (reading_of read)) }
+    ensures { (name : Name) → IfOk result (λ read. IsWithinLimit (reply_of answer.now)
+        → IsFileReading None name (reply_of answer.now) (reading_of read)) }
 {
     match answer {
         Answer::Bytes(file) => {
@@ -133,8 +133,8 @@ fn shown_outcome(
     answer: &Answer,
 ) -> Result<Output, NoMemory>
     requires { IsStrictlySortedBy version_cmp versions.now }
-    ensures { IfOk result (λ output.
-        IsShownOutcome path.now versions.now latest.now (reply_of answer.now) (outcome_view output)) }
+    ensures { IfOk result (λ output. IsWithinLimit (reply_of answer.now)
+        → IsShownOutcome path.now versions.now latest.now (reply_of answer.now) (outcome_view output)) }
 {
     match read_answer(alloc, answer)? {
         FileReading::Valid(dependency) => {

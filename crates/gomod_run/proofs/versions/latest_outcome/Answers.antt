@@ -15,4 +15,4 @@ pub returns-in-None-clause-asked : goal.returns-in-None-clause-asked
 returns-in-None-clause-asked g c =
     let asked = rw c.in-None.is at c.in_ok-output.ensures.asked in
     shown_asked c.args.path.now c.args.versions.now c.args.latest.now (g.F.Files.may_answer c.args.files.now) (g.F.Files.state c.args.files.now) (g.F.Files.state c.ask_for_mod.new.files)
-    (reply_of c.last_answer.result.now) asked.0 c.shown_outcome.result asked.1 (c.last_answer.ensures (g.F.Files.state c.args.files.now).asked (mod_file c.args.path.now c.args.latest.now, asked.0) asked.1.1) c.shown_outcome.ensures
+    (reply_of c.last_answer.result.now) asked.0 c.shown_outcome.result asked.1 (c.last_answer.ensures.value (g.F.Files.state c.args.files.now).asked (mod_file c.args.path.now c.args.latest.now, asked.0) asked.1.1) c.last_answer.ensures.within_limit c.shown_outcome.ensures

@@ -6,4 +6,4 @@ use Rattle.gomod_run.proofs.versions.read_answer.Goals as goal
 pub returns-in-Bytes : goal.returns-in-Bytes
 returns-in-Bytes c = λ name.
     answer_says name (reply_of c.args.answer.now) c.as_slice.result.now c.of_bytes.result
-    (ap reply_of c.in-Bytes.is ∙ ap bytes (sym c.as_slice.ensures.value)) c.of_bytes.ensures
+    (ap reply_of c.in-Bytes.is ∙ ap bytes (sym c.as_slice.ensures.value)) c.of_bytes.ensures.reading

@@ -23,7 +23,7 @@ returns-then-all-clause-comes g c =
     let mid = g.F.Files.state c.ask_if_fetchable.new.files in
     let answered = rw c.in_default.is at c.in_ok-output.ensures.answered in
     all_by_list c.args.path.now c.args.all may old mid (reply_of c.last_answer.result.now) answered.0 c.outcome_of_all.result c.if-all.true answered.1
-    (c.last_answer.ensures [] (list_file c.args.path.now, answered.0) answered.1.asked) c.outcome_of_all.ensures
+    (c.last_answer.ensures.value [] (list_file c.args.path.now, answered.0) answered.1.asked) c.outcome_of_all.ensures
 
 -- ---- those that are not retracted
 
@@ -34,7 +34,7 @@ returns-in-Err-clause-comes g c =
     let mid = g.F.Files.state c.ask_if_fetchable.new.files in
     let answered = rw c.in_default.is at c.in_ok-output.ensures.answered in
     stop_comes c.args.path.now c.args.all may old mid (reply_of c.last_answer-2.result.now) answered.0 c.list_copy.result c.in-Err.stop c.into_output.result answered.1
-    (c.last_answer-2.ensures [] (list_file c.args.path.now, answered.0) answered.1.asked) c.list_copy.ensures.refused c.in-Err.is c.into_output.ensures
+    (c.last_answer-2.ensures.value [] (list_file c.args.path.now, answered.0) answered.1.asked) c.list_copy.ensures.refused c.in-Err.is c.into_output.ensures
 
 pub returns-in-Some-2-clause-comes : goal.returns-in-Some-2-clause-comes
 returns-in-Some-2-clause-comes g c =
@@ -42,7 +42,7 @@ returns-in-Some-2-clause-comes g c =
     let old = g.F.Files.state c.args.files.now in
     let mid = g.F.Files.state c.ask_if_fetchable.new.files in
     let answered = rw c.in_default.is at c.in_ok-output.ensures.answered in
-    let same = c.last_answer-2.ensures [] (list_file c.args.path.now, answered.0) answered.1.asked in
+    let same = c.last_answer-2.ensures.value [] (list_file c.args.path.now, answered.0) answered.1.asked in
     let state = listed_state c.args.path.now may old mid answered.0 c.in-Ok.list.items c.in_ok-versions.versions.items answered.1 (sym same ∙ c.in-Ok.ensures.list)
     (rw c.as_slice.ensures.value at c.in_ok-versions.ensures) in
     let new = g.F.Files.state c.latest_outcome.new.files in
@@ -57,7 +57,7 @@ returns-in-Some-2-clause-in_turn g c =
     let old = g.F.Files.state c.args.files.now in
     let mid = g.F.Files.state c.ask_if_fetchable.new.files in
     let answered = rw c.in_default.is at c.in_ok-output.ensures.answered in
-    let same = c.last_answer-2.ensures [] (list_file c.args.path.now, answered.0) answered.1.asked in
+    let same = c.last_answer-2.ensures.value [] (list_file c.args.path.now, answered.0) answered.1.asked in
     let state = listed_state c.args.path.now may old mid answered.0 c.in-Ok.list.items c.in_ok-versions.versions.items answered.1 (sym same ∙ c.in-Ok.ensures.list)
     (rw c.as_slice.ensures.value at c.in_ok-versions.ensures) in
     let new = g.F.Files.state c.latest_outcome.new.files in
@@ -72,7 +72,7 @@ returns-in-Some-2-clause-fails g c =
     let old = g.F.Files.state c.args.files.now in
     let mid = g.F.Files.state c.ask_if_fetchable.new.files in
     let answered = rw c.in_default.is at c.in_ok-output.ensures.answered in
-    let same = c.last_answer-2.ensures [] (list_file c.args.path.now, answered.0) answered.1.asked in
+    let same = c.last_answer-2.ensures.value [] (list_file c.args.path.now, answered.0) answered.1.asked in
     let state = listed_state c.args.path.now may old mid answered.0 c.in-Ok.list.items c.in_ok-versions.versions.items answered.1 (sym same ∙ c.in-Ok.ensures.list)
     (rw c.as_slice.ensures.value at c.in_ok-versions.ensures) in
     let new = g.F.Files.state c.latest_outcome.new.files in
@@ -87,7 +87,7 @@ returns-clause-comes g c =
     let old = g.F.Files.state c.args.files.now in
     let mid = g.F.Files.state c.ask_if_fetchable.new.files in
     let answered = rw c.in_default.is at c.in_ok-output.ensures.answered in
-    let same = c.last_answer-2.ensures [] (list_file c.args.path.now, answered.0) answered.1.asked in
+    let same = c.last_answer-2.ensures.value [] (list_file c.args.path.now, answered.0) answered.1.asked in
     let state = listed_state c.args.path.now may old mid answered.0 c.in-Ok.list.items c.in_ok-versions.versions.items answered.1 (sym same ∙ c.in-Ok.ensures.list)
     (rw c.as_slice.ensures.value at c.in_ok-versions.ensures) in
     let none = rw (c.as_slice-2.ensures.value, c.in-None.is) at c.in_ok-latest.ensures in
