@@ -105,7 +105,8 @@ class Sources:
                 owners, kind = [it.split("::")[-1] for it in head.groups() if it], "impl" if not head[1] else "for"
             elif item:
                 self.items[item[2]].add((crate, module))
-                if item[1] in ("struct", "enum", "trait", "type"):
+                # an indented `type` is a trait's own
+                if item[1] in ("struct", "enum", "trait") or item[1] == "type" and line.startswith(("pub", "type")):
                     self.owners.add(item[2])
                     self.kinds[crate, item[2]] = item[1]
                     owners, kind = ([item[2]], item[1]) if not line.rstrip().endswith(";") else ([], "")

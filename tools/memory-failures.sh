@@ -28,7 +28,6 @@ gm_name/src/version.rt read: the parser says so
 gm_name/src/version.rt with: a text that is a pre-release was refused
 gm_store/src/fallback_walk.rt walk: the look-up in a folder says so
 gm_store_sums/src/sum_lines.rt fault_of: no line is invalid, so reading stopped for memory
-gomod_run/src/program.rt folders_of: the runtime could not be copied
 gomod_run/src/program.rt words_of: the list of words could not grow
 gomod_run/src/program.rt word_at: the buffer has the greatest size
 gomod_words/src/dashed.rt dashed: the message could not be made

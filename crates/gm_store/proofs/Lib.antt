@@ -8,8 +8,10 @@ pub mod MainFolder
 pub mod NameOrder
 pub mod Splits
 pub mod Cuts
+pub mod DiskStores
 pub mod Walks
 pub mod Greatest
 pub mod Inside
 pub mod FieldLemmas
+pub mod Shown
 pub mod Stops

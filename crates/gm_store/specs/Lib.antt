@@ -1,4 +1,5 @@
 pub mod Cutting
+pub mod DiskAnswers
 pub mod Failing
 pub mod Faults
 pub mod Found
@@ -8,6 +9,7 @@ pub mod Latest
 pub mod Lines
 pub mod Listed
 pub mod Memory
+pub mod Openings
 pub mod Pieces
 pub mod Placed
 pub mod FoldersOnDisk

@@ -1,27 +1,22 @@
-//! The GOPROXY fallback over folders of a file system. No other file of this crate opens files.
-
-ghost use Rattle.std.specs.Prelude.{IfOk};
-ghost use Rattle.gm_store.specs.Asked.{IsWithinLimit};
-ghost use Rattle.gm_store.specs.Steps.{reply_in, result_of};
+//! The GOPROXY fallback over folders of a file system.
 
 use crate::buffers::Buffers;
 use crate::fallback_step::Looked;
 use crate::fallback_store::FallbackStore;
 use crate::fallback_walk::Folders;
-use crate::files::FileName;
+use crate::file_system::FileSystem;
+use crate::files::{FileName, Files};
 use crate::lookup_paths::set_lookup_path;
-use crate::lookup_result::{open_error_result, read_result};
+use crate::lookup_result::opened_result;
 use crate::proxy_list::ProxyList;
-use crate::reading::read_by_pieces;
 use gm_name::NoMemory;
 use std::alloc::Global;
-use std::{fs, rt};
 
 /// Folders of a file system: the main file's folder, and the proxy folders.
 #[derive(Drop)]
-pub struct FoldersOnDisk<R: rt::Files> {
+pub struct FoldersOnDisk<S: FileSystem> {
     /// The file system.
-    system: R,
+    system: S,
     /// The allocator for the bytes of files.
     alloc: Global,
     /// The main file's folder.
@@ -31,12 +26,14 @@ pub struct FoldersOnDisk<R: rt::Files> {
 }
 
 /// A store over folders of a file system.
-pub type DiskFallback<R> = FallbackStore<FoldersOnDisk<R>>;
+pub type DiskFallback<S> = FallbackStore<FoldersOnDisk<S>>;
 
-impl<R: rt::Files> FallbackStore<FoldersOnDisk<R>> {
+impl<S: FileSystem> FallbackStore<FoldersOnDisk<S>> {
     ghost use Rattle.std.specs.Prelude.{◌≡◌, [], string_bytes};
+    ghost use Rattle.gm_store.specs.Asked.{Name, Reply};
+    ghost use Rattle.gm_store.specs.DiskAnswers.{MayAnswer};
     ghost use Rattle.gm_store.specs.Proxies.{folders_in, marks_in};
-    ghost use Rattle.gm_store.specs.FoldersOnDisk.{main_folder, proxy_folders};
+    ghost use Rattle.gm_store.specs.FoldersOnDisk.{main_folder, proxy_folders, system_of};
     ghost use Rattle.gm_store.specs.Views.{asked_by, faults_of, folders_under, marks_between, refused_by};
 
     /// A store over the folders of `proxy` and the main file's folder `main`. Nothing has been requested from it
@@ -46,13 +43,18 @@ impl<R: rt::Files> FallbackStore<FoldersOnDisk<R>> {
     /// is looked up once, relative to `main` unless the folder's text is absolute. A file that the system doesn't
     /// find is absent. Every other error of the system is a failure of the device, except running out of memory.
     /// At most `LIMIT + 1` bytes of a file are read. No file is opened before the first request.
-    pub fn new(system: R, alloc: Global, main: String, proxy: ProxyList) -> DiskFallback<R>
+    pub fn new(system: S, alloc: Global, main: String, proxy: ProxyList) -> DiskFallback<S>
+        ensures system { system_of (folders_under result) ≡ system }
         ensures main { main_folder (folders_under result) ≡ string_bytes main }
         ensures proxies { proxy_folders (folders_under result) ≡ folders_in proxy }
         ensures marks { marks_between result ≡ marks_in proxy }
         ensures asked { asked_by result ≡ [] }
         ensures refused { refused_by result ≡ [] }
         ensures faults { faults_of result ≡ 0 }
+        // An answer is that of the file at the path of the name in one of these folders.
+        ensures answers { (name : Name) (reply : Reply)
+            → ⟦<FallbackStore<FoldersOnDisk<S>> as Files>⟧.may_answer result name reply
+            → MayAnswer (S.may_open system) (string_bytes main) (folders_in proxy) (marks_in proxy) name reply }
     {
         let (proxies, marks) = proxy.into_parts();
         let places = FoldersOnDisk {
@@ -65,13 +67,19 @@ impl<R: rt::Files> FallbackStore<FoldersOnDisk<R>> {
     }
 }
 
-impl<R: rt::Files> Folders for FoldersOnDisk<R> {
+impl<S: FileSystem> Folders for FoldersOnDisk<S> {
     ghost use Rattle.std.specs.Prelude.{length};
     ghost use Rattle.gm_store.specs.FolderLookups.{count_for};
+    ghost use Rattle.gm_store.specs.FoldersOnDisk.{main_folder, proxy_folders, system_of};
+    ghost use Rattle.gm_store.specs.Openings.{MayLookUp};
+    ghost use Rattle.gm_store.specs.Placed.{lookup_path_text};
 
     ghost count_for = { λ places name. count_for (length places.proxies.items) name };
 
-    ghost may_find = { λ _ _ _ _. Unit {0} };
+    // The file at the path of the name gives the result, and no other does.
+    ghost may_find = { λ places folder name seen. MayLookUp
+        (S.may_open (system_of places)
+        (lookup_path_text (main_folder places) (proxy_folders places) folder name)) seen };
 
     fn look(
         &self,
@@ -81,23 +89,7 @@ impl<R: rt::Files> Folders for FoldersOnDisk<R> {
     ) -> Result<Looked, NoMemory> {
         let place = &mut buffers.path;
         set_lookup_path(place, self.main.as_str(), &self.proxies, folder, name)?;
-        open_and_read(&self.system, self.alloc, place.as_str(), &mut buffers.piece)
-    }
-}
-
-/// Opens the file at a path and reads it by pieces into `piece`, at most `LIMIT + 1` bytes.
-///
-/// System errors are part of the result; the only refusal is `NoMemory`.
-fn open_and_read<R: rt::Files>(
-    system: &R,
-    alloc: Global,
-    place: &str,
-    piece: &mut Vec<u8>,
-) -> Result<Looked, NoMemory>
-    ensures within_limit { IfOk result (λ looked. IsWithinLimit (reply_in (result_of looked))) }
-{
-    match fs::open(system, place) {
-        Ok(mut file) => read_result(read_by_pieces(alloc, &mut file, piece)),
-        Err(error) => open_error_result(error.kind()),
+        let opened = self.system.open(place.as_str());
+        opened_result(self.alloc, opened, &mut buffers.piece)
     }
 }

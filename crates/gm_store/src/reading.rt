@@ -110,7 +110,7 @@ pub fn read_limited<R: Read>(alloc: Global, reader: &mut R) -> Result<Vec<u8>, R
 /// As `read_limited`, with each read made into `piece`. Whatever that holds before, it may be used again for the next
 /// file: it is made where it is empty, and longer where it was filled.
 ///
-/// The result has room for the bytes of the file and no more, if these are at most `LIMIT`.
+/// If the bytes are at most `LIMIT`, the room that they don't need is given back.
 pub(crate) fn read_by_pieces<R: Read>(
     alloc: Global,
     reader: &mut R,

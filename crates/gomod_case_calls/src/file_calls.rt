@@ -5,8 +5,9 @@ use crate::name_calls;
 use crate::name_calls::{line_of, yes_or_no};
 use gm_file::{DepFile, Interval, MainFile, Replace, Right};
 use gm_name::{ModPath, ModVer};
-use gm_syntax::{Doc, Line, Text, Token};
+use gm_syntax::{Doc, Line, Token};
 use std::alloc::{AllocError, Global};
+use std::borrow::CowStr;
 use std::slice;
 
 /// What some bytes say as a main file.
@@ -41,7 +42,7 @@ fn kind_of(line: &Line) -> &'static str {
 }
 
 /// The comment of a line, if it has one.
-fn comment_of<'a, 'b>(line: &'b Line<'a>) -> Option<&'b Text<'a>> {
+fn comment_of<'a, 'b>(line: &'b Line<'a>) -> Option<&'b CowStr<'a>> {
     match line {
         Line::Comment(comment) => Some(comment),
         Line::Open(_, comment) | Line::Close(comment) | Line::Entry(_, comment) => comment.as_ref(),

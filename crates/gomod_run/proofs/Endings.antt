@@ -1,9 +1,11 @@
 -- Facts about how the program ends.
-use Rattle.std.proofs.Common.{◌≡◌, ◌∙◌, ◌++◌, ◌∷◌, ℕ, List, [], Option, None, Result, Ok, Contains, ap, false, inl, inr, string_bytes, subst, sym, true}
+use Rattle.std.proofs.Common.{◌≡◌, ◌∙◌, ◌++◌, ◌∷◌, ℕ, IfOk, List, [], Option, None, Some, Result, Ok, Contains, ap, codes, false, inl, inr, string_bytes, subst, sym, true}
 use Rattle.std.specs.Global.{Vec}
 use Rattle.std.specs.Str.{IsUtf8}
-use Rattle.gm_store.specs.Asked.{Name, Reply, answer_in, list_file, reply_for}
-use Rattle.gm_store.specs.Memory.{may_give}
+use Rattle.gm_store.specs.Asked.{Name, Reply, absent, answer_in, list_file, reply_for}
+use Rattle.gm_store.specs.Memory.{held_at, may_give}
+use Rattle.gm_store.specs.Openings.{MayRead, Opening}
+use Rattle.gm_store.specs.declared.proxy_list.ProxyList.{ProxyList}
 use Rattle.gm_store.specs.declared.memory_files.MemoryFiles.{MemoryFiles}
 use Rattle.gm_store.specs.declared.reading.ReadFault.{ReadFault}
 use Rattle.gomod_words.specs.declared.usage.Command.TheVariants.{Fmt, Edit, Versions, Graph, List as Rows, Chain}
@@ -14,7 +16,7 @@ use Rattle.gomod_words.specs.declared.usage.Command.{Command}
 use Rattle.gomod_words.specs.declared.usage.Places.{Places}
 use Rattle.gm_graph_listing.specs.Outcomes.{Outcome, longest}
 use Rattle.gomod_run.specs.Held.{HoldsOne}
-use Rattle.gomod_run.specs.Program.{AreOfOneFile, IsFolderOutcome, IsInputOutcome, IsUnreadableWords, IsProgramOutcome, IsProgramStatus, IsReadOutcome, IsServed, IsWordsOutcome, usage_outcome}
+use Rattle.gomod_run.specs.Program.{AreOfOneFile, IsFolderOutcome, IsInputOutcome, IsUnreadableWords, IsProgramOutcome, IsProgramStatus, IsReadOutcome, IsServed, IsWordsOutcome, MayBeTold, usage_outcome}
 use Rattle.gm_store.specs.States.{StoreState}
 use Rattle.gomod_run.specs.Runs.{IsRunOutcome, Needs, StatesOutcome, is_over_file, is_query}
 use Rattle.gomod_run.specs.Queries.{RunsTo}
@@ -32,25 +34,25 @@ ends_weaken one other out out' report report' status wider ends = record {
 }
 
 -- the end of the command that the words ask for is an end of these words
-pub words_end : (words : List (List ℕ)) (command : Command) (places : Places) (out out' report report' : SinkState) (status code : ℕ) → code ≡ status
-    → AskFor words command places → EndsAsStated (IsServed command places) out out' report report' status
-    → EndsAsStated (IsWordsOutcome words) out out' report report' code
-words_end words command places out out' report report' status code same asked ends =
-    let P : ℕ → Type 0 = λ n. EndsAsStated (IsWordsOutcome words) out out' report report' n in
-    subst P (sym same) (ends_weaken (IsServed command places) (IsWordsOutcome words) out out' report report' status
+pub words_end : (may_open : List ℕ → Opening → Type 0) (words : List (List ℕ)) (command : Command) (places : Places) (out out' report report' : SinkState) (status code : ℕ) → code ≡ status
+    → AskFor words command places → EndsAsStated (IsServed may_open command places) out out' report report' status
+    → EndsAsStated (IsWordsOutcome may_open words) out out' report report' code
+words_end may_open words command places out out' report report' status code same asked ends =
+    let P : ℕ → Type 0 = λ n. EndsAsStated (IsWordsOutcome may_open words) out out' report report' n in
+    subst P (sym same) (ends_weaken (IsServed may_open command places) (IsWordsOutcome may_open words) out out' report report' status
     (λ outcome stated. inr (command, places, asked, stated)) ends)
 
 -- an end that reports the words' usage error is an end of these words
-pub fault_ends : (words : List (List ℕ)) (fault : UsageFault) (out out' report report' : SinkState) (status : ℕ) → IsFaultOf words fault
-    → EndsAsStated (λ outcome. outcome ≡ usage_outcome fault) out out' report report' status → EndsAsStated (IsWordsOutcome words) out out' report report' status
-fault_ends words fault out out' report report' status is ends =
-    ends_weaken (λ outcome. outcome ≡ usage_outcome fault) (IsWordsOutcome words) out out' report report' status (λ outcome same. inl (fault, is, same)) ends
+pub fault_ends : (may_open : List ℕ → Opening → Type 0) (words : List (List ℕ)) (fault : UsageFault) (out out' report report' : SinkState) (status : ℕ) → IsFaultOf words fault
+    → EndsAsStated (λ outcome. outcome ≡ usage_outcome fault) out out' report report' status → EndsAsStated (IsWordsOutcome may_open words) out out' report report' status
+fault_ends may_open words fault out out' report report' status is ends =
+    ends_weaken (λ outcome. outcome ≡ usage_outcome fault) (IsWordsOutcome may_open words) out out' report report' status (λ outcome same. inl (fault, is, same)) ends
 
 -- an end of some words is an end of the program
-pub program_ends : (words : List (List ℕ)) (out out' report report' : SinkState) (status : ℕ) → EndsAsStated (IsWordsOutcome words) out out' report report' status
-    → EndsAsStated IsProgramOutcome out out' report report' status
-program_ends words out out' report report' status ends =
-    ends_weaken (IsWordsOutcome words) IsProgramOutcome out out' report report' status (λ outcome stated. inl (words, stated)) ends
+pub program_ends : (may_open : List ℕ → Opening → Type 0) (words : List (List ℕ)) (out out' report report' : SinkState) (status : ℕ) → EndsAsStated (IsWordsOutcome may_open words) out out' report report' status
+    → EndsAsStated (IsProgramOutcome may_open) out out' report report' status
+program_ends may_open words out out' report report' status ends =
+    ends_weaken (IsWordsOutcome may_open words) (IsProgramOutcome may_open) out out' report report' status (λ outcome stated. inl (words, stated)) ends
 
 -- the usage error of a word which is not UTF-8
 pub unreadable_word : (word : List ℕ) (fault : UsageFault) → ¬ (IsUtf8 word) → IsLineOf (unreadable_text word) fault → IsUnreadableWords fault
@@ -62,19 +64,19 @@ unreadable_word word (BadPath text) bad known = absurd known
 unreadable_word word (BadProxy text) bad known = absurd known
 
 -- an end that reports a word which is not UTF-8 is an end of the program
-pub unreadable_ends : (fault : UsageFault) (out out' report report' : SinkState) (status : ℕ) → IsUnreadableWords fault
-    → EndsAsStated (λ outcome. outcome ≡ usage_outcome fault) out out' report report' status → EndsAsStated IsProgramOutcome out out' report report' status
-unreadable_ends fault out out' report report' status is ends =
-    ends_weaken (λ outcome. outcome ≡ usage_outcome fault) IsProgramOutcome out out' report report' status (λ outcome same. inr (fault, is, same)) ends
+pub unreadable_ends : (may_open : List ℕ → Opening → Type 0) (fault : UsageFault) (out out' report report' : SinkState) (status : ℕ) → IsUnreadableWords fault
+    → EndsAsStated (λ outcome. outcome ≡ usage_outcome fault) out out' report report' status → EndsAsStated (IsProgramOutcome may_open) out out' report report' status
+unreadable_ends may_open fault out out' report report' status is ends =
+    ends_weaken (λ outcome. outcome ≡ usage_outcome fault) (IsProgramOutcome may_open) out out' report report' status (λ outcome same. inr (fault, is, same)) ends
 
 -- an end with an equal status is the same end
-pub same_status : (out out' report report' : SinkState) (status code : ℕ) → code ≡ status → EndsAsStated IsProgramOutcome out out' report report' status
-    → EndsAsStated IsProgramOutcome out out' report report' code
-same_status out out' report report' status code same ends = subst (λ (n : ℕ). EndsAsStated IsProgramOutcome out out' report report' n) (sym same) ends
+pub same_status : (may_open : List ℕ → Opening → Type 0) (out out' report report' : SinkState) (status code : ℕ) → code ≡ status → EndsAsStated (IsProgramOutcome may_open) out out' report report' status
+    → EndsAsStated (IsProgramOutcome may_open) out out' report report' code
+same_status may_open out out' report report' status code same ends = subst (λ (n : ℕ). EndsAsStated (IsProgramOutcome may_open) out out' report report' n) (sym same) ends
 
 -- the exit status is that of the program's end
-pub program_status : (out out' report report' : SinkState) (status : ℕ) → EndsAsStated IsProgramOutcome out out' report report' status → IsProgramStatus status
-program_status out out' report report' status ends = elim ends.written [
+pub program_status : (may_open : List ℕ → Opening → Type 0) (out out' report report' : SinkState) (status : ℕ) → EndsAsStated (IsProgramOutcome may_open) out out' report report' status → IsProgramStatus may_open status
+program_status may_open out out' report report' status ends = elim ends.written [
   | inl whole ↦ elim ends.as_stated [
     | inl stated ↦ inl (ends.outcome, stated, whole.1)
     | inr memory ↦ inr (whole.1 ∙ ap (λ (outcome : Outcome). outcome.status) memory)
@@ -102,17 +104,17 @@ file_weaken command name file sums old new read content over is same outcome run
     subst P (sym is) (subst (λ (bytes : List ℕ). StatesOutcome command bytes None (λ name. None) outcome) same (by_bytes command file sums old new outcome over runs))
 
 -- such a command is served with what was read of the file with its name
-pub file_served : (command : Command) (places : Places) (name : List ℕ) (read : Result (Vec ℕ) ReadFault) → is_over_file command ≡ true
-    → name ≡ string_bytes places.main → (outcome : Outcome)
-    → IsReadOutcome name (λ main outcome. StatesOutcome command main None (λ name. None) outcome) read outcome → IsServed command places outcome
-file_served Fmt places name read over is outcome stated =
-    (read, subst (λ (n : List ℕ). IsReadOutcome n (λ main outcome. StatesOutcome Fmt main None (λ name. None) outcome) read outcome) is stated)
-file_served (Edit operations) places name read over is outcome stated =
-    (read, subst (λ (n : List ℕ). IsReadOutcome n (λ main outcome. StatesOutcome (Edit operations) main None (λ name. None) outcome) read outcome) is stated)
-file_served (Versions path all) places name read over is outcome stated = cc over
-file_served Graph places name read over is outcome stated = cc over
-file_served (Rows after limit) places name read over is outcome stated = cc over
-file_served (Chain path) places name read over is outcome stated = cc over
+pub file_served : (may_open : List ℕ → Opening → Type 0) (command : Command) (places : Places) (name : List ℕ) (read : Result (Vec ℕ) ReadFault) → is_over_file command ≡ true
+    → name ≡ string_bytes places.main → MayRead (may_open name) read → (outcome : Outcome)
+    → IsReadOutcome name (λ main outcome. StatesOutcome command main None (λ name. None) outcome) read outcome → IsServed may_open command places outcome
+file_served may_open Fmt places name read over is may outcome stated =
+    (read, subst (λ (n : List ℕ). MayRead (may_open n) read) is may, subst (λ (n : List ℕ). IsReadOutcome n (λ main outcome. StatesOutcome Fmt main None (λ name. None) outcome) read outcome) is stated)
+file_served may_open (Edit operations) places name read over is may outcome stated =
+    (read, subst (λ (n : List ℕ). MayRead (may_open n) read) is may, subst (λ (n : List ℕ). IsReadOutcome n (λ main outcome. StatesOutcome (Edit operations) main None (λ name. None) outcome) read outcome) is stated)
+file_served may_open (Versions path all) places name read over is may outcome stated = cc over
+file_served may_open Graph places name read over is may outcome stated = cc over
+file_served may_open (Rows after limit) places name read over is may outcome stated = cc over
+file_served may_open (Chain path) places name read over is may outcome stated = cc over
 
 -- a store that has one file answers with it, and with nothing else
 of_one : (path list : List ℕ) (store : MemoryFiles) (asked : List (Name × Reply)) → HoldsOne (list_file path) list store
@@ -143,12 +145,28 @@ plain_runs Graph main sums old new outcome plain runs = cc plain
 plain_runs (Rows after limit) main sums old new outcome plain runs = cc plain
 plain_runs (Chain path) main sums old new outcome plain runs = cc plain
 
-folders_come : (command : Command) (old new : StoreState) (outcome : Outcome) → IsRunOutcome (Needs command [] None) (StatesOutcome command [] None) old new outcome
-    → IsFolderOutcome command outcome
-folders_come command old new outcome (inl stated) = inl (answer_in new.asked, stated.0)
-folders_come command old new outcome (inr refused) = inr (answer_in new.asked, refused.0, refused.2, refused.1)
+-- the store of a run may answer what the one that was made for it may answer
+pub of_made : {F E : Type 0} (files : Result F E) (before : F) (may : F → Name → Reply → Type 0) (told : Name → Reply → Type 0) (asked : List (Name × Reply))
+    → IfOk files (λ made. (name : Name) (reply : Reply) → may made name reply → told name reply) → files ≡ Ok before
+    → ((name : Name) (reply : Reply) → Contains asked (name, reply) → may before name reply) → (name : Name) (reply : Reply) → Contains asked (name, reply) → told name reply
+of_made files before may told asked answers is allowed name reply k =
+    subst (λ files. IfOk files (λ made. (name : Name) (reply : Reply) → may made name reply → told name reply)) is answers name reply (allowed name reply k)
 
--- the outcome of a run over proxy folders follows from some answers
-pub folder_weaken : (command : Command) (old new : StoreState) → is_query command ≡ false → (outcome : Outcome) → RunsTo command [] None old new outcome
-    → IsFolderOutcome command outcome
-folder_weaken command old new plain outcome runs = folders_come command old new outcome (plain_runs command [] None old new outcome plain runs)
+-- a store without files has no other answer than that a file is absent
+pub none_told : {E : Type 0} (files : Result MemoryFiles E) (before : MemoryFiles) (asked : List (Name × Reply)) → IfOk files (λ made. (name : Name) → held_at made name ≡ None)
+    → files ≡ Ok before → ((name : Name) (reply : Reply) → Contains asked (name, reply) → may_give before name reply) → (name : Name) (reply : Reply) → Contains asked (name, reply) → reply ≡ absent
+none_told files before asked empty is allowed name reply k =
+    allowed name reply k ∙ ap (reply_for longest) (subst (λ files. IfOk files (λ made. (name : Name) → held_at made name ≡ None)) is empty name)
+
+folders_come : (may_open : List ℕ → Opening → Type 0) (folders : ProxyList) (command : Command) (old new : StoreState) (outcome : Outcome)
+    → ((name : Name) (reply : Reply) → Contains new.asked (name, reply) → MayBeTold may_open (codes ".") (Some folders) name reply)
+    → IsRunOutcome (Needs command [] None) (StatesOutcome command [] None) old new outcome → IsFolderOutcome may_open folders command outcome
+folders_come may_open folders command old new outcome told (inl stated) = inl (answer_in new.asked, λ name reply e. told name reply (answered_in new.asked name reply e), stated.0)
+folders_come may_open folders command old new outcome told (inr refused) = inr (answer_in new.asked, λ name reply e. told name reply (answered_in new.asked name reply e), refused.0, refused.2, refused.1)
+
+-- the outcome of a run over proxy folders follows from some answers of theirs
+pub folder_weaken : (may_open : List ℕ → Opening → Type 0) (folders : ProxyList) (command : Command) (old new : StoreState) → is_query command ≡ false
+    → ((name : Name) (reply : Reply) → Contains new.asked (name, reply) → MayBeTold may_open (codes ".") (Some folders) name reply)
+    → (outcome : Outcome) → RunsTo command [] None old new outcome → IsFolderOutcome may_open folders command outcome
+folder_weaken may_open folders command old new plain told outcome runs =
+    folders_come may_open folders command old new outcome told (plain_runs command [] None old new outcome plain runs)

@@ -1,9 +1,13 @@
 -- The outcomes of the whole program, from its words to its exit status.
-use Rattle.std.specs.Prelude.{◌≡◌, ◌⊎◌, ◌++◌, ℕ, List, [], Option, Some, None, Result, Ok, Err, codes, option_map, if◌then◌else◌}
+use Rattle.std.specs.Prelude.{◌≡◌, ◌⊎◌, ◌++◌, ℕ, Contains, List, [], Option, Some, None, Result, Ok, Err, codes, option_map, if◌then◌else◌}
 use Rattle.std.specs.Global.{Vec}
 use Rattle.std.specs.Str.{IsUtf8}
 use Rattle.std.specs.String.{string_bytes}
-use Rattle.gm_store.specs.Asked.{Name, Reply, list_file, reply_for, same_name}
+use Rattle.gm_store.specs.Asked.{Name, Reply, absent, list_file, reply_for, same_name}
+use Rattle.gm_store.specs.DiskAnswers.{MayAnswer}
+use Rattle.gm_store.specs.Openings.{MayRead, Opening}
+use Rattle.gm_store.specs.Proxies.{folders_in, marks_in}
+use Rattle.gm_store.specs.Relative.{IsFolderOf}
 use Rattle.gm_store.specs.declared.proxy_list.ProxyList.{ProxyList}
 use Rattle.gm_store.specs.declared.reading.ReadFault.{ReadFault}
 use Rattle.gm_store.specs.declared.reading.ReadFault.TheVariants as reading
@@ -60,56 +64,87 @@ IsInputOutcome command path list outcome =
     × AreOfOneFile (list_file path) list answers
     × StatesOutcome command [] None answers outcome
 
+-- In what follows `may_open` says what may come of opening the file at a path. This one is of a file system of which
+-- nothing is known.
+abbrev pub anything : List ℕ → Opening → Type 0
+anything path opening = Unit {0}
+
+-- the answers that proxy folders may give to a name, with this folder of the main file; if there are none, each file
+-- is absent
+abbrev pub MayBeTold : (List ℕ → Opening → Type 0) → List ℕ → Option ProxyList → Name → Reply → Type 0
+MayBeTold may_open main None name reply = reply ≡ absent
+MayBeTold may_open main (Some folders) name reply =
+    MayAnswer may_open main (folders_in folders) (marks_in folders) name reply
+
+-- each answer is one that these proxy folders may give
+abbrev pub AreOfFolders : (List ℕ → Opening → Type 0) → ProxyList → AnswersByName → Type 0
+AreOfFolders may_open folders answers = (name : Name) (reply : Reply) → answers name ≡ Some reply
+    → MayBeTold may_open (codes ".") (Some folders) name reply
+
 -- a command over the answers of proxy folders, or the report of a needed file at which their device failed
-abbrev pub IsFolderOutcome : Command → Outcome → Type 0
-IsFolderOutcome command outcome =
-    ((answers : AnswersByName) × StatesOutcome command [] None answers outcome)
-    ⊎ ((answers : AnswersByName) × (name : Name) × Needs command [] None answers name
-    × (outcome ≡ failed (device_line name)))
+abbrev pub IsFolderOutcome : (List ℕ → Opening → Type 0) → ProxyList → Command → Outcome → Type 0
+IsFolderOutcome may_open folders command outcome =
+    ((answers : AnswersByName) × AreOfFolders may_open folders answers × StatesOutcome command [] None answers outcome)
+    ⊎ ((answers : AnswersByName) × AreOfFolders may_open folders answers × (name : Name)
+    × Needs command [] None answers name × (outcome ≡ failed (device_line name)))
 
 -- `versions PATH`: over standard input, or over proxy folders if there are any
-abbrev pub IsVersionsServed : Command → List ℕ → Option ProxyList → Outcome → Type 0
-IsVersionsServed command path None outcome =
+abbrev pub IsVersionsServed : (List ℕ → Opening → Type 0) → Command → List ℕ → Option ProxyList → Outcome → Type 0
+IsVersionsServed may_open command path None outcome =
     (read : Result (Vec ℕ) ReadFault)
     × IsReadOutcome (codes "-") (IsInputOutcome command path) read outcome
-IsVersionsServed command path (Some folders) outcome = IsFolderOutcome command outcome
+IsVersionsServed may_open command path (Some folders) outcome = IsFolderOutcome may_open folders command outcome
 
--- a query on a module graph, over the bytes of the main file, those of a go.sum where one is given, and the answers
--- of a store
-abbrev pub IsQueryRun : Command → List ℕ → Option (List ℕ) → Outcome → Type 0
-IsQueryRun command main sums outcome = (told : Told) × IsQueryOutcome command (given main sums told) outcome
+-- a query on a module graph, over the bytes of the main file, those of a go.sum where one is given, and answers to
+-- the names that a store was asked for
+abbrev pub IsQueryRun : (Name → Reply → Type 0) → Command → List ℕ → Option (List ℕ) → Outcome → Type 0
+IsQueryRun may_answer command main sums outcome = (told : Told)
+    × ((name : Name) (reply : Reply) → Contains told.asked (name, reply) → may_answer name reply)
+    × IsQueryOutcome command (given main sums told) outcome
 
 -- the go.sum is read if one is named
-abbrev pub IsSumsServed : Command → Option (List ℕ) → List ℕ → Outcome → Type 0
-IsSumsServed command None main outcome = IsQueryRun command main None outcome
-IsSumsServed command (Some name) main outcome = (read : Result (Vec ℕ) ReadFault)
-    × IsReadOutcome name (λ sums outcome. IsQueryRun command main (Some sums) outcome) read outcome
+abbrev pub IsSumsServed : (List ℕ → Opening → Type 0) → (Name → Reply → Type 0) → Command → Option (List ℕ) → List ℕ
+    → Outcome → Type 0
+IsSumsServed may_open may_answer command None main outcome = IsQueryRun may_answer command main None outcome
+IsSumsServed may_open may_answer command (Some name) main outcome = (read : Result (Vec ℕ) ReadFault)
+    × MayRead (may_open name) read
+    × IsReadOutcome name (λ sums outcome. IsQueryRun may_answer command main (Some sums) outcome) read outcome
 
 -- the main file is read, then the go.sum
-abbrev pub IsQueryServed : Command → Places → Outcome → Type 0
-IsQueryServed command places outcome = (read : Result (Vec ℕ) ReadFault)
-    × IsReadOutcome (string_bytes places.main)
-    (λ main outcome. IsSumsServed command (option_map string_bytes places.sums) main outcome) read outcome
+abbrev pub IsMainServed : (List ℕ → Opening → Type 0) → (Name → Reply → Type 0) → Command → List ℕ
+    → Option (List ℕ) → Outcome → Type 0
+IsMainServed may_open may_answer command name sums outcome = (read : Result (Vec ℕ) ReadFault)
+    × MayRead (may_open name) read
+    × IsReadOutcome name (λ main outcome. IsSumsServed may_open may_answer command sums main outcome) read outcome
+
+-- the same with the answers that the named proxy folders may give
+abbrev pub IsQueryServed : (List ℕ → Opening → Type 0) → Command → Places → Outcome → Type 0
+IsQueryServed may_open command places outcome = (folder : List ℕ) × IsFolderOf (string_bytes places.main) folder
+    × IsMainServed may_open (MayBeTold may_open folder places.proxy) command
+    (string_bytes places.main) (option_map string_bytes places.sums) outcome
 
 -- `fmt` or `edit` over the bytes of the file that the words name
-abbrev pub IsFileServed : Command → List ℕ → Outcome → Type 0
-IsFileServed command name outcome = (read : Result (Vec ℕ) ReadFault)
+abbrev pub IsFileServed : (List ℕ → Opening → Type 0) → Command → List ℕ → Outcome → Type 0
+IsFileServed may_open command name outcome = (read : Result (Vec ℕ) ReadFault)
+    × MayRead (may_open name) read
     × IsReadOutcome name (λ main outcome. StatesOutcome command main None (λ name. None) outcome) read outcome
 
 -- a command over the files that the words name
-abbrev pub IsServed : Command → Places → Outcome → Type 0
-IsServed Fmt places outcome = IsFileServed Fmt (string_bytes places.main) outcome
-IsServed (Edit operations) places outcome = IsFileServed (Edit operations) (string_bytes places.main) outcome
-IsServed (Versions path all) places outcome = IsVersionsServed (Versions path all) path places.proxy outcome
-IsServed Graph places outcome = IsQueryServed Graph places outcome
-IsServed (Rows after limit) places outcome = IsQueryServed (Rows after limit) places outcome
-IsServed (Chain path) places outcome = IsQueryServed (Chain path) places outcome
+abbrev pub IsServed : (List ℕ → Opening → Type 0) → Command → Places → Outcome → Type 0
+IsServed may_open Fmt places outcome = IsFileServed may_open Fmt (string_bytes places.main) outcome
+IsServed may_open (Edit operations) places outcome =
+    IsFileServed may_open (Edit operations) (string_bytes places.main) outcome
+IsServed may_open (Versions path all) places outcome =
+    IsVersionsServed may_open (Versions path all) path places.proxy outcome
+IsServed may_open Graph places outcome = IsQueryServed may_open Graph places outcome
+IsServed may_open (Rows after limit) places outcome = IsQueryServed may_open (Rows after limit) places outcome
+IsServed may_open (Chain path) places outcome = IsQueryServed may_open (Chain path) places outcome
 
 -- the outcome for these words: their usage error, or the outcome of their command over the files that they name
-abbrev pub IsWordsOutcome : List (List ℕ) → Outcome → Type 0
-IsWordsOutcome words outcome =
+abbrev pub IsWordsOutcome : (List ℕ → Opening → Type 0) → List (List ℕ) → Outcome → Type 0
+IsWordsOutcome may_open words outcome =
     ((fault : UsageFault) × IsFaultOf words fault × (outcome ≡ usage_outcome fault))
-    ⊎ ((command : Command) × (places : Places) × AskFor words command places × IsServed command places outcome)
+    ⊎ ((command : Command) × (places : Places) × AskFor words command places × IsServed may_open command places outcome)
 
 -- the error of a command line with a word that is not UTF-8, which shows the word, or for which memory ran out
 abbrev pub IsUnreadableWords : UsageFault → Type 0
@@ -119,11 +154,12 @@ IsUnreadableWords (usage.Line text) =
 IsUnreadableWords fault = ⊥
 
 -- the outcome of the program: that of its words, or the error if one of them is not UTF-8
-abbrev pub IsProgramOutcome : Outcome → Type 0
-IsProgramOutcome outcome =
-    ((words : List (List ℕ)) × IsWordsOutcome words outcome)
+abbrev pub IsProgramOutcome : (List ℕ → Opening → Type 0) → Outcome → Type 0
+IsProgramOutcome may_open outcome =
+    ((words : List (List ℕ)) × IsWordsOutcome may_open words outcome)
     ⊎ ((fault : UsageFault) × IsUnreadableWords fault × (outcome ≡ usage_outcome fault))
 
 -- the exit status: that of the program's outcome, or 3 if memory runs out or an output fails
-abbrev pub IsProgramStatus : ℕ → Type 0
-IsProgramStatus status = ((outcome : Outcome) × IsProgramOutcome outcome × (status ≡ outcome.status)) ⊎ (status ≡ 3)
+abbrev pub IsProgramStatus : (List ℕ → Opening → Type 0) → ℕ → Type 0
+IsProgramStatus may_open status =
+    ((outcome : Outcome) × IsProgramOutcome may_open outcome × (status ≡ outcome.status)) ⊎ (status ≡ 3)

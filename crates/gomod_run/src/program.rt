@@ -1,16 +1,16 @@
 //! The program itself: from the words of the command line to the exit status. It is generic over the runtime and
 //! the two sinks, so that whole runs can be checked without a process.
 
-ghost use Rattle.std.specs.Prelude.{◌≡◌, ◌++◌, ℕ, [], IfErr, IfOk, List, None, Result, codes, false, map, true};
+ghost use Rattle.std.specs.Prelude.{◌≡◌, ◌++◌, ℕ, [], IfErr, IfOk, List, None, Some, Result, codes, false, map, true};
 ghost use Rattle.std.specs.Global.{Vec};
 ghost use Rattle.std.specs.Process.{exit_status};
 ghost use Rattle.std.specs.String.{string_bytes};
 ghost use Rattle.gm_store.specs.declared.reading.ReadFault.{ReadFault};
-ghost use Rattle.gm_store.specs.Asked.{list_file};
+ghost use Rattle.gm_store.specs.Asked.{Name, Reply, list_file};
 ghost use Rattle.gm_store.specs.Memory.{pairs, pairs_of};
 ghost use Rattle.gm_graph_listing.specs.Outcomes.{code_of};
 ghost use Rattle.gomod_run.specs.Held.{HoldsOne};
-ghost use Rattle.gomod_run.specs.Program.{IsFolderOutcome, IsInputOutcome, IsUnreadableWords, IsProgramOutcome, IsProgramStatus, IsReadOutcome, IsServed, IsVersionsServed, IsWordsOutcome, cannot_read_line, unread_outcome, usage_error, usage_outcome};
+ghost use Rattle.gomod_run.specs.Program.{IsFolderOutcome, IsInputOutcome, MayBeTold, IsUnreadableWords, IsProgramOutcome, IsProgramStatus, IsReadOutcome, IsServed, IsVersionsServed, IsWordsOutcome, anything, cannot_read_line, unread_outcome, usage_error, usage_outcome};
 ghost use Rattle.gomod_run.specs.Runs.{StatesOutcome, is_over_file, is_query};
 ghost use Rattle.gomod_run.specs.Written.{EndsAsStated, IsWritten};
 
@@ -20,15 +20,15 @@ use crate::writing::{NO_MEMORY, end, write_both};
 use gm_graph_listing::Status;
 use gm_name::{ModPath, NoMemory};
 use gm_store::{
-    DiskFallback, FileName, MemoryFiles, ProxyList, ReadFault, Sink, StdSink, read_limited,
+    DiskFallback, FileName, FileSystem, Files, MemoryFiles, ProxyList, ReadFault, Sink, StdSink,
+    read_file, read_limited,
 };
 use gomod_words::{Command, Places, UsageFault, read_words, unreadable};
 use std::alloc::{AllocError, Global};
 use std::env::FillError;
-use std::io::ErrorKind;
 use std::process::ExitCode;
-use std::rt::{Env, Files};
-use std::{fs, str};
+use std::rt::Env;
+use std::str;
 
 /// The exit status of usage errors.
 const USAGE_STATUS: u8 = 2;
@@ -42,7 +42,7 @@ const FIRST_ROOM: usize = 256;
 /// The exit status is that of `status_of_words`, 2 for a usage error, or 3 if memory runs out, or a device or an
 /// output fails.
 pub fn exit_code(rt: &HostRuntime) -> ExitCode
-    ensures { IsProgramStatus (exit_status result) }
+    ensures { IsProgramStatus anything (exit_status result) }
 {
     let mut out = StdSink::new(rt.stdout());
     let mut report = StdSink::new(rt.stderr());
@@ -50,12 +50,12 @@ pub fn exit_code(rt: &HostRuntime) -> ExitCode
 }
 
 /// Runs the program over two sinks and returns the exit status.
-fn ended<S: Env + Input + Files + Clone + Drop + Alloc<A = Global>, O: Sink, R: Sink>(
+fn ended<S: Env + Input + FileSystem + Copy + Drop + Alloc<A = Global>, O: Sink, R: Sink>(
     rt: &S,
     out: &mut O,
     report: &mut R,
 ) -> ExitCode
-    ensures { EndsAsStated IsProgramOutcome
+    ensures { EndsAsStated (IsProgramOutcome (S.may_open rt.now))
         (O.state out.old) (O.state out.new) (R.state report.old) (R.state report.new)
         (exit_status result) }
 {
@@ -64,12 +64,12 @@ fn ended<S: Env + Input + Files + Clone + Drop + Alloc<A = Global>, O: Sink, R: 
 
 /// Reads the words of the command line and does what `status_of_words` does with them. If a word is not UTF-8, the
 /// report is a usage error that shows the first such word with its bytes escaped, and the status is 2.
-pub fn status_of<S: Env + Input + Files + Clone + Drop + Alloc<A = Global>, O: Sink, R: Sink>(
+pub fn status_of<S: Env + Input + FileSystem + Copy + Drop + Alloc<A = Global>, O: Sink, R: Sink>(
     rt: &S,
     out: &mut O,
     report: &mut R,
 ) -> u8
-    ensures { EndsAsStated IsProgramOutcome
+    ensures { EndsAsStated (IsProgramOutcome (S.may_open rt.now))
         (O.state out.old) (O.state out.new) (R.state report.old) (R.state report.new)
         result }
 {
@@ -80,13 +80,13 @@ pub fn status_of<S: Env + Input + Files + Clone + Drop + Alloc<A = Global>, O: S
 }
 
 /// Does what `status_of_words` does with the words, or reports that memory ran out.
-fn status_of_texts<S: Input + Files + Clone + Drop + Alloc<A = Global>, O: Sink, R: Sink>(
+fn status_of_texts<S: Input + FileSystem + Copy + Drop + Alloc<A = Global>, O: Sink, R: Sink>(
     rt: &S,
     words: &[String],
     out: &mut O,
     report: &mut R,
 ) -> u8
-    ensures { EndsAsStated (IsWordsOutcome (map string_bytes words.now))
+    ensures { EndsAsStated (IsWordsOutcome (S.may_open rt.now) (map string_bytes words.now))
         (O.state out.old) (O.state out.new) (R.state report.old) (R.state report.new)
         result }
 {
@@ -118,13 +118,13 @@ fn status_of_texts<S: Input + Files + Clone + Drop + Alloc<A = Global>, O: Sink,
 /// or of standard input are read: one more than a command accepts, so that the command sees that there are too
 /// many. If memory runs out, the report is `gomod: no memory`; if an output fails, it has a prefix of its text.
 /// The status is 3 then.
-pub fn status_of_words<S: Input + Files + Clone + Drop + Alloc<A = Global>, O: Sink, R: Sink>(
+pub fn status_of_words<S: Input + FileSystem + Copy + Drop + Alloc<A = Global>, O: Sink, R: Sink>(
     rt: &S,
     words: &[&str],
     out: &mut O,
     report: &mut R,
 ) -> u8
-    ensures { EndsAsStated (IsWordsOutcome (map (λ word. word.now) words.now))
+    ensures { EndsAsStated (IsWordsOutcome (S.may_open rt.now) (map (λ word. word.now) words.now))
         (O.state out.old) (O.state out.new) (R.state report.old) (R.state report.new)
         result }
 {
@@ -135,14 +135,14 @@ pub fn status_of_words<S: Input + Files + Clone + Drop + Alloc<A = Global>, O: S
 }
 
 /// Reads the input of a command and runs it.
-fn serve<S: Input + Files + Clone + Drop + Alloc<A = Global>, O: Sink, R: Sink>(
+fn serve<S: Input + FileSystem + Copy + Drop + Alloc<A = Global>, O: Sink, R: Sink>(
     rt: &S,
     command: &Command,
     places: Places,
     out: &mut O,
     report: &mut R,
 ) -> Status
-    ensures { EndsAsStated (IsServed command.now places)
+    ensures { EndsAsStated (IsServed (S.may_open rt.now) command.now places)
         (O.state out.old) (O.state out.new) (R.state report.old) (R.state report.new)
         (code_of result) }
 {
@@ -159,7 +159,7 @@ fn serve<S: Input + Files + Clone + Drop + Alloc<A = Global>, O: Sink, R: Sink>(
 }
 
 /// Reads the file of `fmt` or `edit` and runs the command.
-fn serve_file<S: Files + Clone + Drop + Alloc<A = Global>, O: Sink, R: Sink>(
+fn serve_file<S: FileSystem + Copy + Drop + Alloc<A = Global>, O: Sink, R: Sink>(
     rt: &S,
     command: &Command,
     places: Places,
@@ -167,12 +167,12 @@ fn serve_file<S: Files + Clone + Drop + Alloc<A = Global>, O: Sink, R: Sink>(
     report: &mut R,
 ) -> Status
     requires { is_over_file command.now ≡ true }
-    ensures { EndsAsStated (IsServed command.now places)
+    ensures { EndsAsStated (IsServed (S.may_open rt.now) command.now places)
         (O.state out.old) (O.state out.new) (R.state report.old) (R.state report.new)
         (code_of result) }
 {
     let name = places.main.as_str();
-    let read = read_file(rt, name);
+    let read = read_file(rt, rt.alloc(), name);
     file_read(rt.alloc(), command, name, read, out, report)
 }
 
@@ -209,7 +209,7 @@ fn file_read<O: Sink, R: Sink>(
 }
 
 /// Runs `versions` over the proxy folders, or over the list on standard input if there are none.
-fn serve_versions<S: Input + Files + Clone + Drop + Alloc<A = Global>, O: Sink, R: Sink>(
+fn serve_versions<S: Input + FileSystem + Copy + Drop + Alloc<A = Global>, O: Sink, R: Sink>(
     rt: &S,
     command: &Command,
     path: &ModPath,
@@ -218,7 +218,7 @@ fn serve_versions<S: Input + Files + Clone + Drop + Alloc<A = Global>, O: Sink, 
     report: &mut R,
 ) -> Status
     requires { is_query command.now ≡ false }
-    ensures { EndsAsStated (IsVersionsServed command.now path.now proxy)
+    ensures { EndsAsStated (IsVersionsServed (S.may_open rt.now) command.now path.now proxy)
         (O.state out.old) (O.state out.new) (R.state report.old) (R.state report.new)
         (code_of result) }
 {
@@ -288,7 +288,7 @@ fn over_list<O: Sink, R: Sink>(
 }
 
 /// Runs `versions` over proxy folders.
-fn over_folders<S: Files + Clone + Drop + Alloc<A = Global>, O: Sink, R: Sink>(
+fn over_folders<S: FileSystem + Copy + Drop + Alloc<A = Global>, O: Sink, R: Sink>(
     rt: &S,
     command: &Command,
     folders: ProxyList,
@@ -296,7 +296,7 @@ fn over_folders<S: Files + Clone + Drop + Alloc<A = Global>, O: Sink, R: Sink>(
     report: &mut R,
 ) -> Status
     requires { is_query command.now ≡ false }
-    ensures { EndsAsStated (IsFolderOutcome command.now)
+    ensures { EndsAsStated (IsFolderOutcome (S.may_open rt.now) folders command.now)
         (O.state out.old) (O.state out.new) (R.state report.old) (R.state report.new)
         (code_of result) }
 {
@@ -306,7 +306,7 @@ fn over_folders<S: Files + Clone + Drop + Alloc<A = Global>, O: Sink, R: Sink>(
             command,
             b"",
             None,
-            folders_of(rt, main, folders),
+            Ok(folders_of(rt, main, folders)),
             out,
             report,
         ),
@@ -315,17 +315,17 @@ fn over_folders<S: Files + Clone + Drop + Alloc<A = Global>, O: Sink, R: Sink>(
 }
 
 /// A store over proxy folders and the folder of the main file. It has not been asked yet.
-pub(crate) fn folders_of<S: Files + Clone + Drop + Alloc<A = Global>>(
+pub(crate) fn folders_of<S: FileSystem + Copy + Drop + Alloc<A = Global>>(
     rt: &S,
     main: String,
     folders: ProxyList,
-) -> Result<DiskFallback<S>, NoMemory>
-    ensures { IfOk result (λ files. pairs files.asked.items ≡ []) }
+) -> DiskFallback<S>
+    ensures asked { pairs result.asked.items ≡ [] }
+    ensures answers { (name : Name) (reply : Reply)
+        → ⟦<DiskFallback<S> as Files>⟧.may_answer result name reply
+        → MayBeTold (S.may_open rt.now) (string_bytes main) (Some folders) name reply }
 {
-    let Ok(system) = rt.clone() else {
-        return Err(AllocError);
-    };
-    Ok(DiskFallback::new(system, rt.alloc(), main, folders))
+    DiskFallback::new(*rt, rt.alloc(), main, folders)
 }
 
 /// The words as string slices, all of them and in order.
@@ -397,18 +397,6 @@ fn text_of(alloc: Global, word: &[u8]) -> Result<String, UsageFault>
     match str::from_utf8(word) {
         Ok(text) => Ok(String::from_str(alloc, text)?),
         Err(_) => Err(unreadable(alloc, word)),
-    }
-}
-
-/// Reads a file, up to one byte above the limit of a command. If it can't be opened or read, the fault is `Device`.
-pub(crate) fn read_file<S: Files + Alloc<A = Global>>(
-    rt: &S,
-    name: &str,
-) -> Result<Vec<u8>, ReadFault> {
-    match fs::open(rt, name) {
-        Ok(mut file) => read_limited(rt.alloc(), &mut file),
-        Err(error) if error.kind() == ErrorKind::OutOfMemory => Err(ReadFault::NoMemory),
-        Err(_) => Err(ReadFault::Device),
     }
 }
 

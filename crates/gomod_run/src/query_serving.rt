@@ -6,19 +6,18 @@ ghost use Rattle.std.specs.Option.{option_map};
 ghost use Rattle.std.specs.String.{string_bytes};
 ghost use Rattle.gm_store.specs.Relative.{IsFolderOf};
 ghost use Rattle.gm_graph_listing.specs.Outcomes.{code_of};
-ghost use Rattle.gomod_run.specs.Program.{IsQueryRun, IsQueryServed, IsServed, IsSumsServed};
+ghost use Rattle.gomod_run.specs.Program.{IsMainServed, IsQueryRun, IsServed, IsSumsServed, MayBeTold};
 ghost use Rattle.gomod_run.specs.Runs.{is_query};
 ghost use Rattle.gomod_run.specs.Written.{EndsAsStated};
 
-use crate::program::{folders_of, read_file, unread};
+use crate::program::{folders_of, unread};
 use crate::running::run_over;
 use crate::writing::{NO_MEMORY, end};
 use gm_graph_listing::Status;
 use gm_name::NoMemory;
-use gm_store::{MemoryFiles, ProxyList, Sink, folder_of};
+use gm_store::{FileSystem, MemoryFiles, ProxyList, Sink, folder_of, read_file};
 use gomod_words::Command;
 use std::alloc::Global;
-use std::rt::Files;
 
 /// Where a query looks for go.mod files.
 #[derive(Drop)]
@@ -30,7 +29,7 @@ pub(crate) struct Places {
 }
 
 /// Runs a query on a module graph over proxy folders, or over an empty store if there are none.
-fn over_places<S: Files + Clone + Drop + Alloc<A = Global>, O: Sink, R: Sink>(
+fn over_places<S: FileSystem + Copy + Drop + Alloc<A = Global>, O: Sink, R: Sink>(
     rt: &S,
     command: &Command,
     main: &[u8],
@@ -40,7 +39,8 @@ fn over_places<S: Files + Clone + Drop + Alloc<A = Global>, O: Sink, R: Sink>(
     report: &mut R,
 ) -> Status
     requires { is_query command.now ≡ true }
-    ensures { EndsAsStated (IsQueryRun command.now main.now (option_map (λ sums. sums.now) sums.entry))
+    ensures { EndsAsStated (IsQueryRun (MayBeTold (S.may_open rt.now) (string_bytes places.folder) places.proxy)
+        command.now main.now (option_map (λ sums. sums.now) sums.entry))
         (O.state out.old) (O.state out.new) (R.state report.old) (R.state report.new)
         (code_of result) }
 {
@@ -51,7 +51,7 @@ fn over_places<S: Files + Clone + Drop + Alloc<A = Global>, O: Sink, R: Sink>(
             command,
             main,
             sums,
-            folders_of(rt, folder, folders),
+            Ok(folders_of(rt, folder, folders)),
             out,
             report,
         ),
@@ -68,7 +68,7 @@ fn over_places<S: Files + Clone + Drop + Alloc<A = Global>, O: Sink, R: Sink>(
 }
 
 /// Reads the go.sum of this name, and runs a query on a module graph with it. If it can't be read, that is reported.
-fn over_sums<S: Files + Clone + Drop + Alloc<A = Global>, O: Sink, R: Sink>(
+fn over_sums<S: FileSystem + Copy + Drop + Alloc<A = Global>, O: Sink, R: Sink>(
     rt: &S,
     command: &Command,
     main: &[u8],
@@ -78,11 +78,13 @@ fn over_sums<S: Files + Clone + Drop + Alloc<A = Global>, O: Sink, R: Sink>(
     report: &mut R,
 ) -> Status
     requires { is_query command.now ≡ true }
-    ensures { EndsAsStated (IsSumsServed command.now (Some file.now) main.now)
+    ensures { EndsAsStated (IsSumsServed (S.may_open rt.now)
+        (MayBeTold (S.may_open rt.now) (string_bytes places.folder) places.proxy)
+        command.now (Some file.now) main.now)
         (O.state out.old) (O.state out.new) (R.state report.old) (R.state report.new)
         (code_of result) }
 {
-    match read_file(rt, file) {
+    match read_file(rt, rt.alloc(), file) {
         Ok(sums) => over_places(
             rt,
             command,
@@ -97,7 +99,7 @@ fn over_sums<S: Files + Clone + Drop + Alloc<A = Global>, O: Sink, R: Sink>(
 }
 
 /// Runs a query on a module graph, with a go.sum if the words name one.
-fn with_sums<S: Files + Clone + Drop + Alloc<A = Global>, O: Sink, R: Sink>(
+fn with_sums<S: FileSystem + Copy + Drop + Alloc<A = Global>, O: Sink, R: Sink>(
     rt: &S,
     command: &Command,
     main: &[u8],
@@ -107,7 +109,9 @@ fn with_sums<S: Files + Clone + Drop + Alloc<A = Global>, O: Sink, R: Sink>(
     report: &mut R,
 ) -> Status
     requires { is_query command.now ≡ true }
-    ensures { EndsAsStated (IsSumsServed command.now (option_map string_bytes named.now.sums) main.now)
+    ensures { EndsAsStated (IsSumsServed (S.may_open rt.now)
+        (MayBeTold (S.may_open rt.now) (string_bytes places.folder) places.proxy)
+        command.now (option_map string_bytes named.now.sums) main.now)
         (O.state out.old) (O.state out.new) (R.state report.old) (R.state report.new)
         (code_of result) }
 {
@@ -119,7 +123,7 @@ fn with_sums<S: Files + Clone + Drop + Alloc<A = Global>, O: Sink, R: Sink>(
 
 /// Reads the main file that the words name, and runs a query on a module graph over it. If it can't be read, that is
 /// reported.
-fn over_main<S: Files + Clone + Drop + Alloc<A = Global>, O: Sink, R: Sink>(
+fn over_main<S: FileSystem + Copy + Drop + Alloc<A = Global>, O: Sink, R: Sink>(
     rt: &S,
     command: &Command,
     named: &gomod_words::Places,
@@ -128,12 +132,14 @@ fn over_main<S: Files + Clone + Drop + Alloc<A = Global>, O: Sink, R: Sink>(
     report: &mut R,
 ) -> Status
     requires { is_query command.now ≡ true }
-    ensures { EndsAsStated (IsQueryServed command.now named.now)
+    ensures { EndsAsStated (IsMainServed (S.may_open rt.now)
+        (MayBeTold (S.may_open rt.now) (string_bytes places.folder) places.proxy)
+        command.now (string_bytes named.now.main) (option_map string_bytes named.now.sums))
         (O.state out.old) (O.state out.new) (R.state report.old) (R.state report.new)
         (code_of result) }
 {
     let name = named.main.as_str();
-    match read_file(rt, name) {
+    match read_file(rt, rt.alloc(), name) {
         Ok(main) => with_sums(rt, command, main.as_slice(), named, places, out, report),
         Err(fault) => unread(rt.alloc(), name, fault, out, report),
     }
@@ -147,7 +153,7 @@ fn main_folder(alloc: Global, file: &str) -> Result<String, NoMemory>
 }
 
 /// Reads the main file, then the go.sum if one is named, and runs a query on a module graph.
-pub(crate) fn serve_query<S: Files + Clone + Drop + Alloc<A = Global>, O: Sink, R: Sink>(
+pub(crate) fn serve_query<S: FileSystem + Copy + Drop + Alloc<A = Global>, O: Sink, R: Sink>(
     rt: &S,
     command: &Command,
     mut places: gomod_words::Places,
@@ -155,7 +161,7 @@ pub(crate) fn serve_query<S: Files + Clone + Drop + Alloc<A = Global>, O: Sink, 
     report: &mut R,
 ) -> Status
     requires { is_query command.now ≡ true }
-    ensures { EndsAsStated (IsServed command.now places)
+    ensures { EndsAsStated (IsServed (S.may_open rt.now) command.now places)
         (O.state out.old) (O.state out.new) (R.state report.old) (R.state report.new)
         (code_of result) }
 {

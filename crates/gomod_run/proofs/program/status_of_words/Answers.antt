@@ -4,7 +4,7 @@ use Rattle.gomod_run.proofs.program.status_of_words.Goals as goal
 
 pub returns-in-Ok : goal.returns-in-Ok
 returns-in-Ok g c =
-    words_end (map (λ word. word.now) c.args.words.now) c.in-Ok.command c.in-Ok.places _ _ _ _ _ c.code.result c.code.ensures c.in-Ok.ensures.read c.serve.ensures
+    words_end (g.S.FileSystem.may_open c.args.rt.now) (map (λ word. word.now) c.args.words.now) c.in-Ok.command c.in-Ok.places _ _ _ _ _ c.code.result c.code.ensures c.in-Ok.ensures.read c.serve.ensures
 
 pub returns-in-Err : goal.returns-in-Err
-returns-in-Err g c = fault_ends (map (λ word. word.now) c.args.words.now) c.in-Err.fault _ _ _ _ _ c.in-Err.ensures.fault c.tell.ensures
+returns-in-Err g c = fault_ends (g.S.FileSystem.may_open c.args.rt.now) (map (λ word. word.now) c.args.words.now) c.in-Err.fault _ _ _ _ _ c.in-Err.ensures.fault c.tell.ensures

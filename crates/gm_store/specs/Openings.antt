@@ -1,0 +1,58 @@
+-- What may come of opening a file, and the results of a look-up that opens it.
+use Rattle.std.specs.Prelude.{◌≡◌, ◌≢◌, ◌⊎◌, ℕ, List, Option, Some, None, Result, Ok, Err, IfSome, take}
+use Rattle.std.specs.Global.{Vec}
+use Rattle.std.specs.IoError.{error_kind}
+use Rattle.std.specs.declared.io.Error.{Error}
+use Rattle.std.specs.declared.io.ErrorKind.{ErrorKind}
+use Rattle.std.specs.declared.io.ErrorKind.TheVariants.{NotFound, OutOfMemory}
+use Rattle.gm_store.specs.declared.reading.ReadFault.{ReadFault}
+use Rattle.gm_store.specs.declared.reading.ReadFault.TheVariants.{NoMemory, Device}
+use Rattle.gm_store.specs.Found.{result_for_bytes}
+use Rattle.gm_store.specs.Steps.{Seen, absent, failed}
+
+-- a file was opened, whose bytes are these if its reader reports them; or none was, for an error of this kind
+pub data Opening : Type 0 where
+  opened : Option (List ℕ) → Opening
+  refused : ErrorKind → Opening
+
+-- what came of opening a file, given the bytes that a reader reports
+abbrev pub opening_of : {File : Type 0} → (File → Option (List ℕ)) → Result File Error → Opening
+opening_of remaining (Ok file) = opened (remaining file)
+opening_of remaining (Err error) = refused (error_kind error)
+
+-- The result if no file was opened: absent if the system found none of that name, and otherwise a failure. If the
+-- system ran out of memory, there is no result.
+pub record IsRefusedLookup (kind : ErrorKind) (seen : Seen) : Type 0 where
+  pub not_found : kind ≡ NotFound → seen ≡ absent
+  pub other : kind ≢ NotFound → seen ≡ failed
+  pub memory : kind ≢ OutOfMemory
+
+-- the result if a file was opened and read like this: if memory ran out, there is none
+abbrev pub IsReadLookup : Result (Vec ℕ) ReadFault → Seen → Type 0
+IsReadLookup (Ok bytes) seen = seen ≡ result_for_bytes bytes.items
+IsReadLookup (Err Device) seen = seen ≡ failed
+IsReadLookup (Err NoMemory) seen = ⊥
+
+-- The results that a look-up may have. An opened file is never absent: the result is its bytes, or that they are too
+-- many, or a failure if they can't be read.
+abbrev pub MayShow : Opening → Seen → Type 0
+MayShow (opened (Some content)) seen = (seen ≡ result_for_bytes content) ⊎ (seen ≡ failed)
+MayShow (opened None) seen = ((content : List ℕ) × (seen ≡ result_for_bytes content)) ⊎ (seen ≡ failed)
+MayShow (refused kind) seen = IsRefusedLookup kind seen
+
+-- one of them, given what may come of opening the file
+abbrev pub MayLookUp : (Opening → Type 0) → Seen → Type 0
+MayLookUp may_open seen = (opening : Opening) × may_open opening × MayShow opening seen
+
+-- The results that reading a file up to one byte more than 16 MiB may have. A file that was not opened is not read, and
+-- that memory ran out is told apart from other errors.
+abbrev pub IsReading : Opening → Result (Vec ℕ) ReadFault → Type 0
+IsReading (opened known) (Ok bytes) = IfSome known (λ all. bytes.items ≡ take 16777217 all)
+IsReading (opened known) (Err fault) = Unit {0}
+IsReading (refused kind) (Ok bytes) = ⊥
+IsReading (refused kind) (Err NoMemory) = kind ≡ OutOfMemory
+IsReading (refused kind) (Err Device) = kind ≢ OutOfMemory
+
+-- one of them, given what may come of opening the file
+abbrev pub MayRead : (Opening → Type 0) → Result (Vec ℕ) ReadFault → Type 0
+MayRead may_open read = (opening : Opening) × may_open opening × IsReading opening read
