@@ -87,6 +87,8 @@ def sized(lines):
 
 
 class Run:
+    refusals = 0  # how many runs had an allocation refused
+
     def __init__(self, line, text):
         self.line, self.text, self.words = line, text, words_of(text)
         self.out, self.report, self.status = b"", b"", 0
@@ -127,6 +129,7 @@ class Run:
         """The result of the command at the first refused allocation that changes it, if there is one."""
         for number in range(1, 1_000_000):
             out, report, status = self.comes_to(program, folder, stdin, number)
+            Run.refusals += not report.endswith(PASSED)
             got = out, report.removesuffix(PASSED), status
             if got not in (self.wanted(), NO_MEMORY):
                 return number, got
@@ -191,6 +194,11 @@ class Case:
 
     def is_left_out(self):
         return any(it.name.startswith(b"/") or (it.kind == b"mode" and not os.geteuid()) for it in self.pieces)
+
+    def is_large(self):
+        """Whether its commands ask for memory so often that refusing each time would take hours."""
+        most = {b"repeat": 64, b"fill": 100_000}
+        return any(it.kind in most and int(it.argument) > most[it.kind] for it in self.pieces)
 
     def end(self):
         """Drops the blank line before the next title."""
@@ -275,10 +283,11 @@ def main(program, *words):
     counts = {True: 0, False: 0}
     for path in files:
         for case in read_cases(path):
-            chosen = not titles or any(it in case.title for it in titles)
+            chosen = any(it in case.title for it in titles) if titles else not (REFUSE_MEMORY and case.is_large())
             if chosen and not case.is_left_out() and any(it.words[0] == b"gomod" for it in case.runs):
                 counts[passes(program, path, case)] += 1
-    print(f"{counts[True]} passed, {counts[False]} failed")
+    refused = f", {Run.refusals} runs with an allocation refused" if REFUSE_MEMORY else ""
+    print(f"{counts[True]} passed, {counts[False]} failed{refused}")
     return 1 if counts[False] else 0
 
 

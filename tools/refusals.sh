@@ -5,6 +5,7 @@
 #   tools/refusals.sh                     every edit of every crate
 #   tools/refusals.sh NAME.. NAME/EDIT..  those of these crates, or these edits alone
 #   tools/refusals.sh --only ..           checks for each edit and twin the function alone that `# clause:` names
+#   tools/refusals.sh --table ..          checks nothing, and prints what each edit does, its name, and its clause
 #
 # An edit, crates/NAME/must-fail/EDIT.edit, has lines that the merge gate passes over:
 #
@@ -17,7 +18,8 @@
 # For each edit it prints a line: `refused`, `other` with the goals where it was refused instead, or `PROVED`; and for
 # its twin `twin proved` or `twin REFUSED`. The status is 1 if an edit was not refused at its clause, names none, or its
 # twin was not proved. A goal whose answer only names what the edit took away says nothing of the clause and does not
-# count. The merge gate itself asks only whether an edit is refused.
+# count. The merge gate itself asks only whether an edit is refused. With --table the status is 1 if an edit names no
+# clause or has no twin.
 #
 # It needs rt and python3, and the crates as ./build or `rt all check` leaves them (the libraries below a crate are
 # enough for `--only`), and takes about half a minute a check.
@@ -153,17 +155,38 @@ def make_room(work, name, lines):
     return f"{work}/crates/{name}"
 
 
+def print_table(edits_by_crate):
+    """A row for each edit: its name in words, its crate and name, and the clause at which it is refused."""
+    is_well = True
+    print("| Body | Edit | Clause |\n|---|---|---|")
+    for name, edits in edits_by_crate:
+        for edit in edits:
+            pairs, clause = read_edit(f"crates/{name}/must-fail/{edit}.edit")
+            has_twin = any(twin is not None for _, _, _, twin in pairs)
+            is_well &= clause is not None and has_twin
+            place = f"`{clause[1]}` of `{clause[0]}`" if clause else "none is named"
+            print(f"| {edit.replace('_', ' ')} | {name}/{edit} | {place}{'' if has_twin else '; no twin'} |")
+    return is_well
+
+
+def edits_of(name, chosen):
+    """The edits of a crate that the arguments choose."""
+    if name in chosen:
+        return sorted(it[:-len(".edit")] for it in os.listdir(f"crates/{name}/must-fail") if it.endswith(".edit"))
+    return [word.split("/", 1)[1] for word in chosen if word.startswith(f"{name}/")]
+
+
 def main():
     rows = [line.split(":", 1) for line in open("crates.txt") if ":" in line and not line.startswith("#")]
     lines = {name.strip(): below.split() for name, below in rows}
     is_quick = "--only" in sys.argv[1:]
-    chosen = [word for word in sys.argv[1:] if word != "--only"]
+    chosen = [word for word in sys.argv[1:] if word not in ("--only", "--table")]
     chosen = chosen or [name for name in lines if os.path.isdir(f"crates/{name}/must-fail")]
+    edits_by_crate = [(name, edits_of(name, chosen)) for name in dict.fromkeys(it.split("/")[0] for it in chosen)]
+    if "--table" in sys.argv[1:]:
+        return 0 if print_table(edits_by_crate) else 1
     is_well = True
-    for name in dict.fromkeys(word.split("/")[0] for word in chosen):
-        edits = [word.split("/", 1)[1] for word in chosen if word.startswith(f"{name}/")]
-        if name in chosen:
-            edits = sorted(it[:-len(".edit")] for it in os.listdir(f"crates/{name}/must-fail") if it.endswith(".edit"))
+    for name, edits in edits_by_crate:
         with tempfile.TemporaryDirectory(prefix="refusals-") as work:
             room = make_room(work, name, lines)
             is_proved, _, said = (True, [], "") if is_quick else check(room, {})
