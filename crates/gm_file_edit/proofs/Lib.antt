@@ -31,5 +31,6 @@ pub mod BySections
 pub mod Additions
 pub mod GoPlace
 pub mod Twice
+pub mod Undone
 pub mod PassedOver
 pub mod KeyedChanges

@@ -19,4 +19,5 @@ pub mod Laws
 pub mod EditLaws
 pub mod GoPlace
 pub mod Twice
+pub mod Undone
 pub mod Keys
