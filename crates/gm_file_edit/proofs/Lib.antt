@@ -32,5 +32,6 @@ pub mod Additions
 pub mod GoPlace
 pub mod Twice
 pub mod Undone
+pub mod EitherOrder
 pub mod PassedOver
 pub mod KeyedChanges

@@ -20,4 +20,5 @@ pub mod EditLaws
 pub mod GoPlace
 pub mod Twice
 pub mod Undone
+pub mod EitherOrder
 pub mod Keys

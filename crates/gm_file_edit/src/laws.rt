@@ -12,6 +12,7 @@ ghost use Rattle.gm_file_edit.specs.Edited.{edited};
 ghost use Rattle.gm_file_edit.specs.Kinds.{is_fit};
 ghost use Rattle.gm_file_edit.specs.EditLaws.{AdditionFollowsItsVerb, AdditionOfANewVerbIsLast, CommentLinesStay, DocumentsHaveWholeSections, IdleAdditionChangesNothing, IdleDropChangesNothing, SecondAdditionChangesNothing, SecondDropChangesNothing, SectionsHaveTheLines};
 ghost use Rattle.gm_file_edit.specs.Edits.{Edit, edit_in};
+ghost use Rattle.gm_file_edit.specs.EitherOrder.{EitherOrderLeavesTheSame};
 ghost use Rattle.gm_file_edit.specs.GoPlace.{GoFollowsModule, GoFollowsModuleBlock};
 ghost use Rattle.gm_file_edit.specs.Laws.{AddedIsThere, DroppedIsGone, OthersStay, SetStandsAlone};
 ghost use Rattle.gm_file_edit.specs.Twice.{SecondOperationChangesNothing, SecondSettingChangesNothing};
@@ -99,6 +100,13 @@ pub fn drops_undo_what_was_put_in()
 /// So an operation that put a directive in and the drop of it leave what formatting leaves.
 pub fn undone_operations_only_format()
     ensures { DropUndoesForLayout }
+{}
+
+/// Two operations leave the same directives in either order, each as often, if they target no directive in common.
+/// `require=P@V` and `exclude=Q@W` are such operations, whatever P and Q are. The directives of one verb may stand in
+/// another order.
+pub fn either_order_leaves_the_same()
+    ensures { EitherOrderLeavesTheSame }
 {}
 
 /// The comment lines of a file are the same before and after any operation, and in the same order.
