@@ -28,7 +28,8 @@ undone_by (Drop t) = None
 abbrev pub DropUndoes : Type 0
 DropUndoes = (edit undo : Edit) (v : AddedVerb) (lines : List (Line Placed)) → IsEditOf edit lines
     → verb_added edit ≡ Some v → undone_by edit ≡ Some undo → list_any (about edit) (directives_of lines) ≡ false
-    → edited undo (edited edit lines) ≡ (if list_any (is_of v) (directives_of lines) then lines else lines ++ Blank ∷ [])
+    → edited undo (edited edit lines)
+    ≡ (if list_any (is_of v) (directives_of lines) then lines else lines ++ Blank ∷ [])
 
 -- so both operations leave what formatting alone leaves
 abbrev pub DropUndoesForLayout : Type 0
