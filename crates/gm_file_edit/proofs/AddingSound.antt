@@ -338,7 +338,7 @@ abbrev pub IsOfVerb : AddedVerb → Option Placed → Type 0
 IsOfVerb v None = ⊤
 IsOfVerb v (Some t) = verb_in Strict t.word.spelling ≡ verb_of v
 
-passing-verb : (v : AddedVerb) (block : Option Placed) (line : Line Placed) (held : Option Directive) → directive_at block line ≡ held → passes (is_of v) held ≡ true → IsOfVerb v block
+pub passing-verb : (v : AddedVerb) (block : Option Placed) (line : Line Placed) (held : Option Directive) → directive_at block line ≡ held → passes (is_of v) held ≡ true → IsOfVerb v block
 unfolding item_at
 passing-verb v None line held is e = tt
 passing-verb v (Some t) line None is e = absurd cc

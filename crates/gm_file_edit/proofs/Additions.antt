@@ -46,7 +46,7 @@ inserted : (front back : List (Line Placed)) (line new : Line Placed) → insert
 inserted [] back line new = refl
 inserted (x ∷ front) back line new = ap (λ (ls : List (Line Placed)). x ∷ ls) (inserted front back line new)
 
-added-after-last : (test : Directive → Bool) (text : List ℕ) (arguments : List Placed) (front back : List (Line Placed)) (line : Line Placed) → passes test (directive_at (block_after_lines None front) line) ≡ true
+pub added-after-last : (test : Directive → Bool) (text : List ℕ) (arguments : List Placed) (front back : List (Line Placed)) (line : Line Placed) → passes test (directive_at (block_after_lines None front) line) ≡ true
     → is_there_from test (block_after_lines None (front ++ line ∷ [])) back ≡ false
     → added test text arguments (front ++ line ∷ back) ≡ front ++ line ∷ entry_at (is_some (block_after_lines None front)) text arguments ∷ back
 unfolding added
@@ -54,7 +54,7 @@ added-after-last test text arguments front back line hit none =
     ap (added_at text arguments (front ++ line ∷ back)) (last-spot test None front back line hit none)
     ∙ inserted front back line (entry_at (is_some (block_after_lines None front)) text arguments)
 
-added-at-end : (test : Directive → Bool) (text : List ℕ) (arguments : List Placed) (lines : List (Line Placed)) → is_there test lines ≡ false → added test text arguments lines ≡ lines ++ Blank ∷ single text arguments ∷ []
+pub added-at-end : (test : Directive → Bool) (text : List ℕ) (arguments : List Placed) (lines : List (Line Placed)) → is_there test lines ≡ false → added test text arguments lines ≡ lines ++ Blank ∷ single text arguments ∷ []
 unfolding added
 added-at-end test text arguments lines none = ap (added_at text arguments lines) (no-spot test None lines none)
 
@@ -82,7 +82,7 @@ pass-added edit v lines adds none =
     let absent : is_there (about edit) lines ≡ false = there-said (about edit) lines ∙ none in
     rw absent (put-is edit v lines adds)
 
-edited-added : (edit : Edit) (v : AddedVerb) (lines : List (Line Placed)) → verb_added edit ≡ Some v → list_any (about edit) (directives_of lines) ≡ false
+pub edited-added : (edit : Edit) (v : AddedVerb) (lines : List (Line Placed)) → verb_added edit ≡ Some v → list_any (about edit) (directives_of lines) ≡ false
     → edited edit lines ≡ added (is_of v) (verb_text v) (arguments_added edit) lines
 edited-added edit v lines adds none = edited-is-pass edit lines ∙ pass-added edit v lines adds none
 

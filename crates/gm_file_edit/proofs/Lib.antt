@@ -31,5 +31,7 @@ pub mod BySections
 pub mod Additions
 pub mod GoPlace
 pub mod Twice
+pub mod Undone
+pub mod EitherOrder
 pub mod PassedOver
 pub mod KeyedChanges

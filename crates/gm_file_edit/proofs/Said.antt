@@ -72,7 +72,7 @@ none-any test (d ∷ ds) e = elim (cases_Bool (test d)) [
 pub others-none : (test : Directive → Bool) (ds : List Directive) → list_any test (filter (others test) ds) ≡ false
 others-none test ds = none-any test (filter (others test) ds) (none-of-others test ds)
 
-no-filter : (test : Directive → Bool) (ds : List Directive) → list_any test ds ≡ false → filter test ds ≡ []
+pub no-filter : (test : Directive → Bool) (ds : List Directive) → list_any test ds ≡ false → filter test ds ≡ []
 no-filter test [] e = refl
 no-filter test (d ∷ ds) e = let parts = or-none (test d) (list_any test ds) e in filter-none test d ds parts.0 ∙ no-filter test ds parts.1
 

@@ -34,13 +34,13 @@ use Rattle.gm_file_edit.proofs.BySections.{edited-is-pass}
 
 -- ---- an operation targets what it sets or adds
 
-text-itself : (text : List ℕ) → bytes_eq text text ≡ true
+pub text-itself : (text : List ℕ) → bytes_eq text text ≡ true
 text-itself text = (bytes_eq-Decides text text).1 refl
 
-and-both : (a b : Bool) → a ≡ true → b ≡ true → (a && b) ≡ true
+pub and-both : (a b : Bool) → a ≡ true → b ≡ true → (a && b) ≡ true
 and-both a b e f = rw (e, f) refl
 
-pair-itself : (p : Pair) → is_same_pair p p ≡ true
+pub pair-itself : (p : Pair) → is_same_pair p p ≡ true
 pair-itself p = and-both (bytes_eq p.0 p.0) (bytes_eq p.1 p.1) (text-itself p.0) (text-itself p.1)
 
 left-covered : (left : Left) (version : Option (List ℕ)) → is_covered_by left version left ≡ true
@@ -241,7 +241,7 @@ added-after edit lines d good sound e = elim (cases_Bool (is_there (about edit) 
 
 -- ---- the laws
 
-sound-of : (edit : Edit) (lines : List (Line Placed)) → IsEditOf edit lines → IsSoundEdit edit × SoundFrom [] None lines
+pub sound-of : (edit : Edit) (lines : List (Line Placed)) → IsEditOf edit lines → IsSoundEdit edit × SoundFrom [] None lines
 sound-of edit lines is = (written-sound is.0.0 edit is.0.1, sound-file lines is.2 is.3)
 
 pub dropped-is-gone : DroppedIsGone

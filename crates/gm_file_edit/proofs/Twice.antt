@@ -197,7 +197,7 @@ blank-and-entry : (test : Directive → Bool) (new : Rewriting) (block : Option 
 unfolding item_at
 blank-and-entry test new block line same = only-set test new block line same
 
-last-outside : (lines : List (Line Placed)) → SoundFrom [] None lines → block_after_lines None lines ≡ None
+pub last-outside : (lines : List (Line Placed)) → SoundFrom [] None lines → block_after_lines None lines ≡ None
 last-outside lines sound = (back-sound [] None lines [] (subst (SoundFrom [] None) (sym (append-nil lines)) sound)).0
 
 at-end-set : (test : Directive → Bool) (new : Rewriting) (text : List ℕ) (arguments : List Placed) (lines : List (Line Placed)) → EntryIsSet new text arguments → SoundFrom [] None lines → is_there test lines ≡ false

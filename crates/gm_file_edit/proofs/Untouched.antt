@@ -25,12 +25,12 @@ none-dropped-from test block (line ∷ lines) e =
     rw parts.0 (ap (λ (fs : List Fate). Some line ∷ fs) (none-dropped-from test (block_after_line block line) lines parts.1))
 
 -- no line of the open block is removed
-abbrev LosesNone : Option Begun → Type 0
+abbrev pub LosesNone : Option Begun → Type 0
 LosesNone None = ⊤
 LosesNone (Some b) = list_any is_none b.inner ≡ false
 
 -- the lines of the open block so far
-abbrev begun_lines : Option Begun → List (Line Placed)
+abbrev pub begun_lines : Option Begun → List (Line Placed)
 begun_lines None = []
 begun_lines (Some b) = opened_lines b
 
@@ -40,28 +40,38 @@ or-false a e = rw e refl
 loses-no-more : (b : Begun) (line : Line Placed) → list_any is_none b.inner ≡ false → list_any is_none (b.inner ++ Some line ∷ []) ≡ false
 loses-no-more b line e = list_any-append is_none b.inner (Some line ∷ []) ∙ or-false (list_any is_none b.inner) e
 
-one-more : (b : Begun) (line : Line Placed) (lines : List (Line Placed)) → opened_lines (with_line b (Some line)) ++ lines ≡ opened_lines b ++ line ∷ lines
+pub one-more : (b : Begun) (line : Line Placed) (lines : List (Line Placed)) → opened_lines (with_line b (Some line)) ++ lines ≡ opened_lines b ++ line ∷ lines
 one-more b line lines =
     ap (λ (ls : List (Line Placed)). Open b.verb b.suffix ∷ (ls ++ lines)) (filter_map-append itself b.inner (Some line ∷ []))
     ∙ ap (λ (ls : List (Line Placed)). Open b.verb b.suffix ∷ ls) (append_assoc (kept b.inner) (line ∷ []) lines)
 
-stay-from : (begun : Option Begun) (lines : List (Line Placed)) → LosesNone begun → remaining_from false begun (all_stay lines) ≡ begun_lines begun ++ lines
+-- these fates leave these lines, after any lines of which none is removed
+abbrev pub Leave : List Fate → List (Line Placed) → Type 0
+Leave fates rest = (begun : Option Begun) → LosesNone begun → remaining_from false begun fates ≡ begun_lines begun ++ rest
+
+pub stay-before : (fates : List Fate) (rest : List (Line Placed)) → Leave fates rest → (begun : Option Begun) (lines : List (Line Placed)) → LosesNone begun
+    → remaining_from false begun (all_stay lines ++ fates) ≡ begun_lines begun ++ (lines ++ rest)
 unfolding remaining_from
-stay-from None [] h = refl
-stay-from (Some b) [] h = sym (append-nil (opened_lines b))
-stay-from None (Blank ∷ lines) h = ap (λ (ls : List (Line Placed)). Blank ∷ ls) (stay-from None lines tt)
-stay-from None (Comment text ∷ lines) h = ap (λ (ls : List (Line Placed)). Comment text ∷ ls) (stay-from None lines tt)
-stay-from None (Open verb suffix ∷ lines) h = stay-from (Some (begin verb suffix)) lines refl
-stay-from None (Close suffix ∷ lines) h = ap (λ (ls : List (Line Placed)). Close suffix ∷ ls) (stay-from None lines tt)
-stay-from None (Entry words suffix ∷ lines) h = ap (λ (ls : List (Line Placed)). Entry words suffix ∷ ls) (stay-from None lines tt)
-stay-from (Some b) (Close suffix ∷ lines) h = rw h (ap (λ (ls : List (Line Placed)). Open b.verb b.suffix ∷ (kept b.inner ++ Close suffix ∷ ls)) (stay-from None lines tt))
-stay-from (Some b) (Blank ∷ lines) h = stay-from (Some (with_line b (Some Blank))) lines (loses-no-more b Blank h) ∙ one-more b Blank lines
-stay-from (Some b) (Comment text ∷ lines) h = stay-from (Some (with_line b (Some (Comment text)))) lines (loses-no-more b (Comment text) h) ∙ one-more b (Comment text) lines
-stay-from (Some b) (Open verb suffix ∷ lines) h = stay-from (Some (with_line b (Some (Open verb suffix)))) lines (loses-no-more b (Open verb suffix) h) ∙ one-more b (Open verb suffix) lines
-stay-from (Some b) (Entry words suffix ∷ lines) h = stay-from (Some (with_line b (Some (Entry words suffix)))) lines (loses-no-more b (Entry words suffix) h) ∙ one-more b (Entry words suffix) lines
+stay-before fates rest ends begun [] h = ends begun h
+stay-before fates rest ends None (Blank ∷ lines) h = ap (λ (ls : List (Line Placed)). Blank ∷ ls) (stay-before fates rest ends None lines tt)
+stay-before fates rest ends None (Comment text ∷ lines) h = ap (λ (ls : List (Line Placed)). Comment text ∷ ls) (stay-before fates rest ends None lines tt)
+stay-before fates rest ends None (Open verb suffix ∷ lines) h = stay-before fates rest ends (Some (begin verb suffix)) lines refl
+stay-before fates rest ends None (Close suffix ∷ lines) h = ap (λ (ls : List (Line Placed)). Close suffix ∷ ls) (stay-before fates rest ends None lines tt)
+stay-before fates rest ends None (Entry words suffix ∷ lines) h = ap (λ (ls : List (Line Placed)). Entry words suffix ∷ ls) (stay-before fates rest ends None lines tt)
+stay-before fates rest ends (Some b) (Close suffix ∷ lines) h =
+    rw h (ap (λ (ls : List (Line Placed)). Open b.verb b.suffix ∷ (kept b.inner ++ Close suffix ∷ ls)) (stay-before fates rest ends None lines tt))
+stay-before fates rest ends (Some b) (Blank ∷ lines) h = stay-before fates rest ends (Some (with_line b (Some Blank))) lines (loses-no-more b Blank h) ∙ one-more b Blank (lines ++ rest)
+stay-before fates rest ends (Some b) (Comment text ∷ lines) h = stay-before fates rest ends (Some (with_line b (Some (Comment text)))) lines (loses-no-more b (Comment text) h) ∙ one-more b (Comment text) (lines ++ rest)
+stay-before fates rest ends (Some b) (Open verb suffix ∷ lines) h = stay-before fates rest ends (Some (with_line b (Some (Open verb suffix)))) lines (loses-no-more b (Open verb suffix) h) ∙ one-more b (Open verb suffix) (lines ++ rest)
+stay-before fates rest ends (Some b) (Entry words suffix ∷ lines) h = stay-before fates rest ends (Some (with_line b (Some (Entry words suffix)))) lines (loses-no-more b (Entry words suffix) h) ∙ one-more b (Entry words suffix) (lines ++ rest)
+
+nothing-left : Leave [] []
+unfolding remaining_from
+nothing-left None h = refl
+nothing-left (Some b) h = sym (append-nil (opened_lines b))
 
 pub all-lines-stay : (lines : List (Line Placed)) → remaining_from false None (all_stay lines) ≡ lines
-all-lines-stay lines = stay-from None lines tt
+all-lines-stay lines = ap (remaining_from false None) (sym (append-nil (all_stay lines))) ∙ stay-before [] [] nothing-left None lines tt ∙ append-nil lines
 
 pub none-dropped : (test : Directive → Bool) (lines : List (Line Placed)) → is_there test lines ≡ false → dropped test lines ≡ lines
 none-dropped test lines e = ap (remaining_from false None) (none-dropped-from test None lines e) ∙ all-lines-stay lines

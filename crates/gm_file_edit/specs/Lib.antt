@@ -19,4 +19,6 @@ pub mod Laws
 pub mod EditLaws
 pub mod GoPlace
 pub mod Twice
+pub mod Undone
+pub mod EitherOrder
 pub mod Keys

@@ -12,9 +12,11 @@ ghost use Rattle.gm_file_edit.specs.Edited.{edited};
 ghost use Rattle.gm_file_edit.specs.Kinds.{is_fit};
 ghost use Rattle.gm_file_edit.specs.EditLaws.{AdditionFollowsItsVerb, AdditionOfANewVerbIsLast, CommentLinesStay, DocumentsHaveWholeSections, IdleAdditionChangesNothing, IdleDropChangesNothing, SecondAdditionChangesNothing, SecondDropChangesNothing, SectionsHaveTheLines};
 ghost use Rattle.gm_file_edit.specs.Edits.{Edit, edit_in};
+ghost use Rattle.gm_file_edit.specs.EitherOrder.{EitherOrderLeavesTheSame};
 ghost use Rattle.gm_file_edit.specs.GoPlace.{GoFollowsModule, GoFollowsModuleBlock};
 ghost use Rattle.gm_file_edit.specs.Laws.{AddedIsThere, DroppedIsGone, OthersStay, SetStandsAlone};
 ghost use Rattle.gm_file_edit.specs.Twice.{SecondOperationChangesNothing, SecondSettingChangesNothing};
+ghost use Rattle.gm_file_edit.specs.Undone.{DropUndoes, DropUndoesForLayout};
 
 /// A valid file stays valid. If the lines are a document that strict reading accepts without a fault, so are the
 /// lines after the operation. The operation must be one that some text spells, and the versions that it puts in must
@@ -86,6 +88,25 @@ pub fn second_settings_change_nothing()
 /// So every operation gives the same lines if it is applied twice.
 pub fn second_operations_change_nothing()
     ensures { SecondOperationChangesNothing }
+{}
+
+/// A drop undoes what an operation put in. If no directive requires P, `require=P@V` and then `droprequire=P` give the
+/// lines as they were; if the file had no requirement at all, a blank line stays at the end. The same holds for
+/// `exclude` and `retract`, and for `replace` if it takes the place of no other.
+pub fn drops_undo_what_was_put_in()
+    ensures { DropUndoes }
+{}
+
+/// So an operation that put a directive in and the drop of it leave what formatting leaves.
+pub fn undone_operations_only_format()
+    ensures { DropUndoesForLayout }
+{}
+
+/// Two operations leave the same directives in either order, each as often, if they target no directive in common.
+/// `require=P@V` and `exclude=Q@W` are such operations, whatever P and Q are. The directives of one verb may stand in
+/// another order.
+pub fn either_order_leaves_the_same()
+    ensures { EitherOrderLeavesTheSame }
 {}
 
 /// The comment lines of a file are the same before and after any operation, and in the same order.

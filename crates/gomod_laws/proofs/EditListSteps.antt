@@ -53,13 +53,18 @@ edited_by texts file text (inr (lines, (parsed, faultless), says)) = by_refusals
 pub edited_from : (operations : Vec (String Global)) (file text : List ℕ) → IsEdited operations file text → IsEditedFrom (texts_in operations) file text
 edited_from operations file text has = edited_by (texts_in operations) file text (edit_states operations file (printed text) has)
 
--- what the text of sound lines says as a main file
-pub text_main : (lines : List (Line Placed)) (text : List ℕ) → AreSoundLines lines → text ≡ layout (plain_lines lines) → length text ≤ longest → IsMainFile text (main_said (directives_of lines))
-text_main lines text sound is short =
+-- the text of sound lines reads as lines that hold the same directives
+pub text_lines : (lines : List (Line Placed)) (text : List ℕ) → AreSoundLines lines → text ≡ layout (plain_lines lines) → length text ≤ longest
+    → (doc : List (Line Placed)) × IsMainOf text doc × (directives_of doc ≡ directives_of lines)
+text_lines lines text sound is short =
     let low : length (layout (plain_lines lines)) ≤ longest = subst (λ (t : List ℕ). length t ≤ longest) is short in
     let read = layout_read (plain_lines lines) sound.document (lines_good lines sound.utf8) low in
     let parsed : IsParsedAs text (Ok read.doc) = subst (λ (t : List ℕ). IsParsedAs t (Ok read.doc)) (sym is) read.parsed in
-    (read.doc, (parsed, no_fault_again (plain_lines lines) (plain_lines read.doc) read.same_filled sound.faultless), ap main_said (same_said (plain_lines lines) (plain_lines read.doc) read.same_filled))
+    (read.doc, (parsed, no_fault_again (plain_lines lines) (plain_lines read.doc) read.same_filled sound.faultless), same_said (plain_lines lines) (plain_lines read.doc) read.same_filled)
+
+-- what the text of sound lines says as a main file
+pub text_main : (lines : List (Line Placed)) (text : List ℕ) → AreSoundLines lines → text ≡ layout (plain_lines lines) → length text ≤ longest → IsMainFile text (main_said (directives_of lines))
+text_main lines text sound is short = let (doc, main, same) = text_lines lines text sound is short in (doc, main, ap main_said same)
 
 -- ---- one operation
 

@@ -58,7 +58,7 @@ turns_same number (first ∷ earlier) text later lines utf8 none sound =
 
 -- ---- the refusals
 
-refusals_append : (number : ℕ) (xs ys : List (List ℕ)) → refusals_from number (xs ++ ys) ≡ refusals_from number xs ++ refusals_from (number + length xs) ys
+pub refusals_append : (number : ℕ) (xs ys : List (List ℕ)) → refusals_from number (xs ++ ys) ≡ refusals_from number xs ++ refusals_from (number + length xs) ys
 refusals_append number [] ys = let same : number ≡ number + 0 = omega arith in ap (λ (n : ℕ). refusals_from n ys) same
 refusals_append number (x ∷ xs) ys =
     let first : List Refusal = option_to_list (option_map (numbered number) (refusal_of (edit_in x))) in
@@ -92,7 +92,7 @@ numbers_rise number [] refusal others is = absurd cc
 numbers_rise number (text ∷ texts) refusal others is =
     first_number number (refusal_of (edit_in text)) (refusals_from (number + 1) texts) refusal others is (λ rest. numbers_rise (number + 1) texts refusal others rest)
 
-nil_parts : (xs ys : List Refusal) → xs ++ ys ≡ [] → (xs ≡ []) × (ys ≡ [])
+pub nil_parts : (xs ys : List Refusal) → xs ++ ys ≡ [] → (xs ≡ []) × (ys ≡ [])
 nil_parts [] ys e = (refl, e)
 nil_parts (x ∷ xs) ys e = absurd cc
 

@@ -25,12 +25,12 @@ use Rattle.gm_name.proofs.NameTests.{and_both, path-tested, version-tested}
 use Rattle.gm_file.specs.Directives.{Directive, Pair, Left, Right, Folder, Module, Replacing, block_after_line, pair, replacing}
 use Rattle.gm_file.specs.Faults.{is_go, is_module}
 use Rattle.gm_file.specs.Values.{is_folder_path}
-use Rattle.gm_file_edit.specs.About.{about, excludes_pair, is_replaced_by, replaces_left, requires_path, retracts_ends}
+use Rattle.gm_file_edit.specs.About.{about, is_replaced_by, requires_path}
 use Rattle.gm_file_edit.specs.Adding.{added, added_at, after_first_that, insert_at_spot, past_block, spot_after_first, spot_after_last, spot_after_line}
 use Rattle.gm_file_edit.specs.Verbs.{is_exclude, is_replace, is_require, is_retract}
 use Rattle.gm_file_edit.specs.Pass.{changed, edited_by_pass, put_in}
 use Rattle.gm_file_edit.specs.Edited.{edited}
-use Rattle.gm_file_edit.specs.Edits.{Edit, Set, ModuleIs, GoIs, RequireAt, Drop, AnyRequire, Add, Exclude, AnyExclude, ReplaceWith, AnyReplace, Retract, AnyRetract, edit_in, go_text_in, has_byte, interval_in, left_in, module_of_pair, named, named_in, pair_in, path_in, replacing_in, right_in, sides_in, split_at_byte}
+use Rattle.gm_file_edit.specs.Edits.{Edit, Set, ModuleIs, GoIs, RequireAt, Drop, Add, Exclude, ReplaceWith, Retract, edit_in, go_text_in, has_byte, left_in, module_of_pair, named, named_in, pair_in, replacing_in, right_in, sides_in, split_at_byte}
 use Rattle.gm_file_edit.specs.Fates.{Begun, Fate, begin, dropped, dropping_from, is_emptied, kept, remaining_from, renewed, renewing_from, with_line}
 use Rattle.gm_file_edit.specs.Holding.{directive_at, passes}
 use Rattle.gm_file_edit.specs.NewWords.{entry_at, interval_words, left_words, made_mark, made_word, pair_words, replace_words, right_words, single}

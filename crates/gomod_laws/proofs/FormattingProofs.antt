@@ -86,7 +86,7 @@ formatting_changes_no_build command file text main sums asked answered before af
     same_outcome command file text sums asked answered before after query (queries_move file text sums main main is also (says_itself main)) alike one two
 
 -- the only outcome of `fmt` is the layout of the lines
-fmt_is : (file : List ℕ) (lines : List (Line Placed)) (outcome : Outcome) → IsParsedAs file (Ok lines) → HasOutcome Fmt file None [] outcome → printed (layout (plain_lines lines)) ≡ outcome
+pub fmt_is : (file : List ℕ) (lines : List (Line Placed)) (outcome : Outcome) → IsParsedAs file (Ok lines) → HasOutcome Fmt file None [] outcome → printed (layout (plain_lines lines)) ≡ outcome
 fmt_is file lines outcome parsed has = one_outcome Fmt file None (λ name. None) (printed (layout (plain_lines lines))) outcome (inl (lines, parsed, refl)) (fmt_states file outcome has)
 
 pub layouts_are_formatted : LayoutsAreFormatted

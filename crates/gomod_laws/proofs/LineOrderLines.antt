@@ -1,5 +1,5 @@
 -- Valid main files that hold the same directives say the same.
-use Rattle.std.proofs.Common.{◌≡◌, ◌∙◌, ◌⊎◌, ◌++◌, ◌&&◌, ℕ, Bool, true, false, cond, not, List, [], ◌∷◌, filter, Option, Some, None, Contains, sym, ap, ap₂, refl, subst, inl, inr, append-nil}
+use Rattle.std.proofs.Common.{◌≡◌, ◌∙◌, ◌⊎◌, ◌++◌, ℕ, Bool, true, false, cond, not, List, [], ◌∷◌, filter, Option, Some, None, Contains, sym, ap, ap₂, refl, subst, inl, inr, append-nil}
 use Rattle.std.specs.Prelude.{◌||◌, find, option_and_then, unwrap_or}
 use Rattle.std.specs.Cmp.Lexicographic.{nat_list_eq_equiv, same_text}
 use Rattle.std.specs.List.{cons_option, filter_map, list_any}

@@ -63,7 +63,7 @@ fmt_once file one other (inr a) (inr b) =
 -- ---- edit
 
 -- the result of operations doesn't depend on where the tokens were
-in_turn_same : (edits : List Change) (one other : List (Line Placed)) → plain_lines one ≡ plain_lines other → plain_lines (edited_in_turn edits one) ≡ plain_lines (edited_in_turn edits other)
+pub in_turn_same : (edits : List Change) (one other : List (Line Placed)) → plain_lines one ≡ plain_lines other → plain_lines (edited_in_turn edits one) ≡ plain_lines (edited_in_turn edits other)
 in_turn_same [] one other same = same
 in_turn_same (edit ∷ edits) one other same = in_turn_same edits (edited edit one) (edited edit other) (edited-same edit one other same)
 

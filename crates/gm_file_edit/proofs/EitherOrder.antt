@@ -1,0 +1,158 @@
+-- Two operations with no common target leave the same directives in either order.
+use Rattle.std.proofs.Common.{◌≡◌, ◌&&◌, if◌then◌else◌, not, Bool, true, false, List, [], ◌∷◌, ◌++◌, ◌⊎◌, refl, sym, ap, subst, ◌∙◌, inl, inr}
+use Rattle.std.specs.Prelude.{filter}
+use Rattle.std.specs.List.{list_any}
+use Rattle.std.specs.List.Sorted.{IsPermutation}
+use Rattle.std.proofs.lemmas.Bool.{cases_Bool, true≢false}
+use Rattle.std.proofs.lemmas.List.Sorted.{IsPermutation-append_right, IsPermutation-filter_both, IsPermutation-sym, IsPermutation-trans}
+use Rattle.gm_syntax.specs.Tokens.{Placed}
+use Rattle.gm_syntax.specs.Document.{Line}
+use Rattle.gm_file.specs.Directives.{Directive}
+use Rattle.gm_file_edit.specs.About.{about}
+use Rattle.gm_file_edit.specs.Edited.{edited}
+use Rattle.gm_file_edit.specs.Edits.{Edit, Set, Add, Drop}
+use Rattle.gm_file_edit.specs.EitherOrder.{AreApart, EitherOrderLeavesTheSame}
+use Rattle.gm_file_edit.specs.Kinds.{directive_added, directive_set}
+use Rattle.gm_file_edit.specs.Laws.{IsEditOf, directives_of}
+use Rattle.gm_file_edit.proofs.EditedSound.{edited-document}
+use Rattle.gm_file_edit.proofs.Said.{no-filter, others}
+use Rattle.gm_file_edit.proofs.SaidAfter.{added-is-there, dropped-is-gone, others-stay, set-stands-alone}
+use Rattle.gm_file_edit.proofs.Written.{written-sound}
+
+-- ---- filters of directives
+
+filter-hit : (test : Directive → Bool) (d : Directive) (ds : List Directive) → test d ≡ true → filter test (d ∷ ds) ≡ d ∷ filter test ds
+filter-hit test d ds e = rw e refl
+
+filter-miss : (test : Directive → Bool) (d : Directive) (ds : List Directive) → test d ≡ false → filter test (d ∷ ds) ≡ filter test ds
+filter-miss test d ds e = rw e refl
+
+not-is : (b c : Bool) → b ≡ c → not b ≡ not c
+not-is b c e = ap not e
+
+first-false : (a b : Bool) → (a && b) ≡ false → b ≡ true → a ≡ false
+first-false true b e f = absurd (true≢false (sym f ∙ e))
+first-false false b e f = refl
+
+-- what passes a test is not lost among the others of a test that excludes it
+among-others : (test other : Directive → Bool) → ((d : Directive) → (test d && other d) ≡ false) → (ds : List Directive) → filter test (filter (others other) ds) ≡ filter test ds
+among-others test other apart [] = refl
+among-others test other apart (d ∷ ds) = elim (cases_Bool (other d)) [
+  | inl hit ↦
+      let miss : test d ≡ false = first-false (test d) (other d) (apart d) hit in
+      ap (filter test) (filter-miss (others other) d ds (ap not hit)) ∙ among-others test other apart ds ∙ sym (filter-miss test d ds miss)
+  | inr miss ↦ ap (filter test) (filter-hit (others other) d ds (ap not miss)) ∙ head (among-others test other apart ds) (cases_Bool (test d))
+]
+  where
+    head : filter test (filter (others other) ds) ≡ filter test ds → (test d ≡ true) ⊎ (test d ≡ false) → filter test (d ∷ filter (others other) ds) ≡ filter test (d ∷ ds)
+    head same (inl holds) = filter-hit test d (filter (others other) ds) holds ∙ ap (λ (es : List Directive). d ∷ es) same ∙ sym (filter-hit test d ds holds)
+    head same (inr fails) = filter-miss test d (filter (others other) ds) fails ∙ same ∙ sym (filter-miss test d ds fails)
+
+-- two filters in either order
+filters-swap : (p q : Directive → Bool) (ds : List Directive) → filter p (filter q ds) ≡ filter q (filter p ds)
+filters-swap p q [] = refl
+filters-swap p q (d ∷ ds) = by-cases (p d) (q d) refl refl (filters-swap p q ds)
+  where
+    by-cases : (a b : Bool) → p d ≡ a → q d ≡ b → filter p (filter q ds) ≡ filter q (filter p ds) → filter p (filter q (d ∷ ds)) ≡ filter q (filter p (d ∷ ds))
+    by-cases true true e f same =
+        ap (filter p) (filter-hit q d ds f) ∙ filter-hit p d (filter q ds) e ∙ ap (λ (es : List Directive). d ∷ es) same ∙ sym (ap (filter q) (filter-hit p d ds e) ∙ filter-hit q d (filter p ds) f)
+    by-cases true false e f same = ap (filter p) (filter-miss q d ds f) ∙ same ∙ sym (ap (filter q) (filter-hit p d ds e) ∙ filter-miss q d (filter p ds) f)
+    by-cases false true e f same = ap (filter p) (filter-hit q d ds f) ∙ filter-miss p d (filter q ds) e ∙ same ∙ sym (ap (filter q) (filter-miss p d ds e))
+    by-cases false false e f same = ap (filter p) (filter-miss q d ds f) ∙ same ∙ sym (ap (filter q) (filter-miss p d ds e))
+
+abbrev is_filled : List Directive → Bool
+is_filled [] = false
+is_filled (d ∷ ds) = true
+
+any-filled : (test : Directive → Bool) (ds : List Directive) → list_any test ds ≡ is_filled (filter test ds)
+any-filled test [] = refl
+any-filled test (d ∷ ds) = elim (cases_Bool (test d)) [
+  | inl hit ↦ rw hit refl
+  | inr miss ↦ rw miss (any-filled test ds)
+]
+
+-- ---- one operation on two files
+
+abbrev as_before : Directive → Bool → List Directive → List Directive
+as_before d there said = if there then said else d ∷ []
+
+-- files that say the same of what an operation targets do so after it
+targeted-same : (edit : Edit) (xs ys : List (Line Placed)) → IsEditOf edit xs → IsEditOf edit ys → filter (about edit) (directives_of xs) ≡ filter (about edit) (directives_of ys)
+    → filter (about edit) (directives_of (edited edit xs)) ≡ filter (about edit) (directives_of (edited edit ys))
+targeted-same (Set s) xs ys one two same = set-stands-alone (Set s) xs (directive_set s) one refl ∙ sym (set-stands-alone (Set s) ys (directive_set s) two refl)
+targeted-same (Add a) xs ys one two same =
+    let test : Directive → Bool = about (Add a) in
+    let there : list_any test (directives_of xs) ≡ list_any test (directives_of ys) = any-filled test (directives_of xs) ∙ ap is_filled same ∙ sym (any-filled test (directives_of ys)) in
+    added-is-there (Add a) xs (directive_added a) one refl ∙ ap (λ (b : Bool). as_before (directive_added a) b (filter test (directives_of xs))) there
+    ∙ ap (as_before (directive_added a) (list_any test (directives_of ys))) same ∙ sym (added-is-there (Add a) ys (directive_added a) two refl)
+targeted-same (Drop t) xs ys one two same =
+    let test : Directive → Bool = about (Drop t) in
+    no-filter test (directives_of (edited (Drop t) xs)) (dropped-is-gone (Drop t) xs refl) ∙ sym (no-filter test (directives_of (edited (Drop t) ys)) (dropped-is-gone (Drop t) ys refl))
+
+-- an operation on what another left
+edit-after : (edit other : Edit) (lines : List (Line Placed)) → IsEditOf edit lines → IsEditOf other lines → IsEditOf edit (edited other lines)
+edit-after edit other lines is also =
+    let after = edited-document other lines (written-sound also.0.0 other also.0.1) also.1 also.2 also.3 in
+    (is.0, is.1, after.0, after.1)
+
+-- ---- both orders
+
+-- another operation leaves what an operation targets
+kept-by : (edit other : Edit) (lines : List (Line Placed)) → IsEditOf other lines → AreApart edit other → filter (about edit) (directives_of (edited other lines)) ≡ filter (about edit) (directives_of lines)
+kept-by edit other lines is apart =
+    sym (among-others (about edit) (about other) apart (directives_of (edited other lines))) ∙ ap (filter (about edit)) (others-stay other lines is) ∙ among-others (about edit) (about other) apart (directives_of lines)
+
+-- so what an operation targets is the same in both orders
+first-same : (one other : Edit) (lines : List (Line Placed)) → IsEditOf one lines → IsEditOf other lines → AreApart one other
+    → filter (about one) (directives_of (edited other (edited one lines))) ≡ filter (about one) (directives_of (edited one (edited other lines)))
+first-same one other lines is also apart =
+    kept-by one other (edited one lines) (edit-after other one lines also is) apart
+    ∙ targeted-same one lines (edited other lines) is (edit-after one other lines is also) (sym (kept-by one other lines also apart))
+
+-- and what neither targets
+abbrev neither : Edit → Edit → List Directive → List Directive
+neither one other ds = filter (others (about other)) (filter (others (about one)) ds)
+
+neither-after : (one other : Edit) (lines : List (Line Placed)) → IsEditOf one lines → IsEditOf other lines → neither one other (directives_of (edited other (edited one lines))) ≡ neither one other (directives_of lines)
+neither-after one other lines is also =
+    filters-swap (others (about other)) (others (about one)) (directives_of (edited other (edited one lines)))
+    ∙ ap (filter (others (about one))) (others-stay other (edited one lines) (edit-after other one lines also is))
+    ∙ filters-swap (others (about one)) (others (about other)) (directives_of (edited one lines)) ∙ ap (filter (others (about other))) (others-stay one lines is)
+
+neither-swap : (one other : Edit) (ds : List Directive) → neither one other ds ≡ neither other one ds
+neither-swap one other ds = filters-swap (others (about other)) (others (about one)) ds
+
+-- the directives in three parts
+abbrev parts_of : Edit → Edit → List Directive → List Directive
+parts_of one other ds = filter (about one) ds ++ (filter (about other) ds ++ neither one other ds)
+
+apart-swap : (one other : Edit) → AreApart one other → AreApart other one
+apart-swap one other apart d = swap (about one d) (about other d) (apart d)
+  where
+    swap : (a b : Bool) → (a && b) ≡ false → (b && a) ≡ false
+    swap true true e = e
+    swap true false e = refl
+    swap false true e = refl
+    swap false false e = refl
+
+in-parts : (one other : Edit) (ds : List Directive) → AreApart one other → IsPermutation ds (parts_of one other ds)
+in-parts one other ds apart =
+    let p : Directive → Bool = about one in
+    let q : Directive → Bool = about other in
+    let rest : List Directive = filter (others p) ds in
+    let inner : IsPermutation rest (filter q ds ++ neither one other ds) =
+    subst (λ (es : List Directive). IsPermutation rest (es ++ neither one other ds)) (among-others q p (apart-swap one other apart) ds) (IsPermutation-filter_both q (others q) (λ d. refl) rest) in
+    IsPermutation-trans ds (filter p ds ++ rest) (parts_of one other ds) (IsPermutation-filter_both p (others p) (λ d. refl) ds) (IsPermutation-append_right (filter p ds) rest (filter q ds ++ neither one other ds) inner)
+
+pub either-order : EitherOrderLeavesTheSame
+either-order one other lines is also apart =
+    let xs : List Directive = directives_of (edited other (edited one lines)) in
+    let ys : List Directive = directives_of (edited one (edited other lines)) in
+    let here : filter (about one) xs ≡ filter (about one) ys = first-same one other lines is also apart in
+    let there : filter (about other) xs ≡ filter (about other) ys = sym (first-same other one lines also is (apart-swap one other apart)) in
+    let rest : neither one other xs ≡ neither one other ys =
+    neither-after one other lines is also ∙ neither-swap one other (directives_of lines) ∙ sym (neither-after other one lines also is) ∙ sym (neither-swap one other ys) in
+    let same : parts_of one other xs ≡ parts_of one other ys =
+    ap (λ (ds : List Directive). ds ++ (filter (about other) xs ++ neither one other xs)) here ∙ ap (λ (ds : List Directive). filter (about one) ys ++ (ds ++ neither one other xs)) there
+    ∙ ap (λ (ds : List Directive). filter (about one) ys ++ (filter (about other) ys ++ ds)) rest in
+    IsPermutation-trans xs (parts_of one other ys) ys (subst (IsPermutation xs) same (in-parts one other xs apart)) (IsPermutation-sym ys (parts_of one other ys) (in-parts one other ys apart))
