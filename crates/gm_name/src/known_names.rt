@@ -1,10 +1,10 @@
 //! Names that were read before, kept so that a duplicate is neither tested nor stored again.
 
-ghost use Rattle.std.specs.Prelude.{◌≡◌, ◌≤◌, ◌↔◌, IfOk, IfSome, IsErrOf, IsTrue, Ok};
+ghost use Rattle.std.specs.Prelude.{◌≡◌, ◌≤◌, ◌↔◌, IfOk, IfSome, IsErrOf, IsTrue, Ok, OnOk, Some};
 ghost use Rattle.number_map.specs.NumberMap.{count_of};
 ghost use Rattle.gm_name.specs.Fingerprint.{fingerprint};
 ghost use Rattle.gm_name.specs.Fit.{Fits};
-ghost use Rattle.gm_name.specs.Kept.{IsWithinRoom, none_kept};
+ghost use Rattle.gm_name.specs.Kept.{IsWithinRoom, KeepsAll, none_kept};
 ghost use Rattle.gm_name.specs.Path.{IsPath};
 ghost use Rattle.gm_name.specs.Readings.{PairReading, PathReading, VersionReading};
 ghost use Rattle.gm_name.specs.Version.{IsNotCanonical, IsSemVer, IsVersion};
@@ -73,8 +73,8 @@ impl From<VersionFault> for PairFault {
 ///
 /// Reading through a `KnownNames` gives the same results as `ModPath::parse` and `ModVersion::parse`. One name
 /// is kept under each fingerprint, so a lookup takes a few comparisons of numbers, at most log n among n names,
-/// and one of texts, whatever the names are. Contracts see how many names of each kind are kept, which is never
-/// more than there is room for. Where there is no room, no text is hashed to be looked up. All memory comes from
+/// and one of texts, whatever the names are. Contracts see which path is expected, and how many names of each
+/// kind are kept: no fewer than before, and never more than there is room for. Where there is no room, no text is hashed to be looked up. All memory comes from
 /// the allocator that it was made with.
 #[derive(Drop)]
 pub struct KnownNames {
@@ -104,6 +104,7 @@ impl Model for KnownNames {
       paths = count_of a.paths;
       versions = count_of a.versions;
       pairs = count_of a.pairs;
+      expected = a.expected;
     } };
 
     ghost invariant = { λ a. (count_of a.paths ≤ a.room) × (count_of a.versions ≤ a.room)
@@ -117,7 +118,8 @@ fn keep<T: Drop>(
     number: u64,
     name: T,
 ) -> Result<(), AllocError>
-    ensures { count_of names.old ≤ room → count_of names.new ≤ room }
+    ensures within { count_of names.old ≤ room → count_of names.new ≤ room }
+    ensures kept { count_of names.old ≤ count_of names.new }
 {
     if names.count() < room {
         names.insert(number, name)?;
@@ -168,7 +170,8 @@ impl KnownNames {
     /// and neither looked up nor tested. It takes the place of the one that was expected before. Allocates no memory; it
     /// fails only if the path already has as many copies as a `usize` can count.
     pub fn expect(&mut self, path: &ModPath) -> Result<(), AllocError>
-        ensures room { self.new.room ≡ self.old.room }
+        ensures expected { OnOk result (self.new.expected ≡ Some path.now) }
+        ensures kept { KeepsAll self.old self.new }
         ensures within { IsWithinRoom self.new }
     {
         self.expected = Some(path.copy(self.alloc)?);
@@ -242,7 +245,7 @@ impl KnownNames {
 
     /// Keeps a path under a number, so that later reads of its text find it.
     fn keep_path(&mut self, number: u64, path: &ModPath) -> Result<(), AllocError>
-        ensures room { self.new.room ≡ self.old.room }
+        ensures kept { KeepsAll self.old self.new }
         ensures within { IsWithinRoom self.new }
     {
         keep(&mut self.paths, self.room, number, path.copy(self.alloc)?)
@@ -250,7 +253,7 @@ impl KnownNames {
 
     /// Keeps a version under a number, so that later reads of its text find it.
     fn keep_version(&mut self, number: u64, version: &ModVersion) -> Result<(), AllocError>
-        ensures room { self.new.room ≡ self.old.room }
+        ensures kept { KeepsAll self.old self.new }
         ensures within { IsWithinRoom self.new }
     {
         keep(
@@ -263,7 +266,7 @@ impl KnownNames {
 
     /// Keeps a pair under a number, so that later reads of its texts find it.
     fn keep_pair(&mut self, number: u64, pair: &ModVer) -> Result<(), AllocError>
-        ensures room { self.new.room ≡ self.old.room }
+        ensures kept { KeepsAll self.old self.new }
         ensures within { IsWithinRoom self.new }
     {
         keep(&mut self.pairs, self.room, number, pair.copy(self.alloc)?)
@@ -276,7 +279,7 @@ impl KnownNames {
     /// version, and `Misfit` if both are names but the version doesn't fit the path. If the first text is a
     /// path, `NoMemory` may come in place of any other result.
     pub fn pair(&mut self, path: &str, version: &str) -> Result<ModVer, PairFault>
-        ensures room { self.new.room ≡ self.old.room }
+        ensures kept { KeepsAll self.old self.new }
         ensures within { IsWithinRoom self.new }
         ensures pair { IfOk result (λ pair. pair ≡ (path.now, version.now)) }
         ensures fit { IfOk result (λ pair. IsPath path.now × IsVersion version.now × Fits path.now version.now) }
@@ -301,7 +304,7 @@ impl KnownNames {
         version: &str,
     ) -> Result<ModVer, PairFault>
         requires { IfSome numbers.path (λ number. number ≡ fingerprint 0 path.now) }
-        ensures room { self.new.room ≡ self.old.room }
+        ensures kept { KeepsAll self.old self.new }
         ensures within { IsWithinRoom self.new }
         ensures read { PairReading path.now version.now result }
     {
@@ -322,7 +325,7 @@ impl KnownNames {
     /// Keeps a path that was read elsewhere, so that reading its text again shares its memory and doesn't test it.
     /// Fails only when memory runs out.
     pub fn learn(&mut self, path: &ModPath) -> Result<(), AllocError>
-        ensures room { self.new.room ≡ self.old.room }
+        ensures kept { KeepsAll self.old self.new }
         ensures within { IsWithinRoom self.new }
     {
         self.keep_path(path.fingerprint(), path)
@@ -332,7 +335,7 @@ impl KnownNames {
     ///
     /// `BadPath` exactly when the text isn't a module path; `NoMemory` only if it is one.
     pub fn path(&mut self, text: &str) -> Result<ModPath, PathFault>
-        ensures room { self.new.room ≡ self.old.room }
+        ensures kept { KeepsAll self.old self.new }
         ensures within { IsWithinRoom self.new }
         ensures ok { IfOk result (λ path. (path ≡ text.now) × IsPath text.now) }
         ensures bad { IsErrOf result PathFault.BadPath ↔ ¬ (IsPath text.now) }
@@ -343,7 +346,7 @@ impl KnownNames {
 
     /// The path in a text: the expected one, or that which is known under the text's number, or a new one.
     fn read_path(&mut self, text: &str) -> Result<ModPath, PathFault>
-        ensures room { self.new.room ≡ self.old.room }
+        ensures kept { KeepsAll self.old self.new }
         ensures within { IsWithinRoom self.new }
         ensures read { PathReading text.now result }
     {
@@ -356,7 +359,7 @@ impl KnownNames {
     /// The module path in a text with this fingerprint.
     fn numbered_path(&mut self, number: Option<u64>, text: &str) -> Result<ModPath, PathFault>
         requires { IfSome number (λ number. number ≡ fingerprint 0 text.now) }
-        ensures room { self.new.room ≡ self.old.room }
+        ensures kept { KeepsAll self.old self.new }
         ensures within { IsWithinRoom self.new }
         ensures read { PathReading text.now result }
     {
@@ -375,7 +378,7 @@ impl KnownNames {
     /// `NotCanonical` and `BadVersion` come in the same cases as there. `NoMemory` comes only on `v` and a
     /// SemVer version, with any build.
     pub fn version(&mut self, text: &str) -> Result<ModVersion, VersionFault>
-        ensures room { self.new.room ≡ self.old.room }
+        ensures kept { KeepsAll self.old self.new }
         ensures within { IsWithinRoom self.new }
         ensures ok { IfOk result (λ version. (version ≡ text.now) × IsVersion text.now) }
         ensures not_canonical { IsErrOf result VersionFault.NotCanonical
@@ -392,7 +395,7 @@ impl KnownNames {
         number: Option<u64>,
         text: &str,
     ) -> Result<ModVersion, VersionFault>
-        ensures room { self.new.room ≡ self.old.room }
+        ensures kept { KeepsAll self.old self.new }
         ensures within { IsWithinRoom self.new }
         ensures read { VersionReading text.now result }
     {
