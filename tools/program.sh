@@ -195,6 +195,11 @@ class Case:
     def is_left_out(self):
         return any(it.name.startswith(b"/") or (it.kind == b"mode" and not os.geteuid()) for it in self.pieces)
 
+    def is_large(self):
+        """Whether its commands ask for memory so often that refusing each time would take hours."""
+        most = {b"repeat": 64, b"fill": 100_000}
+        return any(it.kind in most and int(it.argument) > most[it.kind] for it in self.pieces)
+
     def end(self):
         """Drops the blank line before the next title."""
         if self.pieces and self.pieces[-1].lines[-1:] == [b""]:
@@ -278,7 +283,7 @@ def main(program, *words):
     counts = {True: 0, False: 0}
     for path in files:
         for case in read_cases(path):
-            chosen = not titles or any(it in case.title for it in titles)
+            chosen = any(it in case.title for it in titles) if titles else not (REFUSE_MEMORY and case.is_large())
             if chosen and not case.is_left_out() and any(it.words[0] == b"gomod" for it in case.runs):
                 counts[passes(program, path, case)] += 1
     refused = f", {Run.refusals} runs with an allocation refused" if REFUSE_MEMORY else ""

@@ -2,7 +2,7 @@
 # Refuses each allocation of each command of the cases and of each test in turn, and lists what goes wrong then.
 #
 #   tools/refuse-memory.sh                     all cases but the large ones, and the tests of every crate that has some
-#   tools/refuse-memory.sh --cases FILE.txt..  the cases of these files
+#   tools/refuse-memory.sh --cases FILE.txt..  the cases of these files, but the large ones
 #   tools/refuse-memory.sh --cases TITLE..     the cases whose titles have one of these texts
 #   tools/refuse-memory.sh NAME..              the tests of these crates
 #   tools/refuse-memory.sh --but WORD NAME..   the same without the tests whose names have that word
@@ -26,7 +26,7 @@ work=$(mktemp -d)
 trap 'rm -rf "$work"' EXIT
 cc -O1 -shared -fPIC -o "$work/refuse_memory.so" tools/refuse_memory.c
 
-# The commands of cases, but for those whose files are made large.
+# The commands of cases. Those whose files are made large are left out, unless their titles are given.
 refuse_in_cases() {
   REFUSE_MEMORY=$work/refuse_memory.so tools/program.sh "$@"
 }
@@ -37,8 +37,7 @@ if [ "${1-}" = --cases ]; then
 fi
 cases_stand=0
 if [ $# -eq 0 ]; then
-  mapfile -t files < <(grep -Le '^-- .* \(repeat\|fill\) [0-9]* --$' crates/run_cases/data/*.txt)
-  refuse_in_cases "${files[@]}" || cases_stand=1
+  refuse_in_cases crates/run_cases/data/*.txt || cases_stand=1
 fi
 
 # The tests to leave out: `large_` for those that ask for memory more often than the guard allows.
