@@ -9,7 +9,7 @@ use super::{OUT_OF_MEMORY, assert_same, file_name, main_file};
 use gm_file::MainFile;
 use gm_file_edit::{EditFault, Op, apply};
 use gm_store::copy_name;
-use gm_syntax::{Doc, Kind, Line, Punct, Token};
+use gm_syntax::{Doc, Kind, Line, Punct, Text, Token};
 use std::alloc::{AllocError, Global};
 use std::process::Abort;
 
@@ -105,6 +105,52 @@ fn lines_go_in_and_out(rt: HostRuntime) {
     assert_same(&rt, "drops", &drops, &(true, false));
     assert_layout(&rt, "changed", &copy, "b (\n\t\"c d\"\n\t\"x y\"\n)\n");
     assert_layout(&rt, "as it was", &doc, TEXT);
+}
+
+// ---- comments
+
+/// A document with a comment on each kind of line that may have one.
+const COMMENTS: &str = "// a\n\nm // b\nr ( // c\n\tx // d\n) // e\n";
+
+/// The byte offsets at which its comments begin.
+const PLACES: &'static [u32] = &[0, 8, 17, 25, 32];
+
+/// The comment of a line, if it has one.
+fn comment_of<'l, 'a>(line: &'l Line<'a>) -> Option<&'l Text<'a>> {
+    match line {
+        Line::Blank => None,
+        Line::Comment(comment) => Some(comment),
+        Line::Open(_, comment) => comment.as_ref(),
+        Line::Close(comment) => comment.as_ref(),
+        Line::Entry(_, comment) => comment.as_ref(),
+    }
+}
+
+/// The byte offset of a comment in the source. One that an edit made has none.
+fn place_of(comment: &Text<'_>) -> Option<u32> {
+    match comment {
+        Text::Source(_, first) => Some(*first),
+        Text::Own(_) => None,
+    }
+}
+
+/// Compares the byte offsets of the comments of a document with those that they have in the source.
+fn assert_places(rt: &impl Abort, alloc: Global, title: &str, doc: &Doc<'_>) {
+    let mut places = Vec::new(alloc);
+    for line in doc.lines() {
+        if let Some(place) = comment_of(line).and_then(place_of) {
+            places.push(place).expect(rt, OUT_OF_MEMORY);
+        }
+    }
+    assert_same(rt, title, &places.as_slice(), &PLACES);
+}
+
+#[test]
+fn comments_have_places(rt: HostRuntime) {
+    let doc = doc(&rt, rt.alloc(), COMMENTS);
+    assert_places(&rt, rt.alloc(), "read", &doc);
+    let copy = doc.copy().expect(&rt, OUT_OF_MEMORY);
+    assert_places(&rt, rt.alloc(), "copied", &copy);
 }
 
 // ---- names
