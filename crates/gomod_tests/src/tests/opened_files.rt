@@ -1,13 +1,13 @@
 //! Which files a store over folders of the file system opens, how often, and which failures it counts.
 
 use super::{OUT_OF_MEMORY, assert_same, path};
-use gm_store::{AskFault, DiskFallback, FileName, FileSystem, Files, ProxyList};
-use std::alloc::AllocError;
+use gm_store::{AskFault, DiskFallback, FileName, Files, ProxyList};
+use std::alloc::{AllocError, Allocator};
 use std::cell::RefCell;
-use std::fs::File;
+use std::fs::{File, Metadata, OpenOptions};
 use std::io::ErrorKind;
 use std::process::Abort;
-use std::{fs, io};
+use std::{io, rt};
 
 /// A file system that records which files are to be opened. The files in a folder `full` are empty, those in
 /// a folder `broken` can't be opened, at those in a folder `starved` memory runs out, and there are no others.
@@ -30,16 +30,22 @@ impl RecordingSystem<'_> {
     }
 }
 
-impl FileSystem for RecordingSystem<'_> {
+/// The result of every call that a store has no reason to make.
+fn unsupported<T>() -> io::Result<T> {
+    Err(io::Error::from(ErrorKind::Unsupported))
+}
+
+/// Only opening files is supported: asking a store for a file must need nothing else.
+impl rt::Files for RecordingSystem<'_> {
     type File = File;
 
-    ghost may_open = { λ _ _ _. Unit {0} };
+    type Dir = <HostRuntime as rt::Files>::Dir;
 
     /// Records the path, and then opens an empty file or fails, depending on the folder.
-    fn open(&self, path: &str) -> io::Result<File> {
+    fn open_file(&self, how: &OpenOptions, path: &str) -> io::Result<File> {
         self.note(path)?;
         if path.starts_with("full/") {
-            return fs::open(&self.system, "/dev/null");
+            return self.system.open_file(how, "/dev/null");
         }
         if path.starts_with("broken/") {
             return Err(io::Error::from(ErrorKind::PermissionDenied));
@@ -48,6 +54,51 @@ impl FileSystem for RecordingSystem<'_> {
             return Err(io::Error::from(ErrorKind::OutOfMemory));
         }
         Err(io::Error::from(ErrorKind::NotFound))
+    }
+
+    /// Unsupported.
+    fn open_dir(&self, _path: &str) -> io::Result<<HostRuntime as rt::Files>::Dir> {
+        unsupported()
+    }
+
+    /// Unsupported.
+    fn metadata(&self, _path: &str) -> io::Result<Metadata> {
+        unsupported()
+    }
+
+    /// Unsupported.
+    fn symlink_metadata(&self, _path: &str) -> io::Result<Metadata> {
+        unsupported()
+    }
+
+    /// Unsupported.
+    fn copy(&self, _from: &str, _to: &str) -> io::Result<u64> {
+        unsupported()
+    }
+
+    /// Unsupported.
+    fn rename(&self, _from: &str, _to: &str) -> io::Result<()> {
+        unsupported()
+    }
+
+    /// Unsupported.
+    fn remove_file(&self, _path: &str) -> io::Result<()> {
+        unsupported()
+    }
+
+    /// Unsupported.
+    fn create_dir(&self, _path: &str) -> io::Result<()> {
+        unsupported()
+    }
+
+    /// Unsupported.
+    fn remove_dir(&self, _path: &str) -> io::Result<()> {
+        unsupported()
+    }
+
+    /// Unsupported.
+    fn remove_dir_all<B: Allocator>(&self, _alloc: B, _path: &str) -> io::Result<()> {
+        unsupported()
     }
 }
 
