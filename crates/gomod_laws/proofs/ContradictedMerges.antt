@@ -18,7 +18,7 @@ use Rattle.gm_graph_listing.specs.Texts.{graph_text}
 use Rattle.gm_graph_listing.proofs.GraphLines.{text_says_edges}
 use Rattle.gm_graph_listing.proofs.RunNames.{run_has_names, run_has_proper_edges}
 use Rattle.gomod_laws.specs.Counterexamples.{a_one, fault_of_a, graph_of_a, list_of_a}
-use Rattle.gomod_laws.specs.CounterMerges.{EdgeIsLost, EdgeIsNew, FaultIsLost, FaultIsNew, OnlyOnePrints, RowIsLower, RowIsNew, RowLosesArrow, graph_of_none, list_of_later, list_of_none, list_of_replaced}
+use Rattle.gomod_laws.specs.CounterMerges.{EdgeIsLost, MergedEdgeIsNew, FaultIsLost, FaultIsNew, OnlyOnePrints, MergedRowIsLower, MergedRowIsNew, RowLosesArrow, graph_of_none, list_of_later, list_of_none, list_of_replaced}
 use Rattle.gomod_laws.specs.MergeLaws.{ReportsThese}
 use Rattle.gomod_laws.specs.Shown.{ShowsEdges, ShowsRows}
 use Rattle.gomod_laws.proofs.Contradicted.{a_is_path, edge_to, edges_are, m_has_no_feed, only_row, row_at, row_inside, row_there}
@@ -127,7 +127,7 @@ edge_is_lost sums one other both have (edges, others, all, first, second, third,
     let there : Contains edges (edge_to one_zero) = subst (λ (es : List Edge). Contains es (edge_to one_zero)) (sym are) (member_head (edge_to one_zero) []) in
     no_member (edge_to one_zero) (subst (λ (es : List Edge). Contains es (edge_to one_zero)) none ((same (edge_to one_zero)).1 (inl there)))
 
-pub edge_is_new : EdgeIsNew
+pub edge_is_new : MergedEdgeIsNew
 edge_is_new sums one other both have (edges, others, all, first, second, third, same) =
     let none : edges ≡ [] = no_edges _ one.main edges (shown_edges _ one.main edges one.outcome graph_of_none first have.first_is) in
     let nor : others ≡ [] = no_edges _ other.main others (shown_edges _ other.main others other.outcome graph_of_none second have.second_is) in
@@ -139,7 +139,7 @@ edge_is_new sums one other both have (edges, others, all, first, second, third, 
       | inr beyond ↦ no_member (edge_to one_zero) (subst (λ (es : List Edge). Contains es (edge_to one_zero)) nor beyond)
     ]
 
-pub row_is_lower : RowIsLower
+pub row_is_lower : MergedRowIsLower
 row_is_lower sums one other both have (rows, others, all, first, second, third, higher) =
     let (right, row) = row_there _ other.main one_one one_one_is others (shown _ other.main others other.outcome list_of_later second have.second_is) in
     let (y, its, inside, path, high) = higher.second (codes "a.b", one_one) right row in
@@ -159,7 +159,7 @@ row_loses_arrow sums one other both have (rows, others, all, first, second, thir
       | inr beyond ↦ no_row others a_one None none beyond.0
     ]
 
-pub row_is_new : RowIsNew
+pub row_is_new : MergedRowIsNew
 row_is_new sums one other both have (rows, others, all, first, second, third, higher) =
     let new : Contains all (row_at one_zero) =
     row_inside _ both.main one_zero one_zero_is all (shown _ both.main all both.outcome list_of_a third have.third_is) in

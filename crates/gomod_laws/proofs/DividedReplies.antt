@@ -13,7 +13,7 @@ use Rattle.gm_store.specs.Asked.{Name, Reply, folder_file, list_file, mod_file}
 use Rattle.gm_store.specs.FoldersInMemory.{result_at}
 use Rattle.gm_store.specs.Steps.{Seen, StopsAt, absent, failed, found, has_failed, outcome_of, reply_in, step_of, too_long}
 use Rattle.gm_store.proofs.Stops.{held_stop, one_stop}
-use Rattle.gomod_laws.specs.FolderLaws.{AreDivided, IsInOneOf, IsTheOnlyOne, MayAnswer}
+use Rattle.gomod_laws.specs.FolderLaws.{AreDivided, IsInOneOf, IsTheOnlyOne, FolderMayAnswer}
 
 abbrev IsMissing : Seen → Type 0
 IsMissing seen = seen ≡ absent
@@ -139,7 +139,7 @@ module _ (whole folders : FoldersInMemory) (marks : List Mark) (are : AreDivided
       same_answer b a (one_stop (result_at folders.beside name ∷ []) [] (Some b) (Some a) count failures again same).0
 
   -- both answer each name alike
-  pub divided_reply : (name : Name) (a b : Reply) → MayAnswer whole [] name a → MayAnswer folders marks name b → b ≡ a
+  pub divided_reply : (name : Name) (a b : Reply) → FolderMayAnswer whole [] name a → FolderMayAnswer folders marks name b → b ≡ a
   divided_reply (mod_file path version) a b (failures, may) (count, could) =
       let name = mod_file path version in
       in_proxies name a b failures count (are.files path version)

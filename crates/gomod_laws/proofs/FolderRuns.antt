@@ -26,7 +26,7 @@ use Rattle.gomod_run.proofs.AllAsked.{done_answers}
 use Rattle.gomod_run.proofs.Answering.{answered_in}
 use Rattle.gomod_run.proofs.OneStore.{one_for_stores}
 use Rattle.gomod_run.proofs.Uniqueness.{latest_once, listed_once, none_latest}
-use Rattle.gomod_laws.specs.FolderLaws.{MayAnswer, MoreFoldersChangeNothing}
+use Rattle.gomod_laws.specs.FolderLaws.{FolderMayAnswer, MoreFoldersChangeNothing}
 use Rattle.gomod_laws.specs.Runs.{HasOutcome, HasPrinted}
 use Rattle.gomod_laws.proofs.FolderWalks.{found_again}
 use Rattle.gomod_laws.proofs.PrintedRuns.{Pairs, valid_files}
@@ -229,7 +229,7 @@ more_folders_change_nothing command main sums folders others marks more asked to
     let alike : AnswerAlike asked told =
     λ name a b e f.
     let (content, is) = each_is_file main sums command asked one run.ends run.in_turn prints name a e in
-    let may : MayAnswer folders marks name (bytes content) = subst (MayAnswer folders marks name) is (run.answers name a (answered_in asked name a e)) in
+    let may : FolderMayAnswer folders marks name (bytes content) = subst (FolderMayAnswer folders marks name) is (run.answers name a (answered_in asked name a e)) in
     is ∙ sym (found_again folders others marks more grows name content b may (again.answers name b (answered_in told name b f))) in
     let back : AnswerAlike told asked = alike_back asked told alike in
     let same : other ≡ one = same_outcome command main sums told asked other one back again.ends run.ends in

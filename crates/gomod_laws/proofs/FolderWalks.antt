@@ -11,7 +11,7 @@ use Rattle.gm_store.specs.Asked.{Name, Reply, bytes, folder_file, list_file, mod
 use Rattle.gm_store.specs.FoldersInMemory.{result_at}
 use Rattle.gm_store.specs.Steps.{Seen, StopsAt, absent, failed, found, outcome_of, step_of, too_long}
 use Rattle.gm_store.proofs.Stops.{held_stop, one_stop}
-use Rattle.gomod_laws.specs.FolderLaws.{HasOneMore, MayAnswer}
+use Rattle.gomod_laws.specs.FolderLaws.{HasOneMore, FolderMayAnswer}
 
 -- ---- one more result and one more mark
 
@@ -86,7 +86,7 @@ module _ (folders others : FoldersInMemory) (marks more : List Mark) (one : HasO
       (subst (λ (shelf : MemoryFolder). StopsAt (result_at shelf name ∷ []) [] (Some reply) count) one.beside again)
 
   -- the one answer to the name of a file that was found is that file
-  pub found_again : (name : Name) (content : List ℕ) (reply : Reply) → MayAnswer folders marks name (bytes content) → MayAnswer others more name reply → reply ≡ bytes content
+  pub found_again : (name : Name) (content : List ℕ) (reply : Reply) → FolderMayAnswer folders marks name (bytes content) → FolderMayAnswer others more name reply → reply ≡ bytes content
   found_again (mod_file path version) content reply (failures, may) (count, could) =
       let name = mod_file path version in
       in_proxies name content reply failures count

@@ -37,14 +37,14 @@ EdgeIsLost = (sums : Option (List ℕ)) (one other both : RunOf Graph sums)
     → ¬ (ShowsEdgesOfBoth sums one other both)
 
 -- and where an edge is of neither
-abbrev pub EdgeIsNew : Type 0
-EdgeIsNew = (sums : Option (List ℕ)) (one other both : RunOf Graph sums)
+abbrev pub MergedEdgeIsNew : Type 0
+MergedEdgeIsNew = (sums : Option (List ℕ)) (one other both : RunOf Graph sums)
     → HaveOutcomes Graph sums one other both graph_of_none graph_of_none graph_of_a
     → ¬ (ShowsEdgesOfBoth sums one other both)
 
 -- `MergedListHasHigherRows`, where the lower row of a path is listed, where a row lost its right side,
-abbrev pub RowIsLower : Type 0
-RowIsLower = (sums : Option (List ℕ)) (one other both : RunOf (Rows None None) sums)
+abbrev pub MergedRowIsLower : Type 0
+MergedRowIsLower = (sums : Option (List ℕ)) (one other both : RunOf (Rows None None) sums)
     → HaveOutcomes (Rows None None) sums one other both list_of_a list_of_later list_of_a
     → ¬ (ShowsHigherRows sums one other both)
 
@@ -54,8 +54,8 @@ RowLosesArrow = (sums : Option (List ℕ)) (one other both : RunOf (Rows None No
     → ¬ (ShowsHigherRows sums one other both)
 
 -- and where a row is of neither
-abbrev pub RowIsNew : Type 0
-RowIsNew = (sums : Option (List ℕ)) (one other both : RunOf (Rows None None) sums)
+abbrev pub MergedRowIsNew : Type 0
+MergedRowIsNew = (sums : Option (List ℕ)) (one other both : RunOf (Rows None None) sums)
     → HaveOutcomes (Rows None None) sums one other both list_of_none list_of_none list_of_a
     → ¬ (ShowsHigherRows sums one other both)
 

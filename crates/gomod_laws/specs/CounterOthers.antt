@@ -9,7 +9,7 @@ use Rattle.gm_graph_listing.specs.Texts.{step_text}
 use Rattle.gm_graph_select.specs.declared.step.Step.TheVariants.{Main as FromMain, Of}
 use Rattle.gm_graph_select.specs.Graph.{edge}
 use Rattle.gomod_laws.specs.Counterexamples.{a_one, chain_to_a, graph_of_a, list_of_a}
-use Rattle.gomod_laws.specs.EditListLaws.{BeginsWith}
+use Rattle.gomod_laws.specs.EditListLaws.{TextBeginsWith}
 use Rattle.gomod_laws.specs.EditTwiceLaws.{AreOneOrRefuseALater}
 use Rattle.gomod_laws.specs.FormattingLaws.{PrintTheSame}
 
@@ -22,7 +22,7 @@ file_of_n = printed (codes "module n\n")
 
 -- `ModuleIsFirst` for a.b, if its row is not the first
 abbrev pub ModuleIsSecond : Type 0
-ModuleIsSecond = ¬ (BeginsWith (codes "a.b") list_of_a)
+ModuleIsSecond = ¬ (TextBeginsWith (codes "a.b") list_of_a)
 
 -- `GoIsSet` for 1.17, if the main file has 1 and 16
 abbrev pub GoIsAnother : Type 0

@@ -14,8 +14,8 @@ use Rattle.gomod_run.specs.Runs.{AskedInTurn, Needs}
 use Rattle.gomod_laws.specs.Runs.{HasOutcome, HasPrinted}
 
 -- the answers that folders in memory may give to a name, with these marks between the proxy folders
-abbrev pub MayAnswer : FoldersInMemory → List Mark → Name → Reply → Type 0
-MayAnswer folders marks name reply = (failures : ℕ)
+abbrev pub FolderMayAnswer : FoldersInMemory → List Mark → Name → Reply → Type 0
+FolderMayAnswer folders marks name reply = (failures : ℕ)
     × MayStop (λ k seen. slice_get (lookup_results folders name) k ≡ Some seen) (marks_for name marks)
     (Some reply) failures
 
@@ -25,7 +25,7 @@ pub record RunsOver (command : Command) (main : List ℕ) (sums : Option (List �
     (marks : List Mark) (asked : List (Name × Reply)) (outcome : Outcome) : Type 0 where
   pub ends : HasOutcome command main sums asked outcome
   pub in_turn : AskedInTurn (Needs command main sums) asked
-  pub answers : (name : Name) (reply : Reply) → Contains asked (name, reply) → MayAnswer folders marks name reply
+  pub answers : (name : Name) (reply : Reply) → Contains asked (name, reply) → FolderMayAnswer folders marks name reply
 
 -- The other folders are the same with one proxy folder more, which is the last, after the mark that is the last.
 pub record HasOneMore (folders others : FoldersInMemory) (marks more : List Mark) : Type 0 where

@@ -29,11 +29,11 @@ IsListed None x content = ⊤
 IsListed (Some sums) x content = Says sums x.0 x.1 (file_hash content) Good
 
 -- what a store can give for the file of a module
-abbrev pub Gives : Type 1
-Gives = Option (List ℕ) → ModuleVersion → Reply → Type 0
+abbrev pub FilesFor : Type 1
+FilesFor = Option (List ℕ) → ModuleVersion → Reply → Type 0
 
 -- bytes that read as a dependency's file, which declares the module's path and requires nothing
-abbrev pub RequiresNothing : Gives
+abbrev pub RequiresNothing : FilesFor
 RequiresNothing sums x reply =
     (content : List ℕ) × (file : Dependency) × (reply ≡ bytes content) × IsListed sums x content
     × IsReadAsDependency content file × (file.declared ≡ Some x.0) × (file.requirements ≡ [])
@@ -43,7 +43,7 @@ abbrev pub module_line : List ℕ → List ℕ
 module_line path = codes "module " ++ path ++ codes "\n"
 
 -- that line of the module's path alone, which is not too long for a file
-abbrev pub IsModuleAlone : Gives
+abbrev pub IsModuleAlone : FilesFor
 IsModuleAlone sums x reply =
     (reply ≡ bytes (module_line x.0)) × (length (module_line x.0) ≤ longest) × IsListed sums x (module_line x.0)
 
@@ -52,7 +52,7 @@ IsModuleAlone sums x reply =
 -- A command reports faults. Its main file replaces nothing, and a proxy may be asked for each reported module. A second
 -- command, over the same main file and go.sum, has a store that gives such a file for each of these modules, and
 -- answers no other file differently.
-pub record AreMended (Files : Gives) (command again : Command) (file : List ℕ) (sums : Option (List ℕ)) (main : Main)
+pub record AreMended (Files : FilesFor) (command again : Command) (file : List ℕ) (sums : Option (List ℕ)) (main : Main)
     (faults : List Fault) (asked told : List (Name × Reply)) (first next : Outcome) : Type 0 where
   pub first_runs : HasOutcome command file sums asked first
   pub reports : ReportsFaults (run_over file sums asked) main faults first
@@ -97,21 +97,21 @@ ShowsEdgesBy before run main graph =
 
 -- After a report, `list` prints where each reported module has such a file: the rows that the files before have if a
 -- module with a fault requires nothing.
-abbrev pub MendedIsListed : Gives → Type 0
+abbrev pub MendedIsListed : FilesFor → Type 0
 MendedIsListed Files = (command : Command) (file : List ℕ) (sums : Option (List ℕ)) (main : Main)
     (faults : List Fault) (asked told : List (Name × Reply)) (first list : Outcome)
     → AreMended Files command (Rows None None) file sums main faults asked told first list
     → ShowsRowsBy (run_over file sums asked) (run_over file sums told) main list
 
 -- `graph` prints too, in the same way.
-abbrev pub MendedIsGraphed : Gives → Type 0
+abbrev pub MendedIsGraphed : FilesFor → Type 0
 MendedIsGraphed Files = (command : Command) (file : List ℕ) (sums : Option (List ℕ)) (main : Main)
     (faults : List Fault) (asked told : List (Name × Reply)) (first graph : Outcome)
     → AreMended Files command Graph file sums main faults asked told first graph
     → ShowsEdgesBy (run_over file sums asked) (run_over file sums told) main graph
 
 -- And each query asks for the same files as the run before.
-abbrev pub MendedAsksForTheSame : Gives → Type 0
+abbrev pub MendedAsksForTheSame : FilesFor → Type 0
 MendedAsksForTheSame Files = (command again : Command) (file : List ℕ) (sums : Option (List ℕ)) (main : Main)
     (faults : List Fault) (asked told : List (Name × Reply)) (first next : Outcome) → is_query again ≡ true
     → AreMended Files command again file sums main faults asked told first next

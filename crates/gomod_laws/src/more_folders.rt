@@ -2,7 +2,7 @@
 
 ghost use Rattle.gm_store.specs.Asked.{Name, Reply};
 ghost use Rattle.gm_store.specs.Views.{folders_under, marks_between};
-ghost use Rattle.gomod_laws.specs.FolderLaws.{DividedFoldersChangeNothing, MayAnswer, MoreFoldersChangeNothing};
+ghost use Rattle.gomod_laws.specs.FolderLaws.{DividedFoldersChangeNothing, FolderMayAnswer, MoreFoldersChangeNothing};
 
 use gm_store::{Files, MemoryFallback};
 
@@ -25,5 +25,5 @@ pub fn divided_folders_change_nothing()
 /// laws above. So they speak of each run of a command over such a store.
 pub fn folders_in_memory_may_answer(store: &MemoryFallback)
     ensures { (name : Name) (reply : Reply) → ⟦<MemoryFallback as Files>⟧.may_answer store.now name reply
-        → MayAnswer (folders_under store.now) (marks_between store.now) name reply }
+        → FolderMayAnswer (folders_under store.now) (marks_between store.now) name reply }
 {}
