@@ -124,8 +124,8 @@ pub(crate) fn new_line<'a>(
     Ok(line)
 }
 
-/// Puts a line in the place of the first that has a mark, which is at an index, and removes the others that have one and
-/// the blocks that this empties.
+/// Puts a line in the place of the first that has a mark, which is at an index, and removes the others that have one
+/// and the blocks that this empties.
 pub(crate) fn renew<'a>(lines: &mut KeyedLines<'a>, marks: Vec<bool>, first: usize, line: Line<'a>)
     requires marks { length marks.items ≡ length lines.old }
     requires in_range { first < length lines.old }

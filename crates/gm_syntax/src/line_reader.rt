@@ -117,8 +117,8 @@ impl<'a> LineReader<'a> {
         }
     }
 
-    /// The words of the next line, where that consists of two bare words, perhaps with a comment. It takes a fraction of
-    /// the time of `next`, and no memory.
+    /// The words of the next line, where that consists of two bare words, perhaps with a comment. It takes a fraction
+    /// of the time of `next`, and no memory.
     ///
     /// `None`, and a reader that is unchanged, for every other line, and for some unusual lines of two bare words:
     /// `next` reads these.
@@ -139,8 +139,8 @@ impl<'a> LineReader<'a> {
         Some(pair)
     }
 
-    /// The two bare words after this verb, where the next line consists of the three, perhaps with a comment. It takes a
-    /// fraction of the time of `next`, and no memory.
+    /// The two bare words after this verb, where the next line consists of the three, perhaps with a comment. It takes
+    /// a fraction of the time of `next`, and no memory.
     ///
     /// `None`, and a reader that is unchanged, for every other line, and for some unusual lines of three bare words:
     /// `next` reads these.
@@ -161,8 +161,8 @@ impl<'a> LineReader<'a> {
         Some(pair)
     }
 
-    /// The verb of the next line, where that opens a block and the verb is this one as a bare word. It takes a fraction of
-    /// the time of `next`, and no memory.
+    /// The verb of the next line, where that opens a block and the verb is this one as a bare word. It takes a fraction
+    /// of the time of `next`, and no memory.
     ///
     /// `None`, and a reader that is unchanged, for every other line, and for one that opens a block of this verb but
     /// begins with a blank: `next` reads these.
@@ -193,8 +193,8 @@ impl<'a> LineReader<'a> {
         Some(Token::in_source(Kind::Bare, word, first as u32, number as u32))
     }
 
-    /// Passes over the next line if that is `)` alone and closes a block, and says whether it did. It takes a fraction of
-    /// the time of `next`.
+    /// Passes over the next line if that is `)` alone and closes a block, and says whether it did. It takes a fraction
+    /// of the time of `next`.
     pub fn skip_closing(&mut self) -> bool
         ensures closing { IsTrue result → (lines : List (LineOf Placed)) → HasRead self.old lines
             → HasRead self.new (lines ++ Close None ∷ []) }

@@ -1,5 +1,6 @@
 //! A short way to read the lines that a file has most: two or three bare words, with blanks around them and perhaps a
-//! comment, and the lines that open and close a block. Neither a list of words nor the places of words are made for them.
+//! comment, and the lines that open and close a block. Neither a list of words nor the places of words are made for
+//! them.
 
 ghost use Rattle.std.specs.Prelude.{◌≡◌, ◌++◌, ◌∷◌, [], ℕ, List, Bool, Option, IfSome, IsTrue, length};
 ghost use Rattle.gm_syntax.specs.Words.{AllBlank};
@@ -76,8 +77,8 @@ fn after_parenthesis(text: &str) -> Option<&str>
     Some(after)
 }
 
-/// The verb that the line begins with, if an opening parenthesis is its only other word, with perhaps a comment after it;
-/// `None` also for some such lines.
+/// The verb that the line begins with, if an opening parenthesis is its only other word, with perhaps a comment after
+/// it; `None` also for some such lines.
 pub(crate) fn opening_in(line: &str) -> Option<&str>
     ensures { IfSome result (λ verb. IsOpeningText line.now verb.now) }
 {

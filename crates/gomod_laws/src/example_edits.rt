@@ -13,8 +13,8 @@ pub fn comment_keeps_a_block()
     ensures { CommentKeepsABlock }
 {}
 
-/// `sections_renewed`: the first requirement of the path gets the version and keeps its comment. The later one goes with
-/// its block.
+/// `sections_renewed`: the first requirement of the path gets the version and keeps its comment. The later one goes
+/// with its block.
 pub fn setting_rewrites_the_first()
     ensures { SettingRewritesTheFirst }
 {}

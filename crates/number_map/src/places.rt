@@ -103,7 +103,8 @@ impl Places {
         Ok(())
     }
 
-    /// Puts a place in the ordered map. The only refusal is `AllocError`, if memory runs out, which leaves it unchanged.
+    /// Puts a place in the ordered map. The only refusal is `AllocError`, if memory runs out, which leaves it
+    /// unchanged.
     fn put_in_rest(&mut self, number: u64, place: usize) -> Result<(), AllocError>
         ensures buckets { self.new.buckets ≡ self.old.buckets }
         ensures puts { OnOk result ((n : ℕ) → map.get nat_cmp self.new.rest n

@@ -7,8 +7,8 @@ use std::io;
 use std::io::{ErrorKind, Read};
 use std::process::Abort;
 
-/// A reader over bytes in memory. It gives at most `step` bytes per call. After `calls` calls one call fails, and the calls
-/// after that one succeed, so that a caller which tries again is seen.
+/// A reader over bytes in memory. It gives at most `step` bytes per call. After `calls` calls one call fails, and the
+/// calls after that one succeed, so that a caller which tries again is seen.
 #[derive(Clone, Copy)]
 struct LimitedReader<'a> {
     /// The bytes that are left to read.
