@@ -1,24 +1,21 @@
 -- What a contract sees of known names: how many are kept, how many may be, and which path is expected.
 use Rattle.std.specs.Prelude.{◌≡◌, ◌≤◌, ℕ, List, Option, None}
 
--- for how many names of each kind there is room, how many paths, versions and pairs are kept, and the text of the
--- expected path
+-- for how many names of each kind there is room, how many paths and versions are kept, and the text of the expected path
 pub record KeptCounts : Type 0 where
   pub room : ℕ
   pub paths : ℕ
   pub versions : ℕ
-  pub pairs : ℕ
   pub expected : Option (List ℕ)
 
--- no more paths, versions and pairs are kept than there is room for
+-- no more paths and versions are kept than there is room for
 abbrev pub IsWithinRoom : KeptCounts → Type 0
-IsWithinRoom kept = (kept.paths ≤ kept.room) × (kept.versions ≤ kept.room) × (kept.pairs ≤ kept.room)
+IsWithinRoom kept = (kept.paths ≤ kept.room) × (kept.versions ≤ kept.room)
 
 -- nothing is kept
 abbrev pub none_kept : ℕ → KeptCounts
-none_kept room = record { room = room; paths = 0; versions = 0; pairs = 0; expected = None }
+none_kept room = record { room = room; paths = 0; versions = 0; expected = None }
 
--- the room stays, and no path, version or pair is forgotten
+-- the room stays, and no path or version is forgotten
 abbrev pub KeepsAll : KeptCounts → KeptCounts → Type 0
-KeepsAll old new =
-    (new.room ≡ old.room) × (old.paths ≤ new.paths) × (old.versions ≤ new.versions) × (old.pairs ≤ new.pairs)
+KeepsAll old new = (new.room ≡ old.room) × (old.paths ≤ new.paths) × (old.versions ≤ new.versions)

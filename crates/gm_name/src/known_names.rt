@@ -68,26 +68,24 @@ impl From<VersionFault> for PairFault {
     }
 }
 
-/// Paths, versions and pairs that were read before, for callers that read many names, most of them duplicates:
-/// a name that is read again shares the memory of the first one and isn't tested again.
+/// Paths and versions that were read before, for callers that read many names, most of them duplicates: a name that is
+/// read again shares the memory of the first one and isn't tested again.
 ///
-/// Reading through a `KnownNames` gives the same results as `ModPath::parse` and `ModVersion::parse`. One name
-/// is kept under each fingerprint, so a lookup takes a few comparisons of numbers, at most log n among n names,
-/// and one of texts, whatever the names are. Contracts see which path is expected, and how many names of each
-/// kind are kept: no fewer than before, and never more than there is room for. Where there is no room, no text is hashed to be looked up. All memory comes from
-/// the allocator that it was made with.
+/// Reading through a `KnownNames` gives the same results as `ModPath::parse` and `ModVersion::parse`. One name is
+/// kept under each fingerprint, so a lookup takes a few comparisons of numbers, at most log n among n names, and one
+/// of texts, whatever the names are. Contracts see which path is expected, and how many names of each kind are kept:
+/// no fewer than before, and never more than there is room for. If there is no room, no text is hashed to be looked
+/// up. All memory comes from the allocator that it was made with.
 #[derive(Drop)]
 pub struct KnownNames {
     /// The allocator of the names, and of the maps that keep them.
     alloc: Global,
-    /// How many names each of the three maps may grow to.
+    /// How many names each of the two maps may grow to.
     room: usize,
     /// Paths by fingerprint.
     paths: NumberMap<ModPath>,
     /// Versions by fingerprint.
     versions: NumberMap<ModVersion>,
-    /// Pairs by the number that `PairNumbers::joined` makes of their texts' fingerprints.
-    pairs: NumberMap<ModVer>,
     /// The path that is expected to be read next, if any. It is compared before anything is looked up.
     expected: Option<ModPath>,
 }
@@ -103,12 +101,10 @@ impl Model for KnownNames {
       room = a.room;
       paths = count_of a.paths;
       versions = count_of a.versions;
-      pairs = count_of a.pairs;
       expected = a.expected;
     } };
 
-    ghost invariant = { λ a. (count_of a.paths ≤ a.room) × (count_of a.versions ≤ a.room)
-        × (count_of a.pairs ≤ a.room) };
+    ghost invariant = { λ a. (count_of a.paths ≤ a.room) × (count_of a.versions ≤ a.room) };
 }
 
 /// Keeps a name under a number, instead of any other there, as long as there are fewer than `room` names.
@@ -127,32 +123,9 @@ fn keep<T: Drop>(
     Ok(())
 }
 
-/// Whether a pair has these texts.
-fn is_pair_of(pair: &ModVer, path: &str, version: &str) -> bool
-    ensures { IsTrue result → PairReading path.now version.now (Ok pair.now) }
-{
-    pair.path().as_str() == path && pair.version().as_str() == version
-}
-
-/// The numbers of a pair's texts, under which they are kept.
-#[derive(Clone, Copy)]
-struct PairNumbers {
-    /// The number of the path's text.
-    path: Option<u64>,
-    /// The number of the version's text.
-    version: Option<u64>,
-}
-
-impl PairNumbers {
-    /// The number that the pair is kept under. It needs no further pass over the texts.
-    fn joined(self) -> Option<u64> {
-        Some(self.path?.rotate_left(1) ^ self.version?)
-    }
-}
-
 impl KnownNames {
-    /// No names, with room for `room` paths, as many versions and as many pairs. No more than these are ever
-    /// kept. Allocates no memory until a name is kept.
+    /// No names, with room for `room` paths and as many versions. No more than these are ever kept. Allocates no memory
+    /// until a name is kept.
     pub fn new(alloc: Global, room: usize) -> KnownNames
         ensures { result ≡ none_kept room }
     {
@@ -161,14 +134,13 @@ impl KnownNames {
             room,
             paths: NumberMap::new(alloc),
             versions: NumberMap::new(alloc),
-            pairs: NumberMap::new(alloc),
             expected: None,
         }
     }
 
     /// Expects a path to be read next, such as that of the module whose file is read: if its text is read, it is shared
-    /// and neither looked up nor tested. It takes the place of the one that was expected before. Allocates no memory; it
-    /// fails only if the path already has as many copies as a `usize` can count.
+    /// and neither looked up nor tested. It takes the place of the one that was expected before. Allocates no memory;
+    /// it fails only if the path already has as many copies as a `usize` can count.
     pub fn expect(&mut self, path: &ModPath) -> Result<(), AllocError>
         ensures expected { OnOk result (self.new.expected ≡ Some path.now) }
         ensures kept { KeepsAll self.old self.new }
@@ -230,19 +202,6 @@ impl KnownNames {
         }
     }
 
-    /// A copy of the pair with these texts, if it was kept under this number. The texts are compared too.
-    fn known_pair(&self, number: Option<u64>, path: &str, version: &str) -> Option<ModVer>
-        ensures within { IsWithinRoom self.now }
-        ensures read { IfSome result (λ pair. PairReading path.now version.now (Ok pair)) }
-    {
-        let held = self.pairs.get(number?)?;
-        if is_pair_of(held, path, version) {
-            held.copy(self.alloc).ok()
-        } else {
-            None
-        }
-    }
-
     /// Keeps a path under a number, so that later reads of its text find it.
     fn keep_path(&mut self, number: u64, path: &ModPath) -> Result<(), AllocError>
         ensures kept { KeepsAll self.old self.new }
@@ -264,14 +223,6 @@ impl KnownNames {
         )
     }
 
-    /// Keeps a pair under a number, so that later reads of its texts find it.
-    fn keep_pair(&mut self, number: u64, pair: &ModVer) -> Result<(), AllocError>
-        ensures kept { KeepsAll self.old self.new }
-        ensures within { IsWithinRoom self.new }
-    {
-        keep(&mut self.pairs, self.room, number, pair.copy(self.alloc)?)
-    }
-
     /// The pair of the path in one text and the version in another, as `path` and `version` read them and
     /// `ModVer::pair` combines them.
     ///
@@ -289,36 +240,20 @@ impl KnownNames {
             → IsPath path.now × IsVersion version.now × ¬ (Fits path.now version.now) }
         ensures memory { IsErrOf result PairFault.NoMemory → IsPath path.now }
     {
-        let numbers = PairNumbers {
-            path: self.number_of(path),
-            version: self.number_of(version),
-        };
-        self.numbered_pair(numbers, path, version)
+        self.read_pair(path, version)
     }
 
-    /// The pair of the names in two texts with these numbers.
-    fn numbered_pair(
-        &mut self,
-        numbers: PairNumbers,
-        path: &str,
-        version: &str,
-    ) -> Result<ModVer, PairFault>
-        requires { IfSome numbers.path (λ number. number ≡ fingerprint 0 path.now) }
+    /// The pair of the names in two texts.
+    fn read_pair(&mut self, path: &str, version: &str) -> Result<ModVer, PairFault>
         ensures kept { KeepsAll self.old self.new }
         ensures within { IsWithinRoom self.new }
         ensures read { PairReading path.now version.now result }
     {
-        if let Some(pair) = self.known_pair(numbers.joined(), path, version) {
-            return Ok(pair);
-        }
-        let path = self.numbered_path(numbers.path, path)?;
-        let version = self.numbered_version(numbers.version, version)?;
+        let path = self.numbered_path(self.number_of(path), path)?;
+        let version = self.numbered_version(self.number_of(version), version)?;
         let Some(pair) = ModVer::pair(path, version) else {
             return Err(PairFault::Misfit);
         };
-        if let Some(number) = numbers.joined() {
-            self.keep_pair(number, &pair)?;
-        }
         Ok(pair)
     }
 

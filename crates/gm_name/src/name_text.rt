@@ -1,6 +1,7 @@
 //! The text of a name.
 //!
-//! Most names are short. A short text lies beside what else is known of its name, so that it needs no memory of its own.
+//! Most names are short. A short text lies beside what else is known of its name, so that it needs no memory of its
+//! own.
 
 ghost use Rattle.std.specs.Prelude.{◌≡◌, IfOk};
 ghost use Rattle.gm_name.specs.NameText.{text_bytes};

@@ -2,7 +2,7 @@ use Rattle.std.proofs.Common.{List, ℕ, subst}
 use Rattle.std.proofs.lemmas.Result.{err_from_is_err_and}
 use Rattle.gm_name.proofs.Readings.{of-path, of-version}
 use Rattle.gm_name.specs.Fit.{Fits}
-use Rattle.gm_name.proofs.known_names.KnownNames.numbered_pair.Goals as goal
+use Rattle.gm_name.proofs.known_names.KnownNames.read_pair.Goals as goal
 
 pub returns-in_err-path-clause-read : goal.returns-in_err-path-clause-read
 returns-in_err-path-clause-read c =
@@ -14,19 +14,19 @@ returns-in_err-version-clause-read c =
     let p = err_from_is_err_and c.from_residual-in_err-version.result c.from_residual-in_err-version.ensures.1 in
     rw (p.1, p.2) (of-version c.args.path.now c.args.version.now c.in_err-version.field-0.0 c.in_ok-path.ensures.read.1 c.in_err-version.ensures.read)
 
-pub returns-in_default-pair-clause-read : goal.returns-in_default-pair-clause-read
-returns-in_default-pair-clause-read c = (
+pub returns-in_default-clause-read : goal.returns-in_default-clause-read
+returns-in_default-clause-read c = (
   c.in_ok-path.ensures.read.1,
   c.in_ok-version.ensures.read.1,
   subst (λ (v : List ℕ). Fits c.args.path.now v → ⊥) c.in_ok-version.ensures.read.0
-      (subst (λ (p : List ℕ). Fits p c.in_ok-version.version → ⊥) c.in_ok-path.ensures.read.0 c.in_default-pair.ensures.none),
+      (subst (λ (p : List ℕ). Fits p c.in_ok-version.version → ⊥) c.in_ok-path.ensures.read.0 c.in_default.ensures.none),
 )
 
 pub returns-clause-read : goal.returns-clause-read
 returns-clause-read c = (
-  cc (c.in-Some-pair.ensures.some.0, c.in_ok-path.ensures.read.0, c.in_ok-version.ensures.read.0),
+  cc (c.in-Some.ensures.some.0, c.in_ok-path.ensures.read.0, c.in_ok-version.ensures.read.0),
   c.in_ok-path.ensures.read.1,
   c.in_ok-version.ensures.read.1,
   subst (λ (v : List ℕ). Fits c.args.path.now v) c.in_ok-version.ensures.read.0
-      (subst (λ (p : List ℕ). Fits p c.in_ok-version.version) c.in_ok-path.ensures.read.0 c.in-Some-pair.ensures.some.1),
+      (subst (λ (p : List ℕ). Fits p c.in_ok-version.version) c.in_ok-path.ensures.read.0 c.in-Some.ensures.some.1),
 )
