@@ -1,0 +1,6 @@
+pub mod Buckets
+pub mod Index
+pub mod Listed
+pub mod Lists
+pub mod Marks
+pub mod Tags

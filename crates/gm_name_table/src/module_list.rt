@@ -1,0 +1,156 @@
+//! A list of modules, of which many come more than once, by their numbers.
+
+ghost use Rattle.std.specs.Prelude.{◌≡◌, ◌≤◌, ◌++◌, ◌∷◌, [], false, true, IfOk, Ok, OnErr, OnOk, length, take};
+ghost use Rattle.std.specs.Iterator.{YieldsFirstRef, item_count};
+ghost use Rattle.gm_name.specs.Readings.{PairReading};
+ghost use Rattle.gm_name_table.specs.Listed.{part};
+
+use crate::module_table::ModuleTable;
+use gm_name::{ModVer, NoMemory};
+use std::alloc::Global;
+use std::marker::Model;
+
+/// A list of modules (paths at versions). Each distinct module is kept once, also after the list was cut, and the list
+/// has its number. Contracts see the list.
+#[derive(Drop)]
+pub struct ModuleList {
+    /// The distinct modules.
+    table: ModuleTable,
+    /// The number of each module of the list.
+    numbers: Vec<u32>,
+}
+
+impl Model for ModuleList {
+    ghost use Rattle.std.specs.Prelude.{List, ℕ};
+    ghost use Rattle.gm_name_table.specs.Listed.{AreModuleNumbers, modules_at};
+
+    ghost Value = { List (List ℕ × List ℕ) };
+
+    ghost view = { λ a. modules_at a.table a.numbers.items };
+
+    ghost invariant = { λ a. AreModuleNumbers a.table a.numbers.items };
+}
+
+impl ModuleList {
+    /// The empty list. Allocates no memory.
+    pub fn new(alloc: Global) -> ModuleList
+        ensures { result ≡ [] }
+    {
+        ModuleList {
+            table: ModuleTable::new(alloc),
+            numbers: Vec::new(alloc),
+        }
+    }
+
+    /// How many modules the list has.
+    pub fn len(&self) -> usize
+        ensures { result ≡ length self.now }
+    {
+        self.numbers.len()
+    }
+
+    /// Appends the module with these texts, if it is found among those that were put in before, and reports whether it
+    /// was. Few of these aren't found: those `push` appends all the same, without keeping them twice. No text is tested
+    /// again. The only refusal is `NoMemory`, which leaves the list as it was.
+    pub fn push_known(&mut self, path: &str, version: &str) -> Result<bool, NoMemory>
+        ensures pushed { IfOk result (λ is_known. is_known ≡ true
+            → self.new ≡ self.old ++ (path.now, version.now) ∷ []) }
+        ensures read { IfOk result (λ is_known. is_known ≡ true
+            → PairReading path.now version.now (Ok (path.now, version.now))) }
+        ensures unknown { IfOk result (λ is_known. is_known ≡ false → self.new ≡ self.old) }
+        ensures err { OnErr result (self.new ≡ self.old) }
+    {
+        match self.table.find_texts(path, version) {
+            Some(number) => {
+                self.numbers.push(number)?;
+                Ok(true)
+            }
+            None => Ok(false),
+        }
+    }
+
+    /// Appends a module. The only refusal is `NoMemory`, which leaves the list as it was.
+    pub fn push(&mut self, pair: &ModVer) -> Result<(), NoMemory>
+        ensures ok { OnOk result (self.new ≡ self.old ++ pair.now ∷ []) }
+        ensures err { OnErr result (self.new ≡ self.old) }
+    {
+        let number = self.table.number(pair)?;
+        self.numbers.push(number)?;
+        Ok(())
+    }
+
+    /// Cuts the list to a length, unless it is shorter.
+    pub fn truncate(&mut self, len: usize)
+        ensures { self.new ≡ take len self.old }
+    {
+        self.numbers.truncate(len);
+    }
+
+    /// The modules from one place to another.
+    pub fn part(&self, start: usize, end: usize) -> Modules<'_>
+        requires order { start ≤ end }
+        requires within { end ≤ length self.now }
+        ensures { result ≡ part start end self.now }
+    {
+        Modules {
+            modules: self.table.modules(),
+            numbers: &self.numbers[start..end],
+        }
+    }
+}
+
+/// Modules in order, which a clause sees as the list of the modules that are still to come. It takes no memory.
+#[derive(Drop)]
+pub struct Modules<'a> {
+    /// Distinct modules, in the order of their numbers.
+    modules: &'a [ModVer],
+    /// The numbers of the modules that are still to come.
+    numbers: &'a [u32],
+}
+
+impl<'a> Model for Modules<'a> {
+    ghost use Rattle.std.specs.Prelude.{List, ℕ};
+    ghost use Rattle.gm_name_table.specs.Listed.{AreModuleNumbers, modules_at};
+
+    ghost Value = { List (List ℕ × List ℕ) };
+
+    ghost view = { λ a. modules_at a.modules.now a.numbers.now };
+
+    ghost invariant = { λ a. AreModuleNumbers a.modules.now a.numbers.now };
+}
+
+impl<'a> Iterator for Modules<'a> {
+    /// A module of the list.
+    type Item = &'a ModVer;
+
+    ghost next_gives = { YieldsFirstRef (λ modules. modules) };
+
+    ghost remaining = { item_count (λ modules. modules) };
+
+    /// The next module, or `None` after the last one.
+    #[inline(always)]
+    fn next(&mut self) -> Option<&'a ModVer> {
+        let (first, others) = self.numbers.split_first()?;
+        self.numbers = others;
+        Some(&self.modules[*first as usize])
+    }
+}
+
+impl<'a> Modules<'a> {
+    /// No modules.
+    pub fn none() -> Modules<'a>
+        ensures { result ≡ [] }
+    {
+        Modules {
+            modules: &[],
+            numbers: &[],
+        }
+    }
+
+    /// How many modules are still to come.
+    pub fn len(&self) -> usize
+        ensures { result ≡ length self.now }
+    {
+        self.numbers.len()
+    }
+}
