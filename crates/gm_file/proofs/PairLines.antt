@@ -18,10 +18,12 @@ use Rattle.gm_file.specs.Fields.{first}
 use Rattle.gm_file.specs.Holding.{AreFound, IsLineAdded}
 use Rattle.gm_file.specs.Reading.{IsRead}
 use Rattle.gm_file.specs.PairLines.{IsRequirement, IsRequiring, require_item, single_item}
+use Rattle.gm_file.specs.Requirements.{Requirements}
 use Rattle.gm_file.specs.Retracting.{retraction_at}
 use Rattle.gm_file.specs.Views.{interval_views}
 use Rattle.gm_file.proofs.Arrows.{first-append}
 use Rattle.gm_file.proofs.DepReading.{dep-fault, dep-more, word_of}
+use Rattle.gm_file.proofs.Saying.{say-requirement}
 
 -- ---- what such a line says
 
@@ -29,18 +31,16 @@ pub require-directive : (path version : List ℕ) → directive_in Lax (require_
 unfolding directive_of
 require-directive path version = refl
 
--- its kinds are those of its path and its version
-pub require-bad : (old new : Fields) (path version : List ℕ) (fault : LineFault) → IsRead {Y = Pair} (λ p. p) WrongArguments pair_kinds (Some (path, version)) (Err fault)
-    → IsLineAdded Lax old new (require_item path version) (Err fault)
+-- it adds its path and its version, and its kinds are theirs
+pub require-added : (old : Fields) (now : Requirements) (path version : List ℕ) (result : Result (Unit {0}) LineFault)
+    → OnOk result (now.items ≡ old.requirements.items ++ (path, version) ∷ [])
+    → IsRead {Y = Unit {0}} (λ _. (path, version)) WrongArguments pair_kinds (Some (path, version)) result
+    → IsLineAdded Lax old (record old { requirements = now }) (require_item path version) result
 unfolding directive_of directive_kinds
-require-bad old new path version line.NoMemory told = tt
-require-bad old new path version (line.Kind kind) told = λ ds holds. told
-
-pub require-sound : (path version : List ℕ) (p : Pair) → IsRead {Y = Pair} (λ p. p) WrongArguments pair_kinds (Some (path, version)) (Ok p) → ((ds : _) → item_kinds Lax ds (require_item path version) ≡ []) × (directive_in Lax (require_item path version) ≡ Some (Requires p))
-unfolding directive_of directive_kinds
-require-sound path version p is =
-    let same : (path, version) ≡ p = cc is.0 in
-    (λ ds. ap pair_kinds same ∙ is.1, ap (λ (q : Pair). Some (Requires q)) same)
+require-added old now path version (Ok u) items told = λ ds holds.
+    (rw items (say-requirement holds (path, version)), told.1)
+require-added old now path version (Err line.NoMemory) items told = tt
+require-added old now path version (Err (line.Kind kind)) items told = λ ds holds. told
 
 -- it retracts nothing
 no-retraction : (path version : List ℕ) → retraction_at (require_item path version) ≡ None

@@ -4,6 +4,7 @@ pub mod Directives
 pub mod Faults
 pub mod Fields
 pub mod Reading
+pub mod Requirements
 pub mod Views
 pub mod Held
 pub mod VerbViews
@@ -14,4 +15,5 @@ pub mod Holding
 pub mod Retracting
 pub mod ReadFaults
 pub mod DepLines
+pub mod Listed
 pub mod PairLines

@@ -1,24 +1,29 @@
 //! A dependency's file: lax reading, which keeps only what a build needs from a dependency.
 
-ghost use Rattle.std.specs.Prelude.{◌≡◌, IfOk, IfErr, None, unwrap_or};
+ghost use Rattle.std.specs.Prelude.{◌≡◌, IfOk, IfErr, OnErr, None, unwrap_or};
 ghost use Rattle.std.specs.Option.{option_copied};
 ghost use Rattle.gm_syntax.specs.LineViews.{plain_lines};
 ghost use Rattle.gm_file.specs.DepLines.{IsDependencyIn, IsMisread};
 ghost use Rattle.gm_file.specs.Directives.{Lax};
 ghost use Rattle.gm_file.specs.Faults.{fault_of};
 ghost use Rattle.gm_file.specs.Fields.{dependency_of};
+ghost use Rattle.gm_file.specs.Listed.{IsListedFrom};
 ghost use Rattle.gm_file.specs.Views.{ReportsFault, interval_views};
 
-use crate::dep_lines::{DepLines, read_dep_lines};
+use crate::dep_lines::{DepLines, read_all};
 use crate::fault::{FileFault, ReadFault};
 use crate::fields::{Fields, read_lines};
+use crate::listed_file::ListedFile;
 use crate::replace::Interval;
+use crate::required::Required;
 use crate::retractions::read_retractions;
 use crate::verb::Mode;
 use gm_name::{KnownNames, ModPath, ModVer};
+use gm_name_table::ModuleList;
 use gm_syntax::{Doc, LineReader};
 use std::alloc::Global;
 use std::marker::Model;
+use std::mem;
 
 /// About how many bytes of a file its line of one requirement takes, so that a list of requirements is mostly made once
 /// with the room that it needs.
@@ -85,16 +90,54 @@ impl DepFile {
         ensures fault { IfErr result (IsMisread bytes.now) }
     {
         let mut reader = LineReader::new(alloc, bytes)?;
+        let pairs = Vec::with_capacity(alloc, bytes.len() / BYTES_OF_ONE)?;
+        let mut said = DepLines::over(alloc, Required::own(pairs));
+        read_all(alloc, names, &mut reader, &mut said)?;
         let DepLines {
             fields,
             retracts,
             ..
-        } = read_dep_lines(alloc, names, &mut reader, bytes.len() / BYTES_OF_ONE)?;
+        } = said;
         Ok(DepFile::of_fields(fields, retracts))
+    }
+
+    /// Reads the bytes of a file as `read_bytes` does, but puts the requirements to the end of a list of modules. On a
+    /// refusal the list is as it was.
+    ///
+    /// A module that was in the list before is not stored again, nor tested again if its words are bare.
+    pub fn read_listed(
+        alloc: Global,
+        names: &mut KnownNames,
+        modules: &mut ModuleList,
+        bytes: &[u8],
+    ) -> Result<ListedFile, ReadFault>
+        ensures ok { IfOk result (IsListedFrom bytes.now modules.old modules.new) }
+        ensures fault { IfErr result (IsMisread bytes.now) }
+        ensures err { OnErr result (modules.new ≡ modules.old) }
+    {
+        let mut reader = LineReader::new(alloc, bytes)?;
+        let start = modules.len();
+        let list = mem::replace(modules, ModuleList::new(alloc));
+        let mut said = DepLines::over(alloc, Required::at_end(list));
+        let read = read_all(alloc, names, &mut reader, &mut said);
+        let DepLines {
+            fields,
+            retracts,
+            ..
+        } = said;
+        let file = ListedFile::of_fields(fields, retracts, modules);
+        match read {
+            Ok(()) => Ok(file),
+            Err(fault) => {
+                modules.truncate(start);
+                Err(fault)
+            }
+        }
     }
 
     /// The file with these fields and retractions.
     fn of_fields(fields: Fields, retracts: Vec<Interval>) -> DepFile
+        requires { fields.requirements.before ≡ None }
         ensures { result ≡ record {
           declared = fields.declared;
           go = unwrap_or fields.go (1, 16);
@@ -111,7 +154,7 @@ impl DepFile {
         DepFile {
             declared,
             go: go.unwrap_or((1, 16)),
-            requirements,
+            requirements: requirements.into_pairs(),
             retracts,
         }
     }

@@ -17,9 +17,10 @@ ghost use Rattle.gm_file.specs.PairLines.{AreReadSofar, IsRequirement, IsRequiri
 use crate::fault::{LineFault, ReadFault};
 use crate::fields::Fields;
 use crate::replace::Interval;
+use crate::required::Required;
 use crate::retractions::{add_retraction, add_single_retraction};
 use crate::verb::Mode;
-use gm_name::{KnownNames, ModVer};
+use gm_name::KnownNames;
 use gm_syntax::{Line, LineReader, Token};
 use std::alloc::{AllocError, Global};
 
@@ -61,9 +62,10 @@ fn set_block<'a>(block: &mut Option<Token<'a>>, verb: Option<Token<'a>>)
 }
 
 impl<'a> DepLines<'a> {
-    /// What no lines say. Requirements go into this list, which must be empty.
-    fn over(alloc: Global, requirements: Vec<ModVer>) -> DepLines<'a>
+    /// What no lines say. Requirements go to this place, and there must be none in it.
+    pub(crate) fn over(alloc: Global, requirements: Required) -> DepLines<'a>
         requires { requirements.items ≡ [] }
+        ensures before { result.fields.requirements.before ≡ requirements.before }
         ensures lines { AreDepLines [] result }
         ensures found { AreFound result.fields }
     {
@@ -82,6 +84,7 @@ impl<'a> DepLines<'a> {
         line: &Line<'a>,
     ) -> Result<(), LineFault>
         requires { AreFound self.old.fields }
+        ensures before { self.new.fields.requirements.before ≡ self.old.fields.requirements.before }
         ensures found { OnOk result (AreFound self.new.fields) }
         ensures read { (lines : List (LineOf Word)) → AreDepLines lines self.old
             → IsNextLineOf lines (plain (line_of line.now)) self.new result }
@@ -112,6 +115,7 @@ impl<'a> DepLines<'a> {
     ) -> Result<(), LineFault>
         requires { AreFound self.old.fields }
         ensures block { self.new.block ≡ self.old.block }
+        ensures before { self.new.fields.requirements.before ≡ self.old.fields.requirements.before }
         ensures found { OnOk result (AreFound self.new.fields) }
         ensures read { (lines : List (LineOf Word)) (words : List Word) (suffix : Option (List ℕ))
             → AreDepLines lines self.old → IsRequirement self.old (Entry words suffix) path.now version.now
@@ -130,6 +134,7 @@ impl<'a> DepLines<'a> {
         requires block { self.old.block ≡ None }
         requires found { AreFound self.old.fields }
         ensures block { OnOk result (self.new.block ≡ None) }
+        ensures before { self.new.fields.requirements.before ≡ self.old.fields.requirements.before }
         ensures found { OnOk result (AreFound self.new.fields) }
         ensures read { (lines : List (LineOf Word)) (suffix : Option (List ℕ)) → AreDepLines lines self.old
             → IsNextLineOf lines (pair_line verb.now value.now suffix) self.new result }
@@ -171,6 +176,7 @@ fn read_pairs(
     requires block { IsRequiring said.old }
     requires found { AreFound said.old.fields }
     requires read { AreReadSofar reader.old said.old }
+    ensures before { said.new.fields.requirements.before ≡ said.old.fields.requirements.before }
     ensures found { OnOk result (AreFound said.new.fields) }
     ensures read { OnOk result (AreReadSofar reader.new said.new) }
     ensures source { OnOk result (reader.new.source ≡ reader.old.source) }
@@ -195,6 +201,7 @@ fn read_singles(
     requires found { AreFound said.old.fields }
     requires read { AreReadSofar reader.old said.old }
     ensures block { OnOk result (said.new.block ≡ None) }
+    ensures before { said.new.fields.requirements.before ≡ said.old.fields.requirements.before }
     ensures found { OnOk result (AreFound said.new.fields) }
     ensures read { OnOk result (AreReadSofar reader.new said.new) }
     ensures source { OnOk result (reader.new.source ≡ reader.old.source) }
@@ -221,6 +228,7 @@ fn read_requires(
     requires block { said.old.block ≡ None }
     requires found { AreFound said.old.fields }
     requires read { AreReadSofar reader.old said.old }
+    ensures before { said.new.fields.requirements.before ≡ said.old.fields.requirements.before }
     ensures found { OnOk result (AreFound said.new.fields) }
     ensures read { OnOk result (AreReadSofar reader.new said.new) }
     ensures source { OnOk result (reader.new.source ≡ reader.old.source) }
@@ -240,6 +248,7 @@ fn read_requires(
 fn open_block<'a>(reader: &mut LineReader<'a>, said: &mut DepLines<'a>)
     requires found { AreFound said.old.fields }
     requires read { AreReadSofar reader.old said.old }
+    ensures before { said.new.fields.requirements.before ≡ said.old.fields.requirements.before }
     ensures found { AreFound said.new.fields }
     ensures read { AreReadSofar reader.new said.new }
     ensures source { reader.new.source ≡ reader.old.source }
@@ -254,6 +263,7 @@ fn open_block<'a>(reader: &mut LineReader<'a>, said: &mut DepLines<'a>)
 fn close_block(reader: &mut LineReader, said: &mut DepLines)
     requires found { AreFound said.old.fields }
     requires read { AreReadSofar reader.old said.old }
+    ensures before { said.new.fields.requirements.before ≡ said.old.fields.requirements.before }
     ensures found { AreFound said.new.fields }
     ensures read { AreReadSofar reader.new said.new }
     ensures source { reader.new.source ≡ reader.old.source }
@@ -272,6 +282,7 @@ fn read_ahead<'a>(
 ) -> Result<(), ReadFault>
     requires found { AreFound said.old.fields }
     requires read { AreReadSofar reader.old said.old }
+    ensures before { said.new.fields.requirements.before ≡ said.old.fields.requirements.before }
     ensures found { OnOk result (AreFound said.new.fields) }
     ensures read { OnOk result (AreReadSofar reader.new said.new) }
     ensures source { OnOk result (reader.new.source ≡ reader.old.source) }
@@ -293,7 +304,7 @@ fn read_ahead<'a>(
 }
 
 /// Reads every line, so that what no lines say becomes what all lines say.
-fn read_all<'a>(
+pub(crate) fn read_all<'a>(
     alloc: Global,
     names: &mut KnownNames,
     reader: &mut LineReader<'a>,
@@ -302,6 +313,7 @@ fn read_all<'a>(
     requires start { HasRead reader.old [] }
     requires lines { AreDepLines [] said.old }
     requires found { AreFound said.old.fields }
+    ensures before { said.new.fields.requirements.before ≡ said.old.fields.requirements.before }
     ensures ok { OnOk result (AreAllRead reader.old.source said.new) }
     ensures fault { IfErr result (IsMisread reader.old.source) }
 {
@@ -314,20 +326,4 @@ fn read_all<'a>(
         read_ahead(names, reader, said)?;
     }
     Ok(())
-}
-
-/// What all lines say, or the fault of the bytes. `room` is how many requirements may be expected.
-pub(crate) fn read_dep_lines<'a>(
-    alloc: Global,
-    names: &mut KnownNames,
-    reader: &mut LineReader<'a>,
-    room: usize,
-) -> Result<DepLines<'a>, ReadFault>
-    requires { HasRead reader.old [] }
-    ensures ok { IfOk result (AreAllRead reader.old.source) }
-    ensures fault { IfErr result (IsMisread reader.old.source) }
-{
-    let mut said = DepLines::over(alloc, Vec::with_capacity(alloc, room)?);
-    read_all(alloc, names, reader, &mut said)?;
-    Ok(said)
 }

@@ -1,7 +1,7 @@
 //! The loop that both ways of reading share: it collects the fields of a file line by line, and stops at the first
 //! fault.
 
-ghost use Rattle.std.specs.Prelude.{◌≡◌, [], IfErr, IfOk, OnOk};
+ghost use Rattle.std.specs.Prelude.{◌≡◌, [], IfErr, IfOk, None, OnOk};
 ghost use Rattle.std.specs.Option.{option_map};
 ghost use Rattle.gm_syntax.specs.LineViews.{line_of, line_views, plain, plain_lines};
 ghost use Rattle.gm_file.specs.Directives.{Mode as ModeOf, Lax, DeclaresGo, DeclaresModule, block_after_line, item_at};
@@ -17,11 +17,12 @@ use crate::directive::{Directive, read_line_with_names};
 use crate::exclusions::Exclusions;
 use crate::fault::{DirectiveKind, FileFault, LineFault};
 use crate::go_version::{lax_go, strict_go};
-use crate::part::{pair_of_texts, read_path};
+use crate::part::read_path;
 use crate::replace::Interval;
 use crate::replacements::Replacements;
+use crate::required::Required;
 use crate::verb::Mode;
-use gm_name::{KnownNames, ModPath, ModVer};
+use gm_name::{KnownNames, ModPath};
 use gm_syntax::{Line, Token};
 use std::alloc::Global;
 
@@ -33,7 +34,7 @@ pub(crate) struct Fields {
     /// The first two numbers of the go version, if there was one.
     pub(crate) go: Option<(u32, u32)>,
     /// The modules of the `require` lines, in order.
-    pub(crate) requirements: Vec<ModVer>,
+    pub(crate) requirements: Required,
     /// The modules of the `exclude` lines, in order, with their index.
     pub(crate) excludes: Exclusions,
     /// The `replace` lines, in order, with their index.
@@ -53,9 +54,10 @@ fn go_in(mode: Mode, text: &str) -> Option<(u32, u32)>
 }
 
 impl Fields {
-    /// The fields of no lines, in which requirements go into this list. It must be empty.
-    pub(crate) fn over(alloc: Global, requirements: Vec<ModVer>) -> Fields
+    /// The fields of no lines, in which requirements go to this place. There must be none in it.
+    pub(crate) fn over(alloc: Global, requirements: Required) -> Fields
         requires { requirements.items ≡ [] }
+        ensures before { result.requirements.before ≡ requirements.before }
         ensures holds { (mode : ModeOf) → Holds mode [] result }
         ensures found { AreFound result }
     {
@@ -71,16 +73,18 @@ impl Fields {
 
     /// The fields of no lines.
     pub(crate) fn new(alloc: Global) -> Fields
+        ensures own { result.requirements.before ≡ None }
         ensures holds { (mode : ModeOf) → Holds mode [] result }
         ensures found { AreFound result }
     {
-        Fields::over(alloc, Vec::new(alloc))
+        Fields::over(alloc, Required::own(Vec::new(alloc)))
     }
 
     /// Adds the path of a `module` directive. A second one is refused with `Repeated`.
     fn add_module(&mut self, path: ModPath) -> Result<(), LineFault>
         requires early { path_kinds path ≡ [] }
         requires found { AreFound self.old }
+        ensures before { self.new.requirements.before ≡ self.old.requirements.before }
         ensures found { OnOk result (AreFound self.new) }
         ensures added { (mode : ModeOf) → IsAdded mode self.old self.new (DeclaresModule path) result }
     {
@@ -95,6 +99,7 @@ impl Fields {
     /// invalid version with `BadGo`.
     fn add_go(&mut self, mode: Mode, text: &str) -> Result<(), LineFault>
         requires found { AreFound self.old }
+        ensures before { self.new.requirements.before ≡ self.old.requirements.before }
         ensures found { OnOk result (AreFound self.new) }
         ensures added { IsAdded (mode_view mode) self.old self.new (DeclaresGo text.now) result }
     {
@@ -113,6 +118,7 @@ impl Fields {
     fn add(&mut self, alloc: Global, mode: Mode, directive: Directive) -> Result<(), LineFault>
         requires early { own_kinds (directive_view directive) ≡ [] }
         requires found { AreFound self.old }
+        ensures before { self.new.requirements.before ≡ self.old.requirements.before }
         ensures found { OnOk result (AreFound self.new) }
         ensures added { IsAdded (mode_view mode) self.old self.new (directive_view directive) result }
     {
@@ -147,12 +153,11 @@ impl Fields {
         version: &str,
     ) -> Result<(), LineFault>
         requires { AreFound self.old }
+        ensures before { self.new.requirements.before ≡ self.old.requirements.before }
         ensures found { OnOk result (AreFound self.new) }
         ensures added { IsLineAdded Lax self.old self.new (require_item path.now version.now) result }
     {
-        let pair = pair_of_texts(names, path, version)?;
-        self.requirements.push(pair)?;
-        Ok(())
+        self.requirements.read(names, path, version)
     }
 
     /// Adds the directive of this verb and this value, which are the bare words of a line outside blocks in a
@@ -164,6 +169,7 @@ impl Fields {
         value: &str,
     ) -> Result<(), LineFault>
         requires { AreFound self.old }
+        ensures before { self.new.requirements.before ≡ self.old.requirements.before }
         ensures found { OnOk result (AreFound self.new) }
         ensures added { IsLineAdded Lax self.old self.new (single_item verb.now value.now) result }
     {
@@ -190,6 +196,7 @@ impl Fields {
         line: &Line,
     ) -> Result<(), LineFault>
         requires { AreFound self.old }
+        ensures before { self.new.requirements.before ≡ self.old.requirements.before }
         ensures found { OnOk result (AreFound self.new) }
         ensures added { IsLineAdded (mode_view mode) self.old self.new
             (item_at (option_map (λ t. t.now.word) block.entry, plain (line_of line.now))) result }
@@ -228,6 +235,7 @@ pub(crate) fn read_lines(
     mode: Mode,
     lines: &[Line],
 ) -> Result<Fields, FileFault>
+    ensures own { IfOk result (λ fields. fields.requirements.before ≡ None) }
     ensures ok { IfOk result (AreRead (mode_view mode) (plain_lines (line_views lines.now))) }
     ensures fault { IfErr result (ReportsFault (mode_view mode) (plain_lines (line_views lines.now))) }
 {

@@ -77,7 +77,8 @@ impl<'a> MainFile<'a> {
 
     /// The file of a document with these fields. Without a `module` it is refused with `NoModule` at line 0.
     fn of_fields(doc: Doc<'a>, fields: Fields) -> Result<MainFile<'a>, FileFault>
-        requires { AreRead Strict (plain_lines doc) fields }
+        requires own { fields.requirements.before ≡ None }
+        requires read { AreRead Strict (plain_lines doc) fields }
         ensures ok { IfOk result (λ file. (file ≡ doc.entry) × (fault_of Strict (plain_lines doc.entry) ≡ None)) }
         ensures fault { IfErr result (ReportsFault Strict (plain_lines doc.entry)) }
     {
@@ -99,7 +100,7 @@ impl<'a> MainFile<'a> {
             doc,
             declared,
             go: go.unwrap_or((1, 16)),
-            requirements,
+            requirements: requirements.into_pairs(),
             excludes,
             replaces,
             retracts,

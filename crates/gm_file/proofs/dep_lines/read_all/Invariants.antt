@@ -10,6 +10,7 @@ use Rattle.gm_file.proofs.dep_lines.read_all.Given as goal
 abbrev pub invariant-loop-line : goal.invariant-loop-line
 invariant-loop-line l = record {
   source : l.reader.source ≡ l.initial.reader.source;
+  before : l.said.fields.requirements.before ≡ l.initial.said.fields.requirements.before;
   found : AreFound l.said.fields;
   read : (lines : List (Line Placed)) × HasRead l.reader lines × AreDepLines (plain_lines lines) l.said;
 }

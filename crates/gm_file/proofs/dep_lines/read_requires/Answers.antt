@@ -20,6 +20,7 @@ loop-path-preserved c =
       source = c.skip_blanks.ensures.source ∙ c.in-Some.ensures.source ∙ c.loop-path.invariant.source;
       no_longer = omega (arith, c.skip_blanks.ensures.no_longer, c.in-Some.ensures.shorter, c.loop-path.invariant.no_longer);
       block = rw c.require.ensures.block c.loop-path.invariant.block;
+      before = c.require.ensures.before ∙ c.loop-path.invariant.before;
       found = c.in_default-require.ensures.found;
       read = c.skip_blanks.ensures.read c.require.new.self (so.0 ++ next.0 ∷ [], next.3, subst (λ (ls : List (Line Word)). AreDepLines ls c.require.new.self) (sym (map_push plain so.0 next.0)) told);
     }

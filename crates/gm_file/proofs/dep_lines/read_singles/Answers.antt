@@ -16,6 +16,7 @@ loop-verb-preserved c =
       source = c.skip_blanks-in-Some.ensures.source ∙ c.in-Some.ensures.source ∙ c.loop-verb.invariant.source;
       no_longer = omega (arith, c.skip_blanks-in-Some.ensures.no_longer, c.in-Some.ensures.shorter, c.loop-verb.invariant.no_longer);
       block = c.in_default-read_single.ensures.block;
+      before = c.read_single.ensures.before ∙ c.loop-verb.invariant.before;
       found = c.in_default-read_single.ensures.found;
       read = c.skip_blanks-in-Some.ensures.read c.read_single.new.self (so.0 ++ next.0 ∷ [], next.3, subst (λ (ls : List (Line Word)). AreDepLines ls c.read_single.new.self) (sym (map_push plain so.0 next.0)) told);
     }

@@ -8,6 +8,7 @@ invariant-loop-verb l = record {
   source : l.reader.source ≡ l.initial.reader.source;
   no_longer : length l.reader.rest ≤ length l.initial.reader.rest;
   block : l.said.block ≡ None;
+  before : l.said.fields.requirements.before ≡ l.initial.said.fields.requirements.before;
   found : AreFound l.said.fields;
   read : AreReadSofar l.reader l.said;
 }

@@ -5,6 +5,7 @@ use Rattle.gm_file.proofs.dep_file.DepFile.read_bytes.Goals as goal
 
 pub returns-clause-ok : goal.returns-clause-ok
 returns-clause-ok c =
-    let said = c.in_ok-fields.field-0 in
-    let all : AreAllRead c.args.bytes.now said = subst (λ (s : List ℕ). AreAllRead s said) c.in_ok-reader.ensures.source c.in_ok-fields.ensures.ok in
+    let said = c.read_all.new.said in
+    let all : AreAllRead c.args.bytes.now said =
+    subst (λ (s : List ℕ). AreAllRead s said) c.in_ok-reader.ensures.source c.in_ok-read_all.ensures.ok in
     dep-whole c.args.bytes.now said c.of_fields.result all c.of_fields.ensures

@@ -4,10 +4,14 @@ use Rattle.gm_file.proofs.Whole.{main-held, main-sound, none-declared}
 use Rattle.gm_file.proofs.main_file.MainFile.of_fields.Goals as goal
 
 pub returns-in_default-clause-fault : goal.returns-in_default-clause-fault
-returns-in_default-clause-fault c = none-declared (plain_lines c.args.doc) c.args.fields c.requires c.in_default.is
+returns-in_default-clause-fault c = none-declared (plain_lines c.args.doc) c.args.fields c.requires.read c.in_default.is
 
 pub invariant_of-result : goal.invariant_of-result
-invariant_of-result c = main-held (plain_lines c.args.doc) c.args.fields c.in-Some.declared c.unwrap_or.result c.requires c.in-Some.is c.unwrap_or.ensures
+invariant_of-result c =
+    rw c.into_pairs.ensures
+    (main-held (plain_lines c.args.doc) c.args.fields c.in-Some.declared c.unwrap_or.result c.requires.read c.in-Some.is
+    c.unwrap_or.ensures)
 
 pub returns-clause-ok : goal.returns-clause-ok
-returns-clause-ok c = (refl, main-sound (plain_lines c.args.doc) c.args.fields c.in-Some.declared c.requires c.in-Some.is)
+returns-clause-ok c =
+    (refl, main-sound (plain_lines c.args.doc) c.args.fields c.in-Some.declared c.requires.read c.in-Some.is)

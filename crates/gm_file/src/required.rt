@@ -1,0 +1,139 @@
+//! The requirements of a file while it is read: a list of their own, or the end of a list of modules.
+
+ghost use Rattle.std.specs.Prelude.{◌≡◌, ◌++◌, ◌∷◌, [], List, None, Ok, Some, IfOk, OnOk, false, true};
+ghost use Rattle.gm_name.specs.Readings.{PairReading};
+ghost use Rattle.gm_file.specs.Directives.{Pair};
+ghost use Rattle.gm_file.specs.Faults.{pair_kinds};
+ghost use Rattle.gm_file.specs.Reading.{IsRead};
+
+use crate::fault::{DirectiveKind, LineFault};
+use crate::part::pair_of_texts;
+use gm_name::{KnownNames, ModVer, NoMemory};
+use gm_name_table::ModuleList;
+use std::marker::Model;
+use std::mem;
+
+/// Where requirements go.
+#[derive(Drop)]
+enum Place {
+    /// A list of their own.
+    Own(Vec<ModVer>),
+    /// The end of a list of modules, which had this many before.
+    End { list: ModuleList, start: usize },
+}
+
+/// The requirements of the lines that have been read, in order.
+#[derive(Drop)]
+pub(crate) struct Required {
+    /// Where they are.
+    place: Place,
+}
+
+impl Model for Required {
+    ghost use Rattle.gm_file.specs.Requirements.{IsLongEnough, Requirements, items_in};
+
+    ghost Value = { Requirements };
+
+    ghost view = { λ r. items_in r.place };
+
+    ghost invariant = { λ r. IsLongEnough r.place };
+}
+
+impl Required {
+    /// Requirements in a list of their own.
+    pub(crate) fn own(pairs: Vec<ModVer>) -> Required
+        ensures before { result.before ≡ None }
+        ensures items { result.items ≡ pairs.items }
+    {
+        Required {
+            place: Place::Own(pairs),
+        }
+    }
+
+    /// No requirements so far, to go to the end of a list of modules.
+    pub(crate) fn at_end(list: ModuleList) -> Required
+        ensures before { result.before ≡ Some list }
+        ensures items { result.items ≡ [] }
+    {
+        let start = list.len();
+        Required {
+            place: Place::End { list, start },
+        }
+    }
+
+    /// Adds a requirement.
+    pub(crate) fn push(&mut self, pair: ModVer) -> Result<(), NoMemory>
+        ensures before { self.new.before ≡ self.old.before }
+        ensures items { OnOk result (self.new.items ≡ self.old.items ++ pair ∷ []) }
+    {
+        match &mut self.place {
+            Place::Own(pairs) => {
+                pairs.push(pair)?;
+                Ok(())
+            }
+            Place::End { list, .. } => {
+                list.push(&pair)?;
+                Ok(())
+            }
+        }
+    }
+
+    /// Adds the requirement that two texts spell, if the list of modules had it before, and reports whether it had.
+    fn push_known(&mut self, path: &str, version: &str) -> Result<bool, NoMemory>
+        ensures before { self.new.before ≡ self.old.before }
+        ensures items { IfOk result (λ is_known. is_known ≡ true
+            → self.new.items ≡ self.old.items ++ (path.now, version.now) ∷ []) }
+        ensures read { IfOk result (λ is_known. is_known ≡ true
+            → PairReading path.now version.now (Ok (path.now, version.now))) }
+        ensures unknown { IfOk result (λ is_known. is_known ≡ false → self.new.items ≡ self.old.items) }
+    {
+        match &mut self.place {
+            Place::Own(_) => Ok(false),
+            Place::End { list, .. } => Ok(list.push_known(path, version)?),
+        }
+    }
+
+    /// Adds the requirement that two texts spell. The texts are refused as by `pair_of_texts`.
+    pub(crate) fn read(
+        &mut self,
+        names: &mut KnownNames,
+        path: &str,
+        version: &str,
+    ) -> Result<(), LineFault>
+        ensures before { self.new.before ≡ self.old.before }
+        ensures items { OnOk result (self.new.items ≡ self.old.items ++ (path.now, version.now) ∷ []) }
+        ensures read { IsRead (λ _. (path.now, version.now)) DirectiveKind.WrongArguments pair_kinds
+            (Some (path.now, version.now)) result }
+    {
+        if self.push_known(path, version)? {
+            return Ok(());
+        }
+        let pair = pair_of_texts(names, path, version)?;
+        self.push(pair)?;
+        Ok(())
+    }
+
+    /// The requirements, which are in a list of their own.
+    pub(crate) fn into_pairs(self) -> Vec<ModVer>
+        requires { self.before ≡ None }
+        ensures { result.items ≡ self.items }
+    {
+        match self.place {
+            Place::Own(pairs) => pairs,
+            Place::End { .. } => unreachable!(),
+        }
+    }
+
+    /// Puts the list of modules, with the requirements at its end, in place of this one. This one stays if the
+    /// requirements are in a list of their own, which is dropped.
+    pub(crate) fn give_back(self, modules: &mut ModuleList)
+        ensures { (before : List Pair) → self.before ≡ Some before → modules.new ≡ before ++ self.items }
+    {
+        match self.place {
+            Place::Own(_) => (),
+            Place::End { list, .. } => {
+                let _before = mem::replace(modules, list);
+            }
+        }
+    }
+}
