@@ -13,7 +13,8 @@ no_name add.NoMemory = refl
 no_name add.TooMany = refl
 
 -- It names no file on which the device failed.
-pub add_unrefused : {T : Type 0} (r : Result T LoadFault) (f : AddFault) → IsErrAnd r (λ h. h ≡ load_fault_of f) → refused_in r ≡ []
+pub add_unrefused : {T : Type 0} (r : Result T LoadFault) (f : AddFault) → IsErrAnd r (λ h. h ≡ load_fault_of f)
+    → refused_in r ≡ []
 add_unrefused (Ok x) f given = absurd given
 add_unrefused (Err h) f given = ap refused_names given ∙ no_name f
 
@@ -22,6 +23,7 @@ many_is add.NoMemory e = cc
 many_is add.TooMany e = refl
 
 -- It is that of too many vertices only if the worklist's is.
-pub add_too_many : {T : Type 0} (r : Result T LoadFault) (f : AddFault) → IsErrAnd r (λ h. h ≡ load_fault_of f) → r ≡ Err load.TooMany → f ≡ add.TooMany
+pub add_too_many : {T : Type 0} (r : Result T LoadFault) (f : AddFault) → IsErrAnd r (λ h. h ≡ load_fault_of f)
+    → r ≡ Err load.TooMany → f ≡ add.TooMany
 add_too_many (Ok x) f given e = absurd given
 add_too_many (Err h) f given e = many_is f (sym given ∙ cc)

@@ -22,14 +22,17 @@ no_turns = record {
   has_vertex = λ one h. absurd (omega (arith, h.1));
 }
 
-module _ (vertices : List ModuleVersion) (turns : List Turn) (x : ModuleVersion) (d : Depth) (old : AreTurnsOf vertices turns) (fresh : list_any (same_turn (turn x d)) turns ≡ false) where
+module _ (vertices : List ModuleVersion) (turns : List Turn) (x : ModuleVersion) (d : Depth)
+    (old : AreTurnsOf vertices turns) (fresh : list_any (same_turn (turn x d)) turns ≡ false) where
   -- a turn of a known vertex
   pub more_turn : list_any (same_vertex x) vertices ≡ true → AreTurnsOf vertices (turns ++ turn x d ∷ [])
   more_turn known = record {
     few = old.few;
     vertices_once = old.vertices_once;
     turns_once = IsDistinct-push turns_equivalence turns (turn x d) old.turns_once fresh;
-    has_turn = λ y h. let one = old.has_turn y h in (one.0, Contains-append_left turns (turn x d ∷ []) (turn y one.0) one.1);
+    has_turn = λ y h.
+        let one = old.has_turn y h in
+        (one.0, Contains-append_left turns (turn x d ∷ []) (turn y one.0) one.1);
     has_vertex = λ one h. elim (Contains-push_cases turns (turn x d) one h) [
       | inl there ↦ old.has_vertex one there
       | inr e ↦ subst (λ (o : Turn). Contains vertices o.vertex) e (Contains-from_any exact_vertex x vertices known)
@@ -37,14 +40,21 @@ module _ (vertices : List ModuleVersion) (turns : List Turn) (x : ModuleVersion)
   }
 
   -- a turn of a new vertex
-  pub new_turn : list_any (same_vertex x) vertices ≡ false → length vertices < 65536 → AreTurnsOf (vertices ++ x ∷ []) (turns ++ turn x d ∷ [])
+  pub new_turn : list_any (same_vertex x) vertices ≡ false → length vertices < 65536
+      → AreTurnsOf (vertices ++ x ∷ []) (turns ++ turn x d ∷ [])
   new_turn unknown room = record {
     few = rw length-append (omega arith);
     vertices_once = IsDistinct-push vertices_equivalence vertices x old.vertices_once unknown;
     turns_once = IsDistinct-push turns_equivalence turns (turn x d) old.turns_once fresh;
     has_turn = λ y h. elim (Contains-push_cases vertices x y h) [
-      | inl there ↦ (let one = old.has_turn y there in (one.0, Contains-append_left turns (turn x d ∷ []) (turn y one.0) one.1))
-      | inr e ↦ (d, subst (λ (z : ModuleVersion). Contains (turns ++ turn x d ∷ []) (turn z d)) e (Contains-push turns (turn x d)))
+      | inl there ↦ (
+          let one = old.has_turn y there in
+          (one.0, Contains-append_left turns (turn x d ∷ []) (turn y one.0) one.1))
+      | inr e ↦ (
+        d,
+        subst (λ (z : ModuleVersion). Contains (turns ++ turn x d ∷ []) (turn z d)) e
+            (Contains-push turns (turn x d)),
+      )
     ];
     has_vertex = λ one h. elim (Contains-push_cases turns (turn x d) one h) [
       | inl there ↦ Contains-append_left vertices (x ∷ []) one.vertex (old.has_vertex one there)
@@ -52,36 +62,33 @@ module _ (vertices : List ModuleVersion) (turns : List Turn) (x : ModuleVersion)
     ];
   }
 
-pub same_lists : (vs ws : List ModuleVersion) (ts us : List Turn) → vs ≡ ws → ts ≡ us → AreTurnsOf ws us
-    → AreTurnsOf vs ts
-same_lists vs ws ts us e f h = subst (λ (v : List ModuleVersion). AreTurnsOf v ts) (sym e) (subst (λ (t : List Turn). AreTurnsOf ws t) (sym f) h)
-
--- a full list, and a vertex that it doesn't have
-pub overflow_one : (vertices : List ModuleVersion) (turns : List Turn) (x : ModuleVersion) → AreTurnsOf vertices turns → 65536 ≤ length vertices → list_any (same_vertex x) vertices ≡ false → OverflowsWith vertices (x ∷ [])
+-- With so many vertices a new one is one too many.
+pub overflow_one : (vertices : List ModuleVersion) (turns : List Turn) (x : ModuleVersion) → AreTurnsOf vertices turns
+    → 65536 ≤ length vertices → list_any (same_vertex x) vertices ≡ false → OverflowsWith turns (x ∷ [])
 overflow_one vertices turns x are full unknown = (
   vertices ++ x ∷ [],
   omega (arith, length-append vertices (x ∷ [])),
   IsDistinct-push vertices_equivalence vertices x are.vertices_once unknown,
-  (λ y h. elim (Contains-push_cases vertices x y h) [ inl there ↦ inl there | inr e ↦ inr (0, omega arith, e) ]),
+  (λ y h. elim (Contains-push_cases vertices x y h) [
+    | inl there ↦ inl (are.has_turn y there)
+    | inr e ↦ inr (0, omega arith, e)
+  ]),
 )
 
 -- the same after some were added
-pub overflow_later : (vertices mid : List ModuleVersion) (turns more : List Turn) (d : Depth) (xs ys zs : List ModuleVersion) → AreTurnsOf vertices turns → AreTurnsOf mid more → AddsAll turns more xs d → ((y : ModuleVersion) → Contains xs y → Contains zs y) → ((y : ModuleVersion) → Contains ys y → Contains zs y) → OverflowsWith mid ys → OverflowsWith vertices zs
-overflow_later vertices mid turns more d xs ys zs are are' adds in_xs in_ys over = (
+pub overflow_later : (turns more : List Turn) (d : Depth) (xs ys zs : List ModuleVersion) → AddsAll turns more xs d
+    → ((y : ModuleVersion) → Contains xs y → Contains zs y) → ((y : ModuleVersion) → Contains ys y → Contains zs y)
+    → OverflowsWith more ys → OverflowsWith turns zs
+overflow_later turns more d xs ys zs adds in_xs in_ys over = (
   over.0,
   over.1,
   over.2,
   (λ y h. elim (over.3 y h) [
-    | inl there ↦ (let one = are'.has_turn y there in elim (adds.only (turn y one.0) one.1) [
-      | inl old ↦ inl (are.has_vertex (turn y one.0) old)
-      | inr found ↦ inr (subst (λ (m : ModuleVersion). Contains zs m) (sym (ap (λ (t : Turn). t.vertex) found.2)) (in_xs found.0 found.1))
-    ])
+    | inl one ↦ elim (adds.only (turn y one.0) one.1) [
+      | inl old ↦ inl (one.0, old)
+      | inr found ↦ inr (subst (λ (m : ModuleVersion). Contains zs m) (sym (ap (λ (t : Turn). t.vertex) found.2))
+          (in_xs found.0 found.1))
+    ]
     | inr new ↦ inr (in_ys y new)
   ]),
 )
-
-pub overflow_same : (vertices : List ModuleVersion) {xs ys : List ModuleVersion} → xs ≡ ys → OverflowsWith vertices xs → OverflowsWith vertices ys
-overflow_same vertices e over = subst (λ (zs : List ModuleVersion). OverflowsWith vertices zs) e over
-
-pub overflow_of : (xs : List ModuleVersion) {vertices others : List ModuleVersion} → vertices ≡ others → OverflowsWith vertices xs → OverflowsWith others xs
-overflow_of xs e over = subst (λ (zs : List ModuleVersion). OverflowsWith zs xs) e over

@@ -8,7 +8,7 @@ use Rattle.gm_graph_cache.specs.Cached.{HoldsSame, Knows, LentSame, held_of, mai
 use Rattle.gm_graph_cache.specs.Main.{Main, ModuleVersion, main_of}
 use Rattle.gm_graph_cache.specs.Reading.{Held, KeepsHeld, Readings, Tells, readings_by}
 use Rattle.gm_graph_cache.specs.declared.depth.Depth.{Depth}
-use Rattle.gm_graph.specs.declared.worklist.Worklist.{Worklist}
+use Rattle.gm_graph_cache.specs.declared.depth.Turn.{Turn}
 use Rattle.gm_graph_cache.proofs.Keeping.{held_same, main_same}
 use Rattle.gm_graph.specs.Visiting.{Continues, OverflowsAt, readings_in}
 use Rattle.gm_graph.specs.Turns.{VisitOverflows}
@@ -31,11 +31,11 @@ on_ok_two (Ok x) f p q = f p q
 on_ok_two (Err e) f p q = tt
 
 -- too many vertices, according to a cache that knows the vertex's file
-pub overflows_at : (old mid : Cache) (pairs : List (Name × Reply)) (worklist : Worklist) (x : ModuleVersion) (d : Depth) → LentSame old mid → KeepsHeld (held_of old) (held_of mid) → Knows mid pairs
-    → VisitOverflows (main_in mid) (readings_in mid) worklist.vertices.items x d → OverflowsAt old pairs worklist x d
-overflows_at old mid pairs worklist x d lent grows knows over = (
+pub overflows_at : (old mid : Cache) (pairs : List (Name × Reply)) (turns : List Turn) (x : ModuleVersion) (d : Depth) → LentSame old mid → KeepsHeld (held_of old) (held_of mid) → Knows mid pairs
+    → VisitOverflows (main_in mid) (readings_in mid) turns x d → OverflowsAt old pairs turns x d
+overflows_at old mid pairs turns x d lent grows knows over = (
   held_of mid,
   subst (λ (s : Option SumTable). Tells s pairs (held_of mid)) lent.sums knows.tells,
   grows,
-  subst (λ (m : Main). VisitOverflows m (readings_by m (held_of mid)) worklist.vertices.items x d) (ap main_of lent.main) over,
+  subst (λ (m : Main). VisitOverflows m (readings_by m (held_of mid)) turns x d) (ap main_of lent.main) over,
 )

@@ -16,10 +16,9 @@ use Rattle.gm_graph_cache.specs.Main.{Main, ModuleVersion}
 use Rattle.gm_graph_cache.specs.Reading.{Tells, file_of, is_askable, readings_by}
 use Rattle.gm_graph_cache.specs.Refusals.{refused_names, refused_in}
 use Rattle.gm_graph_cache.proofs.Keeping.{readings_stay}
-use Rattle.gm_graph.specs.declared.worklist.Worklist.{Worklist}
 use Rattle.gm_graph.specs.Visiting.{OverflowsAt}
 use Rattle.gm_graph.specs.Loading.{AreTooMany, AsksInTurn, IsDue, Told, nothing, more}
-use Rattle.gm_graph.specs.Turns.{AllValidTurns, AreTurnsOf, VisitOverflows}
+use Rattle.gm_graph.specs.Turns.{AllValidTurns, VisitOverflows}
 use Rattle.gm_graph.proofs.Queueing.{many_followed}
 use Rattle.gm_graph.proofs.Rounds.{opened_from}
 
@@ -55,13 +54,13 @@ module _ (main : Main) (sums : Option SumTable) (cache : Cache) (main_is : main_
   due_here new name same is askable none =
       subst (λ (ps : List (Name × Reply)). IsDue main sums ps name) (sym same) (due name (sym (is ∙ ap (λ (m : Main). file_of m x) main_is)) askable none)
 
-  pub many_here : (new : List (Name × Reply)) (worklist : Worklist) → AreTurnsOf worklist.vertices.items turns → OverflowsAt cache new worklist x depth → Told main sums new (AreTooMany main)
-  many_here new worklist are over =
+  pub many_here : (new : List (Name × Reply)) → OverflowsAt cache new turns x depth → Told main sums new (AreTooMany main)
+  many_here new over =
       let held = over.0 in (
         held,
         subst (λ (s : Option SumTable). Tells s new held) sums_are over.1,
-        many_followed main (readings_by main (held_of cache)) (readings_by main held) worklist.vertices.items turns at x depth are sound (readings_stay main (held_of cache) held over.2) below here
-            (subst (λ (m : Main). VisitOverflows m (readings_by m held) worklist.vertices.items x depth) main_is over.3),
+        many_followed main (readings_by main (held_of cache)) (readings_by main held) turns at x depth sound (readings_stay main (held_of cache) held over.2) below here
+            (subst (λ (m : Main). VisitOverflows m (readings_by m held) turns x depth) main_is over.3),
       )
 
 -- ---- the answers of a store, and which of them may be given

@@ -1,12 +1,12 @@
 -- The assembled graph is the specified result of loading.
-use Rattle.std.proofs.Common.{◌≡◌, ◌↔◌, ◌++◌, List, [], None, map, Option, Contains, ap, ◌∙◌, sym, subst}
+use Rattle.std.proofs.Common.{◌≡◌, ◌↔◌, List, [], None, map, Option, Contains, ap, ◌∙◌, sym, subst}
 use Rattle.std.specs.BTreeMap as tree
 use Rattle.gm_store.specs.Asked.{Name, Reply}
 use Rattle.gm_store_sums.specs.declared.sum_table.SumTable.{SumTable}
 use Rattle.gm_graph_cache.specs.declared.cache.Cache.{Cache}
 use Rattle.gm_graph_cache.specs.declared.depth.Turn.{Turn}
 use Rattle.gm_graph_cache.specs.Cached.{held_of, main_in, sums_in, turns_in}
-use Rattle.gm_graph_cache.specs.Main.{Main, ModuleVersion, without_excluded}
+use Rattle.gm_graph_cache.specs.Main.{Main, without_excluded}
 use Rattle.gm_graph_cache.specs.Reading.{Readings, readings_by}
 use Rattle.gm_graph_select.specs.declared.step.Edge.{Edge}
 use Rattle.gm_graph_select.specs.BuildList.{IsBuildList}
@@ -16,21 +16,20 @@ use Rattle.gm_graph_select.specs.Order.{HaveSame, IsAscending}
 use Rattle.gm_graph_select.proofs.Same.{same_build_list}
 use Rattle.gm_graph.specs.declared.fault.Fault.{Fault}
 use Rattle.gm_graph.specs.declared.graph_builder.GraphBuilder.{GraphBuilder}
-use Rattle.gm_graph.specs.declared.worklist.Worklist.{Worklist}
-use Rattle.gm_graph.specs.Adjacency.{left_by}
+use Rattle.gm_graph.specs.Builder.{edges_in, turns_of}
 use Rattle.gm_graph.specs.Visiting.{IsOpenedIn}
-use Rattle.gm_graph.specs.Building.{edges_in, fault}
+use Rattle.gm_graph.specs.Building.{fault}
 use Rattle.gm_graph.specs.Graph.{IsEdge}
 use Rattle.gm_graph.specs.Loading.{AreTooMany, AreTurns, AsksInTurn, Told}
 use Rattle.gm_graph.specs.Turns.{OverflowsWith}
 use Rattle.gm_graph.proofs.Queueing.{many_first}
 use Rattle.gm_graph.specs.Outcome.{AreFaults, IsLoaded, LoadedGraph}
 use Rattle.gm_graph.proofs.Exactly.{answered, asked_exactly, few_opened}
-use Rattle.gm_graph.proofs.Leaves.{ends_among}
+use Rattle.gm_graph.proofs.Ends.{ends_among}
 use Rattle.gm_graph.proofs.Mapped.{fault_listed, faults_ascend}
 use Rattle.gm_graph.proofs.Rooted.{list_rooted, same_edges}
 
-module _ (old new : Cache) (pairs : List (Name × Reply)) (worklist : Worklist) (builder : GraphBuilder) (opened : IsOpenedIn old new pairs worklist builder) where
+module _ (old new : Cache) (pairs : List (Name × Reply)) (builder : GraphBuilder) (opened : IsOpenedIn old new pairs builder) where
   abbrev main : Main
   main = main_in old
 
@@ -40,8 +39,8 @@ module _ (old new : Cache) (pairs : List (Name × Reply)) (worklist : Worklist) 
   pub gathered_rooted : IsRooted (among (edges_in builder))
   gathered_rooted = list_rooted main readings (edges_in builder) opened.edges
 
-  pub gathered_ends : AreEnds (left_by builder.leaving.items ++ worklist.leaves.items) (among (edges_in builder))
-  gathered_ends = ends_among main readings (left_by builder.leaving.items ++ worklist.leaves.items) (edges_in builder) opened.edges opened.ends
+  pub gathered_ends : AreEnds builder.vertices (among (edges_in builder))
+  gathered_ends = ends_among main readings builder.vertices (edges_in builder) opened.edges opened.ends
 
   faults_are : (faults : List Fault) → faults ≡ map (λ e. fault e.0 e.1) builder.faults.entries → tree.IsOrdered vertex_cmp builder.faults → AreFaults main readings faults
   faults_are faults e ordered = subst (λ (fs : List Fault). AreFaults main readings fs) (sym e) (record {
@@ -69,22 +68,22 @@ module _ (old new : Cache) (pairs : List (Name × Reply)) (worklist : Worklist) 
       turns = subst (λ (ts : List Turn). AreTurns main readings ts) (sym (turns ∙ opened.lent)) opened.turns;
       answered = λ x h. answered main (sums_in old) pairs (held_of new) opened.tells x (opened.known x h);
       asked = asked_exactly main (sums_in old) pairs (held_of new) opened.tells asks opened.known;
-      few = few_opened main readings worklist.vertices.items worklist.turns.items opened.worklist.turns opened.turns;
+      few = few_opened main readings opened.is_builder.opened (turns_of builder) opened.is_builder.turns opened.turns;
     },
   )
 
 -- the same for the main file and the go.sum that the cache was created with
-pub loads_of : (old new : Cache) (pairs : List (Name × Reply)) (worklist : Worklist) (builder : GraphBuilder) → IsOpenedIn old new pairs worklist builder → (main : Main) (sums : Option SumTable) → main_in old ≡ main → sums_in old ≡ sums
+pub loads_of : (old new : Cache) (pairs : List (Name × Reply)) (builder : GraphBuilder) → IsOpenedIn old new pairs builder → (main : Main) (sums : Option SumTable) → main_in old ≡ main → sums_in old ≡ sums
     → (loaded : LoadedGraph) → AsksInTurn (main_in old) (sums_in old) pairs → loaded.main ≡ main.path → loaded.faults ≡ map (λ e. fault e.0 e.1) builder.faults.entries → tree.IsOrdered vertex_cmp builder.faults
     → IsAscending edge_cmp loaded.edges → HaveSame (edges_in builder) loaded.edges → IsBuildList main.path main.replaces (among loaded.edges) loaded.rows → loaded.turns ≡ turns_in new
     → Told main sums pairs (IsLoaded main pairs loaded)
-loads_of old new pairs worklist builder opened main sums main_is sums_are loaded asks path_is faults ordered ascending same rows turns =
+loads_of old new pairs builder opened main sums main_is sums_are loaded asks path_is faults ordered ascending same rows turns =
     subst (λ (m : Main). Told m sums pairs (IsLoaded m pairs loaded)) main_is (subst (λ (s : Option SumTable). Told (main_in old) s pairs (IsLoaded (main_in old) pairs loaded)) sums_are
-    (loads old new pairs worklist builder opened loaded asks (path_is ∙ ap (λ (m : Main). m.path) (sym main_is)) faults ordered ascending same
+    (loads old new pairs builder opened loaded asks (path_is ∙ ap (λ (m : Main). m.path) (sym main_is)) faults ordered ascending same
     (subst (λ (m : Main). IsBuildList m.path m.replaces (among loaded.edges) loaded.rows) (sym main_is) rows) turns))
 
 -- Nothing was asked for, and the main file requires too many vertices.
-pub too_many_first : (main : Main) (sums : Option SumTable) (pairs : List (Name × Reply)) (xs : List ModuleVersion) → pairs ≡ [] → xs ≡ without_excluded main main.requirements → OverflowsWith [] xs → Told main sums pairs (AreTooMany main)
-too_many_first main sums pairs xs none is over =
+pub too_many_first : (main : Main) (sums : Option SumTable) (pairs : List (Name × Reply)) → pairs ≡ [] → OverflowsWith [] (without_excluded main main.requirements) → Told main sums pairs (AreTooMany main)
+too_many_first main sums pairs none over =
     subst (λ (ps : List (Name × Reply)). Told main sums ps (AreTooMany main)) (sym none)
-    ((λ n. None), (λ n. tt), many_first main (readings_by main (λ n. None)) (subst (λ (l : List ModuleVersion). OverflowsWith [] l) is over))
+    ((λ n. None), (λ n. tt), many_first main (readings_by main (λ n. None)) over)

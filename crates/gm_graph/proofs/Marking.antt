@@ -1,26 +1,54 @@
--- Marks of vertices and turns.
-use Rattle.std.proofs.Common.{◌≡◌, ◌||◌, ◌&&◌, cond, Bool, true, false, List, [], ◌∷◌, ◌++◌, Contains, ap, ◌∙◌, sym, refl, subst}
-use Rattle.std.specs.Ordering.{is_eq}
-use Rattle.std.specs.List.{list_any}
+-- The marks of vertices in a graph builder.
+use Rattle.std.proofs.Common.{◌≡◌, ◌⊎◌, ◌+◌, ◌<◌, ◌≤◌, ◌&&◌, ◌||◌, ◌++◌, ◌∷◌, ◌∙◌, [], ℕ, Bool, true, false, All, List, Contains, ap, ap₂, arith, get_or, inl, if◌then◌else◌, inr, length, length-append, map, refl, set, subst, sym}
+use Rattle.std.specs.List.{IsDistinct, list_any}
 use Rattle.std.specs.Cmp.{both_ways}
-use Rattle.std.specs.Prelude.{if◌then◌else◌, not}
-use Rattle.std.proofs.lemmas.Map.Views.{Contains-from_any, list_any-from_Contains}
+use Rattle.std.proofs.lemmas.Bool.{cases_eq, cases_lt}
+use Rattle.std.proofs.lemmas.List.Elements.{All-nil, All-push}
 use Rattle.std.proofs.lemmas.List.Folds.{list_any-append}
-use Rattle.gm_file.proofs.Sets.{pair-ties}
+use Rattle.std.proofs.lemmas.List.{get_or-set_other, get_or-set_same, get_or_read, length-set, map-append}
+use Rattle.std.proofs.lemmas.Map.Keys.{apart_from_distinct}
+use Rattle.std.proofs.lemmas.Map.Views.{Contains-from_any, list_any-from_Contains}
 use Rattle.gm_graph_cache.specs.declared.depth.Depth.{Depth}
-use Rattle.gm_graph_cache.specs.declared.depth.Depth.TheVariants.{Top, Deep}
+use Rattle.gm_graph_cache.specs.declared.depth.Depth.TheVariants.{Deep, Top}
 use Rattle.gm_graph_cache.specs.declared.depth.Turn.{Turn}
-use Rattle.gm_graph_cache.specs.Turns.{turn}
 use Rattle.gm_graph_cache.specs.Main.{ModuleVersion}
-use Rattle.gm_graph.specs.declared.worklist.Worklist.{Worklist}
+use Rattle.gm_graph_cache.specs.Turns.{turn}
+use Rattle.gm_graph_select.specs.declared.adjacency.Adjacency.{Adjacency}
+use Rattle.gm_graph_select.specs.Adjacency.{HaveNumbers, IsNumbered, vertex_at}
+use Rattle.gm_graph.specs.declared.graph_builder.GraphBuilder.{GraphBuilder}
+use Rattle.gm_graph.specs.declared.graph_builder.NumberedTurn.{NumberedTurn}
+use Rattle.gm_graph.specs.declared.marks.Marks.{Marks}
+use Rattle.gm_graph.specs.Builder.{AreMarks, IsBuilder, marks_at, turn_of, turns_of}
 use Rattle.gm_graph.specs.Graph.{same_vertex}
-use Rattle.gm_graph_select.specs.Graph.{vertex_cmp}
-use Rattle.gm_graph_select.specs.declared.vertex_set.VertexSet.{VertexSet}
-use Rattle.gm_graph_select.specs.VertexSet.{has}
-use Rattle.gm_graph.specs.Marks.{AreMarks, IsWorklist, is_marked_at, other_depth}
-use Rattle.gm_graph.specs.Turns.{AreTurnsOf, same_turn}
-use Rattle.gm_graph.proofs.Adding.{no_turns, same_lists}
+use Rattle.gm_graph.specs.Marks.{is_marked}
+use Rattle.gm_graph.specs.Turns.{AreTurnsOf, OverflowsWith, same_depth, same_turn}
+use Rattle.gm_graph.proofs.Adding.{more_turn, new_turn, no_turns, overflow_one}
 use Rattle.gm_graph.proofs.Sameness.{exact_turn, exact_vertex, turns_equivalence, vertices_equivalence}
+
+none_below : (vertices : List ModuleVersion) → vertices ≡ [] → (number : ℕ) → number < length vertices → ⊥
+none_below vertices e number below = omega (arith, ap length e, below)
+
+none_distinct : IsDistinct same_vertex []
+unfolding IsDistinct
+none_distinct = tt
+
+-- the empty builder
+pub no_builder : (made : GraphBuilder) → made.vertices ≡ [] → made.marks.items ≡ [] → made.turns.items ≡ []
+    → made.opened ≡ 0 → made.leaving.items ≡ [] → IsBuilder made
+no_builder made vertices marks turns opened leaving = record {
+  distinct = subst (λ (vs : List ModuleVersion). IsDistinct same_vertex vs) (sym vertices) none_distinct;
+  turned = subst (λ (ts : List NumberedTurn). All (λ one. one.number < length made.vertices) ts) (sym turns)
+      (All-nil (λ (one : NumberedTurn). one.number < length made.vertices));
+  numbered = subst (λ (all : List Adjacency). HaveNumbers (length made.vertices) all) (sym leaving)
+      (All-nil (IsNumbered (length made.vertices)));
+  long = ap length marks ∙ sym (ap length vertices);
+  marks = λ number d below. absurd (none_below made.vertices vertices number below);
+  opened = [];
+  turns = subst (λ (ts : List Turn). AreTurnsOf [] ts) (sym (ap (map (turn_of made.vertices)) turns)) no_turns;
+  counted = opened;
+}
+
+-- ---- whether a vertex has a turn
 
 found_turn : (turns : List Turn) (one : Turn) → Contains turns one → list_any (same_turn one) turns ≡ true
 found_turn turns one h = list_any-from_Contains turns_equivalence one turns h
@@ -29,138 +57,166 @@ found_vertex : (vertices : List ModuleVersion) (x : ModuleVersion) → Contains 
     → list_any (same_vertex x) vertices ≡ true
 found_vertex vertices x h = list_any-from_Contains vertices_equivalence x vertices h
 
--- If a turn is found, so is its vertex.
-module _ (vertices : List ModuleVersion) (turns : List Turn) (x : ModuleVersion)
-    (are : AreTurnsOf vertices turns) where
-  turn_vertex : (d : Depth) → list_any (same_turn (turn x d)) turns ≡ true → list_any (same_vertex x) vertices ≡ true
-  turn_vertex d h = found_vertex vertices x (are.has_vertex (turn x d) (Contains-from_any exact_turn (turn x d) turns h))
+either_true : (a b : Bool) → (a || b) ≡ true → (a ≡ true) ⊎ (b ≡ true)
+either_true true b h = inl refl
+either_true false b h = inr h
 
-  -- A vertex without a turn at one depth is there if it has one at the other.
-  vertex_by_top : (b : Bool) → list_any (same_turn (turn x Deep)) turns ≡ false → b ≡ list_any (same_turn (turn x Top)) turns → b ≡ list_any (same_vertex x) vertices
-  vertex_by_top b no_deep e = both_ways b (list_any (same_vertex x) vertices)
-      (λ is. turn_vertex Top (sym e ∙ is))
-      (λ is. let there = are.has_turn x (Contains-from_any exact_vertex x vertices is) in has_top there.0 (found_turn turns (turn x there.0) there.1))
+any_true : (marks : Marks) (d : Depth) → is_marked marks d ≡ true → (marks.top || marks.deep) ≡ true
+any_true marks Top h = ap (λ (b : Bool). b || marks.deep) h
+any_true marks Deep h = ap (λ (b : Bool). marks.top || b) h ∙ or_true marks.top
+  where
+    or_true : (b : Bool) → (b || true) ≡ true
+    or_true true = refl
+    or_true false = refl
+
+module _ (vertices : List ModuleVersion) (turns : List Turn) (x : ModuleVersion) (marks : Marks)
+    (are : AreTurnsOf vertices turns)
+    (marked : (d : Depth) → is_marked marks d ≡ list_any (same_turn (turn x d)) turns) where
+  turn_vertex : (d : Depth) → is_marked marks d ≡ true → list_any (same_vertex x) vertices ≡ true
+  turn_vertex d h = found_vertex vertices x
+      (are.has_vertex (turn x d) (Contains-from_any exact_turn (turn x d) turns (sym (marked d) ∙ h)))
+
+  -- It has one exactly if it has a mark.
+  pub vertex_by_marks : (marks.top || marks.deep) ≡ list_any (same_vertex x) vertices
+  vertex_by_marks = both_ways (marks.top || marks.deep) (list_any (same_vertex x) vertices)
+      (λ h. elim (either_true marks.top marks.deep h) [ inl top ↦ turn_vertex Top top | inr deep ↦ turn_vertex Deep deep ])
+      (λ h.
+      let one = are.has_turn x (Contains-from_any exact_vertex x vertices h) in
+      any_true marks one.0 (marked one.0 ∙ found_turn turns (turn x one.0) one.1))
+
+-- ---- one more turn
+
+equal_or : (v a b : Bool) → v ≡ true → (a || b) ≡ (b || ((v && a) || false))
+equal_or true true true e = refl
+equal_or true true false e = refl
+equal_or true false true e = refl
+equal_or true false false e = refl
+equal_or false a b e = cc
+
+other_or : (v a b : Bool) → v ≡ false → b ≡ (b || ((v && a) || false))
+other_or true a b e = cc
+other_or false a true e = refl
+other_or false a false e = refl
+
+apart : (vertices : List ModuleVersion) (q number : ℕ) → IsDistinct same_vertex vertices → q < length vertices
+    → number < length vertices → (q ≡ number → ⊥)
+    → same_vertex (vertex_at vertices q) (vertex_at vertices number) ≡ false
+apart vertices q number distinct under below other = elim (cases_lt q number) [
+  | inl lt ↦ apart_from_distinct same_vertex vertices q number ([], []) distinct lt below
+  | inr ge ↦ elim (cases_lt number q) [
+    | inl lt ↦ vertices_equivalence.symm (vertex_at vertices q) (vertex_at vertices number)
+        ∙ apart_from_distinct same_vertex vertices number q ([], []) distinct lt under
+    | inr le ↦ absurd (other (omega (arith, ge, le)))
+  ]
+]
+
+-- The vertex with this number has these marks.
+module _ (old : GraphBuilder) (number : ℕ) (depth : Depth) (marks : Marks) (is : IsBuilder old)
+    (below : number < length old.vertices) (at : marks ≡ get_or old.marks.items number marks) where
+  abbrev its_vertex : ModuleVersion
+  its_vertex = vertex_at old.vertices number
+
+  abbrev turns_with : List Turn
+  turns_with = turns_of old ++ turn its_vertex depth ∷ []
+
+  in_marks : number < length old.marks.items
+  in_marks = omega (arith, is.long, below)
+
+  marked : (d : Depth) → is_marked marks d ≡ list_any (same_turn (turn its_vertex d)) (turns_of old)
+  marked d = ap (λ (m : Marks). is_marked m d)
+      (get_or_read old.marks.items number marks in_marks at (record { top = false; deep = false }))
+      ∙ is.marks number d below
+
+  -- a turn that the worklist has
+  pub has_turn : true ≡ is_marked marks depth → Contains (turns_of old) (turn its_vertex depth)
+  has_turn h = Contains-from_any exact_turn (turn its_vertex depth) (turns_of old) (sym (h ∙ marked depth))
+
+  -- whether the vertex has a turn at any depth
+  any_turn : (marks.top || marks.deep) ≡ list_any (same_vertex its_vertex) is.opened
+  any_turn = vertex_by_marks is.opened (turns_of old) its_vertex marks is.turns marked
+
+  pub too_many : (n : ℕ) → n ≡ (if marks.top || marks.deep then old.opened else old.opened + 1) → 65536 < n
+      → OverflowsWith (turns_of old) (its_vertex ∷ [])
+  too_many n counts many = by_known (marks.top || marks.deep) any_turn counts
     where
-      has_top : (d : Depth) → list_any (same_turn (turn x d)) turns ≡ true → b ≡ true
-      has_top Top h = e ∙ h
-      has_top Deep h = absurd (cc (no_deep, h))
+      by_known : (b : Bool) → b ≡ list_any (same_vertex its_vertex) is.opened
+          → n ≡ (if b then old.opened else old.opened + 1)
+          → OverflowsWith (turns_of old) (its_vertex ∷ [])
+      by_known true known e = absurd (omega (arith, e, many, is.counted, is.turns.few))
+      by_known false unknown e = overflow_one is.opened (turns_of old) its_vertex is.turns
+          (omega (arith, e, many, is.counted)) (sym unknown)
 
-  vertex_by_deep : (b : Bool) → list_any (same_turn (turn x Top)) turns ≡ false → b ≡ list_any (same_turn (turn x Deep)) turns → b ≡ list_any (same_vertex x) vertices
-  vertex_by_deep b no_top e = both_ways b (list_any (same_vertex x) vertices)
-      (λ is. turn_vertex Deep (sym e ∙ is))
-      (λ is. let there = are.has_turn x (Contains-from_any exact_vertex x vertices is) in has_deep there.0 (found_turn turns (turn x there.0) there.1))
+  opened_more : (n : ℕ) → n ≡ (if marks.top || marks.deep then old.opened else old.opened + 1) → n ≤ 65536
+      → list_any (same_turn (turn its_vertex depth)) (turns_of old) ≡ false
+      → (list : List ModuleVersion) × AreTurnsOf list turns_with × (n ≡ length list)
+  opened_more n counts few fresh = by_known (marks.top || marks.deep) any_turn counts
     where
-      has_deep : (d : Depth) → list_any (same_turn (turn x d)) turns ≡ true → b ≡ true
-      has_deep Top h = absurd (cc (no_top, h))
-      has_deep Deep h = e ∙ h
+      by_known : (b : Bool) → b ≡ list_any (same_vertex its_vertex) is.opened
+          → n ≡ (if b then old.opened else old.opened + 1)
+          → (list : List ModuleVersion) × AreTurnsOf list turns_with × (n ≡ length list)
+      by_known true known e = (
+        is.opened,
+        more_turn is.opened (turns_of old) its_vertex depth is.turns fresh (sym known),
+        e ∙ is.counted,
+      )
+      by_known false unknown e = (
+        is.opened ++ its_vertex ∷ [],
+        new_turn is.opened (turns_of old) its_vertex depth is.turns fresh (sym unknown)
+            (omega (arith, e, few, is.counted)),
+        omega (arith, e, is.counted, length-append is.opened (its_vertex ∷ [])),
+      )
 
--- one more vertex in a set
-abbrev pub IsPut : VertexSet → VertexSet → ModuleVersion → Type 0
-IsPut old new x = (q : ModuleVersion) → has new q ≡ cond (is_eq (vertex_cmp x q)) true (has old q)
+  marks_with : (new : Marks) → ((d : Depth) → is_marked new d ≡ (same_depth d depth || is_marked marks d))
+      → AreMarks old.vertices (set old.marks.items number new) turns_with
+  marks_with new with' q d under = elim (cases_eq q number) [
+    | inl same ↦
+        subst (λ (n : ℕ). is_marked (marks_at (set old.marks.items number new) n) d
+        ≡ list_any (same_turn (turn (vertex_at old.vertices n) d)) turns_with) (sym same)
+        (ap (λ (m : Marks). is_marked m d)
+        (get_or-set_same old.marks.items number new (record { top = false; deep = false }) in_marks)
+        ∙ with' d
+        ∙ ap (λ (b : Bool). same_depth d depth || b) (marked d)
+        ∙ equal_or (same_vertex its_vertex its_vertex) (same_depth d depth)
+        (list_any (same_turn (turn its_vertex d)) (turns_of old)) (vertices_equivalence.refl its_vertex)
+        ∙ sym (list_any-append (same_turn (turn its_vertex d)) (turns_of old) (turn its_vertex depth ∷ [])))
+    | inr other ↦
+        ap (λ (m : Marks). is_marked m d)
+        (get_or-set_other old.marks.items number q new (record { top = false; deep = false }) other)
+        ∙ is.marks q d under
+        ∙ other_or (same_vertex (vertex_at old.vertices q) its_vertex) (same_depth d depth)
+        (list_any (same_turn (turn (vertex_at old.vertices q) d)) (turns_of old))
+        (apart old.vertices q number is.distinct under below other)
+        ∙ sym (list_any-append (same_turn (turn (vertex_at old.vertices q) d)) (turns_of old)
+        (turn its_vertex depth ∷ []))
+  ]
 
-put_key : (old new : VertexSet) (x q : ModuleVersion) → IsPut old new x
-    → has new q ≡ cond (same_vertex q x) true (has old q)
-put_key old new x q puts = puts q ∙ ap (λ (b : Bool). cond b true (has old q)) (pair-ties x q ∙ vertices_equivalence.symm x q)
-
-and_true : (b : Bool) → (b && true) ≡ b
-and_true true = refl
-and_true false = refl
-
-and_false : (b : Bool) → (b && false) ≡ false
-and_false true = refl
-and_false false = refl
-
--- one more mark
-abbrev pub IsMarkedToo : Worklist → Worklist → ModuleVersion → Depth → Type 0
-IsMarkedToo old new x depth = (q : ModuleVersion) (d : Depth) → is_marked_at new d q ≡ (if same_turn (turn q d) (turn x depth) then true else is_marked_at old d q)
-
-abbrev with_tops : Worklist → VertexSet → Worklist
-with_tops o marks = record { turns = o.turns; vertices = o.vertices; leaves = o.leaves; tops = marks; deeps = o.deeps }
-
-abbrev with_deeps : Worklist → VertexSet → Worklist
-with_deeps o marks = record { turns = o.turns; vertices = o.vertices; leaves = o.leaves; tops = o.tops; deeps = marks }
-
-top_put : (o : Worklist) (marks : VertexSet) (x : ModuleVersion) → IsPut o.tops marks x → IsMarkedToo o (with_tops o marks) x Top
-top_put o marks x updates q Top = put_key o.tops marks x q updates ∙ ap (λ (b : Bool). cond b true (has o.tops q)) (sym (and_true (same_vertex q x)))
-top_put o marks x updates q Deep = ap (λ (b : Bool). cond b true (has o.deeps q)) (sym (and_false (same_vertex q x)))
-
-deep_put : (o : Worklist) (marks : VertexSet) (x : ModuleVersion) → IsPut o.deeps marks x → IsMarkedToo o (with_deeps o marks) x Deep
-deep_put o marks x updates q Top = ap (λ (b : Bool). cond b true (has o.tops q)) (sym (and_false (same_vertex q x)))
-deep_put o marks x updates q Deep = put_key o.deeps marks x q updates ∙ ap (λ (b : Bool). cond b true (has o.deeps q)) (sym (and_true (same_vertex q x)))
-
-pub put_top : (o : Worklist) (marks : VertexSet) (x : ModuleVersion) (depth : Depth) → depth ≡ Top → IsPut o.tops marks x → IsMarkedToo o (with_tops o marks) x depth
-put_top o marks x depth e puts = subst (λ (d : Depth). IsMarkedToo o (with_tops o marks) x d) (sym e) (top_put o marks x puts)
-
-pub put_deep : (o : Worklist) (marks : VertexSet) (x : ModuleVersion) (depth : Depth) → depth ≡ Deep → IsPut o.deeps marks x → IsMarkedToo o (with_deeps o marks) x depth
-put_deep o marks x depth e puts = subst (λ (d : Depth). IsMarkedToo o (with_deeps o marks) x d) (sym e) (deep_put o marks x puts)
-
-pub marked_same : (a b : Worklist) → a.tops ≡ b.tops → a.deeps ≡ b.deeps → (q : ModuleVersion) (d : Depth) → is_marked_at a d q ≡ is_marked_at b d q
-marked_same a b e f q Top = ap (λ (s : VertexSet). has s q) e
-marked_same a b e f q Deep = ap (λ (s : VertexSet). has s q) f
-
-none_found : (d : Depth) (x : ModuleVersion) (turns : List Turn) → turns ≡ []
-    → list_any (same_turn (turn x d)) turns ≡ false
-none_found d x turns e = ap (list_any (same_turn (turn x d))) e
-
-no_marks : (o : Worklist) → o.turns.items ≡ [] → ((x : ModuleVersion) → has o.tops x ≡ false) → ((x : ModuleVersion) → has o.deeps x ≡ false) → AreMarks o
-no_marks o e f g x Top = f x ∙ sym (none_found Top x o.turns.items e)
-no_marks o e f g x Deep = g x ∙ sym (none_found Deep x o.turns.items e)
-
--- the empty worklist
-pub opening_none : (o : Worklist) → o.turns.items ≡ [] → o.vertices.items ≡ [] → ((x : ModuleVersion) → has o.tops x ≡ false) → ((x : ModuleVersion) → has o.deeps x ≡ false) → IsWorklist o
-opening_none o e v f g = record {
-  turns = same_lists o.vertices.items [] o.turns.items [] v e no_turns;
-  marks = no_marks o e f g;
-}
-
-marked_or : (b m : Bool) → (if b then true else m) ≡ (m || (b || false))
-marked_or true true = refl
-marked_or true false = refl
-marked_or false true = refl
-marked_or false false = refl
-
-module _ (old mid : Worklist) (x : ModuleVersion) (depth : Depth) (more : IsMarkedToo old mid x depth) where
-  -- one more turn, and its mark
-  pub marks_more : (new : Worklist) → AreMarks old → ((q : ModuleVersion) (d : Depth) → is_marked_at new d q ≡ is_marked_at mid d q) → new.turns.items ≡ old.turns.items ++ turn x depth ∷ [] → AreMarks new
-  marks_more new are same turns q d =
-      same q d
-      ∙ more q d
-      ∙ ap (λ (m : Bool). if same_turn (turn q d) (turn x depth) then true else m) (are q d)
-      ∙ marked_or (same_turn (turn q d) (turn x depth)) (list_any (same_turn (turn q d)) old.turns.items)
-      ∙ sym (list_any-append (same_turn (turn q d)) old.turns.items (turn x depth ∷ []))
-      ∙ ap (list_any (same_turn (turn q d))) (sym turns)
-
-  stays_marked : (b m : Bool) → (b ≡ true → m ≡ true) → (if b then true else m) ≡ m
-  stays_marked true m h = sym (h refl)
-  stays_marked false m h = refl
-
-  -- a mark that was there already
-  pub marks_stay : AreMarks old → is_marked_at old depth x ≡ true → mid.turns.items ≡ old.turns.items → AreMarks mid
-  marks_stay are was turns q d =
-      more q d
-      ∙ stays_marked (same_turn (turn q d) (turn x depth)) (is_marked_at old d q) (λ same. subst (λ (t : Turn). is_marked_at old t.depth t.vertex ≡ true) (sym (exact_turn (turn q d) (turn x depth) same)) was)
-      ∙ are q d
-      ∙ ap (list_any (same_turn (turn q d))) (sym turns)
-
--- the result of marking, and what was marked before
-pub was_marked : (b m : Bool) → b ≡ not m → b ≡ false → m ≡ true
-was_marked b true e f = refl
-was_marked b false e f = cc
-
-pub was_not_marked : (b m : Bool) → b ≡ not m → b ≡ true → m ≡ false
-was_not_marked b true e f = cc
-was_not_marked b false e f = refl
-
--- A new mark leaves those of the other depth unchanged.
-other_mark : (old mid : Worklist) (x : ModuleVersion) (depth : Depth) → IsMarkedToo old mid x depth → is_marked_at mid (other_depth depth) x ≡ is_marked_at old (other_depth depth) x
-other_mark old mid x Top more = more x Deep ∙ ap (λ (b : Bool). if b then true else is_marked_at old Deep x) (and_false (same_vertex x x))
-other_mark old mid x Deep more = more x Top ∙ ap (λ (b : Bool). if b then true else is_marked_at old Top x) (and_false (same_vertex x x))
-
-vertex_by_turn : (vertices : List ModuleVersion) (turns : List Turn) (x : ModuleVersion) (depth : Depth) (b : Bool) → AreTurnsOf vertices turns → list_any (same_turn (turn x depth)) turns ≡ false → b ≡ list_any (same_turn (turn x (other_depth depth))) turns → b ≡ list_any (same_vertex x) vertices
-vertex_by_turn vertices turns x Top b are fresh e = vertex_by_deep vertices turns x are b fresh e
-vertex_by_turn vertices turns x Deep b are fresh e = vertex_by_top vertices turns x are b fresh e
-
--- A vertex that is newly marked at one depth is there if it is marked at the other.
-pub vertex_by_mark : (old mid : Worklist) (x : ModuleVersion) (depth : Depth) (b : Bool) → IsWorklist old → IsMarkedToo old mid x depth → is_marked_at old depth x ≡ false → b ≡ is_marked_at mid (other_depth depth) x → b ≡ list_any (same_vertex x) old.vertices.items
-vertex_by_mark old mid x depth b is more new e =
-    vertex_by_turn old.vertices.items old.turns.items x depth b is.turns (sym (is.marks x depth) ∙ new) (e ∙ other_mark old mid x depth more ∙ is.marks x (other_depth depth))
+  -- a new turn, and its mark
+  pub builder_with : (new : GraphBuilder) (more : Marks) → new.vertices ≡ old.vertices
+      → new.marks.items ≡ set old.marks.items number more
+      → new.turns.items ≡ old.turns.items ++ record { number = number; depth = depth } ∷ []
+      → new.leaving ≡ old.leaving
+      → ((d : Depth) → is_marked more d ≡ (same_depth d depth || is_marked marks d))
+      → false ≡ is_marked marks depth
+      → new.opened ≡ (if marks.top || marks.deep then old.opened else old.opened + 1) → new.opened ≤ 65536
+      → IsBuilder new
+  builder_with new more vertices marks' turns leaving with' unmarked counts few =
+      let one : NumberedTurn = record { number = number; depth = depth } in
+      let (list, are, counted) = opened_more new.opened counts few (sym (unmarked ∙ marked depth)) in
+      let turns' : turns_of new ≡ turns_with =
+      ap₂ (λ (vs : List ModuleVersion) (ts : List NumberedTurn). map (turn_of vs) ts) vertices turns
+      ∙ map-append (turn_of old.vertices) old.turns.items (one ∷ []) in
+      record {
+        distinct = subst (λ (vs : List ModuleVersion). IsDistinct same_vertex vs) (sym vertices) is.distinct;
+        turned = subst (λ (vs : List ModuleVersion). All (λ one. one.number < length vs) new.turns.items) (sym vertices)
+            (subst (λ (ts : List NumberedTurn). All (λ one. one.number < length old.vertices) ts) (sym turns)
+            (All-push (λ (one : NumberedTurn). one.number < length old.vertices) old.turns.items one is.turned below));
+        numbered = subst (λ (vs : List ModuleVersion). HaveNumbers (length vs) new.leaving.items) (sym vertices)
+            (subst (λ all. HaveNumbers (length old.vertices) all.items) (sym leaving) is.numbered);
+        long = ap length marks' ∙ length-set old.marks.items number more ∙ is.long ∙ sym (ap length vertices);
+        marks = subst (λ (ts : List Turn). AreMarks new.vertices new.marks.items ts) (sym turns')
+            (subst (λ (vs : List ModuleVersion). AreMarks vs new.marks.items turns_with) (sym vertices)
+            (subst (λ (ms : List Marks). AreMarks old.vertices ms turns_with) (sym marks') (marks_with more with')));
+        opened = list;
+        turns = subst (λ (ts : List Turn). AreTurnsOf list ts) (sym turns') are;
+        counted = counted;
+      }

@@ -10,7 +10,7 @@ use Rattle.gm_graph_cache.specs.declared.depth.Depth.{Depth}
 use Rattle.gm_graph_cache.specs.declared.depth.Depth.TheVariants.{Top, Deep}
 use Rattle.gm_graph.specs.Graph.{IsTop}
 use Rattle.gm_graph.specs.Loading.{AreTooMany}
-use Rattle.gm_graph.specs.Turns.{IsDone, Extends, AreTurnsOf, Visits, IsValidTurn, AllValidTurns, AreFirstTurns, OverflowsWith, VisitOverflows}
+use Rattle.gm_graph.specs.Turns.{IsDone, Extends, Visits, IsValidTurn, AllValidTurns, AreFirstTurns, OverflowsWith, VisitOverflows}
 use Rattle.gm_graph_cache.specs.Turns.{turn}
 use Rattle.gm_graph.proofs.Deepening.{IsDone-kept, IsValidTurn-kept, leads_to_deep}
 use Rattle.gm_graph.proofs.Rounds.{AreVisited, along, opened_from}
@@ -67,15 +67,15 @@ queue_all main answers turns at past queue = record {
 }
 
 pub many_first : (main : Main) (answers : Readings) → OverflowsWith [] (without_excluded main main.requirements) → AreTooMany main answers
-many_first main answers over = (over.0, over.1, over.2, (λ x h. elim (over.3 x h) [ inl none ↦ absurd (omega (arith, none.1)) | inr top ↦ inl top ]))
+many_first main answers over = (over.0, over.1, over.2, (λ x h. elim (over.3 x h) [ inl none ↦ absurd (omega (arith, none.1.1)) | inr top ↦ inl top ]))
 
-pub many_followed : (main : Main) (a b : Readings) (vertices : List ModuleVersion) (turns : List Turn) (at : ℕ) (x : ModuleVersion) (depth : Depth) → AreTurnsOf vertices turns → AllValidTurns main a turns → Keeps a b → at < length turns → get_or turns at (turn x depth) ≡ turn x depth → VisitOverflows main b vertices x depth → AreTooMany main b
-many_followed main a b vertices turns at x depth are sound keeps below here (leads, over) = (
+pub many_followed : (main : Main) (a b : Readings) (turns : List Turn) (at : ℕ) (x : ModuleVersion) (depth : Depth) → AllValidTurns main a turns → Keeps a b → at < length turns → get_or turns at (turn x depth) ≡ turn x depth → VisitOverflows main b turns x depth → AreTooMany main b
+many_followed main a b turns at x depth sound keeps below here (leads, over) = (
   over.0,
   over.1,
   over.2,
   (λ y h. elim (over.3 y h) [
-    | inl there ↦ (let one = are.has_turn y there in opened_from main b y one.0 (IsValidTurn-kept main a b keeps y one.0 (sound (turn y one.0) one.1)))
+    | inl one ↦ opened_from main b y one.0 (IsValidTurn-kept main a b keeps y one.0 (sound (turn y one.0) one.1))
     | inr required ↦ inr (leads_to_deep main b x depth y (IsValidTurn-kept main a b keeps x depth (sound (turn x depth) (at, below, here))) leads required)
   ]),
 )

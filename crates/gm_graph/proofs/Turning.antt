@@ -1,5 +1,6 @@
 -- What one visit adds to the graph builder.
-use Rattle.std.proofs.Common.{◌≡◌, Bool, true, false, List, [], Option, IsSome, Contains, ap, ◌∙◌, sym, refl, subst, inl, append-nil}
+use Rattle.std.proofs.Common.{◌≡◌, ◌⊎◌, ◌++◌, ◌∷◌, Bool, true, false, List, [], Option, None, IsSome, Contains, map, ap, ◌∙◌, sym, refl, subst, inl, inr, append-nil, arith}
+use Rattle.std.proofs.lemmas.List.Elements.{Contains-append_cases, Contains-append_right}
 use Rattle.std.proofs.lemmas.Bool.{false≢true}
 use Rattle.gm_graph_cache.specs.declared.class.Class.{Class}
 use Rattle.gm_graph_cache.specs.declared.depth.Depth.{Depth}
@@ -8,13 +9,15 @@ use Rattle.gm_graph_cache.specs.declared.finding.Finding.TheVariants.{Fault, Sou
 use Rattle.gm_graph_cache.specs.declared.depth.Turn.{Turn}
 use Rattle.gm_graph_cache.specs.Cached.{IsFinding}
 use Rattle.gm_graph_cache.specs.Turns.{turn}
-use Rattle.gm_graph_cache.specs.Main.{Main, ModuleVersion}
-use Rattle.gm_graph_cache.specs.Reading.{Held, fault_in, vertex_fault, readings_by, vertex_requirements}
+use Rattle.gm_graph_cache.specs.Main.{Main, ModuleVersion, without_excluded}
+use Rattle.gm_graph_cache.specs.Reading.{Held, Readings, fault_in, vertex_fault, readings_by, vertex_requirements}
 use Rattle.gm_graph_select.specs.declared.step.Edge.{Edge}
-use Rattle.gm_graph.specs.declared.adjacency.Adjacency.{Adjacency}
-use Rattle.gm_graph.specs.declared.graph_builder.GraphBuilder.{GraphBuilder}
-use Rattle.gm_graph.specs.Adjacency.{AddsGroup}
-use Rattle.gm_graph.specs.Building.{AddsEdges, Gathers, edges_in, faults_by_vertex, found_fault, gathers, noted}
+use Rattle.gm_graph_select.specs.declared.step.Step.{Step}
+use Rattle.gm_graph_select.specs.declared.step.Step.TheVariants.{Main as FromMain, Of}
+use Rattle.gm_graph_select.specs.Graph.{edge}
+use Rattle.gm_graph.specs.Building.{AddsSource, AreGathered, Faults, Gathers, found_fault, gathers, noted}
+use Rattle.gm_graph.specs.Graph.{IsEdge}
+use Rattle.gm_graph.proofs.Mapped.{from_mapped, in_mapped}
 
 finding_fault : (main : Main) (held : Held) (x : ModuleVersion) (f : Finding) → IsFinding main held x f → found_fault f ≡ vertex_fault (readings_by main held) x
 finding_fault main held x (Fault class) e = sym (ap fault_in e)
@@ -25,36 +28,53 @@ pub finding_known : (main : Main) (held : Held) (x : ModuleVersion) (f : Finding
 finding_known main held x (Fault class) e = subst (λ o. IsSome o) (sym e) refl
 finding_known main held x (Sound name) e = subst (λ o. IsSome o) (sym e.2) refl
 
-module _ (main : Main) (held : Held) (turns : List Turn) (x : ModuleVersion) (d : Depth) (f : Finding) (found : IsFinding main held x f) (old mid new : GraphBuilder)
-    (noting : (q : ModuleVersion) → faults_by_vertex mid q ≡ noted (found_fault f) x (faults_by_vertex old) q) (same : edges_in mid ≡ edges_in old) where
-  noting_fault : (q : ModuleVersion) → faults_by_vertex mid q
-      ≡ noted (vertex_fault (readings_by main held) x) x (faults_by_vertex old) q
-  noting_fault q = noting q ∙ ap (λ (o : Option Class). noted o x (faults_by_vertex old) q)
-      (finding_fault main held x f found)
+-- Edges from one step to some vertices were added.
+each_added : (old new : List Edge) (s : Step) (ys : List ModuleVersion) → new ≡ old ++ map (edge s) ys → (y : ModuleVersion) → Contains ys y → Contains new (edge s y)
+each_added old new s ys more y h = subst (λ (es : List Edge). Contains es (edge s y)) (sym more) (Contains-append_right old (map (edge s) ys) (edge s y) (in_mapped (edge s) ys y h))
+
+only_added : (old new : List Edge) (s : Step) (ys : List ModuleVersion) → new ≡ old ++ map (edge s) ys → (e : Edge) → Contains new e → Contains old e ⊎ ((y : ModuleVersion) × Contains ys y × (e ≡ edge s y))
+only_added old new s ys more e h = elim (Contains-append_cases old (map (edge s) ys) e (subst (λ (es : List Edge). Contains es e) more h)) [
+  | inl there ↦ inl there
+  | inr new ↦ (let (y, in_ys, same) = from_mapped (edge s) ys e new in inr (y, in_ys, sym same))
+]
+
+module _ (main : Main) (held : Held) (turns : List Turn) (x : ModuleVersion) (d : Depth) (f : Finding) (found : IsFinding main held x f) (old new : List Edge) (before after : Faults)
+    (noting : (q : ModuleVersion) → after q ≡ noted (found_fault f) x before q) where
+  noting_fault : (q : ModuleVersion) → after q ≡ noted (vertex_fault (readings_by main held) x) x before q
+  noting_fault q = noting q ∙ ap (λ (o : Option Class). noted o x before q) (finding_fault main held x f found)
 
   -- a visit that adds edges
-  pub gathers_edges : AddsEdges (edges_in mid) (edges_in new) x (vertex_requirements main (readings_by main held) x) → ((q : ModuleVersion) → faults_by_vertex new q ≡ faults_by_vertex mid q) → Gathers main (readings_by main held) turns (edges_in old) (edges_in new) (faults_by_vertex old) (faults_by_vertex new) (turn x d)
-  gathers_edges adds kept =
-      let adds' = subst (λ (es : List Edge). AddsEdges es (edges_in new) x (vertex_requirements main (readings_by main held) x)) same adds in
-      record {
-        extends = adds'.extends;
-        each = λ _ y h. adds'.each y h;
-        only = adds'.only;
-        faults = λ q. kept q ∙ noting_fault q;
-      }
-
-  -- a visit that adds none
-  pub gathers_no_edges : gathers turns (turn x d) ≡ false → new ≡ mid → Gathers main (readings_by main held) turns (edges_in old) (edges_in new) (faults_by_vertex old) (faults_by_vertex new) (turn x d)
-  gathers_no_edges no_edges e = record {
-    extends = ([], ap edges_in e ∙ same ∙ sym (append-nil (edges_in old)));
-    each = λ is y h. absurd (false≢true (sym no_edges ∙ is));
-    only = λ one h. inl (subst (λ (es : List Edge). Contains es one) (ap edges_in e ∙ same) h);
-    faults = λ q. ap (λ (g : GraphBuilder). faults_by_vertex g q) e ∙ noting_fault q;
+  pub gathers_edges : new ≡ old ++ map (edge (Of x)) (vertex_requirements main (readings_by main held) x) → Gathers main (readings_by main held) turns old new before after (turn x d)
+  gathers_edges more = record {
+    extends = (map (edge (Of x)) (vertex_requirements main (readings_by main held) x), more);
+    each = λ _ y h. each_added old new (Of x) (vertex_requirements main (readings_by main held) x) more y h;
+    only = only_added old new (Of x) (vertex_requirements main (readings_by main held) x) more;
+    faults = noting_fault;
   }
 
--- the adjacency lists after a visit that adds edges, and after one that adds none
-pub adds_group : (b : Bool) (old mid new : List Adjacency) (x : ModuleVersion) → b ≡ true → mid ≡ old → AddsGroup true mid new x → AddsGroup b old new x
-adds_group b old mid new x e same adds = subst (λ (c : Bool). AddsGroup c old new x) (sym e) (subst (λ (all : List Adjacency). AddsGroup true all new x) same adds)
+  -- a visit that adds none
+  pub gathers_no_edges : gathers turns (turn x d) ≡ false → new ≡ old → Gathers main (readings_by main held) turns old new before after (turn x d)
+  gathers_no_edges no_edges same = record {
+    extends = ([], same ∙ sym (append-nil old));
+    each = λ is y h. absurd (false≢true (sym no_edges ∙ is));
+    only = λ one h. inl (subst (λ (es : List Edge). Contains es one) same h);
+    faults = noting_fault;
+  }
 
-pub adds_no_group : (b : Bool) (old mid new : List Adjacency) (x : ModuleVersion) → b ≡ false → mid ≡ old → new ≡ mid → AddsGroup b old new x
-adds_no_group b old mid new x e same is = subst (λ (c : Bool). AddsGroup c old new x) (sym e) (is ∙ same)
+-- the step that an adjacency list leaves, after a visit that adds edges, and after one that adds none
+pub adds_source : (b : Bool) (old new : List Step) (x : ModuleVersion) → b ≡ true → new ≡ old ++ Of x ∷ [] → AddsSource b old new x
+adds_source b old new x e adds = subst (λ (c : Bool). AddsSource c old new x) (sym e) adds
+
+pub adds_no_source : (b : Bool) (old new : List Step) (x : ModuleVersion) → b ≡ false → new ≡ old → AddsSource b old new x
+adds_no_source b old new x e same = subst (λ (c : Bool). AddsSource c old new x) (sym e) same
+
+-- The edges from the main module alone were added to none.
+pub main_gathered : (main : Main) (readings : Readings) (old new : List Edge) (faults : Faults) (ys : List ModuleVersion) → old ≡ [] → new ≡ old ++ map (edge FromMain) ys → ys ≡ without_excluded main main.requirements → ((x : ModuleVersion) → faults x ≡ None) → AreGathered main readings new faults
+main_gathered main readings old new faults ys none more is no_faults = record {
+  from_main = λ y t. each_added old new FromMain ys more y (subst (λ (l : List ModuleVersion). Contains l y) (sym is) t);
+  only = λ e h. elim (only_added old new FromMain ys more e h) [
+    | inl there ↦ absurd (let in_none : Contains [] e = subst (λ (es : List Edge). Contains es e) none there in omega (arith, in_none.1))
+    | inr found ↦ subst (λ (a : Edge). IsEdge main readings a.from a.to) (sym found.2) (subst (λ (l : List ModuleVersion). Contains l found.0) is found.1)
+  ];
+  known = λ x class h. cc (sym h ∙ no_faults x);
+}

@@ -1,7 +1,6 @@
 -- What the graph builder collects during visits: edges, and the faults of vertices.
-use Rattle.std.specs.Prelude.{◌≡◌, ◌⊎◌, Bool, true, not, List, Option, None, Some, Err, Contains, if◌then◌else◌}
+use Rattle.std.specs.Prelude.{◌≡◌, ◌⊎◌, ◌++◌, ◌∷◌, [], Bool, true, false, not, List, Option, None, Some, Err, Contains, if◌then◌else◌}
 use Rattle.std.specs.List.{list_any}
-use Rattle.std.specs.BTreeMap as map
 use Rattle.gm_graph_cache.specs.declared.class.Class.{Class}
 use Rattle.gm_graph_cache.specs.declared.depth.Depth.{Depth}
 use Rattle.gm_graph_cache.specs.declared.depth.Depth.TheVariants.{Top, Deep}
@@ -12,28 +11,20 @@ use Rattle.gm_graph_cache.specs.Turns.{turn}
 use Rattle.gm_graph_cache.specs.Main.{Main, ModuleVersion}
 use Rattle.gm_graph_cache.specs.Reading.{Readings, vertex_fault, vertex_requirements}
 use Rattle.gm_graph_select.specs.declared.step.Edge.{Edge}
+use Rattle.gm_graph_select.specs.declared.step.Step.{Step}
 use Rattle.gm_graph_select.specs.declared.step.Step.TheVariants.{Main as FromMain, Of}
-use Rattle.gm_graph_select.specs.Graph.{edge, vertex_cmp}
+use Rattle.gm_graph_select.specs.Graph.{edge}
 use Rattle.gm_graph.specs.declared.fault.Fault.{Fault as HeldFault}
-use Rattle.gm_graph.specs.declared.graph_builder.GraphBuilder.{GraphBuilder}
 use Rattle.gm_graph.specs.Graph.{IsEdge, IsOpened, IsTop, same_vertex}
-use Rattle.gm_graph.specs.Adjacency.{edges_of}
 use Rattle.gm_graph.specs.Turns.{Extends, same_turn}
 
 -- a vertex and its fault
 abbrev pub fault : ModuleVersion → Class → HeldFault
 fault x class = record { vertex = x; class = class }
 
--- the edges of a graph builder
-abbrev pub edges_in : GraphBuilder → List Edge
-edges_in builder = edges_of builder.leaving.items
-
 -- the fault of each vertex that has one
 abbrev pub Faults : Type 0
 Faults = ModuleVersion → Option Class
-
-abbrev pub faults_by_vertex : GraphBuilder → Faults
-faults_by_vertex builder x = map.get vertex_cmp builder.faults x
 
 -- the faults, and that of one more vertex if it has one
 abbrev pub noted : Option Class → ModuleVersion → Faults → Faults
@@ -52,13 +43,6 @@ gathers_at Deep has_top = not has_top
 
 abbrev pub gathers : List Turn → Turn → Bool
 gathers turns one = gathers_at one.depth (list_any (same_turn (turn one.vertex Top)) turns)
-
--- Edges from a vertex to each of these were added, and no others.
-pub record AddsEdges (old new : List Edge) (x : ModuleVersion) (ys : List ModuleVersion) : Type 0 where
-  pub extends : Extends old new
-  pub each : (y : ModuleVersion) → Contains ys y → Contains new (edge (Of x) y)
-  pub only : (one : Edge) → Contains new one
-      → Contains old one ⊎ ((y : ModuleVersion) × Contains ys y × (one ≡ edge (Of x) y))
 
 -- The edges and the fault of a turn were added, and nothing else.
 pub record Gathers (main : Main) (readings : Readings) (turns : List Turn) (old new : List Edge) (before after : Faults)
@@ -84,3 +68,8 @@ pub record AreGathered (main : Main) (readings : Readings) (edges : List Edge) (
   pub only : (one : Edge) → Contains edges one → IsEdge main readings one.from one.to
   pub known : (x : ModuleVersion) (class : Class) → faults x ≡ Some class
       → IsOpened main readings x × (readings x ≡ Some (Err class))
+
+-- An adjacency list that leaves this vertex was added, or nothing.
+abbrev pub AddsSource : Bool → List Step → List Step → ModuleVersion → Type 0
+AddsSource true old new x = new ≡ old ++ Of x ∷ []
+AddsSource false old new x = new ≡ old

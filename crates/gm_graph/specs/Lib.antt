@@ -3,8 +3,8 @@ pub mod Turns
 pub mod Marks
 pub mod WorklistFaults
 pub mod Loading
-pub mod Adjacency
 pub mod Building
+pub mod Builder
 pub mod Visiting
 pub mod Outcome
 pub mod Laws

@@ -23,11 +23,6 @@ leads_on_in summary Deep = true
 abbrev pub leads_on : Readings → ModuleVersion → Depth → Bool
 leads_on readings x = leads_on_in (said_in (readings x))
 
--- the leaves, together with the requirements of a turn that leads no further
-abbrev pub leaves_with : Bool → List ModuleVersion → List ModuleVersion → List ModuleVersion
-leaves_with true leaves xs = leaves
-leaves_with false leaves xs = leaves ++ xs
-
 -- What the turn's vertex says is known, and what the turn leads to is among the turns.
 pub record IsDone (main : Main) (readings : Readings) (turns : List Turn) (one : Turn) : Type 0 where
   pub answered : IsSome (readings one.vertex)
@@ -90,12 +85,16 @@ abbrev pub depth_by : Bool → Depth
 depth_by true = Top
 depth_by false = Deep
 
--- More than 65,536 distinct vertices were there or are among these.
-abbrev pub OverflowsWith : List ModuleVersion → List ModuleVersion → Type 0
-OverflowsWith vertices xs = (all : List ModuleVersion) × (65536 < length all) × IsDistinct same_vertex all
-    × ((x : ModuleVersion) → Contains all x → Contains vertices x ⊎ Contains xs x)
+-- A vertex has a turn.
+abbrev pub HasTurn : List Turn → ModuleVersion → Type 0
+HasTurn turns x = (d : Depth) × Contains turns (turn x d)
 
--- The vertices that were there, together with what the turn leads to, are too many.
-abbrev pub VisitOverflows : Main → Readings → List ModuleVersion → ModuleVersion → Depth → Type 0
-VisitOverflows main readings vertices x d = (leads_on readings x d ≡ true)
-    × OverflowsWith vertices (vertex_requirements main readings x)
+-- More than 65,536 distinct vertices have turns or are among these.
+abbrev pub OverflowsWith : List Turn → List ModuleVersion → Type 0
+OverflowsWith turns xs = (all : List ModuleVersion) × (65536 < length all) × IsDistinct same_vertex all
+    × ((x : ModuleVersion) → Contains all x → HasTurn turns x ⊎ Contains xs x)
+
+-- The vertices with turns, together with what the turn leads to, are too many.
+abbrev pub VisitOverflows : Main → Readings → List Turn → ModuleVersion → Depth → Type 0
+VisitOverflows main readings turns x d = (leads_on readings x d ≡ true)
+    × OverflowsWith turns (vertex_requirements main readings x)

@@ -15,13 +15,12 @@
 //! once.
 #![tactic(auto)]
 
-mod adjacency;
-mod edge_order;
 mod fault;
 mod graph_builder;
 pub mod laws;
 mod loaded;
 mod loading;
+mod marks;
 mod starting;
 mod visiting;
 mod worklist;

@@ -5,14 +5,11 @@ ghost use Rattle.gm_graph_select.specs.BuildList.{IsEntryOf, HasEntryFor, IsRest
 ghost use Rattle.gm_graph_select.specs.Chains.{IsChain};
 ghost use Rattle.gm_graph_select.specs.Graph.{among};
 ghost use Rattle.gm_graph_select.specs.declared.step.Step.{Step};
-ghost use Rattle.gm_graph.specs.Adjacency.{edges_of};
 ghost use Rattle.gm_graph.specs.Outcome.{AreReached};
 
-use crate::adjacency::Adjacency;
-use crate::edge_order::all_edges;
 use crate::fault::Fault;
 use gm_graph_cache::Turn;
-use gm_graph_select::{ChainFault, Edge, NotListed, Row, Rows, Step};
+use gm_graph_select::{ChainFault, Edge, Graph, NotListed, Row, Rows, Step};
 use gm_name::{ModPath, NoMemory};
 use std::alloc::Global;
 use std::marker::Model;
@@ -25,8 +22,8 @@ pub struct Loaded {
     main: ModPath,
     /// The faults, in strictly ascending order of their vertices.
     faults: Vec<Fault>,
-    /// The edges, in groups by the steps that they leave, in ascending order of these steps.
-    groups: Vec<Adjacency>,
+    /// The vertices that edges lead to, and the edges.
+    graph: Graph,
     /// The build list.
     rows: Vec<Row>,
     /// The turns whose requirements were read, without duplicates.
@@ -35,14 +32,13 @@ pub struct Loaded {
 
 impl Model for Loaded {
     ghost use Rattle.gm_graph_select.specs.BuildList.{entries_of_rows};
-    ghost use Rattle.gm_graph.specs.Adjacency.{edges_of};
     ghost use Rattle.gm_graph.specs.Outcome.{AreReached, LoadedGraph};
 
     ghost Value = { LoadedGraph };
 
-    ghost view = { λ l. record { main = l.main; faults = l.faults.items; edges = edges_of l.groups.items; rows = entries_of_rows l.rows.items; turns = l.turns.items } };
+    ghost view = { λ l. record { main = l.main; faults = l.faults.items; edges = l.graph.edges; rows = entries_of_rows l.rows.items; turns = l.turns.items } };
 
-    ghost invariant = { λ l. AreReached (edges_of l.groups.items) (entries_of_rows l.rows.items) };
+    ghost invariant = { λ l. AreReached l.graph.edges (entries_of_rows l.rows.items) };
 }
 
 impl Loaded {
@@ -50,21 +46,21 @@ impl Loaded {
     pub(crate) fn new(
         main: ModPath,
         faults: Vec<Fault>,
-        groups: Vec<Adjacency>,
+        graph: Graph,
         rows: Vec<Row>,
         turns: Vec<Turn>,
     ) -> Loaded
-        requires { AreReached (edges_of groups.items) (entries_of_rows rows.items) }
+        requires { AreReached graph.edges (entries_of_rows rows.items) }
         ensures main { result.main ≡ main }
         ensures faults { result.faults ≡ faults.items }
-        ensures edges { result.edges ≡ edges_of groups.items }
+        ensures edges { result.edges ≡ graph.edges }
         ensures rows { result.rows ≡ entries_of_rows rows.items }
         ensures turns { result.turns ≡ turns.items }
     {
         Loaded {
             main,
             faults,
-            groups,
+            graph,
             rows,
             turns,
         }
@@ -77,12 +73,12 @@ impl Loaded {
         self.faults.as_slice()
     }
 
-    /// The edges of the graph, in strictly ascending order. Each call makes the list anew, in n log n comparisons and
-    /// with memory for n edges. The only refusal is `NoMemory`, if memory runs out.
+    /// The edges of the graph, in strictly ascending order. Each call makes the list anew, with memory for it. The only
+    /// refusal is `NoMemory`, if memory runs out.
     pub fn edges(&self, alloc: Global) -> Result<Vec<Edge>, NoMemory>
         ensures { IfOk result (λ edges. edges.items ≡ self.now.edges) }
     {
-        all_edges(alloc, &self.groups)
+        self.graph.edges(alloc)
     }
 
     /// The vertices and depths for which requirements were read, without duplicates. It takes no memory.
@@ -126,7 +122,6 @@ impl Loaded {
         ensures not_listed { IsErrOf result ChainFault.NotListed
             → ¬ (HasEntryFor self.now.main self.now.rows path.now) }
     {
-        let edges = all_edges(alloc, &self.groups)?;
-        gm_graph_select::chain(alloc, &self.main, &edges, &self.rows, path)
+        self.graph.chain(alloc, &self.main, &self.rows, path)
     }
 }

@@ -7,56 +7,43 @@ ghost use Rattle.gm_store.specs.States.{CountsFailure};
 ghost use Rattle.gm_store.specs.declared.files.FileName.{FileName};
 ghost use Rattle.gm_graph_cache.specs.Asking.{MayGrow};
 ghost use Rattle.gm_graph_cache.specs.Cached.{Knows, main_in, sums_in, turns_in};
-ghost use Rattle.gm_graph_cache.specs.Reading.{Readings};
 ghost use Rattle.gm_graph_cache.specs.Refusals.{refused_in};
 ghost use Rattle.gm_graph_cache.specs.Main.{main_of};
-ghost use Rattle.gm_graph_select.specs.BuildList.{IsBuildList, entries_of_rows};
+ghost use Rattle.gm_graph_select.specs.BuildList.{IsBuildList};
 ghost use Rattle.gm_graph_select.specs.Chains.{IsRooted};
 ghost use Rattle.gm_graph_select.specs.Graph.{AreEnds, among, edge_cmp, vertex_cmp};
 ghost use Rattle.gm_graph_select.specs.Order.{HaveSame, IsAscending};
+ghost use Rattle.gm_graph_select.specs.StepOrder.{step_eq};
 ghost use Rattle.std.specs.BTreeMap as tree;
 ghost use Rattle.std.specs.List.{IsDistinct};
-ghost use Rattle.gm_graph.specs.Adjacency.{IsMainGroup, edges_of, left_by, same_step};
-ghost use Rattle.gm_graph.specs.Visiting.{IsOpenedIn, readings_in};
-ghost use Rattle.gm_graph.specs.Building.{AreGathered, edges_in, fault, faults_by_vertex};
+ghost use Rattle.gm_graph.specs.Builder.{IsBuilder, edges_in, sources_in};
+ghost use Rattle.gm_graph.specs.Building.{fault};
 ghost use Rattle.gm_graph.specs.Loading.{AreTooMany, AsksInTurn, IsDue, Told};
-ghost use Rattle.gm_graph.specs.Marks.{IsWorklist};
 ghost use Rattle.gm_graph.specs.Outcome.{IsLoaded};
-ghost use Rattle.gm_graph.specs.Turns.{AreFirstTurns};
+ghost use Rattle.gm_graph.specs.Visiting.{IsFirstGraph, IsOpenedIn};
 
-use crate::adjacency::Adjacency;
-use crate::edge_order::{all_ends, sorted_groups};
-use crate::graph_builder::{GraphBuilder, fault_list, main_edges};
+use crate::graph_builder::{GraphBuilder, fault_list};
 use crate::loaded::Loaded;
-use crate::starting::{first_turns, kept_requirements};
+use crate::starting::first_graph;
 use crate::visiting::visit;
-use crate::worklist::{Worklist, copy_turn};
 use gm_file::MainFile;
 use gm_graph_cache::{Cache, LoadFault, Turn, main_view};
-use gm_graph_select::{Row, build_list};
-use gm_name::ModVer;
+use gm_graph_select::Graph;
 use gm_store::Files;
 use gm_store_sums::SumTable;
 use std::alloc::{AllocError, Global};
 
 /// Visits the vertices of a worklist one after another, including those that the visits add.
 fn visit_all<F: Files>(
-    alloc: Global,
     cache: &mut Cache<'_>,
     files: &mut F,
-    worklist: &mut Worklist,
     builder: &mut GraphBuilder,
 ) -> Result<(), LoadFault>
     requires asked { (F.state files.old).asked ≡ [] }
     requires knows { Knows cache.old [] }
     requires lent { turns_in cache.old ≡ [] }
-    requires worklist { IsWorklist worklist.old }
-    requires leaves { worklist.old.leaves.items ≡ [] }
-    requires first { AreFirstTurns (main_in cache.old) worklist.old.turns.items }
-    requires builder { (readings : Readings)
-        → AreGathered (main_in cache.old) readings (edges_in builder.old) (faults_by_vertex builder.old) }
-    requires group { IsMainGroup builder.old.leaving.items }
-    ensures opened { OnOk result (IsOpenedIn cache.old cache.new (F.state files.new).asked worklist.new builder.new) }
+    requires first { IsFirstGraph (main_in cache.old) builder.old }
+    ensures opened { OnOk result (IsOpenedIn cache.old cache.new (F.state files.new).asked builder.new) }
     ensures too_many { result ≡ Err LoadFault.TooMany
         → Told (main_in cache.old) (sums_in cache.old) (F.state files.new).asked (AreTooMany (main_in cache.old)) }
     ensures asks { AsksInTurn (main_in cache.old) (sums_in cache.old) (F.state files.new).asked }
@@ -69,63 +56,25 @@ fn visit_all<F: Files>(
     ensures later { (F.state files.old).faults ≤ (F.state files.new).faults }
 {
     let mut at = 0;
-    'turns: while at < worklist.turns.len() {
-        let one = copy_turn(alloc, &worklist.turns[at])?;
-        visit(
-            alloc,
-            cache,
-            files,
-            worklist,
-            builder,
-            &one.vertex,
-            one.depth,
-        )?;
+    'turns: while at < builder.turns.len() {
+        let one = builder.turns[at];
+        visit(cache, files, builder, one)?;
         at += 1;
     }
     Ok(())
 }
 
-/// What is selected of a graph.
-#[derive(Drop)]
-struct Selection {
-    /// The edges, in groups by the steps that they leave, in ascending order of these steps.
-    groups: Vec<Adjacency>,
-    /// The build list.
-    rows: Vec<Row>,
-}
-
-/// These groups, sorted, and the build list of the vertices that their edges lead to: those that groups leave, and
-/// the leaves.
-fn select(
-    alloc: Global,
-    main: &MainFile,
-    leaving: Vec<Adjacency>,
-    leaves: Vec<ModVer>,
-) -> Result<Selection, AllocError>
-    requires once { IsDistinct same_step leaving.items }
-    requires ends { AreEnds (left_by leaving.items ++ leaves.items) (among (edges_of leaving.items)) }
-    ensures ascending { IfOk result (λ selection. IsAscending edge_cmp (edges_of selection.groups.items)) }
-    ensures edges { IfOk result (λ selection. HaveSame (edges_of leaving.items) (edges_of selection.groups.items)) }
-    ensures rows { IfOk result (λ selection. IsBuildList (main_of main.now).path (main_of main.now).replaces
-        (among (edges_of selection.groups.items)) (entries_of_rows selection.rows.items)) }
-{
-    let groups = sorted_groups(leaving);
-    let ends = all_ends(alloc, &groups, leaves)?;
-    let rows = build_list(alloc, main, ends)?;
-    Ok(Selection { groups, rows })
-}
-
-/// The loaded graph, with its groups of edges sorted and the build list of its vertices.
+/// The loaded graph: its vertices are sorted, and the build list is made of them.
 fn assemble(
     alloc: Global,
     main: &MainFile,
     turns: Vec<Turn>,
-    leaves: Vec<ModVer>,
     builder: GraphBuilder,
 ) -> Result<Loaded, AllocError>
+    requires builder { IsBuilder builder }
     requires rooted { IsRooted (among (edges_in builder)) }
-    requires once { IsDistinct same_step builder.leaving.items }
-    requires ends { AreEnds (left_by builder.leaving.items ++ leaves.items) (among (edges_in builder)) }
+    requires once { IsDistinct step_eq (sources_in builder) }
+    requires ends { AreEnds builder.vertices (among (edges_in builder)) }
     ensures main { IfOk result (λ loaded. loaded.main ≡ (main_of main.now).path) }
     ensures faults { IfOk result (λ loaded. loaded.faults
         ≡ map (λ entry. fault entry.0 entry.1) builder.faults.entries) }
@@ -136,11 +85,17 @@ fn assemble(
         IsBuildList (main_of main.now).path (main_of main.now).replaces (among loaded.edges) loaded.rows) }
     ensures turns { IfOk result (λ loaded. loaded.turns ≡ turns.items) }
 {
-    let GraphBuilder { leaving, faults } = builder;
+    let GraphBuilder {
+        vertices,
+        leaving,
+        faults,
+        ..
+    } = builder;
     let faults = fault_list(alloc, faults)?;
-    let selection = select(alloc, main, leaving, leaves)?;
+    let graph = Graph::new(alloc, vertices.into_modules(), leaving)?;
+    let rows = graph.build_list(alloc, main)?;
     let path = main_view::path(main).copy(alloc)?;
-    Ok(Loaded::new(path, faults, selection.groups, selection.rows, turns))
+    Ok(Loaded::new(path, faults, graph, rows, turns))
 }
 
 /// Loads the module graph of a main module's file: finds the faults of the opened vertices, the edges of the graph
@@ -175,12 +130,10 @@ pub fn load<F: Files>(
         → CountsFailure (F.state files.old) (F.state files.new) }
     ensures later { (F.state files.old).faults ≤ (F.state files.new).faults }
 {
-    let required = kept_requirements(alloc, main)?;
-    let mut worklist = first_turns(alloc, main, &required)?;
-    let mut builder = main_edges(alloc, &required)?;
+    let mut builder = first_graph(alloc, main)?;
     let mut cache = Cache::new(alloc, main, sums)?;
-    visit_all(alloc, &mut cache, files, &mut worklist, &mut builder)?;
-    // The summaries are dropped here, before the build list takes its memory.
+    visit_all(&mut cache, files, &mut builder)?;
+    // The summaries are dropped here, before the sorted vertices take their memory.
     let turns = cache.into_turns();
-    Ok(assemble(alloc, main, turns, worklist.into_leaves(), builder)?)
+    Ok(assemble(alloc, main, turns, builder)?)
 }

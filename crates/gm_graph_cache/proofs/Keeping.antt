@@ -10,12 +10,14 @@ use Rattle.std.proofs.Math.Path.{fun_ext}
 use Rattle.gm_graph_cache.specs.declared.cache.Cache.{Cache}
 use Rattle.gm_graph_cache.specs.Main.{Main, ModuleVersion, main_of, replacement_in}
 use Rattle.gm_graph_cache.specs.Reading.{Held, IsTold, Keeps, KeepsHeld, Tells, file_of, is_askable, reading_if, readings_by, with_right_path}
-use Rattle.gm_graph_cache.specs.Summaries.{IsKept, summary_reading}
-use Rattle.gm_graph_cache.specs.Cached.{HoldsSame, IsUnchanged, Knows, LentSame, held_of, main_in, sums_in}
+use Rattle.gm_graph_cache.specs.Entries.{FindsSame}
+use Rattle.gm_graph_cache.specs.Summaries.{StartsWithList, IsKept, summary_reading}
+use Rattle.gm_graph_cache.specs.Cached.{HoldsSame, IsUnchanged, Knows, LendsKept, LentSame, held_of, main_in, summary_at, sums_in}
 use Rattle.gm_graph_cache.specs.Refusals.{refused_in, refused_names}
 use Rattle.gm_graph_cache.specs.declared.load_fault.LoadFault.{LoadFault}
 use Rattle.gm_graph_cache.specs.declared.load_fault.LoadFault.TheVariants as load
 use Rattle.gm_graph_cache.proofs.OneReading.{one_reading}
+use Rattle.gm_graph_cache.proofs.Spans.{kept_still, readings_still}
 
 -- ---- readings are unique
 
@@ -94,18 +96,40 @@ pub main_same : (old new : Cache) → HoldsSame old new → main_in new ≡ main
 main_same old new same = ap main_of same.main
 
 pub held_same : (old new : Cache) → HoldsSame old new → held_of new ≡ held_of old
-held_same old new same = fun_ext (λ name. ap (option_map summary_reading) (same.found name))
+held_same old new same = fun_ext same.held
 
 -- A cache that holds the same knows the same.
 pub knows_still : (old new : Cache) (pairs : List (Name × Reply)) → HoldsSame old new → Knows old pairs → Knows new pairs
 knows_still old new pairs same knows = record {
   tells = subst (λ (s : Option SumTable). Tells s pairs (held_of new)) (sym same.sums) (subst (λ (h : Held). Tells (sums_in old) pairs h) (sym (held_same old new same)) knows.tells);
-  lends = λ name one e. subst (λ (m : Main). IsKept m one) (sym (main_same old new same))
-      (knows.lends name one (sym (same.found name) ∙ e));
+  lends = same.lends knows.lends;
+}
+
+-- A cache with the same entries holds the same, if its list of modules only grew.
+pub holds_grown : (old new : Cache) → new.main.now ≡ old.main.now → sums_in new ≡ sums_in old → FindsSame old.summaries new.summaries → StartsWithList old.modules new.modules
+    → LendsKept old → HoldsSame old new
+holds_grown old new main sums found begins lends = record {
+  main = main;
+  sums = sums;
+  held = λ name. ap (option_map (summary_reading new.modules)) (found name)
+      ∙ readings_still (main_in old) old.modules new.modules (summary_at old name) begins (lends name);
+  lends = λ _ name one e. subst (λ (m : Main). IsKept m new.modules one) (ap main_of (sym main))
+      (kept_still (main_in old) old.modules new.modules one begins (lends name one (sym (found name) ∙ e)));
+}
+
+-- So does one with the same list of modules.
+pub holds_listed : (old new : Cache) → new.main.now ≡ old.main.now → sums_in new ≡ sums_in old → FindsSame old.summaries new.summaries → new.modules ≡ old.modules → HoldsSame old new
+holds_listed old new main sums found modules = record {
+  main = main;
+  sums = sums;
+  held = λ name. ap (λ (ms : List ModuleVersion). option_map (summary_reading ms) (summary_at new name)) modules
+      ∙ ap (option_map (summary_reading old.modules)) (found name);
+  lends = λ lends name one e. subst (λ (m : Main). IsKept m new.modules one) (ap main_of (sym main))
+      (subst (λ (ms : List ModuleVersion). IsKept (main_in old) ms one) (sym modules) (lends name one (sym (found name) ∙ e)));
 }
 
 pub holds_after : (old mid new : Cache) → HoldsSame old mid → HoldsSame mid new → HoldsSame old new
-holds_after old mid new one two = record { main = two.main ∙ one.main; sums = two.sums ∙ one.sums; found = λ name. two.found name ∙ one.found name }
+holds_after old mid new one two = record { main = two.main ∙ one.main; sums = two.sums ∙ one.sums; held = λ name. two.held name ∙ one.held name; lends = λ lends. two.lends (one.lends lends) }
 
 pub keeps_same : (old new : Cache) → HoldsSame old new → KeepsHeld (held_of old) (held_of new)
 keeps_same old new same name reading e = ap (λ (held : Held). held name) (held_same old new same) ∙ e

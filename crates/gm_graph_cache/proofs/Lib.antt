@@ -7,3 +7,4 @@ pub mod OneReading
 pub mod Keeping
 pub mod Newer
 pub mod Firsts
+pub mod Spans

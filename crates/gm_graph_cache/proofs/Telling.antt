@@ -8,7 +8,7 @@ use Rattle.gm_store.proofs.NameOrder.{names_equal, name_itself}
 use Rattle.gm_graph_cache.specs.declared.class.Class.{Class}
 use Rattle.gm_graph_cache.specs.declared.summary.Kept.{Kept}
 use Rattle.gm_graph_cache.specs.declared.cache.Cache.{Cache}
-use Rattle.gm_graph_cache.specs.Main.{Main, main_of}
+use Rattle.gm_graph_cache.specs.Main.{Main, ModuleVersion, main_of}
 use Rattle.gm_graph_cache.specs.Reading.{Held, IsFileReading, IsTold, KeepsHeld, Tells}
 use Rattle.gm_graph_cache.specs.Entries.{AddsSummary}
 use Rattle.gm_graph_cache.proofs.Keeping.{held_same, knows_still, main_same}
@@ -21,12 +21,12 @@ none_told sums name None h told e = refl
 none_told sums name (Some reply) None told e = absurd told
 none_told sums name (Some reply) (Some reading) told e = absurd cc
 
-said_none : (o : Option Kept) → o ≡ None → option_map summary_reading o ≡ None
-said_none o e = ap (option_map summary_reading) e
+said_none : (modules : List ModuleVersion) (o : Option Kept) → o ≡ None → option_map (summary_reading modules) o ≡ None
+said_none modules o e = ap (option_map (summary_reading modules)) e
 
 -- A name without an entry was not asked for.
 pub not_asked : (cache : Cache) (pairs : List (Name × Reply)) (name : Name) → Knows cache pairs → summary_at cache name ≡ None → answer_in pairs name ≡ None
-not_asked cache pairs name knows e = none_told (sums_in cache) name (answer_in pairs name) (held_of cache name) (knows.tells name) (said_none (summary_at cache name) e)
+not_asked cache pairs name knows e = none_told (sums_in cache) name (answer_in pairs name) (held_of cache name) (knows.tells name) (said_none cache.modules (summary_at cache name) e)
 
 -- ---- one more answer
 
@@ -70,33 +70,39 @@ map_cond f false v r = refl
 
 -- ---- a cache with one more entry
 
-held_with : (old new : Cache) (name : Name) (one : Kept) → AddsSummary old.summaries new.summaries name one → (other : Name) → held_of new other ≡ cond (same_name other name) (Some (summary_reading one)) (held_of old other)
-held_with old new name one keeps other = ap (option_map summary_reading) (keeps other) ∙ map_cond summary_reading (same_name other name) one (summary_at old other)
+held_with : (old new : Cache) (name : Name) (one : Kept) → new.modules ≡ old.modules → AddsSummary old.summaries new.summaries name one
+    → (other : Name) → held_of new other ≡ cond (same_name other name) (Some (summary_reading old.modules one)) (held_of old other)
+held_with old new name one modules keeps other =
+    ap (λ (ms : List ModuleVersion). option_map (summary_reading ms) (summary_at new other)) modules ∙ ap (option_map (summary_reading old.modules)) (keeps other)
+    ∙ map_cond (summary_reading old.modules) (same_name other name) one (summary_at old other)
 
-kept_with : (b : Bool) (main : Main) (o : Option Kept) (one some : Kept) → ((any : Kept) → o ≡ Some any → IsKept main any) → IsKept main one → cond b (Some one) o ≡ Some some → IsKept main some
-kept_with true main o one some were is e = let same : one ≡ some = cc in subst (λ (x : Kept). IsKept main x) same is
-kept_with false main o one some were is e = were some e
+kept_with : (b : Bool) (main : Main) (modules : List ModuleVersion) (o : Option Kept) (one some : Kept) → ((any : Kept) → o ≡ Some any → IsKept main modules any) → IsKept main modules one
+    → cond b (Some one) o ≡ Some some → IsKept main modules some
+kept_with true main modules o one some were is e = let same : one ≡ some = cc in subst (λ (x : Kept). IsKept main modules x) same is
+kept_with false main modules o one some were is e = were some e
 
 -- The cache knows the pairs and one more.
 pub knows_more : (old new : Cache) (pairs : List (Name × Reply)) (name : Name) (reply : Reply) (one : Kept)
-    → Knows old pairs → summary_at old name ≡ None → new.main.now ≡ old.main.now → sums_in new ≡ sums_in old → AddsSummary old.summaries new.summaries name one
-    → IsFileReading (sums_in old) name reply (summary_reading one) → IsKept (main_in old) one → Knows new (pairs ++ (name, reply) ∷ [])
-knows_more old new pairs name reply one knows none same_main same_sums keeps reads is = record {
+    → Knows old pairs → answer_in pairs name ≡ None → new.main.now ≡ old.main.now → sums_in new ≡ sums_in old → new.modules ≡ old.modules
+    → AddsSummary old.summaries new.summaries name one → IsFileReading (sums_in old) name reply (summary_reading old.modules one) → IsKept (main_in old) old.modules one
+    → Knows new (pairs ++ (name, reply) ∷ [])
+knows_more old new pairs name reply one knows none same_main same_sums modules keeps reads is = record {
   tells = subst (λ (s : Option SumTable). Tells s (pairs ++ (name, reply) ∷ []) (held_of new)) (sym same_sums)
-      (tells_more (sums_in old) pairs (held_of old) (held_of new) name reply (summary_reading one) knows.tells (not_asked old pairs name knows none) reads (held_with old new name one keeps));
-  lends = λ other some e. subst (λ (m : Main). IsKept m some) (ap main_of (sym same_main))
-      (kept_with (same_name other name) (main_in old) (summary_at old other) one some (λ any f. knows.lends other any f) is (sym (keeps other) ∙ e));
+      (tells_more (sums_in old) pairs (held_of old) (held_of new) name reply (summary_reading old.modules one) knows.tells none reads (held_with old new name one modules keeps));
+  lends = λ other some e. subst (λ (m : Main). IsKept m new.modules some) (ap main_of (sym same_main))
+      (subst (λ (ms : List ModuleVersion). IsKept (main_in old) ms some) (sym modules)
+      (kept_with (same_name other name) (main_in old) old.modules (summary_at old other) one some (λ any f. knows.lends other any f) is (sym (keeps other) ∙ e)));
 }
 
 -- A cache that adds what was read of one more file knows all answers.
 pub knows_read : (old mid new : Cache) (pairs all : List (Name × Reply)) (name : Name) (reply : Reply) (one : Kept)
-    → Knows old pairs → HoldsSame old mid → LentSame mid new → summary_at old name ≡ None → AddsSummary mid.summaries new.summaries name one
-    → all ≡ pairs ++ (name, reply) ∷ [] → IsFileReading (sums_in old) name reply (summary_reading one) → IsKept (main_in old) one → Knows new all
-knows_read old mid new pairs all name reply one knows same lent none adds e reads is =
+    → Knows old pairs → HoldsSame old mid → LentSame mid new → new.modules ≡ mid.modules → summary_at old name ≡ None → AddsSummary mid.summaries new.summaries name one
+    → all ≡ pairs ++ (name, reply) ∷ [] → IsFileReading (sums_in old) name reply (summary_reading mid.modules one) → IsKept (main_in old) mid.modules one → Knows new all
+knows_read old mid new pairs all name reply one knows same lent modules none adds e reads is =
     subst (λ (ps : List (Name × Reply)). Knows new ps) (sym e)
-    (knows_more mid new pairs name reply one (knows_still old mid pairs same knows) (same.found name ∙ none) lent.main lent.sums adds
-    (subst (λ (s : Option SumTable). IsFileReading s name reply (summary_reading one)) (sym same.sums) reads)
-    (subst (λ (m : Main). IsKept m one) (sym (main_same old mid same)) is))
+    (knows_more mid new pairs name reply one (knows_still old mid pairs same knows) (not_asked old pairs name knows none) lent.main lent.sums modules adds
+    (subst (λ (s : Option SumTable). IsFileReading s name reply (summary_reading mid.modules one)) (sym same.sums) reads)
+    (subst (λ (m : Main). IsKept m mid.modules one) (sym (main_same old mid same)) is))
 
 -- ---- the last answer
 
@@ -115,9 +121,9 @@ stays true v r old new is none e = let never = sym (none refl) ∙ e in absurd (
 stays false v r old new is none e = is ∙ e
 
 -- What is held stays when what was read of one more file is added.
-pub keeps_read : (old mid new : Cache) (name : Name) (one : Kept) → HoldsSame old mid → summary_at old name ≡ None → AddsSummary mid.summaries new.summaries name one
-    → KeepsHeld (held_of old) (held_of new)
-keeps_read old mid new name one same none adds other reading e =
-    stays (same_name other name) (summary_reading one) reading (held_of old other) (held_of new other)
-    (held_with mid new name one adds other ∙ ap (λ (held : Held). cond (same_name other name) (Some (summary_reading one)) (held other)) (held_same old mid same))
-    (λ is. ap (held_of old) (names_equal other name is) ∙ said_none (summary_at old name) none) e
+pub keeps_read : (old mid new : Cache) (name : Name) (one : Kept) → HoldsSame old mid → new.modules ≡ mid.modules → summary_at old name ≡ None
+    → AddsSummary mid.summaries new.summaries name one → KeepsHeld (held_of old) (held_of new)
+keeps_read old mid new name one same modules none adds other reading e =
+    stays (same_name other name) (summary_reading mid.modules one) reading (held_of old other) (held_of new other)
+    (held_with mid new name one modules adds other ∙ ap (λ (held : Held). cond (same_name other name) (Some (summary_reading mid.modules one)) (held other)) (held_same old mid same))
+    (λ is. ap (held_of old) (names_equal other name is) ∙ said_none old.modules (summary_at old name) none) e

@@ -13,7 +13,7 @@ use Rattle.gm_graph_cache.specs.declared.finding.Finding.TheVariants.{Fault, Sou
 use Rattle.gm_graph_cache.specs.declared.summary.Kept.{Kept}
 use Rattle.gm_graph_cache.specs.declared.cache.Cache.{Cache}
 use Rattle.gm_graph_cache.specs.Main.{Main, ModuleVersion, main_of}
-use Rattle.gm_graph_cache.specs.Entries.{FindsSame, found_in}
+use Rattle.gm_graph_cache.specs.Entries.{found_in}
 use Rattle.gm_graph_cache.specs.Summaries.{IsKept, summary_reading}
 use Rattle.gm_graph_cache.specs.Reading.{Held, Tells, readings_by, file_of}
 use mir.Syntax.{named}
@@ -37,23 +37,24 @@ summary_at cache name = found_in cache.summaries name
 
 -- what a cache holds of the file of each name
 abbrev pub held_of : Cache → Held
-held_of cache name = option_map summary_reading (summary_at cache name)
+held_of cache name = option_map (summary_reading cache.modules) (summary_at cache name)
 
--- Each summary has the requirements of its file, without the excluded ones.
+-- Each summary has the requirements of its file, without the excluded ones, and the list of modules has both.
 abbrev pub LendsKept : Cache → Type 0
 LendsKept cache = (name : Name) (one : Kept) → summary_at cache name ≡ Some one
-    → IsKept (main_in cache) one
+    → IsKept (main_in cache) cache.modules one
 
 -- The cache holds what these replies say, and nothing else.
 pub record Knows (cache : Cache) (pairs : List (Name × Reply)) : Type 0 where
   pub tells : Tells (sums_in cache) pairs (held_of cache)
   pub lends : LendsKept cache
 
--- the same main file, go.sum and summaries
+-- The main file, the go.sum and what is held of each file are the same, and requirements can still be returned.
 pub record HoldsSame (old new : Cache) : Type 0 where
   pub main : new.main.now ≡ old.main.now
   pub sums : sums_in new ≡ sums_in old
-  pub found : FindsSame old.summaries new.summaries
+  pub held : (name : Name) → held_of new name ≡ held_of old name
+  pub lends : LendsKept old → LendsKept new
 
 -- the same main file, go.sum and list of turns
 pub record LentSame (old new : Cache) : Type 0 where

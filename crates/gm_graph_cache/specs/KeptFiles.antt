@@ -17,14 +17,14 @@ kept_file_at files (Some place) = slice_get files place
 abbrev pub first_with : KeptFiles → ℕ → Option KeptFile
 first_with files number = kept_file_at files.files.items (place_at files.first number)
 
--- what is kept of the file of a name, given the first file with its fingerprint and what is found among the others
-abbrev pub first_or : Option KeptFile → Name → Option Kept → Option Kept
-first_or None name other = other
-first_or (Some file) name other = if same_name name (name_of file.name) then Some file.kept else other
+-- what is kept of this file, if there is one and it is that of a name, and otherwise this other
+abbrev pub kept_or : Option KeptFile → Name → Option Kept → Option Kept
+kept_or None name other = other
+kept_or (Some file) name other = if same_name name (name_of file.name) then Some file.kept else other
 
 -- what is kept of the file of a name
 abbrev pub kept_at : KeptFiles → Name → Option Kept
-kept_at files name = first_or (first_with files (name_fingerprint name)) name
+kept_at files name = kept_or (first_with files (name_fingerprint name)) name
     (lookup (λ file. same_name name (name_of file)) files.others.entries)
 
 -- Whether the first file with the fingerprint of a name, if there is one, is that of the name.

@@ -5,6 +5,7 @@ pub mod Marks
 pub mod Summaries
 pub mod Entries
 pub mod Turns
+pub mod Lent
 pub mod Cached
 pub mod Refusals
 pub mod ClassWords

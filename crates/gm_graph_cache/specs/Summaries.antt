@@ -1,12 +1,16 @@
 -- What is kept of the files that were read.
-use Rattle.std.specs.Prelude.{◌≡◌, List, [], ⊤, Option, Some, None, Result, Ok, Err}
-use Rattle.std.specs.Option.{option_map}
+use Rattle.std.specs.Prelude.{◌≡◌, ◌≤◌, ◌++◌, List, ⊤, Option, Some, None, Result, Ok, Err, length}
+use Rattle.gm_name_table.specs.Listed.{part}
 use Rattle.gm_file.specs.Fields.{Dependency}
+use Rattle.gm_file.specs.Listed.{with_requirements}
 use Rattle.gm_graph_cache.specs.declared.class.Class.{Class}
 use Rattle.gm_graph_cache.specs.declared.reading.FileReading.{FileReading}
 use Rattle.gm_graph_cache.specs.declared.reading.FileReading.TheVariants as read
+use Rattle.gm_graph_cache.specs.declared.reading.ListedReading.{ListedReading}
+use Rattle.gm_graph_cache.specs.declared.reading.ListedReading.TheVariants as listed
 use Rattle.gm_graph_cache.specs.declared.summary.Kept.{Kept}
 use Rattle.gm_graph_cache.specs.declared.summary.Kept.TheVariants.{Valid, Faulty}
+use Rattle.gm_graph_cache.specs.declared.summary.Span.{Span}
 use Rattle.gm_graph_cache.specs.declared.summary.Summary.{Summary}
 use Rattle.gm_graph_cache.specs.Main.{Main, ModuleVersion, without_excluded}
 
@@ -15,26 +19,49 @@ abbrev pub reading_of : FileReading → Result Dependency Class
 reading_of (read.Valid file) = Ok file
 reading_of (read.Faulty class) = Err class
 
+-- what an answer says, as a reading, with the requirements that it put into the list of modules
+abbrev pub listed_reading : List ModuleVersion → ListedReading → Result Dependency Class
+listed_reading requirements (listed.Valid file) = Ok (with_requirements file requirements)
+listed_reading requirements (listed.Faulty class) = Err class
+
+-- ---- places in the list of modules
+
+-- the modules of a span of the list
+abbrev pub at_span : List ModuleVersion → Span → List ModuleVersion
+at_span modules span = part span.start span.end modules
+
+-- the span of no modules
+abbrev pub nowhere : Span
+nowhere = record { start = 0; end = 0 }
+
+-- A span is within the list.
+pub record IsWithinList (modules : List ModuleVersion) (span : Span) : Type 0 where
+  pub order : span.start ≤ span.end
+  pub within : span.end ≤ length modules
+
+-- The new list begins with the old one.
+abbrev pub StartsWithList : List ModuleVersion → List ModuleVersion → Type 0
+StartsWithList old new = (more : List ModuleVersion) × (new ≡ old ++ more)
+
+-- ---- what is kept of a file
+
 -- what is kept of a file, as a reading
-abbrev pub summary_reading : Kept → Result Dependency Class
-summary_reading (Valid summary) = Ok summary.file
-summary_reading (Faulty class) = Err class
+abbrev pub summary_reading : List ModuleVersion → Kept → Result Dependency Class
+summary_reading modules (Valid summary) = Ok (with_requirements summary.file (at_span modules summary.all))
+summary_reading modules (Faulty class) = Err class
 
-abbrev pub lent_if : List ModuleVersion → Option (List ModuleVersion) → List ModuleVersion
-lent_if all None = all
-lent_if all (Some some) = some
+-- where the requirements of a file are: nowhere if it has a fault or nothing is kept of it
+abbrev pub span_found : Option Kept → Span
+span_found None = nowhere
+span_found (Some (Valid summary)) = summary.kept
+span_found (Some (Faulty class)) = nowhere
 
--- the requirements of a summary: its own list if it has one, otherwise all of its file's
-abbrev pub lent_by : Summary → List ModuleVersion
-lent_by summary = lent_if summary.file.requirements (option_map (λ some. some.value.items) summary.kept)
+-- A summary has the requirements of its file, without the excluded ones, and both are in the list.
+pub record IsSummary (main : Main) (modules : List ModuleVersion) (summary : Summary) : Type 0 where
+  pub all_within : IsWithinList modules summary.all
+  pub kept_within : IsWithinList modules summary.kept
+  pub without : at_span modules summary.kept ≡ without_excluded main (at_span modules summary.all)
 
--- the requirements of a file: none if it has a fault or nothing is kept of it
-abbrev pub lent_found : Option Kept → List ModuleVersion
-lent_found None = []
-lent_found (Some (Valid summary)) = lent_by summary
-lent_found (Some (Faulty class)) = []
-
--- A summary has the requirements of its file, without the excluded ones.
-abbrev pub IsKept : Main → Kept → Type 0
-IsKept main (Valid summary) = lent_by summary ≡ without_excluded main summary.file.requirements
-IsKept main (Faulty class) = ⊤
+abbrev pub IsKept : Main → List ModuleVersion → Kept → Type 0
+IsKept main modules (Valid summary) = IsSummary main modules summary
+IsKept main modules (Faulty class) = ⊤

@@ -9,28 +9,30 @@ ghost use Rattle.gm_store.specs.Asked.{IsWithinLimit, Name, Reply, answer_in, na
 ghost use Rattle.gm_store.specs.States.{AddsAnswer, CountsFailure};
 ghost use Rattle.gm_store.specs.declared.files.FileName.{FileName};
 ghost use Rattle.gm_graph_cache.specs.Main.{ModuleVersion, main_of};
-ghost use Rattle.gm_graph_cache.specs.Marks.{IsNameKey};
 ghost use Rattle.gm_graph_cache.specs.Asking.{AsksAtMost, AsksFor, MayGrow, MayLess, StillLacks};
 ghost use Rattle.gm_graph_cache.specs.Reading.{Held, IsFileReading, KeepsHeld, file_of, is_askable as may_be_asked, is_unpruned, is_unpruned_in, readings_by, vertex_requirements, said_in};
 ghost use Rattle.gm_graph_cache.specs.Refusals.{refused_in};
 ghost use Rattle.gm_graph_cache.specs.Cached.{IsFinding};
 ghost use Rattle.gm_graph_cache.specs.Entries.{AddsSummary};
-ghost use Rattle.gm_graph_cache.specs.Summaries.{IsKept, summary_reading};
+ghost use Rattle.gm_graph_cache.specs.Lent.{lent_modules};
+ghost use Rattle.gm_graph_cache.specs.Summaries.{StartsWithList, IsKept, summary_reading};
 ghost use Rattle.gm_graph_cache.specs.Turns.{turn};
 
 use crate::class::Class;
 use crate::depth::{Depth, Turn};
 use crate::finding::Finding;
+use crate::kept_files::KeptFile;
+use crate::lent::Lent;
 use crate::load_fault::LoadFault;
 use crate::main_view;
-use crate::name_key::{NameKey, mark};
 use crate::naming::{file_name, is_askable};
 use crate::paths::is_right_path;
-use crate::reading::{FileReading, read_answer};
+use crate::reading::{ListedReading, read_answer};
 use crate::summaries::Summaries;
 use crate::summary::{Kept, summary_of};
 use gm_file::MainFile;
 use gm_name::{KnownNames, ModVer, NoMemory};
+use gm_name_table::ModuleList;
 use gm_store::{Answer, AskFault, FileName, Files, copy_name};
 use gm_store_sums::SumTable;
 use std::alloc::Global;
@@ -48,6 +50,8 @@ pub struct Cache<'a> {
     sums: Option<&'a SumTable<'a>>,
     /// The paths and versions that the files share.
     names: KnownNames,
+    /// The requirements of all files, one file after another.
+    modules: ModuleList,
     /// What was read of each file, or what is wrong with it.
     summaries: Summaries,
     /// The turns whose requirements were requested, in order.
@@ -91,19 +95,26 @@ fn expect_path(names: &mut KnownNames, name: &FileName) -> Result<(), NoMemory> 
 fn summarize(
     alloc: Global,
     names: &mut KnownNames,
+    modules: &mut ModuleList,
     main: &MainFile,
     sums: Option<&SumTable>,
     name: &FileName,
     answer: &Answer,
 ) -> Result<Kept, NoMemory>
     ensures reading { IfOk result (λ kept. IsWithinLimit (reply_of answer.now)
-        → IsFileReading (option_copied sums.entry) (name_of name.now) (reply_of answer.now) (summary_reading kept)) }
-    ensures kept { IfOk result (IsKept (main_of main.now)) }
+        → IsFileReading (option_copied sums.entry) (name_of name.now) (reply_of answer.now)
+        (summary_reading modules.new kept)) }
+    ensures kept { IfOk result (IsKept (main_of main.now) modules.new) }
+    ensures grows { StartsWithList modules.old modules.new }
 {
     expect_path(names, name)?;
-    match read_answer(alloc, names, sums, name, answer)? {
-        FileReading::Valid(file) => Ok(Kept::Valid(summary_of(alloc, main, file)?)),
-        FileReading::Faulty(class) => Ok(Kept::Faulty(class)),
+    let start = modules.len();
+    match read_answer(alloc, names, modules, sums, name, answer)? {
+        ListedReading::Valid(file) => {
+            let summary = summary_of(alloc, modules, main, file, start)?;
+            Ok(Kept::Valid(summary))
+        }
+        ListedReading::Faulty(class) => Ok(Kept::Faulty(class)),
     }
 }
 
@@ -111,7 +122,8 @@ fn summarize(
 fn finding_of(main: &MainFile, x: &ModVer, name: FileName, kept: &Kept) -> Finding
     requires file { name_of name ≡ file_of (main_of main.now) x.now }
     requires askable { may_be_asked (name_of name) ≡ true }
-    ensures { (held : Held) → held (name_of name) ≡ Some (summary_reading kept.now)
+    ensures { (modules : List ModuleVersion) (held : Held)
+        → held (name_of name) ≡ Some (summary_reading modules kept.now)
         → IsFinding (main_of main.now) held x.now result }
 {
     match kept {
@@ -167,6 +179,7 @@ impl<'a> Cache<'a> {
             main,
             sums,
             names,
+            modules: ModuleList::new(alloc),
             summaries: Summaries::new(alloc),
             turns: Vec::new(alloc),
         })
@@ -174,11 +187,12 @@ impl<'a> Cache<'a> {
 
     /// Asks for the file of a name that was not asked for, and reads it.
     fn read_file<F: Files>(&mut self, files: &mut F, name: &FileName) -> Result<Kept, AskFault>
-        requires { answer_in (F.state files.old).asked (name_of name.now) ≡ None }
+        requires fresh { answer_in (F.state files.old).asked (name_of name.now) ≡ None }
+        requires lends { LendsKept self.old }
         ensures reading { IfOk result (λ kept. (reply : Reply)
             × AddsAnswer (F.state files.old) (F.state files.new) (name_of name.now) reply
-            × IsFileReading (sums_in self.old) (name_of name.now) reply (summary_reading kept)) }
-        ensures kept { IfOk result (IsKept (main_in self.old)) }
+            × IsFileReading (sums_in self.old) (name_of name.now) reply (summary_reading self.new.modules kept)) }
+        ensures kept { IfOk result (IsKept (main_in self.old) self.new.modules) }
         ensures unchanged { IsUnchanged self.old self.new }
         ensures asks { AsksAtMost (F.state files.old) (F.state files.new) (name_of name.now) }
         ensures device { result ≡ Err AskFault.Device
@@ -196,6 +210,7 @@ impl<'a> Cache<'a> {
         let kept = summarize(
             self.alloc,
             &mut self.names,
+            &mut self.modules,
             self.main,
             self.sums,
             name,
@@ -206,18 +221,18 @@ impl<'a> Cache<'a> {
 
     /// Keeps what was read of the file of a vertex, and reports what is found of the vertex. The only refusal is
     /// `NoMemory`, which leaves the cache unchanged.
-    fn keep(&mut self, x: &ModVer, key: NameKey, kept: Kept) -> Result<Finding, NoMemory>
-        requires marked { IsNameKey key }
-        requires file { name_of key.name ≡ file_of (main_in self.old) x.now }
-        requires askable { may_be_asked (name_of key.name) ≡ true }
-        ensures adds { OnOk result (AddsSummary self.old.summaries self.new.summaries (name_of key.name) kept) }
+    fn keep(&mut self, x: &ModVer, file: KeptFile) -> Result<Finding, NoMemory>
+        requires file { name_of file.name ≡ file_of (main_in self.old) x.now }
+        requires askable { may_be_asked (name_of file.name) ≡ true }
+        ensures adds { OnOk result (AddsSummary self.old.summaries self.new.summaries (name_of file.name) file.kept) }
+        ensures modules { self.new.modules ≡ self.old.modules }
         ensures finding { IfOk result (IsFinding (main_in self.new) (held_of self.new) x.now) }
         ensures lent { LentSame self.old self.new }
         ensures err { OnErr result (HoldsSame self.old self.new) }
     {
-        let name = copy_name(self.alloc, &key.name)?;
-        let finding = finding_of(self.main, x, name, &kept);
-        self.summaries.add(key, kept)?;
+        let name = copy_name(self.alloc, &file.name)?;
+        let finding = finding_of(self.main, x, name, &file.kept);
+        self.summaries.add(file)?;
         Ok(finding)
     }
 
@@ -249,14 +264,13 @@ impl<'a> Cache<'a> {
         if !is_askable(&name) {
             return Ok(Finding::Fault(Class::NotFetchable));
         }
-        let key = mark(name);
-        if let Some(kept) = self.summaries.find(&key) {
-            return Ok(finding_of(self.main, x, key.name, kept));
+        if let Some(kept) = self.summaries.find(&name) {
+            return Ok(finding_of(self.main, x, name, kept));
         }
-        match self.read_file(files, &key.name) {
-            Ok(kept) => Ok(self.keep(x, key, kept)?),
+        match self.read_file(files, &name) {
+            Ok(kept) => Ok(self.keep(x, KeptFile { name, kept })?),
             Err(AskFault::NoMemory) => Err(LoadFault::NoMemory),
-            Err(AskFault::Device) => Err(LoadFault::Device(key.name)),
+            Err(AskFault::Device) => Err(LoadFault::Device(name)),
         }
     }
 
@@ -268,17 +282,17 @@ impl<'a> Cache<'a> {
         vertex: &ModVer,
         depth: Depth,
         name: Option<&FileName>,
-    ) -> Result<&[ModVer], NoMemory>
+    ) -> Result<Lent<'_>, NoMemory>
         requires lends { LendsKept self.old }
         requires lender { IsLender (main_in self.old) (held_of self.old) vertex.now
             (option_map (λ n. name_of n.now) name) }
-        ensures lent { IfOk result (λ lent. lent.now
+        ensures lent { IfOk result (λ lent. lent_modules lent
             ≡ vertex_requirements (main_in self.old) (readings_by (main_in self.old) (held_of self.old)) vertex.now) }
         ensures* after { sem 𝓛 (Lends self.entry (turn vertex.now depth) result) }
     {
-        let place = self.summaries.place_of(self.alloc, name)?;
+        let span = self.summaries.span_of(name);
         push_turn(self.alloc, &mut self.turns, vertex, depth)?;
-        Ok(self.summaries.lent_at(place))
+        Ok(Lent::at(&self.modules, span))
     }
 
     /// Whether the file of that name is known, has no fault and is unpruned, that is, whether the first two numbers
@@ -290,8 +304,7 @@ impl<'a> Cache<'a> {
             x (Some (name_of name.now))
             → IfOk result (λ is. is ≡ is_unpruned (readings_by (main_in self.now) (held_of self.now)) x) }
     {
-        let place = self.summaries.place_of(self.alloc, Some(name))?;
-        match self.summaries.at(place) {
+        match self.summaries.find(name) {
             None => Ok(false),
             Some(kept) => Ok(kept.is_unpruned()),
         }

@@ -4,9 +4,10 @@
 
 ghost use Rattle.std.specs.Prelude.{◌≡◌};
 ghost use Rattle.gm_store.specs.Asked.{name_of, same_name};
+ghost use Rattle.gm_graph_cache.specs.Marks.{name_fingerprint};
 
-use crate::name_key::NameKey;
 use crate::summary::Kept;
+use gm_name::fingerprint;
 use gm_store::FileName;
 use number_map::Places;
 use std::alloc::Global;
@@ -41,12 +42,22 @@ pub(crate) fn is_same(name: &FileName, other: &FileName) -> bool
     *name == *other
 }
 
+/// The fingerprint of a name.
+pub(crate) fn number_of(name: &FileName) -> u64
+    ensures { result ≡ name_fingerprint (name_of name.now) }
+{
+    match name {
+        FileName::Mod(path, version) => fingerprint(path.fingerprint(), version.as_str()),
+        FileName::Folder(text) => fingerprint(0, text.as_str()),
+        FileName::List(path) => path.fingerprint(),
+    }
+}
+
 impl KeptFiles {
     ghost use Rattle.std.specs.Prelude.{◌≡◌, if◌then◌else◌, None, Some, IfErr, OnErr, OnOk, false, true};
     ghost use Rattle.std.specs.Option.{option_copied};
     ghost use Rattle.gm_store.specs.Asked.{Name};
     ghost use Rattle.gm_graph_cache.specs.KeptFiles.{first_with, is_free, kept_at};
-    ghost use Rattle.gm_graph_cache.specs.Marks.{IsNameKey};
 
     /// No files.
     pub(crate) fn new(alloc: Global) -> KeptFiles
@@ -66,90 +77,85 @@ impl KeptFiles {
         self.files.get(self.first.get(number)?)
     }
 
-    /// What is kept of the file of a key's name.
-    pub(crate) fn get(&self, key: &NameKey) -> Option<&Kept>
-        requires { IsNameKey key.now }
-        ensures { option_copied result ≡ kept_at self.now (name_of key.now.name) }
+    /// What is kept of the file of a name with this fingerprint.
+    pub(crate) fn get(&self, number: u64, name: &FileName) -> Option<&Kept>
+        requires { number ≡ name_fingerprint (name_of name.now) }
+        ensures { option_copied result ≡ kept_at self.now (name_of name.now) }
     {
-        match self.first_with(key.number) {
-            None => self.others.get(&key.name),
+        match self.first_with(number) {
+            None => self.others.get(name),
             Some(file) => {
-                if is_same(&key.name, &file.name) {
+                if is_same(name, &file.name) {
                     Some(&file.kept)
                 } else {
-                    self.others.get(&key.name)
+                    self.others.get(name)
                 }
             }
         }
     }
 
-    /// Whether no other file is the first one with this key's fingerprint.
-    fn is_free(&self, key: &NameKey) -> bool
-        ensures { result ≡ is_free (first_with self.now key.now.number) (name_of key.now.name) }
+    /// Whether no other file than that of a name is the first one with this fingerprint.
+    fn is_free(&self, number: u64, name: &FileName) -> bool
+        ensures { result ≡ is_free (first_with self.now number) (name_of name.now) }
     {
-        match self.first_with(key.number) {
+        match self.first_with(number) {
             None => true,
-            Some(file) => is_same(&key.name, &file.name),
+            Some(file) => is_same(name, &file.name),
         }
     }
 
-    /// Keeps a file, in place of what was kept under its name. It is refused only if memory runs out; then the key and
-    /// the file are given back, and the others are as they were.
-    pub(crate) fn insert(&mut self, key: NameKey, kept: Kept) -> Result<(), (NameKey, Kept)>
-        requires { IsNameKey key }
+    /// Keeps a file, in place of what was kept under its name. It is refused only if memory runs out; then the file is
+    /// given back, and the others are as they were.
+    pub(crate) fn insert(&mut self, file: KeptFile) -> Result<(), KeptFile>
         ensures puts { OnOk result ((other : Name) → kept_at self.new other
-            ≡ (if same_name other (name_of key.name) then Some kept else kept_at self.old other)) }
-        ensures back { IfErr result (λ refused. refused ≡ (key, kept)) }
+            ≡ (if same_name other (name_of file.name) then Some file.kept else kept_at self.old other)) }
+        ensures back { IfErr result (λ refused. refused ≡ file) }
         ensures err { OnErr result ((other : Name) → kept_at self.new other ≡ kept_at self.old other) }
     {
-        if self.is_free(&key) {
-            self.insert_first(key, kept)
+        let number = number_of(&file.name);
+        if self.is_free(number, &file.name) {
+            self.insert_first(number, file)
         } else {
-            self.insert_other(key, kept)
+            self.insert_other(file)
         }
     }
 
     /// Keeps a file as the first one with its fingerprint.
-    fn insert_first(&mut self, key: NameKey, kept: Kept) -> Result<(), (NameKey, Kept)>
-        requires marked { IsNameKey key }
-        requires free { is_free (first_with self.old key.number) (name_of key.name) ≡ true }
+    fn insert_first(&mut self, number: u64, file: KeptFile) -> Result<(), KeptFile>
+        requires marked { number ≡ name_fingerprint (name_of file.name) }
+        requires free { is_free (first_with self.old number) (name_of file.name) ≡ true }
         ensures puts { OnOk result ((other : Name) → kept_at self.new other
-            ≡ (if same_name other (name_of key.name) then Some kept else kept_at self.old other)) }
-        ensures back { IfErr result (λ refused. refused ≡ (key, kept)) }
+            ≡ (if same_name other (name_of file.name) then Some file.kept else kept_at self.old other)) }
+        ensures back { IfErr result (λ refused. refused ≡ file) }
         ensures err { OnErr result ((other : Name) → kept_at self.new other ≡ kept_at self.old other) }
     {
         // Room comes first, so that the push after the map has changed cannot fail.
         let Ok(()) = self.files.reserve(1) else {
-            return Err((key, kept));
+            return Err(file);
         };
-        let Ok(()) = self.first.insert(key.number, self.files.len()) else {
-            return Err((key, kept));
+        let Ok(()) = self.first.insert(number, self.files.len()) else {
+            return Err(file);
         };
-        let NameKey { number, name } = key;
-        match self.files.push(KeptFile { name, kept }) {
+        match self.files.push(file) {
             Ok(()) => Ok(()),
-            Err(refused) => {
-                let KeptFile { name, kept } = refused.value;
-                Err((NameKey { number, name }, kept))
-            }
+            Err(refused) => Err(refused.value),
         }
     }
 
     /// Keeps a file beside the first one with its fingerprint.
-    fn insert_other(&mut self, key: NameKey, kept: Kept) -> Result<(), (NameKey, Kept)>
-        requires marked { IsNameKey key }
-        requires taken { is_free (first_with self.old key.number) (name_of key.name) ≡ false }
+    fn insert_other(&mut self, file: KeptFile) -> Result<(), KeptFile>
+        requires { is_free (first_with self.old (name_fingerprint (name_of file.name))) (name_of file.name) ≡ false }
         ensures puts { OnOk result ((other : Name) → kept_at self.new other
-            ≡ (if same_name other (name_of key.name) then Some kept else kept_at self.old other)) }
-        ensures back { IfErr result (λ refused. refused ≡ (key, kept)) }
+            ≡ (if same_name other (name_of file.name) then Some file.kept else kept_at self.old other)) }
+        ensures back { IfErr result (λ refused. refused ≡ file) }
         ensures err { OnErr result ((other : Name) → kept_at self.new other ≡ kept_at self.old other) }
     {
-        let NameKey { number, name } = key;
+        let KeptFile { name, kept } = file;
         match self.others.insert(name, kept) {
             Ok(_) => Ok(()),
             Err(refused) => {
                 let (name, kept) = refused.value;
-                Err((NameKey { number, name }, kept))
+                Err(KeptFile { name, kept })
             }
         }
     }

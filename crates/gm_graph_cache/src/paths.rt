@@ -8,11 +8,11 @@ ghost use Rattle.gm_graph_cache.specs.Main.{main_of, replacement_in};
 ghost use Rattle.gm_graph_cache.specs.Reading.{declares, is_right_path};
 
 use crate::main_view::replacement;
-use gm_file::{DepFile, MainFile, Right};
+use gm_file::{ListedFile, MainFile, Right};
 use gm_name::{ModPath, ModVer};
 
 /// Whether a file declares this path.
-fn declares(path: &ModPath, file: &DepFile) -> bool
+fn declares(path: &ModPath, file: &ListedFile) -> bool
     ensures { result ≡ declares path.now file.now.declared }
 {
     match file.module() {
@@ -22,7 +22,7 @@ fn declares(path: &ModPath, file: &DepFile) -> bool
 }
 
 /// Whether a file declares a right path for a vertex.
-pub(crate) fn is_right_path(main: &MainFile, x: &ModVer, file: &DepFile) -> bool
+pub(crate) fn is_right_path(main: &MainFile, x: &ModVer, file: &ListedFile) -> bool
     ensures { result ≡ is_right_path x.now (replacement_in (main_of main.now) x.now) file.now.declared }
 {
     match replacement(main, x) {
@@ -32,7 +32,7 @@ pub(crate) fn is_right_path(main: &MainFile, x: &ModVer, file: &DepFile) -> bool
 }
 
 /// Whether a file declares a right path for a vertex that is replaced.
-fn is_right_through(right: &Right, x: &ModVer, file: &DepFile) -> bool
+fn is_right_through(right: &Right, x: &ModVer, file: &ListedFile) -> bool
     ensures { result ≡ is_right_path x.now (Some (right_view right.now)) file.now.declared }
 {
     match right {

@@ -1,15 +1,16 @@
 //! From a store's answer to the contents of a dependency's file.
 
-ghost use Rattle.std.specs.Prelude.{◌≡◌, ◌≤◌, ◌<◌, ℕ, List, length, Err, IfOk};
+ghost use Rattle.std.specs.Prelude.{◌≡◌, ◌≤◌, ◌<◌, ℕ, List, drop, length, Err, IfOk};
 ghost use Rattle.gm_file.specs.DepLines.{IsMisread};
 ghost use Rattle.std.specs.Option.{option_copied};
 ghost use Rattle.gm_store.specs.Asked.{IsWithinLimit, name_of, reply_of};
 ghost use Rattle.gm_graph_cache.specs.Reading.{IsContentReading, IsFileReading, class_of_sum, sum_fault};
-ghost use Rattle.gm_graph_cache.specs.Summaries.{reading_of};
+ghost use Rattle.gm_graph_cache.specs.Summaries.{StartsWithList, listed_reading, reading_of};
 
 use crate::class::{Class, Misreading};
-use gm_file::{DepFile, ReadFault};
+use gm_file::{DepFile, ListedFile, ReadFault};
 use gm_name::{KnownNames, NoMemory};
+use gm_name_table::ModuleList;
 use gm_store::{Answer, FileName};
 use gm_store_sums::{Sum, SumTable};
 use std::alloc::{AllocError, Global};
@@ -19,6 +20,15 @@ use std::alloc::{AllocError, Global};
 pub enum FileReading {
     /// The file is valid, and these are its contents.
     Valid(DepFile),
+    /// The file has this fault.
+    Faulty(Class),
+}
+
+/// What a file says whose requirements were put into the list of modules, or what is wrong with it.
+#[derive(Drop)]
+pub(crate) enum ListedReading {
+    /// The file is valid, and says this beside its requirements.
+    Valid(ListedFile),
     /// The file has this fault.
     Faulty(Class),
 }
@@ -89,23 +99,45 @@ fn malformed(line: usize, kind: Misreading) -> Class
     Class::Malformed { line, kind }
 }
 
-/// What an answer says, or what is wrong with it. No store's answer is over the limit.
+/// What a dependency's file with these bytes says, which go to the end of the list of modules, or why they can't be
+/// read. The only refusal is `NoMemory`.
+fn read_content(
+    alloc: Global,
+    names: &mut KnownNames,
+    modules: &mut ModuleList,
+    content: &[u8],
+) -> Result<ListedReading, NoMemory>
+    ensures reading { IfOk result (λ read. length content.now ≤ 16777216
+        → IsContentReading content.now (listed_reading (drop (length modules.old) modules.new) read)) }
+    ensures grows { StartsWithList modules.old modules.new }
+{
+    match DepFile::read_listed(alloc, names, modules, content) {
+        Ok(file) => Ok(ListedReading::Valid(file)),
+        Err(fault) => Ok(ListedReading::Faulty(class_of_misread(fault)?)),
+    }
+}
+
+/// What an answer says, or what is wrong with it. The requirements go to the end of the list of modules. No store's
+/// answer is over the limit.
 pub(crate) fn read_answer(
     alloc: Global,
     names: &mut KnownNames,
+    modules: &mut ModuleList,
     sums: Option<&SumTable>,
     name: &FileName,
     answer: &Answer,
-) -> Result<FileReading, NoMemory>
-    ensures { IfOk result (λ read. IsWithinLimit (reply_of answer.now)
-        → IsFileReading (option_copied sums.entry) (name_of name.now) (reply_of answer.now) (reading_of read)) }
+) -> Result<ListedReading, NoMemory>
+    ensures reading { IfOk result (λ read. IsWithinLimit (reply_of answer.now)
+        → IsFileReading (option_copied sums.entry) (name_of name.now) (reply_of answer.now)
+        (listed_reading (drop (length modules.old) modules.new) read)) }
+    ensures grows { StartsWithList modules.old modules.new }
 {
     match answer {
-        Answer::Absent => Ok(FileReading::Faulty(Class::Missing)),
-        Answer::TooLong => Ok(FileReading::Faulty(Class::TooLong)),
+        Answer::Absent => Ok(ListedReading::Faulty(Class::Missing)),
+        Answer::TooLong => Ok(ListedReading::Faulty(Class::TooLong)),
         Answer::Bytes(content) => match sum_fault(sums, name, content) {
-            Some(class) => Ok(FileReading::Faulty(class)),
-            None => FileReading::of_bytes(alloc, names, content),
+            Some(class) => Ok(ListedReading::Faulty(class)),
+            None => read_content(alloc, names, modules, content),
         },
     }
 }

@@ -3,41 +3,17 @@
 //! Nearly all questions about a file come right after it was read, so the newest entry is kept outside the map, where
 //! it takes no look-up.
 
-ghost use Rattle.gm_graph_cache.specs.Marks.{IsNameKey};
-
-use crate::kept_files::{KeptFiles, is_same};
-use crate::name_key::{NameKey, mark_copy};
-use crate::summary::Kept;
-use gm_name::{ModVer, NoMemory};
+use crate::kept_files::{KeptFile, KeptFiles, is_same, number_of};
+use crate::summary::{Kept, Span};
+use gm_name::NoMemory;
 use gm_store::FileName;
 use std::alloc::{AllocError, Global};
-
-/// The entry that was added last.
-#[derive(Drop)]
-struct Newest {
-    /// The key of its name.
-    key: NameKey,
-    /// What is kept of the file.
-    kept: Kept,
-    ghost marked: { IsNameKey key },
-}
-
-/// Where an entry is.
-#[derive(Drop)]
-pub(crate) enum Place {
-    /// There is no entry.
-    Nowhere,
-    /// It is the newest one.
-    Newest,
-    /// It is one of those before the newest, if there is one at all; this is the key of its name.
-    Earlier(NameKey),
-}
 
 /// What was read of files, by their names.
 #[derive(Drop)]
 pub(crate) struct Summaries {
     /// The entry that was added last, if there is one.
-    newest: Option<Newest>,
+    newest: Option<KeptFile>,
     /// The entries before it.
     earlier: KeptFiles,
 }
@@ -46,8 +22,9 @@ impl Summaries {
     ghost use Rattle.std.specs.Prelude.{◌≡◌, None, IfOk, OnErr, OnOk};
     ghost use Rattle.std.specs.Option.{option_copied, option_map};
     ghost use Rattle.gm_store.specs.Asked.{Name, name_of};
-    ghost use Rattle.gm_graph_cache.specs.Entries.{AddsSummary, FindsSame, IsPlaced, found_any, found_at, found_in, newest_or};
-    ghost use Rattle.gm_graph_cache.specs.Summaries.{lent_found};
+    ghost use Rattle.gm_graph_cache.specs.Entries.{AddsSummary, FindsSame, found_any, found_in};
+    ghost use Rattle.gm_graph_cache.specs.KeptFiles.{kept_or};
+    ghost use Rattle.gm_graph_cache.specs.Summaries.{span_found};
 
     /// No entries.
     pub(crate) fn new(alloc: Global) -> Summaries
@@ -61,12 +38,12 @@ impl Summaries {
 
     /// The newest entry, if it is that of a name.
     fn newest_of(&self, name: &FileName) -> Option<&Kept>
-        ensures { option_copied result ≡ newest_or self.now.newest (name_of name.now) None }
+        ensures { option_copied result ≡ kept_or self.now.newest (name_of name.now) None }
     {
         match &self.newest {
             None => None,
             Some(newest) => {
-                if is_same(name, &newest.key.name) {
+                if is_same(name, &newest.name) {
                     Some(&newest.kept)
                 } else {
                     None
@@ -75,55 +52,27 @@ impl Summaries {
         }
     }
 
-    /// The entry of a key's name.
-    pub(crate) fn find(&self, key: &NameKey) -> Option<&Kept>
-        requires { IsNameKey key.now }
-        ensures { option_copied result ≡ found_in self.now (name_of key.now.name) }
+    /// The entry of a name.
+    pub(crate) fn find(&self, name: &FileName) -> Option<&Kept>
+        ensures { option_copied result ≡ found_in self.now (name_of name.now) }
     {
-        match self.newest_of(&key.name) {
+        match self.newest_of(name) {
             Some(kept) => Some(kept),
-            None => self.earlier.get(key),
+            None => self.earlier.get(number_of(name), name),
         }
     }
 
-    /// Where the entry of a name is; there is none if there is no name. The only refusal is `NoMemory`.
-    pub(crate) fn place_of(&self, alloc: Global, name: Option<&FileName>) -> Result<Place, NoMemory>
-        ensures placed { IfOk result IsPlaced }
-        ensures place { IfOk result (λ place. found_at self.now place
-            ≡ found_any self.now (option_map (λ n. name_of n.now) name.entry)) }
+    /// Where the requirements of the entry of a name are, without the excluded ones: nowhere if there is no name or no
+    /// entry.
+    pub(crate) fn span_of(&self, name: Option<&FileName>) -> Span
+        ensures { result ≡ span_found (found_any self.now (option_map (λ n. name_of n.now) name.entry)) }
     {
         let Some(name) = name else {
-            return Ok(Place::Nowhere);
+            return Span::nowhere();
         };
-        if self.newest_of(name).is_some() {
-            return Ok(Place::Newest);
-        }
-        Ok(Place::Earlier(mark_copy(alloc, name)?))
-    }
-
-    /// The entry at a place.
-    pub(crate) fn at(&self, place: Place) -> Option<&Kept>
-        requires { IsPlaced place }
-        ensures { option_copied result ≡ found_at self.now place }
-    {
-        match place {
-            Place::Nowhere => None,
-            Place::Newest => match &self.newest {
-                None => None,
-                Some(newest) => Some(&newest.kept),
-            },
-            Place::Earlier(key) => self.earlier.get(&key),
-        }
-    }
-
-    /// The requirements of the entry at a place, without the excluded ones: none if there is no entry.
-    pub(crate) fn lent_at(&self, place: Place) -> &[ModVer]
-        requires { IsPlaced place }
-        ensures { result.now ≡ lent_found (found_at self.now place) }
-    {
-        match self.at(place) {
-            None => &[],
-            Some(kept) => kept.lent(),
+        match self.find(name) {
+            None => Span::nowhere(),
+            Some(kept) => kept.span(),
         }
     }
 
@@ -132,13 +81,13 @@ impl Summaries {
         ensures settled { OnOk result (self.new.newest ≡ None) }
         ensures same { FindsSame self.old self.new }
     {
-        let Some(Newest { key, kept }) = self.newest.take() else {
+        let Some(newest) = self.newest.take() else {
             return Ok(());
         };
-        match self.earlier.insert(key, kept) {
+        match self.earlier.insert(newest) {
             Ok(()) => Ok(()),
-            Err((key, kept)) => {
-                self.newest = Some(Newest { key, kept });
+            Err(newest) => {
+                self.newest = Some(newest);
                 Err(AllocError)
             }
         }
@@ -146,13 +95,12 @@ impl Summaries {
 
     /// Adds an entry, in place of any other of that name. The only refusal is `NoMemory`, which leaves the entries
     /// unchanged.
-    pub(crate) fn add(&mut self, key: NameKey, kept: Kept) -> Result<(), NoMemory>
-        requires { IsNameKey key }
-        ensures ok { OnOk result (AddsSummary self.old self.new (name_of key.name) kept) }
+    pub(crate) fn add(&mut self, file: KeptFile) -> Result<(), NoMemory>
+        ensures ok { OnOk result (AddsSummary self.old self.new (name_of file.name) file.kept) }
         ensures err { OnErr result (FindsSame self.old self.new) }
     {
         self.settle()?;
-        self.newest = Some(Newest { key, kept });
+        self.newest = Some(file);
         Ok(())
     }
 }

@@ -1,25 +1,49 @@
 //! What the cache keeps of a file that was read.
+//!
+//! The requirements of all files are in one list of modules, since files name the same modules again and again. A
+//! summary says where those of its file are.
 
-ghost use Rattle.std.specs.Prelude.{◌≡◌, IfOk, Some};
+ghost use Rattle.std.specs.Prelude.{◌≡◌, ◌≤◌, ◌++◌, List, IfOk, OnOk, Some, drop, length};
 ghost use Rattle.std.specs.List.{list_any};
-ghost use Rattle.gm_graph_cache.specs.Main.{is_excluded, without_excluded, main_of};
+ghost use Rattle.gm_graph_cache.specs.Main.{ModuleVersion, is_excluded, without_excluded, main_of};
 ghost use Rattle.gm_graph_cache.specs.Reading.{is_unpruned_in, said_in};
-ghost use Rattle.gm_graph_cache.specs.Summaries.{lent_by, lent_found, summary_reading};
+ghost use Rattle.gm_graph_cache.specs.Summaries.{StartsWithList, IsSummary, at_span, nowhere, span_found, summary_reading};
 
 use crate::class::Class;
 use crate::main_view::{is_excluded, is_pruned};
-use gm_file::{DepFile, MainFile};
+use gm_file::{ListedFile, MainFile};
 use gm_name::{ModVer, NoMemory};
+use gm_name_table::{ModuleList, Modules};
 use std::alloc::Global;
+
+/// Where some modules are in the list of modules: from one place to another.
+#[derive(Clone, Copy)]
+pub(crate) struct Span {
+    /// The place of the first one.
+    pub(crate) start: usize,
+    /// The place after the last one.
+    pub(crate) end: usize,
+}
+
+impl Span {
+    /// The span of no modules.
+    pub(crate) fn nowhere() -> Span
+        ensures { result ≡ nowhere }
+    {
+        Span { start: 0, end: 0 }
+    }
+}
 
 /// What the cache keeps of a valid file.
 #[derive(Drop)]
 pub(crate) struct Summary {
-    /// The file's contents.
-    pub(crate) file: DepFile,
-    /// The requirements without the excluded ones, if one of them is excluded. Otherwise the list of the file
-    /// itself serves, so that most summaries need no copy. Boxed, so that those are smaller.
-    pub(crate) kept: Option<Box<Vec<ModVer>>>,
+    /// What the file says, other than its requirements.
+    pub(crate) file: ListedFile,
+    /// Where its requirements are.
+    pub(crate) all: Span,
+    /// Where its requirements without the excluded ones are: in the same place if none is excluded, so that most
+    /// files have their requirements in the list once.
+    pub(crate) kept: Span,
 }
 
 /// What the cache keeps of a file.
@@ -32,15 +56,15 @@ pub(crate) enum Kept {
 }
 
 /// Whether one of these is excluded.
-fn has_excluded(main: &MainFile, list: &[ModVer]) -> bool
-    ensures { result ≡ list_any (is_excluded (main_of main.now)) list.now }
+fn has_excluded(main: &MainFile, mut list: Modules<'_>) -> bool
+    ensures { result ≡ list_any (is_excluded (main_of main.now)) list.entry }
 {
-    list.iter().any(|x| is_excluded(main, x))
+    list.any(|x| is_excluded(main, x))
 }
 
 /// Copies of those that are not excluded.
-fn copy_kept(alloc: Global, main: &MainFile, list: &[ModVer]) -> Result<Vec<ModVer>, NoMemory>
-    ensures { IfOk result (λ some. some.items ≡ without_excluded (main_of main.now) list.now) }
+fn copy_kept(alloc: Global, main: &MainFile, list: Modules<'_>) -> Result<Vec<ModVer>, NoMemory>
+    ensures { IfOk result (λ some. some.items ≡ without_excluded (main_of main.now) list.entry) }
 {
     let mut some = Vec::new(alloc);
     for x in list {
@@ -51,37 +75,55 @@ fn copy_kept(alloc: Global, main: &MainFile, list: &[ModVer]) -> Result<Vec<ModV
     Ok(some)
 }
 
-/// The summary of a file.
-pub(crate) fn summary_of(alloc: Global, main: &MainFile, file: DepFile) -> Result<Summary, NoMemory>
-    ensures file { IfOk result (λ summary. summary.file ≡ file) }
-    ensures kept { IfOk result (λ summary. lent_by summary ≡ without_excluded (main_of main.now) file.requirements) }
+/// Appends modules to the list. The only refusal is `NoMemory`, after which the list may have some of them.
+fn append(modules: &mut ModuleList, some: &[ModVer]) -> Result<(), NoMemory>
+    ensures ok { OnOk result (modules.new ≡ modules.old ++ some.now) }
+    ensures grows { StartsWithList modules.old modules.new }
 {
-    if !has_excluded(main, file.requirements()) {
-        return Ok(Summary { file, kept: None });
+    for x in some {
+        modules.push(x)?;
     }
-    let some = copy_kept(alloc, main, file.requirements())?;
-    Ok(Summary {
-        file,
-        kept: Some(Box::new(alloc, some)?),
-    })
+    Ok(())
 }
 
-impl Summary {
-    /// The requirements without the excluded ones.
-    fn lent(&self) -> &[ModVer]
-        ensures { result.now ≡ lent_by self.now }
-    {
-        match &self.kept {
-            None => self.file.requirements(),
-            Some(some) => some.as_slice(),
-        }
+/// The summary of a file whose requirements are those of the list from this place on. Where some are excluded, the
+/// others are appended to the list.
+pub(crate) fn summary_of(
+    alloc: Global,
+    modules: &mut ModuleList,
+    main: &MainFile,
+    file: ListedFile,
+    start: usize,
+) -> Result<Summary, NoMemory>
+    requires { start ≤ length modules.old }
+    ensures file { IfOk result (λ summary. summary.file ≡ file) }
+    ensures all { IfOk result (λ summary. at_span modules.new summary.all ≡ drop start modules.old) }
+    ensures kept { IfOk result (IsSummary (main_of main.now) modules.new) }
+    ensures grows { StartsWithList modules.old modules.new }
+{
+    let end = modules.len();
+    let all = Span { start, end };
+    if !has_excluded(main, modules.part(start, end)) {
+        return Ok(Summary {
+            file,
+            all,
+            kept: all,
+        });
     }
+    let some = copy_kept(alloc, main, modules.part(start, end))?;
+    append(modules, &some)?;
+    let kept = Span {
+        start: end,
+        end: modules.len(),
+    };
+    Ok(Summary { file, all, kept })
 }
 
 impl Kept {
     /// Whether the file is valid and unpruned.
     pub(crate) fn is_unpruned(&self) -> bool
-        ensures { result ≡ is_unpruned_in (said_in (Some (summary_reading self.now))) }
+        ensures { (modules : List ModuleVersion)
+            → result ≡ is_unpruned_in (said_in (Some (summary_reading modules self.now))) }
     {
         match self {
             Kept::Valid(summary) => !is_pruned(summary.file.go()),
@@ -89,13 +131,13 @@ impl Kept {
         }
     }
 
-    /// The requirements without the excluded ones: none if the file has a fault.
-    pub(crate) fn lent(&self) -> &[ModVer]
-        ensures { result.now ≡ lent_found (Some self.now) }
+    /// Where the requirements without the excluded ones are: nowhere if the file has a fault.
+    pub(crate) fn span(&self) -> Span
+        ensures { result ≡ span_found (Some self.now) }
     {
         match self {
-            Kept::Valid(summary) => summary.lent(),
-            Kept::Faulty(_) => &[],
+            Kept::Valid(summary) => summary.kept,
+            Kept::Faulty(_) => Span::nowhere(),
         }
     }
 }

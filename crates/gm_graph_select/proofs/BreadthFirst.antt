@@ -1,45 +1,25 @@
 -- A breadth-first search: one more edge, one more visit, one more level.
-use Rattle.std.proofs.Common.{◌≡◌, ◌≢◌, ◌+◌, ◌-◌, ◌<◌, ◌≤◌, ◌⊎◌, ◌↔◌, ℕ, zero, suc, Bool, true, false, cond, List, [], ◌∷◌, ◌++◌, length, get_or, set, take, replicate, reverse, Contains, ap, ap₂, ◌∙◌, ◌&&◌, sym, refl, subst, inl, inr, arith, length-append, append_assoc}
+use Rattle.std.proofs.Common.{◌≡◌, ◌≢◌, ◌+◌, ◌-◌, ◌<◌, ◌≤◌, ◌⊎◌, ◌↔◌, ℕ, zero, suc, Bool, true, false, cond, List, [], ◌∷◌, ◌++◌, length, get_or, set, take, replicate, reverse, Contains, ap, ◌∙◌, sym, refl, subst, inl, inr, arith, length-append, append_assoc}
 use Rattle.std.specs.Prelude.{◌==◌, nat_lt}
 use Rattle.std.specs.Ordering.{is_lt, nat_cmp, ordering_then}
 use Rattle.std.specs.declared.cmp.Ordering.{Ordering}
 use Rattle.std.specs.declared.cmp.Ordering.TheVariants.{Less, Equal, Greater}
-use Rattle.std.specs.Str.{bytes_eq}
 use Rattle.std.proofs.Math.Seq.{get_or-append_seam}
 use Rattle.std.proofs.lemmas.Bool.{cases_eq, cases_lt, eqb-false, eqb-true, false≢true, ltb-true}
-use Rattle.std.proofs.lemmas.List.{get_or_append_left, get_or_default, get_or-replicate, get_or-set_other, get_or-set_same, get_or-take, length-replicate, length-set, length-take-le, reverse-append, take_more}
+use Rattle.std.proofs.lemmas.List.{get_or_append_left, get_or_default, get_or-replicate, get_or-set_other, get_or-set_same, get_or-take, length-replicate, length-set, length-take-le, map_more, reverse-append}
 use Rattle.std.proofs.lemmas.List.Elements.{Contains-append_left, Contains-append_right, Contains-get_or, Contains-push, Contains-push_cases}
 use Rattle.std.proofs.lemmas.List.Sums.{sum_by-set}
-use Rattle.std.proofs.lemmas.Slice.Eq.{bytes_eq-Decides}
 use Rattle.gm_graph_select.specs.declared.step.Step.{Step}
 use Rattle.gm_graph_select.specs.declared.step.Step.TheVariants.{Main, Of}
 use Rattle.gm_graph_select.specs.declared.step.Edge.{Edge}
-use Rattle.gm_graph_select.specs.declared.numbering.Sources.{Sources}
 use Rattle.gm_graph_select.specs.declared.searching.Visit.{Visit}
+use Rattle.gm_graph_select.specs.Adjacency.{GraphView}
 use Rattle.gm_graph_select.specs.Graph.{Vertex, Edges, edge, step_cmp}
 use Rattle.gm_graph_select.specs.Chains.{IsChain, IsLevel, IsPredecessor, IsReached, Leads, along, at_main, begins, goes_on}
-use Rattle.gm_graph_select.specs.Numbering.{AreSources, source_edges, step_at, steps_of}
+use Rattle.gm_graph_select.specs.Numbering.{IsGraph, edge_leaving, edges_leaving, graph_edges, step_at, steps_of}
 use Rattle.gm_graph_select.specs.Order.{IsAscending}
 use Rattle.gm_graph_select.specs.Searching.{AreTraced, AreTried, IsVisitedNext, IsFollowed, IsSearchedTo, IsTraced, IsTracedTo, IsTurn, IsWithin, State, count_left, first_state, flag, is_found_at, visit_at, visited}
-use Rattle.gm_graph_select.proofs.NumberedSteps.{less_number, same_number, source_number}
-
--- ---- vertices
-
-both : (a b : Bool) → a && b ≡ true → (a ≡ true) × (b ≡ true)
-both true true h = (refl, refl)
-both true false h = absurd (false≢true h)
-both false b h = absurd (false≢true h)
-
-pub vertex_same : (x y : Vertex) → bytes_eq x.0 y.0 && bytes_eq x.1 y.1 ≡ true → x ≡ y
-vertex_same (p, v) (q, w) e =
-    let (paths, versions) = both (bytes_eq p q) (bytes_eq v w) e in
-    let make : List ℕ → List ℕ → Vertex = λ a b. (a, b) in
-    ap₂ make ((bytes_eq-Decides p q).0 paths) ((bytes_eq-Decides v w).0 versions)
-
-pub vertex_differs : (x y : Vertex) → bytes_eq x.0 y.0 && bytes_eq x.1 y.1 ≡ false → x ≢ y
-vertex_differs x y e same =
-    let own : bytes_eq y.0 y.0 && bytes_eq y.1 y.1 ≡ true = ap₂ (λ (a b : Bool). a && b) ((bytes_eq-Decides y.0 y.0).1 refl) ((bytes_eq-Decides y.1 y.1).1 refl) in
-    false≢true (sym e ∙ ap (λ (z : Vertex). bytes_eq z.0 y.0 && bytes_eq z.1 y.1) same ∙ own)
+use Rattle.gm_graph_select.proofs.NumberedSteps.{less_number, same_number, step_number, steps_ascend}
 
 -- ---- levels
 
@@ -147,9 +127,9 @@ count_set found i below none =
     let one : cond (is_found_at found i) 0 1 ≡ 1 = ap {B = ℕ} (λ (b : Bool). cond b 0 1) none in
     omega (arith, sums, one)
 
-module _ (S : Sources) (goal : Vertex) (level : ℕ) (before : List Bool) (tried : List Edge) where
+module _ (G : GraphView) (goal : Vertex) (level : ℕ) (before : List Bool) (tried : List Edge) where
   -- An edge whose end was found, if it has a number.
-  pub with_edge : (state : State) (e : Edge) → e.to ≢ goal → ((i : ℕ) → i < length (steps_of S) → step_at (steps_of S) i ≡ Of e.to → is_found_at state.found i ≡ true) → IsFollowed S goal level before tried state → IsFollowed S goal level before (tried ++ e ∷ []) state
+  pub with_edge : (state : State) (e : Edge) → e.to ≢ goal → ((i : ℕ) → i < length (steps_of G) → step_at (steps_of G) i ≡ Of e.to → is_found_at state.found i ≡ true) → IsFollowed G goal level before tried state → IsFollowed G goal level before (tried ++ e ∷ []) state
   with_edge state e miss end f = record {
     size = f.size;
     keeps = f.keeps;
@@ -161,7 +141,7 @@ module _ (S : Sources) (goal : Vertex) (level : ℕ) (before : List Bool) (tried
     once = f.once;
     ends = λ a h. elim (Contains-push_cases tried e a h) [
       | inl old ↦ f.ends a old
-      | inr new ↦ subst (λ (b : Edge). (i : ℕ) → i < length (steps_of S) → step_at (steps_of S) i ≡ Of b.to → is_found_at state.found i ≡ true) new end
+      | inr new ↦ subst (λ (b : Edge). (i : ℕ) → i < length (steps_of G) → step_at (steps_of G) i ≡ Of b.to → is_found_at state.found i ≡ true) new end
     ];
     misses = λ a h. elim (Contains-push_cases tried e a h) [ inl old ↦ f.misses a old | inr new ↦ subst (λ (b : Edge). b.to ≢ goal) new miss ];
     visits = f.visits;
@@ -169,7 +149,7 @@ module _ (S : Sources) (goal : Vertex) (level : ℕ) (before : List Bool) (tried
   }
 
   -- One more visit.
-  pub with_visit : (found : List Bool) (visits next : List Visit) (v : Visit) → v.number < length (steps_of S) → IsTraced (source_edges S) (steps_of S) visits (length visits) v → IsFollowed S goal level before tried (record { found = found; visits = visits; next = next }) → IsFollowed S goal level before tried (record { found = found; visits = visits ++ v ∷ []; next = next })
+  pub with_visit : (found : List Bool) (visits next : List Visit) (v : Visit) → v.number < length (steps_of G) → IsTraced (graph_edges G) (steps_of G) visits (length visits) v → IsFollowed G goal level before tried (record { found = found; visits = visits; next = next }) → IsFollowed G goal level before tried (record { found = found; visits = visits ++ v ∷ []; next = next })
   with_visit found visits next v inside traced f = record {
     size = f.size;
     keeps = f.keeps;
@@ -177,35 +157,35 @@ module _ (S : Sources) (goal : Vertex) (level : ℕ) (before : List Bool) (tried
     inside = f.inside;
     found = f.found;
     on_level = f.on_level;
-    traced = λ w h. traced_more (source_edges S) (steps_of S) visits v w (f.traced w h);
+    traced = λ w h. traced_more (graph_edges G) (steps_of G) visits v w (f.traced w h);
     once = f.once;
     ends = f.ends;
     misses = f.misses;
-    visits = all_traced (source_edges S) (steps_of S) visits v inside traced f.visits;
+    visits = all_traced (graph_edges G) (steps_of G) visits v inside traced f.visits;
     count = f.count;
   }
 
   -- The end of an edge is found.
-  pub with_end : (found : List Bool) (visits next : List Visit) (i place : ℕ) (e : Edge) → AreSources S → IsTurn S level before tried e.from → visited (steps_of S) visits place ≡ e.from → place < length visits → Contains S.edges.now e
-      → i < length (steps_of S) → step_at (steps_of S) i ≡ Of e.to → is_found_at found i ≡ false → IsFollowed S goal level before tried (record { found = found; visits = visits; next = next })
-      → IsFollowed S goal level before tried (record { found = set found i true; visits = visits; next = next ++ record { number = i; before = place } ∷ [] })
+  pub with_end : (found : List Bool) (visits next : List Visit) (i place : ℕ) (e : Edge) → IsGraph G → IsTurn G level before tried e.from → visited (steps_of G) visits place ≡ e.from → place < length visits → Contains G.edges e
+      → i < length (steps_of G) → step_at (steps_of G) i ≡ Of e.to → is_found_at found i ≡ false → IsFollowed G goal level before tried (record { found = found; visits = visits; next = next })
+      → IsFollowed G goal level before tried (record { found = set found i true; visits = visits; next = next ++ record { number = i; before = place } ∷ [] })
   with_end found visits next i place e are turn here room there inside is none f = record {
     size = length-set found i true ∙ f.size;
     keeps = λ j h. set_true found i j below (f.keeps j h);
     news = news;
-    inside = λ w h. elim (Contains-push_cases next v w h) [ inl old ↦ f.inside w old | inr new ↦ subst (λ (u : Visit). u.number < length (steps_of S)) new inside ];
+    inside = λ w h. elim (Contains-push_cases next v w h) [ inl old ↦ f.inside w old | inr new ↦ subst (λ (u : Visit). u.number < length (steps_of G)) new inside ];
     found = λ w h. elim (Contains-push_cases next v w h) [
       | inl old ↦ set_true found i w.number below (f.found w old)
       | inr new ↦ subst (λ (u : Visit). is_found_at (set found i true) u.number ≡ true) new (get_or-set_same found i true false below)
     ];
     on_level = λ w h. elim (Contains-push_cases next v w h) [
       | inl old ↦ f.on_level w old
-      | inr new ↦ subst (λ (u : Visit). IsLevel (source_edges S) (step_at (steps_of S) u.number) (suc level)) new
-          (subst (λ (s : Step). IsLevel (source_edges S) s (suc level)) (sym is) further)
+      | inr new ↦ subst (λ (u : Visit). IsLevel (graph_edges G) (step_at (steps_of G) u.number) (suc level)) new
+          (subst (λ (s : Step). IsLevel (graph_edges G) s (suc level)) (sym is) further)
     ];
     traced = λ w h. elim (Contains-push_cases next v w h) [
       | inl old ↦ f.traced w old
-      | inr new ↦ subst (λ (u : Visit). IsTraced (source_edges S) (steps_of S) visits (length visits) u) new (inr (e.to, is, room, predecessor))
+      | inr new ↦ subst (λ (u : Visit). IsTraced (graph_edges G) (steps_of G) visits (length visits) u) new (inr (e.to, is, room, predecessor))
     ];
     once = λ w u h g. elim (Contains-push_cases next v w h) [
       | inl old ↦ elim (Contains-push_cases next v u g) [
@@ -229,14 +209,14 @@ module _ (S : Sources) (goal : Vertex) (level : ℕ) (before : List Bool) (tried
       below : i < length found
       below = let size = f.size in omega (arith, size, inside)
 
-      far : IsWithin (source_edges S) level (Of e.to) → ⊥
-      far w = false≢true (sym none ∙ f.keeps i (turn.full i inside (subst (λ (s : Step). IsWithin (source_edges S) level s) (sym is) w)))
+      far : IsWithin (graph_edges G) level (Of e.to) → ⊥
+      far w = false≢true (sym none ∙ f.keeps i (turn.full i inside (subst (λ (s : Step). IsWithin (graph_edges G) level s) (sym is) w)))
 
-      further : IsLevel (source_edges S) (Of e.to) (suc level)
-      further = is_further (source_edges S) level e.to far e.from turn.on_level there
+      further : IsLevel (graph_edges G) (Of e.to) (suc level)
+      further = is_further (graph_edges G) level e.to far e.from turn.on_level there
 
-      predecessor : IsPredecessor (source_edges S) (visited (steps_of S) visits place) e.to
-      predecessor = subst (λ (s : Step). IsPredecessor (source_edges S) s e.to) (sym here) (record {
+      predecessor : IsPredecessor (graph_edges G) (visited (steps_of G) visits place) e.to
+      predecessor = subst (λ (s : Step). IsPredecessor (graph_edges G) s e.to) (sym here) (record {
         is_edge = there;
         level = level;
         nearer = turn.on_level;
@@ -257,16 +237,16 @@ module _ (S : Sources) (goal : Vertex) (level : ℕ) (before : List Bool) (tried
       unlike w u old new same = false≢true (sym none ∙ ap (is_found_at found) (ap (λ (x : Visit). x.number) new ∙ sym same) ∙ f.found w old)
 
   -- The goal is found.
-  pub goal_found : (state : State) (s : Step) → source_edges S s goal → IsTurn S level before tried s → (IsWithin (source_edges S) level (Of goal) → ⊥) → IsFollowed S goal level before tried state → IsPredecessor (source_edges S) s goal
+  pub goal_found : (state : State) (s : Step) → graph_edges G s goal → IsTurn G level before tried s → (IsWithin (graph_edges G) level (Of goal) → ⊥) → IsFollowed G goal level before tried state → IsPredecessor (graph_edges G) s goal
   goal_found state s there turn far f = record {
     is_edge = there;
     level = level;
     nearer = turn.on_level;
-    further = is_further (source_edges S) level goal far s turn.on_level there;
+    further = is_further (graph_edges G) level goal far s turn.on_level there;
     least = λ t h l. is_false (is_lt (step_cmp t s)) (λ low. f.misses (edge t goal) (turn.lower t goal h l low) refl);
   }
 
-  pub turn_later : (more : List Edge) (s : Step) → IsTurn S level before tried s → IsTurn S level before (tried ++ more) s
+  pub turn_later : (more : List Edge) (s : Step) → IsTurn G level before tried s → IsTurn G level before (tried ++ more) s
   turn_later more s turn = record {
     on_level = turn.on_level;
     lower = λ t y h l low. Contains-append_left tried more (edge t y) (turn.lower t y h l low);
@@ -274,28 +254,28 @@ module _ (S : Sources) (goal : Vertex) (level : ℕ) (before : List Bool) (tried
   }
 
   -- The goal is found by an edge that leaves the last visited step.
-  pub found_here : (state : State) (old : List Visit) (v : Visit) (e : Edge) → state.visits ≡ old ++ v ∷ [] → e.to ≡ goal → Contains S.edges.now e → e.from ≡ step_at (steps_of S) v.number
-      → IsTurn S level before tried (step_at (steps_of S) v.number) → (IsWithin (source_edges S) level (Of goal) → ⊥) → IsFollowed S goal level before tried state → IsTracedTo S goal state.visits
+  pub found_here : (state : State) (old : List Visit) (v : Visit) (e : Edge) → state.visits ≡ old ++ v ∷ [] → e.to ≡ goal → Contains G.edges e → e.from ≡ step_at (steps_of G) v.number
+      → IsTurn G level before tried (step_at (steps_of G) v.number) → (IsWithin (graph_edges G) level (Of goal) → ⊥) → IsFollowed G goal level before tried state → IsTracedTo G goal state.visits
   found_here state old v e visits to there from turn far f = record {
     each = f.visits;
     some = let long = ap length visits in omega (arith, long, length-append old (v ∷ []));
-    last = subst (λ (s : Step). IsPredecessor (source_edges S) s goal) (sym last) (goal_found state (step_at (steps_of S) v.number) here turn far f);
+    last = subst (λ (s : Step). IsPredecessor (graph_edges G) s goal) (sym last) (goal_found state (step_at (steps_of G) v.number) here turn far f);
   }
     where
-      here : source_edges S (step_at (steps_of S) v.number) goal
-      here = subst (λ (s : Step). source_edges S s goal) from (subst (λ (y : Vertex). source_edges S e.from y) to there)
+      here : graph_edges G (step_at (steps_of G) v.number) goal
+      here = subst (λ (s : Step). graph_edges G s goal) from (subst (λ (y : Vertex). graph_edges G e.from y) to there)
 
       place : length state.visits - 1 ≡ length old
       place = let long = ap length visits in omega (arith, long, length-append old (v ∷ []))
 
-      last : visited (steps_of S) state.visits (length state.visits - 1) ≡ step_at (steps_of S) v.number
-      last = ap (visited (steps_of S) state.visits) place ∙ ap (λ (vs : List Visit). visited (steps_of S) vs (length old)) visits
-          ∙ ap (λ (u : Visit). step_at (steps_of S) u.number) (visit_last old v)
+      last : visited (steps_of G) state.visits (length state.visits - 1) ≡ step_at (steps_of G) v.number
+      last = ap (visited (steps_of G) state.visits) place ∙ ap (λ (vs : List Visit). visited (steps_of G) vs (length old)) visits
+          ∙ ap (λ (u : Visit). step_at (steps_of G) u.number) (visit_last old v)
 
-pub one_more : (done edges : List Edge) (i : ℕ) (e : Edge) → i < length edges → e ≡ get_or edges i e → (done ++ take i edges) ++ e ∷ [] ≡ done ++ take (i + 1) edges
-one_more done edges i e below is =
-    append_assoc done (take i edges) (e ∷ [])
-    ∙ ap (λ (es : List Edge). done ++ es) (ap (λ (a : Edge). take i edges ++ a ∷ []) is ∙ sym (take_more edges i e below))
+pub one_more : (G : GraphView) (number : ℕ) (done : List Edge) (ranks : List ℕ) (i rank : ℕ) → i < length ranks → rank ≡ get_or ranks i 0 → (done ++ edges_leaving G number (take i ranks)) ++ edge_leaving G number rank ∷ [] ≡ done ++ edges_leaving G number (take (i + 1) ranks)
+one_more G number done ranks i rank below is =
+    append_assoc done (edges_leaving G number (take i ranks)) (edge_leaving G number rank ∷ [])
+    ∙ ap (λ (es : List Edge). done ++ es) (ap (λ (r : ℕ). edges_leaving G number (take i ranks) ++ edge_leaving G number r ∷ []) is ∙ sym (map_more (edge_leaving G number) ranks i 0 below))
 
 pub last_visit : (steps : List Step) (visits : List Visit) (v : Visit) (all : List Visit) (p : ℕ) → all ≡ visits ++ v ∷ [] → p ≡ length visits → (visited steps all p ≡ step_at steps v.number) × (p < length all)
 last_visit steps visits v all p is at = (
@@ -305,29 +285,29 @@ last_visit steps visits v all p is at = (
 
 -- ---- one more visit of a level
 
-pub one_tried : (S : Sources) (v : Visit) (more : List Edge) → ((y : Vertex) → source_edges S (step_at (steps_of S) v.number) y → Contains more (edge (step_at (steps_of S) v.number) y)) → AreTried S (v ∷ []) more
-one_tried S v more all w (k, inside, at) y e = elim (cases_eq k 0) [
+pub one_tried : (G : GraphView) (v : Visit) (more : List Edge) → ((y : Vertex) → graph_edges G (step_at (steps_of G) v.number) y → Contains more (edge (step_at (steps_of G) v.number) y)) → AreTried G (v ∷ []) more
+one_tried G v more all w (k, inside, at) y e = elim (cases_eq k 0) [
   | inl nil ↦
       let same : v ≡ w = subst (λ (n : ℕ). get_or (v ∷ []) n w ≡ w) nil at in
-      subst (λ (u : Visit). source_edges S (step_at (steps_of S) u.number) y → Contains more (edge (step_at (steps_of S) u.number) y)) same (all y) e
+      subst (λ (u : Visit). graph_edges G (step_at (steps_of G) u.number) y → Contains more (edge (step_at (steps_of G) u.number) y)) same (all y) e
   | inr ne ↦ absurd (omega (arith, inside, ne))
 ]
 
-pub tried_none : (S : Sources) (due : List Visit) → AreTried S (take 0 due) []
-tried_none S due v h = absurd (omega (arith, h.1))
+pub tried_none : (G : GraphView) (due : List Visit) → AreTried G (take 0 due) []
+tried_none G due v h = absurd (omega (arith, h.1))
 
-pub tried_more : (S : Sources) (due : List Visit) (i : ℕ) (v : Visit) (tried more : List Edge) → i < length due → v ≡ get_or due i v → AreTried S (take i due) tried → AreTried S (v ∷ []) more → AreTried S (take (i + 1) due) (tried ++ more)
-tried_more S due i v tried more below is old new w (k, inside, at) y e = elim (cases_lt k i) [
-  | inl lt ↦ Contains-append_left tried more (edge (step_at (steps_of S) w.number) y) (old w (k, omega (arith, length-take-le i due (omega (arith, below)), lt), get_or-take i due k w lt ∙ sym (get_or-take (i + 1) due k w (omega (arith, lt))) ∙ at) y e)
+pub tried_more : (G : GraphView) (due : List Visit) (i : ℕ) (v : Visit) (tried more : List Edge) → i < length due → v ≡ get_or due i v → AreTried G (take i due) tried → AreTried G (v ∷ []) more → AreTried G (take (i + 1) due) (tried ++ more)
+tried_more G due i v tried more below is old new w (k, inside, at) y e = elim (cases_lt k i) [
+  | inl lt ↦ Contains-append_left tried more (edge (step_at (steps_of G) w.number) y) (old w (k, omega (arith, length-take-le i due (omega (arith, below)), lt), get_or-take i due k w lt ∙ sym (get_or-take (i + 1) due k w (omega (arith, lt))) ∙ at) y e)
   | inr ge ↦
       let last : k ≡ i = omega (arith, ge, inside, length-take-le (i + 1) due (omega (arith, below))) in
       let same : v ≡ w = is ∙ get_or_default due i v w below ∙ ap (λ (n : ℕ). get_or due n w) (sym last) ∙ sym (get_or-take (i + 1) due k w (omega (arith, last))) ∙ at in
-      Contains-append_right tried more (edge (step_at (steps_of S) w.number) y) (new w (0, omega arith, same) y e)
+      Contains-append_right tried more (edge (step_at (steps_of G) w.number) y) (new w (0, omega arith, same) y e)
 ]
 
 -- No edge was followed yet.
-pub level_begins : (S : Sources) (goal : Vertex) (level : ℕ) (start : State) (due : List Visit) → IsSearchedTo S goal level start due → IsFollowed S goal level start.found [] start
-level_begins S goal level start due h = record {
+pub level_begins : (G : GraphView) (goal : Vertex) (level : ℕ) (start : State) (due : List Visit) → IsSearchedTo G goal level start due → IsFollowed G goal level start.found [] start
+level_begins G goal level start due h = record {
   size = h.size;
   keeps = λ i g. g;
   news = λ i g. inl g;
@@ -348,9 +328,9 @@ level_begins S goal level start due h = record {
         omega (arith, below)
 
 -- A visit of the level is due after those before it.
-pub due_next : (S : Sources) (goal : Vertex) (level : ℕ) (start state : State) (due : List Visit) (tried : List Edge) (i : ℕ) (v : Visit) → AreSources S → IsSearchedTo S goal level start due → i < length due → v ≡ get_or due i v → AreTried S (take i due) tried
-    → IsTraced (source_edges S) (steps_of S) state.visits (length state.visits) v → IsFollowed S goal level start.found tried state → IsVisitedNext S goal level start.found tried state v
-due_next S goal level start state due tried i v are h below is all traced f = record {
+pub due_next : (G : GraphView) (goal : Vertex) (level : ℕ) (start state : State) (due : List Visit) (tried : List Edge) (i : ℕ) (v : Visit) → IsGraph G → IsSearchedTo G goal level start due → i < length due → v ≡ get_or due i v → AreTried G (take i due) tried
+    → IsTraced (graph_edges G) (steps_of G) state.visits (length state.visits) v → IsFollowed G goal level start.found tried state → IsVisitedNext G goal level start.found tried state v
+due_next G goal level start state due tried i v are h below is all traced f = record {
   turn = record { on_level = h.on_level v member; lower = lower; full = λ j inside w. (h.found j inside).1 w };
   far = h.far;
   traced = traced;
@@ -360,14 +340,14 @@ due_next S goal level start state due tried i v are h below is all traced f = re
     member : Contains due v
     member = (i, below, sym is)
 
-    lower : (t : Step) (y : Vertex) → source_edges S t y → IsLevel (source_edges S) t level → is_lt (step_cmp t (step_at (steps_of S) v.number)) ≡ true → Contains tried (edge t y)
+    lower : (t : Step) (y : Vertex) → graph_edges G t y → IsLevel (graph_edges G) t level → is_lt (step_cmp t (step_at (steps_of G) v.number)) ≡ true → Contains tried (edge t y)
     lower t y e l low =
-        let (j, inside, at) = source_number S.edges.now S.list.items are.left t y e in
-        let (w, (p, room, found), number) = h.listed j inside (subst (λ (s : Step). IsLevel (source_edges S) s level) (sym at) l) in
-        let less : j < v.number = less_number (steps_of S) are.left.ascending j v.number inside (h.inside v member) (subst (λ (s : Step). is_lt (step_cmp s (step_at (steps_of S) v.number)) ≡ true) (sym at) low) in
-        let same : step_at (steps_of S) w.number ≡ t = ap (step_at (steps_of S)) number ∙ at in
+        let (j, inside, at) = step_number G are t y e in
+        let (w, (p, room, found), number) = h.listed j inside (subst (λ (s : Step). IsLevel (graph_edges G) s level) (sym at) l) in
+        let less : j < v.number = less_number (steps_of G) (steps_ascend G are) j v.number inside (h.inside v member) (subst (λ (s : Step). is_lt (step_cmp s (step_at (steps_of G) v.number)) ≡ true) (sym at) low) in
+        let same : step_at (steps_of G) w.number ≡ t = ap (step_at (steps_of G)) number ∙ at in
         subst (λ (s : Step). Contains tried (edge s y)) same (elim (cases_lt p i) [
-          | inl lt ↦ all w (p, omega (arith, length-take-le i due (omega (arith, below)), lt), get_or-take i due p w lt ∙ found) y (subst (λ (s : Step). source_edges S s y) (sym same) e)
+          | inl lt ↦ all w (p, omega (arith, length-take-le i due (omega (arith, below)), lt), get_or-take i due p w lt ∙ found) y (subst (λ (s : Step). graph_edges G s y) (sym same) e)
           | inr ge ↦ absurd (
               let here : (visit_at due i).number ≡ v.number = ap (λ (u : Visit). u.number) (get_or_default due i (record { number = 0; before = 0 }) v below ∙ sym is) in
               let there : (visit_at due p).number ≡ j = ap (λ (u : Visit). u.number) (get_or_default due p (record { number = 0; before = 0 }) w room ∙ found) ∙ number in
@@ -382,32 +362,32 @@ due_next S goal level start state due tried i v are h below is all traced f = re
 
 -- ---- one more level
 
-module _ (S : Sources) (goal : Vertex) (level : ℕ) (start : State) (due : List Visit) (tried : List Edge) (state : State) (are : AreSources S) (h : IsSearchedTo S goal level start due) (all : AreTried S due tried) (f : IsFollowed S goal level start.found tried state) where
+module _ (G : GraphView) (goal : Vertex) (level : ℕ) (start : State) (due : List Visit) (tried : List Edge) (state : State) (are : IsGraph G) (h : IsSearchedTo G goal level start due) (all : AreTried G due tried) (f : IsFollowed G goal level start.found tried state) where
   E : Edges
-  E = source_edges S
+  E = graph_edges G
 
-  tried_edge : (s : Step) (y : Vertex) → IsLevel (source_edges S) s level → source_edges S s y → Contains tried (edge s y)
+  tried_edge : (s : Step) (y : Vertex) → IsLevel (graph_edges G) s level → graph_edges G s y → Contains tried (edge s y)
   tried_edge s y l e =
-      let (i, inside, at) = source_number S.edges.now S.list.items are.left s y e in
-      let (v, there, number) = h.listed i inside (subst (λ (t : Step). IsLevel (source_edges S) t level) (sym at) l) in
-      let same : step_at (steps_of S) v.number ≡ s = ap (step_at (steps_of S)) number ∙ at in
-      subst (λ (t : Step). Contains tried (edge t y)) same (all v there y (subst (λ (t : Step). source_edges S t y) (sym same) e))
+      let (i, inside, at) = step_number G are s y e in
+      let (v, there, number) = h.listed i inside (subst (λ (t : Step). IsLevel (graph_edges G) t level) (sym at) l) in
+      let same : step_at (steps_of G) v.number ≡ s = ap (step_at (steps_of G)) number ∙ at in
+      subst (λ (t : Step). Contains tried (edge t y)) same (all v there y (subst (λ (t : Step). graph_edges G t y) (sym same) e))
 
-  found_old : (i : ℕ) → i < length (steps_of S) → IsWithin (source_edges S) level (step_at (steps_of S) i) → is_found_at state.found i ≡ true
+  found_old : (i : ℕ) → i < length (steps_of G) → IsWithin (graph_edges G) level (step_at (steps_of G) i) → is_found_at state.found i ≡ true
   found_old i inside w = f.keeps i ((h.found i inside).1 w)
 
-  found_next : (i : ℕ) → i < length (steps_of S) → IsWithin (source_edges S) (suc level) (step_at (steps_of S) i) → is_found_at state.found i ≡ true
-  found_next i inside w = by_true (is_found_at state.found i) (λ none. go none (step_at (steps_of S) i) refl)
+  found_next : (i : ℕ) → i < length (steps_of G) → IsWithin (graph_edges G) (suc level) (step_at (steps_of G) i) → is_found_at state.found i ≡ true
+  found_next i inside w = by_true (is_found_at state.found i) (λ none. go none (step_at (steps_of G) i) refl)
     where
-      go : is_found_at state.found i ≡ false → (s : Step) → step_at (steps_of S) i ≡ s → ⊥
-      go none Main is = false≢true (sym none ∙ found_old i inside (subst (λ (s : Step). IsWithin (source_edges S) level s) (sym is) (0, omega arith, at_main)))
-      go none (Of y) is = not_further (source_edges S) level y
-          (λ g. false≢true (sym none ∙ found_old i inside (subst (λ (s : Step). IsWithin (source_edges S) level s) (sym is) g)))
+      go : is_found_at state.found i ≡ false → (s : Step) → step_at (steps_of G) i ≡ s → ⊥
+      go none Main is = false≢true (sym none ∙ found_old i inside (subst (λ (s : Step). IsWithin (graph_edges G) level s) (sym is) (0, omega arith, at_main)))
+      go none (Of y) is = not_further (graph_edges G) level y
+          (λ g. false≢true (sym none ∙ found_old i inside (subst (λ (s : Step). IsWithin (graph_edges G) level s) (sym is) g)))
           (λ s l e. false≢true (sym none ∙ f.ends (edge s y) (tried_edge s y l e) i inside is))
-          (subst (λ (s : Step). IsWithin (source_edges S) (suc level) s) is w)
+          (subst (λ (s : Step). IsWithin (graph_edges G) (suc level) s) is w)
 
   pub level_more : (next : List Visit) → ((v : Visit) → Contains state.next v ↔ Contains next v) → ((i j : ℕ) → i < j → j < length next → (visit_at next i).number < (visit_at next j).number)
-      → IsSearchedTo S goal (suc level) (record { found = state.found; visits = state.visits; next = [] }) next
+      → IsSearchedTo G goal (suc level) (record { found = state.found; visits = state.visits; next = [] }) next
   level_more next same up = record {
     size = f.size;
     found = λ i inside. ((λ g. within i inside g), (λ w. found_next i inside w));
@@ -417,68 +397,68 @@ module _ (S : Sources) (goal : Vertex) (level : ℕ) (start : State) (due : List
     traced = λ v there. f.traced v ((same v).1 there);
     ascending = up;
     visits = f.visits;
-    far = not_further (source_edges S) level goal h.far (λ s l e. f.misses (edge s goal) (tried_edge s goal l e) refl);
+    far = not_further (graph_edges G) level goal h.far (λ s l e. f.misses (edge s goal) (tried_edge s goal l e) refl);
     none = refl;
   }
     where
-      within : (i : ℕ) → i < length (steps_of S) → is_found_at state.found i ≡ true → IsWithin (source_edges S) (suc level) (step_at (steps_of S) i)
+      within : (i : ℕ) → i < length (steps_of G) → is_found_at state.found i ≡ true → IsWithin (graph_edges G) (suc level) (step_at (steps_of G) i)
       within i inside g = elim (f.news i g) [
         | inl old ↦ let (k, low, l) = (h.found i inside).0 old in (k, omega (arith, low), l)
-        | inr (v, there, number) ↦ (suc level, omega arith, subst (λ (n : ℕ). Leads (source_edges S) (step_at (steps_of S) n) (suc level)) number (f.on_level v there).leads)
+        | inr (v, there, number) ↦ (suc level, omega arith, subst (λ (n : ℕ). Leads (graph_edges G) (step_at (steps_of G) n) (suc level)) number (f.on_level v there).leads)
       ]
 
-      dues : (i : ℕ) → i < length (steps_of S) → IsLevel (source_edges S) (step_at (steps_of S) i) (suc level) → (v : Visit) × Contains next v × (v.number ≡ i)
+      dues : (i : ℕ) → i < length (steps_of G) → IsLevel (graph_edges G) (step_at (steps_of G) i) (suc level) → (v : Visit) × Contains next v × (v.number ≡ i)
       dues i inside l = elim (f.news i (found_next i inside (suc level, omega arith, l.leads))) [
         | inl old ↦ absurd (let (k, low, g) = (h.found i inside).0 old in let high = l.least k g in omega (arith, low, high))
         | inr (v, there, number) ↦ (v, (same v).0 there, number)
       ]
 
-pub level_taken : (S : Sources) (goal : Vertex) (level : ℕ) (found new_found : List Bool) (visits new_visits next due : List Visit) → new_found ≡ found → new_visits ≡ visits → next ≡ []
-    → IsSearchedTo S goal level (record { found = found; visits = visits; next = [] }) due → IsSearchedTo S goal level (record { found = new_found; visits = new_visits; next = next }) due
-level_taken S goal level found new_found visits new_visits next due same alike none h =
-    subst (λ (bs : List Bool). IsSearchedTo S goal level (record { found = bs; visits = new_visits; next = next }) due) (sym same)
-    (subst (λ (vs : List Visit). IsSearchedTo S goal level (record { found = found; visits = vs; next = next }) due) (sym alike)
-    (subst (λ (vs : List Visit). IsSearchedTo S goal level (record { found = found; visits = visits; next = vs }) due) (sym none) h))
+pub level_taken : (G : GraphView) (goal : Vertex) (level : ℕ) (found new_found : List Bool) (visits new_visits next due : List Visit) → new_found ≡ found → new_visits ≡ visits → next ≡ []
+    → IsSearchedTo G goal level (record { found = found; visits = visits; next = [] }) due → IsSearchedTo G goal level (record { found = new_found; visits = new_visits; next = next }) due
+level_taken G goal level found new_found visits new_visits next due same alike none h =
+    subst (λ (bs : List Bool). IsSearchedTo G goal level (record { found = bs; visits = new_visits; next = next }) due) (sym same)
+    (subst (λ (vs : List Visit). IsSearchedTo G goal level (record { found = found; visits = vs; next = next }) due) (sym alike)
+    (subst (λ (vs : List Visit). IsSearchedTo G goal level (record { found = found; visits = visits; next = vs }) due) (sym none) h))
 
 -- Where a level has no steps, nothing more is found.
-pub not_reached : (S : Sources) (goal : Vertex) (level : ℕ) (state : State) (due : List Visit) → AreSources S → IsSearchedTo S goal level state due → due ≡ [] → IsReached (source_edges S) (Of goal) → ⊥
-not_reached S goal level state due are h empty (n, leads) = last n leads
+pub not_reached : (G : GraphView) (goal : Vertex) (level : ℕ) (state : State) (due : List Visit) → IsGraph G → IsSearchedTo G goal level state due → due ≡ [] → IsReached (graph_edges G) (Of goal) → ⊥
+not_reached G goal level state due are h empty (n, leads) = last n leads
   where
-    no_level : (s : Step) (y : Vertex) → IsLevel (source_edges S) s level → source_edges S s y → ⊥
+    no_level : (s : Step) (y : Vertex) → IsLevel (graph_edges G) s level → graph_edges G s y → ⊥
     no_level s y l e =
-        let (i, inside, at) = source_number S.edges.now S.list.items are.left s y e in
-        let (v, there, number) = h.listed i inside (subst (λ (t : Step). IsLevel (source_edges S) t level) (sym at) l) in
+        let (i, inside, at) = step_number G are s y e in
+        let (v, there, number) = h.listed i inside (subst (λ (t : Step). IsLevel (graph_edges G) t level) (sym at) l) in
         let (k, below, is) = subst (λ (vs : List Visit). Contains vs v) empty there in
         omega (arith, below)
 
-    all_found : (s : Step) (k : ℕ) → Leads (source_edges S) s k → (y : Vertex) → source_edges S s y → IsWithin (source_edges S) level s
+    all_found : (s : Step) (k : ℕ) → Leads (graph_edges G) s k → (y : Vertex) → graph_edges G s y → IsWithin (graph_edges G) level s
     all_found _ _ at_main y e = (0, omega arith, at_main)
     all_found _ _ (along {s} {y = z} {n = k} l a) y e =
         let (m, low, near) = all_found s k l z a in
-        let (i, inside, at) = source_number S.edges.now S.list.items are.left (Of z) y e in
-        let to_found : IsWithin (source_edges S) level (Of z) → is_found_at state.found i ≡ true = λ w. (h.found i inside).1 (subst (λ (t : Step). IsWithin (source_edges S) level t) (sym at) w) in
+        let (i, inside, at) = step_number G are (Of z) y e in
+        let to_found : IsWithin (graph_edges G) level (Of z) → is_found_at state.found i ≡ true = λ w. (h.found i inside).1 (subst (λ (t : Step). IsWithin (graph_edges G) level t) (sym at) w) in
         let found : is_found_at state.found i ≡ true = by_true (is_found_at state.found i) (λ none.
-        not_further (source_edges S) level z (λ w. false≢true (sym none ∙ to_found w)) (λ t l2 e2. no_level t z l2 e2) (suc m, omega (arith, low), along near a)) in
-        subst (λ (t : Step). IsWithin (source_edges S) level t) at ((h.found i inside).0 found)
+        not_further (graph_edges G) level z (λ w. false≢true (sym none ∙ to_found w)) (λ t l2 e2. no_level t z l2 e2) (suc m, omega (arith, low), along near a)) in
+        subst (λ (t : Step). IsWithin (graph_edges G) level t) at ((h.found i inside).0 found)
 
-    last : (n : ℕ) → Leads (source_edges S) (Of goal) n → ⊥
+    last : (n : ℕ) → Leads (graph_edges G) (Of goal) n → ⊥
     last _ (along {s} {n = k} l e) =
         let (m, low, near) = all_found s k l goal e in
-        not_further (source_edges S) level goal h.far (λ t l2 e2. no_level t goal l2 e2) (suc m, omega (arith, low), along near e)
+        not_further (graph_edges G) level goal h.far (λ t l2 e2. no_level t goal l2 e2) (suc m, omega (arith, low), along near e)
 
 -- ---- the first level
 
-pub first_level : (S : Sources) (goal : Vertex) (due : List Visit) → AreSources S → 0 < length (steps_of S) → step_at (steps_of S) 0 ≡ Main → due ≡ record { number = 0; before = 0 } ∷ [] → IsSearchedTo S goal 0 (first_state (length (steps_of S))) due
-first_level S goal due are some main is = subst (λ (d : List Visit). IsSearchedTo S goal 0 (first_state (length (steps_of S))) d) (sym is) (record {
-  size = length-set none 0 true ∙ length-replicate (length (steps_of S)) false;
+pub first_level : (G : GraphView) (goal : Vertex) (due : List Visit) → IsGraph G → 0 < length (steps_of G) → step_at (steps_of G) 0 ≡ Main → due ≡ record { number = 0; before = 0 } ∷ [] → IsSearchedTo G goal 0 (first_state (length (steps_of G))) due
+first_level G goal due are some main is = subst (λ (d : List Visit). IsSearchedTo G goal 0 (first_state (length (steps_of G))) d) (sym is) (record {
+  size = length-set none 0 true ∙ length-replicate (length (steps_of G)) false;
   found = λ i inside. (from i inside, to i inside);
-  listed = λ i inside l. (v, (0, omega arith, refl), sym (only i inside (leads_none (source_edges S) (step_at (steps_of S) i) l.leads)));
-  inside = λ w there. subst (λ (u : Visit). u.number < length (steps_of S)) (one w there) some;
-  on_level = λ w there. subst (λ (u : Visit). IsLevel (source_edges S) (step_at (steps_of S) u.number) 0) (one w there) (subst (λ (s : Step). IsLevel (source_edges S) s 0) (sym main) (main_level (source_edges S)));
-  traced = λ w there. inl (subst (λ (u : Visit). step_at (steps_of S) u.number ≡ Main) (one w there) main);
+  listed = λ i inside l. (v, (0, omega arith, refl), sym (only i inside (leads_none (graph_edges G) (step_at (steps_of G) i) l.leads)));
+  inside = λ w there. subst (λ (u : Visit). u.number < length (steps_of G)) (one w there) some;
+  on_level = λ w there. subst (λ (u : Visit). IsLevel (graph_edges G) (step_at (steps_of G) u.number) 0) (one w there) (subst (λ (s : Step). IsLevel (graph_edges G) s 0) (sym main) (main_level (graph_edges G)));
+  traced = λ w there. inl (subst (λ (u : Visit). step_at (steps_of G) u.number ≡ Main) (one w there) main);
   ascending = λ i j lt below. absurd (omega (arith, lt, below));
   visits = record { inside = λ k below. absurd (omega (arith, below)); traced = λ k below. absurd (omega (arith, below)) };
-  far = λ w. absurd (let same : Of goal ≡ Main = within_none (source_edges S) (Of goal) w in cc same);
+  far = λ w. absurd (let same : Of goal ≡ Main = within_none (graph_edges G) (Of goal) w in cc same);
   none = refl;
 })
   where
@@ -486,10 +466,10 @@ first_level S goal due are some main is = subst (λ (d : List Visit). IsSearched
     v = record { number = 0; before = 0 }
 
     none : List Bool
-    none = replicate (length (steps_of S)) false
+    none = replicate (length (steps_of G)) false
 
     below : 0 < length none
-    below = let size = length-replicate (length (steps_of S)) false in omega (arith, size, some)
+    below = let size = length-replicate (length (steps_of G)) false in omega (arith, size, some)
 
     one : (w : Visit) → Contains (v ∷ []) w → v ≡ w
     one w (k, inside, at) = elim (cases_eq k 0) [
@@ -497,28 +477,24 @@ first_level S goal due are some main is = subst (λ (d : List Visit). IsSearched
       | inr ne ↦ absurd (omega (arith, inside, ne))
     ]
 
-    only : (i : ℕ) → i < length (steps_of S) → step_at (steps_of S) i ≡ Main → i ≡ 0
-    only i inside at = same_number (steps_of S) are.left.ascending i 0 inside some (at ∙ sym main)
+    only : (i : ℕ) → i < length (steps_of G) → step_at (steps_of G) i ≡ Main → i ≡ 0
+    only i inside at = same_number (steps_of G) (steps_ascend G are) i 0 inside some (at ∙ sym main)
 
-    from : (i : ℕ) → i < length (steps_of S) → is_found_at (set none 0 true) i ≡ true → IsWithin (source_edges S) 0 (step_at (steps_of S) i)
+    from : (i : ℕ) → i < length (steps_of G) → is_found_at (set none 0 true) i ≡ true → IsWithin (graph_edges G) 0 (step_at (steps_of G) i)
     from i inside g = elim (cases_eq i 0) [
-      | inl nil ↦ subst (λ (n : ℕ). IsWithin (source_edges S) 0 (step_at (steps_of S) n)) (sym nil) (subst (λ (s : Step). IsWithin (source_edges S) 0 s) (sym main) (0, omega arith, at_main))
-      | inr ne ↦ absurd (false≢true (sym (get_or-set_other none 0 i true false ne ∙ get_or-replicate (length (steps_of S)) i false false inside) ∙ g))
+      | inl nil ↦ subst (λ (n : ℕ). IsWithin (graph_edges G) 0 (step_at (steps_of G) n)) (sym nil) (subst (λ (s : Step). IsWithin (graph_edges G) 0 s) (sym main) (0, omega arith, at_main))
+      | inr ne ↦ absurd (false≢true (sym (get_or-set_other none 0 i true false ne ∙ get_or-replicate (length (steps_of G)) i false false inside) ∙ g))
     ]
 
-    to : (i : ℕ) → i < length (steps_of S) → IsWithin (source_edges S) 0 (step_at (steps_of S) i) → is_found_at (set none 0 true) i ≡ true
-    to i inside w = subst (λ (n : ℕ). is_found_at (set none 0 true) n ≡ true) (sym (only i inside (within_none (source_edges S) (step_at (steps_of S) i) w))) (get_or-set_same none 0 true false below)
+    to : (i : ℕ) → i < length (steps_of G) → IsWithin (graph_edges G) 0 (step_at (steps_of G) i) → is_found_at (set none 0 true) i ≡ true
+    to i inside w = subst (λ (n : ℕ). is_found_at (set none 0 true) n ≡ true) (sym (only i inside (within_none (graph_edges G) (step_at (steps_of G) i) w))) (get_or-set_same none 0 true false below)
 
--- Where no edge leaves the main module, nothing is reached.
-pub main_left : (S : Sources) (goal : Vertex) → ((y : Vertex) → source_edges S Main y → ⊥) → IsReached (source_edges S) (Of goal) → ⊥
-main_left S goal none (n, leads) = last n leads
+-- Nothing leads to a vertex that the graph has not.
+pub no_vertex : (G : GraphView) (goal : Vertex) → IsGraph G → (Contains G.vertices goal → ⊥) → IsReached (graph_edges G) (Of goal) → ⊥
+no_vertex G goal are none (n, leads) = last n leads
   where
-    from_main : (s : Step) (k : ℕ) → Leads (source_edges S) s k → (y : Vertex) → source_edges S s y → ⊥
-    from_main _ _ at_main y e = none y e
-    from_main _ _ (along {s} {y = z} {n = k} l a) y e = from_main s k l z a
-
-    last : (n : ℕ) → Leads (source_edges S) (Of goal) n → ⊥
-    last _ (along {s} {n = k} l e) = from_main s k l goal e
+    last : (n : ℕ) → Leads (graph_edges G) (Of goal) n → ⊥
+    last _ (along {s} {n = k} l e) = none (are.ends (edge s goal) e)
 
 -- ---- the visits to the next level in order
 

@@ -1,5 +1,5 @@
 -- The highest version of each path is selected, whatever other vertices there are.
-use Rattle.std.proofs.Common.{◌≡◌, ◌⊎◌, ℕ, false, true, List, [], ◌∷◌, ◌++◌, Contains, ap, ◌∙◌, sym, refl, subst, inl, inr}
+use Rattle.std.proofs.Common.{◌≡◌, ◌⊎◌, ℕ, false, List, [], ◌∷◌, ◌++◌, Contains, ap, ◌∙◌, sym, refl, subst, inl, inr}
 use Rattle.std.specs.declared.cmp.Ordering.{Ordering}
 use Rattle.std.specs.declared.cmp.Ordering.TheVariants.{Less, Equal, Greater}
 use Rattle.std.specs.Ordering.{is_gt, nat_cmp, ordering_reverse, ordering_then}
@@ -13,7 +13,7 @@ use Rattle.gm_file.specs.Directives.{Replacing}
 use Rattle.gm_graph_select.specs.declared.step.Step.TheVariants.{Main}
 use Rattle.gm_graph_select.specs.BuildList.{Entry, IsBuildList, IsSelected}
 use Rattle.gm_graph_select.specs.Candidates.{AddsCandidate, HaveHighest, IsMatched}
-use Rattle.gm_graph_select.specs.Graph.{Vertex, vertex_cmp}
+use Rattle.gm_graph_select.specs.Graph.{Vertex}
 use Rattle.gm_graph_select.specs.Order.{HaveSame}
 use Rattle.gm_graph_select.specs.StepOrder.{vertex-anti}
 use Rattle.gm_graph_select.proofs.Ascending.{member_cases}

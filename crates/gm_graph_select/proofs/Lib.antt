@@ -2,7 +2,6 @@ pub mod Candidates
 pub mod Sorts
 pub mod RestRows
 pub mod Same
-pub mod Held
 pub mod Greatest
 pub mod Selected
 pub mod Ranges
@@ -11,4 +10,5 @@ pub mod Inserting
 pub mod Lawful
 pub mod NumberedSteps
 pub mod BreadthFirst
-pub mod LeftSteps
+pub mod Ranks
+pub mod RankedLists

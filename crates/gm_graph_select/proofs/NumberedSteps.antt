@@ -1,26 +1,31 @@
 -- Steps in ascending order, by their numbers.
-use Rattle.std.proofs.Common.{◌≡◌, ◌<◌, ◌+◌, ℕ, Bool, true, false, cond, List, [], ◌∷◌, length, get_or, Option, Some, None, Contains, ap, ap₂, ◌∙◌, refl, sym, subst, inl, inr, arith}
-use Rattle.std.specs.declared.cmp.Ordering.TheVariants.{Less, Equal}
-use Rattle.std.specs.List.{slice_get}
-use Rattle.std.specs.BTreeMap.{BTreeMap, get}
-use Rattle.std.specs.Ordering.{is_eq, is_lt, nat_cmp, ordering_then}
-use Rattle.std.proofs.lemmas.Cmp.{nat_cmp_total}
-use Rattle.gm_name.specs.Fingerprint.{fingerprint}
-use Rattle.gm_name.specs.VersionOrder.{then_second}
-use Rattle.std.proofs.lemmas.Bool.{cases_lt, false≢true}
+use Rattle.std.proofs.Common.{add-one, ◌≡◌, ◌<◌, ◌+◌, ℕ, true, List, [], ◌∷◌, Option, Some, None, length, map, get_or, Contains, ap, ap₂, ◌∙◌, refl, sym, subst, inl, inr, arith}
+use Rattle.std.specs.Prelude.{All, AllPairs, nat_lt}
+use Rattle.std.specs.declared.cmp.Ordering.{Ordering}
+use Rattle.std.specs.declared.cmp.Ordering.TheVariants.{Less, Equal, Greater}
+use Rattle.std.specs.Cmp.{IsTotalOrder}
+use Rattle.std.specs.FinMap.{nat_cmp-IsAntisymmetric}
+use Rattle.std.specs.List.Sorted.{IsNonDecreasingBy, IsPartitionPoint, IsSortedBy}
+use Rattle.std.specs.Option.{option_cmp}
+use Rattle.std.specs.Ordering.{is_lt, nat_cmp, ordering_index, ordering_reverse}
+use Rattle.std.proofs.lemmas.Bool.{cases_lt, cond-true, lt-ltb}
+use Rattle.std.proofs.lemmas.Cmp.{nat_cmp_total, tied_itself}
 use Rattle.std.proofs.lemmas.List.{get_or_default, get_or-map, length-map}
+use Rattle.std.proofs.lemmas.List.Elements.{All-contains, Contains-get_or}
+use Rattle.std.proofs.lemmas.List.Kept.{AllPairs-cons}
+use Rattle.std.proofs.lemmas.List.Sorted.{searchable_from_sorted}
+use Rattle.gm_graph_select.specs.declared.adjacency.Adjacency.{Adjacency}
+use Rattle.gm_graph_select.specs.declared.step.Edge.{Edge}
 use Rattle.gm_graph_select.specs.declared.step.Step.{Step}
 use Rattle.gm_graph_select.specs.declared.step.Step.TheVariants.{Main, Of}
-use Rattle.gm_graph_select.specs.declared.step.Edge.{Edge}
-use Rattle.gm_graph_select.specs.declared.numbering.Source.{Source}
-use Rattle.gm_graph_select.specs.declared.numbering.Sources.{Sources}
-use Rattle.gm_graph_select.specs.declared.numbering.SourceKey.{SourceKey}
+use Rattle.gm_graph_select.specs.Adjacency.{AreRanked, GraphView, IsBelow, IsNumbered, edges_from, edges_of, left_by, step_with, vertex_at}
 use Rattle.gm_graph_select.specs.Graph.{Vertex, edge, step_cmp, vertex_cmp}
-use Rattle.gm_graph_select.specs.Numbering.{AreLeft, AreNumberedTo, AreSources, HasNumberTo, source_key_cmp, step_at, steps_in, steps_of}
+use Rattle.gm_graph_select.specs.Numbering.{AreLeaving, IsGraph, number_left, number_with, step_at, steps_of}
 use Rattle.gm_graph_select.specs.Order.{IsAscending}
-use Rattle.gm_graph_select.specs.StepOrder.{step_total, vertex-anti, vertex_total}
+use Rattle.gm_graph_select.specs.StepOrder.{step_total, vertex_total}
 use Rattle.gm_graph_select.proofs.Ascending.{less_itself}
-use Rattle.gm_graph_select.proofs.Ranges.{eq_equal, lt_less, own_turn}
+use Rattle.gm_graph_select.proofs.Ranges.{lt_less}
+use Rattle.gm_graph_select.proofs.RankedLists.{edges_each, edges_only, from_mapped, in_mapped, lower_number}
 
 pub number_in : (steps : List Step) (s : Step) → Contains steps s → (i : ℕ) × (i < length steps) × (step_at steps i ≡ s)
 number_in steps s (i, below, at) = (i, below, get_or_default steps i Main s below ∙ at)
@@ -46,92 +51,162 @@ module _ (steps : List Step) (up : IsAscending step_cmp steps) where
     ]
   ]
 
-module _ (edges : List Edge) (sources : List Source) (left : AreLeft edges sources) where
-  -- A step that an edge leaves has a number.
-  pub source_number : (s : Step) (y : Vertex) → Contains edges (edge s y) → (i : ℕ) × (i < length (steps_in sources)) × (step_at (steps_in sources) i ≡ s)
-  source_number s y h = number_in (steps_in sources) s (left.all (edge s y) h)
+-- ---- the steps of a graph
 
-pub step_of_source : (sources : List Source) (i : ℕ) (source : Source) → i < length sources → source ≡ get_or sources i source → step_at (steps_in sources) i ≡ source.step.now
-step_of_source sources i source below is =
-    get_or-map (λ (s : Source). s.step.now) sources i source Main below ∙ ap (λ (s : Source). s.step.now) (sym is)
+vertex_steps_ascend : (vertices : List Vertex) → IsAscending vertex_cmp vertices → IsAscending step_cmp (map Of vertices)
+vertex_steps_ascend vertices up i j d lt below =
+    let inside : j < length vertices = rw length-map at below in
+    let left = get_or-map Of vertices i ([], []) d (omega arith) in
+    let right = get_or-map Of vertices j ([], []) d inside in
+    ap₂ step_cmp left right ∙ up i j ([], []) lt inside
 
-pub steps_length : (sources : List Source) → length (steps_in sources) ≡ length sources
-steps_length sources = rw length-map
-
-module _ (S : Sources) (are : AreSources S) (i : ℕ) (source : Source) (below : i < length (steps_of S)) (is : source ≡ get_or S.list.items i source) where
-  in_list : i < length S.list.items
-  in_list = let same = steps_length S.list.items in omega (arith, below, same)
-
-  its_step : step_at (steps_of S) i ≡ source.step.now
-  its_step = step_of_source S.list.items i source in_list is
-
-  -- an edge of the source with that number
-  pub edge_here : (k : ℕ) (e : Edge) → k < length source.edges.now → e ≡ get_or source.edges.now k e → Contains S.edges.now e × (e.from ≡ step_at (steps_of S) i)
-  edge_here k e inside at =
-      let (there, from) = (are.left.each source (i, in_list, sym is) e).0 (k, inside, sym at) in
-      (there, from ∙ sym its_step)
-
-  -- all of them
-  pub edges_here : (y : Vertex) → Contains S.edges.now (edge (step_at (steps_of S) i) y) → Contains source.edges.now (edge (step_at (steps_of S) i) y)
-  edges_here y h = (are.left.each source (i, in_list, sym is) (edge (step_at (steps_of S) i) y)).1 (h, its_step)
-
--- ---- the first step
-
-first_is : (sources : List Source) (source : Source) → Some source ≡ slice_get sources 0 → (0 < length (steps_in sources)) × (step_at (steps_in sources) 0 ≡ source.step.now)
-first_is [] source e = cc
-first_is (s ∷ sources) source e =
-    let same : s ≡ source = cc e in
-    (omega arith, ap (λ (t : Source). t.step.now) same)
-
--- Where the first step is a vertex, or there is none, no edge leaves the main module.
-pub main_is_none : (edges : List Edge) (sources : List Source) → AreLeft edges sources → None ≡ slice_get sources 0 → (y : Vertex) → Contains edges (edge Main y) → ⊥
-main_is_none edges [] left e y h =
-    let (i, inside, at) = source_number edges [] left Main y h in
-    omega (arith, inside)
-main_is_none edges (s ∷ sources) left e y h = cc e
-
-pub main_is_not_first : (edges : List Edge) (sources : List Source) (source : Source) (x : Vertex) → AreLeft edges sources → Some source ≡ slice_get sources 0 → source.step.now ≡ Of x → (y : Vertex) → Contains edges (edge Main y) → ⊥
-main_is_not_first edges sources source x left e of y h =
-    let (some, first) = first_is sources source e in
-    let (i, inside, at) = source_number edges sources left Main y h in
-    elim (cases_lt 0 i) [
-      | inl lt ↦
-          let less : step_cmp (step_at (steps_in sources) 0) (step_at (steps_in sources) i) ≡ Less = left.ascending 0 i Main lt inside in
-          let wrong : step_cmp (Of x) Main ≡ Less = subst (λ (s : Step). step_cmp s Main ≡ Less) (first ∙ of) (subst (λ (s : Step). step_cmp (step_at (steps_in sources) 0) s ≡ Less) at less) in
-          absurd (cc wrong)
-      | inr ge ↦
-          let nil : i ≡ 0 = omega (arith, ge) in
-          let wrong : Of x ≡ Main = sym (first ∙ of) ∙ ap (step_at (steps_in sources)) (sym nil) ∙ at in
-          absurd (cc wrong)
-    ]
-
--- ---- numbers
-
-widen : (steps : List Step) (n : ℕ) (x : Vertex) (o : Option ℕ) → HasNumberTo steps n x o → (step_at steps n ≡ Of x → ⊥) → HasNumberTo steps (n + 1) x o
-widen steps n x (Some i) h other = h
-widen steps n x None h other = λ i lt is. elim (cases_lt i n) [
-  | inl below ↦ h i below is
-  | inr ge ↦
-      let same : i ≡ n = omega (arith, lt, ge) in
-      other (ap (step_at steps) (sym same) ∙ is)
-]
-
-key_itself : (a b : SourceKey) → a.fingerprint ≡ b.fingerprint → a.vertex.now ≡ b.vertex.now → source_key_cmp a b ≡ Equal
-key_itself a b one two =
-    let numbers : nat_cmp a.fingerprint b.fingerprint ≡ Equal = subst (λ (n : ℕ). nat_cmp a.fingerprint n ≡ Equal) one (own_turn _ (nat_cmp_total.antisymm a.fingerprint a.fingerprint)) in
-    let vertices : vertex_cmp a.vertex.now b.vertex.now ≡ Equal = subst (λ (y : Vertex). vertex_cmp a.vertex.now y ≡ Equal) two (own_turn _ (vertex_total.antisymm a.vertex.now a.vertex.now)) in
-    ap₂ ordering_then numbers vertices
-
--- One more vertex is numbered.
-pub numbered_more : (steps : List Step) (n : ℕ) (key : SourceKey) (old new : BTreeMap SourceKey ℕ) → n < length steps → step_at steps n ≡ Of key.vertex.now → key.fingerprint ≡ fingerprint (fingerprint 0 key.vertex.now.0) key.vertex.now.1
-    → ((q : SourceKey) → get source_key_cmp new q ≡ cond (is_eq (source_key_cmp key q)) (Some n) (get source_key_cmp old q)) → AreNumberedTo steps n old → AreNumberedTo steps (n + 1) new
-numbered_more steps n key old new inside is print puts h q right = subst (λ (o : Option ℕ). HasNumberTo steps (n + 1) q.vertex.now o) (sym (puts q)) (go (is_eq (source_key_cmp key q)) refl)
+all_steps_ascend : (vertices : List Vertex) → IsAscending vertex_cmp vertices → IsAscending step_cmp (Main ∷ map Of vertices)
+all_steps_ascend vertices up = AllPairs-cons (λ (s t : Step). step_cmp s t ≡ Less) Main (map Of vertices) main (vertex_steps_ascend vertices up)
   where
-    go : (b : Bool) → is_eq (source_key_cmp key q) ≡ b → HasNumberTo steps (n + 1) q.vertex.now (cond b (Some n) (get source_key_cmp old q))
-    go true tie =
-        let same : key.vertex.now ≡ q.vertex.now = vertex-anti key.vertex.now q.vertex.now (then_second _ _ (eq_equal _ tie)) in
-        (inside, is ∙ ap Of same)
-    go false apart = widen steps n q.vertex.now (get source_key_cmp old q) (h q right) (λ at.
-        let same : key.vertex.now ≡ q.vertex.now = (let e : Of key.vertex.now ≡ Of q.vertex.now = sym is ∙ at in cc e) in
-        let prints : key.fingerprint ≡ q.fingerprint = print ∙ ap (λ (x : Vertex). fingerprint (fingerprint 0 x.0) x.1) same ∙ sym right in
-        false≢true (sym apart ∙ ap is_eq (key_itself key q prints same)))
+    main : All (λ (s : Step). step_cmp Main s ≡ Less) (map Of vertices)
+    main k d below =
+        let inside : k < length vertices = rw length-map at below in
+        ap (step_cmp Main) (get_or-map Of vertices k ([], []) d inside)
+
+pub step_of_rank : (vertices : List Vertex) (rank : ℕ) → rank < length vertices → step_at (Main ∷ map Of vertices) (rank + 1) ≡ Of (vertex_at vertices rank)
+step_of_rank vertices rank below = rw add-one (get_or-map Of vertices rank ([], []) Main below)
+
+-- Two ranks of a vertex are the same.
+pub same_rank : (vertices : List Vertex) → IsAscending vertex_cmp vertices → (i j : ℕ) → i < length vertices → j < length vertices → vertex_at vertices i ≡ vertex_at vertices j → i ≡ j
+same_rank vertices up i j below inside same =
+    let steps = map Of vertices in
+    let count : length steps ≡ length vertices = length-map vertices Of in
+    same_number steps (vertex_steps_ascend vertices up) i j (omega (arith, below, count)) (omega (arith, inside, count))
+    (get_or-map Of vertices i ([], []) Main below ∙ ap Of same ∙ sym (get_or-map Of vertices j ([], []) Main inside))
+
+module _ (graph : GraphView) (are : IsGraph graph) where
+  pub steps_ascend : IsAscending step_cmp (steps_of graph)
+  steps_ascend = all_steps_ascend graph.vertices are.ascending
+
+  -- A step that an edge leaves has a number.
+  pub step_number : (s : Step) (y : Vertex) → Contains graph.edges (edge s y) → (i : ℕ) × (i < length (steps_of graph)) × (step_at (steps_of graph) i ≡ s)
+  step_number s y h = number_in (steps_of graph) s (are.left (edge s y) h)
+
+-- ---- binary searches
+
+module _ {X K : Type 0} {cmp : K → K → Ordering} (total : IsTotalOrder cmp) (key : X → K) (xs : List X) (up : AllPairs (λ (a b : X). cmp (key a) (key b) ≡ Less) xs) where
+  sorted_by : IsSortedBy (λ (a b : X). is_lt (cmp (key a) (key b))) xs
+  sorted_by k d low high = ap is_lt (total.antisymm (key (get_or xs (k + 1) d)) (key (get_or xs k d)) ∙ ap ordering_reverse (up k (k + 1) d (omega arith) high))
+
+  -- A binary search that finds nothing says that there is nothing.
+  pub nothing_found : (x : K) (i : ℕ) → (IsNonDecreasingBy (λ (y : X). ordering_index (cmp (key y) x)) xs → IsPartitionPoint (λ (y : X). cmp (key y) x ≡ Less) (λ (y : X). cmp (key y) x ≡ Greater) xs i)
+      → (y : X) → Contains xs y → cmp (key y) x ≡ Equal → ⊥
+  nothing_found x i says y (k, below, at) e = elim (cases_lt k i) [
+    | inl lt ↦ (let less : cmp (key y) x ≡ Less = subst (λ (z : X). cmp (key z) x ≡ Less) at (point.0 k y (omega arith) lt) in cc (sym less ∙ e))
+    | inr ge ↦ (let greater : cmp (key y) x ≡ Greater = subst (λ (z : X). cmp (key z) x ≡ Greater) at (point.1 k y ge below) in cc (sym greater ∙ e))
+  ]
+    where
+      point : IsPartitionPoint (λ (z : X). cmp (key z) x ≡ Less) (λ (z : X). cmp (key z) x ≡ Greater) xs i
+      point = says (searchable_from_sorted total key xs x sorted_by)
+
+-- ---- a graph by ranks
+
+module _ (vertices : List Vertex) (all : List Adjacency) (are : AreRanked vertices all) where
+  -- the step that a list leaves has the list's number
+  its_number : (from : Option ℕ) → IsBelow (length vertices) from → (number_with from < length (Main ∷ map Of vertices)) × (step_at (Main ∷ map Of vertices) (number_with from) ≡ step_with vertices from)
+  its_number None within = (omega arith, refl)
+  its_number (Some rank) within = (let count : length (map Of vertices) ≡ length vertices = length-map vertices Of in omega (arith, within, count), step_of_rank vertices rank within)
+
+  numbered_list : (one : Adjacency) → Contains all one → IsNumbered (length vertices) one
+  numbered_list one there = All-contains (IsNumbered (length vertices)) all one are.numbered there
+
+  pub is_graph : IsGraph (record { vertices = vertices; edges = edges_of vertices all })
+  is_graph = record {
+    ascending = are.vertices_ascend;
+    left = λ e h.
+        let (one, there, at) = edges_only vertices all e h in
+        let (rank, held, is) = from_mapped (λ (n : ℕ). edge (left_by vertices one) (vertex_at vertices n)) one.to.items e at in
+        let (inside, same) = its_number one.from (numbered_list one there).from in
+        subst (λ (s : Step). Contains (Main ∷ map Of vertices) s) (same ∙ ap (λ (f : Edge). f.from) is) (Contains-at (Main ∷ map Of vertices) (number_left one) inside);
+    ends = λ e h.
+        let (one, there, at) = edges_only vertices all e h in
+        let (rank, held, is) = from_mapped (λ (n : ℕ). edge (left_by vertices one) (vertex_at vertices n)) one.to.items e at in
+        subst (λ (y : Vertex). Contains vertices y) (ap (λ (f : Edge). f.to) is) (Contains-get_or vertices rank ([], []) (All-contains (λ (n : ℕ). n < length vertices) one.to.items rank (numbered_list one there).to held));
+  }
+    where
+      Contains-at : (steps : List Step) (i : ℕ) → i < length steps → Contains steps (step_at steps i)
+      Contains-at steps i inside = Contains-get_or steps i Main inside
+
+  lower_with : (p q : Option ℕ) → option_cmp nat_cmp p q ≡ Less → number_with p < number_with q
+  lower_with None None e = absurd (cc e)
+  lower_with None (Some b) e = omega arith
+  lower_with (Some a) None e = absurd (cc e)
+  lower_with (Some a) (Some b) e = let low = lower_number a b e in omega (arith, low)
+
+  -- Two lists that leave one step are the same.
+  one_list : (a b : Adjacency) → Contains all a → Contains all b → number_left a ≡ number_left b → a ≡ b
+  one_list a b (i, inside, at) (j, below, is) same = elim (cases_lt i j) [
+    | inl lt ↦ absurd (let low = lower_with (get_or all i a).from (get_or all j a).from (are.lists_ascend i j a lt below) in
+        let left : number_left (get_or all i a) ≡ number_left a = ap (λ (o : Adjacency). number_left o) at in
+        let right : number_left (get_or all j a) ≡ number_left b = ap (λ (o : Adjacency). number_left o) (get_or_default all j a b below ∙ is) in
+        omega (arith, low, left, right, same))
+    | inr ge ↦ elim (cases_lt j i) [
+      | inl lt ↦ absurd (let low = lower_with (get_or all j a).from (get_or all i a).from (are.lists_ascend j i a lt inside) in
+          let left : number_left (get_or all i a) ≡ number_left a = ap (λ (o : Adjacency). number_left o) at in
+          let right : number_left (get_or all j a) ≡ number_left b = ap (λ (o : Adjacency). number_left o) (get_or_default all j a b below ∙ is) in
+          omega (arith, low, left, right, same))
+      | inr le ↦ (let equal : i ≡ j = omega (arith, ge, le) in sym at ∙ ap (λ (n : ℕ). get_or all n a) equal ∙ get_or_default all j a b below ∙ is)
+    ]
+  ]
+
+  -- An edge from the step with a number is in the list with that number.
+  list_with : (number : ℕ) → number < length (Main ∷ map Of vertices) → (y : Vertex) → Contains (edges_of vertices all) (edge (step_at (Main ∷ map Of vertices) number) y)
+      → (one : Adjacency) × Contains all one × (number_left one ≡ number) × Contains (edges_from vertices one) (edge (step_at (Main ∷ map Of vertices) number) y)
+  list_with number below y h =
+      let steps = Main ∷ map Of vertices in
+      let (one, there, at) = edges_only vertices all (edge (step_at steps number) y) h in
+      let (rank, held, is) = from_mapped (λ (n : ℕ). edge (left_by vertices one) (vertex_at vertices n)) one.to.items (edge (step_at steps number) y) at in
+      let (inside, same) = its_number one.from (numbered_list one there).from in
+      let alike : step_at steps (number_left one) ≡ step_at steps number = same ∙ ap (λ (f : Edge). f.from) is in
+      (one, there, same_number steps (all_steps_ascend vertices are.vertices_ascend) (number_left one) number inside below alike, at)
+
+  -- The list with that number has the edges.
+  pub list_leaves : (one : Adjacency) (number : ℕ) → Contains all one → number_left one ≡ number → number < length (steps_of (record { vertices = vertices; edges = edges_of vertices all })) → AreLeaving (record { vertices = vertices; edges = edges_of vertices all }) number one.to.items
+  list_leaves one number there is below = record {
+    within = (numbered_list one there).to;
+    only = λ k d inside. edges_each vertices all one (edge (step_at (Main ∷ map Of vertices) number) (vertex_at vertices (get_or one.to.items k d))) there
+        (subst (λ (s : Step). Contains (edges_from vertices one) (edge s (vertex_at vertices (get_or one.to.items k d)))) left
+        (in_mapped (λ (n : ℕ). edge (left_by vertices one) (vertex_at vertices n)) one.to.items (get_or one.to.items k d) (Contains-get_or one.to.items k d inside)));
+    all = λ y h.
+        let (other, found, number_is, at) = list_with number below y h in
+        let same : other ≡ one = one_list other one found there (number_is ∙ sym is) in
+        subst (λ (s : Step). Contains (map (λ (n : ℕ). edge s (vertex_at vertices n)) one.to.items) (edge (step_at (Main ∷ map Of vertices) number) y)) left
+        (subst (λ (o : Adjacency). Contains (edges_from vertices o) (edge (step_at (Main ∷ map Of vertices) number) y)) same at);
+  }
+    where
+      left : left_by vertices one ≡ step_at (Main ∷ map Of vertices) number
+      left = sym (its_number one.from (numbered_list one there).from).1 ∙ ap (step_at (Main ∷ map Of vertices)) is
+
+  -- Without such a list no edge leaves the step.
+  pub none_leave : (number : ℕ) → ((one : Adjacency) → Contains all one → number_left one ≡ number → ⊥) → number < length (steps_of (record { vertices = vertices; edges = edges_of vertices all })) → AreLeaving (record { vertices = vertices; edges = edges_of vertices all }) number []
+  none_leave number none below = record {
+    within = λ k d inside. absurd (omega (arith, inside));
+    only = λ k d inside. absurd (omega (arith, inside));
+    all = λ y h. absurd (let (one, there, is, at) = list_with number below y h in none one there is);
+  }
+
+  pub lists_rise : AllPairs (λ (a b : Adjacency). nat_cmp (number_left a) (number_left b) ≡ Less) all
+  lists_rise i j d lt below = less_number_cmp (number_left (get_or all i d)) (number_left (get_or all j d)) (lower_with (get_or all i d).from (get_or all j d).from (are.lists_ascend i j d lt below))
+    where
+      less_number_cmp : (a b : ℕ) → a < b → nat_cmp a b ≡ Less
+      less_number_cmp a b lt = cond-true (nat_lt a b) Less _ (lt-ltb a b lt)
+
+  -- A binary search found the list with that number.
+  pub list_found : (number place : ℕ) (one : Adjacency) → place < length all → one ≡ get_or all place one → nat_cmp (number_left one) number ≡ Equal → number < length (steps_of (record { vertices = vertices; edges = edges_of vertices all })) → AreLeaving (record { vertices = vertices; edges = edges_of vertices all }) number one.to.items
+  list_found number place one inside is e below = list_leaves one number (place, inside, sym is) (nat_cmp-IsAntisymmetric (number_left one) number e) below
+
+  -- It found none.
+  pub list_not_found : (number i : ℕ) → (IsNonDecreasingBy (λ (y : Adjacency). ordering_index (nat_cmp (number_left y) number)) all → IsPartitionPoint (λ (y : Adjacency). nat_cmp (number_left y) number ≡ Less) (λ (y : Adjacency). nat_cmp (number_left y) number ≡ Greater) all i)
+      → number < length (steps_of (record { vertices = vertices; edges = edges_of vertices all })) → AreLeaving (record { vertices = vertices; edges = edges_of vertices all }) number []
+  list_not_found number i says below = none_leave number
+      (λ one there is. nothing_found nat_cmp_total (λ (y : Adjacency). number_left y) all lists_rise number i says one there (ap (λ (n : ℕ). nat_cmp n number) is ∙ tied_itself nat_cmp_total number))
+      below
+
+-- A binary search found no such vertex.
+pub vertex_not_found : (vertices : List Vertex) (x : Vertex) (i : ℕ) → IsAscending vertex_cmp vertices → (IsNonDecreasingBy (λ (y : Vertex). ordering_index (vertex_cmp y x)) vertices → IsPartitionPoint (λ (y : Vertex). vertex_cmp y x ≡ Less) (λ (y : Vertex). vertex_cmp y x ≡ Greater) vertices i) → Contains vertices x → ⊥
+vertex_not_found vertices x i up says there = nothing_found vertex_total (λ (y : Vertex). y) vertices up x i says x there (tied_itself vertex_total x)

@@ -1,11 +1,12 @@
 pub mod Candidates
 pub mod Graph
+pub mod Adjacency
 pub mod StepOrder
 pub mod Order
 pub mod BuildList
-pub mod VertexSet
 pub mod Greatest
 pub mod Chains
 pub mod Laws
 pub mod Numbering
 pub mod Searching
+pub mod Ranking

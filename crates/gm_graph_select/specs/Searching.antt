@@ -1,15 +1,15 @@
--- A breadth-first search for a vertex over the steps that edges leave.
+-- A breadth-first search for a vertex over the steps of a module graph.
 use Rattle.std.specs.Prelude.{◌≡◌, ◌≢◌, ◌↔◌, ◌<◌, ◌≤◌, ◌⊎◌, ◌+◌, ◌-◌, ℕ, suc, Bool, true, false, List, [], ◌∷◌, length, replicate, slice_index_or, slice_set, sum_by, Contains, if◌then◌else◌}
 use Rattle.std.specs.Ordering.{is_lt}
 use Rattle.gm_graph_select.specs.declared.step.Step.{Step}
 use Rattle.gm_graph_select.specs.declared.step.Step.TheVariants.{Main, Of}
 use Rattle.gm_graph_select.specs.declared.step.Edge.{Edge}
-use Rattle.gm_graph_select.specs.declared.numbering.Sources.{Sources}
 use Rattle.gm_graph_select.specs.declared.searching.Visit.{Visit}
 use Rattle.gm_graph_select.specs.declared.searching.Search.{Search}
+use Rattle.gm_graph_select.specs.Adjacency.{GraphView}
 use Rattle.gm_graph_select.specs.Graph.{Vertex, Edges, edge, step_cmp}
 use Rattle.gm_graph_select.specs.Chains.{IsLevel, IsPredecessor, Leads}
-use Rattle.gm_graph_select.specs.Numbering.{source_edges, step_at, steps_of}
+use Rattle.gm_graph_select.specs.Numbering.{graph_edges, step_at, steps_of}
 
 -- A path of at most that many edges leads from the main module to the step.
 abbrev pub IsWithin : Edges → ℕ → Step → Type 0
@@ -36,10 +36,10 @@ pub record AreTraced (edges : Edges) (steps : List Step) (visits : List Visit) :
   pub traced : (k : ℕ) → k < length visits → IsTraced edges steps visits k (visit_at visits k)
 
 -- The last visit is of the goal's predecessor.
-pub record IsTracedTo (sources : Sources) (goal : Vertex) (visits : List Visit) : Type 0 where
-  pub each : AreTraced (source_edges sources) (steps_of sources) visits
+pub record IsTracedTo (graph : GraphView) (goal : Vertex) (visits : List Visit) : Type 0 where
+  pub each : AreTraced (graph_edges graph) (steps_of graph) visits
   pub some : 0 < length visits
-  pub last : IsPredecessor (source_edges sources) (visited (steps_of sources) visits (length visits - 1)) goal
+  pub last : IsPredecessor (graph_edges graph) (visited (steps_of graph) visits (length visits - 1)) goal
 
 -- No two of the visits are to the same step.
 abbrev pub AreOnce : List Visit → Type 0
@@ -74,64 +74,64 @@ flag (v ∷ due) = 1
 
 -- All steps up to a level were visited but those due, which are the steps of the level in ascending order. The steps
 -- found are exactly those up to the level, and the goal is none of these.
-pub record IsSearchedTo (sources : Sources) (goal : Vertex) (level : ℕ) (state : State)
+pub record IsSearchedTo (graph : GraphView) (goal : Vertex) (level : ℕ) (state : State)
     (due : List Visit) : Type 0 where
-  pub size : length state.found ≡ length (steps_of sources)
-  pub found : (i : ℕ) → i < length (steps_of sources)
-      → (is_found_at state.found i ≡ true) ↔ IsWithin (source_edges sources) level (step_at (steps_of sources) i)
-  pub listed : (i : ℕ) → i < length (steps_of sources)
-      → IsLevel (source_edges sources) (step_at (steps_of sources) i) level
+  pub size : length state.found ≡ length (steps_of graph)
+  pub found : (i : ℕ) → i < length (steps_of graph)
+      → (is_found_at state.found i ≡ true) ↔ IsWithin (graph_edges graph) level (step_at (steps_of graph) i)
+  pub listed : (i : ℕ) → i < length (steps_of graph)
+      → IsLevel (graph_edges graph) (step_at (steps_of graph) i) level
       → (v : Visit) × Contains due v × (v.number ≡ i)
-  pub inside : (v : Visit) → Contains due v → v.number < length (steps_of sources)
+  pub inside : (v : Visit) → Contains due v → v.number < length (steps_of graph)
   pub on_level : (v : Visit) → Contains due v
-      → IsLevel (source_edges sources) (step_at (steps_of sources) v.number) level
+      → IsLevel (graph_edges graph) (step_at (steps_of graph) v.number) level
   pub traced : (v : Visit) → Contains due v
-      → IsTraced (source_edges sources) (steps_of sources) state.visits (length state.visits) v
+      → IsTraced (graph_edges graph) (steps_of graph) state.visits (length state.visits) v
   pub ascending : (i j : ℕ) → i < j → j < length due → (visit_at due i).number < (visit_at due j).number
-  pub visits : AreTraced (source_edges sources) (steps_of sources) state.visits
-  pub far : IsWithin (source_edges sources) level (Of goal) → ⊥
+  pub visits : AreTraced (graph_edges graph) (steps_of graph) state.visits
+  pub far : IsWithin (graph_edges graph) level (Of goal) → ⊥
   pub none : state.next ≡ []
 
 -- Some edges that leave steps of the level were followed, none of them to the goal: the steps found are those found
 -- before and those of the next level that these edges lead to.
-pub record IsFollowed (sources : Sources) (goal : Vertex) (level : ℕ) (before : List Bool) (tried : List Edge)
+pub record IsFollowed (graph : GraphView) (goal : Vertex) (level : ℕ) (before : List Bool) (tried : List Edge)
     (state : State) : Type 0 where
-  pub size : length state.found ≡ length (steps_of sources)
+  pub size : length state.found ≡ length (steps_of graph)
   pub keeps : (i : ℕ) → is_found_at before i ≡ true → is_found_at state.found i ≡ true
   pub news : (i : ℕ) → is_found_at state.found i ≡ true
       → (is_found_at before i ≡ true) ⊎ ((v : Visit) × Contains state.next v × (v.number ≡ i))
-  pub inside : (v : Visit) → Contains state.next v → v.number < length (steps_of sources)
+  pub inside : (v : Visit) → Contains state.next v → v.number < length (steps_of graph)
   pub found : (v : Visit) → Contains state.next v → is_found_at state.found v.number ≡ true
   pub on_level : (v : Visit) → Contains state.next v
-      → IsLevel (source_edges sources) (step_at (steps_of sources) v.number) (suc level)
+      → IsLevel (graph_edges graph) (step_at (steps_of graph) v.number) (suc level)
   pub traced : (v : Visit) → Contains state.next v
-      → IsTraced (source_edges sources) (steps_of sources) state.visits (length state.visits) v
+      → IsTraced (graph_edges graph) (steps_of graph) state.visits (length state.visits) v
   pub once : AreOnce state.next
-  pub ends : (e : Edge) → Contains tried e → (i : ℕ) → i < length (steps_of sources)
-      → step_at (steps_of sources) i ≡ Of e.to → is_found_at state.found i ≡ true
+  pub ends : (e : Edge) → Contains tried e → (i : ℕ) → i < length (steps_of graph)
+      → step_at (steps_of graph) i ≡ Of e.to → is_found_at state.found i ≡ true
   pub misses : (e : Edge) → Contains tried e → e.to ≢ goal
-  pub visits : AreTraced (source_edges sources) (steps_of sources) state.visits
+  pub visits : AreTraced (graph_edges graph) (steps_of graph) state.visits
   pub count : count_left state.found + length state.next ≡ count_left before
 
 -- It is a step's turn: it is on the level, and all edges of the level's lesser steps were followed. All steps up to
 -- the level were found.
-pub record IsTurn (sources : Sources) (level : ℕ) (before : List Bool) (tried : List Edge) (s : Step) : Type 0 where
-  pub on_level : IsLevel (source_edges sources) s level
-  pub lower : (t : Step) (y : Vertex) → source_edges sources t y → IsLevel (source_edges sources) t level
+pub record IsTurn (graph : GraphView) (level : ℕ) (before : List Bool) (tried : List Edge) (s : Step) : Type 0 where
+  pub on_level : IsLevel (graph_edges graph) s level
+  pub lower : (t : Step) (y : Vertex) → graph_edges graph t y → IsLevel (graph_edges graph) t level
       → is_lt (step_cmp t s) ≡ true → Contains tried (edge t y)
-  pub full : (i : ℕ) → i < length (steps_of sources)
-      → IsWithin (source_edges sources) level (step_at (steps_of sources) i) → is_found_at before i ≡ true
+  pub full : (i : ℕ) → i < length (steps_of graph)
+      → IsWithin (graph_edges graph) level (step_at (steps_of graph) i) → is_found_at before i ≡ true
 
 -- The visit comes next, after those whose edges were followed.
-pub record IsVisitedNext (sources : Sources) (goal : Vertex) (level : ℕ) (before : List Bool) (tried : List Edge)
+pub record IsVisitedNext (graph : GraphView) (goal : Vertex) (level : ℕ) (before : List Bool) (tried : List Edge)
     (state : State) (visit : Visit) : Type 0 where
-  pub turn : IsTurn sources level before tried (step_at (steps_of sources) visit.number)
-  pub far : IsWithin (source_edges sources) level (Of goal) → ⊥
-  pub traced : IsTraced (source_edges sources) (steps_of sources) state.visits (length state.visits) visit
-  pub followed : IsFollowed sources goal level before tried state
+  pub turn : IsTurn graph level before tried (step_at (steps_of graph) visit.number)
+  pub far : IsWithin (graph_edges graph) level (Of goal) → ⊥
+  pub traced : IsTraced (graph_edges graph) (steps_of graph) state.visits (length state.visits) visit
+  pub followed : IsFollowed graph goal level before tried state
 
 -- The edges that were followed include those that leave the visited steps.
-abbrev pub AreTried : Sources → List Visit → List Edge → Type 0
-AreTried sources visits tried = (v : Visit) → Contains visits v → (y : Vertex)
-    → source_edges sources (step_at (steps_of sources) v.number) y
-    → Contains tried (edge (step_at (steps_of sources) v.number) y)
+abbrev pub AreTried : GraphView → List Visit → List Edge → Type 0
+AreTried graph visits tried = (v : Visit) → Contains visits v → (y : Vertex)
+    → graph_edges graph (step_at (steps_of graph) v.number) y
+    → Contains tried (edge (step_at (steps_of graph) v.number) y)

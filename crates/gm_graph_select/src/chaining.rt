@@ -3,21 +3,21 @@
 //! A chain is traced back from its last step: each visit of the search names its predecessor's. Among several
 //! predecessors of a vertex the least is taken, so the chain doesn't depend on the order in which files were read.
 
-ghost use Rattle.std.specs.Prelude.{◌≡◌, ◌++◌, ◌∷◌, [], IfErr, IfNone, IfOk, IfSome, IsErrOf, OnOk};
-ghost use Rattle.gm_graph_select.specs.Graph.{among, edge_cmp};
-ghost use Rattle.gm_graph_select.specs.Order.{IsAscending};
+ghost use Rattle.std.specs.Prelude.{◌≡◌, ◌++◌, ◌∷◌, ◌<◌, [], IfNone, IfOk, IfSome, IsErrOf, OnOk, length};
+ghost use Rattle.gm_graph_select.specs.Adjacency.{vertex_at};
+ghost use Rattle.gm_graph_select.specs.Graph.{among};
 ghost use Rattle.gm_graph_select.specs.BuildList.{IsEntryOf, HasEntryFor, entries_of_rows};
 ghost use Rattle.gm_graph_select.specs.Chains.{IsChain, IsReached};
-ghost use Rattle.gm_graph_select.specs.Numbering.{AreSources, source_edges};
+ghost use Rattle.gm_graph_select.specs.Numbering.{IsGraph, graph_edges};
 ghost use Rattle.gm_graph_select.specs.Searching.{IsTracedTo};
 ghost use Rattle.gm_graph_select.specs.declared.step.Step.{Step};
 ghost use Rattle.gm_graph_select.specs.declared.step.Step.TheVariants.{Main, Of};
 ghost use Rattle.gm_graph_select.specs.declared.chaining.ChainFault.TheVariants.{NoMemory};
 
-use crate::numbering::Sources;
+use crate::graph::Graph;
 use crate::row::{Row, row_at};
 use crate::searching::{Visit, visits_to};
-use crate::step::{Edge, Step};
+use crate::step::Step;
 use gm_name::{ModPath, ModVer};
 use std::alloc::{AllocError, Global};
 use thiserror::Error;
@@ -61,21 +61,23 @@ fn push_step(alloc: Global, steps: &mut Vec<Step>, vertex: &ModVer) -> Result<()
     Ok(())
 }
 
-/// The chain to the goal. Steps are collected from the last to the first and then reversed, since each visit has
-/// only its predecessor's place.
+/// The chain to the goal, whose rank is given. Steps are collected from the last to the first and then reversed, since
+/// each visit has only its predecessor's place.
 fn walk_back(
     alloc: Global,
-    sources: &Sources<'_>,
+    graph: &Graph,
     visits: &[Visit],
-    goal: &ModVer,
+    goal: usize,
 ) -> Result<Vec<Step>, AllocError>
-    requires { IsTracedTo sources.now goal.now visits.now }
-    ensures { IfOk result (λ steps. IsChain (source_edges sources.now) (Of goal.now) steps.items) }
+    requires goal { goal < length graph.now.vertices }
+    requires traced { IsTracedTo graph.now (vertex_at graph.now.vertices goal) visits.now }
+    ensures { IfOk result (λ steps.
+        IsChain (graph_edges graph.now) (Of (vertex_at graph.now.vertices goal)) steps.items) }
 {
     let mut steps = Vec::new(alloc);
-    push_step(alloc, &mut steps, goal)?;
+    push_step(alloc, &mut steps, graph.vertex(goal))?;
     let mut place = visits.len() - 1;
-    'back: while let Step::Of(vertex) = sources.step(visits[place].number) {
+    'back: while let Some(vertex) = graph.numbered(visits[place].number) {
         push_step(alloc, &mut steps, vertex)?;
         place = visits[place].before;
     }
@@ -84,35 +86,36 @@ fn walk_back(
     Ok(steps)
 }
 
-/// The chain to a vertex over numbered steps, or `None` if no edges lead to it from the main module.
-fn chain_over(
-    alloc: Global,
-    sources: &Sources<'_>,
-    goal: &ModVer,
-) -> Result<Option<Vec<Step>>, AllocError>
-    requires { AreSources sources.now }
+/// The chain to the vertex with this rank, or `None` if no edges lead to it from the main module.
+fn chain_over(alloc: Global, graph: &Graph, goal: usize) -> Result<Option<Vec<Step>>, AllocError>
+    requires graph { IsGraph graph.now }
+    requires goal { goal < length graph.now.vertices }
     ensures chain { IfOk result (λ chain. IfSome chain (λ steps.
-        IsChain (source_edges sources.now) (Of goal.now) steps.items)) }
-    ensures none { IfOk result (λ chain. IfNone chain (¬ (IsReached (source_edges sources.now) (Of goal.now)))) }
+        IsChain (graph_edges graph.now) (Of (vertex_at graph.now.vertices goal)) steps.items)) }
+    ensures none { IfOk result (λ chain. IfNone chain
+        (¬ (IsReached (graph_edges graph.now) (Of (vertex_at graph.now.vertices goal))))) }
 {
-    let Some(visits) = visits_to(alloc, sources, goal)? else {
+    let Some(visits) = visits_to(alloc, graph, goal)? else {
         return Ok(None);
     };
-    Ok(Some(walk_back(alloc, sources, &visits, goal)?))
+    Ok(Some(walk_back(alloc, graph, &visits, goal)?))
 }
 
 /// The chain to a vertex, or `None` if no edges lead to it from the main module.
 fn chain_to_vertex(
     alloc: Global,
-    edges: &[Edge],
+    graph: &Graph,
     goal: &ModVer,
 ) -> Result<Option<Vec<Step>>, AllocError>
-    requires { IsAscending edge_cmp edges.now }
-    ensures chain { IfOk result (λ chain. IfSome chain (λ steps. IsChain (among edges.now) (Of goal.now) steps.items)) }
-    ensures none { IfOk result (λ chain. IfNone chain (¬ (IsReached (among edges.now) (Of goal.now)))) }
+    ensures chain { IfOk result (λ chain. IfSome chain (λ steps.
+        IsChain (among graph.now.edges) (Of goal.now) steps.items)) }
+    ensures none { IfOk result (λ chain. IfNone chain (¬ (IsReached (among graph.now.edges) (Of goal.now)))) }
 {
-    let sources = Sources::new(alloc, edges)?;
-    chain_over(alloc, &sources, goal)
+    let Some(rank) = graph.rank_of(goal) else {
+        return Ok(None);
+    };
+    let steps = chain_over(alloc, graph, rank)?;
+    Ok(steps)
 }
 
 /// The chain to the main module, which is that module alone.
@@ -125,10 +128,10 @@ fn main_alone(alloc: Global) -> Result<Vec<Step>, AllocError>
 }
 
 /// The chain to a step, or `None` if no edges lead to it from the main module.
-fn chain_to(alloc: Global, edges: &[Edge], last: &Step) -> Result<Option<Vec<Step>>, AllocError>
-    requires { IsAscending edge_cmp edges.now }
-    ensures chain { IfOk result (λ chain. IfSome chain (λ steps. IsChain (among edges.now) last.now steps.items)) }
-    ensures none { IfOk result (λ chain. IfNone chain (¬ (IsReached (among edges.now) last.now))) }
+fn chain_to(alloc: Global, graph: &Graph, last: &Step) -> Result<Option<Vec<Step>>, AllocError>
+    ensures chain { IfOk result (λ chain. IfSome chain (λ steps.
+        IsChain (among graph.now.edges) last.now steps.items)) }
+    ensures none { IfOk result (λ chain. IfNone chain (¬ (IsReached (among graph.now.edges) last.now))) }
 {
     match last {
         Step::Main => {
@@ -136,37 +139,40 @@ fn chain_to(alloc: Global, edges: &[Edge], last: &Step) -> Result<Option<Vec<Ste
             Ok(Some(steps))
         }
         Step::Of(goal) => {
-            let steps = chain_to_vertex(alloc, edges, goal)?;
+            let steps = chain_to_vertex(alloc, graph, goal)?;
             Ok(steps)
         }
     }
 }
 
-/// The shortest chain of requirements to the module that the rows list for a path. It begins with the main module,
-/// whose path is `main`; each step requires the next, and no chain of edges to the same module is shorter. The
-/// predecessor of each step is the least of those that are one edge nearer to the main module. The chain to the
-/// main module's own path is the main module alone. The edges must be in strictly ascending order.
-///
-/// `NotListed` is returned exactly if no row has the path, or no edges lead from the main module to the row that
-/// has it. `NoMemory` is returned if memory runs out. For n edges it takes n log n comparisons.
-pub fn chain(
-    alloc: Global,
-    main: &ModPath,
-    edges: &[Edge],
-    rows: &[Row],
-    path: &ModPath,
-) -> Result<Vec<Step>, ChainFault>
-    requires { IsAscending edge_cmp edges.now }
-    ensures chain { IfOk result (λ steps. (s : Step) × IsEntryOf main.now (entries_of_rows rows.now) path.now s
-        × IsChain (among edges.now) s steps.items) }
-    ensures not_listed { IsErrOf result ChainFault.NotListed
-        → ¬ ((s : Step) × IsEntryOf main.now (entries_of_rows rows.now) path.now s × IsReached (among edges.now) s) }
-{
-    let Some(entry) = entry_of(main, rows, path) else {
-        return Err(ChainFault::NotListed);
-    };
-    let Some(steps) = chain_to(alloc, edges, entry)? else {
-        return Err(ChainFault::NotListed);
-    };
-    Ok(steps)
+impl Graph {
+    /// The shortest chain of requirements to the module that the rows list for a path. It begins with the main module,
+    /// whose path is `main`; each step requires the next, and no chain of edges to the same module is shorter. The
+    /// predecessor of each step is the least of those that are one edge nearer to the main module. The chain to the
+    /// main module's own path is the main module alone.
+    ///
+    /// `NotListed` is returned exactly if no row has the path, or no edges lead from the main module to the row that
+    /// has it. `NoMemory` is returned if memory runs out. For n vertices and m edges it compares log n vertices, and
+    /// numbers m log m times at most.
+    pub fn chain(
+        &self,
+        alloc: Global,
+        main: &ModPath,
+        rows: &[Row],
+        path: &ModPath,
+    ) -> Result<Vec<Step>, ChainFault>
+        ensures chain { IfOk result (λ steps. (s : Step) × IsEntryOf main.now (entries_of_rows rows.now) path.now s
+            × IsChain (among self.now.edges) s steps.items) }
+        ensures not_listed { IsErrOf result ChainFault.NotListed
+            → ¬ ((s : Step) × IsEntryOf main.now (entries_of_rows rows.now) path.now s
+            × IsReached (among self.now.edges) s) }
+    {
+        let Some(entry) = entry_of(main, rows, path) else {
+            return Err(ChainFault::NotListed);
+        };
+        let Some(steps) = chain_to(alloc, self, entry)? else {
+            return Err(ChainFault::NotListed);
+        };
+        Ok(steps)
+    }
 }

@@ -14,20 +14,24 @@
 //! This crate reads no files: it works on lists of edges and vertices, whatever they come from.
 #![tactic(auto)]
 
+mod adjacency;
 mod chaining;
+mod edge_list;
+mod graph;
 mod highest;
 pub mod laws;
 mod numbering;
+mod ranking;
 mod row;
 mod searching;
 mod selecting;
 mod sorting;
 mod step;
-mod vertex_set;
 
-pub use crate::chaining::{ChainFault, chain};
+pub use crate::adjacency::Adjacency;
+pub use crate::chaining::ChainFault;
+pub use crate::graph::Graph;
 pub use crate::row::{NotListed, Row, Rows, rest_after};
 pub use crate::selecting::build_list;
 pub use crate::sorting::{is_ascending, sorted, sorted_edges};
 pub use crate::step::{Edge, Step};
-pub use crate::vertex_set::VertexSet;

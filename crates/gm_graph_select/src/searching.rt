@@ -7,16 +7,15 @@
 ghost use Rattle.std.specs.Prelude.{◌≡◌, ◌≢◌, ◌↔◌, ◌<◌, ◌++◌, ◌∷◌, [], false, true, ℕ, Bool, Contains, IfNone, IfOk, IfSome, List, OnOk, length};
 ghost use Rattle.gm_graph_select.specs.declared.step.Edge.{Edge};
 ghost use Rattle.gm_graph_select.specs.declared.step.Step.TheVariants.{Of};
+ghost use Rattle.gm_graph_select.specs.Adjacency.{GraphView, vertex_at};
 ghost use Rattle.gm_graph_select.specs.Graph.{Vertex};
 ghost use Rattle.gm_graph_select.specs.Order.{HaveSame};
 ghost use Rattle.gm_graph_select.specs.Chains.{IsReached};
-ghost use Rattle.gm_graph_select.specs.Numbering.{AreSources, source_edges, step_at, steps_of};
+ghost use Rattle.gm_graph_select.specs.Numbering.{IsGraph, graph_edges, step_at, steps_of};
 ghost use Rattle.gm_graph_select.specs.Searching.{AreOnce, AreTried, IsVisitedNext, IsFollowed, IsSearchedTo, IsTracedTo, IsTurn, first_state, state_of, visit_at, visited};
 
-use crate::numbering::Sources;
+use crate::graph::Graph;
 use crate::sorting::sorted;
-use crate::step::Edge;
-use gm_name::ModVer;
 use std::alloc::{AllocError, Global};
 use std::mem;
 
@@ -41,28 +40,20 @@ struct Search {
 }
 
 impl Search {
-    /// Follows an edge from the step that was visited at the place `before`. It doesn't lead to the goal.
-    fn follow<'a>(
-        &mut self,
-        sources: &Sources<'a>,
-        before: usize,
-        edge: &'a Edge,
-    ) -> Result<(), AllocError>
-        requires sources { AreSources sources.now }
-        requires size { length self.old.is_found.items ≡ length (steps_of sources.now) }
-        ensures size { length self.new.is_found.items ≡ length (steps_of sources.now) }
+    /// Follows an edge from the step that was visited at the place `before` to the step with this number, which isn't
+    /// the goal.
+    fn follow(&mut self, before: usize, number: usize) -> Result<(), AllocError>
+        requires { number < length self.old.is_found.items }
+        ensures size { length self.new.is_found.items ≡ length self.old.is_found.items }
         ensures visits { self.new.visits ≡ self.old.visits }
-        ensures followed { OnOk result ((goal : Vertex) (level : ℕ) (found : List Bool) (tried : List Edge)
-            → IsTurn sources.now level found tried edge.entry.now.from
-            → visited (steps_of sources.now) self.old.visits.items before ≡ edge.entry.now.from
-            → before < length self.old.visits.items
-            → Contains sources.now.edges.now edge.entry.now → edge.entry.now.to ≢ goal
-            → IsFollowed sources.now goal level found tried (state_of self.old)
-            → IsFollowed sources.now goal level found (tried ++ edge.entry.now ∷ []) (state_of self.new)) }
+        ensures followed { OnOk result ((graph : GraphView) (goal : Vertex) (level : ℕ) (found : List Bool)
+            (tried : List Edge) (e : Edge) → IsGraph graph → length self.old.is_found.items ≡ length (steps_of graph)
+            → IsTurn graph level found tried e.from → visited (steps_of graph) self.old.visits.items before ≡ e.from
+            → before < length self.old.visits.items → step_at (steps_of graph) number ≡ Of e.to
+            → Contains graph.edges e → e.to ≢ goal
+            → IsFollowed graph goal level found tried (state_of self.old)
+            → IsFollowed graph goal level found (tried ++ e ∷ []) (state_of self.new)) }
     {
-        let Some(number) = sources.number_of(&edge.to) else {
-            return Ok(());
-        };
         if self.is_found[number] {
             return Ok(());
         }
@@ -72,55 +63,51 @@ impl Search {
     }
 
     /// Visits a step of the level, and follows the edges that leave it. Returns whether one of them leads to the
-    /// goal.
-    fn visit<'a>(
-        &mut self,
-        sources: &Sources<'a>,
-        goal: &ModVer,
-        visit: Visit,
-    ) -> Result<bool, AllocError>
-        requires sources { AreSources sources.now }
-        requires size { length self.old.is_found.items ≡ length (steps_of sources.now) }
-        requires inside { visit.number < length (steps_of sources.now) }
-        ensures size { length self.new.is_found.items ≡ length (steps_of sources.now) }
+    /// goal, whose rank is given.
+    fn visit(&mut self, graph: &Graph, goal: usize, visit: Visit) -> Result<bool, AllocError>
+        requires graph { IsGraph graph.now }
+        requires goal { goal < length graph.now.vertices }
+        requires size { length self.old.is_found.items ≡ length (steps_of graph.now) }
+        requires inside { visit.number < length (steps_of graph.now) }
+        ensures size { length self.new.is_found.items ≡ length (steps_of graph.now) }
         ensures visits { OnOk result (self.new.visits.items ≡ self.old.visits.items ++ visit ∷ []) }
         ensures found { IfOk result (λ is_goal. is_goal ≡ true → (level : ℕ) (found : List Bool) (tried : List Edge)
-            → IsVisitedNext sources.now goal.now level found tried (state_of self.old) visit
-            → IsTracedTo sources.now goal.now self.new.visits.items) }
+            → IsVisitedNext graph.now (vertex_at graph.now.vertices goal) level found tried (state_of self.old) visit
+            → IsTracedTo graph.now (vertex_at graph.now.vertices goal) self.new.visits.items) }
         ensures missed { IfOk result (λ is_goal. is_goal ≡ false → (level : ℕ) (found : List Bool) (tried : List Edge)
-            → IsVisitedNext sources.now goal.now level found tried (state_of self.old) visit
-            → (more : List Edge) × IsFollowed sources.now goal.now level found (tried ++ more) (state_of self.new)
-            × AreTried sources.now (visit ∷ []) more) }
+            → IsVisitedNext graph.now (vertex_at graph.now.vertices goal) level found tried (state_of self.old) visit
+            → (more : List Edge) × IsFollowed graph.now (vertex_at graph.now.vertices goal) level found (tried ++ more)
+            (state_of self.new) × AreTried graph.now (visit ∷ []) more) }
     {
         let before = self.visits.len();
         self.visits.push(visit)?;
-        for edge in sources.list[visit.number].edges {
-            if edge.to == *goal {
+        for rank in graph.leaving(visit.number) {
+            let rank = *rank as usize;
+            if rank == goal {
                 return Ok(true);
             }
-            self.follow(sources, before, edge)?;
+            self.follow(before, rank + 1)?;
         }
         Ok(false)
     }
 
-    /// Visits the steps of a level. Returns whether an edge that leaves one of them leads to the goal.
-    fn visit_level(
-        &mut self,
-        sources: &Sources<'_>,
-        goal: &ModVer,
-        due: &[Visit],
-    ) -> Result<bool, AllocError>
-        requires sources { AreSources sources.now }
-        requires searched { (level : ℕ) × IsSearchedTo sources.now goal.now level (state_of self.old) due.now }
+    /// Visits the steps of a level. Returns whether an edge that leaves one of them leads to the goal, whose rank is
+    /// given.
+    fn visit_level(&mut self, graph: &Graph, goal: usize, due: &[Visit]) -> Result<bool, AllocError>
+        requires graph { IsGraph graph.now }
+        requires goal { goal < length graph.now.vertices }
+        requires searched { (level : ℕ)
+            × IsSearchedTo graph.now (vertex_at graph.now.vertices goal) level (state_of self.old) due.now }
         ensures found { IfOk result (λ is_goal. is_goal ≡ true
-            → IsTracedTo sources.now goal.now self.new.visits.items) }
+            → IsTracedTo graph.now (vertex_at graph.now.vertices goal) self.new.visits.items) }
         ensures missed { IfOk result (λ is_goal. is_goal ≡ false → (level : ℕ)
-            → IsSearchedTo sources.now goal.now level (state_of self.old) due.now
-            → (tried : List Edge) × AreTried sources.now due.now tried
-            × IsFollowed sources.now goal.now level self.old.is_found.items tried (state_of self.new)) }
+            → IsSearchedTo graph.now (vertex_at graph.now.vertices goal) level (state_of self.old) due.now
+            → (tried : List Edge) × AreTried graph.now due.now tried
+            × IsFollowed graph.now (vertex_at graph.now.vertices goal) level self.old.is_found.items tried
+            (state_of self.new)) }
     {
         for visit in due {
-            if self.visit(sources, goal, *visit)? {
+            if self.visit(graph, goal, *visit)? {
                 return Ok(true);
             }
         }
@@ -140,24 +127,27 @@ impl Search {
     }
 
     /// Visits a level, then the next one, and so on, until an edge leads to the goal or no steps are left. Returns
-    /// whether one of the edges leads to the goal. `first` are the visits to the first of these levels.
+    /// whether one of the edges leads to the goal, whose rank is given. `first` are the visits to the first of these
+    /// levels.
     fn visit_levels(
         &mut self,
         alloc: Global,
-        sources: &Sources<'_>,
-        goal: &ModVer,
+        graph: &Graph,
+        goal: usize,
         first: Vec<Visit>,
     ) -> Result<bool, AllocError>
-        requires sources { AreSources sources.now }
-        requires searched { (level : ℕ) × IsSearchedTo sources.now goal.now level (state_of self.old) first.items }
+        requires graph { IsGraph graph.now }
+        requires goal { goal < length graph.now.vertices }
+        requires searched { (level : ℕ)
+            × IsSearchedTo graph.now (vertex_at graph.now.vertices goal) level (state_of self.old) first.items }
         ensures found { IfOk result (λ is_goal. is_goal ≡ true
-            → IsTracedTo sources.now goal.now self.new.visits.items) }
+            → IsTracedTo graph.now (vertex_at graph.now.vertices goal) self.new.visits.items) }
         ensures missed { IfOk result (λ is_goal. is_goal ≡ false
-            → IsReached (source_edges sources.now) (Of goal.now) → ⊥) }
+            → IsReached (graph_edges graph.now) (Of (vertex_at graph.now.vertices goal)) → ⊥) }
     {
         let mut due = first;
         'levels: while !due.is_empty() {
-            if self.visit_level(sources, goal, &due)? {
+            if self.visit_level(graph, goal, &due)? {
                 return Ok(true);
             }
             due = self.take_level(alloc);
@@ -179,11 +169,10 @@ fn first_visits(alloc: Global) -> Result<Vec<Visit>, AllocError>
 }
 
 /// The state before the first level, whose only step is the main module.
-fn first_search(alloc: Global, sources: &Sources<'_>) -> Result<Search, AllocError>
-    requires { 0 < length (steps_of sources.now) }
-    ensures { IfOk result (λ search. state_of search ≡ first_state (length (steps_of sources.now))) }
+fn first_search(alloc: Global, graph: &Graph) -> Result<Search, AllocError>
+    ensures { IfOk result (λ search. state_of search ≡ first_state (length (steps_of graph.now))) }
 {
-    let mut is_found = vec![in alloc; false; sources.list.len()]?;
+    let mut is_found = vec![in alloc; false; graph.step_count()]?;
     is_found[0] = true;
     Ok(Search {
         is_found,
@@ -192,22 +181,23 @@ fn first_search(alloc: Global, sources: &Sources<'_>) -> Result<Search, AllocErr
     })
 }
 
-/// The visits up to that of the goal's predecessor, or `None` if no edges lead from the main module to the goal.
+/// The visits up to that of the goal's predecessor, or `None` if no edges lead from the main module to the goal, whose
+/// rank is given.
 pub(crate) fn visits_to(
     alloc: Global,
-    sources: &Sources<'_>,
-    goal: &ModVer,
+    graph: &Graph,
+    goal: usize,
 ) -> Result<Option<Vec<Visit>>, AllocError>
-    requires { AreSources sources.now }
-    ensures found { IfOk result (λ visits. IfSome visits (λ visits. IsTracedTo sources.now goal.now visits.items)) }
-    ensures none { IfOk result (λ visits. IfNone visits (IsReached (source_edges sources.now) (Of goal.now) → ⊥)) }
+    requires graph { IsGraph graph.now }
+    requires goal { goal < length graph.now.vertices }
+    ensures found { IfOk result (λ visits. IfSome visits (λ visits.
+        IsTracedTo graph.now (vertex_at graph.now.vertices goal) visits.items)) }
+    ensures none { IfOk result (λ visits. IfNone visits
+        (IsReached (graph_edges graph.now) (Of (vertex_at graph.now.vertices goal)) → ⊥)) }
 {
-    if !sources.begins_with_main() {
-        return Ok(None);
-    }
     let first = first_visits(alloc)?;
-    let mut search = first_search(alloc, sources)?;
-    if search.visit_levels(alloc, sources, goal, first)? {
+    let mut search = first_search(alloc, graph)?;
+    if search.visit_levels(alloc, graph, goal, first)? {
         return Ok(Some(search.visits));
     }
     Ok(None)

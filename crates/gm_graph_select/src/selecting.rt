@@ -98,7 +98,11 @@ fn main_row(alloc: Global) -> Result<Vec<Row>, AllocError>
 
 /// The main module's row, followed by the row of the greatest version of each path. The vertices must be in
 /// ascending order.
-fn rows_of(alloc: Global, main: &MainFile<'_>, ends: &[ModVer]) -> Result<Vec<Row>, AllocError>
+pub(crate) fn rows_of(
+    alloc: Global,
+    main: &MainFile<'_>,
+    ends: &[ModVer],
+) -> Result<Vec<Row>, AllocError>
     ensures { IfOk result (λ rows. entries_of_rows rows.items
         ≡ main_entry ∷ map (entry_of (main_replaces main.now)) (greatest_of (main_path main.now) ends.now)) }
 {

@@ -16,18 +16,27 @@ pub fn is_ascending<T: Ord>(items: &[T]) -> bool
     items.is_sorted_by(|a, b| a.cmp(b).is_lt())
 }
 
-/// The same items in strictly ascending order, without duplicates. Items that compare as equal must be the same. It
+/// Puts the items in strictly ascending order, without duplicates. Items that compare as equal must be the same. It
 /// takes no memory, and n log n comparisons, or only n if the items are in that order already.
+pub(crate) fn put_in_order<T: Ord + Drop>(items: &mut Vec<T>)
+    requires { TiesAreEqual T.cmp items.old.items }
+    ensures ascending { IsAscending T.cmp items.new.items }
+    ensures members { HaveSame items.old.items items.new.items }
+{
+    if is_ascending(items) {
+        return;
+    }
+    items.sort_unstable();
+    items.dedup();
+}
+
+/// The same items in strictly ascending order, without duplicates, as `put_in_order` leaves them.
 pub fn sorted<T: Ord + Drop>(mut items: Vec<T>) -> Vec<T>
     requires { TiesAreEqual T.cmp items.items }
     ensures ascending { IsAscending T.cmp result.items }
     ensures members { HaveSame items.items result.items }
 {
-    if is_ascending(&items) {
-        return items;
-    }
-    items.sort_unstable();
-    items.dedup();
+    put_in_order(&mut items);
     items
 }
 

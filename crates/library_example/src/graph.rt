@@ -1,4 +1,4 @@
-//! Selecting the build list of a module graph, and a shortest chain in it.
+//! Selecting the build list of a module graph.
 
 ghost use Rattle.std.specs.Prelude.{IfOk};
 ghost use Rattle.gm_graph_select.specs.Graph.{edge_cmp};
@@ -7,7 +7,7 @@ ghost use Rattle.gm_graph_select.specs.Order.{IsAscending};
 use crate::files::main_file;
 use anyhow::Context;
 use gm_file::MainFile;
-use gm_graph_select::{Edge, Row, Step, build_list, chain, sorted_edges};
+use gm_graph_select::{Edge, Row, Step, build_list, sorted_edges};
 use gm_name::{ModPath, ModVer, ModVersion, NoMemory};
 use std::alloc::Global;
 use std::io;
@@ -41,7 +41,7 @@ fn edge_from_b(alloc: Global) -> anyhow::Result<Edge> {
     Ok(Edge { from, to })
 }
 
-/// The edges of the graph, in ascending order, as `chain` requires them.
+/// The edges of the graph, in ascending order, each once.
 fn edges(alloc: Global, main: &MainFile<'_>) -> anyhow::Result<Vec<Edge>>
     ensures { IfOk result (λ edges. IsAscending edge_cmp edges.items) }
 {
@@ -60,7 +60,7 @@ fn ends(alloc: Global, edges: &[Edge]) -> Result<Vec<ModVer>, NoMemory> {
 }
 
 /// Prints a step: the main module's path, or a path and a version.
-fn print_step(rt: &impl Print, main: &MainFile<'_>, step: &Step) -> io::Result<()> {
+pub(crate) fn print_step(rt: &impl Print, main: &MainFile<'_>, step: &Step) -> io::Result<()> {
     match step {
         Step::Main => println!(rt; "{}", main.module())?,
         Step::Of(vertex) => println!(rt; "{vertex}")?,
@@ -76,42 +76,12 @@ pub(crate) fn print_rows(rt: &impl Print, main: &MainFile<'_>, rows: &[Row]) -> 
     Ok(())
 }
 
-/// Prints the chain to the version of a path that the build list has.
-fn print_chain(
-    rt: &impl Print,
-    alloc: Global,
-    main: &MainFile<'_>,
-    edges: &[Edge],
-    rows: &[Row],
-) -> anyhow::Result<()>
-    requires { IsAscending edge_cmp edges.now }
-{
-    let path = ModPath::parse(alloc, "example.com/a")?;
-    let steps = chain(alloc, main.module(), edges, rows, &path)?;
-    for step in &steps {
-        print_step(rt, main, step)?;
-    }
-    Ok(())
-}
-
-/// Prints the build list of edges, and a chain in it.
-fn show_edges(
-    rt: &impl Print,
-    alloc: Global,
-    main: &MainFile<'_>,
-    edges: &[Edge],
-) -> anyhow::Result<()>
-    requires { IsAscending edge_cmp edges.now }
-{
-    let rows = build_list(alloc, main, ends(alloc, edges)?)?;
-    print_rows(rt, main, &rows)?;
-    print_chain(rt, alloc, main, edges, &rows)
-}
-
-/// Prints the build list of a graph, and a chain in it.
+/// Prints the build list of a graph.
 fn show_over(rt: &impl Print, alloc: Global, main: &MainFile<'_>) -> anyhow::Result<()> {
     let edges = edges(alloc, main)?;
-    show_edges(rt, alloc, main, &edges)
+    let rows = build_list(alloc, main, ends(alloc, &edges)?)?;
+    print_rows(rt, main, &rows)?;
+    Ok(())
 }
 
 /// Selects the build list of the example.

@@ -1,9 +1,12 @@
-//! Loading the module graph of a main module from folders.
+//! Loading the module graph of a main module from folders, and a shortest chain in it.
+
+ghost use Rattle.std.specs.Prelude.{◌≡◌, []};
 
 use crate::files::main_file;
-use crate::graph::print_rows;
+use crate::graph::{print_rows, print_step};
 use gm_file::MainFile;
 use gm_graph::{Fault, Loaded, load};
+use gm_name::ModPath;
 use gm_store::{DiskFallback, ProxyList, folder_of, read_limited};
 use std::{fs, io};
 
@@ -33,13 +36,27 @@ fn print_faults(rt: HostRuntime, faults: &[Fault]) -> io::Result<()> {
     Ok(())
 }
 
-/// Prints the build list of a graph, or the faults of its modules if there are any.
-fn print_graph(rt: HostRuntime, main: &MainFile<'_>, graph: &Loaded) -> io::Result<()> {
+/// Prints the chain of requirements to the version of a path that the build list has.
+fn print_chain(rt: HostRuntime, main: &MainFile<'_>, graph: &Loaded) -> anyhow::Result<()>
+    requires { graph.now.faults ≡ [] }
+{
+    let path = ModPath::parse(rt.alloc(), "example.com/d")?;
+    let steps = graph.chain(rt.alloc(), &path)?;
+    for step in &steps {
+        print_step(&rt, main, step)?;
+    }
+    Ok(())
+}
+
+/// Prints the build list of a graph and a chain in it, or the faults of its modules if there are any.
+fn print_graph(rt: HostRuntime, main: &MainFile<'_>, graph: &Loaded) -> anyhow::Result<()> {
     let faults = graph.faults();
     if faults.is_empty() {
-        return print_rows(&rt, main, graph.build_list());
+        print_rows(&rt, main, graph.build_list())?;
+        return print_chain(rt, main, graph);
     }
-    print_faults(rt, faults)
+    print_faults(rt, faults)?;
+    Ok(())
 }
 
 /// Loads the example from its proxy folder, and from a folder that isn't there.

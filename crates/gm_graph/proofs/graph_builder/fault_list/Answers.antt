@@ -11,5 +11,6 @@ loop-vertex-preserved c =
     let rest = c.next.new.self in
     ap (λ (list : List Fault). list ++ listed rest) c.in_ok-push.ensures.items
     ∙ append_assoc c.loop-vertex.list.items (fault c.in-Some.vertex c.in-Some.class ∷ []) (listed rest)
-    ∙ ap (λ (entries : List (ModuleVersion × Class)). c.loop-vertex.list.items ++ listed entries) (sym c.in-Some.ensures.steps)
+    ∙ ap (λ (entries : List (ModuleVersion × Class)). c.loop-vertex.list.items ++ listed entries)
+    (sym c.in-Some.ensures.steps)
     ∙ c.loop-vertex.invariant

@@ -1,23 +1,14 @@
-use Rattle.std.proofs.Common.{◌∙◌, ◌++◌, Err, List, Option, sym, ap, subst}
+use Rattle.std.proofs.Common.{◌∙◌, Err, Option, sym, ap, subst}
 use Rattle.std.specs.Option.{option_copied}
 use Rattle.gm_store.specs.Asked.{name_of}
 use Rattle.gm_store_sums.specs.declared.sum_table.SumTable.{SumTable}
 use Rattle.gm_graph_cache.specs.Cached.{main_in}
-use Rattle.gm_graph_cache.specs.Main.{Main, ModuleVersion, main_of}
-use Rattle.gm_graph_select.specs.Graph.{AreEnds, among}
-use Rattle.gm_graph.specs.Adjacency.{left_by}
-use Rattle.gm_graph.specs.Building.{edges_in}
+use Rattle.gm_graph_cache.specs.Main.{Main, main_of}
 use Rattle.gm_graph.specs.Loading.{AreTooMany, IsDue, Told}
 use Rattle.gm_graph_cache.proofs.Growing.{may_none}
 use Rattle.gm_graph.proofs.Dues.{asks_nothing, may_all}
 use Rattle.gm_graph.proofs.Loads.{gathered_ends, gathered_rooted, loads_of, too_many_first}
 use Rattle.gm_graph.proofs.loading.load.Goals as goal
-
-pub returns-in_err-required-clause-asks : goal.returns-in_err-required-clause-asks
-returns-in_err-required-clause-asks g c = asks_nothing _ _ _ c.requires
-
-pub returns-in_err-worklist-clause-asks : goal.returns-in_err-worklist-clause-asks
-returns-in_err-worklist-clause-asks g c = asks_nothing _ _ _ c.requires
 
 pub returns-in_err-builder-clause-asks : goal.returns-in_err-builder-clause-asks
 returns-in_err-builder-clause-asks g c = asks_nothing _ _ _ c.requires
@@ -25,10 +16,10 @@ returns-in_err-builder-clause-asks g c = asks_nothing _ _ _ c.requires
 pub returns-in_err-cache-clause-asks : goal.returns-in_err-cache-clause-asks
 returns-in_err-cache-clause-asks g c = asks_nothing _ _ _ c.requires
 
-pub returns-in_err-worklist-clause-too_many : goal.returns-in_err-worklist-clause-too_many
-returns-in_err-worklist-clause-too_many g c = λ e.
-    too_many_first (main_of c.args.main.now) (option_copied c.args.sums) (g.F.Files.state c.args.files.now).asked c.deref.result.now c.requires (c.deref.ensures.value ∙ c.in_ok-required.ensures)
-    (c.in_err-worklist.ensures.too_many (ap Err (sym (rw e at c.from_residual-in_err-worklist.ensures.1))))
+pub returns-in_err-builder-clause-too_many : goal.returns-in_err-builder-clause-too_many
+returns-in_err-builder-clause-too_many g c = λ e.
+    too_many_first (main_of c.args.main.now) (option_copied c.args.sums) (g.F.Files.state c.args.files.now).asked c.requires
+    (c.in_err-builder.ensures.too_many (ap Err (sym (rw e at c.from_residual.ensures.1))))
 
 pub returns-in_err-visit_all-clause-device : goal.returns-in_err-visit_all-clause-device
 returns-in_err-visit_all-clause-device g c = λ name e.
@@ -49,28 +40,18 @@ returns-in_err-visit_all-clause-cause g c = λ name e. c.in_err-visit_all.ensure
 
 pub assemble-requires : goal.assemble-requires
 assemble-requires g c = record {
+  builder = c.in_ok-visit_all.ensures.opened.is_builder;
+  rooted = gathered_rooted _ _ _ c.visit_all.new.builder c.in_ok-visit_all.ensures.opened;
   once = c.in_ok-visit_all.ensures.opened.once;
-  rooted = gathered_rooted _ _ _ c.visit_all.new.worklist c.visit_all.new.builder c.in_ok-visit_all.ensures.opened;
-  ends = subst (λ (leaves : List ModuleVersion). AreEnds (left_by c.visit_all.new.builder.leaving.items ++ leaves) (among (edges_in c.visit_all.new.builder))) (sym c.into_leaves.ensures)
-      (gathered_ends _ _ _ c.visit_all.new.worklist c.visit_all.new.builder c.in_ok-visit_all.ensures.opened);
+  ends = gathered_ends _ _ _ c.visit_all.new.builder c.in_ok-visit_all.ensures.opened;
 }
 
 pub returns-clause-loaded : goal.returns-clause-loaded
 returns-clause-loaded g c =
     let told = c.in_ok-assemble.ensures in
-    loads_of c.in_ok-cache.cache c.visit_all.new.cache (g.F.Files.state c.visit_all.new.files).asked c.visit_all.new.worklist c.visit_all.new.builder c.in_ok-visit_all.ensures.opened
+    loads_of c.in_ok-cache.cache c.visit_all.new.cache (g.F.Files.state c.visit_all.new.files).asked c.visit_all.new.builder c.in_ok-visit_all.ensures.opened
     (main_of c.args.main.now) (option_copied c.args.sums) c.in_ok-cache.ensures.main c.in_ok-cache.ensures.sums c.in_ok-assemble.field-0 c.visit_all.ensures.asks
     told.main told.faults told.ordered told.ascending told.edges told.rows (told.turns ∙ c.into_turns-turns.ensures)
-
-pub returns-in_err-required-clause-may_answer : goal.returns-in_err-required-clause-may_answer
-returns-in_err-required-clause-may_answer g c =
-    let old = g.F.Files.state c.args.files.now in
-    may_all _ old old c.requires (may_none _ old)
-
-pub returns-in_err-worklist-clause-may_answer : goal.returns-in_err-worklist-clause-may_answer
-returns-in_err-worklist-clause-may_answer g c =
-    let old = g.F.Files.state c.args.files.now in
-    may_all _ old old c.requires (may_none _ old)
 
 pub returns-in_err-builder-clause-may_answer : goal.returns-in_err-builder-clause-may_answer
 returns-in_err-builder-clause-may_answer g c =

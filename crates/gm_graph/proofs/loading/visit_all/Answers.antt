@@ -1,18 +1,18 @@
-use Rattle.std.proofs.Common.{◌≡◌, ◌∙◌, ◌++◌, get_or, subst, sym, ap, Err, arith, refl, List, append-nil}
+use Rattle.std.proofs.Common.{◌∙◌, ◌++◌, sym, ap, Err, arith, refl, List, append-nil}
 use Rattle.gm_store.specs.Asked.{Name}
 use Rattle.gm_store.proofs.Counts.{cause_later, later_both}
-use Rattle.gm_graph_cache.specs.declared.depth.Turn.{Turn}
 use Rattle.gm_graph_cache.specs.Cached.{main_in, sums_in}
 use Rattle.gm_graph_cache.specs.Refusals.{refused_names}
 use Rattle.gm_graph_cache.proofs.Growing.{may_along, may_none}
 use Rattle.gm_graph.proofs.Dues.{asks_more, due_here, many_here, refused_same}
 use Rattle.gm_graph.proofs.Rounds.{few_turns}
-use Rattle.gm_graph.proofs.Stepping.{first_step, last_step, step}
+use Rattle.gm_graph.specs.Builder.{turns_of, vertex_of}
+use Rattle.gm_graph.proofs.Stepping.{first_step, last_step, number_here, past_all, step, turn_below, turn_here}
 use Rattle.gm_graph.proofs.loading.visit_all.Goals as goal
 
 pub turns-init : goal.turns-init
 turns-init g c = record {
-  state = first_step c.args.cache.now (g.F.Files.state c.args.files.now).asked c.args.worklist.now c.args.builder.now c.requires.asked c.requires.knows c.requires.lent c.requires.worklist c.requires.leaves c.requires.first c.requires.builder c.requires.group;
+  state = first_step c.args.cache.now (g.F.Files.state c.args.files.now).asked c.args.builder.now c.requires.asked c.requires.knows c.requires.lent c.requires.first;
   may = may_none _ (g.F.Files.state c.args.files.now);
   same_store = λ n r h. h;
   refused = refl;
@@ -20,14 +20,17 @@ turns-init g c = record {
 }
 
 pub turns-smaller : goal.turns-smaller
-turns-smaller g c = let few = few_turns c.turns.worklist.vertices.items c.turns.worklist.turns.items c.turns.invariant.state.is_opening.turns in omega arith
+turns-smaller g c = let below = turn_below c.turns.builder c.turns.at (omega arith) in let few = few_turns c.turns.invariant.state.builder_is.opened (turns_of c.turns.builder) c.turns.invariant.state.builder_is.turns in omega arith
 
 pub turns-preserved : goal.turns-preserved
 turns-preserved g c =
-    let here = subst (λ (t : Turn). get_or c.turns.worklist.turns.items c.turns.at t ≡ t) (sym c.in_ok-one.ensures) (sym c.index.ensures) in
+    let one = c.index-one.result.now in
+    let x = vertex_of c.turns.builder one in
+    let below = turn_below c.turns.builder c.turns.at (omega arith) in
+    let here = turn_here c.turns.builder c.turns.at one (omega arith) c.index-one.ensures in
     record {
-      state = step (main_in c.args.cache.now) (sums_in c.args.cache.now) c.turns.cache c.visit.new.cache (g.F.Files.state c.turns.files).asked (g.F.Files.state c.visit.new.files).asked c.turns.worklist c.visit.new.worklist c.turns.builder c.visit.new.builder c.turns.at c.in_ok-one.one.vertex c.in_ok-one.one.depth
-          c.turns.invariant.state (omega arith) here c.in_ok-visit.ensures.knows c.in_ok-visit.ensures.continues c.in_ok-visit.ensures.turns c.in_ok-visit.ensures.followed c.visit.ensures.asks;
+      state = step (main_in c.args.cache.now) (sums_in c.args.cache.now) c.turns.cache c.visit.new.cache (g.F.Files.state c.turns.files).asked (g.F.Files.state c.visit.new.files).asked c.turns.builder c.visit.new.builder c.turns.at x one.depth
+          c.turns.invariant.state below here c.in_ok-visit.ensures.knows c.in_ok-visit.ensures.continues c.in_ok-visit.ensures.turns c.in_ok-visit.ensures.followed c.visit.ensures.asks;
       may = may_along _ _ (g.F.Files.state c.args.files.now) (g.F.Files.state c.turns.files) (g.F.Files.state c.visit.new.files) c.turns.invariant.same_store c.turns.invariant.may c.visit.ensures.may;
       same_store = λ n r h. c.turns.invariant.same_store n r (c.visit.ensures.same_store n r h);
       refused = c.in_ok-visit.ensures.refused ∙ append-nil _ ∙ c.turns.invariant.refused;
@@ -35,39 +38,52 @@ turns-preserved g c =
     }
 
 pub returns-clause-opened : goal.returns-clause-opened
-returns-clause-opened g c = last_step c.args.cache.now c.turns.cache (g.F.Files.state c.turns.files).asked c.turns.worklist c.turns.builder c.turns.at c.turns.invariant.state (omega arith)
+returns-clause-opened g c = last_step c.args.cache.now c.turns.cache (g.F.Files.state c.turns.files).asked c.turns.builder c.turns.at c.turns.invariant.state (past_all c.turns.builder c.turns.at (omega arith))
 
 pub returns-clause-asks : goal.returns-clause-asks
 returns-clause-asks g c = c.turns.invariant.state.asks
 
-pub returns-in_err-one-clause-asks : goal.returns-in_err-one-clause-asks
-returns-in_err-one-clause-asks g c = c.turns.invariant.state.asks
+pub visit-requires : goal.visit-requires
+visit-requires g c = record {
+  knows = c.turns.invariant.state.knows;
+  builder = c.turns.invariant.state.builder_is;
+  below = number_here c.turns.builder c.turns.at c.index-one.result.now c.turns.invariant.state.builder_is (omega arith) c.index-one.ensures;
+}
 
 pub returns-in_err-visit-clause-asks : goal.returns-in_err-visit-clause-asks
 returns-in_err-visit-clause-asks g c =
-    let here = subst (λ (t : Turn). get_or c.turns.worklist.turns.items c.turns.at t ≡ t) (sym c.in_ok-one.ensures) (sym c.index.ensures) in
+    let one = c.index-one.result.now in
+    let x = vertex_of c.turns.builder one in
+    let below = turn_below c.turns.builder c.turns.at (omega arith) in
+    let here = turn_here c.turns.builder c.turns.at one (omega arith) c.index-one.ensures in
     let state = c.turns.invariant.state in
-    asks_more (main_in c.args.cache.now) (sums_in c.args.cache.now) c.turns.cache state.main_is state.sums_are (g.F.Files.state c.turns.files).asked state.knows c.turns.worklist.turns.items c.turns.at c.in_ok-one.one.vertex c.in_ok-one.one.depth state.queue.sound (omega arith) here
+    asks_more (main_in c.args.cache.now) (sums_in c.args.cache.now) c.turns.cache state.main_is state.sums_are (g.F.Files.state c.turns.files).asked state.knows (turns_of c.turns.builder) c.turns.at x one.depth state.queue.sound below here
     (g.F.Files.state c.visit.new.files).asked state.asks c.visit.ensures.asks
 
 pub returns-in_err-visit-clause-too_many : goal.returns-in_err-visit-clause-too_many
 returns-in_err-visit-clause-too_many g c = λ e.
-    let here = subst (λ (t : Turn). get_or c.turns.worklist.turns.items c.turns.at t ≡ t) (sym c.in_ok-one.ensures) (sym c.index.ensures) in
+    let one = c.index-one.result.now in
+    let x = vertex_of c.turns.builder one in
+    let below = turn_below c.turns.builder c.turns.at (omega arith) in
+    let here = turn_here c.turns.builder c.turns.at one (omega arith) c.index-one.ensures in
     let state = c.turns.invariant.state in
-    many_here (main_in c.args.cache.now) (sums_in c.args.cache.now) c.turns.cache state.main_is state.sums_are (g.F.Files.state c.turns.files).asked state.knows c.turns.worklist.turns.items c.turns.at c.in_ok-one.one.vertex c.in_ok-one.one.depth state.queue.sound (omega arith) here
-    (g.F.Files.state c.visit.new.files).asked c.turns.worklist state.is_opening.turns (c.in_err-visit.ensures.too_many (ap Err (sym (rw e at c.from_residual-in_err-visit.ensures.1))))
+    many_here (main_in c.args.cache.now) (sums_in c.args.cache.now) c.turns.cache state.main_is state.sums_are (g.F.Files.state c.turns.files).asked state.knows (turns_of c.turns.builder) c.turns.at x one.depth state.queue.sound below here
+    (g.F.Files.state c.visit.new.files).asked (c.in_err-visit.ensures.too_many (ap Err (sym (rw e at c.from_residual.ensures.1))))
 
 pub returns-in_err-visit-clause-device : goal.returns-in_err-visit-clause-device
 returns-in_err-visit-clause-device g c = λ name e.
-    let here = subst (λ (t : Turn). get_or c.turns.worklist.turns.items c.turns.at t ≡ t) (sym c.in_ok-one.ensures) (sym c.index.ensures) in
+    let one = c.index-one.result.now in
+    let x = vertex_of c.turns.builder one in
+    let below = turn_below c.turns.builder c.turns.at (omega arith) in
+    let here = turn_here c.turns.builder c.turns.at one (omega arith) c.index-one.ensures in
     let state = c.turns.invariant.state in
-    let said = c.in_err-visit.ensures.device name (ap Err (sym (rw e at c.from_residual-in_err-visit.ensures.1))) in
-    due_here (main_in c.args.cache.now) (sums_in c.args.cache.now) c.turns.cache state.main_is state.sums_are (g.F.Files.state c.turns.files).asked state.knows c.turns.worklist.turns.items c.turns.at c.in_ok-one.one.vertex c.in_ok-one.one.depth state.queue.sound (omega arith) here
+    let said = c.in_err-visit.ensures.device name (ap Err (sym (rw e at c.from_residual.ensures.1))) in
+    due_here (main_in c.args.cache.now) (sums_in c.args.cache.now) c.turns.cache state.main_is state.sums_are (g.F.Files.state c.turns.files).asked state.knows (turns_of c.turns.builder) c.turns.at x one.depth state.queue.sound below here
     (g.F.Files.state c.visit.new.files).asked _ said.0 said.1 said.2 said.3
 
 pub returns-in_err-visit-clause-cause : goal.returns-in_err-visit-clause-cause
 returns-in_err-visit-clause-cause g c = λ name e.
-    cause_later _ _ _ _ c.turns.invariant.later c.visit.ensures.later (c.in_err-visit.ensures.cause name (ap Err (sym (rw e at c.from_residual-in_err-visit.ensures.1))))
+    cause_later _ _ _ _ c.turns.invariant.later c.visit.ensures.later (c.in_err-visit.ensures.cause name (ap Err (sym (rw e at c.from_residual.ensures.1))))
 
 pub returns-in_err-visit-clause-later : goal.returns-in_err-visit-clause-later
 returns-in_err-visit-clause-later g c = later_both _ _ _ c.turns.invariant.later c.visit.ensures.later
@@ -77,7 +93,7 @@ returns-in_err-visit-clause-may g c = may_along _ _ (g.F.Files.state c.args.file
 
 pub returns-in_err-visit-clause-refused : goal.returns-in_err-visit-clause-refused
 returns-in_err-visit-clause-refused g c =
-    let same = refused_same c.from_residual-in_err-visit.result c.in_err-visit.field-0.0 (λ f e. rw e at c.from_residual-in_err-visit.ensures.1) c.from_residual-in_err-visit.ensures.0 in
+    let same = refused_same c.from_residual.result c.in_err-visit.field-0.0 (λ f e. rw e at c.from_residual.ensures.1) c.from_residual.ensures.0 in
     c.in_err-visit.ensures.refused
     ∙ ap (λ (ns : List Name). ns ++ refused_names c.in_err-visit.field-0.0) c.turns.invariant.refused
     ∙ ap (λ (ns : List Name). (g.F.Files.state c.args.files.now).refused ++ ns) (sym same)

@@ -6,7 +6,7 @@ use Rattle.gm_graph.proofs.loading.visit_all.Given as goal
 
 abbrev pub invariant-turns : goal.invariant-turns
 invariant-turns g l = record {
-  state : IsAt (main_in l.fn.cache) (sums_in l.fn.cache) l.cache (g.F.Files.state l.files).asked l.worklist l.builder l.at;
+  state : IsAt (main_in l.fn.cache) (sums_in l.fn.cache) l.cache (g.F.Files.state l.files).asked l.builder l.at;
   may : MayGrow (g.F.Files.may_answer l.fn.files) (g.F.Files.state l.fn.files) (g.F.Files.state l.files);
   same_store : MayLess (g.F.Files.may_answer l.files) (g.F.Files.may_answer l.fn.files);
   refused : (g.F.Files.state l.files).refused ≡ (g.F.Files.state l.fn.files).refused;

@@ -1,6 +1,5 @@
-use Rattle.std.proofs.Common.{◌⊎◌, List, ◌∷◌, Contains, arith, inl, inr, subst, sym}
+use Rattle.std.proofs.Common.{List, ◌∷◌, Contains, arith, inl, inr, subst, sym}
 use Rattle.std.specs.Vec.Iter.{into_iter_items}
-use Rattle.gm_graph_select.specs.Candidates.{IsMatched}
 use Rattle.gm_graph_select.specs.Graph.{Vertex}
 use Rattle.gm_graph_select.proofs.Ascending.{member_head, member_tail}
 use Rattle.gm_graph_select.proofs.Candidates.{one_more, only_added}

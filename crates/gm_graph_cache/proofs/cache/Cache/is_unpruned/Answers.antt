@@ -12,14 +12,14 @@ use Rattle.gm_graph_cache.proofs.cache.Cache.is_unpruned.Goals as goal
 pub returns-in-None-clause-held : goal.returns-in-None-clause-held
 returns-in-None-clause-held c =
     let none : found_in c.args.self.now.summaries (name_of c.args.name.now) ≡ None =
-    sym c.in_ok-place.ensures.place ∙ sym c.at.ensures ∙ ap (λ (o : Option (Bor Kept)). option_copied o) c.in-None.is in
-    sym (ap (λ (o : Option Kept). is_unpruned_in (said_in (option_map summary_reading o))) none)
+    sym c.find.ensures ∙ ap (λ (o : Option (Bor Kept)). option_copied o) c.in-None.is in
+    sym (ap (λ (o : Option Kept). is_unpruned_in (said_in (option_map (summary_reading c.args.self.now.modules) o))) none)
 
 pub returns-in-Some-clause-held : goal.returns-in-Some-clause-held
 returns-in-Some-clause-held c =
     let some : found_in c.args.self.now.summaries (name_of c.args.name.now) ≡ Some c.in-Some.kept.now =
-    sym c.in_ok-place.ensures.place ∙ sym c.at.ensures ∙ ap (λ (o : Option (Bor Kept)). option_copied o) c.in-Some.is in
-    c.is_unpruned.ensures ∙ sym (ap (λ (o : Option Kept). is_unpruned_in (said_in (option_map summary_reading o))) some)
+    sym c.find.ensures ∙ ap (λ (o : Option (Bor Kept)). option_copied o) c.in-Some.is in
+    c.is_unpruned.ensures c.args.self.now.modules ∙ sym (ap (λ (o : Option Kept). is_unpruned_in (said_in (option_map (summary_reading c.args.self.now.modules) o))) some)
 
 pub returns-in-None-clause-vertex : goal.returns-in-None-clause-vertex
 returns-in-None-clause-vertex c = λ x lender.

@@ -1,6 +1,7 @@
-use Rattle.std.proofs.Common.{inr}
+use Rattle.std.proofs.Common.{inr, refl}
 use Rattle.gm_store.specs.Asked.{name_of}
 use Rattle.gm_graph_cache.proofs.Growing.{may_more, may_same}
+use Rattle.gm_graph_cache.proofs.Keeping.{holds_grown}
 use Rattle.gm_graph_cache.proofs.cache.Cache.read_file.Goals as goal
 
 pub returns-in_err-ask-clause-may : goal.returns-in_err-ask-clause-may
@@ -17,7 +18,13 @@ returns-clause-may g c =
     may_more _ (g.F.Files.state c.args.files.now) (g.F.Files.state c.ask.new.self) (name_of c.args.name.now) reply may adds
 
 pub returns-in_err-kept-clause-asks : goal.returns-in_err-kept-clause-asks
-returns-in_err-kept-clause-asks g c = let (reply, _, adds) = c.in_ok-ask.ensures.ok in inr (reply, c.requires, adds)
+returns-in_err-kept-clause-asks g c = let (reply, _, adds) = c.in_ok-ask.ensures.ok in inr (reply, c.requires.fresh, adds)
 
 pub returns-clause-asks : goal.returns-clause-asks
-returns-clause-asks g c = let (reply, _, adds) = c.in_ok-ask.ensures.ok in inr (reply, c.requires, adds)
+returns-clause-asks g c = let (reply, _, adds) = c.in_ok-ask.ensures.ok in inr (reply, c.requires.fresh, adds)
+
+pub returns-in_err-kept-clause-unchanged : goal.returns-in_err-kept-clause-unchanged
+returns-in_err-kept-clause-unchanged g c = record { turns = refl; holds = holds_grown c.args.self.now _ refl refl (λ _. refl) c.summarize.ensures.grows c.requires.lends }
+
+pub returns-clause-unchanged : goal.returns-clause-unchanged
+returns-clause-unchanged g c = record { turns = refl; holds = holds_grown c.args.self.now _ refl refl (λ _. refl) c.summarize.ensures.grows c.requires.lends }

@@ -9,11 +9,11 @@ use Rattle.gm_graph_cache.proofs.summaries.Summaries.find.Goals as goal
 pub returns-in-Some : goal.returns-in-Some
 returns-in-Some c =
     let old = c.args.self.now in
-    let name = name_of c.args.key.now.name in
+    let name = name_of c.args.name.now in
     sym (in_newest name old.newest (kept_at old.earlier name) c.in-Some.kept.now (sym c.newest_of.ensures ∙ ap (λ (o : Option (Bor Kept)). option_copied o) c.in-Some.is))
 
 pub returns-in-None : goal.returns-in-None
 returns-in-None c =
     let old = c.args.self.now in
-    let name = name_of c.args.key.now.name in
+    let name = name_of c.args.name.now in
     c.get.ensures ∙ sym (in_earlier name old.newest (kept_at old.earlier name) (sym c.newest_of.ensures ∙ ap (λ (o : Option (Bor Kept)). option_copied o) c.in-None.is))

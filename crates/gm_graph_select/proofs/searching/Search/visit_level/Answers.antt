@@ -2,8 +2,9 @@ use Rattle.std.proofs.Common.{◌≡◌, ◌++◌, [], List, Contains, get_or, l
 use Rattle.std.proofs.lemmas.Grind.{common_steps}
 use Rattle.std.proofs.lemmas.List.{get_or_default}
 use Rattle.std.proofs.lemmas.List.Elements.{Contains-get_or}
+use Rattle.gm_graph_select.specs.Adjacency.{vertex_at}
 use Rattle.gm_graph_select.specs.declared.searching.Visit.{Visit}
-use Rattle.gm_graph_select.specs.Numbering.{source_edges, steps_of}
+use Rattle.gm_graph_select.specs.Numbering.{graph_edges, steps_of}
 use Rattle.gm_graph_select.specs.Searching.{AreTried, IsTraced, state_of, visit_at}
 use Rattle.gm_graph_select.proofs.BreadthFirst.{due_next, level_begins, traced_more, tried_more, tried_none}
 use Rattle.gm_graph_select.proofs.searching.Search.visit_level.Goals as goal
@@ -14,7 +15,7 @@ loop-visit-init c =
     record {
       size = h.size;
       traced = h.traced;
-      followed = λ level h. ([], tried_none c.args.sources.now c.args.due.now, level_begins c.args.sources.now c.args.goal.now level (state_of c.args.self.now) c.args.due.now h);
+      followed = λ level h. ([], tried_none c.args.graph.now c.args.due.now, level_begins c.args.graph.now (vertex_at c.args.graph.now.vertices c.args.goal) level (state_of c.args.self.now) c.args.due.now h);
     }
 
 pub visit-requires-clause-inside : goal.visit-requires-clause-inside
@@ -31,14 +32,14 @@ returns-then-branch-clause-found c = λ e.
     let v = visit_at due i in
     let member : Contains due v = Contains-get_or due i (record { number = 0; before = 0 }) (omega arith) in
     c.in_ok-visit.ensures.found c.if-branch.true level c.args.self.now.is_found.items tried
-    (due_next c.args.sources.now c.args.goal.now level (state_of c.args.self.now) (state_of c.loop-visit.self) due tried i v c.requires.sources h (omega arith)
+    (due_next c.args.graph.now (vertex_at c.args.graph.now.vertices c.args.goal) level (state_of c.args.self.now) (state_of c.loop-visit.self) due tried i v c.requires.graph h (omega arith)
     (get_or_default due i (record { number = 0; before = 0 }) v (omega arith)) all (c.loop-visit.invariant.traced v member) f)
 
 pub loop-visit-preserved : goal.loop-visit-preserved
 loop-visit-preserved c = record {
   size = c.visit.ensures.size;
-  traced = λ w h. subst (λ (vs : List Visit). IsTraced (source_edges c.args.sources.now) (steps_of c.args.sources.now) vs (length vs) w) (sym c.in_ok-visit.ensures.visits)
-      (traced_more (source_edges c.args.sources.now) (steps_of c.args.sources.now) c.loop-visit.self.visits.items (visit_at c.args.due.now c.loop-visit.visit-index) w (c.loop-visit.invariant.traced w h));
+  traced = λ w h. subst (λ (vs : List Visit). IsTraced (graph_edges c.args.graph.now) (steps_of c.args.graph.now) vs (length vs) w) (sym c.in_ok-visit.ensures.visits)
+      (traced_more (graph_edges c.args.graph.now) (steps_of c.args.graph.now) c.loop-visit.self.visits.items (visit_at c.args.due.now c.loop-visit.visit-index) w (c.loop-visit.invariant.traced w h));
   followed = λ level h.
       let (tried, all, f) = c.loop-visit.invariant.followed level h in
       let due = c.args.due.now in
@@ -47,12 +48,12 @@ loop-visit-preserved c = record {
       let is : v ≡ get_or due i v = get_or_default due i (record { number = 0; before = 0 }) v (omega arith) in
       let member : Contains due v = Contains-get_or due i (record { number = 0; before = 0 }) (omega arith) in
       let (more, g, new) = c.in_ok-visit.ensures.missed c.if-branch.false level c.args.self.now.is_found.items tried
-      (due_next c.args.sources.now c.args.goal.now level (state_of c.args.self.now) (state_of c.loop-visit.self) due tried i v c.requires.sources h (omega arith) is all (c.loop-visit.invariant.traced v member) f) in
-      (tried ++ more, tried_more c.args.sources.now due i v tried more (omega arith) is all new, g);
+      (due_next c.args.graph.now (vertex_at c.args.graph.now.vertices c.args.goal) level (state_of c.args.self.now) (state_of c.loop-visit.self) due tried i v c.requires.graph h (omega arith) is all (c.loop-visit.invariant.traced v member) f) in
+      (tried ++ more, tried_more c.args.graph.now due i v tried more (omega arith) is all new, g);
 }
 
 pub returns-clause-missed : goal.returns-clause-missed
 returns-clause-missed c = λ e level h.
     let (tried, all, f) = c.loop-visit.invariant.followed level h in
     let whole : take c.loop-visit.visit-index c.args.due.now ≡ c.args.due.now = grind (arith, common_steps) in
-    (tried, subst (λ (due : List Visit). AreTried c.args.sources.now due tried) whole all, f)
+    (tried, subst (λ (due : List Visit). AreTried c.args.graph.now due tried) whole all, f)

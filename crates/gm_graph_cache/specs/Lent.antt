@@ -1,0 +1,9 @@
+-- The requirements that a cache returns.
+use Rattle.std.specs.Prelude.{List}
+use Rattle.gm_graph_cache.specs.declared.lent.Lent.{Lent}
+use Rattle.gm_graph_cache.specs.Main.{ModuleVersion}
+use Rattle.gm_graph_cache.specs.Summaries.{at_span}
+
+-- the requirements, in order
+abbrev pub lent_modules : Lent → List ModuleVersion
+lent_modules lent = at_span lent.modules.now lent.span

@@ -1,0 +1,297 @@
+-- Adjacency lists by ranks: they have the same edges, in ascending order.
+use Rattle.std.proofs.Common.{◌≡◌, ◌+◌, ◌<◌, ℕ, zero, suc, Bool, true, false, List, [], ◌∷◌, ◌++◌, Option, Some, None, length, map, set, take, drop, get_or, Contains, ap, ap₂, ◌∙◌, sym, refl, subst, inl, inr, arith}
+use Rattle.std.specs.Prelude.{All, AllPairs}
+use Rattle.std.specs.declared.cmp.Ordering.{Ordering}
+use Rattle.std.specs.declared.cmp.Ordering.TheVariants.{Less, Equal, Greater}
+use Rattle.std.specs.Cmp.{IsTotalOrder, nat_cmp_total, on_total}
+use Rattle.std.specs.Cmp.Lexicographic.{options_total}
+use Rattle.std.specs.FinMap.{nat_cmp-IsAntisymmetric}
+use Rattle.std.specs.List.{AllZip, IsDistinct}
+use Rattle.std.specs.List.Sorted.{IsPermutation, IsSortedByKey}
+use Rattle.std.specs.Option.{option_cmp, option_map}
+use Rattle.std.specs.Ordering.{is_eq, is_lt, nat_cmp, ordering_reverse, ordering_then}
+use Rattle.std.proofs.lemmas.Bool.{cases_Bool, false≢true}
+use Rattle.std.proofs.lemmas.Cmp.{ranked}
+use Rattle.std.proofs.lemmas.List.{drop-drop, drop-set-lt, drop_more, get_or-map, get_or_default, length-map, take_more_set}
+use Rattle.std.proofs.lemmas.List.Elements.{All-cons, All-contains, All-head, All-nil, All-tail, AllZip-get_or, all_zip_more, Contains-append_cases, Contains-append_left, Contains-append_right, Contains-get_or, length_all_zip}
+use Rattle.std.proofs.lemmas.List.Kept.{AllPairs-cons}
+use Rattle.std.proofs.lemmas.List.Sorted.{All-permutation, Contains-permutation, IsPermutation-sym}
+use Rattle.std.proofs.lemmas.Map.Keys.{IsDistinct-IsPermutation, IsDistinct-from_apart, apart_from_distinct}
+use Rattle.gm_graph_select.specs.declared.adjacency.Adjacency.{Adjacency}
+use Rattle.gm_graph_select.specs.declared.step.Edge.{Edge}
+use Rattle.gm_graph_select.specs.declared.step.Step.{Step}
+use Rattle.gm_graph_select.specs.declared.step.Step.TheVariants.{Of}
+use Rattle.gm_graph_select.specs.Adjacency.{AreByRanks, HaveNumbers, AreRanked, HasRanks, IsBelow, IsNumbered, LeavesLower, edges_from, edges_of, left_by, rank_of, same_step, step_with, vertex_at}
+use Rattle.gm_graph_select.specs.Graph.{Vertex, edge, edge_cmp, step_cmp, vertex_cmp}
+use Rattle.gm_graph_select.specs.Order.{HaveSame, IsAscending}
+use Rattle.gm_graph_select.specs.Ranking.{AreRanks}
+use Rattle.gm_graph_select.specs.StepOrder.{step_eq, step_equiv}
+use Rattle.gm_graph_select.proofs.Ascending.{member_head, member_tail, pairs_head, pairs_tail}
+use Rattle.gm_graph_select.proofs.Ranges.{step_itself}
+use Rattle.gm_graph_select.proofs.Sorts.{from_adjacent}
+
+-- ---- mapped lists
+
+pub in_mapped : {X Y : Type 0} (f : X → Y) (xs : List X) (x : X) → Contains xs x → Contains (map f xs) (f x)
+in_mapped f xs x (k, below, is) = (k, rw length-map below, get_or-map f xs k x (f x) below ∙ ap f is)
+
+pub from_mapped : {X Y : Type 0} (f : X → Y) (xs : List X) (y : Y) → Contains (map f xs) y → (x : X) × Contains xs x × (f x ≡ y)
+from_mapped f [] y h = absurd (omega (arith, h.1))
+from_mapped f (x ∷ xs) y (zero, below, is) = (x, (0, omega arith, refl), is)
+from_mapped f (x ∷ xs) y (suc k, below, is) = let (z, (j, under, at), e) = from_mapped f xs y (k, omega arith, is) in (z, (suc j, omega arith, at), e)
+
+-- the edge of a number
+abbrev leading : List Vertex → Adjacency → ℕ → Edge
+leading vertices one number = edge (left_by vertices one) (vertex_at vertices number)
+
+-- ---- the edges of adjacency lists
+
+pub edges_each : (vertices : List Vertex) (all : List Adjacency) (one : Adjacency) (e : Edge) → Contains all one → Contains (edges_from vertices one) e → Contains (edges_of vertices all) e
+edges_each vertices [] one e there h = absurd (omega (arith, there.1))
+edges_each vertices (first ∷ all) one e (zero, below, is) h = Contains-append_left (edges_from vertices first) (edges_of vertices all) e (subst (λ (o : Adjacency). Contains (edges_from vertices o) e) (sym is) h)
+edges_each vertices (first ∷ all) one e (suc k, below, is) h = Contains-append_right (edges_from vertices first) (edges_of vertices all) e (edges_each vertices all one e (k, omega arith, is) h)
+
+pub edges_only : (vertices : List Vertex) (all : List Adjacency) (e : Edge) → Contains (edges_of vertices all) e → (one : Adjacency) × Contains all one × Contains (edges_from vertices one) e
+edges_only vertices [] e h = absurd (omega (arith, h.1))
+edges_only vertices (first ∷ all) e h = elim (Contains-append_cases (edges_from vertices first) (edges_of vertices all) e h) [
+  | inl here ↦ (first, (0, omega arith, refl), here)
+  | inr later ↦ (let (one, (k, below, is), at) = edges_only vertices all e later in (one, (suc k, omega arith, is), at))
+]
+
+-- Adjacency lists in another order have the same edges.
+edges_permuted : (vertices : List Vertex) (old new : List Adjacency) → IsPermutation old new → HaveSame (edges_of vertices old) (edges_of vertices new)
+edges_permuted vertices old new same e = (along old new same, along new old (IsPermutation-sym old new same))
+  where
+    along : (a b : List Adjacency) → IsPermutation a b → Contains (edges_of vertices a) e → Contains (edges_of vertices b) e
+    along a b is h = let (one, there, at) = edges_only vertices a e h in edges_each vertices b one e (Contains-permutation a b one is there) at
+
+same_append : {T : Type 0} (xs ys us vs : List T) → HaveSame xs ys → HaveSame us vs → HaveSame (xs ++ us) (ys ++ vs)
+same_append {T} xs ys us vs front back x = (
+  along xs ys us vs (λ h. (front x).0 h) (λ h. (back x).0 h),
+  along ys xs vs us (λ h. (front x).1 h) (λ h. (back x).1 h),
+)
+  where
+    along : (olds news cs ds : List T) → (Contains olds x → Contains news x) → (Contains cs x → Contains ds x) → Contains (olds ++ cs) x → Contains (news ++ ds) x
+    along olds news cs ds f g h = elim (Contains-append_cases olds cs x h) [
+      | inl here ↦ Contains-append_left news ds x (f here)
+      | inr later ↦ Contains-append_right news ds x (g later)
+    ]
+
+-- ---- ascending edges
+
+-- pairs within two lists and between them
+pairs_append : {T : Type 0} (R : T → T → Type 0) (xs ys : List T) → AllPairs R xs → AllPairs R ys → ((x y : T) → Contains xs x → Contains ys y → R x y) → AllPairs R (xs ++ ys)
+pairs_append R [] ys a b between = b
+pairs_append {T} R (x ∷ xs) ys a b between =
+    AllPairs-cons R x (xs ++ ys) firsts (pairs_append R xs ys (pairs_tail R x xs a) b (λ y z h k. between y z (member_tail x y xs h) k))
+  where
+    firsts : All (R x) (xs ++ ys)
+    firsts k d below = elim (Contains-append_cases xs ys (get_or (xs ++ ys) k d) (Contains-get_or (xs ++ ys) k d below)) [
+      | inl h ↦ pairs_head R x (get_or (xs ++ ys) k d) xs a h
+      | inr h ↦ between x (get_or (xs ++ ys) k d) (member_head x xs) h
+    ]
+
+pub lower_number : (a b : ℕ) → nat_cmp a b ≡ Less → a < b
+lower_number a b e = ranked a b Less (sym e)
+
+module _ (vertices : List Vertex) (up : IsAscending vertex_cmp vertices) where
+  to_ascends : (s : Step) (to : List ℕ) → IsAscending nat_cmp to → All (λ n. n < length vertices) to → IsAscending edge_cmp (map (λ (n : ℕ). edge s (vertex_at vertices n)) to)
+  to_ascends s to ranks within i j d lt below =
+      let lead = λ (n : ℕ). edge s (vertex_at vertices n) in
+      let inside : j < length to = rw length-map at below in
+      let a = get_or to i 0 in
+      let b = get_or to j 0 in
+      ap₂ edge_cmp (get_or-map lead to i 0 d (omega arith)) (get_or-map lead to j 0 d inside)
+      ∙ ap (λ (o : Ordering). ordering_then o (vertex_cmp (vertex_at vertices a) (vertex_at vertices b))) (step_itself s)
+      ∙ up a b ([], []) (lower_number a b (ranks i j 0 lt inside)) (within j 0 inside)
+
+  lower_step : (a b : Option ℕ) → IsBelow (length vertices) b → option_cmp nat_cmp a b ≡ Less → step_cmp (step_with vertices a) (step_with vertices b) ≡ Less
+  lower_step None None within e = absurd (cc e)
+  lower_step None (Some b) within e = refl
+  lower_step (Some a) None within e = absurd (cc e)
+  lower_step (Some a) (Some b) within e = up a b ([], []) (lower_number a b e) within
+
+  edges_ascend : (all : List Adjacency) → HaveNumbers (length vertices) all → AllPairs LeavesLower all → All (λ (one : Adjacency). IsAscending nat_cmp one.to.items) all → IsAscending edge_cmp (edges_of vertices all)
+  edges_ascend [] numbered lower each = λ i j d lt below. absurd (omega (arith, below))
+  edges_ascend (one ∷ all) numbered lower each =
+      pairs_append (λ (a b : Edge). edge_cmp a b ≡ Less) (edges_from vertices one) (edges_of vertices all)
+      (to_ascends (left_by vertices one) one.to.items (All-head (λ (o : Adjacency). IsAscending nat_cmp o.to.items) one all each) (All-head (IsNumbered (length vertices)) one all numbered).to)
+      (edges_ascend all (All-tail (IsNumbered (length vertices)) one all numbered) (pairs_tail LeavesLower one all lower) (All-tail (λ (o : Adjacency). IsAscending nat_cmp o.to.items) one all each))
+      between
+    where
+      between : (a b : Edge) → Contains (edges_from vertices one) a → Contains (edges_of vertices all) b → edge_cmp a b ≡ Less
+      between a b h k =
+          let (n, there, is) = from_mapped (leading vertices one) one.to.items a h in
+          let (other, later, at) = edges_only vertices all b k in
+          let (m, found, same) = from_mapped (leading vertices other) other.to.items b at in
+          let numbers = All-contains (IsNumbered (length vertices)) all other (All-tail (IsNumbered (length vertices)) one all numbered) later in
+          ap₂ edge_cmp (sym is) (sym same)
+          ∙ ap (λ (o : Ordering). ordering_then o (vertex_cmp (vertex_at vertices n) (vertex_at vertices m))) (lower_step one.from other.from numbers.from (pairs_head LeavesLower one other all lower later))
+
+-- The edges of a graph by ranks are in ascending order.
+pub ranked_edges_ascend : (vertices : List Vertex) (all : List Adjacency) → AreRanked vertices all → IsAscending edge_cmp (edges_of vertices all)
+ranked_edges_ascend vertices all are = edges_ascend vertices are.vertices_ascend all are.numbered are.lists_ascend are.each_ascends
+
+-- ---- sorted lists
+
+abbrev same_from : Adjacency → Adjacency → Bool
+same_from a b = is_eq (option_cmp nat_cmp a.from b.from)
+
+later_list : (r : Ordering) → is_lt (ordering_reverse r) ≡ false → is_eq r ≡ false → r ≡ Less
+later_list Less e f = refl
+later_list Equal e f = absurd (cc f)
+later_list Greater e f = absurd (cc e)
+
+options : IsTotalOrder (option_cmp nat_cmp)
+options = options_total nat_cmp_total
+
+lists_order : IsTotalOrder (λ (a b : Adjacency). option_cmp nat_cmp a.from b.from)
+lists_order = on_total (λ (one : Adjacency). one.from) options
+
+lists_ascend : (all : List Adjacency) → IsSortedByKey (λ (one : Adjacency). one.from) (option_cmp nat_cmp) all → IsDistinct same_from all → AllPairs LeavesLower all
+lists_ascend all sorted distinct = from_adjacent lists_order all (λ k d inside.
+    let a = get_or all k d in
+    let b = get_or all (k + 1) d in
+    let apart = apart_from_distinct same_from all k (k + 1) d distinct (omega arith) inside in
+    let low : is_lt (ordering_reverse (option_cmp nat_cmp a.from b.from)) ≡ false = ap is_lt (sym (options.antisymm b.from a.from)) ∙ sorted k d (omega arith) inside in
+    sym (ap is_lt (later_list (option_cmp nat_cmp a.from b.from) low apart)))
+
+eq_flips : (r : Ordering) → is_eq (ordering_reverse r) ≡ is_eq r
+eq_flips Less = refl
+eq_flips Equal = refl
+eq_flips Greater = refl
+
+from_flips : (a b : Adjacency) → same_from a b ≡ same_from b a
+from_flips a b = ap is_eq (options.antisymm a.from b.from) ∙ eq_flips (option_cmp nat_cmp b.from a.from)
+
+tie : (r : Ordering) → is_eq r ≡ true → r ≡ Equal
+tie Less e = absurd (cc e)
+tie Equal e = refl
+tie Greater e = absurd (cc e)
+
+same_options : (p q : Option ℕ) → is_eq (option_cmp nat_cmp p q) ≡ true → p ≡ q
+same_options None None e = refl
+same_options None (Some b) e = absurd (cc e)
+same_options (Some a) None e = absurd (cc e)
+same_options (Some a) (Some b) e = ap Some (nat_cmp-IsAntisymmetric a b (tie (nat_cmp a b) e))
+
+-- ---- one more list with ranks
+
+-- A list that was not changed yet.
+pub same_here : (now old : List Adjacency) (i : ℕ) (d : Adjacency) → length now ≡ length old → i < length old → drop i now ≡ drop i old → get_or now i d ≡ get_or old i d
+same_here now old i d size inside rest =
+    let first : i < length now = omega (arith, size) in
+    first_is (get_or now i d) (get_or old i d) (drop (i + 1) now) (drop (i + 1) old) (sym (drop_more now i d first) ∙ rest ∙ drop_more old i d inside)
+  where
+    first_is : (a b : Adjacency) (xs ys : List Adjacency) → a ∷ xs ≡ b ∷ ys → a ≡ b
+    first_is a b xs ys e = cc
+
+-- Those after it.
+pub same_rest : (now old : List Adjacency) (i : ℕ) (new : Adjacency) → drop i now ≡ drop i old → drop (i + 1) (set now i new) ≡ drop (i + 1) old
+same_rest now old i new rest = drop-set-lt (i + 1) now i new (omega arith) ∙ sym (drop-drop 1 i now) ∙ ap (λ (all : List Adjacency). drop 1 all) rest ∙ drop-drop 1 i old
+
+pub zip_step : (ranks : List ℕ) (old now : List Adjacency) (i : ℕ) (one new : Adjacency) → i < length old → i < length now → AllZip (HasRanks ranks) (take i old) (take i now) → HasRanks ranks (get_or old i one) new → AllZip (HasRanks ranks) (take (i + 1) old) (take (i + 1) (set now i new))
+zip_step ranks old now i one new inside within front has =
+    subst (λ (all : List Adjacency). AllZip (HasRanks ranks) (take (i + 1) old) all) (sym (take_more_set now i new within))
+    (all_zip_more (HasRanks ranks) old (take i now) i (get_or old i one) new inside (get_or_default old i one (get_or old i one) inside) front has)
+
+-- ---- lists with ranks in the places of numbers
+
+module _ (vertices ordered : List Vertex) (ranks : List ℕ) (are : AreRanks vertices ordered ranks) where
+  step_kept : (from : Option ℕ) → IsBelow (length vertices) from → step_with ordered (option_map (rank_of ranks) from) ≡ step_with vertices from
+  step_kept None within = refl
+  step_kept (Some number) within = ap Of (are.same number within)
+
+  below_kept : (from : Option ℕ) → IsBelow (length vertices) from → IsBelow (length ordered) (option_map (rank_of ranks) from)
+  below_kept None within = within
+  below_kept (Some number) within = are.within number within
+
+  module _ (old new : Adjacency) (numbered : IsNumbered (length vertices) old) (has : HasRanks ranks old new) where
+    left_kept : left_by ordered new ≡ left_by vertices old
+    left_kept = ap (λ (from : Option ℕ). step_with ordered from) has.from ∙ step_kept old.from numbered.from
+
+    edge_kept : (number : ℕ) → Contains old.to.items number → leading ordered new (rank_of ranks number) ≡ leading vertices old number
+    edge_kept number held = ap₂ edge left_kept (are.same number (All-contains (λ (n : ℕ). n < length vertices) old.to.items number numbered.to held))
+
+    same_edges_from : HaveSame (edges_from vertices old) (edges_from ordered new)
+    same_edges_from e = (there, back)
+      where
+        there : Contains (edges_from vertices old) e → Contains (edges_from ordered new) e
+        there h =
+            let (number, held, is) = from_mapped (leading vertices old) old.to.items e h in
+            let found = (has.members (rank_of ranks number)).0 (in_mapped (rank_of ranks) old.to.items number held) in
+            subst (λ (f : Edge). Contains (edges_from ordered new) f) (edge_kept number held ∙ is) (in_mapped (leading ordered new) new.to.items (rank_of ranks number) found)
+
+        back : Contains (edges_from ordered new) e → Contains (edges_from vertices old) e
+        back h =
+            let (rank, held, is) = from_mapped (leading ordered new) new.to.items e h in
+            let (number, found, at) = from_mapped (rank_of ranks) old.to.items rank ((has.members rank).1 held) in
+            subst (λ (f : Edge). Contains (edges_from vertices old) f) (sym (edge_kept number found) ∙ ap (λ (n : ℕ). leading ordered new n) at ∙ is) (in_mapped (leading vertices old) old.to.items number found)
+
+    numbered_kept : IsNumbered (length ordered) new
+    numbered_kept = record {
+      from = subst (λ (from : Option ℕ). IsBelow (length ordered) from) (sym has.from) (below_kept old.from numbered.from);
+      to = λ k d below.
+          let rank = get_or new.to.items k d in
+          let (number, found, at) = from_mapped (rank_of ranks) old.to.items rank ((has.members rank).1 (Contains-get_or new.to.items k d below)) in
+          subst (λ (n : ℕ). n < length ordered) at (are.within number (All-contains (λ (n : ℕ). n < length vertices) old.to.items number numbered.to found));
+    }
+
+  all_same : (old new : List Adjacency) → HaveNumbers (length vertices) old → AllZip (HasRanks ranks) old new → HaveSame (edges_of vertices old) (edges_of ordered new)
+  all_same [] [] numbered zip = λ e. ((λ h. h), (λ h. h))
+  all_same [] (b ∷ news) numbered zip = absurd zip
+  all_same (a ∷ olds) [] numbered zip = absurd zip
+  all_same (a ∷ olds) (b ∷ news) numbered (one, rest) =
+      same_append (edges_from vertices a) (edges_from ordered b) (edges_of vertices olds) (edges_of ordered news)
+      (same_edges_from a b (All-head (IsNumbered (length vertices)) a olds numbered) one)
+      (all_same olds news (All-tail (IsNumbered (length vertices)) a olds numbered) rest)
+
+  all_numbered : (old new : List Adjacency) → HaveNumbers (length vertices) old → AllZip (HasRanks ranks) old new → HaveNumbers (length ordered) new
+  all_numbered [] [] numbered zip = All-nil (IsNumbered (length ordered))
+  all_numbered [] (b ∷ news) numbered zip = absurd zip
+  all_numbered (a ∷ olds) [] numbered zip = absurd zip
+  all_numbered (a ∷ olds) (b ∷ news) numbered (one, rest) =
+      All-cons (IsNumbered (length ordered)) b news
+      (numbered_kept a b (All-head (IsNumbered (length vertices)) a olds numbered) one)
+      (all_numbered olds news (All-tail (IsNumbered (length vertices)) a olds numbered) rest)
+
+  each_ascends : (old new : List Adjacency) → AllZip (HasRanks ranks) old new → All (λ (one : Adjacency). IsAscending nat_cmp one.to.items) new
+  each_ascends [] [] zip = All-nil (λ (one : Adjacency). IsAscending nat_cmp one.to.items)
+  each_ascends [] (b ∷ news) zip = absurd zip
+  each_ascends (a ∷ olds) [] zip = absurd zip
+  each_ascends (a ∷ olds) (b ∷ news) (one, rest) = All-cons (λ (one : Adjacency). IsAscending nat_cmp one.to.items) b news one.ascending (each_ascends olds news rest)
+
+  -- Lists that leave different steps have different ranks.
+  same_left : (a b x y : Adjacency) → IsNumbered (length vertices) a → IsNumbered (length vertices) b → HasRanks ranks a x → HasRanks ranks b y → same_from x y ≡ true → same_step vertices a b ≡ true
+  same_left a b x y of_a of_b to_x to_y e =
+      let same : left_by vertices a ≡ left_by vertices b =
+      sym (left_kept a x of_a to_x) ∙ ap (λ (from : Option ℕ). step_with ordered from) (same_options x.from y.from e) ∙ left_kept b y of_b to_y in
+      ap (λ (s : Step). step_eq (left_by vertices a) s) (sym same) ∙ step_equiv.refl (left_by vertices a)
+
+  apart_kept : (old new : List Adjacency) → HaveNumbers (length vertices) old → AllZip (HasRanks ranks) old new → IsDistinct (same_step vertices) old → IsDistinct same_from new
+  apart_kept old new numbered zip distinct = IsDistinct-from_apart same_from new apart
+    where
+      apart : (i j : ℕ) (d : Adjacency) → i < j → j < length new → same_from (get_or new i d) (get_or new j d) ≡ false
+      apart i j d lt below =
+          let inside : j < length old = omega (arith, below, length_all_zip (HasRanks ranks) old new zip) in
+          elim (cases_Bool (same_from (get_or new i d) (get_or new j d))) [
+            | inl same ↦ absurd (false≢true (sym (apart_from_distinct (same_step vertices) old i j d distinct lt inside)
+                ∙ same_left (get_or old i d) (get_or old j d) (get_or new i d) (get_or new j d) (numbered i d (omega arith)) (numbered j d inside)
+                (AllZip-get_or (HasRanks ranks) old new i d d zip (omega arith)) (AllZip-get_or (HasRanks ranks) old new j d d zip inside) same))
+            | inr other ↦ other
+          ]
+
+  module _ (old new : List Adjacency) (numbered : HaveNumbers (length vertices) old) (by : AreByRanks ranks old new) where
+    pub same_edges : HaveSame (edges_of vertices old) (edges_of ordered new)
+    same_edges e =
+        let first = all_same old by.lists numbered by.each e in
+        let second = edges_permuted ordered by.lists new by.permutation e in
+        ((λ h. second.0 (first.0 h)), (λ h. first.1 (second.1 h)))
+
+    pub lists_are_ranked : IsAscending vertex_cmp ordered → IsDistinct (same_step vertices) old → AreRanked ordered new
+    lists_are_ranked up distinct = record {
+      vertices_ascend = up;
+      numbered = All-permutation (IsNumbered (length ordered)) by.lists new by.permutation (all_numbered old by.lists numbered by.each);
+      lists_ascend = lists_ascend new by.sorted (IsDistinct-IsPermutation same_from from_flips by.lists new by.permutation (apart_kept old by.lists numbered by.each distinct));
+      each_ascends = All-permutation (λ (one : Adjacency). IsAscending nat_cmp one.to.items) by.lists new by.permutation (each_ascends old by.lists by.each);
+    }
