@@ -1,13 +1,11 @@
 -- Facts about how the program ends.
-use Rattle.std.proofs.Common.{◌≡◌, ◌∙◌, ◌++◌, ◌∷◌, ℕ, IfOk, List, [], Option, None, Some, Result, Ok, Contains, ap, codes, false, inl, inr, string_bytes, subst, sym, true}
-use Rattle.std.specs.Global.{Vec}
+use Rattle.std.proofs.Common.{◌≡◌, ◌∙◌, ◌++◌, ◌∷◌, ℕ, List, [], Option, None, Some, Contains, ap, codes, false, inl, inr, subst, sym, true}
 use Rattle.std.specs.Str.{IsUtf8}
-use Rattle.gm_store.specs.Asked.{Name, Reply, absent, answer_in, list_file, reply_for}
-use Rattle.gm_store.specs.Memory.{held_at, may_give}
-use Rattle.gm_store.specs.Openings.{MayRead, Opening}
+use Rattle.gm_store.specs.Asked.{Name, Reply, answer_in, list_file, reply_for}
+use Rattle.gm_store.specs.Memory.{may_give}
+use Rattle.gm_store.specs.Openings.{Opening}
 use Rattle.gm_store.specs.declared.proxy_list.ProxyList.{ProxyList}
 use Rattle.gm_store.specs.declared.memory_files.MemoryFiles.{MemoryFiles}
-use Rattle.gm_store.specs.declared.reading.ReadFault.{ReadFault}
 use Rattle.gomod_words.specs.declared.usage.Command.TheVariants.{Fmt, Edit, Versions, Graph, List as Rows, Chain}
 use Rattle.gomod_words.specs.Usage.{AskFor, IsFaultOf, IsLineOf, unreadable_text}
 use Rattle.gomod_words.specs.declared.usage.UsageFault.{UsageFault}
@@ -16,7 +14,7 @@ use Rattle.gomod_words.specs.declared.usage.Command.{Command}
 use Rattle.gomod_words.specs.declared.usage.Places.{Places}
 use Rattle.gm_graph_listing.specs.Outcomes.{Outcome, longest}
 use Rattle.gomod_run.specs.Held.{HoldsOne}
-use Rattle.gomod_run.specs.Program.{AreOfOneFile, IsFolderOutcome, IsInputOutcome, IsUnreadableWords, IsProgramOutcome, IsProgramStatus, IsReadOutcome, IsServed, IsWordsOutcome, MayBeTold, usage_outcome}
+use Rattle.gomod_run.specs.Program.{AreOfOneFile, IsFolderOutcome, IsInputOutcome, IsUnreadableWords, IsProgramOutcome, IsProgramStatus, IsServed, IsWordsOutcome, MayBeTold, usage_outcome}
 use Rattle.gm_store.specs.States.{StoreState}
 use Rattle.gomod_run.specs.Runs.{IsRunOutcome, Needs, StatesOutcome, is_over_file, is_query}
 use Rattle.gomod_run.specs.Queries.{RunsTo}
@@ -69,11 +67,6 @@ pub unreadable_ends : (may_open : List ℕ → Opening → Type 0) (fault : Usag
 unreadable_ends may_open fault out out' report report' status is ends =
     ends_weaken (λ outcome. outcome ≡ usage_outcome fault) (IsProgramOutcome may_open) out out' report report' status (λ outcome same. inr (fault, is, same)) ends
 
--- an end with an equal status is the same end
-pub same_status : (may_open : List ℕ → Opening → Type 0) (out out' report report' : SinkState) (status code : ℕ) → code ≡ status → EndsAsStated (IsProgramOutcome may_open) out out' report report' status
-    → EndsAsStated (IsProgramOutcome may_open) out out' report report' code
-same_status may_open out out' report report' status code same ends = subst (λ (n : ℕ). EndsAsStated (IsProgramOutcome may_open) out out' report report' n) (sym same) ends
-
 -- the exit status is that of the program's end
 pub program_status : (may_open : List ℕ → Opening → Type 0) (out out' report report' : SinkState) (status : ℕ) → EndsAsStated (IsProgramOutcome may_open) out out' report report' status → IsProgramStatus may_open status
 program_status may_open out out' report report' status ends = elim ends.written [
@@ -85,7 +78,7 @@ program_status may_open out out' report report' status ends = elim ends.written 
 ]
 
 -- `fmt` and `edit` need no file of the store, so their outcome follows from the bytes alone
-by_bytes : (command : Command) (file : List ℕ) (sums : Option (List ℕ)) (old new : StoreState) (outcome : Outcome) → is_over_file command ≡ true
+pub by_bytes : (command : Command) (file : List ℕ) (sums : Option (List ℕ)) (old new : StoreState) (outcome : Outcome) → is_over_file command ≡ true
     → RunsTo command file sums old new outcome → StatesOutcome command file None (λ name. None) outcome
 by_bytes Fmt file sums old new outcome over (inl stated) = stated.0
 by_bytes Fmt file sums old new outcome over (inr refused) = absurd refused.2
@@ -95,26 +88,6 @@ by_bytes (Versions path all) file sums old new outcome over runs = cc over
 by_bytes Graph file sums old new outcome over runs = cc over
 by_bytes (Rows after limit) file sums old new outcome over runs = cc over
 by_bytes (Chain path) file sums old new outcome over runs = cc over
-
-pub file_weaken : (command : Command) (name file : List ℕ) (sums : Option (List ℕ)) (old new : StoreState) (read : Result (Vec ℕ) ReadFault) (content : Vec ℕ)
-    → is_over_file command ≡ true → read ≡ Ok content → file ≡ content.items → (outcome : Outcome) → RunsTo command file sums old new outcome
-    → IsReadOutcome name (λ main outcome. StatesOutcome command main None (λ name. None) outcome) read outcome
-file_weaken command name file sums old new read content over is same outcome runs =
-    let P : Result (Vec ℕ) ReadFault → Type 0 = λ r. IsReadOutcome name (λ main outcome. StatesOutcome command main None (λ name. None) outcome) r outcome in
-    subst P (sym is) (subst (λ (bytes : List ℕ). StatesOutcome command bytes None (λ name. None) outcome) same (by_bytes command file sums old new outcome over runs))
-
--- such a command is served with what was read of the file with its name
-pub file_served : (may_open : List ℕ → Opening → Type 0) (command : Command) (places : Places) (name : List ℕ) (read : Result (Vec ℕ) ReadFault) → is_over_file command ≡ true
-    → name ≡ string_bytes places.main → MayRead (may_open name) read → (outcome : Outcome)
-    → IsReadOutcome name (λ main outcome. StatesOutcome command main None (λ name. None) outcome) read outcome → IsServed may_open command places outcome
-file_served may_open Fmt places name read over is may outcome stated =
-    (read, subst (λ (n : List ℕ). MayRead (may_open n) read) is may, subst (λ (n : List ℕ). IsReadOutcome n (λ main outcome. StatesOutcome Fmt main None (λ name. None) outcome) read outcome) is stated)
-file_served may_open (Edit operations) places name read over is may outcome stated =
-    (read, subst (λ (n : List ℕ). MayRead (may_open n) read) is may, subst (λ (n : List ℕ). IsReadOutcome n (λ main outcome. StatesOutcome (Edit operations) main None (λ name. None) outcome) read outcome) is stated)
-file_served may_open (Versions path all) places name read over is may outcome stated = cc over
-file_served may_open Graph places name read over is may outcome stated = cc over
-file_served may_open (Rows after limit) places name read over is may outcome stated = cc over
-file_served may_open (Chain path) places name read over is may outcome stated = cc over
 
 -- a store that has one file answers with it, and with nothing else
 of_one : (path list : List ℕ) (store : MemoryFiles) (asked : List (Name × Reply)) → HoldsOne (list_file path) list store
@@ -144,19 +117,6 @@ plain_runs (Versions path all) main sums old new outcome plain runs = runs
 plain_runs Graph main sums old new outcome plain runs = cc plain
 plain_runs (Rows after limit) main sums old new outcome plain runs = cc plain
 plain_runs (Chain path) main sums old new outcome plain runs = cc plain
-
--- the store of a run may answer what the one that was made for it may answer
-pub of_made : {F E : Type 0} (files : Result F E) (before : F) (may : F → Name → Reply → Type 0) (told : Name → Reply → Type 0) (asked : List (Name × Reply))
-    → IfOk files (λ made. (name : Name) (reply : Reply) → may made name reply → told name reply) → files ≡ Ok before
-    → ((name : Name) (reply : Reply) → Contains asked (name, reply) → may before name reply) → (name : Name) (reply : Reply) → Contains asked (name, reply) → told name reply
-of_made files before may told asked answers is allowed name reply k =
-    subst (λ files. IfOk files (λ made. (name : Name) (reply : Reply) → may made name reply → told name reply)) is answers name reply (allowed name reply k)
-
--- a store without files has no other answer than that a file is absent
-pub none_told : {E : Type 0} (files : Result MemoryFiles E) (before : MemoryFiles) (asked : List (Name × Reply)) → IfOk files (λ made. (name : Name) → held_at made name ≡ None)
-    → files ≡ Ok before → ((name : Name) (reply : Reply) → Contains asked (name, reply) → may_give before name reply) → (name : Name) (reply : Reply) → Contains asked (name, reply) → reply ≡ absent
-none_told files before asked empty is allowed name reply k =
-    allowed name reply k ∙ ap (reply_for longest) (subst (λ files. IfOk files (λ made. (name : Name) → held_at made name ≡ None)) is empty name)
 
 folders_come : (may_open : List ℕ → Opening → Type 0) (folders : ProxyList) (command : Command) (old new : StoreState) (outcome : Outcome)
     → ((name : Name) (reply : Reply) → Contains new.asked (name, reply) → MayBeTold may_open (codes ".") (Some folders) name reply)

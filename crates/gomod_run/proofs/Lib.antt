@@ -8,7 +8,7 @@ pub mod Joining
 pub mod Sameness
 pub mod Uniqueness
 pub mod Steps
-pub mod QueryRuns
+pub mod Served
 pub mod OneEnd
 pub mod OneStore
 pub mod Answered

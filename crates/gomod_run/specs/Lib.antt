@@ -8,6 +8,7 @@ pub mod Listing
 pub mod Needs
 pub mod Program
 pub mod Queries
+pub mod Reads
 pub mod Runs
 pub mod Versions
 pub mod Written

@@ -12,13 +12,14 @@
 mod asking;
 mod edit;
 mod fmt;
+mod inputs;
 pub mod laws;
 mod outcome;
 mod program;
-mod queries;
-mod query_serving;
 mod report_lines;
 mod running;
+mod serving;
+mod stores;
 mod versions;
 mod writing;
 

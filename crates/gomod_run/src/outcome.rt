@@ -11,9 +11,8 @@ ghost use Rattle.gomod_run.specs.Queries.{RunsTo};
 
 use crate::edit::edit_outcome;
 use crate::fmt::fmt_outcome;
-use crate::queries::query_outcome;
 use crate::versions::versions_outcome;
-use gm_graph_listing::{Output, Query};
+use gm_graph_listing::{Output, Query, answer};
 use gm_name::NoMemory;
 use gm_store::Files;
 use gomod_words::Command;
@@ -45,9 +44,9 @@ pub(crate) fn outcome<F: Files>(
         Command::Versions { path, all } => versions_outcome(alloc, path, *all, files),
         Command::Fmt => fmt_outcome(alloc, main),
         Command::Edit(operations) => edit_outcome(alloc, operations.as_slice(), main),
-        Command::Graph => query_outcome(alloc, Query::Graph, main, sums, files),
+        Command::Graph => answer(alloc, Query::Graph, main, sums, files),
         Command::List { after, limit } => {
-            query_outcome(
+            answer(
                 alloc,
                 Query::List(after.as_ref(), *limit),
                 main,
@@ -55,6 +54,6 @@ pub(crate) fn outcome<F: Files>(
                 files,
             )
         }
-        Command::Chain(path) => query_outcome(alloc, Query::Chain(path), main, sums, files),
+        Command::Chain(path) => answer(alloc, Query::Chain(path), main, sums, files),
     }
 }

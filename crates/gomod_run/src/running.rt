@@ -1,6 +1,6 @@
 //! Running one command, from bytes that have been read to bytes that are written.
 
-ghost use Rattle.std.specs.Prelude.{◌≡◌, ◌≤◌, [], Contains, IfOk, None, Ok, false};
+ghost use Rattle.std.specs.Prelude.{◌≡◌, ◌≤◌, [], Contains, None, false};
 ghost use Rattle.std.specs.Option.{option_map};
 ghost use Rattle.gm_store.specs.Asked.{Name, Reply, answer_in};
 ghost use Rattle.gm_store.specs.States.{RefusesWithCause};
@@ -12,7 +12,6 @@ ghost use Rattle.gomod_run.specs.Written.{EndsAsStated};
 use crate::outcome::outcome;
 use crate::writing::{NO_MEMORY, end};
 use gm_graph_listing::Status;
-use gm_name::NoMemory;
 use gm_store::{Files, Sink};
 use gomod_words::Command;
 use std::alloc::Global;
@@ -100,32 +99,6 @@ pub fn run<F: Files, O: Sink, R: Sink>(
             let line = output.report.as_str().as_bytes();
             end(out, text, report, line, output.status)
         }
-        Err(_) => end(out, b"", report, NO_MEMORY, Status::Device),
-    }
-}
-
-/// Runs a command over a store that has not been asked yet, or reports that memory ran out where it could not be made.
-pub(crate) fn run_over<F: Files + Drop, O: Sink, R: Sink>(
-    alloc: Global,
-    command: &Command,
-    main: &[u8],
-    sums: Option<&[u8]>,
-    files: Result<F, NoMemory>,
-    out: &mut O,
-    report: &mut R,
-) -> Status
-    requires unasked { IfOk files (λ files. (F.state files).asked ≡ []) }
-    requires no_sums { takes_sums command.now ≡ false → option_map (λ sums. sums.now) sums ≡ None }
-    ensures { EndsAsStated (λ outcome. (before after : F) × (files ≡ Ok before)
-        × RunsTo command.now main.now (option_map (λ sums. sums.now) sums.entry)
-        (F.state before) (F.state after) outcome
-        × ((name : Name) (reply : Reply)
-        → Contains (F.state after).asked (name, reply) → F.may_answer before name reply))
-        (O.state out.old) (O.state out.new) (R.state report.old) (R.state report.new)
-        (code_of result) }
-{
-    match files {
-        Ok(mut files) => run(alloc, command, main, sums, &mut files, out, report),
         Err(_) => end(out, b"", report, NO_MEMORY, Status::Device),
     }
 }

@@ -1,3 +1,5 @@
+use Rattle.std.specs.Option.{option_map}
+use Rattle.gomod_run.proofs.InTurn.{fails_in_turn, in_turn}
 use Rattle.gomod_run.proofs.outcome.outcome.Goals as goal
 
 pub returns-in-Versions-clause-comes : goal.returns-in-Versions-clause-comes
@@ -7,31 +9,31 @@ pub returns-in-Versions-clause-in_turn : goal.returns-in-Versions-clause-in_turn
 returns-in-Versions-clause-in_turn g c = rw c.in-Versions.is c.versions_outcome.ensures.in_turn
 
 pub returns-in-Graph-clause-comes : goal.returns-in-Graph-clause-comes
-returns-in-Graph-clause-comes g c = rw c.in-Graph.is c.query_outcome.ensures.comes
+returns-in-Graph-clause-comes g c = rw c.in-Graph.is c.answer.ensures.comes
 
 pub returns-in-List-clause-comes : goal.returns-in-List-clause-comes
-returns-in-List-clause-comes g c = rw (c.in-List.is, ← c.as_ref.ensures.value) c.query_outcome-in-List.ensures.comes
+returns-in-List-clause-comes g c = rw (c.in-List.is, ← c.as_ref.ensures.value) c.answer-in-List.ensures.comes
 
 pub returns-in-Chain-clause-comes : goal.returns-in-Chain-clause-comes
-returns-in-Chain-clause-comes g c = rw c.in-Chain.is c.query_outcome-in-Chain.ensures.comes
+returns-in-Chain-clause-comes g c = rw c.in-Chain.is c.answer-in-Chain.ensures.comes
 
 pub returns-in-Graph-clause-in_turn : goal.returns-in-Graph-clause-in_turn
-returns-in-Graph-clause-in_turn g c = rw c.in-Graph.is c.query_outcome.ensures.in_turn
+returns-in-Graph-clause-in_turn g c = rw c.in-Graph.is (in_turn c.args.main.now (option_map (λ sums. sums.now) c.args.sums) (g.F.Files.state c.answer.new.files).asked c.answer.ensures.asks)
 
 pub returns-in-List-clause-in_turn : goal.returns-in-List-clause-in_turn
-returns-in-List-clause-in_turn g c = rw c.in-List.is c.query_outcome-in-List.ensures.in_turn
+returns-in-List-clause-in_turn g c = rw c.in-List.is (in_turn c.args.main.now (option_map (λ sums. sums.now) c.args.sums) (g.F.Files.state c.answer-in-List.new.files).asked c.answer-in-List.ensures.asks)
 
 pub returns-in-Chain-clause-in_turn : goal.returns-in-Chain-clause-in_turn
-returns-in-Chain-clause-in_turn g c = rw c.in-Chain.is c.query_outcome-in-Chain.ensures.in_turn
+returns-in-Chain-clause-in_turn g c = rw c.in-Chain.is (in_turn c.args.main.now (option_map (λ sums. sums.now) c.args.sums) (g.F.Files.state c.answer-in-Chain.new.files).asked c.answer-in-Chain.ensures.asks)
 
 pub returns-in-Versions-clause-fails : goal.returns-in-Versions-clause-fails
 returns-in-Versions-clause-fails g c = rw c.in-Versions.is c.versions_outcome.ensures.fails
 
 pub returns-in-Graph-clause-fails : goal.returns-in-Graph-clause-fails
-returns-in-Graph-clause-fails g c = rw c.in-Graph.is c.query_outcome.ensures.fails
+returns-in-Graph-clause-fails g c = rw c.in-Graph.is (fails_in_turn c.args.main.now (option_map (λ sums. sums.now) c.args.sums) (g.F.Files.state c.args.files.now) (g.F.Files.state c.answer.new.files) c.answer.ensures.fails)
 
 pub returns-in-List-clause-fails : goal.returns-in-List-clause-fails
-returns-in-List-clause-fails g c = rw c.in-List.is c.query_outcome-in-List.ensures.fails
+returns-in-List-clause-fails g c = rw c.in-List.is (fails_in_turn c.args.main.now (option_map (λ sums. sums.now) c.args.sums) (g.F.Files.state c.args.files.now) (g.F.Files.state c.answer-in-List.new.files) c.answer-in-List.ensures.fails)
 
 pub returns-in-Chain-clause-fails : goal.returns-in-Chain-clause-fails
-returns-in-Chain-clause-fails g c = rw c.in-Chain.is c.query_outcome-in-Chain.ensures.fails
+returns-in-Chain-clause-fails g c = rw c.in-Chain.is (fails_in_turn c.args.main.now (option_map (λ sums. sums.now) c.args.sums) (g.F.Files.state c.args.files.now) (g.F.Files.state c.answer-in-Chain.new.files) c.answer-in-Chain.ensures.fails)

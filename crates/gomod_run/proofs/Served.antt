@@ -1,0 +1,262 @@
+-- How a command ends that was served with what was read for it.
+use Rattle.std.proofs.Common.{◌≡◌, ◌≢◌, ◌∙◌, ◌∷◌, ℕ, zero, suc, arith, Contains, IfErr, IfOk, List, [], MatchResult, Option, Some, None, Result, Ok, Err, ap, codes, inl, inr, option_map, refl, subst, sym, true}
+use Rattle.std.proofs.lemmas.Bool.Decides.{eqb_tells}
+use Rattle.std.specs.Global.{Vec}
+use Rattle.std.specs.Result.{IsErr, IsErrAnd}
+use Rattle.std.specs.String.{string_bytes}
+use Rattle.gm_store.specs.Asked.{Name, Reply, absent, reply_for}
+use Rattle.gm_store.specs.Memory.{held_at, may_give, memory_files_state, pairs_of}
+use Rattle.gm_store.specs.Openings.{MayRead, Opening}
+use Rattle.gm_store.specs.Relative.{IsFolderOf, at_root, below_folder, here}
+use Rattle.gm_store.specs.States.{StoreState}
+use Rattle.gm_store.specs.Taken.{SinkState}
+use Rattle.gm_store.specs.declared.memory_files.MemoryFiles.{MemoryFiles}
+use Rattle.gm_store.specs.declared.proxy_list.ProxyList.{ProxyList}
+use Rattle.gm_store.specs.declared.reading.ReadFault.{ReadFault}
+use Rattle.gomod_words.specs.declared.usage.Command.{Command}
+use Rattle.gomod_words.specs.declared.usage.Command.TheVariants.{Fmt, Edit, Versions, Graph, List as Rows, Chain}
+use Rattle.gomod_words.specs.declared.usage.Places.{Places}
+use Rattle.gm_graph_listing.specs.Outcomes.{Outcome, answers, code_of, longest}
+use Rattle.gm_graph_listing.specs.declared.output.Status.{Status}
+use Rattle.gomod_run.specs.declared.inputs.Inputs.{Inputs}
+use Rattle.gomod_run.specs.declared.inputs.Unread.{Unread}
+use Rattle.gomod_run.specs.Program.{IsMainServed, IsQueryRun, IsServed, IsSumsServed, MayBeTold, unread_outcome}
+use Rattle.gomod_run.specs.Queries.{RunsTo}
+use Rattle.gomod_run.specs.Reads.{AreBothRead, AreInputs, AreSumsRead, AreSumsUnread, HoldsInput, IsOneUnread, IsServedUnread, IsStoreFolder, IsUnreadInput, IsUnreadStore, placed}
+use Rattle.gomod_run.specs.Runs.{is_query}
+use Rattle.gomod_run.specs.Written.{EndsAsStated}
+use Rattle.gomod_run.proofs.Endings.{by_bytes, folder_weaken, input_weaken}
+
+-- ---- the inputs
+
+-- a go.sum that can't be read, where `?` passes that on
+pub sums_passed_on : (may_open : List ℕ → Opening → Type 0) (places : Places) (main : Vec ℕ) (unread : Unread) (result : Result Inputs Unread)
+    → IsErr result → IsErrAnd result (λ passed. passed ≡ unread) → MayRead (may_open (string_bytes places.main)) (Ok main)
+    → AreSumsUnread may_open (option_map string_bytes places.sums) unread → MatchResult result (AreBothRead may_open places) (IsOneUnread may_open places)
+sums_passed_on may_open places main unread (Err passed) none same may is = inr (main, may, subst (AreSumsUnread may_open (option_map string_bytes places.sums)) (sym same) is)
+sums_passed_on may_open places main unread (Ok inputs) none same may is = absurd (cc none)
+
+-- the outcome of a query follows from what its store answered
+query_weaken : (may_answer : Name → Reply → Type 0) (command : Command) (main : List ℕ) (sums : Option (List ℕ)) (old new : StoreState) → is_query command ≡ true
+    → ((name : Name) (reply : Reply) → Contains new.asked (name, reply) → may_answer name reply) → (outcome : Outcome)
+    → RunsTo command main sums old new outcome → IsQueryRun may_answer command main sums outcome
+query_weaken may_answer Fmt main sums old new query told outcome runs = cc query
+query_weaken may_answer (Edit operations) main sums old new query told outcome runs = cc query
+query_weaken may_answer (Versions path all) main sums old new query told outcome runs = cc query
+query_weaken may_answer Graph main sums old new query told outcome runs = (answers new.asked runs.0, told, runs.2)
+query_weaken may_answer (Rows after limit) main sums old new query told outcome runs = (answers new.asked runs.0, told, runs.2)
+query_weaken may_answer (Chain path) main sums old new query told outcome runs = (answers new.asked runs.0, told, runs.2)
+
+-- a query that runs with what was read of the named go.sum
+sums_served : (may_open : List ℕ → Opening → Type 0) (may_answer : Name → Reply → Type 0) (command : Command) (name : Option (List ℕ)) (main : List ℕ) (sums : Option (Vec ℕ)) (outcome : Outcome)
+    → AreSumsRead may_open name sums → IsQueryRun may_answer command main (option_map (λ sums. sums.items) sums) outcome → IsSumsServed may_open may_answer command name main outcome
+sums_served may_open may_answer command None main None outcome read runs = runs
+sums_served may_open may_answer command (Some name) main (Some sums) outcome read runs = (Ok sums, read, runs)
+sums_served may_open may_answer command None main (Some sums) outcome read runs = absurd read
+sums_served may_open may_answer command (Some name) main None outcome read runs = absurd read
+
+-- a query that ends because the named go.sum can't be read
+sums_unserved : (may_open : List ℕ → Opening → Type 0) (may_answer : Name → Reply → Type 0) (command : Command) (name : Option (List ℕ)) (main : List ℕ) (unread : Unread)
+    → AreSumsUnread may_open name unread → IsSumsServed may_open may_answer command name main (unread_outcome unread.name.now unread.fault)
+sums_unserved may_open may_answer command None main unread is = absurd is
+sums_unserved may_open may_answer command (Some name) main unread is = (Err unread.fault, is.1, ap (λ (name : List ℕ). unread_outcome name unread.fault) is.0)
+
+-- a query that ends because one of its files can't be read
+one_unserved : (may_open : List ℕ → Opening → Type 0) (may_answer : Name → Reply → Type 0) (command : Command) (places : Places) (unread : Unread)
+    → IsOneUnread may_open places unread → IsMainServed may_open may_answer command (string_bytes places.main) (option_map string_bytes places.sums) (unread_outcome unread.name.now unread.fault)
+one_unserved may_open may_answer command places unread (inl main) = (Err unread.fault, main.1, ap (λ (name : List ℕ). unread_outcome name unread.fault) main.0)
+one_unserved may_open may_answer command places unread (inr both) =
+    (Ok both.0, both.1, sums_unserved may_open may_answer command (option_map string_bytes places.sums) both.0.items unread both.2)
+
+-- ---- the folder of the main file
+
+-- a byte that is no slash adds none
+no_slash_more : (byte : ℕ) (file : List ℕ) → byte ≢ 47 → ¬ (Contains file 47) → ¬ (Contains (byte ∷ file) 47)
+no_slash_more byte file other none (zero, within, is) = other is
+no_slash_more byte file other none (suc k, within, is) = none (k, omega (arith, within), is)
+
+-- a name that is one byte longer has a folder, too
+one_longer : (byte : ℕ) (file folder : List ℕ) → IsFolderOf file folder → (other : List ℕ) × IsFolderOf (byte ∷ file) other
+one_longer byte file folder (below_folder name some is none) = (byte ∷ folder, below_folder name (omega arith) (ap (λ (text : List ℕ). byte ∷ text) is) none)
+one_longer byte file folder (at_root name is none root) = (byte ∷ [], below_folder name (omega arith) (ap (λ (text : List ℕ). byte ∷ text) is) none)
+one_longer byte file folder (here none dot) = elim (eqb_tells byte 47) [
+  | inl slash ↦ (codes "/", at_root file (ap (λ (b : ℕ). b ∷ file) slash.1) none refl)
+  | inr other ↦ (codes ".", here (no_slash_more byte file other.1 none) refl)
+]
+
+-- each file is in a folder
+a_folder : (file : List ℕ) → (folder : List ℕ) × IsFolderOf file folder
+a_folder [] = (codes ".", here (λ (k, within, is). omega (arith, within)) refl)
+a_folder (byte ∷ file) = let rest = a_folder file in one_longer byte file rest.0 rest.1
+
+-- ---- over a store
+
+-- a run over slices of what was read is one over what was read
+pub same_run : (command : Command) (inputs : Inputs) (main : List ℕ) (sums : Option (List ℕ)) (old new : StoreState) → main ≡ inputs.main.items → sums ≡ option_map (λ sums. sums.items) inputs.sums
+    → (outcome : Outcome) → RunsTo command main sums old new outcome → RunsTo command inputs.main.items (option_map (λ sums. sums.items) inputs.sums) old new outcome
+same_run command inputs main sums old new same_main same_sums outcome runs =
+    subst (λ (sums : Option (List ℕ)). RunsTo command inputs.main.items sums old new outcome) same_sums
+    (subst (λ (main : List ℕ). RunsTo command main sums old new outcome) same_main runs)
+
+-- a command over proxy folders
+pub folders_served : (may_open : List ℕ → Opening → Type 0) (command : Command) (places : Places) (folders : ProxyList) (folder : List ℕ) (inputs : Inputs) (old new : StoreState)
+    → AreInputs may_open command places inputs → IsStoreFolder command (string_bytes places.main) folder
+    → ((name : Name) (reply : Reply) → Contains new.asked (name, reply) → MayBeTold may_open folder (Some folders) name reply)
+    → (outcome : Outcome) → RunsTo command inputs.main.items (option_map (λ sums. sums.items) inputs.sums) old new outcome → IsServed may_open command (placed places (Some folders)) outcome
+folders_served may_open Fmt places folders folder inputs old new read is told outcome runs = (Ok inputs.main, read.0, by_bytes Fmt inputs.main.items (option_map (λ sums. sums.items) inputs.sums) old new outcome refl runs)
+folders_served may_open (Edit operations) places folders folder inputs old new read is told outcome runs = (Ok inputs.main, read.0, by_bytes (Edit operations) inputs.main.items (option_map (λ sums. sums.items) inputs.sums) old new outcome refl runs)
+folders_served may_open (Versions path all) places folders folder inputs old new read is told outcome runs =
+    folder_weaken may_open folders (Versions path all) old new refl
+    (λ name reply k. subst (λ (folder : List ℕ). MayBeTold may_open folder (Some folders) name reply) is (told name reply k)) outcome runs
+folders_served may_open Graph places folders folder inputs old new read is told outcome runs = (
+  folder,
+  is,
+  (
+    Ok inputs.main,
+    read.0,
+    sums_served may_open (MayBeTold may_open folder (Some folders)) Graph (option_map string_bytes places.sums) inputs.main.items inputs.sums outcome read.1
+        (query_weaken (MayBeTold may_open folder (Some folders)) Graph inputs.main.items (option_map (λ sums. sums.items) inputs.sums) old new refl told outcome runs),
+  ),
+)
+folders_served may_open (Rows after limit) places folders folder inputs old new read is told outcome runs = (
+  folder,
+  is,
+  (
+    Ok inputs.main,
+    read.0,
+    sums_served may_open (MayBeTold may_open folder (Some folders)) (Rows after limit) (option_map string_bytes places.sums) inputs.main.items inputs.sums outcome read.1
+        (query_weaken (MayBeTold may_open folder (Some folders)) (Rows after limit) inputs.main.items (option_map (λ sums. sums.items) inputs.sums) old new refl told outcome runs),
+  ),
+)
+folders_served may_open (Chain path) places folders folder inputs old new read is told outcome runs = (
+  folder,
+  is,
+  (
+    Ok inputs.main,
+    read.0,
+    sums_served may_open (MayBeTold may_open folder (Some folders)) (Chain path) (option_map string_bytes places.sums) inputs.main.items inputs.sums outcome read.1
+        (query_weaken (MayBeTold may_open folder (Some folders)) (Chain path) inputs.main.items (option_map (λ sums. sums.items) inputs.sums) old new refl told outcome runs),
+  ),
+)
+
+-- an empty store says that a file is absent
+empty_told : (store : MemoryFiles) (asked : List (Name × Reply)) → ((name : Name) → held_at store name ≡ None)
+    → ((name : Name) (reply : Reply) → Contains asked (name, reply) → may_give store name reply) → (name : Name) (reply : Reply) → Contains asked (name, reply) → reply ≡ absent
+empty_told store asked empty allowed name reply k = allowed name reply k ∙ ap (reply_for longest) (empty name)
+
+-- a query over an empty store
+query_in_memory : (may_open : List ℕ → Opening → Type 0) (command : Command) (places : Places) (inputs : Inputs) (before after : MemoryFiles) → is_query command ≡ true
+    → AreBothRead may_open places inputs → ((name : Name) → held_at before name ≡ None)
+    → ((name : Name) (reply : Reply) → Contains (pairs_of after) (name, reply) → may_give before name reply) → (folder : List ℕ)
+    → (outcome : Outcome) → RunsTo command inputs.main.items (option_map (λ sums. sums.items) inputs.sums) (memory_files_state before) (memory_files_state after) outcome
+    → IsMainServed may_open (MayBeTold may_open folder None) command (string_bytes places.main) (option_map string_bytes places.sums) outcome
+query_in_memory may_open command places inputs before after query read empty allowed folder outcome runs = (
+  Ok inputs.main,
+  read.0,
+  sums_served may_open (MayBeTold may_open folder None) command (option_map string_bytes places.sums) inputs.main.items inputs.sums outcome read.1
+      (query_weaken (MayBeTold may_open folder None) command inputs.main.items (option_map (λ sums. sums.items) inputs.sums) (memory_files_state before) (memory_files_state after) query
+      (empty_told before (pairs_of after) empty allowed) outcome runs),
+)
+
+-- a command over a store in memory
+pub memory_served : (may_open : List ℕ → Opening → Type 0) (command : Command) (places : Places) (inputs : Inputs) (before after : MemoryFiles)
+    → AreInputs may_open command places inputs → HoldsInput command before
+    → ((name : Name) (reply : Reply) → Contains (pairs_of after) (name, reply) → may_give before name reply)
+    → (outcome : Outcome) → RunsTo command inputs.main.items (option_map (λ sums. sums.items) inputs.sums) (memory_files_state before) (memory_files_state after) outcome
+    → IsServed may_open command (placed places None) outcome
+memory_served may_open Fmt places inputs before after read holds allowed outcome runs = (Ok inputs.main, read.0, by_bytes Fmt inputs.main.items (option_map (λ sums. sums.items) inputs.sums) (memory_files_state before) (memory_files_state after) outcome refl runs)
+memory_served may_open (Edit operations) places inputs before after read holds allowed outcome runs = (Ok inputs.main, read.0, by_bytes (Edit operations) inputs.main.items (option_map (λ sums. sums.items) inputs.sums) (memory_files_state before) (memory_files_state after) outcome refl runs)
+memory_served may_open (Versions path all) places inputs before after read holds allowed outcome runs = (
+  Ok holds.0,
+  input_weaken (Versions path all) path holds.0.items before (pairs_of after) (memory_files_state before) (memory_files_state after) refl refl refl holds.1 allowed outcome runs,
+)
+memory_served may_open Graph places inputs before after read holds allowed outcome runs =
+    let folder = a_folder (string_bytes places.main) in (folder.0, folder.1, query_in_memory may_open Graph places inputs before after refl read holds allowed folder.0 outcome runs)
+memory_served may_open (Rows after' limit) places inputs before after read holds allowed outcome runs =
+    let folder = a_folder (string_bytes places.main) in (folder.0, folder.1, query_in_memory may_open (Rows after' limit) places inputs before after refl read holds allowed folder.0 outcome runs)
+memory_served may_open (Chain path) places inputs before after read holds allowed outcome runs =
+    let folder = a_folder (string_bytes places.main) in (folder.0, folder.1, query_in_memory may_open (Chain path) places inputs before after refl read holds allowed folder.0 outcome runs)
+
+-- ---- what can't be read
+
+-- what `?` passes on
+pub unread_passed : {T : Type 0} (stated : Unread → Type 0) (unread : Unread) (result : Result T Unread) → IsErrAnd result (λ passed. passed ≡ unread) → stated unread → IfErr result stated
+unread_passed stated unread (Err passed) same is = subst stated (sym same) is
+unread_passed stated unread (Ok value) same is = tt
+
+-- the report of a file that can't be read is an outcome of the command
+pub input_unserved : (may_open : List ℕ → Opening → Type 0) (command : Command) (places : Places) (proxy : Option ProxyList) (unread : Unread) → IsUnreadInput may_open command places unread
+    → IsServed may_open command (placed places proxy) (unread_outcome unread.name.now unread.fault)
+input_unserved may_open Fmt places proxy unread is = (Err unread.fault, is.1, ap (λ (name : List ℕ). unread_outcome name unread.fault) is.0)
+input_unserved may_open (Edit operations) places proxy unread is = (Err unread.fault, is.1, ap (λ (name : List ℕ). unread_outcome name unread.fault) is.0)
+input_unserved may_open (Versions path all) places proxy unread is = absurd is
+input_unserved may_open Graph places proxy unread is =
+    let folder = a_folder (string_bytes places.main) in (folder.0, folder.1, one_unserved may_open (MayBeTold may_open folder.0 proxy) Graph places unread is)
+input_unserved may_open (Rows after limit) places proxy unread is =
+    let folder = a_folder (string_bytes places.main) in (folder.0, folder.1, one_unserved may_open (MayBeTold may_open folder.0 proxy) (Rows after limit) places unread is)
+input_unserved may_open (Chain path) places proxy unread is =
+    let folder = a_folder (string_bytes places.main) in (folder.0, folder.1, one_unserved may_open (MayBeTold may_open folder.0 proxy) (Chain path) places unread is)
+
+-- and so is the report of standard input, unless memory ran out
+pub store_unserved : (may_open : List ℕ → Opening → Type 0) (command : Command) (places : Places) (unread : Unread) → IsUnreadStore command unread
+    → IsServedUnread may_open command (placed places None) unread
+store_unserved may_open (Versions path all) places unread (inl same) = inl (Err unread.fault, ap (λ (name : List ℕ). unread_outcome name unread.fault) same)
+store_unserved may_open (Versions path all) places unread (inr memory) = inr memory
+store_unserved may_open Fmt places unread is = absurd is
+store_unserved may_open (Edit operations) places unread is = absurd is
+store_unserved may_open Graph places unread is = absurd is
+store_unserved may_open (Rows after limit) places unread is = absurd is
+store_unserved may_open (Chain path) places unread is = absurd is
+
+-- ---- the end
+
+-- an end that reports what can't be read, where nothing was written before
+pub unread_ends : (may_open : List ℕ → Opening → Type 0) (command : Command) (places : Places) (unread : Unread) (out mid out' report between report' : SinkState) (status : ℕ)
+    → mid ≡ out → between ≡ report → IsServedUnread may_open command places unread
+    → EndsAsStated (λ outcome. outcome ≡ unread_outcome unread.name.now unread.fault) mid out' between report' status → EndsAsStated (IsServed may_open command places) out out' report report' status
+unread_ends may_open command places unread out mid out' report between report' status same_text same_report may ends =
+    let P : SinkState → Type 0 = λ report. EndsAsStated (λ outcome. outcome ≡ unread_outcome unread.name.now unread.fault) mid out' report report' status in
+    let Q : SinkState → Type 0 = λ out. EndsAsStated (λ outcome. outcome ≡ unread_outcome unread.name.now unread.fault) out out' report report' status in
+    let ends' : Q out = subst Q same_text (subst P same_report ends) in record {
+      outcome = ends'.outcome;
+      as_stated = elim ends'.as_stated [
+        | inl is ↦ elim may [
+          | inl stated ↦ inl (subst (λ (outcome : Outcome). IsServed may_open command places outcome) (sym is) stated)
+          | inr memory ↦ inr (is ∙ ap (λ (fault : ReadFault). unread_outcome unread.name.now fault) memory)
+        ]
+        | inr memory ↦ inr memory
+      ];
+      written = ends'.written;
+    }
+
+-- what a run over a store gives its caller: an end, or what can't be read, where nothing was written
+pub record IsRun (may_open : List ℕ → Opening → Type 0) (command : Command) (places : Places) (out out' report report' : SinkState) (served : Result Status Unread) : Type 0 where
+  pub ends : IfOk served (λ status. EndsAsStated (IsServed may_open command places) out out' report report' (code_of status))
+  pub unread : IfErr served (IsServedUnread may_open command places)
+  pub no_text : IfErr served (λ _. out' ≡ out)
+  pub no_report : IfErr served (λ _. report' ≡ report)
+
+-- it gives the same where its results have other names
+pub same_served : (may_open : List ℕ → Opening → Type 0) (command : Command) (places : Places) (proxy : Option ProxyList) (out mid out' report between report' : SinkState) (made served : Result Status Unread)
+    → proxy ≡ places.proxy → out' ≡ mid → report' ≡ between → served ≡ made
+    → IsRun may_open command (placed places proxy) out mid report between made → IsRun may_open command places out out' report report' served
+same_served may_open command places proxy out mid out' report between report' made served same_proxy same_out same_report same run =
+    let P : Option ProxyList → Type 0 = λ proxy. IsRun may_open command (placed places proxy) out mid report between made in
+    let Q : SinkState → Type 0 = λ out'. IsRun may_open command places out out' report between made in
+    let R : SinkState → Type 0 = λ report'. IsRun may_open command places out out' report report' made in
+    let S : Result Status Unread → Type 0 = λ served. IsRun may_open command places out out' report report' served in
+    subst S (sym same) (subst R (sym same_report) (subst Q (sym same_out) (subst P same_proxy run)))
+
+-- the end of a command whose run has one
+pub done_ends : (may_open : List ℕ → Opening → Type 0) (command : Command) (places : Places) (out out' report report' : SinkState) (served : Result Status Unread) (status : Status) → served ≡ Ok status
+    → IsRun may_open command places out out' report report' served → EndsAsStated (IsServed may_open command places) out out' report report' (code_of status)
+done_ends may_open command places out out' report report' served status is run =
+    subst (λ (served : Result Status Unread). IfOk served (λ status. EndsAsStated (IsServed may_open command places) out out' report report' (code_of status))) is run.ends
+
+-- the end of a command whose run has none: what can't be read is reported
+pub stopped_ends : (may_open : List ℕ → Opening → Type 0) (command : Command) (places : Places) (unread : Unread) (out mid out' report between report' : SinkState) (served : Result Status Unread) (status : ℕ) → served ≡ Err unread
+    → IsRun may_open command places out mid report between served
+    → EndsAsStated (λ outcome. outcome ≡ unread_outcome unread.name.now unread.fault) mid out' between report' status → EndsAsStated (IsServed may_open command places) out out' report report' status
+stopped_ends may_open command places unread out mid out' report between report' served status is run ends =
+    let run' = subst (IsRun may_open command places out mid report between) is run in
+    unread_ends may_open command places unread out mid out' report between report' status run'.no_text run'.no_report run'.unread ends

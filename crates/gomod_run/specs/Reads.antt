@@ -1,0 +1,96 @@
+-- What a command reads before it runs, and what it can't read.
+use Rattle.std.specs.Prelude.{◌≡◌, ◌⊎◌, ℕ, List, Option, Some, None, Ok, Err, codes, option_map}
+use Rattle.std.specs.Global.{Vec}
+use Rattle.std.specs.String.{string_bytes}
+use Rattle.gm_store.specs.Asked.{Name, list_file}
+use Rattle.gm_store.specs.Memory.{held_at}
+use Rattle.gm_store.specs.Openings.{MayRead, Opening}
+use Rattle.gm_store.specs.Relative.{IsFolderOf}
+use Rattle.gm_store.specs.declared.memory_files.MemoryFiles.{MemoryFiles}
+use Rattle.gm_store.specs.declared.proxy_list.ProxyList.{ProxyList}
+use Rattle.gm_store.specs.declared.reading.ReadFault.TheVariants as reading
+use Rattle.gomod_words.specs.declared.usage.Command.{Command}
+use Rattle.gomod_words.specs.declared.usage.Command.TheVariants.{Fmt, Edit, Versions}
+use Rattle.gomod_words.specs.declared.usage.Places.{Places}
+use Rattle.gomod_run.specs.declared.inputs.Inputs.{Inputs}
+use Rattle.gomod_run.specs.declared.inputs.Unread.{Unread}
+use Rattle.gomod_run.specs.Held.{HoldsOne}
+use Rattle.gomod_run.specs.Program.{IsServed, unread_outcome}
+
+-- In what follows `may_open` says what may come of opening the file at a path.
+
+-- the go.sum was read, if one is named
+abbrev pub AreSumsRead : (List ℕ → Opening → Type 0) → Option (List ℕ) → Option (Vec ℕ) → Type 0
+AreSumsRead may_open None None = Unit {0}
+AreSumsRead may_open (Some name) (Some sums) = MayRead (may_open name) (Ok sums)
+AreSumsRead may_open None (Some sums) = ⊥
+AreSumsRead may_open (Some name) None = ⊥
+
+-- a go.sum is named, and can't be read
+abbrev pub AreSumsUnread : (List ℕ → Opening → Type 0) → Option (List ℕ) → Unread → Type 0
+AreSumsUnread may_open None unread = ⊥
+AreSumsUnread may_open (Some name) unread = (unread.name.now ≡ name) × MayRead (may_open name) (Err unread.fault)
+
+-- the main file with this name was read, and no go.sum
+abbrev pub IsMainRead : (List ℕ → Opening → Type 0) → List ℕ → Inputs → Type 0
+IsMainRead may_open name inputs = MayRead (may_open name) (Ok inputs.main) × (inputs.sums ≡ None)
+
+-- the main file with this name can't be read
+abbrev pub IsMainUnread : (List ℕ → Opening → Type 0) → List ℕ → Unread → Type 0
+IsMainUnread may_open name unread = (unread.name.now ≡ name) × MayRead (may_open name) (Err unread.fault)
+
+-- the main file was read, and the go.sum if one is named
+abbrev pub AreBothRead : (List ℕ → Opening → Type 0) → Places → Inputs → Type 0
+AreBothRead may_open places inputs = MayRead (may_open (string_bytes places.main)) (Ok inputs.main)
+    × AreSumsRead may_open (option_map string_bytes places.sums) inputs.sums
+
+-- the main file can't be read, or it was read and the go.sum can't be
+abbrev pub IsOneUnread : (List ℕ → Opening → Type 0) → Places → Unread → Type 0
+IsOneUnread may_open places unread =
+    IsMainUnread may_open (string_bytes places.main) unread
+    ⊎ ((main : Vec ℕ) × MayRead (may_open (string_bytes places.main)) (Ok main)
+    × AreSumsUnread may_open (option_map string_bytes places.sums) unread)
+
+-- what a command reads before it runs
+abbrev pub AreInputs : (List ℕ → Opening → Type 0) → Command → Places → Inputs → Type 0
+AreInputs may_open Fmt places inputs = IsMainRead may_open (string_bytes places.main) inputs
+AreInputs may_open (Edit operations) places inputs = IsMainRead may_open (string_bytes places.main) inputs
+AreInputs may_open (Versions path all) places inputs = inputs.sums ≡ None
+AreInputs may_open _ places inputs = AreBothRead may_open places inputs
+
+-- what it can't read of it
+abbrev pub IsUnreadInput : (List ℕ → Opening → Type 0) → Command → Places → Unread → Type 0
+IsUnreadInput may_open Fmt places unread = IsMainUnread may_open (string_bytes places.main) unread
+IsUnreadInput may_open (Edit operations) places unread = IsMainUnread may_open (string_bytes places.main) unread
+IsUnreadInput may_open (Versions path all) places unread = ⊥
+IsUnreadInput may_open _ places unread = IsOneUnread may_open places unread
+
+-- the folder that a store on disk takes local folders from: that of the main file with this name. `versions`, which
+-- has no main file, names none.
+abbrev pub IsStoreFolder : Command → List ℕ → List ℕ → Type 0
+IsStoreFolder (Versions path all) main folder = folder ≡ codes "."
+IsStoreFolder _ main folder = IsFolderOf main folder
+
+-- what a store in memory has: for `versions` a list of the module's versions, and otherwise nothing
+abbrev pub HoldsInput : Command → MemoryFiles → Type 0
+HoldsInput (Versions path all) files = (list : Vec ℕ) × HoldsOne (list_file path) list.items files
+HoldsInput _ files = (name : Name) → held_at files name ≡ None
+
+-- what may keep such a store from being made: standard input that can't be read, or memory running out
+abbrev pub IsUnreadList : Unread → Type 0
+IsUnreadList unread = (unread.name.now ≡ codes "-") ⊎ (unread.fault ≡ reading.NoMemory)
+
+-- the same by command: only `versions` reads standard input
+abbrev pub IsUnreadStore : Command → Unread → Type 0
+IsUnreadStore (Versions path all) unread = IsUnreadList unread
+IsUnreadStore _ unread = ⊥
+
+-- these places with these proxy folders
+abbrev pub placed : Places → Option ProxyList → Places
+placed places proxy = record { main = places.main; proxy = proxy; sums = places.sums }
+
+-- the report of what can't be read is an outcome of the command, unless memory ran out
+abbrev pub IsServedUnread : (List ℕ → Opening → Type 0) → Command → Places → Unread → Type 0
+IsServedUnread may_open command places unread =
+    IsServed may_open command places (unread_outcome unread.name.now unread.fault)
+    ⊎ (unread.fault ≡ reading.NoMemory)

@@ -1,0 +1,110 @@
+//! The store of a command: proxy folders on disk, or a store in memory where the words name none.
+
+ghost use Rattle.std.specs.Prelude.{◌≡◌, ℕ, IfErr, IfOk, Some, [], codes};
+ghost use Rattle.std.specs.Global.{Vec};
+ghost use Rattle.std.specs.String.{string_bytes};
+ghost use Rattle.gm_store.specs.Asked.{Name, Reply, list_file};
+ghost use Rattle.gm_store.specs.Memory.{pairs, pairs_of};
+ghost use Rattle.gomod_run.specs.Held.{HoldsOne};
+ghost use Rattle.gomod_run.specs.Program.{MayBeTold};
+ghost use Rattle.gomod_run.specs.Reads.{HoldsInput, IsStoreFolder, IsUnreadList, IsUnreadStore};
+
+use crate::inputs::Unread;
+use gm_name::{ModPath, NoMemory};
+use gm_store::{
+    DiskFallback, FileName, FileSystem, Files, MemoryFiles, ProxyList, folder_of, read_limited,
+};
+use gomod_words::Command;
+use std::alloc::Global;
+
+/// The folder that local folders of a store on disk are relative to: that of the main file with this name, or the
+/// current one for `versions`, which has no main file.
+pub(crate) fn store_folder(alloc: Global, command: &Command, main: &str) -> Result<String, NoMemory>
+    ensures { IfOk result (λ folder. IsStoreFolder command.now main.now (string_bytes folder)) }
+{
+    match command {
+        Command::Versions { .. } => current_folder(alloc),
+        Command::Fmt => folder_of(alloc, main),
+        Command::Edit(_) => folder_of(alloc, main),
+        Command::Graph => folder_of(alloc, main),
+        Command::List { .. } => folder_of(alloc, main),
+        Command::Chain(_) => folder_of(alloc, main),
+    }
+}
+
+/// The current folder.
+fn current_folder(alloc: Global) -> Result<String, NoMemory>
+    ensures { IfOk result (λ folder. string_bytes folder ≡ codes ".") }
+{
+    let folder = String::from_str(alloc, ".")?;
+    Ok(folder)
+}
+
+/// A store over proxy folders and the folder of the main file. It has not been asked yet.
+pub(crate) fn folders_of<S: FileSystem + Copy + Drop + Alloc<A = Global>>(
+    rt: &S,
+    main: String,
+    folders: ProxyList,
+) -> DiskFallback<S>
+    ensures asked { pairs result.asked.items ≡ [] }
+    ensures answers { (name : Name) (reply : Reply)
+        → ⟦<DiskFallback<S> as Files>⟧.may_answer result name reply
+        → MayBeTold (S.may_open rt.now) (string_bytes main) (Some folders) name reply }
+{
+    DiskFallback::new(*rt, rt.alloc(), main, folders)
+}
+
+/// A store that has the list of a module and nothing else.
+fn store_of(alloc: Global, path: &ModPath, list: Vec<u8>) -> Result<MemoryFiles, NoMemory>
+    ensures asked { IfOk result (λ files. pairs_of files ≡ []) }
+    ensures held { IfOk result (HoldsOne (list_file path.now) list.items) }
+{
+    let name = FileName::List(path.copy(alloc)?);
+    let mut files = MemoryFiles::new(alloc);
+    files.put(name, list)?;
+    Ok(files)
+}
+
+/// The bytes of standard input.
+fn read_input<S: Input + Alloc<A = Global>>(rt: &S) -> Result<Vec<u8>, Unread<'static>>
+    ensures { IfErr result IsUnreadList }
+{
+    match read_limited(rt.alloc(), &mut rt.reader()) {
+        Ok(bytes) => Ok(bytes),
+        Err(fault) => Err(Unread { name: "-", fault }),
+    }
+}
+
+/// A store that has standard input as the list of a module, and nothing else.
+fn list_store<S: Input + Alloc<A = Global>>(
+    rt: &S,
+    path: &ModPath,
+) -> Result<MemoryFiles, Unread<'static>>
+    ensures asked { IfOk result (λ files. pairs_of files ≡ []) }
+    ensures held { IfOk result (λ files. (list : Vec ℕ) × HoldsOne (list_file path.now) list.items files) }
+    ensures fault { IfErr result IsUnreadList }
+{
+    let list = read_input(rt)?;
+    let files = store_of(rt.alloc(), path, list)?;
+    Ok(files)
+}
+
+/// The store of a command without proxy folders: for `versions` it has standard input as the module's list, and for
+/// the other commands nothing.
+pub(crate) fn memory_store<S: Input + Alloc<A = Global>>(
+    rt: &S,
+    command: &Command,
+) -> Result<MemoryFiles, Unread<'static>>
+    ensures asked { IfOk result (λ files. pairs_of files ≡ []) }
+    ensures held { IfOk result (HoldsInput command.now) }
+    ensures fault { IfErr result (IsUnreadStore command.now) }
+{
+    match command {
+        Command::Versions { path, .. } => list_store(rt, path),
+        Command::Fmt => Ok(MemoryFiles::new(rt.alloc())),
+        Command::Edit(_) => Ok(MemoryFiles::new(rt.alloc())),
+        Command::Graph => Ok(MemoryFiles::new(rt.alloc())),
+        Command::List { .. } => Ok(MemoryFiles::new(rt.alloc())),
+        Command::Chain(_) => Ok(MemoryFiles::new(rt.alloc())),
+    }
+}
