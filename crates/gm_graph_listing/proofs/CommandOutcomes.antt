@@ -1,5 +1,5 @@
 -- What the commands do with what was found.
-use Rattle.std.proofs.Common.{◌≡◌, ◌∙◌, ◌++◌, ℕ, List, [], ◌∷◌, Option, Some, Result, Ok, Err, IfOk, MatchResult, sym, refl, subst, inl, inr, append-nil}
+use Rattle.std.proofs.Common.{◌≡◌, ◌⊎◌, ◌∙◌, ◌++◌, ℕ, List, [], ◌∷◌, Option, Some, Result, Ok, Err, IfOk, MatchResult, sym, refl, subst, ap, inl, inr, append-nil}
 use Rattle.std.specs.Result.{IsErr, IsErrAnd}
 use Rattle.gm_syntax.specs.Document.{Line}
 use Rattle.gm_syntax.specs.Tokens.{Placed}
@@ -27,8 +27,8 @@ use Rattle.gm_graph_listing.specs.declared.query.Query.{Query}
 use Rattle.gm_graph_listing.specs.declared.query.Query.TheVariants.{Graph, List as Rows, Chain}
 use Rattle.gm_graph_listing.specs.Texts.{limited, list_text}
 use Rattle.gm_graph_listing.specs.Reports.{Place, main_line}
-use Rattle.gm_graph_listing.specs.Outcomes.{AreKnown, AreInvalidSums, AreSums, FailsInOrder, IsAnswer, IsMainFile, IsMainOf, IsMalformedMain, IsRefusedRead, Outcome, PrintsFor, PrintsRows, StopsWith, answers, device, faulty, given, outcome_view, printed, refused, too_many}
-use Rattle.gm_graph_listing.specs.Found.{FailsOver, IsAnswerOver, IsLoadReport, ReportsFaultsOr, PrintsFound, FilesReadAs}
+use Rattle.gm_graph_listing.specs.Outcomes.{Answers, AreKnown, AreInvalidSums, AreSums, FailsInOrder, IsAnswer, IsMainFile, IsMainOf, IsMalformedMain, IsOutcomeOver, IsRefusedRead, Outcome, PrintsFor, PrintsRows, StopsWith, answers, device, faulty, given, outcome_view, printed, refused, too_many}
+use Rattle.gm_graph_listing.specs.Found.{IsLoadEnd, IsLoadReport, ReportsFaultsOr, PrintsFound, FilesReadAs}
 
 -- the case where the rows after a path are printed
 pub rest_printed : {E : Type 0} (main : Main) (rows rest : List Entry) (path : List ℕ) (limit : Option ℕ) (result : Result Output E) → IsRestAfter main.path rows path rest
@@ -36,6 +36,16 @@ pub rest_printed : {E : Type 0} (main : Main) (rows rest : List Entry) (path : L
     → IfOk result (λ output. PrintsRows main rows (Some path) limit (outcome_view output))
 rest_printed main rows rest path limit (Ok output) is says = inl (rest, is, says)
 rest_printed main rows rest path limit (Err e) is says = tt
+
+-- the outcome of a command when both files are valid
+abbrev pub IsAnswerOver : Query → Main → Option SumTable → Answers → Outcome → Type 0
+IsAnswerOver query main table told outcome = IsOutcomeOver (PrintsFor query) main table told outcome
+
+-- When both files are valid: the device failed on no file, or on one that was due under the answers.
+abbrev pub FailsOver : Main → Option SumTable → StoreState → StoreState → Type 0
+FailsOver main table old new =
+    (new.refused ≡ old.refused)
+    ⊎ ((name : Name) × IsDue main table new.asked name × (new.refused ≡ old.refused ++ name ∷ []))
 
 -- the outcome when both files are valid, with the names on which the store's device failed
 abbrev pub Answered : Query → Main → Option SumTable → StoreState → StoreState → Outcome → Type 0
@@ -172,3 +182,15 @@ refused_read query file sums state r s (Err e) none stops read ends = tt
 refused_read query file sums state r s (Ok output) none stops read ends =
     let is = subst (StopsWith (IsRefusedRead file sums)) ends (subst (IsBothRead file sums) stops read) in
     ([], sym (append-nil state.refused), inl (is, (none, refl)))
+
+-- the outcome of a run in which both files were valid
+pub answered : (query : Query) (file : List ℕ) (sums : Option (List ℕ)) (main : Main) (table : Option SumTable) (old new : StoreState) (result : Result Loaded LoadFault) (outcome : Outcome)
+    → FilesReadAs file sums main table → IfOk result (λ loaded. Told main table new.asked (IsLoaded main new.asked loaded))
+    → (result ≡ Err load.TooMany → Told main table new.asked (AreTooMany main))
+    → ((name : FileName) → result ≡ Err (load.Device name) → IsDue main table new.asked (name_of name))
+    → new.refused ≡ old.refused ++ refused_in result → IsLoadEnd query main result outcome → AnsweredOf query file sums old new outcome
+answered query file sums main table old new (Ok loaded) outcome (main_file, sums_are) is many due grown told =
+    let over = by_faults query main table old new loaded loaded.faults outcome is grown refl told in (over.0, over.1, inr (main, table, record { main_file = main_file; sums = sums_are }, over.2))
+answered query file sums main table old new (Err fault) outcome (main_file, sums_are) is many due grown told =
+    let over = not_loaded query main table old new fault outcome (λ e. many (ap Err e)) (λ name e. due name (ap Err e)) grown told in
+    (over.0, over.1, inr (main, table, record { main_file = main_file; sums = sums_are }, over.2))

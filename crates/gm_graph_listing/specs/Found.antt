@@ -1,8 +1,7 @@
 -- What loading found, what is reported when it stops early, and what the commands do with its result.
-use Rattle.std.specs.Prelude.{◌≡◌, ◌⊎◌, ◌++◌, ℕ, List, [], ◌∷◌, Option}
+use Rattle.std.specs.Prelude.{◌≡◌, ◌⊎◌, ℕ, List, [], ◌∷◌, Option, Result, Ok, Err}
 use Rattle.std.specs.Option.{option_copied}
-use Rattle.gm_store.specs.Asked.{Name, name_of}
-use Rattle.gm_store.specs.States.{StoreState}
+use Rattle.gm_store.specs.Asked.{name_of}
 use Rattle.gm_store_sums.specs.declared.sum_table.SumTable.{SumTable}
 use Rattle.gm_graph_cache.specs.Main.{Main}
 use Rattle.gm_graph_cache.specs.declared.load_fault.LoadFault.{LoadFault}
@@ -12,13 +11,12 @@ use Rattle.gm_graph_select.specs.BuildList.{IsEntryOf}
 use Rattle.gm_graph_select.specs.Chains.{IsChain}
 use Rattle.gm_graph_select.specs.Graph.{among}
 use Rattle.gm_graph.specs.declared.fault.Fault.{Fault}
-use Rattle.gm_graph.specs.Loading.{IsDue}
 use Rattle.gm_graph.specs.Outcome.{LoadedGraph as Found}
 use Rattle.gm_graph_listing.specs.declared.query.Query.{Query}
 use Rattle.gm_graph_listing.specs.declared.query.Query.TheVariants.{Graph, List as Rows, Chain}
 use Rattle.gm_graph_listing.specs.Texts.{chain_text, graph_text}
 use Rattle.gm_graph_listing.specs.Reports.{device_line, faults_text, too_many_line}
-use Rattle.gm_graph_listing.specs.Outcomes.{Answers, AreSums, IsMainFile, IsOutcomeOver, IsUnlisted, Outcome, PrintsFor, PrintsRows, failed, printed, refused}
+use Rattle.gm_graph_listing.specs.Outcomes.{AreSums, IsMainFile, IsUnlisted, Outcome, PrintsRows, failed, printed, refused}
 
 -- what is reported when loading stops early. Memory running out has no report of its own.
 abbrev pub IsLoadReport : LoadFault → Outcome → Type 0
@@ -56,12 +54,7 @@ ReportsFaultsOr (first ∷ others) prints outcome = outcome ≡ refused (faults_
 abbrev pub IsOutcomeOfFound : Query → Main → Found → Outcome → Type 0
 IsOutcomeOfFound query main found outcome = ReportsFaultsOr found.faults (PrintsFound query main found outcome) outcome
 
--- the outcome of a command when both files are valid
-abbrev pub IsAnswerOver : Query → Main → Option SumTable → Answers → Outcome → Type 0
-IsAnswerOver query main table told outcome = IsOutcomeOver (PrintsFor query) main table told outcome
-
--- When both files are valid: the device failed on no file, or on one that was due under the answers.
-abbrev pub FailsOver : Main → Option SumTable → StoreState → StoreState → Type 0
-FailsOver main table old new =
-    (new.refused ≡ old.refused)
-    ⊎ ((name : Name) × IsDue main table new.asked name × (new.refused ≡ old.refused ++ name ∷ []))
+-- the outcome of a command once loading has ended
+abbrev pub IsLoadEnd : Query → Main → Result Found LoadFault → Outcome → Type 0
+IsLoadEnd query main (Ok found) outcome = IsOutcomeOfFound query main found outcome
+IsLoadEnd query main (Err fault) outcome = IsLoadReport fault outcome

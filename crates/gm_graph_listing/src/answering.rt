@@ -6,9 +6,8 @@ ghost use Rattle.std.specs.Option.{option_copied};
 ghost use Rattle.gm_store.specs.Asked.{Name, Reply};
 ghost use Rattle.gm_store.specs.States.{RefusesWithCause};
 ghost use Rattle.gm_graph_cache.specs.Main.{main_of};
-ghost use Rattle.gm_graph.specs.Loading.{AsksInTurn};
 ghost use Rattle.gm_graph_listing.specs.Outcomes.{AsksInOrder, FailsInOrder, IsAnswer, IsRefusedRead, StopsWith, answers, given, outcome_view};
-ghost use Rattle.gm_graph_listing.specs.Found.{FailsOver, IsAnswerOver, IsLoadReport, FilesReadAs};
+ghost use Rattle.gm_graph_listing.specs.Found.{FilesReadAs, IsLoadEnd, IsLoadReport};
 
 use crate::output::{Output, Stop, failed, refused};
 use crate::printing::tell;
@@ -16,7 +15,7 @@ use crate::query::Query;
 use crate::reading::{main_file, sum_table};
 use crate::report::{TOO_MANY, device_report};
 use gm_file::MainFile;
-use gm_graph::load;
+use gm_graph::{Loaded, load};
 use gm_graph_cache::LoadFault;
 use gm_name::NoMemory;
 use gm_store::Files;
@@ -54,36 +53,19 @@ fn read_files<'a>(alloc: Global, file: &'a [u8], sums: Option<&'a [u8]>) -> Resu
     Ok(Read { main, table })
 }
 
-/// The outcome when both files are valid.
-fn answer_over<F: Files>(
+/// The outcome once loading has ended.
+fn after_loading(
     alloc: Global,
     query: Query<'_>,
     main: &MainFile<'_>,
-    table: Option<&SumTable>,
-    files: &mut F,
+    loaded: Result<Loaded, LoadFault>,
 ) -> Result<Output, NoMemory>
-    requires { (F.state files.old).asked ≡ [] }
-    ensures comes { IfOk result (λ output.
-        (failed : List Name) × ((F.state files.new).refused ≡ (F.state files.old).refused ++ failed)
-        × IsAnswerOver query.entry (main_of main.now) (option_copied table.entry)
-        (answers (F.state files.new).asked failed)
-        (outcome_view output)) }
-    ensures asks { AsksInTurn (main_of main.now) (option_copied table.entry) (F.state files.new).asked }
-    ensures fails { FailsOver (main_of main.now) (option_copied table.entry) (F.state files.old) (F.state files.new) }
-    ensures may_answer { (name : Name) (reply : Reply) → Contains (F.state files.new).asked (name, reply)
-        → F.may_answer files.old name reply }
-    ensures cause { RefusesWithCause (F.state files.old) (F.state files.new) }
-    ensures later { (F.state files.old).faults ≤ (F.state files.new).faults }
+    requires { IfOk loaded (λ loaded. loaded.main ≡ (main_of main.now).path) }
+    ensures { IfOk result (λ output. IsLoadEnd query.entry (main_of main.now) loaded (outcome_view output)) }
 {
-    match load(alloc, main, files, table) {
-        Ok(loaded) => {
-            let output = tell(alloc, query, main, loaded)?;
-            Ok(output)
-        }
-        Err(fault) => {
-            let output = not_loaded(alloc, fault)?;
-            Ok(output)
-        }
+    match loaded {
+        Ok(loaded) => tell(alloc, query, main, loaded),
+        Err(fault) => not_loaded(alloc, fault),
     }
 }
 
@@ -131,6 +113,7 @@ pub fn answer<F: Files>(
         Ok(read) => read,
         Err(stop) => return stop.into_output(),
     };
-    let output = answer_over(alloc, query, &read.main, read.table.as_ref(), files)?;
+    let loaded = load(alloc, &read.main, files, read.table.as_ref());
+    let output = after_loading(alloc, query, &read.main, loaded)?;
     Ok(output)
 }
