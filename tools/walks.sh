@@ -1,0 +1,93 @@
+#!/usr/bin/env bash
+# Prints the two walks of docs/WALKS.md call by call: how many functions are on the stack when the last one is called, and
+# each with its file and line.
+#
+#   tools/walks.sh          prints both walks
+#   tools/walks.sh --check  prints only what is wrong
+#
+# The lists stand in this script. It checks in the sources that the body of each function names the next one. The status
+# is 1 if one doesn't, or if more than nine are on the stack when `load` is called. .ci/run runs it before the merge
+# gate. It needs python3.
+set -euo pipefail
+cd "$(dirname "$0")/.."
+# shellcheck source=tools/lib.sh
+. tools/lib.sh
+help_if_asked tools/walks.sh "$@"
+case $#:${1-} in
+  0: | 1:--check) ;;
+  *) refuse_arguments tools/walks.sh "it takes --check or nothing" ;;
+esac
+exec python3 - "$@" << 'PYTHON'
+import pathlib
+import re
+import sys
+
+# a walk: its title, the most functions before its last one, if there is a limit, and its functions, each after its file
+# below crates/ where that isn't the file of the one before
+WALKS = [
+    ("list, to where the graph is loaded", 9, """
+        gomod/src/main.rt main
+        gomod_run/src/program.rt exit_code status_of status_of_words
+        gomod_run/src/serving.rt serve over_folders
+        gomod_run/src/running.rt run
+        gomod_run/src/outcome.rt outcome
+        gm_graph_listing/src/answering.rt answer
+        gm_graph/src/loading.rt load
+    """),
+    ("edit, to the first change of a line", None, """
+        gomod/src/main.rt main
+        gomod_run/src/program.rt exit_code status_of status_of_words
+        gomod_run/src/serving.rt serve over_memory
+        gomod_run/src/running.rt run
+        gomod_run/src/outcome.rt outcome
+        gomod_run/src/edit.rt edit_outcome edits_outcome apply_all apply_text apply_op
+        gm_file_edit/src/editor.rt apply
+        gm_file_edit/src/applying.rt edit_lines change_lines
+    """),
+]
+
+
+def functions(listed):
+    """The functions of a list, each with its file."""
+    path = None
+    for word in listed.split():
+        if "/" in word:
+            path = pathlib.Path("crates", word)
+        else:
+            yield path, word
+
+
+def body_of(path, function):
+    """The line of a function in a file, and its text up to the brace that closes it."""
+    lines = path.read_text().split("\n")
+    for number, line in enumerate(lines, 1):
+        head = re.match(rf"(\s*)(?:pub(?:\([a-z]+\))? )?fn {function}\b", line)
+        if head:
+            end = lines.index(head[1] + "}", number)
+            return number, "\n".join(lines[number:end])
+    return None, ""
+
+
+def main():
+    status = 0
+    tell = print if len(sys.argv) == 1 else lambda line: None
+    for title, most, listed in WALKS:
+        steps = list(functions(listed))
+        tell(f"{title}: {len(steps) - 1}")
+        for (path, function), after in zip(steps, steps[1:] + [None]):
+            line, body = body_of(path, function)
+            tell(f"  {path}:{line}: {function}")
+            if line is None:
+                print(f"walks: there is no function {function} in {path}")
+                status = 1
+            elif after is not None and not re.search(rf"\b{after[1]}\(", body):
+                print(f"walks: {function} doesn't call {after[1]}")
+                status = 1
+        if most is not None and len(steps) - 1 > most:
+            print(f"walks: more than {most} functions before the last")
+            status = 1
+    return status
+
+
+sys.exit(main())
+PYTHON
