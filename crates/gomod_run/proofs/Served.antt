@@ -22,7 +22,7 @@ use Rattle.gomod_run.specs.declared.inputs.Inputs.{Inputs}
 use Rattle.gomod_run.specs.declared.inputs.Unread.{Unread}
 use Rattle.gomod_run.specs.Program.{IsMainServed, IsQueryRun, IsServed, IsSumsServed, MayBeTold, unread_outcome}
 use Rattle.gomod_run.specs.Queries.{RunsTo}
-use Rattle.gomod_run.specs.Reads.{AreBothRead, AreInputs, AreSumsRead, AreSumsUnread, HoldsInput, IsOneUnread, IsServedUnread, IsStoreFolder, IsUnreadInput, IsUnreadStore, placed}
+use Rattle.gomod_run.specs.Reads.{AreBothRead, AreInputs, AreSumsInput, AreSumsUnread, HoldsInput, IsOneUnread, IsServedUnread, IsStoreFolder, IsUnreadInput, IsUnreadStore, with_proxy}
 use Rattle.gomod_run.specs.Runs.{is_query}
 use Rattle.gomod_run.specs.Written.{EndsAsStated}
 use Rattle.gomod_run.proofs.Endings.{by_bytes, folder_weaken, input_weaken}
@@ -49,7 +49,7 @@ query_weaken may_answer (Chain path) main sums old new query told outcome runs =
 
 -- a query that runs with what was read of the named go.sum
 sums_served : (may_open : List ℕ → Opening → Type 0) (may_answer : Name → Reply → Type 0) (command : Command) (name : Option (List ℕ)) (main : List ℕ) (sums : Option (Vec ℕ)) (outcome : Outcome)
-    → AreSumsRead may_open name sums → IsQueryRun may_answer command main (option_map (λ sums. sums.items) sums) outcome → IsSumsServed may_open may_answer command name main outcome
+    → AreSumsInput may_open name sums → IsQueryRun may_answer command main (option_map (λ sums. sums.items) sums) outcome → IsSumsServed may_open may_answer command name main outcome
 sums_served may_open may_answer command None main None outcome read runs = runs
 sums_served may_open may_answer command (Some name) main (Some sums) outcome read runs = (Ok sums, read, runs)
 sums_served may_open may_answer command None main (Some sums) outcome read runs = absurd read
@@ -102,7 +102,7 @@ same_run command inputs main sums old new same_main same_sums outcome runs =
 pub folders_served : (may_open : List ℕ → Opening → Type 0) (command : Command) (places : Places) (folders : ProxyList) (folder : List ℕ) (inputs : Inputs) (old new : StoreState)
     → AreInputs may_open command places inputs → IsStoreFolder command (string_bytes places.main) folder
     → ((name : Name) (reply : Reply) → Contains new.asked (name, reply) → MayBeTold may_open folder (Some folders) name reply)
-    → (outcome : Outcome) → RunsTo command inputs.main.items (option_map (λ sums. sums.items) inputs.sums) old new outcome → IsServed may_open command (placed places (Some folders)) outcome
+    → (outcome : Outcome) → RunsTo command inputs.main.items (option_map (λ sums. sums.items) inputs.sums) old new outcome → IsServed may_open command (with_proxy places (Some folders)) outcome
 folders_served may_open Fmt places folders folder inputs old new read is told outcome runs = (Ok inputs.main, read.0, by_bytes Fmt inputs.main.items (option_map (λ sums. sums.items) inputs.sums) old new outcome refl runs)
 folders_served may_open (Edit operations) places folders folder inputs old new read is told outcome runs = (Ok inputs.main, read.0, by_bytes (Edit operations) inputs.main.items (option_map (λ sums. sums.items) inputs.sums) old new outcome refl runs)
 folders_served may_open (Versions path all) places folders folder inputs old new read is told outcome runs =
@@ -163,7 +163,7 @@ pub memory_served : (may_open : List ℕ → Opening → Type 0) (command : Comm
     → AreInputs may_open command places inputs → HoldsInput command before
     → ((name : Name) (reply : Reply) → Contains (pairs_of after) (name, reply) → may_give before name reply)
     → (outcome : Outcome) → RunsTo command inputs.main.items (option_map (λ sums. sums.items) inputs.sums) (memory_files_state before) (memory_files_state after) outcome
-    → IsServed may_open command (placed places None) outcome
+    → IsServed may_open command (with_proxy places None) outcome
 memory_served may_open Fmt places inputs before after read holds allowed outcome runs = (Ok inputs.main, read.0, by_bytes Fmt inputs.main.items (option_map (λ sums. sums.items) inputs.sums) (memory_files_state before) (memory_files_state after) outcome refl runs)
 memory_served may_open (Edit operations) places inputs before after read holds allowed outcome runs = (Ok inputs.main, read.0, by_bytes (Edit operations) inputs.main.items (option_map (λ sums. sums.items) inputs.sums) (memory_files_state before) (memory_files_state after) outcome refl runs)
 memory_served may_open (Versions path all) places inputs before after read holds allowed outcome runs = (
@@ -186,7 +186,7 @@ unread_passed stated unread (Ok value) same is = tt
 
 -- the report of a file that can't be read is an outcome of the command
 pub input_unserved : (may_open : List ℕ → Opening → Type 0) (command : Command) (places : Places) (proxy : Option ProxyList) (unread : Unread) → IsUnreadInput may_open command places unread
-    → IsServed may_open command (placed places proxy) (unread_outcome unread.name.now unread.fault)
+    → IsServed may_open command (with_proxy places proxy) (unread_outcome unread.name.now unread.fault)
 input_unserved may_open Fmt places proxy unread is = (Err unread.fault, is.1, ap (λ (name : List ℕ). unread_outcome name unread.fault) is.0)
 input_unserved may_open (Edit operations) places proxy unread is = (Err unread.fault, is.1, ap (λ (name : List ℕ). unread_outcome name unread.fault) is.0)
 input_unserved may_open (Versions path all) places proxy unread is = absurd is
@@ -199,7 +199,7 @@ input_unserved may_open (Chain path) places proxy unread is =
 
 -- and so is the report of standard input, unless memory ran out
 pub store_unserved : (may_open : List ℕ → Opening → Type 0) (command : Command) (places : Places) (unread : Unread) → IsUnreadStore command unread
-    → IsServedUnread may_open command (placed places None) unread
+    → IsServedUnread may_open command (with_proxy places None) unread
 store_unserved may_open (Versions path all) places unread (inl same) = inl (Err unread.fault, ap (λ (name : List ℕ). unread_outcome name unread.fault) same)
 store_unserved may_open (Versions path all) places unread (inr memory) = inr memory
 store_unserved may_open Fmt places unread is = absurd is
@@ -239,9 +239,9 @@ pub record IsRun (may_open : List ℕ → Opening → Type 0) (command : Command
 -- it gives the same where its results have other names
 pub same_served : (may_open : List ℕ → Opening → Type 0) (command : Command) (places : Places) (proxy : Option ProxyList) (out mid out' report between report' : SinkState) (made served : Result Status Unread)
     → proxy ≡ places.proxy → out' ≡ mid → report' ≡ between → served ≡ made
-    → IsRun may_open command (placed places proxy) out mid report between made → IsRun may_open command places out out' report report' served
+    → IsRun may_open command (with_proxy places proxy) out mid report between made → IsRun may_open command places out out' report report' served
 same_served may_open command places proxy out mid out' report between report' made served same_proxy same_out same_report same run =
-    let P : Option ProxyList → Type 0 = λ proxy. IsRun may_open command (placed places proxy) out mid report between made in
+    let P : Option ProxyList → Type 0 = λ proxy. IsRun may_open command (with_proxy places proxy) out mid report between made in
     let Q : SinkState → Type 0 = λ out'. IsRun may_open command places out out' report between made in
     let R : SinkState → Type 0 = λ report'. IsRun may_open command places out out' report report' made in
     let S : Result Status Unread → Type 0 = λ served. IsRun may_open command places out out' report report' served in

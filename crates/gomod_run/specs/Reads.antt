@@ -20,11 +20,11 @@ use Rattle.gomod_run.specs.Program.{IsServed, unread_outcome}
 -- In what follows `may_open` says what may come of opening the file at a path.
 
 -- the go.sum was read, if one is named
-abbrev pub AreSumsRead : (List ℕ → Opening → Type 0) → Option (List ℕ) → Option (Vec ℕ) → Type 0
-AreSumsRead may_open None None = Unit {0}
-AreSumsRead may_open (Some name) (Some sums) = MayRead (may_open name) (Ok sums)
-AreSumsRead may_open None (Some sums) = ⊥
-AreSumsRead may_open (Some name) None = ⊥
+abbrev pub AreSumsInput : (List ℕ → Opening → Type 0) → Option (List ℕ) → Option (Vec ℕ) → Type 0
+AreSumsInput may_open None None = Unit {0}
+AreSumsInput may_open (Some name) (Some sums) = MayRead (may_open name) (Ok sums)
+AreSumsInput may_open None (Some sums) = ⊥
+AreSumsInput may_open (Some name) None = ⊥
 
 -- a go.sum is named, and can't be read
 abbrev pub AreSumsUnread : (List ℕ → Opening → Type 0) → Option (List ℕ) → Unread → Type 0
@@ -32,8 +32,8 @@ AreSumsUnread may_open None unread = ⊥
 AreSumsUnread may_open (Some name) unread = (unread.name.now ≡ name) × MayRead (may_open name) (Err unread.fault)
 
 -- the main file with this name was read, and no go.sum
-abbrev pub IsMainRead : (List ℕ → Opening → Type 0) → List ℕ → Inputs → Type 0
-IsMainRead may_open name inputs = MayRead (may_open name) (Ok inputs.main) × (inputs.sums ≡ None)
+abbrev pub IsMainInput : (List ℕ → Opening → Type 0) → List ℕ → Inputs → Type 0
+IsMainInput may_open name inputs = MayRead (may_open name) (Ok inputs.main) × (inputs.sums ≡ None)
 
 -- the main file with this name can't be read
 abbrev pub IsMainUnread : (List ℕ → Opening → Type 0) → List ℕ → Unread → Type 0
@@ -42,7 +42,7 @@ IsMainUnread may_open name unread = (unread.name.now ≡ name) × MayRead (may_o
 -- the main file was read, and the go.sum if one is named
 abbrev pub AreBothRead : (List ℕ → Opening → Type 0) → Places → Inputs → Type 0
 AreBothRead may_open places inputs = MayRead (may_open (string_bytes places.main)) (Ok inputs.main)
-    × AreSumsRead may_open (option_map string_bytes places.sums) inputs.sums
+    × AreSumsInput may_open (option_map string_bytes places.sums) inputs.sums
 
 -- the main file can't be read, or it was read and the go.sum can't be
 abbrev pub IsOneUnread : (List ℕ → Opening → Type 0) → Places → Unread → Type 0
@@ -53,8 +53,8 @@ IsOneUnread may_open places unread =
 
 -- what a command reads before it runs
 abbrev pub AreInputs : (List ℕ → Opening → Type 0) → Command → Places → Inputs → Type 0
-AreInputs may_open Fmt places inputs = IsMainRead may_open (string_bytes places.main) inputs
-AreInputs may_open (Edit operations) places inputs = IsMainRead may_open (string_bytes places.main) inputs
+AreInputs may_open Fmt places inputs = IsMainInput may_open (string_bytes places.main) inputs
+AreInputs may_open (Edit operations) places inputs = IsMainInput may_open (string_bytes places.main) inputs
 AreInputs may_open (Versions path all) places inputs = inputs.sums ≡ None
 AreInputs may_open _ places inputs = AreBothRead may_open places inputs
 
@@ -86,8 +86,8 @@ IsUnreadStore (Versions path all) unread = IsUnreadList unread
 IsUnreadStore _ unread = ⊥
 
 -- these places with these proxy folders
-abbrev pub placed : Places → Option ProxyList → Places
-placed places proxy = record { main = places.main; proxy = proxy; sums = places.sums }
+abbrev pub with_proxy : Places → Option ProxyList → Places
+with_proxy places proxy = record { main = places.main; proxy = proxy; sums = places.sums }
 
 -- the report of what can't be read is an outcome of the command, unless memory ran out
 abbrev pub IsServedUnread : (List ℕ → Opening → Type 0) → Command → Places → Unread → Type 0

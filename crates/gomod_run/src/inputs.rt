@@ -5,7 +5,7 @@ ghost use Rattle.std.specs.Option.{option_map};
 ghost use Rattle.std.specs.String.{string_bytes};
 ghost use Rattle.gm_store.specs.Openings.{MayRead};
 ghost use Rattle.gm_store.specs.declared.reading.ReadFault.TheVariants.{NoMemory};
-ghost use Rattle.gomod_run.specs.Reads.{AreBothRead, AreInputs, AreSumsRead, AreSumsUnread, IsMainRead, IsMainUnread, IsOneUnread, IsUnreadInput};
+ghost use Rattle.gomod_run.specs.Reads.{AreBothRead, AreInputs, AreSumsInput, AreSumsUnread, IsMainInput, IsMainUnread, IsOneUnread, IsUnreadInput};
 
 use gm_store::{FileSystem, ReadFault, read_file};
 use gomod_words::{Command, Places};
@@ -74,7 +74,7 @@ fn read_sums<'a, S: FileSystem + Alloc<A = Global>>(
     places: &'a Places,
 ) -> Result<Option<Vec<u8>>, Unread<'a>>
     ensures { MatchResult result
-        (AreSumsRead (S.may_open rt.now) (option_map string_bytes places.now.sums))
+        (AreSumsInput (S.may_open rt.now) (option_map string_bytes places.now.sums))
         (AreSumsUnread (S.may_open rt.now) (option_map string_bytes places.now.sums)) }
 {
     match &places.sums {
@@ -89,7 +89,7 @@ fn read_main<'a, S: FileSystem + Alloc<A = Global>>(
     places: &'a Places,
 ) -> Result<Inputs, Unread<'a>>
     ensures { MatchResult result
-        (IsMainRead (S.may_open rt.now) (string_bytes places.now.main))
+        (IsMainInput (S.may_open rt.now) (string_bytes places.now.main))
         (IsMainUnread (S.may_open rt.now) (string_bytes places.now.main)) }
 {
     let main = read_named(rt, places.main.as_str())?;

@@ -5,7 +5,7 @@ ghost use Rattle.std.specs.Prelude.{◌≡◌, ◌++◌, IfErr, IfOk, None, Some
 ghost use Rattle.std.specs.String.{string_bytes};
 ghost use Rattle.gm_graph_listing.specs.Outcomes.{code_of};
 ghost use Rattle.gomod_run.specs.Program.{IsServed, cannot_read_line, unread_outcome};
-ghost use Rattle.gomod_run.specs.Reads.{IsServedUnread, placed};
+ghost use Rattle.gomod_run.specs.Reads.{IsServedUnread, with_proxy};
 ghost use Rattle.gomod_run.specs.Written.{EndsAsStated};
 
 use crate::inputs::{Unread, read_inputs};
@@ -28,10 +28,10 @@ fn over_folders<'a, S: FileSystem + Copy + Drop + Alloc<A = Global>, O: Sink, R:
     report: &mut R,
 ) -> Result<Status, Unread<'a>>
     ensures ends { IfOk result (λ status.
-        EndsAsStated (IsServed (S.may_open rt.now) command.now (placed places.now (Some folders)))
+        EndsAsStated (IsServed (S.may_open rt.now) command.now (with_proxy places.now (Some folders)))
         (O.state out.old) (O.state out.new) (R.state report.old) (R.state report.new)
         (code_of status)) }
-    ensures unread { IfErr result (IsServedUnread (S.may_open rt.now) command.now (placed places.now (Some folders))) }
+    ensures unread { IfErr result (IsServedUnread (S.may_open rt.now) command.now (with_proxy places.now (Some folders))) }
     ensures no_text { IfErr result (λ _. O.state out.new ≡ O.state out.old) }
     ensures no_report { IfErr result (λ _. R.state report.new ≡ R.state report.old) }
 {
@@ -59,10 +59,10 @@ fn over_memory<'a, S: Input + FileSystem + Alloc<A = Global>, O: Sink, R: Sink>(
     report: &mut R,
 ) -> Result<Status, Unread<'a>>
     ensures ends { IfOk result (λ status.
-        EndsAsStated (IsServed (S.may_open rt.now) command.now (placed places.now None))
+        EndsAsStated (IsServed (S.may_open rt.now) command.now (with_proxy places.now None))
         (O.state out.old) (O.state out.new) (R.state report.old) (R.state report.new)
         (code_of status)) }
-    ensures unread { IfErr result (IsServedUnread (S.may_open rt.now) command.now (placed places.now None)) }
+    ensures unread { IfErr result (IsServedUnread (S.may_open rt.now) command.now (with_proxy places.now None)) }
     ensures no_text { IfErr result (λ _. O.state out.new ≡ O.state out.old) }
     ensures no_report { IfErr result (λ _. R.state report.new ≡ R.state report.old) }
 {
