@@ -31,7 +31,8 @@ fn over_folders<'a, S: FileSystem + Copy + Drop + Alloc<A = Global>, O: Sink, R:
         EndsAsStated (IsServed (S.may_open rt.now) command.now (with_proxy places.now (Some folders)))
         (O.state out.old) (O.state out.new) (R.state report.old) (R.state report.new)
         (code_of status)) }
-    ensures unread { IfErr result (IsServedUnread (S.may_open rt.now) command.now (with_proxy places.now (Some folders))) }
+    ensures unread { IfErr result
+        (IsServedUnread (S.may_open rt.now) command.now (with_proxy places.now (Some folders))) }
     ensures no_text { IfErr result (λ _. O.state out.new ≡ O.state out.old) }
     ensures no_report { IfErr result (λ _. R.state report.new ≡ R.state report.old) }
 {
@@ -62,7 +63,8 @@ fn over_memory<'a, S: Input + FileSystem + Alloc<A = Global>, O: Sink, R: Sink>(
         EndsAsStated (IsServed (S.may_open rt.now) command.now (with_proxy places.now None))
         (O.state out.old) (O.state out.new) (R.state report.old) (R.state report.new)
         (code_of status)) }
-    ensures unread { IfErr result (IsServedUnread (S.may_open rt.now) command.now (with_proxy places.now None)) }
+    ensures unread { IfErr result
+        (IsServedUnread (S.may_open rt.now) command.now (with_proxy places.now None)) }
     ensures no_text { IfErr result (λ _. O.state out.new ≡ O.state out.old) }
     ensures no_report { IfErr result (λ _. R.state report.new ≡ R.state report.old) }
 {
