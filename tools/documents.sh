@@ -1,6 +1,6 @@
 #!/usr/bin/env bash
 # Checks what README.md and the documents of docs/ name: that each file, crate, function, clause, law, test, edit,
-# commit and title of a case is there, that the maps of files are complete, and that counts are right.
+# commit and title of a case is there, and that counts are right.
 #
 #   tools/documents.sh           README.md and all documents of docs/
 #   tools/documents.sh FILE..    these
@@ -70,7 +70,6 @@ class Sources:
         self.titles = collections.defaultdict(set)  # file: titles of cases
         self.public = collections.defaultdict(set)  # (crate, module or type): public functions
         self.of_traits = collections.defaultdict(set)  # (crate, type): functions of traits
-        self.kinds = {}  # (crate, item): struct, enum, trait or fn
         self.version = re.search(r'VERSION: &str = "(.*)"', "\n".join(lines_of("crates/gomod_words/src/help.rt")))[1]
         for path in sorted(self.files):
             crate = path.split("/")[1] if path.startswith("crates/") else ""
@@ -108,7 +107,6 @@ class Sources:
                 # an indented `type` is a trait's own
                 if item[1] in ("struct", "enum", "trait") or item[1] == "type" and line.startswith(("pub", "type")):
                     self.owners.add(item[2])
-                    self.kinds[crate, item[2]] = item[1]
                     owners, kind = ([item[2]], item[1]) if not line.rstrip().endswith(";") else ([], "")
             elif line.startswith("}"):
                 owners, kind = [], ""
@@ -124,8 +122,6 @@ class Sources:
                 if kind == "for":
                     for it in within:
                         self.of_traits[crate, it].add(function)
-                if not called[1]:
-                    self.kinds[crate, function] = "fn"
                 if is_test:
                     self.tests.add(function)
                 if "laws" in parts or crate == "gomod_laws":
@@ -162,7 +158,7 @@ class Sources:
 
     def is_declared(self, name):
         return (name in self.items or name in self.defined or name in self.crates or name in self.modules
-                or any(name == edit for _, edit in self.edits))
+                or any(name in it for it in self.passed_on.values()) or any(name == edit for _, edit in self.edits))
 
     def is_name(self, name, is_inner):
         return self.is_declared(name) or name in ELSEWHERE | self.imported or (is_inner and name in self.inner)
@@ -384,118 +380,12 @@ class Document:
     def read_cell(self, name, cell, line):
         sources = self.sources
         if re.search(r"\bCalls?\b|\bLaws?\b|\bClause\b|\bCarried by\b", name) and self.name != "docs/CASES.md":
-            bare = re.sub(r"\([^()]*\)", "", cell) if "Public" not in name else cell
-            for text in re.findall(r"`([a-z]+|[A-Z][a-z]+)`", bare):
+            for text in re.findall(r"`([a-z]+|[A-Z][a-z]+)`", re.sub(r"\([^()]*\)", "", cell)):
                 is_right = text in ("ensures", "requires") or sources.is_declared(text)
                 self.tell("names", is_right, f"there is no `{text}`")
         if name == "Crate" and re.fullmatch(r" *\w+(?:, \w+)* *", cell):
             for it in re.findall(r"\w+", cell):
                 self.tell("crates", it in sources.crates, f"there is no crate {it}")
-        if name.startswith("Depends on"):
-            self.read_needs(line)
-        if name == "Copy":
-            self.read_closure(line)
-        if name == "Public calls" and not cell.strip().startswith("none"):
-            self.read_public(cell, line)
-
-    def read_needs(self, line):
-        """A row of the crates that a crate depends on, beside the line of crates.txt."""
-        cells = dict(self.cells(line))
-        said = set(re.findall(r"\w+", cells[next(it for it in cells if it.startswith("Depends on"))])) - {"none"}
-        for crate in re.findall(r"\w+", cells["Crate"]):
-            needs = {it for row in lines_of("crates.txt") if row.startswith(f"{crate}:") for it in row.split()[1:]}
-            wrong = sorted((needs - {"thiserror"}) ^ said)
-            self.tell("rows of crates", not wrong, f"{crate} and crates.txt differ in {', '.join(wrong)}")
-
-    def read_closure(self, line):
-        """A row of the crates to copy for one, beside that crate and all below it by crates.txt."""
-        cells = dict(self.cells(line))
-        needs = {row.split(":")[0]: row.split(":")[1].split() for row in lines_of("crates.txt") if ":" in row}
-        taken = cells["Take"].strip()
-        below, left = set(), [taken]
-        while left:
-            crate = left.pop()
-            if crate in needs and crate not in below:
-                below.add(crate)
-                left += needs[crate]
-        wrong = sorted(below ^ set(re.findall(r"\w+", cells["Copy"])))
-        self.tell("rows of crates", not wrong, f"below {taken} crates.txt differs in {', '.join(wrong)}")
-
-    def read_public(self, cell, line):
-        """A row of public calls, beside what the crate's lib.rt exports."""
-        sources = self.sources
-        crate = dict(self.cells(line))["Crate"].strip()
-        wanted = set()
-        for name in sources.passed_on[crate]:
-            kind = sources.kinds.get((crate, name))
-            if kind == "fn":
-                wanted.add(name)
-            elif kind in ("struct", "enum", "trait") or crate in sources.modules.get(name, ()):
-                wanted |= {f"{name}::{it}" for it in sources.public.get((crate, name), ())}
-        said = set()
-        for head, rest in re.findall(r"`([\w:]+)`(?: \(([^()]*)\))?", cell):
-            said |= {f"{head}::{it}" for it in re.findall(r"`(\w+)`", rest)} if rest else {head}
-        for it in sorted(said | wanted):
-            what = "missing" if it in wanted else "not public"
-            self.tell("public calls", it in said & wanted, f"`{it}` of {crate} is {what} here")
-
-
-class Maps:
-    """The maps of files of a document: in a section on crates, the tables with a column on files."""
-
-    def __init__(self, name, sources, tally):
-        self.name, self.sources, self.tally = name, sources, tally
-        self.sections = {}  # crate: (line of its heading, named files)
-
-    def read(self):
-        document = Document(self.name, self.sources, self.tally)
-        crates, lines = [], lines_of(self.name)
-        for document.number, line in enumerate(lines, 1):
-            if re.match(r"#{2,3} ", line):
-                named = [it for it in re.findall(r"\w+", line.split(":")[0]) if it in self.sources.crates]
-                if named or line.startswith("## "):
-                    crates = named
-                for it in crates:
-                    self.sections.setdefault(it, (document.number, set()))
-            if line.startswith("|") and document.number < len(lines) and lines[document.number].startswith("|---"):
-                document.header = [it.strip() for it in line.strip().strip("|").split(" | ")]
-            elif line.startswith("|"):
-                self.read_row(document, crates, line)
-            else:
-                document.header = []
-        self.compare(document)
-
-    def read_row(self, document, crates, line):
-        cells = document.cells(line)
-        crates = next((re.findall(r"\w+", cell) for name, cell in cells if name == "Crate"), crates)
-        for name, cell in cells:
-            if name not in ("File", "src/", "specs/", "proofs/") or not crates:
-                continue
-            folder = name.rstrip("/") if name != "File" else "src"
-            for word in re.split(r", | and |;", re.sub(r"\([^()]*\)", "", cell)):
-                word = word.strip().strip("`")
-                if not word:
-                    continue
-                if "/" in word:
-                    folder, word = word.split("/", 1)
-                stem = re.sub(r"\.(?:rt|antt)$", "", word)
-                end = "rt" if folder == "src" else "antt"
-                places = [it for it in crates if f"crates/{it}/{folder}/{stem}.{end}" in self.sources.files]
-                message = f"there is no file {folder}/{stem}.{end} in {', '.join(crates)}"
-                document.tell("rows of maps", bool(places), message)
-                for it in places:
-                    self.sections.setdefault(it, (document.number, set()))[1].add(f"{folder}/{stem}.{end}")
-
-    def compare(self, document):
-        for crate, (number, named) in sorted(self.sections.items(), key=lambda it: it[1][0]):
-            if not named:
-                continue
-            document.number = number
-            for path in sorted(self.sources.files):
-                found = re.fullmatch(rf"crates/{crate}/((?:src/\w+\.rt|specs/\w+\.antt))", path)
-                if found and os.path.basename(path) not in ("lib.rt", "main.rt", "Lib.antt"):
-                    message = f"{found[1]} of {crate} is in no map of its section"
-                    document.tell("rows of maps", found[1] in named, message)
 
 
 if git("rev-parse", "HEAD").returncode:
@@ -509,8 +399,6 @@ def main(*names):
     tally = collections.defaultdict(lambda: {True: 0, False: 0})
     for name in names or ["README.md", *sorted(glob.glob("docs/*.md"))]:
         Document(name, SOURCES, tally).read()
-        if os.path.basename(name) == "CONTRACTS.md":
-            Maps(name, SOURCES, tally).read()
     for what, counts in tally.items():
         print(f"{what}: {counts[True]} right, {counts[False]} wrong")
     return 1 if any(it[False] for it in tally.values()) else 0

@@ -20,14 +20,14 @@ import sys
 
 # file, function, and why memory has run out there
 LISTED = """
-gm_graph_cache/src/summaries.rt settle: a map refused the entry, and gave it back
+gm_graph_cache/src/file_table.rt add: the list has the greatest size
 gm_graph_listing/src/report.rt syntax_report: the fault has no place, so it is that memory ran out
 gm_graph_listing/src/report.rt directive_report: the fault has no place, so it is that memory ran out
 gm_name/src/borrowed_version.rt to_version: a text that is a version was refused
 gm_name/src/version.rt read: the parser says so
 gm_name/src/version.rt with: a text that is a pre-release was refused
 gm_name_table/src/module_table.rt put: the list has the greatest size
-gm_store/src/fallback_walk.rt walk: the look-up in a folder says so
+gm_store/src/fallback/walk.rt walk: the look-up in a folder says so
 gm_store_sums/src/sum_lines.rt fault_of: no line is invalid, so reading stopped for memory
 gomod_run/src/program.rt words_of: the list of words could not grow
 gomod_run/src/program.rt word_at: the buffer has the greatest size

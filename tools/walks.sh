@@ -6,8 +6,8 @@
 #   tools/walks.sh --check  prints only what is wrong
 #
 # The lists stand in this script. It checks in the sources that the body of each function names the next one. The status
-# is 1 if one doesn't, or if more than nine are on the stack when `load` is called. .ci/run runs it before the merge
-# gate. It needs python3.
+# is 1 if one doesn't, or if more than nine are on the stack when `load` is called, or twelve at the first change of a
+# line. .ci/run runs it before the merge gate. It needs python3.
 set -euo pipefail
 cd "$(dirname "$0")/.."
 # shellcheck source=tools/lib.sh
@@ -22,8 +22,8 @@ import pathlib
 import re
 import sys
 
-# a walk: its title, the most functions before its last one, if there is a limit, and its functions, each after its file
-# below crates/ where that isn't the file of the one before
+# a walk: its title, the most functions before its last one, and its functions, each after its file below crates/ where
+# that isn't the file of the one before
 WALKS = [
     ("list, to where the graph is loaded", 9, """
         gomod/src/main.rt main
@@ -34,13 +34,13 @@ WALKS = [
         gm_graph_listing/src/answering.rt answer
         gm_graph/src/loading.rt load
     """),
-    ("edit, to the first change of a line", None, """
+    ("edit, to the first change of a line", 12, """
         gomod/src/main.rt main
         gomod_run/src/program.rt exit_code status_of status_of_words
         gomod_run/src/serving.rt serve over_memory
         gomod_run/src/running.rt run
         gomod_run/src/outcome.rt outcome
-        gomod_run/src/edit.rt edit_outcome edits_outcome apply_all apply_text apply_op
+        gomod_run/src/edit.rt edit_outcome apply_text
         gm_file_edit/src/editor.rt apply
         gm_file_edit/src/applying.rt edit_lines change_lines
     """),
@@ -83,7 +83,7 @@ def main():
             elif after is not None and not re.search(rf"\b{after[1]}\(", body):
                 print(f"walks: {function} doesn't call {after[1]}")
                 status = 1
-        if most is not None and len(steps) - 1 > most:
+        if len(steps) - 1 > most:
             print(f"walks: more than {most} functions before the last")
             status = 1
     return status

@@ -18,3 +18,4 @@ pub mod Whole
 pub mod Retracted
 pub mod DepReading
 pub mod PairLines
+pub mod ListEnds

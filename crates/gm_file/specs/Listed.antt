@@ -1,5 +1,6 @@
 -- A dependency's file whose requirements are in a list of modules.
-use Rattle.std.specs.Prelude.{◌≡◌, ◌++◌, ℕ, List, Option}
+use Rattle.std.specs.Prelude.{ℕ, List, Option}
+use Rattle.gm_name_table.specs.Listed.{Appends, NumberedList}
 use Rattle.gm_file.specs.DepLines.{IsDependencyIn}
 use Rattle.gm_file.specs.Directives.{Pair}
 use Rattle.gm_file.specs.Fields.{Dependency}
@@ -20,6 +21,6 @@ with_requirements head requirements = record {
 }
 
 -- The bytes can be read as a dependency's file, whose requirements were put to the end of a list.
-abbrev pub IsListedFrom : List ℕ → List Pair → List Pair → Head → Type 0
-IsListedFrom bytes old new head = (requirements : List Pair) × (new ≡ old ++ requirements)
+abbrev pub IsListedFrom : List ℕ → NumberedList → NumberedList → Head → Type 0
+IsListedFrom bytes old new head = (requirements : List Pair) × Appends old new requirements
     × IsDependencyIn bytes (with_requirements head requirements)

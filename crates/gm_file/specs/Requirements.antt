@@ -1,20 +1,31 @@
 -- The requirements of a file while it is read.
-use Rattle.std.specs.Prelude.{◌≤◌, List, Option, Some, None, drop, length, take, ⊤}
+use Rattle.std.specs.Prelude.{◌≤◌, ℕ, List, Option, Some, None, drop, length, take, ⊤}
+use Rattle.gm_name_table.specs.Listed.{AreModuleNumbers, NumberedList, listed}
 use Rattle.gm_file.specs.declared.required.Place.{Place}
 use Rattle.gm_file.specs.declared.required.Place.TheVariants as place
 use Rattle.gm_file.specs.Directives.{Pair}
 
--- the requirements; and if they go to the end of a list of modules, what is before them in it
+-- the requirements; and if they go to the end of a list of modules, that list as it was before
 pub record Requirements : Type 0 where
-  pub before : Option (List Pair)
+  pub before : Option NumberedList
   pub items : List Pair
+
+-- the list as it was when it had so many modules, and so many of them were distinct
+abbrev pub list_before : NumberedList → ℕ → ℕ → NumberedList
+list_before list start known = record { modules = take known list.modules; numbers = take start list.numbers }
 
 -- the requirements in a place
 abbrev pub items_in : Place → Requirements
 items_in (place.Own pairs) = record { before = None; items = pairs.items }
-items_in (place.End list start) = record { before = Some (take start list); items = drop start list }
+items_in (place.End list start known) =
+    record { before = Some (list_before list start known); items = drop start (listed list) }
 
--- the list of modules is no shorter than it was
+-- the list of modules is no shorter than it was, and the numbers in it then were those of modules that it had
+pub record IsLonger (list : NumberedList) (start known : ℕ) : Type 0 where
+  pub numbers : start ≤ length list.numbers
+  pub modules : known ≤ length list.modules
+  pub below : AreModuleNumbers (take known list.modules) (take start list.numbers)
+
 abbrev pub IsLongEnough : Place → Type 0
 IsLongEnough (place.Own pairs) = ⊤
-IsLongEnough (place.End list start) = start ≤ length list
+IsLongEnough (place.End list start known) = IsLonger list start known

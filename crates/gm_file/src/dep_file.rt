@@ -1,8 +1,9 @@
 //! A dependency's file: lax reading, which keeps only what a build needs from a dependency.
 
-ghost use Rattle.std.specs.Prelude.{◌≡◌, IfOk, IfErr, OnErr, None, unwrap_or};
+ghost use Rattle.std.specs.Prelude.{◌≡◌, [], IfOk, IfErr, OnErr, None, unwrap_or};
 ghost use Rattle.std.specs.Option.{option_copied};
 ghost use Rattle.gm_syntax.specs.LineViews.{plain_lines};
+ghost use Rattle.gm_name_table.specs.Listed.{Appends};
 ghost use Rattle.gm_file.specs.DepLines.{IsDependencyIn, IsMisread};
 ghost use Rattle.gm_file.specs.Directives.{Lax};
 ghost use Rattle.gm_file.specs.Faults.{fault_of};
@@ -102,7 +103,7 @@ impl DepFile {
     }
 
     /// Reads the bytes of a file as `read_bytes` does, but puts the requirements to the end of a list of modules. On a
-    /// refusal the list is as it was.
+    /// refusal the list is as it was, but more modules may have numbers.
     ///
     /// A module that was in the list before is not stored again, nor tested again if its words are bare.
     pub fn read_listed(
@@ -113,7 +114,7 @@ impl DepFile {
     ) -> Result<ListedFile, ReadFault>
         ensures ok { IfOk result (IsListedFrom bytes.now modules.old modules.new) }
         ensures fault { IfErr result (IsMisread bytes.now) }
-        ensures err { OnErr result (modules.new ≡ modules.old) }
+        ensures err { OnErr result (Appends modules.old modules.new []) }
     {
         let mut reader = LineReader::new(alloc, bytes)?;
         let start = modules.len();

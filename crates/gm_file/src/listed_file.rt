@@ -2,9 +2,9 @@
 //!
 //! Files that name the same modules then share them: a requirement takes the four bytes of its number.
 
-ghost use Rattle.std.specs.Prelude.{◌≡◌, ◌++◌, List, Some, unwrap_or};
+ghost use Rattle.std.specs.Prelude.{◌≡◌, Some, unwrap_or};
 ghost use Rattle.std.specs.Option.{option_copied};
-ghost use Rattle.gm_file.specs.Directives.{Pair};
+ghost use Rattle.gm_name_table.specs.Listed.{Appends, NumberedList};
 ghost use Rattle.gm_file.specs.Views.{interval_views};
 
 use crate::fields::Fields;
@@ -46,8 +46,8 @@ impl ListedFile {
           go = unwrap_or fields.go (1, 16);
           retracts = interval_views retracts.items;
         } }
-        ensures modules { (before : List Pair) → fields.requirements.before ≡ Some before
-            → modules.new ≡ before ++ fields.requirements.items }
+        ensures modules { (before : NumberedList) → fields.requirements.before ≡ Some before
+            → Appends before modules.new fields.requirements.items }
     {
         let Fields {
             declared,

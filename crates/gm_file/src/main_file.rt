@@ -20,6 +20,9 @@ use gm_syntax::Doc;
 use std::alloc::Global;
 use std::marker::Model;
 
+/// How many paths, and how many versions, lines of a main file share. A long one names few versions again and again.
+const MOST_SHARED: usize = 1_024;
+
 /// The main module's file, read strictly.
 ///
 /// It keeps its document, so that the file can be edited later. The words of the document borrow from the bytes that
@@ -70,7 +73,7 @@ impl<'a> MainFile<'a> {
         ensures ok { IfOk result (λ file. (file ≡ doc.entry) × (fault_of Strict (plain_lines doc.entry) ≡ None)) }
         ensures fault { IfErr result (ReportsFault Strict (plain_lines doc.entry)) }
     {
-        let mut names = KnownNames::new(alloc, 0);
+        let mut names = KnownNames::new(alloc, MOST_SHARED);
         let fields = read_lines(alloc, &mut names, Mode::Strict, doc.lines())?;
         MainFile::of_fields(doc, fields)
     }

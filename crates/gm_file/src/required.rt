@@ -1,8 +1,8 @@
 //! The requirements of a file while it is read: a list of their own, or the end of a list of modules.
 
-ghost use Rattle.std.specs.Prelude.{◌≡◌, ◌++◌, ◌∷◌, [], List, None, Ok, Some, IfOk, OnOk, false, true};
+ghost use Rattle.std.specs.Prelude.{◌≡◌, ◌++◌, ◌∷◌, [], None, Ok, Some, IfOk, OnOk, false, true};
 ghost use Rattle.gm_name.specs.Readings.{PairReading};
-ghost use Rattle.gm_file.specs.Directives.{Pair};
+ghost use Rattle.gm_name_table.specs.Listed.{Appends, NumberedList};
 ghost use Rattle.gm_file.specs.Faults.{pair_kinds};
 ghost use Rattle.gm_file.specs.Reading.{IsRead};
 
@@ -18,8 +18,12 @@ use std::mem;
 enum Place {
     /// A list of their own.
     Own(Vec<ModVer>),
-    /// The end of a list of modules, which had this many before.
-    End { list: ModuleList, start: usize },
+    /// The end of a list of modules, which had this many before, so many of them distinct.
+    End {
+        list: ModuleList,
+        start: usize,
+        known: usize,
+    },
 }
 
 /// The requirements of the lines that have been read, in order.
@@ -56,8 +60,9 @@ impl Required {
         ensures items { result.items ≡ [] }
     {
         let start = list.len();
+        let known = list.module_count();
         Required {
-            place: Place::End { list, start },
+            place: Place::End { list, start, known },
         }
     }
 
@@ -127,7 +132,7 @@ impl Required {
     /// Puts the list of modules, with the requirements at its end, in place of this one. This one stays if the
     /// requirements are in a list of their own, which is dropped.
     pub(crate) fn give_back(self, modules: &mut ModuleList)
-        ensures { (before : List Pair) → self.before ≡ Some before → modules.new ≡ before ++ self.items }
+        ensures { (before : NumberedList) → self.before ≡ Some before → Appends before modules.new self.items }
     {
         match self.place {
             Place::Own(_) => (),

@@ -1,4 +1,4 @@
-//! Filtering of retracted versions (Go Modules Reference, retract directive).
+//! The versions of a list that aren't retracted (Go Modules Reference, retract directive).
 //!
 //! The latest version of a module may retract versions by intervals, each with both ends included. `shown_versions`
 //! takes the ascending list of a module's versions and the intervals, and leaves out the versions that an interval

@@ -1,22 +1,11 @@
 -- A fault of the worklist that loading passes on.
-use Rattle.std.proofs.Common.{◌≡◌, [], Result, Ok, Err, ap, ◌∙◌, sym, refl}
+use Rattle.std.proofs.Common.{◌≡◌, Result, Ok, Err, ◌∙◌, sym, refl}
 use Rattle.std.specs.Prelude.{IsErrAnd}
 use Rattle.gm_graph_cache.specs.declared.load_fault.LoadFault.{LoadFault}
 use Rattle.gm_graph_cache.specs.declared.load_fault.LoadFault.TheVariants as load
-use Rattle.gm_graph_cache.specs.Refusals.{refused_in, refused_names}
 use Rattle.gm_graph.specs.declared.worklist.AddFault.{AddFault}
 use Rattle.gm_graph.specs.declared.worklist.AddFault.TheVariants as add
 use Rattle.gm_graph.specs.WorklistFaults.{load_fault_of}
-
-no_name : (f : AddFault) → refused_names (load_fault_of f) ≡ []
-no_name add.NoMemory = refl
-no_name add.TooMany = refl
-
--- It names no file on which the device failed.
-pub add_unrefused : {T : Type 0} (r : Result T LoadFault) (f : AddFault) → IsErrAnd r (λ h. h ≡ load_fault_of f)
-    → refused_in r ≡ []
-add_unrefused (Ok x) f given = absurd given
-add_unrefused (Err h) f given = ap refused_names given ∙ no_name f
 
 many_is : (f : AddFault) → load_fault_of f ≡ load.TooMany → f ≡ add.TooMany
 many_is add.NoMemory e = cc

@@ -5,7 +5,7 @@ use Rattle.std.proofs.lemmas.Map.Keys.{IsDistinct-push}
 use Rattle.std.proofs.lemmas.Map.Views.{Contains-from_any}
 use Rattle.std.proofs.lemmas.List.Elements.{Contains-append_left, Contains-push, Contains-push_cases}
 use Rattle.gm_graph_cache.specs.Main.{ModuleVersion}
-use Rattle.gm_graph.specs.Graph.{same_vertex}
+use Rattle.gm_name.specs.PairOrder.{pair_eq}
 use Rattle.gm_graph_cache.specs.declared.depth.Turn.{Turn}
 use Rattle.gm_graph_cache.specs.declared.depth.Depth.{Depth}
 use Rattle.gm_graph.specs.Turns.{same_turn, AreTurnsOf, AddsAll, OverflowsWith}
@@ -25,7 +25,7 @@ no_turns = record {
 module _ (vertices : List ModuleVersion) (turns : List Turn) (x : ModuleVersion) (d : Depth)
     (old : AreTurnsOf vertices turns) (fresh : list_any (same_turn (turn x d)) turns ≡ false) where
   -- a turn of a known vertex
-  pub more_turn : list_any (same_vertex x) vertices ≡ true → AreTurnsOf vertices (turns ++ turn x d ∷ [])
+  pub more_turn : list_any (pair_eq x) vertices ≡ true → AreTurnsOf vertices (turns ++ turn x d ∷ [])
   more_turn known = record {
     few = old.few;
     vertices_once = old.vertices_once;
@@ -40,7 +40,7 @@ module _ (vertices : List ModuleVersion) (turns : List Turn) (x : ModuleVersion)
   }
 
   -- a turn of a new vertex
-  pub new_turn : list_any (same_vertex x) vertices ≡ false → length vertices < 65536
+  pub new_turn : list_any (pair_eq x) vertices ≡ false → length vertices < 65536
       → AreTurnsOf (vertices ++ x ∷ []) (turns ++ turn x d ∷ [])
   new_turn unknown room = record {
     few = rw length-append (omega arith);
@@ -64,7 +64,7 @@ module _ (vertices : List ModuleVersion) (turns : List Turn) (x : ModuleVersion)
 
 -- With so many vertices a new one is one too many.
 pub overflow_one : (vertices : List ModuleVersion) (turns : List Turn) (x : ModuleVersion) → AreTurnsOf vertices turns
-    → 65536 ≤ length vertices → list_any (same_vertex x) vertices ≡ false → OverflowsWith turns (x ∷ [])
+    → 65536 ≤ length vertices → list_any (pair_eq x) vertices ≡ false → OverflowsWith turns (x ∷ [])
 overflow_one vertices turns x are full unknown = (
   vertices ++ x ∷ [],
   omega (arith, length-append vertices (x ∷ [])),

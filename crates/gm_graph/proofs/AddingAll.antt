@@ -18,7 +18,7 @@ pub no_shorter : (old new more : List Turn) → new ≡ old ++ more → length o
 no_shorter old new more e = omega (arith, ap length e, length-append old more)
 
 -- first these, then those
-pub adds_both : (old mid new : List Turn) (xs ys : List ModuleVersion) (d : Depth) → AddsAll old mid xs d
+adds_both : (old mid new : List Turn) (xs ys : List ModuleVersion) (d : Depth) → AddsAll old mid xs d
     → AddsAll mid new ys d → AddsAll old new (xs ++ ys) d
 adds_both old mid new xs ys d first then' = record {
   extends = (
@@ -44,7 +44,7 @@ only_one : (y z : ModuleVersion) → Contains (y ∷ []) z → y ≡ z
 only_one y z (zero, below, e) = e
 only_one y z (suc k, below, e) = absurd (omega arith)
 
-pub adds_turn : (old new : List Turn) (y : ModuleVersion) (d : Depth) → AppendsTurnIfNew old new (turn y d)
+adds_turn : (old new : List Turn) (y : ModuleVersion) (d : Depth) → AppendsTurnIfNew old new (turn y d)
     → AddsAll old new (y ∷ []) d
 adds_turn old new y d (inr (same, there)) = record {
   extends = ([], same ∙ sym (append-nil old));
@@ -64,21 +64,19 @@ adds_turn old new y d (inl more) = record {
 }
 
 -- one more turn of a list of numbers
-pub adds_number : (vertices : List ModuleVersion) (old mid new : List Turn) (numbers : List ℕ) (i : ℕ) (d : Depth)
-    → i < length numbers → AddsAll old mid (map (vertex_at vertices) (take i numbers)) d
-    → AppendsTurnIfNew mid new (turn (vertex_at vertices (get_or numbers i 0)) d)
-    → AddsAll old new (map (vertex_at vertices) (take (i + 1) numbers)) d
-adds_number vertices old mid new numbers i d below before one =
-    let x = vertex_at vertices (get_or numbers i 0) in
-    subst (λ (xs : List ModuleVersion). AddsAll old new xs d) (sym (map_more (vertex_at vertices) numbers i 0 below))
-    (adds_both old mid new (map (vertex_at vertices) (take i numbers)) (x ∷ []) d before (adds_turn mid new x d one))
+pub adds_number : (modules : List ModuleVersion) (old mid new : List Turn) (numbers : List ℕ) (i : ℕ) (d : Depth)
+    → i < length numbers → AddsAll old mid (map (vertex_at modules) (take i numbers)) d
+    → AppendsTurnIfNew mid new (turn (vertex_at modules (get_or numbers i 0)) d)
+    → AddsAll old new (map (vertex_at modules) (take (i + 1) numbers)) d
+adds_number modules old mid new numbers i d below before one =
+    let x = vertex_at modules (get_or numbers i 0) in
+    subst (λ (xs : List ModuleVersion). AddsAll old new xs d) (sym (map_more (vertex_at modules) numbers i 0 below))
+    (adds_both old mid new (map (vertex_at modules) (take i numbers)) (x ∷ []) d before (adds_turn mid new x d one))
 
 pub keeps_both : (old mid new : GraphBuilder) → KeepsGraph old mid → KeepsGraph mid new → KeepsGraph old new
 keeps_both old mid new first then' = record {
-  vertices = then'.vertices ∙ first.vertices;
-  edges = then'.edges ∙ first.edges;
-  sources = then'.sources ∙ first.sources;
-  faults = λ x. then'.faults x ∙ first.faults x;
+  leaving = then'.leaving ∙ first.leaving;
+  faults = then'.faults ∙ first.faults;
 }
 
 front_of : (numbers : List ℕ) (i number : ℕ) → Contains (take i numbers) number → Contains numbers number
@@ -86,19 +84,19 @@ front_of numbers i number h = subst (λ (l : List ℕ). Contains l number) (take
     (Contains-append_left (take i numbers) (drop i numbers) number h)
 
 -- One of them is too many.
-pub overflow_at : (vertices : List ModuleVersion) (old mid : List Turn) (numbers : List ℕ) (i : ℕ) (d : Depth)
-    → i < length numbers → AddsAll old mid (map (vertex_at vertices) (take i numbers)) d
-    → OverflowsWith mid (vertex_at vertices (get_or numbers i 0) ∷ [])
-    → OverflowsWith old (map (vertex_at vertices) numbers)
-overflow_at vertices old mid numbers i d below adds over =
-    let x = vertex_at vertices (get_or numbers i 0) in
-    overflow_later old mid d (map (vertex_at vertices) (take i numbers)) (x ∷ [])
-    (map (vertex_at vertices) numbers) adds
+pub overflow_at : (modules : List ModuleVersion) (old mid : List Turn) (numbers : List ℕ) (i : ℕ) (d : Depth)
+    → i < length numbers → AddsAll old mid (map (vertex_at modules) (take i numbers)) d
+    → OverflowsWith mid (vertex_at modules (get_or numbers i 0) ∷ [])
+    → OverflowsWith old (map (vertex_at modules) numbers)
+overflow_at modules old mid numbers i d below adds over =
+    let x = vertex_at modules (get_or numbers i 0) in
+    overflow_later old mid d (map (vertex_at modules) (take i numbers)) (x ∷ [])
+    (map (vertex_at modules) numbers) adds
     (λ y h.
-    let (number, there, e) = from_mapped (vertex_at vertices) (take i numbers) y h in
-    subst (λ (z : ModuleVersion). Contains (map (vertex_at vertices) numbers) z) e
-    (in_mapped (vertex_at vertices) numbers number (front_of numbers i number there)))
-    (λ y h. subst (λ (z : ModuleVersion). Contains (map (vertex_at vertices) numbers) z) (only_one x y h)
-    (in_mapped (vertex_at vertices) numbers (get_or numbers i 0)
+    let (number, there, e) = from_mapped (vertex_at modules) (take i numbers) y h in
+    subst (λ (z : ModuleVersion). Contains (map (vertex_at modules) numbers) z) e
+    (in_mapped (vertex_at modules) numbers number (front_of numbers i number there)))
+    (λ y h. subst (λ (z : ModuleVersion). Contains (map (vertex_at modules) numbers) z) (only_one x y h)
+    (in_mapped (vertex_at modules) numbers (get_or numbers i 0)
     (i, below, get_or_default numbers i (get_or numbers i 0) 0 below)))
     over

@@ -20,7 +20,8 @@ use Rattle.gm_graph_select.specs.declared.step.Step.{Step}
 use Rattle.gm_graph_select.specs.declared.step.Step.TheVariants.{Main as FromMain, Of}
 use Rattle.gm_graph_select.specs.Graph.{edge}
 use Rattle.gm_graph.specs.Building.{AreGathered, Faults, Gathers, IsGathered, gathers, noted}
-use Rattle.gm_graph.specs.Graph.{IsEdge, IsOpened, TakesTurn, same_vertex}
+use Rattle.gm_graph.specs.Graph.{IsEdge, IsOpened, TakesTurn}
+use Rattle.gm_name.specs.PairOrder.{pair_eq}
 use Rattle.gm_graph.specs.Turns.{Extends, same_turn}
 use Rattle.gm_graph.proofs.Sameness.{exact_turn, exact_vertex, vertices_equivalence}
 use Rattle.gm_graph.proofs.Deepening.{IsDeep-kept, known-same, requirement-kept}
@@ -40,7 +41,7 @@ noted_some false c class old e = inr e
 
 noted_from : (o : Option Class) (x z : ModuleVersion) (before : Faults) (class : Class) → noted o x before z ≡ Some class → (before z ≡ Some class) ⊎ ((o ≡ Some class) × (x ≡ z))
 noted_from None x z before class e = inl e
-noted_from (Some c) x z before class e = elim (noted_some (same_vertex x z) c class (before z) e) [
+noted_from (Some c) x z before class e = elim (noted_some (pair_eq x z) c class (before z) e) [
   | inl here ↦ inr (here.1, exact_vertex x z here.0)
   | inr there ↦ inl there
 ]
@@ -55,7 +56,7 @@ noted_if false c class old e f = e
 
 noted_stays : (o : Option Class) (x z : ModuleVersion) (before : Faults) (class : Class) → before z ≡ Some class → (x ≡ z → o ≡ Some class) → noted o x before z ≡ Some class
 noted_stays None x z before class e f = e
-noted_stays (Some c) x z before class e f = noted_if (same_vertex x z) c class (before z) e (λ is. f (exact_vertex x z is))
+noted_stays (Some c) x z before class e f = noted_if (pair_eq x z) c class (before z) e (λ is. f (exact_vertex x z is))
 
 -- A fault is the one of the reading.
 pub fault_reading : (o : Option (Result Dependency Class)) (class : Class) → fault_in o ≡ Some class → o ≡ Some (Err class)
@@ -84,7 +85,7 @@ pub opened_kept : (main : Main) (a b : Readings) → Keeps a b → (x : ModuleVe
 opened_kept main a b keeps x (inl top) = inl top
 opened_kept main a b keeps x (inr deep) = inr (IsDeep-kept main a b keeps deep)
 
-pub edge_kept : (main : Main) (a b : Readings) → Keeps a b → (s : Step) (y : ModuleVersion) → IsEdge main a s y → IsEdge main b s y
+edge_kept : (main : Main) (a b : Readings) → Keeps a b → (s : Step) (y : ModuleVersion) → IsEdge main a s y → IsEdge main b s y
 edge_kept main a b keeps FromMain y t = t
 edge_kept main a b keeps (Of x) y (opened, r) = (opened_kept main a b keeps x opened, requirement-kept main a b keeps x y r)
 

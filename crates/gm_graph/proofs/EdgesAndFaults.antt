@@ -12,21 +12,21 @@ use Rattle.gm_graph_select.specs.declared.adjacency.Adjacency.{Adjacency}
 use Rattle.gm_graph_select.specs.declared.step.Edge.{Edge}
 use Rattle.gm_graph_select.specs.declared.step.Step.{Step}
 use Rattle.gm_graph_select.specs.Adjacency.{edges_from, edges_of, left_by, vertex_at}
-use Rattle.gm_graph_select.specs.Graph.{edge, vertex_cmp}
+use Rattle.gm_graph_select.specs.Graph.{edge}
+use Rattle.gm_name.specs.PairOrder.{pair_cmp, pair_eq}
 use Rattle.gm_graph.specs.Building.{found_fault, noted}
-use Rattle.gm_graph.specs.Graph.{same_vertex}
 
 -- A fault was put into the map.
 pub fault_put : (old new : tree.BTreeMap ModuleVersion Class) (x v : ModuleVersion) (class : Class) (found : Finding)
     → found ≡ Fault class → v ≡ x
-    → ((q : ModuleVersion) → tree.get vertex_cmp new q
-    ≡ cond (is_eq (vertex_cmp v q)) (Some class) (tree.get vertex_cmp old q))
-    → (q : ModuleVersion) → tree.get vertex_cmp new q ≡ noted (found_fault found) x (λ y. tree.get vertex_cmp old y) q
+    → ((q : ModuleVersion) → tree.get pair_cmp new q
+    ≡ cond (is_eq (pair_cmp v q)) (Some class) (tree.get pair_cmp old q))
+    → (q : ModuleVersion) → tree.get pair_cmp new q ≡ noted (found_fault found) x (λ y. tree.get pair_cmp old y) q
 fault_put old new x v class found e f puts q =
     puts q
-    ∙ ap (λ (b : Bool). cond b (Some class) (tree.get vertex_cmp old q)) (pair-ties v q)
-    ∙ ap (λ (w : ModuleVersion). if same_vertex w q then Some class else tree.get vertex_cmp old q) f
-    ∙ ap (λ (n : Finding). noted (found_fault n) x (λ y. tree.get vertex_cmp old y) q) (sym e)
+    ∙ ap (λ (b : Bool). cond b (Some class) (tree.get pair_cmp old q)) (pair-ties v q)
+    ∙ ap (λ (w : ModuleVersion). if pair_eq w q then Some class else tree.get pair_cmp old q) f
+    ∙ ap (λ (n : Finding). noted (found_fault n) x (λ y. tree.get pair_cmp old y) q) (sym e)
 
 -- the edges of an adjacency list
 from_numbers : (vertices : List ModuleVersion) (step : Step) (numbers : List ℕ)

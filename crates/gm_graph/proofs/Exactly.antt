@@ -21,7 +21,8 @@ use Rattle.gm_graph_cache.specs.Main.{Main, ModuleVersion, is_pruned_by}
 use Rattle.gm_graph_cache.specs.Reading.{Held, IsTold, Keeps, Readings, Tells, file_of, is_askable, reading_if, readings_by}
 use Rattle.gm_graph_cache.specs.Turns.{turn}
 use Rattle.gm_graph_cache.proofs.Keeping.{readings_stay, earlier_readings_stay}
-use Rattle.gm_graph.specs.Graph.{IsOpened, from_main, same_vertex}
+use Rattle.gm_graph.specs.Graph.{IsOpened, from_main}
+use Rattle.gm_name.specs.PairOrder.{pair_eq}
 use Rattle.gm_graph.specs.Loading.{AreAsked, AreFew, AreTurns, AsksInTurn, IsAnswered, IsNeeded, nothing, more}
 use Rattle.gm_graph.specs.Turns.{AreTurnsOf}
 use Rattle.gm_graph.proofs.BuiltEdges.{opened_kept}
@@ -115,8 +116,8 @@ asked_exactly main sums pairs held tells asks known = record {
   );
 }
 
-same_vertex-Decides : (a b : ModuleVersion) → Decides (same_vertex a b) (a ≡ b)
-same_vertex-Decides a b = (exact_vertex a b, λ e. subst (λ (t : ModuleVersion). same_vertex a t ≡ true) e (vertices_equivalence.refl a))
+pair_eq-Decides : (a b : ModuleVersion) → Decides (pair_eq a b) (a ≡ b)
+pair_eq-Decides a b = (exact_vertex a b, λ e. subst (λ (t : ModuleVersion). pair_eq a t ≡ true) e (vertices_equivalence.refl a))
 
 module _ (main : Main) (readings : Readings) (vertices : List ModuleVersion) (turns : List Turn) (are : AreTurnsOf vertices turns) (exact : AreTurns main readings turns) where
   opened_turn : (x : ModuleVersion) → IsOpened main readings x → (d : Depth) × Contains turns (turn x d)
@@ -135,6 +136,6 @@ module _ (main : Main) (readings : Readings) (vertices : List ModuleVersion) (tu
   pub few_opened : AreFew main readings
   few_opened all once each =
       let fewer : length all ≤ length vertices = length-le_from_is_member vertices_equivalence all vertices once
-      (λ q h. let there = (is_member-Decides same_vertex-Decides all q).0 h in (is_member-Decides same_vertex-Decides vertices q).1 ((opened_exactly q).1 (each q there))) in
+      (λ q h. let there = (is_member-Decides pair_eq-Decides all q).0 h in (is_member-Decides pair_eq-Decides vertices q).1 ((opened_exactly q).1 (each q there))) in
       let few = are.few in
       omega arith

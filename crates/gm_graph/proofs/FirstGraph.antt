@@ -1,83 +1,65 @@
 -- The graph that loading starts with: nothing but the main module's requirements, their turns and their edges.
-use Rattle.std.proofs.Common.{◌≡◌, ◌++◌, ◌∷◌, ◌<◌, ℕ, length, List, [], None, Contains, map, ap, append-nil, cond, false, get_or, not, true, take, Bool, ◌+◌, ◌∙◌, refl, sym, subst, inl, inr, arith}
-use Rattle.std.specs.Prelude.{All}
-use Rattle.std.proofs.lemmas.List.Elements.{filter_more}
+use Rattle.std.proofs.Common.{◌≡◌, ◌++◌, ◌∷◌, ◌∙◌, [], List, None, ap, map, subst, sym}
 use Rattle.std.specs.BTreeMap.{is_at}
 use Rattle.std.specs.Map.{lookup}
 use Rattle.gm_graph_cache.specs.declared.class.Class.{Class}
 use Rattle.gm_graph_cache.specs.declared.depth.Depth.{Depth}
 use Rattle.gm_graph_cache.specs.declared.depth.Turn.{Turn}
-use Rattle.gm_graph_cache.specs.Main.{Main, ModuleVersion, is_excluded, is_pruned_by, without_excluded}
-use Rattle.gm_graph_cache.specs.Reading.{Readings}
-use Rattle.gm_graph_select.specs.declared.step.Step.{Step}
+use Rattle.gm_graph_cache.specs.Main.{Main, ModuleVersion, is_pruned_by, without_excluded}
+use Rattle.gm_graph_select.specs.declared.adjacency.Adjacency.{Adjacency}
 use Rattle.gm_graph_select.specs.declared.step.Step.TheVariants.{Main as FromMain}
-use Rattle.gm_graph_select.specs.Graph.{edge, vertex_cmp}
+use Rattle.gm_graph_select.specs.Adjacency.{edges_of, sources_of}
+use Rattle.gm_graph_select.specs.Graph.{edge}
+use Rattle.gm_name.specs.PairOrder.{pair_cmp}
 use Rattle.gm_graph.specs.declared.graph_builder.GraphBuilder.{GraphBuilder}
-use Rattle.gm_graph.specs.Builder.{FindsMore, IsBuilder, KeepsGraph, KeepsTurns, edges_in, faults_by_vertex, sources_in, turns_of}
-use Rattle.gm_graph.specs.Building.{AreGathered}
-use Rattle.gm_graph.specs.Graph.{IsTop}
-use Rattle.gm_graph.specs.Turns.{AddsAll, AreFirstTurns, depth_by}
+use Rattle.gm_graph.specs.declared.graph_builder.NumberedTurn.{NumberedTurn}
+use Rattle.gm_graph.specs.Builder.{IsBuilder, KeepsGraph, KeepsTurns, edges_in, faults_by_vertex, sources_in, turn_of, turns_of}
+use Rattle.gm_graph.specs.Turns.{AddsAll, OverflowsWith, depth_by}
 use Rattle.gm_graph.specs.Visiting.{IsFirstGraph}
 use Rattle.gm_graph.proofs.Rounds.{first_turns_are}
 use Rattle.gm_graph.proofs.Turning.{main_gathered}
 
-no_faults : (builder : GraphBuilder) → builder.faults.entries ≡ [] → (x : ModuleVersion) → faults_by_vertex builder x ≡ None
-no_faults builder none x = ap (λ (es : List (ModuleVersion × Class)). lookup (is_at (vertex_cmp x)) es) none
-
 -- the vertices that the main file requires
-abbrev pub required_in : Main → List ModuleVersion
+abbrev required_in : Main → List ModuleVersion
 required_in main = without_excluded main main.requirements
 
--- One more requirement of the main file, at place i, and whether it is excluded.
-module _ (main : Main) (i : ℕ) (x : ModuleVersion) (below : i < length main.requirements)
-    (is : x ≡ get_or main.requirements i x) where
-  one_more : without_excluded main (take (i + 1) main.requirements)
-      ≡ without_excluded main (take i main.requirements) ++ cond (not (is_excluded main x)) (x ∷ []) []
-  one_more = filter_more (λ y. not (is_excluded main y)) main.requirements i x below
-      ∙ ap (λ (y : ModuleVersion). without_excluded main (take i main.requirements)
-      ++ cond (not (is_excluded main y)) (y ∷ []) []) (sym is)
+no_faults : (builder : GraphBuilder) → builder.faults.entries ≡ [] → (x : ModuleVersion)
+    → faults_by_vertex builder x ≡ None
+no_faults builder none x = ap (λ (es : List (ModuleVersion × Class)). lookup (is_at (pair_cmp x)) es) none
 
-  pub one_kept : is_excluded main x ≡ false → without_excluded main (take i main.requirements) ++ x ∷ []
-      ≡ without_excluded main (take (i + 1) main.requirements)
-  one_kept kept = sym (one_more ∙ ap (λ (is : Bool). without_excluded main (take i main.requirements)
-      ++ cond (not is) (x ∷ []) []) kept)
+-- A graph with nothing in it, and these vertices, which are those that the main file requires.
+module _ (main : Main) (modules xs : List ModuleVersion) (none : GraphBuilder) (no_turns : none.turns.items ≡ [])
+    (are : xs ≡ required_in main) where
+  none_turned : turns_of modules none ≡ []
+  none_turned = ap (λ (ts : List NumberedTurn). map (turn_of modules) ts) no_turns
 
-  pub one_left : is_excluded main x ≡ true → without_excluded main (take i main.requirements)
-      ≡ without_excluded main (take (i + 1) main.requirements)
-  one_left excluded = sym (one_more ∙ ap (λ (is : Bool). without_excluded main (take i main.requirements)
-      ++ cond (not is) (x ∷ []) []) excluded ∙ append-nil (without_excluded main (take i main.requirements)))
+  -- They are too many.
+  pub too_many_first : OverflowsWith (turns_of modules none) xs → OverflowsWith [] (required_in main)
+  too_many_first over =
+      subst (λ (ts : List Turn). OverflowsWith ts (required_in main)) none_turned
+      (subst (λ (ys : List ModuleVersion). OverflowsWith (turns_of modules none) ys) are over)
 
--- Numbers below the length of one list are below that of an equal one.
-pub below_same : (old new : List ModuleVersion) (numbers : List ℕ) → new ≡ old → All (λ number. number < length old) numbers → All (λ number. number < length new) numbers
-below_same old new numbers same below = subst (λ (vertices : List ModuleVersion). All (λ number. number < length vertices) numbers) (sym same) below
-
-module _ (main : Main) (none numbered turned made : GraphBuilder)
-    (no_vertices : none.vertices ≡ []) (no_turns : turns_of none ≡ []) (no_edges : edges_in none ≡ []) (no_sources : sources_in none ≡ []) (empty : none.faults.entries ≡ [])
-    (finds : FindsMore none numbered (required_in main)) (kept : KeepsGraph numbered turned) (still : KeepsTurns turned made) where
-  found : (y : ModuleVersion) → Contains made.vertices y → IsTop main y
-  found y h = elim (finds.only y (subst (λ (vertices : List ModuleVersion). Contains vertices y) (still.vertices ∙ kept.vertices) h)) [
-    | inl there ↦ absurd (let in_none : Contains [] y = subst (λ (vertices : List ModuleVersion). Contains vertices y) no_vertices there in omega (arith, in_none.1))
-    | inr new ↦ new
-  ]
-
-  turns_are : (depth : Depth) → depth ≡ depth_by (is_pruned_by main.go) → AddsAll (turns_of numbered) (turns_of turned) (required_in main) depth → AreFirstTurns main (turns_of made)
-  turns_are depth by adds =
-      let old = turns_of numbered in
-      let all : AddsAll old (turns_of made) (required_in main) depth = subst (λ (ts : List Turn). AddsAll old ts (required_in main) depth) (sym still.turns) adds in
-      first_turns_are main old (turns_of made) (finds.turns ∙ no_turns)
-      (subst (λ (d : Depth). AddsAll old (turns_of made) (required_in main) d) by all)
-
-  gathered : edges_in made ≡ edges_in turned ++ map (edge FromMain) (required_in main) → ((x : ModuleVersion) → faults_by_vertex made x ≡ faults_by_vertex turned x) → (readings : Readings) → AreGathered main readings (edges_in made) (faults_by_vertex made)
-  gathered more same readings =
-      main_gathered main readings (edges_in turned) (edges_in made) (faults_by_vertex made) (required_in main) (kept.edges ∙ finds.edges ∙ no_edges) more refl
-      (λ x. same x ∙ kept.faults x ∙ finds.faults x ∙ no_faults none empty x)
-
-  pub is_first : (depth : Depth) → IsBuilder made → depth ≡ depth_by (is_pruned_by main.go) → AddsAll (turns_of numbered) (turns_of turned) (required_in main) depth → edges_in made ≡ edges_in turned ++ map (edge FromMain) (required_in main)
-      → sources_in made ≡ sources_in turned ++ FromMain ∷ [] → ((x : ModuleVersion) → faults_by_vertex made x ≡ faults_by_vertex turned x) → IsFirstGraph main made
-  is_first depth builder by adds edges sources faults = record {
-    is_builder = builder;
-    turns = turns_are depth by adds;
-    found = found;
-    gathered = gathered edges faults;
-    sources = sources ∙ ap (λ (steps : List Step). steps ++ FromMain ∷ []) (kept.sources ∙ finds.sources ∙ no_sources);
-  }
+  -- Their turns and the edges to them were added.
+  pub is_first : (turned made : GraphBuilder) (depth : Depth) → none.leaving.items ≡ [] → none.faults.entries ≡ []
+      → depth ≡ depth_by (is_pruned_by main.go) → AddsAll (turns_of modules none) (turns_of modules turned) xs depth
+      → KeepsGraph none turned → IsBuilder modules made → KeepsTurns turned made
+      → edges_in modules made ≡ edges_in modules turned ++ map (edge FromMain) xs
+      → sources_in modules made ≡ sources_in modules turned ++ FromMain ∷ [] → made.faults ≡ turned.faults
+      → IsFirstGraph main modules made
+  is_first turned made depth no_edges no_faulty by adds kept builder still edges sources faults =
+      let old = turns_of modules none in
+      let same = ap (λ (ts : List NumberedTurn). map (turn_of modules) ts) still in
+      let leaving = kept.leaving ∙ no_edges in
+      record {
+        is_builder = builder;
+        turns = first_turns_are main old (turns_of modules made) none_turned
+            (subst (λ (d : Depth). AddsAll old (turns_of modules made) (required_in main) d) by
+            (subst (λ (ys : List ModuleVersion). AddsAll old (turns_of modules made) ys depth) are
+            (subst (λ (ts : List Turn). AddsAll old ts xs depth) (sym same) adds)));
+        gathered = λ readings.
+            main_gathered main readings (edges_in modules turned) (edges_in modules made) (faults_by_vertex made) xs
+            (ap (λ (all : List Adjacency). edges_of modules all) leaving) edges are
+            (no_faults made (ap (λ fs. fs.entries) (faults ∙ kept.faults) ∙ no_faulty));
+        sources = sources
+            ∙ ap (λ (all : List Adjacency). sources_of modules all ++ FromMain ∷ []) leaving;
+      }

@@ -9,7 +9,8 @@ use Rattle.gm_graph_cache.proofs.Keeping.{one_told}
 use Rattle.gm_graph_select.specs.declared.step.Step.{Step}
 use Rattle.gm_graph_select.specs.declared.step.Step.TheVariants.{Main as FromMain, Of}
 use Rattle.gm_graph_select.specs.BuildList.{IsBuildList}
-use Rattle.gm_graph_select.specs.Graph.{among, vertex_cmp}
+use Rattle.gm_graph_select.specs.Graph.{among}
+use Rattle.gm_name.specs.PairOrder.{pair_cmp}
 use Rattle.gm_graph_select.specs.StepOrder.{edge_total, vertex_total}
 use Rattle.gm_graph_select.proofs.Ascending as ascending
 use Rattle.gm_graph_select.proofs.Lawful as lawful
@@ -61,7 +62,7 @@ unpruned_is_plain main readings unpruned x = (
 both : {A B C : Type 0} → A ↔ B → C ↔ B → A ↔ C
 both f g = ((λ a. g.1 (f.0 a)), (λ c. f.1 (g.0 c)))
 
-faults_total : IsTotalOrder (λ (a b : Fault). vertex_cmp a.vertex b.vertex)
+faults_total : IsTotalOrder (λ (a b : Fault). pair_cmp a.vertex b.vertex)
 faults_total = on_total (λ (f : Fault). f.vertex) vertex_total
 
 pub one_answer : OneAnswer

@@ -5,18 +5,20 @@ use Rattle.gm_store.specs.Asked.{Name, Reply}
 use Rattle.gm_store_sums.specs.declared.sum_table.SumTable.{SumTable}
 use Rattle.gm_graph_cache.specs.declared.cache.Cache.{Cache}
 use Rattle.gm_graph_cache.specs.declared.depth.Turn.{Turn}
-use Rattle.gm_graph_cache.specs.Cached.{held_of, main_in, sums_in, turns_in}
-use Rattle.gm_graph_cache.specs.Main.{Main, without_excluded}
+use Rattle.gm_graph_cache.specs.Cached.{held_of, main_in, modules_in, sums_in, turns_in}
+use Rattle.gm_graph_cache.specs.Main.{Main, ModuleVersion, without_excluded}
 use Rattle.gm_graph_cache.specs.Reading.{Readings, readings_by}
 use Rattle.gm_graph_select.specs.declared.step.Edge.{Edge}
 use Rattle.gm_graph_select.specs.BuildList.{IsBuildList}
 use Rattle.gm_graph_select.specs.Chains.{IsRooted}
-use Rattle.gm_graph_select.specs.Graph.{AreEnds, among, edge_cmp, vertex_cmp}
+use Rattle.gm_graph_select.specs.declared.step.Step.TheVariants.{Of}
+use Rattle.gm_graph_select.specs.Graph.{IsEdgeEnd, among, edge_cmp}
+use Rattle.gm_name.specs.PairOrder.{pair_cmp}
 use Rattle.gm_graph_select.specs.Order.{HaveSame, IsAscending}
 use Rattle.gm_graph_select.proofs.Same.{same_build_list}
 use Rattle.gm_graph.specs.declared.fault.Fault.{Fault}
 use Rattle.gm_graph.specs.declared.graph_builder.GraphBuilder.{GraphBuilder}
-use Rattle.gm_graph.specs.Builder.{edges_in, turns_of}
+use Rattle.gm_graph.specs.Builder.{edges_in, sources_in, turns_of}
 use Rattle.gm_graph.specs.Visiting.{IsOpenedIn}
 use Rattle.gm_graph.specs.Building.{fault}
 use Rattle.gm_graph.specs.Graph.{IsEdge}
@@ -25,7 +27,7 @@ use Rattle.gm_graph.specs.Turns.{OverflowsWith}
 use Rattle.gm_graph.proofs.Queueing.{many_first}
 use Rattle.gm_graph.specs.Outcome.{AreFaults, IsLoaded, LoadedGraph}
 use Rattle.gm_graph.proofs.Exactly.{answered, asked_exactly, few_opened}
-use Rattle.gm_graph.proofs.Ends.{ends_among}
+use Rattle.gm_graph.proofs.Ends.{opened_among}
 use Rattle.gm_graph.proofs.Mapped.{fault_listed, faults_ascend}
 use Rattle.gm_graph.proofs.Rooted.{list_rooted, same_edges}
 
@@ -36,13 +38,16 @@ module _ (old new : Cache) (pairs : List (Name × Reply)) (builder : GraphBuilde
   abbrev readings : Readings
   readings = readings_by (main_in old) (held_of new)
 
-  pub gathered_rooted : IsRooted (among (edges_in builder))
-  gathered_rooted = list_rooted main readings (edges_in builder) opened.edges
+  abbrev edges : List Edge
+  edges = edges_in (modules_in new) builder
 
-  pub gathered_ends : AreEnds builder.vertices (among (edges_in builder))
-  gathered_ends = ends_among main readings builder.vertices (edges_in builder) opened.edges opened.ends
+  pub gathered_rooted : IsRooted (among edges)
+  gathered_rooted = list_rooted main readings edges opened.edges
 
-  faults_are : (faults : List Fault) → faults ≡ map (λ e. fault e.0 e.1) builder.faults.entries → tree.IsOrdered vertex_cmp builder.faults → AreFaults main readings faults
+  pub gathered_ends : (x : ModuleVersion) → Contains (sources_in (modules_in new) builder) (Of x) → IsEdgeEnd (among edges) x
+  gathered_ends x h = opened_among main readings edges opened.edges x (opened.opened x h)
+
+  faults_are : (faults : List Fault) → faults ≡ map (λ e. fault e.0 e.1) builder.faults.entries → tree.IsOrdered pair_cmp builder.faults → AreFaults main readings faults
   faults_are faults e ordered = subst (λ (fs : List Fault). AreFaults main readings fs) (sym e) (record {
     ascending = faults_ascend builder.faults ordered;
     each = λ one. (
@@ -51,11 +56,11 @@ module _ (old new : Cache) (pairs : List (Name × Reply)) (builder : GraphBuilde
     );
   })
 
-  edges_are : (edges : List Edge) → HaveSame (edges_in builder) edges → (e : Edge) → Contains edges e ↔ IsEdge main readings e.from e.to
-  edges_are edges same e = ((λ h. (opened.edges e).0 ((same e).1 h)), (λ h. (same e).0 ((opened.edges e).1 h)))
+  edges_are : (sorted : List Edge) → HaveSame edges sorted → (e : Edge) → Contains sorted e ↔ IsEdge main readings e.from e.to
+  edges_are sorted same e = ((λ h. (opened.edges e).0 ((same e).1 h)), (λ h. (same e).0 ((opened.edges e).1 h)))
 
-  pub loads : (loaded : LoadedGraph) → AsksInTurn main (sums_in old) pairs → loaded.main ≡ main.path → loaded.faults ≡ map (λ e. fault e.0 e.1) builder.faults.entries → tree.IsOrdered vertex_cmp builder.faults
-      → IsAscending edge_cmp loaded.edges → HaveSame (edges_in builder) loaded.edges → IsBuildList main.path main.replaces (among loaded.edges) loaded.rows → loaded.turns ≡ turns_in new
+  pub loads : (loaded : LoadedGraph) → AsksInTurn main (sums_in old) pairs → loaded.main ≡ main.path → loaded.faults ≡ map (λ e. fault e.0 e.1) builder.faults.entries → tree.IsOrdered pair_cmp builder.faults
+      → IsAscending edge_cmp loaded.edges → HaveSame edges loaded.edges → IsBuildList main.path main.replaces (among loaded.edges) loaded.rows → loaded.turns ≡ turns_in new
       → Told main (sums_in old) pairs (IsLoaded main pairs loaded)
   loads loaded asks path_is faults ordered ascending same rows turns = (
     held_of new,
@@ -68,14 +73,14 @@ module _ (old new : Cache) (pairs : List (Name × Reply)) (builder : GraphBuilde
       turns = subst (λ (ts : List Turn). AreTurns main readings ts) (sym (turns ∙ opened.lent)) opened.turns;
       answered = λ x h. answered main (sums_in old) pairs (held_of new) opened.tells x (opened.known x h);
       asked = asked_exactly main (sums_in old) pairs (held_of new) opened.tells asks opened.known;
-      few = few_opened main readings opened.is_builder.opened (turns_of builder) opened.is_builder.turns opened.turns;
+      few = few_opened main readings opened.is_builder.opened (turns_of (modules_in new) builder) opened.is_builder.turns opened.turns;
     },
   )
 
 -- the same for the main file and the go.sum that the cache was created with
 pub loads_of : (old new : Cache) (pairs : List (Name × Reply)) (builder : GraphBuilder) → IsOpenedIn old new pairs builder → (main : Main) (sums : Option SumTable) → main_in old ≡ main → sums_in old ≡ sums
-    → (loaded : LoadedGraph) → AsksInTurn (main_in old) (sums_in old) pairs → loaded.main ≡ main.path → loaded.faults ≡ map (λ e. fault e.0 e.1) builder.faults.entries → tree.IsOrdered vertex_cmp builder.faults
-    → IsAscending edge_cmp loaded.edges → HaveSame (edges_in builder) loaded.edges → IsBuildList main.path main.replaces (among loaded.edges) loaded.rows → loaded.turns ≡ turns_in new
+    → (loaded : LoadedGraph) → AsksInTurn (main_in old) (sums_in old) pairs → loaded.main ≡ main.path → loaded.faults ≡ map (λ e. fault e.0 e.1) builder.faults.entries → tree.IsOrdered pair_cmp builder.faults
+    → IsAscending edge_cmp loaded.edges → HaveSame (edges_in (modules_in new) builder) loaded.edges → IsBuildList main.path main.replaces (among loaded.edges) loaded.rows → loaded.turns ≡ turns_in new
     → Told main sums pairs (IsLoaded main pairs loaded)
 loads_of old new pairs builder opened main sums main_is sums_are loaded asks path_is faults ordered ascending same rows turns =
     subst (λ (m : Main). Told m sums pairs (IsLoaded m pairs loaded)) main_is (subst (λ (s : Option SumTable). Told (main_in old) s pairs (IsLoaded (main_in old) pairs loaded)) sums_are

@@ -8,7 +8,7 @@ use Rattle.std.proofs.lemmas.Map.Keys.{Less-from_sorted}
 use Rattle.std.proofs.lemmas.Map.Views.{btree_map_get_iff}
 use Rattle.gm_graph_cache.specs.declared.class.Class.{Class}
 use Rattle.gm_graph_cache.specs.Main.{ModuleVersion}
-use Rattle.gm_graph_select.specs.Graph.{vertex_cmp}
+use Rattle.gm_name.specs.PairOrder.{pair_cmp}
 use Rattle.gm_graph_select.specs.StepOrder.{vertex_total, vertex-anti}
 use Rattle.gm_graph.specs.declared.fault.Fault.{Fault}
 use Rattle.gm_graph.specs.Building.{fault}
@@ -27,13 +27,13 @@ entry_fault e = fault e.0 e.1
 abbrev entry_of_fault : Fault → ModuleVersion × Class
 entry_of_fault one = (one.vertex, one.class)
 
-module _ (faults : tree.BTreeMap ModuleVersion Class) (ordered : tree.IsOrdered vertex_cmp faults) where
+module _ (faults : tree.BTreeMap ModuleVersion Class) (ordered : tree.IsOrdered pair_cmp faults) where
   -- A fault is in the list of a map's faults exactly if the map has it.
-  pub fault_listed : (one : Fault) → Contains (map (λ e. fault e.0 e.1) faults.entries) one ↔ (tree.get vertex_cmp faults one.vertex ≡ Some one.class)
+  pub fault_listed : (one : Fault) → Contains (map (λ e. fault e.0 e.1) faults.entries) one ↔ (tree.get pair_cmp faults one.vertex ≡ Some one.class)
   fault_listed one = (
     (λ h. let found = from_mapped entry_fault faults.entries one h in
         let there = (btree_map_get_iff vertex_total vertex-anti faults ordered found.0.0 found.0.1).1 found.1 in
-        ap (λ (f : Fault). tree.get vertex_cmp faults f.vertex) (sym found.2) ∙ there ∙ ap (λ (f : Fault). Some f.class) found.2),
+        ap (λ (f : Fault). tree.get pair_cmp faults f.vertex) (sym found.2) ∙ there ∙ ap (λ (f : Fault). Some f.class) found.2),
     (λ h. in_mapped entry_fault faults.entries (one.vertex, one.class) ((btree_map_get_iff vertex_total vertex-anti faults ordered one.vertex one.class).0 h)),
   )
 
@@ -42,9 +42,9 @@ module _ (faults : tree.BTreeMap ModuleVersion Class) (ordered : tree.IsOrdered 
       ap (λ (f : Fault). f.vertex) (get_or-map entry_fault faults.entries i (entry_of_fault d) d inside)
       ∙ sym (get_or-map (λ (e : ModuleVersion × Class). e.0) faults.entries i (entry_of_fault d) d.vertex inside)
 
-  pub faults_ascend : AllPairs (λ (a b : Fault). vertex_cmp a.vertex b.vertex ≡ Less) (map (λ e. fault e.0 e.1) faults.entries)
+  pub faults_ascend : AllPairs (λ (a b : Fault). pair_cmp a.vertex b.vertex ≡ Less) (map (λ e. fault e.0 e.1) faults.entries)
   faults_ascend i j d lt below =
       let inside : j < length faults.entries = rw length-map at below in
       let in_keys : j < length (map (λ (e : ModuleVersion × Class). e.0) faults.entries) = rw length-map inside in
-      let less = Less-from_sorted vertex_cmp (map (λ (e : ModuleVersion × Class). e.0) faults.entries) i j d.vertex ordered lt in_keys in
-      ap₂ vertex_cmp (vertex_at i d (omega arith)) (vertex_at j d inside) ∙ less
+      let less = Less-from_sorted pair_cmp (map (λ (e : ModuleVersion × Class). e.0) faults.entries) i j d.vertex ordered lt in_keys in
+      ap₂ pair_cmp (vertex_at i d (omega arith)) (vertex_at j d inside) ∙ less

@@ -7,9 +7,9 @@ use Rattle.gm_graph_select.specs.declared.step.Edge.{Edge}
 use Rattle.gm_graph_select.specs.declared.step.Step.TheVariants.{Main as FromMain, Of}
 use Rattle.gm_graph_select.specs.BuildList.{Entry, IsBuildList, IsSelected, entry_of, main_entry}
 use Rattle.gm_graph_select.specs.Chains.{IsReached, IsRooted, along, at_main}
-use Rattle.gm_graph_select.specs.Graph.{AreEnds, among, edge, edge_cmp}
+use Rattle.gm_graph_select.specs.Graph.{among, edge, edge_cmp}
 use Rattle.gm_graph_select.specs.Order.{HaveSame, IsAscending}
-use Rattle.gm_graph_select.proofs.Same.{AreSame, ends_same, same_back, same_rooted}
+use Rattle.gm_graph_select.proofs.Same.{AreSame, same_back, same_rooted}
 use Rattle.gm_graph.specs.Graph.{IsDeep, IsEdge, IsOpened, IsTop, from_deep, from_main, from_top}
 use Rattle.gm_graph.specs.Outcome.{AreReached}
 use Rattle.gm_graph.proofs.Mapped.{from_mapped}
@@ -57,14 +57,3 @@ module _ (main : List ℕ) (replaces : List Replacing) (edges : List Edge) (entr
 
 pub sorted_rooted : (old new : List Edge) → HaveSame old new → IsRooted (among old) → IsRooted (among new)
 sorted_rooted old new same rooted = same_rooted (among old) (among new) (λ s y. same (edge s y)) rooted
-
--- Equal sets of edges lead to the same vertices.
-pub ends_along : (ends : List ModuleVersion) (old new : List Edge) → HaveSame old new → AreEnds ends (among old) → AreEnds ends (among new)
-ends_along ends old new same are y = (
-  (λ h. let end = (are y).0 h in (end.0, (same (edge end.0 y)).0 end.1)),
-  (λ end. (are y).1 (end.0, (same (edge end.0 y)).1 end.1)),
-)
-
--- So do those edges to the vertices in another order.
-pub sorted_ends : (vertices sorted : List ModuleVersion) (old new : List Edge) → HaveSame vertices sorted → HaveSame old new → AreEnds vertices (among old) → AreEnds sorted (among new)
-sorted_ends vertices sorted old new moved same are = ends_same vertices sorted (among new) moved (ends_along vertices old new same are)

@@ -7,26 +7,33 @@ use Rattle.gm_graph_cache.specs.declared.depth.Depth.{Depth}
 use Rattle.gm_graph_cache.specs.declared.finding.Finding.{Finding}
 use Rattle.gm_graph_cache.specs.declared.finding.Finding.TheVariants.{Fault, Sound}
 use Rattle.gm_graph_cache.specs.declared.depth.Turn.{Turn}
-use Rattle.gm_graph_cache.specs.Cached.{IsFinding}
+use Rattle.gm_graph_cache.specs.declared.cache.Cache.{Cache}
+use Rattle.gm_graph_cache.specs.Cached.{IsFinding, IsLender}
 use Rattle.gm_graph_cache.specs.Turns.{turn}
 use Rattle.gm_graph_cache.specs.Main.{Main, ModuleVersion, without_excluded}
-use Rattle.gm_graph_cache.specs.Reading.{Held, Readings, fault_in, vertex_fault, readings_by, vertex_requirements}
+use Rattle.gm_graph_cache.specs.Reading.{Readings, fault_in, vertex_fault, vertex_requirements}
 use Rattle.gm_graph_select.specs.declared.step.Edge.{Edge}
 use Rattle.gm_graph_select.specs.declared.step.Step.{Step}
 use Rattle.gm_graph_select.specs.declared.step.Step.TheVariants.{Main as FromMain, Of}
 use Rattle.gm_graph_select.specs.Graph.{edge}
 use Rattle.gm_graph.specs.Building.{AddsSource, AreGathered, Faults, Gathers, found_fault, gathers, noted}
 use Rattle.gm_graph.specs.Graph.{IsEdge}
+use Rattle.gm_graph.specs.Visiting.{lender_of, readings_in}
 use Rattle.gm_graph.proofs.Mapped.{from_mapped, in_mapped}
 
-finding_fault : (main : Main) (held : Held) (x : ModuleVersion) (f : Finding) → IsFinding main held x f → found_fault f ≡ vertex_fault (readings_by main held) x
-finding_fault main held x (Fault class) e = sym (ap fault_in e)
-finding_fault main held x (Sound name) e = sym (ap fault_in e.2)
+pub finding_fault : (cache : Cache) (x : ModuleVersion) (f : Finding) → IsFinding cache x f → found_fault f ≡ vertex_fault (readings_in cache) x
+finding_fault cache x (Fault class) e = sym (ap fault_in e)
+finding_fault cache x (Sound place) sound = sym (ap fault_in sound.reading)
 
 -- What is found of a vertex is known.
-pub finding_known : (main : Main) (held : Held) (x : ModuleVersion) (f : Finding) → IsFinding main held x f → IsSome (readings_by main held x)
-finding_known main held x (Fault class) e = subst (λ o. IsSome o) (sym e) refl
-finding_known main held x (Sound name) e = subst (λ o. IsSome o) (sym e.2) refl
+pub finding_known : (cache : Cache) (x : ModuleVersion) (f : Finding) → IsFinding cache x f → IsSome (readings_in cache x)
+finding_known cache x (Fault class) e = subst (λ o. IsSome o) (sym e) refl
+finding_known cache x (Sound place) sound = subst (λ o. IsSome o) (sym sound.reading) refl
+
+-- Its requirements are lent at this place.
+pub lender_is : (cache : Cache) (x : ModuleVersion) (f : Finding) → IsFinding cache x f → IsLender cache x (lender_of f)
+lender_is cache x (Fault class) e = (class, e)
+lender_is cache x (Sound place) sound = sound
 
 -- Edges from one step to some vertices were added.
 each_added : (old new : List Edge) (s : Step) (ys : List ModuleVersion) → new ≡ old ++ map (edge s) ys → (y : ModuleVersion) → Contains ys y → Contains new (edge s y)
@@ -38,22 +45,22 @@ only_added old new s ys more e h = elim (Contains-append_cases old (map (edge s)
   | inr new ↦ (let (y, in_ys, same) = from_mapped (edge s) ys e new in inr (y, in_ys, sym same))
 ]
 
-module _ (main : Main) (held : Held) (turns : List Turn) (x : ModuleVersion) (d : Depth) (f : Finding) (found : IsFinding main held x f) (old new : List Edge) (before after : Faults)
+module _ (main : Main) (readings : Readings) (turns : List Turn) (x : ModuleVersion) (d : Depth) (f : Finding) (is_fault : found_fault f ≡ vertex_fault readings x) (old new : List Edge) (before after : Faults)
     (noting : (q : ModuleVersion) → after q ≡ noted (found_fault f) x before q) where
-  noting_fault : (q : ModuleVersion) → after q ≡ noted (vertex_fault (readings_by main held) x) x before q
-  noting_fault q = noting q ∙ ap (λ (o : Option Class). noted o x before q) (finding_fault main held x f found)
+  noting_fault : (q : ModuleVersion) → after q ≡ noted (vertex_fault readings x) x before q
+  noting_fault q = noting q ∙ ap (λ (o : Option Class). noted o x before q) is_fault
 
   -- a visit that adds edges
-  pub gathers_edges : new ≡ old ++ map (edge (Of x)) (vertex_requirements main (readings_by main held) x) → Gathers main (readings_by main held) turns old new before after (turn x d)
+  pub gathers_edges : new ≡ old ++ map (edge (Of x)) (vertex_requirements main readings x) → Gathers main readings turns old new before after (turn x d)
   gathers_edges more = record {
-    extends = (map (edge (Of x)) (vertex_requirements main (readings_by main held) x), more);
-    each = λ _ y h. each_added old new (Of x) (vertex_requirements main (readings_by main held) x) more y h;
-    only = only_added old new (Of x) (vertex_requirements main (readings_by main held) x) more;
+    extends = (map (edge (Of x)) (vertex_requirements main readings x), more);
+    each = λ _ y h. each_added old new (Of x) (vertex_requirements main readings x) more y h;
+    only = only_added old new (Of x) (vertex_requirements main readings x) more;
     faults = noting_fault;
   }
 
   -- a visit that adds none
-  pub gathers_no_edges : gathers turns (turn x d) ≡ false → new ≡ old → Gathers main (readings_by main held) turns old new before after (turn x d)
+  pub gathers_no_edges : gathers turns (turn x d) ≡ false → new ≡ old → Gathers main readings turns old new before after (turn x d)
   gathers_no_edges no_edges same = record {
     extends = ([], same ∙ sym (append-nil old));
     each = λ is y h. absurd (false≢true (sym no_edges ∙ is));

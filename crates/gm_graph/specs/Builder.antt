@@ -1,5 +1,5 @@
--- What a graph builder holds, by the numbers of the vertices, as lists of turns, steps and edges.
-use Rattle.std.specs.Prelude.{◌≡◌, ◌⊎◌, ◌<◌, ℕ, false, All, List, Contains, get_or, length, map}
+-- What a graph builder holds, by the numbers of modules, as lists of turns, steps and edges.
+use Rattle.std.specs.Prelude.{◌≡◌, ◌<◌, ◌≤◌, ℕ, false, All, List, get_or, length, map}
 use Rattle.std.specs.BTreeMap as tree
 use Rattle.std.specs.List.{IsDistinct, list_any}
 use Rattle.gm_graph_cache.specs.declared.depth.Depth.{Depth}
@@ -8,39 +8,53 @@ use Rattle.gm_graph_cache.specs.Main.{ModuleVersion}
 use Rattle.gm_graph_cache.specs.Turns.{turn}
 use Rattle.gm_graph_select.specs.declared.step.Edge.{Edge}
 use Rattle.gm_graph_select.specs.declared.step.Step.{Step}
-use Rattle.gm_graph_select.specs.Adjacency.{HaveNumbers, edges_of, left_by, vertex_at}
-use Rattle.gm_graph_select.specs.Graph.{vertex_cmp}
+use Rattle.gm_graph_select.specs.Adjacency.{HaveNumbers, edges_of, sources_of, vertex_at}
+use Rattle.gm_name.specs.PairOrder.{pair_cmp, pair_eq}
 use Rattle.gm_graph.specs.Building.{Faults}
-use Rattle.gm_graph.specs.Graph.{same_vertex}
 use Rattle.gm_graph.specs.Marks.{is_marked}
-use Rattle.gm_graph.specs.Turns.{AreTurnsOf, Extends, same_turn}
+use Rattle.gm_graph.specs.Turns.{AreTurnsOf, same_turn}
 use Rattle.gm_graph.specs.declared.graph_builder.GraphBuilder.{GraphBuilder}
 use Rattle.gm_graph.specs.declared.graph_builder.NumberedTurn.{NumberedTurn}
 use Rattle.gm_graph.specs.declared.marks.Marks.{Marks}
 
+-- ---- what the numbers mean, if they are those of these modules
+
 -- the turn of the vertex with a number
 abbrev pub turn_of : List ModuleVersion → NumberedTurn → Turn
-turn_of vertices one = turn (vertex_at vertices one.number) one.depth
-
--- the vertex of a turn
-abbrev pub vertex_of : GraphBuilder → NumberedTurn → ModuleVersion
-vertex_of builder one = vertex_at builder.vertices one.number
+turn_of modules one = turn (vertex_at modules one.number) one.depth
 
 -- the turns of the worklist
-abbrev pub turns_of : GraphBuilder → List Turn
-turns_of builder = map (turn_of builder.vertices) builder.turns.items
+abbrev pub turns_of : List ModuleVersion → GraphBuilder → List Turn
+turns_of modules builder = map (turn_of modules) builder.turns.items
 
 -- the edges
-abbrev pub edges_in : GraphBuilder → List Edge
-edges_in builder = edges_of builder.vertices builder.leaving.items
+abbrev pub edges_in : List ModuleVersion → GraphBuilder → List Edge
+edges_in modules builder = edges_of modules builder.leaving.items
 
 -- the steps that adjacency lists leave
-abbrev pub sources_in : GraphBuilder → List Step
-sources_in builder = map (left_by builder.vertices) builder.leaving.items
+abbrev pub sources_in : List ModuleVersion → GraphBuilder → List Step
+sources_in modules builder = sources_of modules builder.leaving.items
 
 -- the fault of each vertex that has one
 abbrev pub faults_by_vertex : GraphBuilder → Faults
-faults_by_vertex builder x = tree.get vertex_cmp builder.faults x
+faults_by_vertex builder x = tree.get pair_cmp builder.faults x
+
+-- a graph under construction, as contracts see it
+pub record Built : Type 0 where
+  pub turns : List Turn
+  pub edges : List Edge
+  pub sources : List Step
+  pub faults : Faults
+
+abbrev pub built : List ModuleVersion → GraphBuilder → Built
+built modules builder = record {
+  turns = turns_of modules builder;
+  edges = edges_in modules builder;
+  sources = sources_in modules builder;
+  faults = faults_by_vertex builder;
+}
+
+-- ---- what holds of a builder
 
 -- the marks of the vertex with a number
 abbrev pub marks_at : List Marks → ℕ → Marks
@@ -48,43 +62,26 @@ marks_at marks number = get_or marks number (record { top = false; deep = false 
 
 -- Each vertex has the marks of its turns.
 abbrev pub AreMarks : List ModuleVersion → List Marks → List Turn → Type 0
-AreMarks vertices marks turns = (number : ℕ) (d : Depth) → number < length vertices
-    → is_marked (marks_at marks number) d ≡ list_any (same_turn (turn (vertex_at vertices number) d)) turns
+AreMarks modules marks turns = (number : ℕ) (d : Depth) → number < length modules
+    → is_marked (marks_at marks number) d ≡ list_any (same_turn (turn (vertex_at modules number) d)) turns
 
--- The numbers are those of vertices, the vertices are distinct, and turns, marks and the count of the vertices with
--- turns are consistent.
-pub record IsBuilder (builder : GraphBuilder) : Type 0 where
-  pub distinct : IsDistinct same_vertex builder.vertices
-  pub turned : All (λ one. one.number < length builder.vertices) builder.turns.items
-  pub numbered : HaveNumbers (length builder.vertices) builder.leaving.items
-  pub long : length builder.marks.items ≡ length builder.vertices
-  pub marks : AreMarks builder.vertices builder.marks.items (turns_of builder)
+-- The numbers are those of modules, the modules are distinct, and turns, marks and the count of the vertices with turns
+-- are consistent.
+pub record IsBuilder (modules : List ModuleVersion) (builder : GraphBuilder) : Type 0 where
+  pub distinct : IsDistinct pair_eq modules
+  pub turned : All (λ one. one.number < length modules) builder.turns.items
+  pub numbered : HaveNumbers (length modules) builder.leaving.items
+  pub marked : length builder.marks.items ≤ length modules
+  pub marks : AreMarks modules builder.marks.items (turns_of modules builder)
   pub opened : List ModuleVersion
-  pub turns : AreTurnsOf opened (turns_of builder)
+  pub turns : AreTurnsOf opened (turns_of modules builder)
   pub counted : builder.opened ≡ length opened
 
--- These are the numbers of these vertices.
-pub record AreNumbersOf (vertices : List ModuleVersion) (numbers : List ℕ) (list : List ModuleVersion) : Type 0 where
-  pub below : All (λ number. number < length vertices) numbers
-  pub are : map (vertex_at vertices) numbers ≡ list
-
--- Some of these vertices were found, and nothing else was changed.
-pub record FindsMore (old new : GraphBuilder) (list : List ModuleVersion) : Type 0 where
-  pub extends : Extends old.vertices new.vertices
-  pub only : (x : ModuleVersion) → Contains new.vertices x → Contains old.vertices x ⊎ Contains list x
-  pub turns : turns_of new ≡ turns_of old
-  pub edges : edges_in new ≡ edges_in old
-  pub sources : sources_in new ≡ sources_in old
-  pub faults : (x : ModuleVersion) → faults_by_vertex new x ≡ faults_by_vertex old x
-
--- The vertices, the edges and the faults are the same.
+-- The adjacency lists and the faults are the same.
 pub record KeepsGraph (old new : GraphBuilder) : Type 0 where
-  pub vertices : new.vertices ≡ old.vertices
-  pub edges : edges_in new ≡ edges_in old
-  pub sources : sources_in new ≡ sources_in old
-  pub faults : (x : ModuleVersion) → faults_by_vertex new x ≡ faults_by_vertex old x
+  pub leaving : new.leaving.items ≡ old.leaving.items
+  pub faults : new.faults ≡ old.faults
 
--- The vertices and the turns are the same.
-pub record KeepsTurns (old new : GraphBuilder) : Type 0 where
-  pub vertices : new.vertices ≡ old.vertices
-  pub turns : turns_of new ≡ turns_of old
+-- The turns are the same.
+abbrev pub KeepsTurns : GraphBuilder → GraphBuilder → Type 0
+KeepsTurns old new = new.turns.items ≡ old.turns.items

@@ -15,7 +15,8 @@ use Rattle.gm_graph_select.specs.declared.step.Step.{Step}
 use Rattle.gm_graph_select.specs.declared.step.Step.TheVariants.{Main as FromMain, Of}
 use Rattle.gm_graph_select.specs.Graph.{edge}
 use Rattle.gm_graph.specs.declared.fault.Fault.{Fault as HeldFault}
-use Rattle.gm_graph.specs.Graph.{IsEdge, IsOpened, IsTop, same_vertex}
+use Rattle.gm_graph.specs.Graph.{IsEdge, IsOpened, IsTop}
+use Rattle.gm_name.specs.PairOrder.{pair_eq}
 use Rattle.gm_graph.specs.Turns.{Extends, same_turn}
 
 -- a vertex and its fault
@@ -29,7 +30,7 @@ Faults = ModuleVersion → Option Class
 -- the faults, and that of one more vertex if it has one
 abbrev pub noted : Option Class → ModuleVersion → Faults → Faults
 noted None x faults y = faults y
-noted (Some class) x faults y = if same_vertex x y then Some class else faults y
+noted (Some class) x faults y = if pair_eq x y then Some class else faults y
 
 -- the fault that was found
 abbrev pub found_fault : Finding → Option Class

@@ -7,7 +7,7 @@ use Rattle.gm_graph_cache.specs.declared.depth.Depth.{Depth}
 use Rattle.gm_graph_cache.specs.declared.depth.Turn.{Turn}
 use Rattle.gm_graph_cache.specs.Main.{Main, ModuleVersion}
 use Rattle.gm_graph_cache.specs.Reading.{Held, Readings, file_of, is_askable, readings_by}
-use Rattle.gm_graph.specs.Graph.{same_vertex}
+use Rattle.gm_name.specs.PairOrder.{pair_eq}
 use Rattle.gm_graph_cache.specs.Reading.{Tells}
 use Rattle.gm_graph.specs.Graph.{IsOpened, TakesTurn}
 use Rattle.gm_graph.specs.Turns.{same_turn}
@@ -49,10 +49,10 @@ pub record AreTurns (main : Main) (readings : Readings) (turns : List Turn) : Ty
 
 -- More than 65,536 vertices are opened.
 abbrev pub AreTooMany : Main → Readings → Type 0
-AreTooMany main readings = (all : List ModuleVersion) × (65536 < length all) × IsDistinct same_vertex all
+AreTooMany main readings = (all : List ModuleVersion) × (65536 < length all) × IsDistinct pair_eq all
     × ((x : ModuleVersion) → Contains all x → IsOpened main readings x)
 
 -- At most 65,536 vertices are opened.
 abbrev pub AreFew : Main → Readings → Type 0
-AreFew main readings = (all : List ModuleVersion) → IsDistinct same_vertex all
+AreFew main readings = (all : List ModuleVersion) → IsDistinct pair_eq all
     → ((x : ModuleVersion) → Contains all x → IsOpened main readings x) → length all ≤ 65536

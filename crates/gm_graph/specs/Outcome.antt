@@ -8,7 +8,8 @@ use Rattle.gm_graph_cache.specs.Reading.{Readings, vertex_fault}
 use Rattle.gm_graph_select.specs.declared.step.Edge.{Edge}
 use Rattle.gm_graph_select.specs.BuildList.{Entry, IsBuildList}
 use Rattle.gm_graph_select.specs.Chains.{IsReached}
-use Rattle.gm_graph_select.specs.Graph.{among, edge_cmp, vertex_cmp}
+use Rattle.gm_graph_select.specs.Graph.{among, edge_cmp}
+use Rattle.gm_name.specs.PairOrder.{pair_cmp}
 use Rattle.gm_graph_select.specs.Order.{IsAscending}
 use Rattle.gm_graph.specs.declared.fault.Fault.{Fault}
 use Rattle.gm_graph.specs.Graph.{IsEdge, IsOpened}
@@ -24,7 +25,7 @@ pub record LoadedGraph : Type 0 where
 
 -- Each opened vertex with a fault, with that fault, in strictly ascending order.
 pub record AreFaults (main : Main) (readings : Readings) (faults : List Fault) : Type 0 where
-  pub ascending : AllPairs (λ (a b : Fault). vertex_cmp a.vertex b.vertex ≡ Less) faults
+  pub ascending : AllPairs (λ (a b : Fault). pair_cmp a.vertex b.vertex ≡ Less) faults
   pub each : (one : Fault) → Contains faults one
       ↔ (IsOpened main readings one.vertex × (vertex_fault readings one.vertex ≡ Some one.class))
 

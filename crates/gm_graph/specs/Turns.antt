@@ -7,7 +7,7 @@ use Rattle.gm_graph_cache.specs.declared.depth.Depth.{Depth}
 use Rattle.gm_graph_cache.specs.declared.depth.Depth.TheVariants.{Top, Deep}
 use Rattle.gm_graph_cache.specs.Main.{Main, ModuleVersion, is_pruned_by}
 use Rattle.gm_graph_cache.specs.Reading.{Readings, is_unpruned_in, vertex_requirements, said_in}
-use Rattle.gm_graph.specs.Graph.{same_vertex}
+use Rattle.gm_name.specs.PairOrder.{pair_eq}
 use Rattle.gm_graph_cache.specs.Turns.{turn}
 use Rattle.gm_graph.specs.Graph.{IsTop, TakesTurn}
 
@@ -41,12 +41,12 @@ same_depth Deep Top = false
 same_depth Deep Deep = true
 
 abbrev pub same_turn : Turn → Turn → Bool
-same_turn a b = same_vertex a.vertex b.vertex && same_depth a.depth b.depth
+same_turn a b = pair_eq a.vertex b.vertex && same_depth a.depth b.depth
 
 -- The turns and the vertices are consistent: neither has duplicates, and there are at most 65,536 vertices.
 pub record AreTurnsOf (vertices : List ModuleVersion) (turns : List Turn) : Type 0 where
   pub few : length vertices ≤ 65536
-  pub vertices_once : IsDistinct same_vertex vertices
+  pub vertices_once : IsDistinct pair_eq vertices
   pub turns_once : IsDistinct same_turn turns
   pub has_turn : (x : ModuleVersion) → Contains vertices x → (d : Depth) × Contains turns (turn x d)
   pub has_vertex : (one : Turn) → Contains turns one → Contains vertices one.vertex
@@ -91,7 +91,7 @@ HasTurn turns x = (d : Depth) × Contains turns (turn x d)
 
 -- More than 65,536 distinct vertices have turns or are among these.
 abbrev pub OverflowsWith : List Turn → List ModuleVersion → Type 0
-OverflowsWith turns xs = (all : List ModuleVersion) × (65536 < length all) × IsDistinct same_vertex all
+OverflowsWith turns xs = (all : List ModuleVersion) × (65536 < length all) × IsDistinct pair_eq all
     × ((x : ModuleVersion) → Contains all x → HasTurn turns x ⊎ Contains xs x)
 
 -- The vertices with turns, together with what the turn leads to, are too many.

@@ -1,5 +1,7 @@
-//! Loading the module graph of a main module from a store of go.mod files (Go Modules Reference, "Minimal version
-//! selection" and "Module graph pruning", <https://go.dev/ref/mod#graph-pruning>).
+//! Loading the module graph of a main module from a store of go.mod files.
+//!
+//! The rules are those of the Go Modules Reference ("Minimal version selection" and "Module graph pruning",
+//! <https://go.dev/ref/mod#graph-pruning>).
 //!
 //! Loading starts from the main module's requirements and follows requirements from file to file. How far it goes
 //! depends on pruning. If the main file is below go 1.17, all requirements are followed. Otherwise the requirements
@@ -21,6 +23,7 @@ pub mod laws;
 mod loaded;
 mod loading;
 mod marks;
+mod rows;
 mod starting;
 mod visiting;
 mod worklist;
@@ -28,3 +31,5 @@ mod worklist;
 pub use crate::fault::Fault;
 pub use crate::loaded::Loaded;
 pub use crate::loading::load;
+pub use gm_graph_cache::{Class, Depth, LoadFault, Misreading, Turn};
+pub use gm_graph_select::{ChainFault, Edge, EdgeRef, Edges, NotListed, Row, Rows, Step};

@@ -9,7 +9,7 @@ ghost use Rattle.gm_graph.specs.Outcome.{AreReached};
 
 use crate::fault::Fault;
 use gm_graph_cache::Turn;
-use gm_graph_select::{ChainFault, Edge, Graph, NotListed, Row, Rows, Step};
+use gm_graph_select::{ChainFault, Edges, Graph, NotListed, Row, Rows, Step};
 use gm_name::{ModPath, NoMemory};
 use std::alloc::Global;
 use std::marker::Model;
@@ -73,12 +73,11 @@ impl Loaded {
         self.faults.as_slice()
     }
 
-    /// The edges of the graph, in strictly ascending order. Each call makes the list anew, with memory for it. The only
-    /// refusal is `NoMemory`, if memory runs out.
-    pub fn edges(&self, alloc: Global) -> Result<Vec<Edge>, NoMemory>
-        ensures { IfOk result (λ edges. edges.items ≡ self.now.edges) }
+    /// The edges of the graph, in strictly ascending order. It takes no memory.
+    pub fn edges(&self) -> Edges<'_>
+        ensures { result ≡ self.now.edges }
     {
-        self.graph.edges(alloc)
+        self.graph.edges()
     }
 
     /// The vertices and depths for which requirements were read, without duplicates. It takes no memory.

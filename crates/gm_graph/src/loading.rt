@@ -1,17 +1,19 @@
 //! Loading a module graph: a loop over the worklist, and the assembly of the result.
 
-ghost use Rattle.std.specs.Prelude.{◌≡◌, ◌≤◌, ◌++◌, [], Contains, IfOk, OnOk, Err, map};
+ghost use Rattle.std.specs.Prelude.{◌≡◌, ◌≤◌, ◌++◌, [], Contains, IfOk, OnOk, Err, length, map};
 ghost use Rattle.std.specs.Option.{option_copied};
 ghost use Rattle.gm_store.specs.Asked.{Name, Reply, name_of};
 ghost use Rattle.gm_store.specs.States.{CountsFailure};
 ghost use Rattle.gm_store.specs.declared.files.FileName.{FileName};
 ghost use Rattle.gm_graph_cache.specs.Asking.{MayGrow};
-ghost use Rattle.gm_graph_cache.specs.Cached.{Knows, main_in, sums_in, turns_in};
+ghost use Rattle.gm_graph_cache.specs.Cached.{Knows, main_in, modules_in, sums_in, turns_in};
 ghost use Rattle.gm_graph_cache.specs.Refusals.{refused_in};
-ghost use Rattle.gm_graph_cache.specs.Main.{main_of};
+ghost use Rattle.gm_graph_cache.specs.Main.{ModuleVersion, main_of};
 ghost use Rattle.gm_graph_select.specs.BuildList.{IsBuildList};
 ghost use Rattle.gm_graph_select.specs.Chains.{IsRooted};
-ghost use Rattle.gm_graph_select.specs.Graph.{AreEnds, among, edge_cmp, vertex_cmp};
+ghost use Rattle.gm_graph_select.specs.Graph.{IsEdgeEnd, among, edge_cmp};
+ghost use Rattle.gm_name.specs.PairOrder.{pair_cmp};
+ghost use Rattle.gm_graph_select.specs.declared.step.Step.TheVariants.{Of};
 ghost use Rattle.gm_graph_select.specs.Order.{HaveSame, IsAscending};
 ghost use Rattle.gm_graph_select.specs.StepOrder.{step_eq};
 ghost use Rattle.std.specs.BTreeMap as tree;
@@ -24,11 +26,13 @@ ghost use Rattle.gm_graph.specs.Visiting.{IsFirstGraph, IsOpenedIn};
 
 use crate::graph_builder::{GraphBuilder, fault_list};
 use crate::loaded::Loaded;
+use crate::rows::build_list;
 use crate::starting::first_graph;
 use crate::visiting::visit;
 use gm_file::MainFile;
-use gm_graph_cache::{Cache, LoadFault, Turn, main_view};
+use gm_graph_cache::{Cache, LoadFault, Turn, main_path};
 use gm_graph_select::Graph;
+use gm_name::ModVer;
 use gm_store::Files;
 use gm_store_sums::SumTable;
 use std::alloc::{AllocError, Global};
@@ -42,7 +46,7 @@ fn visit_all<F: Files>(
     requires asked { (F.state files.old).asked ≡ [] }
     requires knows { Knows cache.old [] }
     requires lent { turns_in cache.old ≡ [] }
-    requires first { IsFirstGraph (main_in cache.old) builder.old }
+    requires first { IsFirstGraph (main_in cache.old) (modules_in cache.old) builder.old }
     ensures opened { OnOk result (IsOpenedIn cache.old cache.new (F.state files.new).asked builder.new) }
     ensures too_many { result ≡ Err LoadFault.TooMany
         → Told (main_in cache.old) (sums_in cache.old) (F.state files.new).asked (AreTooMany (main_in cache.old)) }
@@ -64,37 +68,40 @@ fn visit_all<F: Files>(
     Ok(())
 }
 
-/// The loaded graph: its vertices are sorted, and the build list is made of them.
+/// The loaded graph of a builder whose numbers are those of these modules: the vertices are sorted, and the build list
+/// is made of them.
 fn assemble(
     alloc: Global,
     main: &MainFile,
+    modules: Vec<ModVer>,
     turns: Vec<Turn>,
     builder: GraphBuilder,
 ) -> Result<Loaded, AllocError>
-    requires builder { IsBuilder builder }
-    requires rooted { IsRooted (among (edges_in builder)) }
-    requires once { IsDistinct step_eq (sources_in builder) }
-    requires ends { AreEnds builder.vertices (among (edges_in builder)) }
+    requires few { length modules.items ≤ 4294967295 }
+    requires builder { IsBuilder modules.items builder }
+    requires rooted { IsRooted (among (edges_in modules.items builder)) }
+    requires once { IsDistinct step_eq (sources_in modules.items builder) }
+    requires sources { (x : ModuleVersion) → Contains (sources_in modules.items builder) (Of x)
+        → IsEdgeEnd (among (edges_in modules.items builder)) x }
     ensures main { IfOk result (λ loaded. loaded.main ≡ (main_of main.now).path) }
     ensures faults { IfOk result (λ loaded. loaded.faults
         ≡ map (λ entry. fault entry.0 entry.1) builder.faults.entries) }
-    ensures ordered { OnOk result (tree.IsOrdered vertex_cmp builder.faults) }
+    ensures ordered { OnOk result (tree.IsOrdered pair_cmp builder.faults) }
     ensures ascending { IfOk result (λ loaded. IsAscending edge_cmp loaded.edges) }
-    ensures edges { IfOk result (λ loaded. HaveSame (edges_in builder) loaded.edges) }
+    ensures edges { IfOk result (λ loaded. HaveSame (edges_in modules.items builder) loaded.edges) }
     ensures rows { IfOk result (λ loaded.
         IsBuildList (main_of main.now).path (main_of main.now).replaces (among loaded.edges) loaded.rows) }
     ensures turns { IfOk result (λ loaded. loaded.turns ≡ turns.items) }
 {
     let GraphBuilder {
-        vertices,
         leaving,
         faults,
         ..
     } = builder;
     let faults = fault_list(alloc, faults)?;
-    let graph = Graph::new(alloc, vertices.into_modules(), leaving)?;
-    let rows = graph.build_list(alloc, main)?;
-    let path = main_view::path(main).copy(alloc)?;
+    let graph = Graph::new(alloc, modules, leaving)?;
+    let rows = build_list(alloc, main, &graph)?;
+    let path = main_path(main).copy(alloc)?;
     Ok(Loaded::new(path, faults, graph, rows, turns))
 }
 
@@ -130,10 +137,10 @@ pub fn load<F: Files>(
         → CountsFailure (F.state files.old) (F.state files.new) }
     ensures later { (F.state files.old).faults ≤ (F.state files.new).faults }
 {
-    let mut builder = first_graph(alloc, main)?;
     let mut cache = Cache::new(alloc, main, sums)?;
+    let mut builder = first_graph(alloc, main, &cache)?;
     visit_all(&mut cache, files, &mut builder)?;
     // The summaries are dropped here, before the sorted vertices take their memory.
-    let turns = cache.into_turns();
-    Ok(assemble(alloc, main, turns, builder)?)
+    let (modules, turns) = cache.into_parts();
+    Ok(assemble(alloc, main, modules, turns, builder)?)
 }

@@ -1,17 +1,19 @@
 //! Adding turns to the worklist.
 
-ghost use Rattle.std.specs.Prelude.{◌≡◌, ◌<◌, ◌≤◌, ◌+◌, ◌||◌, ◌++◌, ◌∷◌, [], All, Err, OnOk, if◌then◌else◌, length, map};
+ghost use Rattle.std.specs.Prelude.{◌≡◌, ◌<◌, ◌≤◌, ◌+◌, ◌||◌, ◌++◌, ◌∷◌, [], Err, List, OnOk, if◌then◌else◌, length};
+ghost use Rattle.gm_graph_cache.specs.Lent.{lent_modules, lent_table};
+ghost use Rattle.gm_graph_cache.specs.Main.{ModuleVersion};
 ghost use Rattle.gm_graph_cache.specs.Turns.{turn};
 ghost use Rattle.gm_graph_select.specs.Adjacency.{vertex_at};
 ghost use Rattle.gm_graph.specs.Building.{gathers};
-ghost use Rattle.gm_graph.specs.Builder.{IsBuilder, KeepsGraph, turns_of};
+ghost use Rattle.gm_graph.specs.Builder.{IsBuilder, KeepsGraph, KeepsTurns, marks_at, turn_of, turns_of};
 ghost use Rattle.gm_graph.specs.Turns.{AddsAll, AppendsTurnIfNew, OverflowsWith};
 ghost use Rattle.gm_graph.specs.WorklistFaults.{load_fault_of};
 ghost use Rattle.gm_graph.specs.declared.worklist.AddFault.TheVariants as add;
 
 use crate::graph_builder::{GraphBuilder, NumberedTurn};
 use crate::marks::Marks;
-use gm_graph_cache::{Depth, LoadFault};
+use gm_graph_cache::{Depth, Lent, LoadFault};
 use std::alloc::AllocError;
 
 /// The most vertices that are opened. Loading a larger graph is refused with `TooMany`.
@@ -67,30 +69,55 @@ fn push_turn(turns: &mut Vec<NumberedTurn>, one: NumberedTurn) -> Result<(), All
 }
 
 impl GraphBuilder {
+    /// The marks of the vertex with a number.
+    fn marks_of(&self, number: u32) -> Marks
+        ensures { result ≡ marks_at self.now.marks.items number }
+    {
+        match self.marks.get(number as usize) {
+            None => Marks::none(),
+            Some(marks) => *marks,
+        }
+    }
+
     /// Whether the edges of a vertex are added in a visit to this depth. A vertex may be visited at both depths; its
     /// edges are then added in the visit at the top only.
     pub(crate) fn gathers(&self, one: NumberedTurn) -> bool
-        requires builder { IsBuilder self.now }
-        requires below { one.number < length self.now.vertices }
-        ensures { result ≡ gathers (turns_of self.now) (turn (vertex_at self.now.vertices one.number) one.depth) }
+        ensures { (modules : List ModuleVersion) → IsBuilder modules self.now → one.number < length modules
+            → result ≡ gathers (turns_of modules self.now) (turn_of modules one) }
     {
         match one.depth {
             Depth::Top => true,
-            Depth::Deep => !self.marks[one.number as usize].has(Depth::Top),
+            Depth::Deep => !self.marks_of(one.number).has(Depth::Top),
         }
+    }
+
+    /// Makes marks for so many modules, if there are fewer.
+    fn make_marks(&mut self, count: usize) -> Result<(), AllocError>
+        ensures made { OnOk result (count ≤ length self.new.marks.items) }
+        ensures builder { (modules : List ModuleVersion) → count ≤ length modules → IsBuilder modules self.old
+            → OnOk result (IsBuilder modules self.new) }
+        ensures turns { OnOk result (KeepsTurns self.old self.new) }
+        ensures graph { OnOk result (KeepsGraph self.old self.new) }
+    {
+        if self.marks.len() < count {
+            self.marks.resize(count, Marks::none())?;
+        }
+        Ok(())
     }
 
     /// Adds a turn, unless the worklist has it. `TooMany` is returned if the vertex has no turn and `MOST` others have
     /// one.
     fn add(&mut self, number: u32, depth: Depth) -> Result<(), AddFault>
-        requires builder { IsBuilder self.old }
-        requires below { number < length self.old.vertices }
-        ensures builder { OnOk result (IsBuilder self.new) }
-        ensures adds { OnOk result (AppendsTurnIfNew (turns_of self.old) (turns_of self.new)
-            (turn (vertex_at self.old.vertices number) depth)) }
+        requires { number < length self.old.marks.items }
+        ensures builder { (modules : List ModuleVersion) → IsBuilder modules self.old
+            → OnOk result (IsBuilder modules self.new) }
+        ensures adds { (modules : List ModuleVersion) → IsBuilder modules self.old → OnOk result
+            (AppendsTurnIfNew (turns_of modules self.old) (turns_of modules self.new)
+            (turn (vertex_at modules number) depth)) }
         ensures graph { OnOk result (KeepsGraph self.old self.new) }
-        ensures too_many { result ≡ Err AddFault.TooMany
-            → OverflowsWith (turns_of self.old) (vertex_at self.old.vertices number ∷ []) }
+        ensures marks { length self.new.marks.items ≡ length self.old.marks.items }
+        ensures too_many { result ≡ Err AddFault.TooMany → (modules : List ModuleVersion) → IsBuilder modules self.old
+            → OverflowsWith (turns_of modules self.old) (vertex_at modules number ∷ []) }
     {
         let marks = self.marks[number as usize];
         if marks.has(depth) {
@@ -106,18 +133,18 @@ impl GraphBuilder {
         Ok(())
     }
 
-    /// Adds a turn for each of the vertices with these numbers.
-    pub(crate) fn add_all(&mut self, numbers: &[u32], depth: Depth) -> Result<(), AddFault>
-        requires builder { IsBuilder self.old }
-        requires below { All (λ number. number < length self.old.vertices) numbers.now }
-        ensures builder { OnOk result (IsBuilder self.new) }
-        ensures adds { OnOk result (AddsAll (turns_of self.old) (turns_of self.new)
-            (map (vertex_at self.old.vertices) numbers.now) depth) }
+    /// Adds a turn for each of these modules.
+    pub(crate) fn add_all(&mut self, list: Lent<'_>, depth: Depth) -> Result<(), AddFault>
+        requires { IsBuilder (lent_table list) self.old }
+        ensures builder { OnOk result (IsBuilder (lent_table list.entry) self.new) }
+        ensures adds { OnOk result (AddsAll (turns_of (lent_table list.entry) self.old)
+            (turns_of (lent_table list.entry) self.new) (lent_modules list.entry) depth) }
         ensures graph { OnOk result (KeepsGraph self.old self.new) }
         ensures too_many { result ≡ Err AddFault.TooMany
-            → OverflowsWith (turns_of self.old) (map (vertex_at self.old.vertices) numbers.now) }
+            → OverflowsWith (turns_of (lent_table list.entry) self.old) (lent_modules list.entry) }
     {
-        for number in numbers {
+        self.make_marks(list.module_count())?;
+        for number in list.numbers() {
             self.add(*number, depth)?;
         }
         Ok(())

@@ -7,16 +7,19 @@ use Rattle.gm_store.specs.Asked.{Name, Reply, answer_in, same_name}
 use Rattle.gm_store_sums.specs.declared.sum_table.SumTable.{SumTable}
 use Rattle.gm_graph_cache.specs.declared.class.Class.{Class}
 use Rattle.std.proofs.Math.Path.{fun_ext}
+use Rattle.gm_name_table.specs.Listed.{BeginsWith, NumberedList, listed}
 use Rattle.gm_graph_cache.specs.declared.cache.Cache.{Cache}
+use Rattle.gm_graph_cache.specs.declared.file_table.FileTable.{FileTable}
 use Rattle.gm_graph_cache.specs.Main.{Main, ModuleVersion, main_of, replacement_in}
 use Rattle.gm_graph_cache.specs.Reading.{Held, IsTold, Keeps, KeepsHeld, Tells, file_of, is_askable, reading_if, readings_by, with_right_path}
-use Rattle.gm_graph_cache.specs.Entries.{FindsSame}
-use Rattle.gm_graph_cache.specs.Summaries.{StartsWithList, IsKept, summary_reading}
-use Rattle.gm_graph_cache.specs.Cached.{HoldsSame, IsUnchanged, Knows, LendsKept, LentSame, held_of, main_in, summary_at, sums_in}
+use Rattle.gm_graph_cache.specs.FileTable.{KeepsFiles, kept_at}
+use Rattle.gm_graph_cache.specs.Summaries.{Grows, IsKept, summary_reading}
+use Rattle.gm_graph_cache.specs.Cached.{HoldsSame, IsUnchanged, Knows, LendsKept, LentSame, held_of, main_in, modules_in, summary_at, sums_in}
 use Rattle.gm_graph_cache.specs.Refusals.{refused_in, refused_names}
 use Rattle.gm_graph_cache.specs.declared.load_fault.LoadFault.{LoadFault}
 use Rattle.gm_graph_cache.specs.declared.load_fault.LoadFault.TheVariants as load
 use Rattle.gm_graph_cache.proofs.OneReading.{one_reading}
+use Rattle.gm_graph_cache.proofs.FilePlaces.{kept_if_more}
 use Rattle.gm_graph_cache.proofs.Spans.{kept_still, readings_still}
 
 -- ---- readings are unique
@@ -105,28 +108,38 @@ knows_still old new pairs same knows = record {
   lends = same.lends knows.lends;
 }
 
--- A cache with the same entries holds the same, if its list of modules only grew.
-pub holds_grown : (old new : Cache) → new.main.now ≡ old.main.now → sums_in new ≡ sums_in old → FindsSame old.summaries new.summaries → StartsWithList old.modules new.modules
-    → LendsKept old → HoldsSame old new
-holds_grown old new main sums found begins lends = record {
-  main = main;
-  sums = sums;
-  held = λ name. ap (option_map (summary_reading new.modules)) (found name)
-      ∙ readings_still (main_in old) old.modules new.modules (summary_at old name) begins (lends name);
-  lends = λ _ name one e. subst (λ (m : Main). IsKept m new.modules one) (ap main_of (sym main))
-      (kept_still (main_in old) old.modules new.modules one begins (lends name one (sym (found name) ∙ e)));
-}
+-- A cache with the same files holds the same, if its list of modules only grew.
+pub holds_grown : (old new : Cache) → new.main.now ≡ old.main.now → sums_in new ≡ sums_in old → new.files ≡ old.files
+    → Grows old.modules new.modules → LendsKept old → HoldsSame old new
+holds_grown old new main sums files grows lends =
+    let found : (name : Name) → summary_at new name ≡ summary_at old name =
+    λ name. ap (λ (kept : FileTable). kept_at (modules_in new) kept name) files
+    ∙ ap (λ (modules : List ModuleVersion). kept_at modules old.files name) grows.1.numbered.1
+    ∙ sym (kept_if_more (modules_in old) grows.1.numbered.0 old.files name old.own_within) in
+    let begins : BeginsWith (listed old.modules) (listed new.modules) = (grows.0, grows.1.listed) in
+    record {
+      main = main;
+      sums = sums;
+      held = λ name. ap (option_map (summary_reading (listed new.modules))) (found name)
+          ∙ readings_still (main_in old) (listed old.modules) (listed new.modules) (summary_at old name) begins (lends name);
+      lends = λ _ name one e. subst (λ (m : Main). IsKept m (listed new.modules) one) (ap main_of (sym main))
+          (kept_still (main_in old) (listed old.modules) (listed new.modules) one begins (lends name one (sym (found name) ∙ e)));
+    }
 
 -- So does one with the same list of modules.
-pub holds_listed : (old new : Cache) → new.main.now ≡ old.main.now → sums_in new ≡ sums_in old → FindsSame old.summaries new.summaries → new.modules ≡ old.modules → HoldsSame old new
-holds_listed old new main sums found modules = record {
-  main = main;
-  sums = sums;
-  held = λ name. ap (λ (ms : List ModuleVersion). option_map (summary_reading ms) (summary_at new name)) modules
-      ∙ ap (option_map (summary_reading old.modules)) (found name);
-  lends = λ lends name one e. subst (λ (m : Main). IsKept m new.modules one) (ap main_of (sym main))
-      (subst (λ (ms : List ModuleVersion). IsKept (main_in old) ms one) (sym modules) (lends name one (sym (found name) ∙ e)));
-}
+pub holds_listed : (old new : Cache) → new.main.now ≡ old.main.now → sums_in new ≡ sums_in old
+    → KeepsFiles (modules_in old) old.files new.files → new.modules ≡ old.modules → HoldsSame old new
+holds_listed old new main sums keeps modules =
+    let found : (name : Name) → summary_at new name ≡ summary_at old name =
+    λ name. ap (λ (list : NumberedList). kept_at list.modules new.files name) modules ∙ keeps name in
+    record {
+      main = main;
+      sums = sums;
+      held = λ name. ap (λ (list : NumberedList). option_map (summary_reading (listed list)) (summary_at new name)) modules
+          ∙ ap (option_map (summary_reading (listed old.modules))) (found name);
+      lends = λ lends name one e. subst (λ (m : Main). IsKept m (listed new.modules) one) (ap main_of (sym main))
+          (subst (λ (list : NumberedList). IsKept (main_in old) (listed list) one) (sym modules) (lends name one (sym (found name) ∙ e)));
+    }
 
 pub holds_after : (old mid new : Cache) → HoldsSame old mid → HoldsSame mid new → HoldsSame old new
 holds_after old mid new one two = record { main = two.main ∙ one.main; sums = two.sums ∙ one.sums; held = λ name. two.held name ∙ one.held name; lends = λ lends. two.lends (one.lends lends) }

@@ -2,9 +2,11 @@ pub mod Excluding
 pub mod Holding
 pub mod Telling
 pub mod Growing
+pub mod OwnFiles
 pub mod Lending
 pub mod OneReading
 pub mod Keeping
-pub mod Newer
-pub mod Firsts
+pub mod FilePlaces
+pub mod PuttingPlaces
+pub mod Replacements
 pub mod Spans

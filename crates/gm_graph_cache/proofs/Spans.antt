@@ -3,23 +3,23 @@ use Rattle.std.proofs.Common.{◌≡◌, ◌∙◌, ◌≤◌, ◌-◌, ℕ, Lis
 use Rattle.std.proofs.lemmas.List.{drop-append-le, length-drop, take-append-le}
 use Rattle.std.specs.List.{list_any}
 use Rattle.std.specs.Option.{option_map}
-use Rattle.gm_name_table.specs.Listed.{part}
+use Rattle.gm_name_table.specs.Listed.{BeginsWith, part}
 use Rattle.gm_file.specs.Listed.{Head, with_requirements}
 use Rattle.gm_graph_cache.specs.declared.summary.Kept.{Kept}
 use Rattle.gm_graph_cache.specs.declared.summary.Kept.TheVariants.{Valid, Faulty}
 use Rattle.gm_graph_cache.specs.declared.summary.Span.{Span}
 use Rattle.gm_graph_cache.specs.Main.{Main, ModuleVersion, is_excluded, without_excluded}
-use Rattle.gm_graph_cache.specs.Summaries.{StartsWithList, IsKept, IsSummary, IsWithinList, at_span, span_found, summary_reading}
+use Rattle.gm_graph_cache.specs.Summaries.{IsKept, IsSummary, IsWithinList, at_span, span_found, summary_reading}
 use Rattle.gm_graph_cache.proofs.Excluding.{all_others}
 
-longer : (old new : List ModuleVersion) → StartsWithList old new → length old ≤ length new
+longer : (old new : List ModuleVersion) → BeginsWith old new → length old ≤ length new
 longer old new begins = omega (arith, ap length begins.1, length-append old begins.0)
 
-pub within_still : (old new : List ModuleVersion) (span : Span) → StartsWithList old new → IsWithinList old span → IsWithinList new span
+pub within_still : (old new : List ModuleVersion) (span : Span) → BeginsWith old new → IsWithinList old span → IsWithinList new span
 within_still old new span begins is = record { order = is.order; within = omega (arith, is.within, longer old new begins) }
 
 -- A span within the old list has the same modules in the new one.
-pub span_still : (old new : List ModuleVersion) (span : Span) → StartsWithList old new → IsWithinList old span → at_span new span ≡ at_span old span
+pub span_still : (old new : List ModuleVersion) (span : Span) → BeginsWith old new → IsWithinList old span → at_span new span ≡ at_span old span
 span_still old new span begins is =
     let size = span.end - span.start in
     ap (λ (xs : List ModuleVersion). take size (drop span.start xs)) begins.1
@@ -27,7 +27,7 @@ span_still old new span begins is =
     ∙ take-append-le size (drop span.start old) begins.0 (omega (arith, is.order, is.within, length-drop span.start old))
 
 -- What is kept of a file stays the same.
-pub kept_still : (main : Main) (old new : List ModuleVersion) (one : Kept) → StartsWithList old new → IsKept main old one → IsKept main new one
+pub kept_still : (main : Main) (old new : List ModuleVersion) (one : Kept) → BeginsWith old new → IsKept main old one → IsKept main new one
 kept_still main old new (Valid summary) begins is = record {
   all_within = within_still old new summary.all begins is.all_within;
   kept_within = within_still old new summary.kept begins is.kept_within;
@@ -36,12 +36,12 @@ kept_still main old new (Valid summary) begins is = record {
 }
 kept_still main old new (Faulty class) begins is = tt
 
-reading_still : (main : Main) (old new : List ModuleVersion) (one : Kept) → StartsWithList old new → IsKept main old one → summary_reading new one ≡ summary_reading old one
+reading_still : (main : Main) (old new : List ModuleVersion) (one : Kept) → BeginsWith old new → IsKept main old one → summary_reading new one ≡ summary_reading old one
 reading_still main old new (Valid summary) begins is =
     ap (λ (xs : List ModuleVersion). Ok (with_requirements summary.file xs)) (span_still old new summary.all begins is.all_within)
 reading_still main old new (Faulty class) begins is = refl
 
-pub readings_still : (main : Main) (old new : List ModuleVersion) (o : Option Kept) → StartsWithList old new → ((one : Kept) → o ≡ Some one → IsKept main old one)
+pub readings_still : (main : Main) (old new : List ModuleVersion) (o : Option Kept) → BeginsWith old new → ((one : Kept) → o ≡ Some one → IsKept main old one)
     → option_map (summary_reading new) o ≡ option_map (summary_reading old) o
 readings_still main old new None begins is = refl
 readings_still main old new (Some one) begins is = ap Some (reading_still main old new one begins (is one refl))

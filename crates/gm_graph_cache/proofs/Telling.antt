@@ -5,15 +5,16 @@ use Rattle.gm_file.specs.Fields.{Dependency}
 use Rattle.gm_store.specs.Asked.{Name, Reply, answer_in, replies_in, same_name}
 use Rattle.gm_store_sums.specs.declared.sum_table.SumTable.{SumTable}
 use Rattle.gm_store.proofs.NameOrder.{names_equal, name_itself}
+use Rattle.gm_name_table.specs.Listed.{NumberedList, listed}
 use Rattle.gm_graph_cache.specs.declared.class.Class.{Class}
 use Rattle.gm_graph_cache.specs.declared.summary.Kept.{Kept}
 use Rattle.gm_graph_cache.specs.declared.cache.Cache.{Cache}
 use Rattle.gm_graph_cache.specs.Main.{Main, ModuleVersion, main_of}
 use Rattle.gm_graph_cache.specs.Reading.{Held, IsFileReading, IsTold, KeepsHeld, Tells}
-use Rattle.gm_graph_cache.specs.Entries.{AddsSummary}
+use Rattle.gm_graph_cache.specs.FileTable.{PutsFile, kept_at}
 use Rattle.gm_graph_cache.proofs.Keeping.{held_same, knows_still, main_same}
 use Rattle.gm_graph_cache.specs.Summaries.{IsKept, summary_reading}
-use Rattle.gm_graph_cache.specs.Cached.{HoldsSame, Knows, LentSame, held_of, main_in, summary_at, sums_in}
+use Rattle.gm_graph_cache.specs.Cached.{HoldsSame, Knows, LentSame, held_of, main_in, modules_in, summary_at, sums_in}
 
 -- If no reading is held, the name was not answered.
 none_told : (sums : Option SumTable) (name : Name) (a : Option Reply) (h : Option (Result Dependency Class)) → IsTold sums name a h → h ≡ None → a ≡ None
@@ -26,7 +27,7 @@ said_none modules o e = ap (option_map (summary_reading modules)) e
 
 -- A name without an entry was not asked for.
 pub not_asked : (cache : Cache) (pairs : List (Name × Reply)) (name : Name) → Knows cache pairs → summary_at cache name ≡ None → answer_in pairs name ≡ None
-not_asked cache pairs name knows e = none_told (sums_in cache) name (answer_in pairs name) (held_of cache name) (knows.tells name) (said_none cache.modules (summary_at cache name) e)
+not_asked cache pairs name knows e = none_told (sums_in cache) name (answer_in pairs name) (held_of cache name) (knows.tells name) (said_none (listed cache.modules) (summary_at cache name) e)
 
 -- ---- one more answer
 
@@ -68,13 +69,14 @@ map_cond : {A B : Type 0} (f : A → B) (b : Bool) (v : A) (r : Option A) → op
 map_cond f true v r = refl
 map_cond f false v r = refl
 
--- ---- a cache with one more entry
+-- ---- a cache with one more file
 
-held_with : (old new : Cache) (name : Name) (one : Kept) → new.modules ≡ old.modules → AddsSummary old.summaries new.summaries name one
-    → (other : Name) → held_of new other ≡ cond (same_name other name) (Some (summary_reading old.modules one)) (held_of old other)
+held_with : (old new : Cache) (name : Name) (one : Kept) → new.modules ≡ old.modules → PutsFile (modules_in old) old.files new.files name one
+    → (other : Name) → held_of new other ≡ cond (same_name other name) (Some (summary_reading (listed old.modules) one)) (held_of old other)
 held_with old new name one modules keeps other =
-    ap (λ (ms : List ModuleVersion). option_map (summary_reading ms) (summary_at new other)) modules ∙ ap (option_map (summary_reading old.modules)) (keeps other)
-    ∙ map_cond (summary_reading old.modules) (same_name other name) one (summary_at old other)
+    ap (λ (list : NumberedList). option_map (summary_reading (listed list)) (kept_at list.modules new.files other)) modules
+    ∙ ap (option_map (summary_reading (listed old.modules))) (keeps other)
+    ∙ map_cond (summary_reading (listed old.modules)) (same_name other name) one (summary_at old other)
 
 kept_with : (b : Bool) (main : Main) (modules : List ModuleVersion) (o : Option Kept) (one some : Kept) → ((any : Kept) → o ≡ Some any → IsKept main modules any) → IsKept main modules one
     → cond b (Some one) o ≡ Some some → IsKept main modules some
@@ -84,25 +86,26 @@ kept_with false main modules o one some were is e = were some e
 -- The cache knows the pairs and one more.
 pub knows_more : (old new : Cache) (pairs : List (Name × Reply)) (name : Name) (reply : Reply) (one : Kept)
     → Knows old pairs → answer_in pairs name ≡ None → new.main.now ≡ old.main.now → sums_in new ≡ sums_in old → new.modules ≡ old.modules
-    → AddsSummary old.summaries new.summaries name one → IsFileReading (sums_in old) name reply (summary_reading old.modules one) → IsKept (main_in old) old.modules one
+    → PutsFile (modules_in old) old.files new.files name one → IsFileReading (sums_in old) name reply (summary_reading (listed old.modules) one) → IsKept (main_in old) (listed old.modules) one
     → Knows new (pairs ++ (name, reply) ∷ [])
 knows_more old new pairs name reply one knows none same_main same_sums modules keeps reads is = record {
   tells = subst (λ (s : Option SumTable). Tells s (pairs ++ (name, reply) ∷ []) (held_of new)) (sym same_sums)
-      (tells_more (sums_in old) pairs (held_of old) (held_of new) name reply (summary_reading old.modules one) knows.tells none reads (held_with old new name one modules keeps));
-  lends = λ other some e. subst (λ (m : Main). IsKept m new.modules some) (ap main_of (sym same_main))
-      (subst (λ (ms : List ModuleVersion). IsKept (main_in old) ms some) (sym modules)
-      (kept_with (same_name other name) (main_in old) old.modules (summary_at old other) one some (λ any f. knows.lends other any f) is (sym (keeps other) ∙ e)));
+      (tells_more (sums_in old) pairs (held_of old) (held_of new) name reply (summary_reading (listed old.modules) one) knows.tells none reads (held_with old new name one modules keeps));
+  lends = λ other some e. subst (λ (m : Main). IsKept m (listed new.modules) some) (ap main_of (sym same_main))
+      (subst (λ (list : NumberedList). IsKept (main_in old) (listed list) some) (sym modules)
+      (kept_with (same_name other name) (main_in old) (listed old.modules) (summary_at old other) one some (λ any f. knows.lends other any f) is
+      (sym (ap (λ (list : NumberedList). kept_at list.modules new.files other) modules ∙ keeps other) ∙ e)));
 }
 
 -- A cache that adds what was read of one more file knows all answers.
 pub knows_read : (old mid new : Cache) (pairs all : List (Name × Reply)) (name : Name) (reply : Reply) (one : Kept)
-    → Knows old pairs → HoldsSame old mid → LentSame mid new → new.modules ≡ mid.modules → summary_at old name ≡ None → AddsSummary mid.summaries new.summaries name one
-    → all ≡ pairs ++ (name, reply) ∷ [] → IsFileReading (sums_in old) name reply (summary_reading mid.modules one) → IsKept (main_in old) mid.modules one → Knows new all
+    → Knows old pairs → HoldsSame old mid → LentSame mid new → new.modules ≡ mid.modules → summary_at old name ≡ None → PutsFile (modules_in mid) mid.files new.files name one
+    → all ≡ pairs ++ (name, reply) ∷ [] → IsFileReading (sums_in old) name reply (summary_reading (listed mid.modules) one) → IsKept (main_in old) (listed mid.modules) one → Knows new all
 knows_read old mid new pairs all name reply one knows same lent modules none adds e reads is =
     subst (λ (ps : List (Name × Reply)). Knows new ps) (sym e)
     (knows_more mid new pairs name reply one (knows_still old mid pairs same knows) (not_asked old pairs name knows none) lent.main lent.sums modules adds
-    (subst (λ (s : Option SumTable). IsFileReading s name reply (summary_reading mid.modules one)) (sym same.sums) reads)
-    (subst (λ (m : Main). IsKept m mid.modules one) (sym (main_same old mid same)) is))
+    (subst (λ (s : Option SumTable). IsFileReading s name reply (summary_reading (listed mid.modules) one)) (sym same.sums) reads)
+    (subst (λ (m : Main). IsKept m (listed mid.modules) one) (sym (main_same old mid same)) is))
 
 -- ---- the last answer
 
@@ -122,8 +125,8 @@ stays false v r old new is none e = is ∙ e
 
 -- What is held stays when what was read of one more file is added.
 pub keeps_read : (old mid new : Cache) (name : Name) (one : Kept) → HoldsSame old mid → new.modules ≡ mid.modules → summary_at old name ≡ None
-    → AddsSummary mid.summaries new.summaries name one → KeepsHeld (held_of old) (held_of new)
+    → PutsFile (modules_in mid) mid.files new.files name one → KeepsHeld (held_of old) (held_of new)
 keeps_read old mid new name one same modules none adds other reading e =
-    stays (same_name other name) (summary_reading mid.modules one) reading (held_of old other) (held_of new other)
-    (held_with mid new name one modules adds other ∙ ap (λ (held : Held). cond (same_name other name) (Some (summary_reading mid.modules one)) (held other)) (held_same old mid same))
-    (λ is. ap (held_of old) (names_equal other name is) ∙ said_none old.modules (summary_at old name) none) e
+    stays (same_name other name) (summary_reading (listed mid.modules) one) reading (held_of old other) (held_of new other)
+    (held_with mid new name one modules adds other ∙ ap (λ (held : Held). cond (same_name other name) (Some (summary_reading (listed mid.modules) one)) (held other)) (held_same old mid same))
+    (λ is. ap (held_of old) (names_equal other name is) ∙ said_none (listed old.modules) (summary_at old name) none) e

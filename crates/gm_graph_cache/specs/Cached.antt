@@ -1,10 +1,11 @@
 -- What a cache holds, what it finds of a vertex, and which requirements it returns.
-use Rattle.std.specs.Prelude.{◌≡◌, List, [], ◌∷◌, ◌++◌, Option, Some, None, MatchResult, Result, Ok, Err}
+use Rattle.std.specs.Prelude.{◌≡◌, ◌<◌, ℕ, List, [], ◌∷◌, ◌++◌, Option, Some, None, MatchResult, Result, Ok, Err, length, slice_get, take}
 use Rattle.std.specs.Option.{option_copied, option_map}
 use Rattle.std.specs.Borrow.{Fml, MutBor}
 use Rattle.std.specs.Io.BufRead.{Rests}
+use Rattle.gm_name_table.specs.Listed.{listed, module_at}
 use Rattle.gm_file.specs.Fields.{Dependency}
-use Rattle.gm_store.specs.Asked.{Name, Reply, name_of}
+use Rattle.gm_store.specs.Asked.{Name, Reply}
 use Rattle.gm_store_sums.specs.declared.sum_table.SumTable.{SumTable}
 use Rattle.gm_graph_cache.specs.declared.class.Class.{Class}
 use Rattle.gm_graph_cache.specs.declared.depth.Turn.{Turn}
@@ -13,7 +14,7 @@ use Rattle.gm_graph_cache.specs.declared.finding.Finding.TheVariants.{Fault, Sou
 use Rattle.gm_graph_cache.specs.declared.summary.Kept.{Kept}
 use Rattle.gm_graph_cache.specs.declared.cache.Cache.{Cache}
 use Rattle.gm_graph_cache.specs.Main.{Main, ModuleVersion, main_of}
-use Rattle.gm_graph_cache.specs.Entries.{found_in}
+use Rattle.gm_graph_cache.specs.FileTable.{kept_at}
 use Rattle.gm_graph_cache.specs.Summaries.{IsKept, summary_reading}
 use Rattle.gm_graph_cache.specs.Reading.{Held, Tells, readings_by, file_of}
 use mir.Syntax.{named}
@@ -31,18 +32,37 @@ sums_in cache = option_copied cache.sums
 abbrev pub turns_in : Cache → List Turn
 turns_in cache = cache.turns.items
 
--- the entry of a name
+-- the modules that have numbers, each at the place that is its number
+abbrev pub modules_in : Cache → List ModuleVersion
+modules_in cache = cache.modules.modules
+
+-- the module with a number
+abbrev pub numbered : Cache → ℕ → ModuleVersion
+numbered cache number = module_at (modules_in cache) number
+
+-- the requirements that the list of modules begins with
+abbrev pub first_in : Cache → List ModuleVersion
+first_in cache = take cache.first (listed cache.modules)
+
+-- what is kept of the file of a name
 abbrev pub summary_at : Cache → Name → Option Kept
-summary_at cache name = found_in cache.summaries name
+summary_at cache name = kept_at (modules_in cache) cache.files name
+
+-- how many files are kept, and what is kept of the one at a place
+abbrev pub file_count : Cache → ℕ
+file_count cache = length cache.files.files.items
+
+abbrev pub kept_file : Cache → ℕ → Option Kept
+kept_file cache place = slice_get cache.files.files.items place
 
 -- what a cache holds of the file of each name
 abbrev pub held_of : Cache → Held
-held_of cache name = option_map (summary_reading cache.modules) (summary_at cache name)
+held_of cache name = option_map (summary_reading (listed cache.modules)) (summary_at cache name)
 
 -- Each summary has the requirements of its file, without the excluded ones, and the list of modules has both.
 abbrev pub LendsKept : Cache → Type 0
 LendsKept cache = (name : Name) (one : Kept) → summary_at cache name ≡ Some one
-    → IsKept (main_in cache) cache.modules one
+    → IsKept (main_in cache) (listed cache.modules) one
 
 -- The cache holds what these replies say, and nothing else.
 pub record Knows (cache : Cache) (pairs : List (Name × Reply)) : Type 0 where
@@ -62,22 +82,27 @@ pub record LentSame (old new : Cache) : Type 0 where
   pub sums : sums_in new ≡ sums_in old
   pub turns : turns_in new ≡ turns_in old
 
--- What is found of a vertex: its fault, or the name of its file if that has no fault.
-abbrev pub IsFinding : Main → Held → ModuleVersion → Finding → Type 0
-IsFinding main held x (Fault class) = readings_by main held x ≡ Some (Err class)
-IsFinding main held x (Sound name) = (name_of name ≡ file_of main x) × (file : Dependency)
-    × (readings_by main held x ≡ Some (Ok file))
+-- The vertex has no fault, and what is kept at this place is what was read of its file.
+pub record IsSound (cache : Cache) (x : ModuleVersion) (place : ℕ) : Type 0 where
+  pub within : place < file_count cache
+  pub kept : kept_file cache place ≡ summary_at cache (file_of (main_in cache) x)
+  pub file : Dependency
+  pub reading : readings_by (main_in cache) (held_of cache) x ≡ Some (Ok file)
 
--- The name under which a vertex's requirements are found: none if the vertex has a fault, otherwise the name of its
--- file.
-abbrev pub IsLender : Main → Held → ModuleVersion → Option Name → Type 0
-IsLender main held x None = (class : Class) × (readings_by main held x ≡ Some (Err class))
-IsLender main held x (Some name) = (name ≡ file_of main x) × (file : Dependency)
-    × (readings_by main held x ≡ Some (Ok file))
+-- What is found of a vertex: its fault, or the place of its file if that has no fault.
+abbrev pub IsFinding : Cache → ModuleVersion → Finding → Type 0
+IsFinding cache x (Fault class) = readings_by (main_in cache) (held_of cache) x ≡ Some (Err class)
+IsFinding cache x (Sound place) = IsSound cache x place
+
+-- The place at which a vertex's requirements are found: none if the vertex has a fault, otherwise that of its file.
+abbrev pub IsLender : Cache → ModuleVersion → Option ℕ → Type 0
+IsLender cache x None = (class : Class) × (readings_by (main_in cache) (held_of cache) x ≡ Some (Err class))
+IsLender cache x (Some place) = IsSound cache x place
 
 -- The list has one more turn at its end, and everything else is the same.
 pub record AddsTurn (old new : Cache) (one : Turn) : Type 0 where
   pub turns : turns_in new ≡ turns_in old ++ one ∷ []
+  pub modules : modules_in new ≡ modules_in old
   pub holds : HoldsSame old new
 
 -- Everything is the same.

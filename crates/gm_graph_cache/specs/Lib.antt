@@ -1,13 +1,12 @@
 pub mod Main
 pub mod Reading
 pub mod Asking
-pub mod Marks
 pub mod Summaries
-pub mod Entries
 pub mod Turns
 pub mod Lent
 pub mod Cached
 pub mod Refusals
 pub mod ClassWords
 pub mod Laws
-pub mod KeptFiles
+pub mod FileTable
+pub mod Places

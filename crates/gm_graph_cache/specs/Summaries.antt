@@ -1,6 +1,6 @@
 -- What is kept of the files that were read.
-use Rattle.std.specs.Prelude.{◌≡◌, ◌≤◌, ◌++◌, List, ⊤, Option, Some, None, Result, Ok, Err, length}
-use Rattle.gm_name_table.specs.Listed.{part}
+use Rattle.std.specs.Prelude.{◌≡◌, ◌≤◌, List, ⊤, Option, Some, None, Result, Ok, Err, length}
+use Rattle.gm_name_table.specs.Listed.{Appends, NumberedList, part}
 use Rattle.gm_file.specs.Fields.{Dependency}
 use Rattle.gm_file.specs.Listed.{with_requirements}
 use Rattle.gm_graph_cache.specs.declared.class.Class.{Class}
@@ -39,9 +39,9 @@ pub record IsWithinList (modules : List ModuleVersion) (span : Span) : Type 0 wh
   pub order : span.start ≤ span.end
   pub within : span.end ≤ length modules
 
--- The new list begins with the old one.
-abbrev pub StartsWithList : List ModuleVersion → List ModuleVersion → Type 0
-StartsWithList old new = (more : List ModuleVersion) × (new ≡ old ++ more)
+-- Modules were put to the end of the list, and each that had a number has it still.
+abbrev pub Grows : NumberedList → NumberedList → Type 0
+Grows old new = (more : List ModuleVersion) × Appends old new more
 
 -- ---- what is kept of a file
 

@@ -3,37 +3,36 @@
 //! It exists so that each file is asked for and parsed once, however many vertices and turns need it. The test of
 //! the declared path depends on the vertex, not on the file alone, and is therefore repeated for each vertex.
 
-ghost use Rattle.std.specs.Prelude.{◌≡◌, ◌≤◌, ◌++◌, ◌∷◌, [], ℕ, List, IfOk, OnOk, OnErr, None, Some, Ok, Err, true};
-ghost use Rattle.std.specs.Option.{option_copied, option_map};
+ghost use Rattle.std.specs.Prelude.{◌≡◌, ◌≤◌, ◌<◌, ◌++◌, ◌∷◌, [], List, IfOk, OnOk, OnErr, MatchOption, None, Some, Ok, Err, length, true};
+ghost use Rattle.std.specs.Option.{option_copied};
+ghost use Rattle.gm_name_table.specs.Listed.{listed};
 ghost use Rattle.gm_store.specs.Asked.{IsWithinLimit, Name, Reply, answer_in, name_of, reply_of};
 ghost use Rattle.gm_store.specs.States.{AddsAnswer, CountsFailure};
 ghost use Rattle.gm_store.specs.declared.files.FileName.{FileName};
-ghost use Rattle.gm_graph_cache.specs.Main.{ModuleVersion, main_of};
+ghost use Rattle.gm_graph_cache.specs.Main.{ModuleVersion, main_of, without_excluded};
 ghost use Rattle.gm_graph_cache.specs.Asking.{AsksAtMost, AsksFor, MayGrow, MayLess, StillLacks};
-ghost use Rattle.gm_graph_cache.specs.Reading.{Held, IsFileReading, KeepsHeld, file_of, is_askable as may_be_asked, is_unpruned, is_unpruned_in, readings_by, vertex_requirements, said_in};
+ghost use Rattle.gm_graph_cache.specs.Reading.{IsFileReading, KeepsHeld, file_of, is_askable as may_be_asked, is_unpruned, readings_by, vertex_requirements};
 ghost use Rattle.gm_graph_cache.specs.Refusals.{refused_in};
-ghost use Rattle.gm_graph_cache.specs.Cached.{IsFinding};
-ghost use Rattle.gm_graph_cache.specs.Entries.{AddsSummary};
+ghost use Rattle.gm_graph_cache.specs.FileTable.{PutsFile, HasReplacing};
 ghost use Rattle.gm_graph_cache.specs.Lent.{lent_modules};
-ghost use Rattle.gm_graph_cache.specs.Summaries.{StartsWithList, IsKept, summary_reading};
+ghost use Rattle.gm_graph_cache.specs.Summaries.{Grows, IsKept, summary_reading};
 ghost use Rattle.gm_graph_cache.specs.Turns.{turn};
 
 use crate::class::Class;
 use crate::depth::{Depth, Turn};
+use crate::file_table::FileTable;
 use crate::finding::Finding;
-use crate::kept_files::KeptFile;
 use crate::lent::Lent;
 use crate::load_fault::LoadFault;
 use crate::main_view;
 use crate::naming::{file_name, is_askable};
 use crate::paths::is_right_path;
 use crate::reading::{ListedReading, read_answer};
-use crate::summaries::Summaries;
-use crate::summary::{Kept, summary_of};
+use crate::summary::{Kept, Span, summary_of};
 use gm_file::MainFile;
 use gm_name::{KnownNames, ModVer, NoMemory};
 use gm_name_table::ModuleList;
-use gm_store::{Answer, AskFault, FileName, Files, copy_name};
+use gm_store::{Answer, AskFault, FileName, Files};
 use gm_store_sums::SumTable;
 use std::alloc::Global;
 
@@ -50,25 +49,40 @@ pub struct Cache<'a> {
     sums: Option<&'a SumTable<'a>>,
     /// The paths and versions that the files share.
     names: KnownNames,
-    /// The requirements of all files, one file after another.
+    /// The requirements of the main file and of all that were read, one file after another. All modules have numbers.
     modules: ModuleList,
+    /// How many of them are those of the main file, without the excluded ones, which come first.
+    first: usize,
     /// What was read of each file, or what is wrong with it.
-    summaries: Summaries,
+    files: FileTable,
     /// The turns whose requirements were requested, in order.
     turns: Vec<Turn>,
+    ghost first_within: { first ≤ length modules.numbers },
+    ghost own_within: { length files.own.items ≤ length modules.modules },
+    ghost has_replacing: { HasReplacing (main_of main.now) files },
 }
 
-/// How many paths, and how many versions, are shared between files. Beyond that number more are read, but each has
-/// its own copy.
-const MOST_KNOWN: usize = 65_536;
-
-/// Known names with the paths that a main file requires.
+/// Known names, as many as are read, with the paths that a main file requires.
 fn names_for(alloc: Global, main: &MainFile) -> Result<KnownNames, NoMemory> {
-    let mut names = KnownNames::new(alloc, MOST_KNOWN);
+    let mut names = KnownNames::new(alloc, usize::MAX);
     for y in main_view::requirements(main) {
         names.learn(y.path())?;
     }
     Ok(names)
+}
+
+/// The modules that the main file requires, without the excluded ones.
+fn first_modules(alloc: Global, main: &MainFile) -> Result<ModuleList, NoMemory>
+    ensures { IfOk result (λ modules. listed modules
+        ≡ without_excluded (main_of main.now) (main_of main.now).requirements) }
+{
+    let mut modules = ModuleList::new(alloc);
+    for y in main_view::requirements(main) {
+        if !main_view::is_excluded(main, y) {
+            modules.push(y)?;
+        }
+    }
+    Ok(modules)
 }
 
 /// The answer to the last request.
@@ -103,9 +117,9 @@ fn summarize(
 ) -> Result<Kept, NoMemory>
     ensures reading { IfOk result (λ kept. IsWithinLimit (reply_of answer.now)
         → IsFileReading (option_copied sums.entry) (name_of name.now) (reply_of answer.now)
-        (summary_reading modules.new kept)) }
-    ensures kept { IfOk result (IsKept (main_of main.now) modules.new) }
-    ensures grows { StartsWithList modules.old modules.new }
+        (summary_reading (listed modules.new) kept)) }
+    ensures kept { IfOk result (IsKept (main_of main.now) (listed modules.new)) }
+    ensures grows { Grows modules.old modules.new }
 {
     expect_path(names, name)?;
     let start = modules.len();
@@ -115,26 +129,6 @@ fn summarize(
             Ok(Kept::Valid(summary))
         }
         ListedReading::Faulty(class) => Ok(Kept::Faulty(class)),
-    }
-}
-
-/// What is found of a vertex whose file has this name and was read.
-fn finding_of(main: &MainFile, x: &ModVer, name: FileName, kept: &Kept) -> Finding
-    requires file { name_of name ≡ file_of (main_of main.now) x.now }
-    requires askable { may_be_asked (name_of name) ≡ true }
-    ensures { (modules : List ModuleVersion) (held : Held)
-        → held (name_of name) ≡ Some (summary_reading modules kept.now)
-        → IsFinding (main_of main.now) held x.now result }
-{
-    match kept {
-        Kept::Faulty(class) => Finding::Fault(*class),
-        Kept::Valid(summary) => {
-            if is_right_path(main, x, &summary.file) {
-                Finding::Sound(name)
-            } else {
-                Finding::Fault(Class::WrongPath)
-            }
-        }
     }
 }
 
@@ -157,10 +151,14 @@ fn push_turn(
 
 impl<'a> Cache<'a> {
     ghost use Rattle.std.specs.Borrow.{sem};
-    ghost use Rattle.gm_graph_cache.specs.Cached.{HoldsSame, IsLender, IsUnchanged, Knows, LendsKept, LentSame, Lends, held_of, main_in, sums_in, turns_in};
+    ghost use Rattle.std.specs.List.{IsDistinct};
+    ghost use Rattle.gm_name.specs.PairOrder.{pair_eq};
+    ghost use Rattle.gm_name_table.specs.Listed.{BeginsWith};
+    ghost use Rattle.gm_graph_cache.specs.Cached.{HoldsSame, IsFinding, IsLender, IsSound, IsUnchanged, Knows, LendsKept, LentSame, Lends, kept_file, file_count, first_in, held_of, main_in, modules_in, numbered, summary_at, sums_in, turns_in};
+    ghost use Rattle.gm_graph_cache.specs.Lent.{lent_table};
 
-    /// An empty cache for a main file. If there is a go.sum, the files that come from proxies are checked against
-    /// it. The only refusal is `NoMemory`.
+    /// A cache for a main file, without files. If there is a go.sum, the files that come from proxies are checked
+    /// against it. The only refusal is `NoMemory`.
     ///
     /// The paths that the main file requires are known from the start, since many files name them.
     pub fn new(
@@ -171,16 +169,22 @@ impl<'a> Cache<'a> {
         ensures main { IfOk result (λ cache. main_in cache ≡ main_of main.entry.now) }
         ensures sums { IfOk result (λ cache. sums_in cache ≡ option_copied sums.entry) }
         ensures knows { IfOk result (λ cache. Knows cache []) }
+        ensures first { IfOk result (λ cache. first_in cache
+            ≡ without_excluded (main_of main.entry.now) (main_of main.entry.now).requirements) }
         ensures turns { IfOk result (λ cache. turns_in cache ≡ []) }
     {
         let names = names_for(alloc, main)?;
+        let files = FileTable::new(alloc, main)?;
+        let modules = first_modules(alloc, main)?;
+        let first = modules.len();
         Ok(Cache {
             alloc,
             main,
             sums,
             names,
-            modules: ModuleList::new(alloc),
-            summaries: Summaries::new(alloc),
+            modules,
+            first,
+            files,
             turns: Vec::new(alloc),
         })
     }
@@ -191,9 +195,12 @@ impl<'a> Cache<'a> {
         requires lends { LendsKept self.old }
         ensures reading { IfOk result (λ kept. (reply : Reply)
             × AddsAnswer (F.state files.old) (F.state files.new) (name_of name.now) reply
-            × IsFileReading (sums_in self.old) (name_of name.now) reply (summary_reading self.new.modules kept)) }
-        ensures kept { IfOk result (IsKept (main_in self.old) self.new.modules) }
+            × IsFileReading (sums_in self.old) (name_of name.now) reply
+            (summary_reading (listed self.new.modules) kept)) }
+        ensures kept { IfOk result (IsKept (main_in self.old) (listed self.new.modules)) }
         ensures unchanged { IsUnchanged self.old self.new }
+        ensures numbered { BeginsWith (modules_in self.old) (modules_in self.new) }
+        ensures files { self.new.files ≡ self.old.files }
         ensures asks { AsksAtMost (F.state files.old) (F.state files.new) (name_of name.now) }
         ensures device { result ≡ Err AskFault.Device
             → ((F.state files.new).asked ≡ (F.state files.old).asked)
@@ -219,40 +226,96 @@ impl<'a> Cache<'a> {
         Ok(kept)
     }
 
-    /// Keeps what was read of the file of a vertex, and reports what is found of the vertex. The only refusal is
-    /// `NoMemory`, which leaves the cache unchanged.
-    fn keep(&mut self, x: &ModVer, file: KeptFile) -> Result<Finding, NoMemory>
-        requires file { name_of file.name ≡ file_of (main_in self.old) x.now }
-        requires askable { may_be_asked (name_of file.name) ≡ true }
-        ensures adds { OnOk result (AddsSummary self.old.summaries self.new.summaries (name_of file.name) file.kept) }
+    /// What is found of a vertex whose file is kept at this place.
+    fn finding(&self, x: &ModVer, place: u32) -> Finding
+        requires within { place < file_count self.now }
+        requires kept { kept_file self.now place ≡ summary_at self.now (file_of (main_in self.now) x.now) }
+        requires askable { may_be_asked (file_of (main_in self.now) x.now) ≡ true }
+        ensures { IsFinding self.now x.now result }
+    {
+        match self.files.at(place) {
+            Kept::Faulty(class) => Finding::Fault(*class),
+            Kept::Valid(summary) => {
+                if is_right_path(self.main, x, &summary.file) {
+                    Finding::Sound(place)
+                } else {
+                    Finding::Fault(Class::WrongPath)
+                }
+            }
+        }
+    }
+
+    /// What is found of the vertex with a number, if its file, which has this name, was read.
+    fn found(&self, name: &FileName, number: u32) -> Option<Finding>
+        requires vertex { number < length (modules_in self.now) }
+        requires file { name_of name.now ≡ file_of (main_in self.now) (numbered self.now number) }
+        requires askable { may_be_asked (name_of name.now) ≡ true }
+        ensures { MatchOption result (summary_at self.now (name_of name.now) ≡ None)
+            (IsFinding self.now (numbered self.now number)) }
+    {
+        let x = self.modules.module(number);
+        let place = self.files.place_of(name, number)?;
+        Some(self.finding(x, place))
+    }
+
+    /// Keeps what was read of the file of the vertex with a number, of which nothing was kept, and reports what is
+    /// found of the vertex. The only refusal is `NoMemory`, which leaves the cache unchanged.
+    fn keep(&mut self, number: u32, name: &FileName, kept: Kept) -> Result<Finding, NoMemory>
+        requires vertex { number < length (modules_in self.old) }
+        requires file { name_of name.now ≡ file_of (main_in self.old) (numbered self.old number) }
+        requires askable { may_be_asked (name_of name.now) ≡ true }
+        ensures adds { OnOk result
+            (PutsFile (modules_in self.old) self.old.files self.new.files (name_of name.now) kept) }
         ensures modules { self.new.modules ≡ self.old.modules }
-        ensures finding { IfOk result (IsFinding (main_in self.new) (held_of self.new) x.now) }
+        ensures finding { IfOk result (IsFinding self.new (numbered self.old number)) }
         ensures lent { LentSame self.old self.new }
         ensures err { OnErr result (HoldsSame self.old self.new) }
     {
-        let name = copy_name(self.alloc, &file.name)?;
-        let finding = finding_of(self.main, x, name, &file.kept);
-        self.summaries.add(file)?;
-        Ok(finding)
+        let place = self.files.add(name, number, kept)?;
+        Ok(self.finding(self.modules.module(number), place))
     }
 
-    /// Makes the file of a vertex known, and reports what is found of the vertex. The store is asked for that file
-    /// unless it is known already, or comes from a proxy and its path isn't fetchable.
+    /// The module with a number. Numbers never change.
+    pub fn module(&self, number: u32) -> &ModVer
+        requires { number < length (modules_in self.now) }
+        ensures module { result.now ≡ numbered self.now number }
+        ensures distinct { IsDistinct pair_eq (modules_in self.now) }
+    {
+        self.modules.module(number)
+    }
+
+    /// The requirements of the main file, without the excluded ones.
+    pub fn first_requirements(&self) -> Lent<'_>
+        ensures modules { lent_modules result ≡ first_in self.now }
+        ensures table { lent_table result ≡ modules_in self.now }
+    {
+        let span = Span {
+            start: 0,
+            end: self.first,
+        };
+        Lent::at(&self.modules, span)
+    }
+
+    /// Makes the file of the vertex with a number known, and reports what is found of the vertex. The store is asked
+    /// for that file unless it is known already, or comes from a proxy and its path isn't fetchable.
     ///
     /// `NoMemory` is returned if memory runs out; the store may then hold an answer that the cache doesn't.
     /// `Device` is returned exactly if the store's device fails in this request. `TooMany` is never returned. After
     /// any refusal the cache is unchanged.
-    pub fn known<F: Files>(&mut self, files: &mut F, x: &ModVer) -> Result<Finding, LoadFault>
-        requires { Knows self.old (F.state files.old).asked }
+    pub fn known<F: Files>(&mut self, files: &mut F, number: u32) -> Result<Finding, LoadFault>
+        requires knows { Knows self.old (F.state files.old).asked }
+        requires vertex { number < length (modules_in self.old) }
         ensures knows { OnOk result (Knows self.new (F.state files.new).asked) }
-        ensures finding { IfOk result (IsFinding (main_in self.new) (held_of self.new) x.now) }
+        ensures finding { IfOk result (IsFinding self.new (numbered self.old number)) }
         ensures lent { LentSame self.old self.new }
         ensures grows { KeepsHeld (held_of self.old) (held_of self.new) }
+        ensures numbered { BeginsWith (modules_in self.old) (modules_in self.new) }
         ensures err { OnErr result (HoldsSame self.old self.new) }
-        ensures asks { AsksFor (main_in self.old) (F.state files.old) (F.state files.new) x.now }
+        ensures asks { AsksFor (main_in self.old) (F.state files.old) (F.state files.new) (numbered self.old number) }
         ensures not_too_many { result ≡ Err LoadFault.TooMany → ⊥ }
         ensures device { (name : FileName) → result ≡ Err (LoadFault.Device name)
-            → StillLacks (main_in self.old) (F.state files.old) (F.state files.new) x.now (name_of name) }
+            → StillLacks (main_in self.old) (F.state files.old) (F.state files.new)
+            (numbered self.old number) (name_of name) }
         ensures refused { (F.state files.new).refused ≡ (F.state files.old).refused ++ refused_in result }
         ensures cause { (name : FileName) → result ≡ Err (LoadFault.Device name)
             → CountsFailure (F.state files.old) (F.state files.new) }
@@ -260,54 +323,55 @@ impl<'a> Cache<'a> {
         ensures same_store { MayLess (F.may_answer files.new) (F.may_answer files.old) }
         ensures later { (F.state files.old).faults ≤ (F.state files.new).faults }
     {
-        let name = file_name(self.alloc, self.main, x)?;
+        let name = file_name(self.alloc, self.main, self.modules.module(number))?;
         if !is_askable(&name) {
             return Ok(Finding::Fault(Class::NotFetchable));
         }
-        if let Some(kept) = self.summaries.find(&name) {
-            return Ok(finding_of(self.main, x, name, kept));
+        if let Some(finding) = self.found(&name, number) {
+            return Ok(finding);
         }
         match self.read_file(files, &name) {
-            Ok(kept) => Ok(self.keep(x, KeptFile { name, kept })?),
+            Ok(kept) => Ok(self.keep(number, &name, kept)?),
             Err(AskFault::NoMemory) => Err(LoadFault::NoMemory),
             Err(AskFault::Device) => Err(LoadFault::Device(name)),
         }
     }
 
-    /// Returns the requirements of a vertex, without the excluded ones, and appends the vertex and the depth to the
-    /// list of turns. For a vertex with a fault `name` is `None`, and there are no requirements; for any other
-    /// vertex `name` is the name of its file. `NoMemory`, the only refusal, leaves the cache unchanged.
+    /// Returns the requirements of the vertex with a number, without the excluded ones, and appends the vertex and the
+    /// depth to the list of turns. For a vertex with a fault `place` is `None`, and there are no requirements; for any
+    /// other vertex `place` is that of its file. `NoMemory`, the only refusal, leaves the cache unchanged.
     pub fn lend(
         &mut self,
-        vertex: &ModVer,
+        number: u32,
         depth: Depth,
-        name: Option<&FileName>,
+        place: Option<u32>,
     ) -> Result<Lent<'_>, NoMemory>
         requires lends { LendsKept self.old }
-        requires lender { IsLender (main_in self.old) (held_of self.old) vertex.now
-            (option_map (λ n. name_of n.now) name) }
-        ensures lent { IfOk result (λ lent. lent_modules lent
-            ≡ vertex_requirements (main_in self.old) (readings_by (main_in self.old) (held_of self.old)) vertex.now) }
-        ensures* after { sem 𝓛 (Lends self.entry (turn vertex.now depth) result) }
+        requires vertex { number < length (modules_in self.old) }
+        requires lender { IsLender self.old (numbered self.old number) place }
+        ensures lent { IfOk result (λ lent. lent_modules lent ≡ vertex_requirements (main_in self.old)
+            (readings_by (main_in self.old) (held_of self.old)) (numbered self.old number)) }
+        ensures table { IfOk result (λ lent. lent_table lent ≡ modules_in self.old) }
+        ensures* after { sem 𝓛 (Lends self.entry (turn (numbered self.entry.now number) depth) result) }
     {
-        let span = self.summaries.span_of(name);
-        push_turn(self.alloc, &mut self.turns, vertex, depth)?;
+        let span = self.files.span_of(place);
+        push_turn(
+            self.alloc,
+            &mut self.turns,
+            self.modules.module(number),
+            depth,
+        )?;
         Ok(Lent::at(&self.modules, span))
     }
 
-    /// Whether the file of that name is known, has no fault and is unpruned, that is, whether the first two numbers
-    /// of its go version are below 1.17 (Go Modules Reference, "Module graph pruning"). The only refusal is
-    /// `NoMemory`.
-    pub fn is_unpruned(&self, name: &FileName) -> Result<bool, NoMemory>
-        ensures held { IfOk result (λ is. is ≡ is_unpruned_in (said_in (held_of self.now (name_of name.now)))) }
-        ensures vertex { (x : ModuleVersion) → IsLender (main_in self.now) (held_of self.now)
-            x (Some (name_of name.now))
-            → IfOk result (λ is. is ≡ is_unpruned (readings_by (main_in self.now) (held_of self.now)) x) }
+    /// Whether the file at a place has no fault and is unpruned, that is, whether the first two numbers of its go
+    /// version are below 1.17 (Go Modules Reference, "Module graph pruning").
+    pub fn is_unpruned(&self, place: u32) -> bool
+        requires { place < file_count self.now }
+        ensures { (x : ModuleVersion) → IsSound self.now x place
+            → result ≡ is_unpruned (readings_by (main_in self.now) (held_of self.now)) x }
     {
-        match self.summaries.find(name) {
-            None => Ok(false),
-            Some(kept) => Ok(kept.is_unpruned()),
-        }
+        self.files.at(place).is_unpruned()
     }
 
     /// The vertices and depths whose requirements were requested, in order.
@@ -317,10 +381,13 @@ impl<'a> Cache<'a> {
         self.turns.as_slice()
     }
 
-    /// The list of turns. The rest of the cache is dropped.
-    pub fn into_turns(self) -> Vec<Turn>
-        ensures { result.items ≡ turns_in self.entry }
+    /// The modules in the order of their numbers, and the list of turns. The rest of the cache is dropped.
+    pub fn into_parts(self) -> (Vec<ModVer>, Vec<Turn>)
+        ensures modules { result.0.items ≡ modules_in self.entry }
+        ensures distinct { IsDistinct pair_eq result.0.items }
+        ensures few { length result.0.items ≤ 4294967295 }
+        ensures turns { result.1.items ≡ turns_in self.entry }
     {
-        self.turns
+        (self.modules.into_modules(), self.turns)
     }
 }

@@ -1,4 +1,4 @@
-//! What the go.mod files of modules say, or what is wrong with them, and the cache through which a store is read.
+//! What modules' go.mod files say, or their faults, and the cache that reads them.
 //!
 //! A vertex of the module graph is a module path at a version. Which file a vertex has depends on the main module's
 //! file: a `replace` may put a folder or another module in its place. That file is asked of a store, checked
@@ -16,16 +16,15 @@
 mod cache;
 mod class;
 mod depth;
+mod file_table;
 mod finding;
-mod kept_files;
 pub mod laws;
 mod lent;
 mod load_fault;
-pub mod main_view;
+mod main_view;
 mod naming;
 mod paths;
 mod reading;
-mod summaries;
 mod summary;
 
 pub use crate::cache::Cache;
@@ -34,4 +33,5 @@ pub use crate::depth::{Depth, Turn};
 pub use crate::finding::Finding;
 pub use crate::lent::Lent;
 pub use crate::load_fault::LoadFault;
+pub use crate::main_view::{is_main_pruned, main_path};
 pub use crate::reading::FileReading;

@@ -5,35 +5,42 @@
 
 ghost use Rattle.std.specs.Prelude.{◌≡◌};
 ghost use Rattle.std.specs.Option.{option_map};
-ghost use Rattle.gm_file.specs.Views.{right_view};
+ghost use Rattle.gm_file.specs.Views.{replace_views, right_view};
 ghost use Rattle.gm_graph_cache.specs.Main.{is_excluded, is_pruned_by, main_of, replacement_in};
 
-use gm_file::{MainFile, Right};
+use gm_file::{MainFile, Replace, Right};
 use gm_name::{ModPath, ModVer};
 
 /// The main module's path.
-pub fn path<'m>(main: &'m MainFile) -> &'m ModPath
+pub fn main_path<'m>(main: &'m MainFile) -> &'m ModPath
     ensures { result.now ≡ (main_of main.now).path }
 {
     main.module()
 }
 
 /// The modules that the main file requires, in the order of its lines, including duplicates and excluded ones.
-pub fn requirements<'m>(main: &'m MainFile) -> &'m [ModVer]
+pub(crate) fn requirements<'m>(main: &'m MainFile) -> &'m [ModVer]
     ensures { result.now ≡ (main_of main.now).requirements }
 {
     main.requirements()
 }
 
+/// The `replace` lines of the main file, in order.
+pub(crate) fn replaces<'m>(main: &'m MainFile) -> &'m [Replace]
+    ensures { replace_views result.now ≡ (main_of main.now).replaces }
+{
+    main.replaces()
+}
+
 /// What replaces a vertex, if anything does (Go Modules Reference, "replace directive").
-pub fn replacement<'m>(main: &'m MainFile, x: &ModVer) -> Option<&'m Right>
+pub(crate) fn replacement<'m>(main: &'m MainFile, x: &ModVer) -> Option<&'m Right>
     ensures { option_map (λ right. right_view right.now) result ≡ replacement_in (main_of main.now) x.now }
 {
     main.replacement(x)
 }
 
 /// Whether the main file excludes a vertex (Go Modules Reference, "exclude directive").
-pub fn is_excluded(main: &MainFile, x: &ModVer) -> bool
+pub(crate) fn is_excluded(main: &MainFile, x: &ModVer) -> bool
     ensures { result ≡ is_excluded (main_of main.now) x.now }
 {
     main.excluded(x)
@@ -41,7 +48,7 @@ pub fn is_excluded(main: &MainFile, x: &ModVer) -> bool
 
 /// Whether a file with this go version is pruned, that is, whether the first two numbers are 1.17 or higher (Go
 /// Modules Reference, "Module graph pruning").
-pub fn is_pruned(go: (u32, u32)) -> bool
+pub(crate) fn is_pruned(go: (u32, u32)) -> bool
     ensures { result ≡ is_pruned_by go }
 {
     go.0 > 1 || go.0 == 1 && go.1 >= 17

@@ -23,7 +23,7 @@ pub(crate) fn file_name(alloc: Global, main: &MainFile, x: &ModVer) -> Result<Fi
 }
 
 /// The name of the file of a replacement.
-fn right_name(alloc: Global, right: &Right) -> Result<FileName, NoMemory>
+pub(crate) fn right_name(alloc: Global, right: &Right) -> Result<FileName, NoMemory>
     ensures { (x : List ℕ × List ℕ) → IfOk result (λ name. name_of name ≡ file_named x (Some (right_view right.now))) }
 {
     match right {

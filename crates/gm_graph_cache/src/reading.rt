@@ -1,11 +1,12 @@
 //! From a store's answer to the contents of a dependency's file.
 
 ghost use Rattle.std.specs.Prelude.{◌≡◌, ◌≤◌, ◌<◌, ℕ, List, drop, length, Err, IfOk};
+ghost use Rattle.gm_name_table.specs.Listed.{listed};
 ghost use Rattle.gm_file.specs.DepLines.{IsMisread};
 ghost use Rattle.std.specs.Option.{option_copied};
 ghost use Rattle.gm_store.specs.Asked.{IsWithinLimit, name_of, reply_of};
 ghost use Rattle.gm_graph_cache.specs.Reading.{IsContentReading, IsFileReading, class_of_sum, sum_fault};
-ghost use Rattle.gm_graph_cache.specs.Summaries.{StartsWithList, listed_reading, reading_of};
+ghost use Rattle.gm_graph_cache.specs.Summaries.{Grows, listed_reading, reading_of};
 
 use crate::class::{Class, Misreading};
 use gm_file::{DepFile, ListedFile, ReadFault};
@@ -108,8 +109,8 @@ fn read_content(
     content: &[u8],
 ) -> Result<ListedReading, NoMemory>
     ensures reading { IfOk result (λ read. length content.now ≤ 16777216
-        → IsContentReading content.now (listed_reading (drop (length modules.old) modules.new) read)) }
-    ensures grows { StartsWithList modules.old modules.new }
+        → IsContentReading content.now (listed_reading (drop (length modules.old.numbers) (listed modules.new)) read)) }
+    ensures grows { Grows modules.old modules.new }
 {
     match DepFile::read_listed(alloc, names, modules, content) {
         Ok(file) => Ok(ListedReading::Valid(file)),
@@ -129,8 +130,8 @@ pub(crate) fn read_answer(
 ) -> Result<ListedReading, NoMemory>
     ensures reading { IfOk result (λ read. IsWithinLimit (reply_of answer.now)
         → IsFileReading (option_copied sums.entry) (name_of name.now) (reply_of answer.now)
-        (listed_reading (drop (length modules.old) modules.new) read)) }
-    ensures grows { StartsWithList modules.old modules.new }
+        (listed_reading (drop (length modules.old.numbers) (listed modules.new)) read)) }
+    ensures grows { Grows modules.old modules.new }
 {
     match answer {
         Answer::Absent => Ok(ListedReading::Faulty(Class::Missing)),

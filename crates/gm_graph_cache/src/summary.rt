@@ -3,11 +3,12 @@
 //! The requirements of all files are in one list of modules, since files name the same modules again and again. A
 //! summary says where those of its file are.
 
-ghost use Rattle.std.specs.Prelude.{◌≡◌, ◌≤◌, ◌++◌, List, IfOk, OnOk, Some, drop, length};
+ghost use Rattle.std.specs.Prelude.{◌≡◌, ◌≤◌, List, IfOk, OnOk, Some, drop, length};
 ghost use Rattle.std.specs.List.{list_any};
+ghost use Rattle.gm_name_table.specs.Listed.{Appends, listed};
 ghost use Rattle.gm_graph_cache.specs.Main.{ModuleVersion, is_excluded, without_excluded, main_of};
 ghost use Rattle.gm_graph_cache.specs.Reading.{is_unpruned_in, said_in};
-ghost use Rattle.gm_graph_cache.specs.Summaries.{StartsWithList, IsSummary, at_span, nowhere, span_found, summary_reading};
+ghost use Rattle.gm_graph_cache.specs.Summaries.{Grows, IsSummary, at_span, nowhere, span_found, summary_reading};
 
 use crate::class::Class;
 use crate::main_view::{is_excluded, is_pruned};
@@ -77,8 +78,8 @@ fn copy_kept(alloc: Global, main: &MainFile, list: Modules<'_>) -> Result<Vec<Mo
 
 /// Appends modules to the list. The only refusal is `NoMemory`, after which the list may have some of them.
 fn append(modules: &mut ModuleList, some: &[ModVer]) -> Result<(), NoMemory>
-    ensures ok { OnOk result (modules.new ≡ modules.old ++ some.now) }
-    ensures grows { StartsWithList modules.old modules.new }
+    ensures ok { OnOk result (Appends modules.old modules.new some.now) }
+    ensures grows { Grows modules.old modules.new }
 {
     for x in some {
         modules.push(x)?;
@@ -95,11 +96,11 @@ pub(crate) fn summary_of(
     file: ListedFile,
     start: usize,
 ) -> Result<Summary, NoMemory>
-    requires { start ≤ length modules.old }
+    requires { start ≤ length modules.old.numbers }
     ensures file { IfOk result (λ summary. summary.file ≡ file) }
-    ensures all { IfOk result (λ summary. at_span modules.new summary.all ≡ drop start modules.old) }
-    ensures kept { IfOk result (IsSummary (main_of main.now) modules.new) }
-    ensures grows { StartsWithList modules.old modules.new }
+    ensures all { IfOk result (λ summary. at_span (listed modules.new) summary.all ≡ drop start (listed modules.old)) }
+    ensures kept { IfOk result (IsSummary (main_of main.now) (listed modules.new)) }
+    ensures grows { Grows modules.old modules.new }
 {
     let end = modules.len();
     let all = Span { start, end };

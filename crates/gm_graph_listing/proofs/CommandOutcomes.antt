@@ -129,11 +129,6 @@ abbrev pub IsMainRead : List ℕ → Result (List (Line Placed)) Stop → Type 0
 IsMainRead file r =
     MatchResult r (λ lines. IsMainOf file lines) (StopsWith (λ outcome. (place : Place) × IsMalformedMain file place × (outcome ≡ refused (main_line place))))
 
--- the report of a main module's file that was not read
-pub main_err : (file : List ℕ) (r : Result (List (Line Placed)) Stop) (output : Output) → r ≡ Err (stop.Reported output) → IsMainRead file r
-    → (place : Place) × IsMalformedMain file place × (outcome_view output ≡ refused (main_line place))
-main_err file r output is match = subst (IsMainRead file) is match
-
 pub main_ok : (file : List ℕ) (r : Result (List (Line Placed)) Stop) (lines : List (Line Placed)) → r ≡ Ok lines → IsMainRead file r → IsMainFile file (main_of lines)
 main_ok file r lines is match = (lines, subst (IsMainRead file) is match, refl)
 

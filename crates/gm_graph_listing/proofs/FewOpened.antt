@@ -11,7 +11,8 @@ use Rattle.gm_graph_select.specs.declared.step.Step.TheVariants.{Main as FromMai
 use Rattle.gm_graph_select.specs.Graph.{among, edge}
 use Rattle.gm_graph_select.proofs.Ascending.{member_cases, member_head, member_tail, no_member}
 use Rattle.gm_graph_select.proofs.Same.{AreSame}
-use Rattle.gm_graph.specs.Graph.{IsEdge, IsOpened, same_vertex}
+use Rattle.gm_graph.specs.Graph.{IsEdge, IsOpened}
+use Rattle.gm_name.specs.PairOrder.{pair_eq}
 use Rattle.gm_graph.specs.Loading.{AreFew}
 use Rattle.gm_graph.proofs.Mapped.{from_mapped, in_mapped}
 use Rattle.gm_graph.proofs.Sameness.{exact_vertex, vertices_equivalence}
@@ -34,16 +35,16 @@ from_joined f (first ∷ xs) y there = elim (Contains-append_cases (f first) (fl
 
 -- ---- the opened modules are those of a list
 
-in_or_out : (x : ModuleVersion) (all : List ModuleVersion) → Contains all x ⊎ (list_any (same_vertex x) all ≡ false)
+in_or_out : (x : ModuleVersion) (all : List ModuleVersion) → Contains all x ⊎ (list_any (pair_eq x) all ≡ false)
 in_or_out x [] = inr refl
-in_or_out x (first ∷ all) = by_test (same_vertex x first) refl (in_or_out x all)
+in_or_out x (first ∷ all) = by_test (pair_eq x first) refl (in_or_out x all)
   where
-    by_test : (b : Bool) → same_vertex x first ≡ b → Contains all x ⊎ (list_any (same_vertex x) all ≡ false) → Contains (first ∷ all) x ⊎ (list_any (same_vertex x) (first ∷ all) ≡ false)
+    by_test : (b : Bool) → pair_eq x first ≡ b → Contains all x ⊎ (list_any (pair_eq x) all ≡ false) → Contains (first ∷ all) x ⊎ (list_any (pair_eq x) (first ∷ all) ≡ false)
     by_test true e rest = inl (subst (λ (z : ModuleVersion). Contains (z ∷ all) x) (exact_vertex x first e) (member_head x all))
     by_test false e (inl there) = inl (member_tail first x all there)
-    by_test false e (inr out) = inr (ap (λ (b : Bool). b || list_any (same_vertex x) all) e ∙ out)
+    by_test false e (inr out) = inr (ap (λ (b : Bool). b || list_any (pair_eq x) all) e ∙ out)
 
-nothing_twice : IsDistinct same_vertex []
+nothing_twice : IsDistinct pair_eq []
 unfolding IsDistinct
 nothing_twice = tt
 
@@ -55,19 +56,19 @@ module _ (main : Main) (readings : Readings) (few : AreFew main readings) where
   each_more : (all : List ModuleVersion) (x : ModuleVersion) → ((y : ModuleVersion) → Contains all y → IsOpened main readings y) → IsOpened main readings x → (y : ModuleVersion) → Contains (all ++ x ∷ []) y → IsOpened main readings y
   each_more all x each is y there = elim (Contains-push_cases all x y there) [ inl before ↦ each y before | inr same ↦ subst (IsOpened main readings) same is ]
 
-  in_full : (all : List ModuleVersion) (x : ModuleVersion) → (list_any (same_vertex x) all ≡ false → ⊥) → Contains all x ⊎ (list_any (same_vertex x) all ≡ false) → Contains all x
+  in_full : (all : List ModuleVersion) (x : ModuleVersion) → (list_any (pair_eq x) all ≡ false → ⊥) → Contains all x ⊎ (list_any (pair_eq x) all ≡ false) → Contains all x
   in_full all x full (inl there) = there
   in_full all x full (inr out) = absurd (full out)
 
-  are_opened : (all : List ModuleVersion) → ((y : ModuleVersion) → Contains all y → IsOpened main readings y) → ((x : ModuleVersion) → IsOpened main readings x → list_any (same_vertex x) all ≡ false → ⊥) → AreOpened all
+  are_opened : (all : List ModuleVersion) → ((y : ModuleVersion) → Contains all y → IsOpened main readings y) → ((x : ModuleVersion) → IsOpened main readings x → list_any (pair_eq x) all ≡ false → ⊥) → AreOpened all
   are_opened all each full x = ((λ is. in_full all x (full x is) (in_or_out x all)), each x)
 
-  pushed : (all : List ModuleVersion) (x : ModuleVersion) → IsDistinct same_vertex all → list_any (same_vertex x) all ≡ false → IsDistinct same_vertex (all ++ x ∷ [])
+  pushed : (all : List ModuleVersion) (x : ModuleVersion) → IsDistinct pair_eq all → list_any (pair_eq x) all ≡ false → IsDistinct pair_eq (all ++ x ∷ [])
   pushed all x distinct out = IsDistinct-push vertices_equivalence all x distinct out
 
   -- Starting from a list of opened vertices with room for `n` more: it can't be refuted that some list has exactly
   -- the opened vertices.
-  opened_from : (n : ℕ) (all : List ModuleVersion) → IsDistinct same_vertex all → ((y : ModuleVersion) → Contains all y → IsOpened main readings y) → 65536 ≤ length all + n → ((whole : List ModuleVersion) → AreOpened whole → ⊥) → ⊥
+  opened_from : (n : ℕ) (all : List ModuleVersion) → IsDistinct pair_eq all → ((y : ModuleVersion) → Contains all y → IsOpened main readings y) → 65536 ≤ length all + n → ((whole : List ModuleVersion) → AreOpened whole → ⊥) → ⊥
   opened_from zero all distinct each long none =
       none all (are_opened all each (λ x is out.
       let more = few (all ++ x ∷ []) (pushed all x distinct out) (each_more all x each is) in

@@ -3,6 +3,7 @@
 
 ghost use Rattle.std.specs.Prelude.{◌≡◌, ◌++◌, OnOk};
 ghost use Rattle.std.specs.String.{string_bytes};
+ghost use Rattle.gm_graph_select.specs.EdgeList.{step_of_ref};
 ghost use Rattle.gm_graph_listing.specs.Texts.{step_text, vertex_text};
 
 use gm_graph_select::Step;
@@ -29,13 +30,29 @@ pub(crate) fn push_vertex(out: &mut String, vertex: &ModVer) -> Result<(), NoMem
     Ok(())
 }
 
+/// Appends the path of the main module, or `PATH@VERSION` if there is another module. Refused only when memory
+/// runs out.
+pub(crate) fn push_main_or(
+    out: &mut String,
+    main: &ModPath,
+    other: Option<&ModVer>,
+) -> Result<(), NoMemory>
+    ensures { OnOk result (string_bytes out.new
+        ≡ string_bytes out.old ++ step_text main.now (step_of_ref other.entry)) }
+{
+    match other {
+        None => out.push_str(main.as_str()),
+        Some(vertex) => push_vertex(out, vertex),
+    }
+}
+
 /// Appends the path of the main module, or `PATH@VERSION` of another module. Refused only when memory runs
 /// out.
 pub(crate) fn push_step(out: &mut String, main: &ModPath, step: &Step) -> Result<(), NoMemory>
     ensures { OnOk result (string_bytes out.new ≡ string_bytes out.old ++ step_text main.now step.now) }
 {
     match step {
-        Step::Main => out.push_str(main.as_str()),
-        Step::Of(vertex) => push_vertex(out, vertex),
+        Step::Main => push_main_or(out, main, None),
+        Step::Of(vertex) => push_main_or(out, main, Some(vertex)),
     }
 }

@@ -2,20 +2,21 @@
 
 ghost use Rattle.std.specs.Prelude.{◌≡◌, ◌++◌, IfOk, OnOk};
 ghost use Rattle.std.specs.String.{string_bytes};
+ghost use Rattle.gm_graph_select.specs.EdgeList.{edge_of_ref};
 ghost use Rattle.gm_graph_listing.specs.Texts.{chain_text, edge_line, graph_text, step_line};
 
-use crate::fields::{push_step, push_vertex};
-use gm_graph_select::{Edge, Step};
+use crate::fields::{push_main_or, push_step, push_vertex};
+use gm_graph_select::{EdgeRef, Edges, Step};
 use gm_name::{ModPath, NoMemory};
 use std::alloc::Global;
 
 /// Appends the line of an edge: the module that requires, a space, and the module that is required.
-fn push_edge(out: &mut String, main: &ModPath, edge: &Edge) -> Result<(), NoMemory>
-    ensures { OnOk result (string_bytes out.new ≡ string_bytes out.old ++ edge_line main.now edge.now) }
+fn push_edge(out: &mut String, main: &ModPath, edge: EdgeRef<'_>) -> Result<(), NoMemory>
+    ensures { OnOk result (string_bytes out.new ≡ string_bytes out.old ++ edge_line main.now (edge_of_ref edge.entry)) }
 {
-    push_step(out, main, &edge.from)?;
+    push_main_or(out, main, edge.from)?;
     out.push_str(" ")?;
-    push_vertex(out, &edge.to)?;
+    push_vertex(out, edge.to)?;
     out.push_str("\n")
 }
 
@@ -24,11 +25,12 @@ fn push_edge(out: &mut String, main: &ModPath, edge: &Edge) -> Result<(), NoMemo
 /// `main`.
 ///
 /// Refused only when memory runs out. The time is proportional to the length of the text.
-pub fn graph_text(alloc: Global, main: &ModPath, edges: &[Edge]) -> Result<String, NoMemory>
-    ensures { IfOk result (λ text. string_bytes text ≡ graph_text main.now edges.now) }
+pub fn graph_text(alloc: Global, main: &ModPath, edges: Edges<'_>) -> Result<String, NoMemory>
+    ensures { IfOk result (λ text. string_bytes text ≡ graph_text main.now edges.entry) }
 {
     let mut text = String::new(alloc);
-    'edges: for edge in edges {
+    let mut rest = edges;
+    'edges: while let Some(edge) = rest.next() {
         push_edge(&mut text, main, edge)?;
     }
     Ok(text)

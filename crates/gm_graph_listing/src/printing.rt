@@ -17,7 +17,7 @@ use crate::report::{faults_text, not_listed_report};
 use crate::row_lines::list_text;
 use gm_file::MainFile;
 use gm_graph::Loaded;
-use gm_graph_cache::main_view;
+use gm_graph_cache::main_path;
 use gm_graph_select::{ChainFault, Rows};
 use gm_name::{ModPath, NoMemory};
 use std::alloc::{AllocError, Global};
@@ -26,8 +26,7 @@ use std::alloc::{AllocError, Global};
 fn print_graph(alloc: Global, main: &MainFile<'_>, loaded: &Loaded) -> Result<Output, NoMemory>
     ensures { IfOk result (λ output. PrintsEdges (main_of main.now) loaded.now (outcome_view output)) }
 {
-    let edges = loaded.edges(alloc)?;
-    let text = graph_text(alloc, main_view::path(main), &edges)?;
+    let text = graph_text(alloc, main_path(main), loaded.edges())?;
     Ok(printed(alloc, text))
 }
 
@@ -48,7 +47,7 @@ fn print_rows(
     ensures { IfOk result (λ output. outcome_view output
         ≡ printed (list_text (main_of main.now).path (limited limit (entries_of_rows rows.entry)))) }
 {
-    let text = list_text(alloc, main_view::path(main), rows, limit)?;
+    let text = list_text(alloc, main_path(main), rows, limit)?;
     Ok(printed(alloc, text))
 }
 
@@ -88,7 +87,7 @@ fn print_chain(
 {
     match loaded.chain(alloc, path) {
         Ok(steps) => {
-            let text = chain_text(alloc, main_view::path(main), &steps)?;
+            let text = chain_text(alloc, main_path(main), &steps)?;
             Ok(printed(alloc, text))
         }
         Err(ChainFault::NotListed) => unlisted(alloc, path),

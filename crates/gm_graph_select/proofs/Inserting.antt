@@ -10,19 +10,19 @@ use Rattle.std.proofs.lemmas.List.Kept.{AllPairs-cons}
 use Rattle.gm_file.specs.Directives.{Replacing}
 use Rattle.gm_graph_select.specs.declared.step.Edge.{Edge}
 use Rattle.gm_graph_select.specs.BuildList.{Entry, IsBuildList, entry_of, main_entry}
-use Rattle.gm_graph_select.specs.Graph.{Vertex, among, vertex_cmp}
+use Rattle.gm_graph_select.specs.Graph.{Vertex, among}
+use Rattle.gm_name.specs.PairOrder.{pair_cmp}
 use Rattle.gm_graph_select.specs.Greatest.{greatest_of}
 use Rattle.gm_graph_select.specs.Order.{HaveSame, IsAscending, in_order}
 use Rattle.gm_graph_select.specs.StepOrder.{vertex-anti, vertex_total}
 use Rattle.gm_graph_select.proofs.Ascending.{member_cases, member_head, member_tail, no_member, pairs_head, pairs_tail, same_lists}
-use Rattle.gm_graph_select.proofs.Greatest.{ending}
-use Rattle.gm_graph_select.proofs.Same.{alike_build_list, ending_ends, ends_alike, ends_of, ends_same}
-use Rattle.gm_graph_select.proofs.Selected.{built}
+use Rattle.gm_graph_select.proofs.LastVersions.{are_selected, listed}
+use Rattle.gm_graph_select.proofs.Same.{ends_of, ends_same}
 
 abbrev Below : Vertex → Vertex → Type 0
-Below x y = vertex_cmp x y ≡ Less
+Below x y = pair_cmp x y ≡ Less
 
-above_first : (x : Vertex) (ys : List Vertex) → ((y : Vertex) → Contains ys y → Below x y) → IsAscending vertex_cmp ys → IsAscending vertex_cmp (x ∷ ys)
+above_first : (x : Vertex) (ys : List Vertex) → ((y : Vertex) → Contains ys y → Below x y) → IsAscending pair_cmp ys → IsAscending pair_cmp (x ∷ ys)
 above_first x ys low up = AllPairs-cons Below x ys firsts up
   where
     firsts : All (Below x) ys
@@ -30,22 +30,22 @@ above_first x ys low up = AllPairs-cons Below x ys firsts up
 
 -- The list has the vertex and the members of the other, and no others.
 record IsInserted (e : Vertex) (ys zs : List Vertex) : Type 0 where
-  pub ascending : IsAscending vertex_cmp zs
+  pub ascending : IsAscending pair_cmp zs
   pub kept : (x : Vertex) → (e ≡ x) ⊎ Contains ys x → Contains zs x
   pub only : (x : Vertex) → Contains zs x → (e ≡ x) ⊎ Contains ys x
 
-inserted : (e : Vertex) (ys : List Vertex) → IsAscending vertex_cmp ys → IsInserted e ys (insert_key vertex_cmp ys e)
+inserted : (e : Vertex) (ys : List Vertex) → IsAscending pair_cmp ys → IsInserted e ys (insert_key pair_cmp ys e)
 inserted e [] up = record {
   ascending = above_first e [] (λ y h. absurd (no_member y h)) up;
   kept = λ x h. elim h [ inl same ↦ subst (λ (v : Vertex). Contains (e ∷ []) v) same (member_head e []) | inr there ↦ absurd (no_member x there) ];
   only = λ x h. member_cases e x [] h;
 }
-inserted e (y ∷ ys) up = by_order (vertex_cmp e y) refl (inserted e ys (pairs_tail Below y ys up))
+inserted e (y ∷ ys) up = by_order (pair_cmp e y) refl (inserted e ys (pairs_tail Below y ys up))
   where
     zs : List Vertex
-    zs = insert_key vertex_cmp ys e
+    zs = insert_key pair_cmp ys e
 
-    by_order : (r : Ordering) → vertex_cmp e y ≡ r → IsInserted e ys zs → IsInserted e (y ∷ ys) (match_ordering r (e ∷ y ∷ ys) (y ∷ ys) (y ∷ zs))
+    by_order : (r : Ordering) → pair_cmp e y ≡ r → IsInserted e ys zs → IsInserted e (y ∷ ys) (match_ordering r (e ∷ y ∷ ys) (y ∷ ys) (y ∷ zs))
     by_order Less is rest = record {
       ascending = above_first e (y ∷ ys) (λ x h. elim (member_cases y x ys h) [
         | inl same ↦ subst (λ (v : Vertex). Below e v) same is
@@ -79,32 +79,31 @@ inserted e (y ∷ ys) up = by_order (vertex_cmp e y) refl (inserted e ys (pairs_
           ];
         }
 
-pub in_order_ascends : (xs : List Vertex) → IsAscending vertex_cmp (in_order vertex_cmp xs)
+pub in_order_ascends : (xs : List Vertex) → IsAscending pair_cmp (in_order pair_cmp xs)
 in_order_ascends [] = λ i j d lt below. absurd (omega (arith, below))
-in_order_ascends (e ∷ xs) = (inserted e (in_order vertex_cmp xs) (in_order_ascends xs)).ascending
+in_order_ascends (e ∷ xs) = (inserted e (in_order pair_cmp xs) (in_order_ascends xs)).ascending
 
-pub in_order_same : (xs : List Vertex) → HaveSame xs (in_order vertex_cmp xs)
+pub in_order_same : (xs : List Vertex) → HaveSame xs (in_order pair_cmp xs)
 in_order_same [] x = ((λ h. h), (λ h. h))
 in_order_same (e ∷ xs) x =
-    let is = inserted e (in_order vertex_cmp xs) (in_order_ascends xs) in
+    let is = inserted e (in_order pair_cmp xs) (in_order_ascends xs) in
     let same = in_order_same xs x in (
       (λ h. is.kept x (elim (member_cases e x xs h) [ inl first ↦ inl first | inr later ↦ inr (same.0 later) ])),
       (λ h. elim (is.only x h) [ inl first ↦ subst (λ (v : Vertex). Contains (e ∷ xs) v) first (member_head e xs) | inr there ↦ member_tail e x xs (same.1 there) ]),
     )
 
 -- An ascending list with the members of another is the other in order.
-pub in_order_only : (xs ys : List Vertex) → IsAscending vertex_cmp ys → HaveSame xs ys → ys ≡ in_order vertex_cmp xs
+pub in_order_only : (xs ys : List Vertex) → IsAscending pair_cmp ys → HaveSame xs ys → ys ≡ in_order pair_cmp xs
 in_order_only xs ys up same =
-    same_lists vertex_total ys (in_order vertex_cmp xs) up (in_order_ascends xs)
+    same_lists vertex_total ys (in_order pair_cmp xs) up (in_order_ascends xs)
     (λ x. ((λ h. (in_order_same xs x).0 ((same x).1 h)), (λ h. (same x).0 ((in_order_same xs x).1 h))))
 
 pub some_build_list : (main : List ℕ) (replaces : List Replacing) (edges : List Edge) → (entries : List Entry) × IsBuildList main replaces (among edges) entries
 some_build_list main replaces edges =
     let to = map (λ (e : Edge). e.to) edges in
-    let ends = in_order vertex_cmp to in
-    let entries = main_entry ∷ map (entry_of replaces) (greatest_of main ends) in (
-      entries,
-      alike_build_list main replaces (ending ends) (among edges) entries
-          (ends_alike ends (ending ends) (among edges) (ending_ends ends) (ends_same to ends (among edges) (in_order_same to) (ends_of edges)))
-          (built main replaces ends (in_order_ascends to)),
+    let ends = in_order pair_cmp to in
+    let selected = greatest_of main ends in (
+      main_entry ∷ map (entry_of replaces) selected,
+      listed main replaces (among edges) selected
+          (are_selected main ends (in_order_ascends to) (among edges) (ends_same to ends (among edges) (in_order_same to) (ends_of edges))),
     )

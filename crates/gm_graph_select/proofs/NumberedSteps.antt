@@ -19,7 +19,8 @@ use Rattle.gm_graph_select.specs.declared.step.Edge.{Edge}
 use Rattle.gm_graph_select.specs.declared.step.Step.{Step}
 use Rattle.gm_graph_select.specs.declared.step.Step.TheVariants.{Main, Of}
 use Rattle.gm_graph_select.specs.Adjacency.{AreRanked, GraphView, IsBelow, IsNumbered, edges_from, edges_of, left_by, step_with, vertex_at}
-use Rattle.gm_graph_select.specs.Graph.{Vertex, edge, step_cmp, vertex_cmp}
+use Rattle.gm_graph_select.specs.Graph.{Vertex, edge, step_cmp}
+use Rattle.gm_name.specs.PairOrder.{pair_cmp}
 use Rattle.gm_graph_select.specs.Numbering.{AreLeaving, IsGraph, number_left, number_with, step_at, steps_of}
 use Rattle.gm_graph_select.specs.Order.{IsAscending}
 use Rattle.gm_graph_select.specs.StepOrder.{step_total, vertex_total}
@@ -53,14 +54,14 @@ module _ (steps : List Step) (up : IsAscending step_cmp steps) where
 
 -- ---- the steps of a graph
 
-vertex_steps_ascend : (vertices : List Vertex) → IsAscending vertex_cmp vertices → IsAscending step_cmp (map Of vertices)
+vertex_steps_ascend : (vertices : List Vertex) → IsAscending pair_cmp vertices → IsAscending step_cmp (map Of vertices)
 vertex_steps_ascend vertices up i j d lt below =
     let inside : j < length vertices = rw length-map at below in
     let left = get_or-map Of vertices i ([], []) d (omega arith) in
     let right = get_or-map Of vertices j ([], []) d inside in
     ap₂ step_cmp left right ∙ up i j ([], []) lt inside
 
-all_steps_ascend : (vertices : List Vertex) → IsAscending vertex_cmp vertices → IsAscending step_cmp (Main ∷ map Of vertices)
+all_steps_ascend : (vertices : List Vertex) → IsAscending pair_cmp vertices → IsAscending step_cmp (Main ∷ map Of vertices)
 all_steps_ascend vertices up = AllPairs-cons (λ (s t : Step). step_cmp s t ≡ Less) Main (map Of vertices) main (vertex_steps_ascend vertices up)
   where
     main : All (λ (s : Step). step_cmp Main s ≡ Less) (map Of vertices)
@@ -72,7 +73,7 @@ pub step_of_rank : (vertices : List Vertex) (rank : ℕ) → rank < length verti
 step_of_rank vertices rank below = rw add-one (get_or-map Of vertices rank ([], []) Main below)
 
 -- Two ranks of a vertex are the same.
-pub same_rank : (vertices : List Vertex) → IsAscending vertex_cmp vertices → (i j : ℕ) → i < length vertices → j < length vertices → vertex_at vertices i ≡ vertex_at vertices j → i ≡ j
+pub same_rank : (vertices : List Vertex) → IsAscending pair_cmp vertices → (i j : ℕ) → i < length vertices → j < length vertices → vertex_at vertices i ≡ vertex_at vertices j → i ≡ j
 same_rank vertices up i j below inside same =
     let steps = map Of vertices in
     let count : length steps ≡ length vertices = length-map vertices Of in
@@ -208,5 +209,5 @@ module _ (vertices : List Vertex) (all : List Adjacency) (are : AreRanked vertic
       below
 
 -- A binary search found no such vertex.
-pub vertex_not_found : (vertices : List Vertex) (x : Vertex) (i : ℕ) → IsAscending vertex_cmp vertices → (IsNonDecreasingBy (λ (y : Vertex). ordering_index (vertex_cmp y x)) vertices → IsPartitionPoint (λ (y : Vertex). vertex_cmp y x ≡ Less) (λ (y : Vertex). vertex_cmp y x ≡ Greater) vertices i) → Contains vertices x → ⊥
+pub vertex_not_found : (vertices : List Vertex) (x : Vertex) (i : ℕ) → IsAscending pair_cmp vertices → (IsNonDecreasingBy (λ (y : Vertex). ordering_index (pair_cmp y x)) vertices → IsPartitionPoint (λ (y : Vertex). pair_cmp y x ≡ Less) (λ (y : Vertex). pair_cmp y x ≡ Greater) vertices i) → Contains vertices x → ⊥
 vertex_not_found vertices x i up says there = nothing_found vertex_total (λ (y : Vertex). y) vertices up x i says x there (tied_itself vertex_total x)

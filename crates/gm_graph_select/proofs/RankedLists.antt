@@ -1,6 +1,6 @@
 -- Adjacency lists by ranks: they have the same edges, in ascending order.
 use Rattle.std.proofs.Common.{◌≡◌, ◌+◌, ◌<◌, ℕ, zero, suc, Bool, true, false, List, [], ◌∷◌, ◌++◌, Option, Some, None, length, map, set, take, drop, get_or, Contains, ap, ap₂, ◌∙◌, sym, refl, subst, inl, inr, arith}
-use Rattle.std.specs.Prelude.{All, AllPairs}
+use Rattle.std.specs.Prelude.{⊤, All, AllPairs}
 use Rattle.std.specs.declared.cmp.Ordering.{Ordering}
 use Rattle.std.specs.declared.cmp.Ordering.TheVariants.{Less, Equal, Greater}
 use Rattle.std.specs.Cmp.{IsTotalOrder, nat_cmp_total, on_total}
@@ -22,7 +22,9 @@ use Rattle.gm_graph_select.specs.declared.step.Edge.{Edge}
 use Rattle.gm_graph_select.specs.declared.step.Step.{Step}
 use Rattle.gm_graph_select.specs.declared.step.Step.TheVariants.{Of}
 use Rattle.gm_graph_select.specs.Adjacency.{AreByRanks, HaveNumbers, AreRanked, HasRanks, IsBelow, IsNumbered, LeavesLower, edges_from, edges_of, left_by, rank_of, same_step, step_with, vertex_at}
-use Rattle.gm_graph_select.specs.Graph.{Vertex, edge, edge_cmp, step_cmp, vertex_cmp}
+use Rattle.gm_graph_select.specs.Graph.{Vertex, edge, edge_cmp, step_cmp}
+use Rattle.gm_name.specs.PairOrder.{pair_cmp}
+use Rattle.gm_graph_select.specs.Marking.{HasMark}
 use Rattle.gm_graph_select.specs.Order.{HaveSame, IsAscending}
 use Rattle.gm_graph_select.specs.Ranking.{AreRanks}
 use Rattle.gm_graph_select.specs.StepOrder.{step_eq, step_equiv}
@@ -94,7 +96,7 @@ pairs_append {T} R (x ∷ xs) ys a b between =
 pub lower_number : (a b : ℕ) → nat_cmp a b ≡ Less → a < b
 lower_number a b e = ranked a b Less (sym e)
 
-module _ (vertices : List Vertex) (up : IsAscending vertex_cmp vertices) where
+module _ (vertices : List Vertex) (up : IsAscending pair_cmp vertices) where
   to_ascends : (s : Step) (to : List ℕ) → IsAscending nat_cmp to → All (λ n. n < length vertices) to → IsAscending edge_cmp (map (λ (n : ℕ). edge s (vertex_at vertices n)) to)
   to_ascends s to ranks within i j d lt below =
       let lead = λ (n : ℕ). edge s (vertex_at vertices n) in
@@ -102,7 +104,7 @@ module _ (vertices : List Vertex) (up : IsAscending vertex_cmp vertices) where
       let a = get_or to i 0 in
       let b = get_or to j 0 in
       ap₂ edge_cmp (get_or-map lead to i 0 d (omega arith)) (get_or-map lead to j 0 d inside)
-      ∙ ap (λ (o : Ordering). ordering_then o (vertex_cmp (vertex_at vertices a) (vertex_at vertices b))) (step_itself s)
+      ∙ ap (λ (o : Ordering). ordering_then o (pair_cmp (vertex_at vertices a) (vertex_at vertices b))) (step_itself s)
       ∙ up a b ([], []) (lower_number a b (ranks i j 0 lt inside)) (within j 0 inside)
 
   lower_step : (a b : Option ℕ) → IsBelow (length vertices) b → option_cmp nat_cmp a b ≡ Less → step_cmp (step_with vertices a) (step_with vertices b) ≡ Less
@@ -126,7 +128,7 @@ module _ (vertices : List Vertex) (up : IsAscending vertex_cmp vertices) where
           let (m, found, same) = from_mapped (leading vertices other) other.to.items b at in
           let numbers = All-contains (IsNumbered (length vertices)) all other (All-tail (IsNumbered (length vertices)) one all numbered) later in
           ap₂ edge_cmp (sym is) (sym same)
-          ∙ ap (λ (o : Ordering). ordering_then o (vertex_cmp (vertex_at vertices n) (vertex_at vertices m))) (lower_step one.from other.from numbers.from (pairs_head LeavesLower one other all lower later))
+          ∙ ap (λ (o : Ordering). ordering_then o (pair_cmp (vertex_at vertices n) (vertex_at vertices m))) (lower_step one.from other.from numbers.from (pairs_head LeavesLower one other all lower later))
 
 -- The edges of a graph by ranks are in ascending order.
 pub ranked_edges_ascend : (vertices : List Vertex) (all : List Adjacency) → AreRanked vertices all → IsAscending edge_cmp (edges_of vertices all)
@@ -197,36 +199,45 @@ zip_step ranks old now i one new inside within front has =
 
 -- ---- lists with ranks in the places of numbers
 
-module _ (vertices ordered : List Vertex) (ranks : List ℕ) (are : AreRanks vertices ordered ranks) where
-  step_kept : (from : Option ℕ) → IsBelow (length vertices) from → step_with ordered (option_map (rank_of ranks) from) ≡ step_with vertices from
+abbrev pub IsFromMarked : List Bool → Option ℕ → Type 0
+IsFromMarked marks None = ⊤
+IsFromMarked marks (Some number) = HasMark marks number
+
+-- Each number that the list names is marked.
+pub record NamesMarked (marks : List Bool) (one : Adjacency) : Type 0 where
+  pub from : IsFromMarked marks one.from
+  pub to : All (HasMark marks) one.to.items
+
+module _ (modules : List Vertex) (marks : List Bool) (ordered : List Vertex) (ranks : List ℕ) (are : AreRanks modules marks ordered ranks) where
+  step_kept : (from : Option ℕ) → IsFromMarked marks from → step_with ordered (option_map (rank_of ranks) from) ≡ step_with modules from
   step_kept None within = refl
   step_kept (Some number) within = ap Of (are.same number within)
 
-  below_kept : (from : Option ℕ) → IsBelow (length vertices) from → IsBelow (length ordered) (option_map (rank_of ranks) from)
+  below_kept : (from : Option ℕ) → IsFromMarked marks from → IsBelow (length ordered) (option_map (rank_of ranks) from)
   below_kept None within = within
   below_kept (Some number) within = are.within number within
 
-  module _ (old new : Adjacency) (numbered : IsNumbered (length vertices) old) (has : HasRanks ranks old new) where
-    left_kept : left_by ordered new ≡ left_by vertices old
+  module _ (old new : Adjacency) (numbered : NamesMarked marks old) (has : HasRanks ranks old new) where
+    left_kept : left_by ordered new ≡ left_by modules old
     left_kept = ap (λ (from : Option ℕ). step_with ordered from) has.from ∙ step_kept old.from numbered.from
 
-    edge_kept : (number : ℕ) → Contains old.to.items number → leading ordered new (rank_of ranks number) ≡ leading vertices old number
-    edge_kept number held = ap₂ edge left_kept (are.same number (All-contains (λ (n : ℕ). n < length vertices) old.to.items number numbered.to held))
+    edge_kept : (number : ℕ) → Contains old.to.items number → leading ordered new (rank_of ranks number) ≡ leading modules old number
+    edge_kept number held = ap₂ edge left_kept (are.same number (All-contains (HasMark marks) old.to.items number numbered.to held))
 
-    same_edges_from : HaveSame (edges_from vertices old) (edges_from ordered new)
+    same_edges_from : HaveSame (edges_from modules old) (edges_from ordered new)
     same_edges_from e = (there, back)
       where
-        there : Contains (edges_from vertices old) e → Contains (edges_from ordered new) e
+        there : Contains (edges_from modules old) e → Contains (edges_from ordered new) e
         there h =
-            let (number, held, is) = from_mapped (leading vertices old) old.to.items e h in
+            let (number, held, is) = from_mapped (leading modules old) old.to.items e h in
             let found = (has.members (rank_of ranks number)).0 (in_mapped (rank_of ranks) old.to.items number held) in
             subst (λ (f : Edge). Contains (edges_from ordered new) f) (edge_kept number held ∙ is) (in_mapped (leading ordered new) new.to.items (rank_of ranks number) found)
 
-        back : Contains (edges_from ordered new) e → Contains (edges_from vertices old) e
+        back : Contains (edges_from ordered new) e → Contains (edges_from modules old) e
         back h =
             let (rank, held, is) = from_mapped (leading ordered new) new.to.items e h in
             let (number, found, at) = from_mapped (rank_of ranks) old.to.items rank ((has.members rank).1 held) in
-            subst (λ (f : Edge). Contains (edges_from vertices old) f) (sym (edge_kept number found) ∙ ap (λ (n : ℕ). leading ordered new n) at ∙ is) (in_mapped (leading vertices old) old.to.items number found)
+            subst (λ (f : Edge). Contains (edges_from modules old) f) (sym (edge_kept number found) ∙ ap (λ (n : ℕ). leading ordered new n) at ∙ is) (in_mapped (leading modules old) old.to.items number found)
 
     numbered_kept : IsNumbered (length ordered) new
     numbered_kept = record {
@@ -234,26 +245,26 @@ module _ (vertices ordered : List Vertex) (ranks : List ℕ) (are : AreRanks ver
       to = λ k d below.
           let rank = get_or new.to.items k d in
           let (number, found, at) = from_mapped (rank_of ranks) old.to.items rank ((has.members rank).1 (Contains-get_or new.to.items k d below)) in
-          subst (λ (n : ℕ). n < length ordered) at (are.within number (All-contains (λ (n : ℕ). n < length vertices) old.to.items number numbered.to found));
+          subst (λ (n : ℕ). n < length ordered) at (are.within number (All-contains (HasMark marks) old.to.items number numbered.to found));
     }
 
-  all_same : (old new : List Adjacency) → HaveNumbers (length vertices) old → AllZip (HasRanks ranks) old new → HaveSame (edges_of vertices old) (edges_of ordered new)
+  all_same : (old new : List Adjacency) → All (NamesMarked marks) old → AllZip (HasRanks ranks) old new → HaveSame (edges_of modules old) (edges_of ordered new)
   all_same [] [] numbered zip = λ e. ((λ h. h), (λ h. h))
   all_same [] (b ∷ news) numbered zip = absurd zip
   all_same (a ∷ olds) [] numbered zip = absurd zip
   all_same (a ∷ olds) (b ∷ news) numbered (one, rest) =
-      same_append (edges_from vertices a) (edges_from ordered b) (edges_of vertices olds) (edges_of ordered news)
-      (same_edges_from a b (All-head (IsNumbered (length vertices)) a olds numbered) one)
-      (all_same olds news (All-tail (IsNumbered (length vertices)) a olds numbered) rest)
+      same_append (edges_from modules a) (edges_from ordered b) (edges_of modules olds) (edges_of ordered news)
+      (same_edges_from a b (All-head (NamesMarked marks) a olds numbered) one)
+      (all_same olds news (All-tail (NamesMarked marks) a olds numbered) rest)
 
-  all_numbered : (old new : List Adjacency) → HaveNumbers (length vertices) old → AllZip (HasRanks ranks) old new → HaveNumbers (length ordered) new
+  all_numbered : (old new : List Adjacency) → All (NamesMarked marks) old → AllZip (HasRanks ranks) old new → HaveNumbers (length ordered) new
   all_numbered [] [] numbered zip = All-nil (IsNumbered (length ordered))
   all_numbered [] (b ∷ news) numbered zip = absurd zip
   all_numbered (a ∷ olds) [] numbered zip = absurd zip
   all_numbered (a ∷ olds) (b ∷ news) numbered (one, rest) =
       All-cons (IsNumbered (length ordered)) b news
-      (numbered_kept a b (All-head (IsNumbered (length vertices)) a olds numbered) one)
-      (all_numbered olds news (All-tail (IsNumbered (length vertices)) a olds numbered) rest)
+      (numbered_kept a b (All-head (NamesMarked marks) a olds numbered) one)
+      (all_numbered olds news (All-tail (NamesMarked marks) a olds numbered) rest)
 
   each_ascends : (old new : List Adjacency) → AllZip (HasRanks ranks) old new → All (λ (one : Adjacency). IsAscending nat_cmp one.to.items) new
   each_ascends [] [] zip = All-nil (λ (one : Adjacency). IsAscending nat_cmp one.to.items)
@@ -262,33 +273,33 @@ module _ (vertices ordered : List Vertex) (ranks : List ℕ) (are : AreRanks ver
   each_ascends (a ∷ olds) (b ∷ news) (one, rest) = All-cons (λ (one : Adjacency). IsAscending nat_cmp one.to.items) b news one.ascending (each_ascends olds news rest)
 
   -- Lists that leave different steps have different ranks.
-  same_left : (a b x y : Adjacency) → IsNumbered (length vertices) a → IsNumbered (length vertices) b → HasRanks ranks a x → HasRanks ranks b y → same_from x y ≡ true → same_step vertices a b ≡ true
+  same_left : (a b x y : Adjacency) → NamesMarked marks a → NamesMarked marks b → HasRanks ranks a x → HasRanks ranks b y → same_from x y ≡ true → same_step modules a b ≡ true
   same_left a b x y of_a of_b to_x to_y e =
-      let same : left_by vertices a ≡ left_by vertices b =
+      let same : left_by modules a ≡ left_by modules b =
       sym (left_kept a x of_a to_x) ∙ ap (λ (from : Option ℕ). step_with ordered from) (same_options x.from y.from e) ∙ left_kept b y of_b to_y in
-      ap (λ (s : Step). step_eq (left_by vertices a) s) (sym same) ∙ step_equiv.refl (left_by vertices a)
+      ap (λ (s : Step). step_eq (left_by modules a) s) (sym same) ∙ step_equiv.refl (left_by modules a)
 
-  apart_kept : (old new : List Adjacency) → HaveNumbers (length vertices) old → AllZip (HasRanks ranks) old new → IsDistinct (same_step vertices) old → IsDistinct same_from new
+  apart_kept : (old new : List Adjacency) → All (NamesMarked marks) old → AllZip (HasRanks ranks) old new → IsDistinct (same_step modules) old → IsDistinct same_from new
   apart_kept old new numbered zip distinct = IsDistinct-from_apart same_from new apart
     where
       apart : (i j : ℕ) (d : Adjacency) → i < j → j < length new → same_from (get_or new i d) (get_or new j d) ≡ false
       apart i j d lt below =
           let inside : j < length old = omega (arith, below, length_all_zip (HasRanks ranks) old new zip) in
           elim (cases_Bool (same_from (get_or new i d) (get_or new j d))) [
-            | inl same ↦ absurd (false≢true (sym (apart_from_distinct (same_step vertices) old i j d distinct lt inside)
+            | inl same ↦ absurd (false≢true (sym (apart_from_distinct (same_step modules) old i j d distinct lt inside)
                 ∙ same_left (get_or old i d) (get_or old j d) (get_or new i d) (get_or new j d) (numbered i d (omega arith)) (numbered j d inside)
                 (AllZip-get_or (HasRanks ranks) old new i d d zip (omega arith)) (AllZip-get_or (HasRanks ranks) old new j d d zip inside) same))
             | inr other ↦ other
           ]
 
-  module _ (old new : List Adjacency) (numbered : HaveNumbers (length vertices) old) (by : AreByRanks ranks old new) where
-    pub same_edges : HaveSame (edges_of vertices old) (edges_of ordered new)
+  module _ (old new : List Adjacency) (numbered : All (NamesMarked marks) old) (by : AreByRanks ranks old new) where
+    pub same_edges : HaveSame (edges_of modules old) (edges_of ordered new)
     same_edges e =
         let first = all_same old by.lists numbered by.each e in
         let second = edges_permuted ordered by.lists new by.permutation e in
         ((λ h. second.0 (first.0 h)), (λ h. first.1 (second.1 h)))
 
-    pub lists_are_ranked : IsAscending vertex_cmp ordered → IsDistinct (same_step vertices) old → AreRanked ordered new
+    pub lists_are_ranked : IsAscending pair_cmp ordered → IsDistinct (same_step modules) old → AreRanked ordered new
     lists_are_ranked up distinct = record {
       vertices_ascend = up;
       numbered = All-permutation (IsNumbered (length ordered)) by.lists new by.permutation (all_numbered old by.lists numbered by.each);

@@ -1,24 +1,28 @@
 -- The ranks of vertices: numbering, sorting, and what is then known of ranks.
-use Rattle.std.proofs.Common.{◌≡◌, ◌≢◌, ◌⊎◌, ◌+◌, ◌<◌, ℕ, true, false, List, [], ◌∷◌, ◌++◌, length, map, set, get_or, Contains, append_assoc, ap, ap₂, ◌∙◌, sym, refl, subst, inl, inr, arith}
-use Rattle.std.specs.Prelude.{All}
+use Rattle.std.proofs.Common.{◌≡◌, ◌≢◌, ◌⊎◌, ◌+◌, ◌<◌, ◌≤◌, ◌↔◌, ℕ, Bool, true, false, List, [], ◌∷◌, ◌++◌, length, map, set, take, get_or, Contains, append_assoc, ap, ap₂, ◌∙◌, sym, refl, subst, inl, inr, arith}
+use Rattle.std.specs.Prelude.{All, if◌then◌else◌}
 use Rattle.std.specs.declared.cmp.Ordering.{Ordering}
 use Rattle.std.specs.declared.cmp.Ordering.TheVariants.{Less, Equal, Greater}
 use Rattle.std.specs.List.{IsDistinct}
 use Rattle.std.specs.List.Sorted.{IsPermutation, IsSorted}
 use Rattle.std.specs.Ordering.{is_eq, is_lt, nat_cmp, ordering_reverse, ordering_then}
-use Rattle.std.proofs.lemmas.Bool.{cases_eq}
-use Rattle.std.proofs.lemmas.List.{get_or-map, get_or-set_other, get_or-set_same, get_or_append_left, get_or_push, length-append, length-map, length_push}
-use Rattle.std.proofs.lemmas.List.Elements.{All-contains, Contains-get_or}
-use Rattle.std.proofs.lemmas.List.Sorted.{All-permutation, Contains-permutation, IsPermutation-map, IsPermutation-sym, length_permutation}
-use Rattle.std.proofs.lemmas.Map.Keys.{IsDistinct-IsPermutation, apart_from_distinct}
-use Rattle.gm_name.specs.PairOrder.{pair_eq, pair_ties}
+use Rattle.std.proofs.lemmas.Bool.{cases_Bool, cases_eq, false≢true}
+use Rattle.std.proofs.lemmas.List.{get_or-map, get_or-set_other, get_or-set_same, get_or_append_left, get_or_at, get_or_default, get_or_push, length-append, length-map, length-take-le, length_push, take_more}
+use Rattle.std.proofs.lemmas.List.Elements.{All-contains, All-push, All-weaker, Contains-append_left, Contains-push}
+use Rattle.std.proofs.lemmas.List.Quantifiers.{all_pairs_push}
+use Rattle.std.proofs.lemmas.List.Sorted.{All-permutation, Contains-permutation, IsPermutation-map, length_permutation}
+use Rattle.std.proofs.lemmas.Map.Keys.{IsDistinct-IsPermutation, IsDistinct-from_apart, apart_from_distinct}
+use Rattle.gm_name.specs.PairOrder.{pair_cmp, pair_eq, pair_ties}
 use Rattle.gm_graph_select.specs.declared.ranking.Numbered.{Numbered}
 use Rattle.gm_graph_select.specs.Adjacency.{rank_of, vertex_at}
-use Rattle.gm_graph_select.specs.Graph.{Vertex, vertex_cmp}
-use Rattle.gm_graph_select.specs.Order.{HaveSame, IsAscending}
-use Rattle.gm_graph_select.specs.Ranking.{AreNumberedByPlace, AreRanks, HaveOneVertexEach, IsRanked}
+use Rattle.gm_graph_select.specs.Graph.{Vertex}
+use Rattle.gm_graph_select.specs.Marking.{HasMark}
+use Rattle.gm_graph_select.specs.Order.{IsAscending}
+use Rattle.gm_graph_select.specs.Ranking.{AreMarkedModules, AreRanks, HaveOneVertexEach, IsMarkedModule, IsPlaced, IsRanked}
 use Rattle.gm_graph_select.specs.StepOrder.{vertex_total}
 use Rattle.gm_graph_select.proofs.Ascending.{member_cases}
+use Rattle.gm_graph_select.proofs.RankedLists.{from_mapped, in_mapped}
+use Rattle.gm_graph_select.proofs.Marks.{marked_inside}
 use Rattle.gm_graph_select.proofs.Sorts.{from_adjacent}
 
 abbrev vertex_of : Numbered → Vertex
@@ -72,73 +76,145 @@ next_ranked all before ranks next rest once in_all inside x there so = elim so [
   ]
 ]
 
--- ---- numbered vertices in another order
+-- ---- the marked modules so far
 
--- The number is that of the vertex in the list.
-pub record IsPlaced (vertices : List Vertex) (one : Numbered) : Type 0 where
-  pub within : one.number < length vertices
-  pub is : one.vertex ≡ vertex_at vertices one.number
+module _ (front : List Vertex) (marks : List Bool) (x : Vertex) (all : List Numbered) (are : AreMarkedModules front marks all) where
+  wider : (one : Numbered) → IsPlaced front marks one → IsPlaced (front ++ x ∷ []) marks one
+  wider one placed = record {
+    within = omega (arith, placed.within, length_push front x);
+    marked = placed.marked;
+    is = placed.is ∙ sym (get_or_append_left front (x ∷ []) ([], []) one.number placed.within);
+  }
 
-module _ (vertices : List Vertex) (all : List Numbered) (are : AreNumberedByPlace vertices all) where
-  pub same_count : length all ≡ length vertices
-  same_count = sym (length-map all vertex_of) ∙ ap (λ (xs : List Vertex). length xs) are.vertices_are
+  -- One more module that is not marked.
+  passed_over : (HasMark marks (length front) → ⊥) → AreMarkedModules (front ++ x ∷ []) marks all
+  passed_over unmarked = record {
+    few = omega (arith, are.few, length_push front x);
+    placed = All-weaker (IsPlaced front marks) (IsPlaced (front ++ x ∷ []) marks) wider all are.placed;
+    each = λ number below marked. elim (cases_eq number (length front)) [
+      | inl same ↦ absurd (unmarked (subst (λ (n : ℕ). HasMark marks n) same marked))
+      | inr apart ↦ are.each number (omega (arith, below, apart, length_push front x)) marked
+    ];
+    ascending = are.ascending;
+  }
 
-  all_placed : All (IsPlaced vertices) all
-  all_placed k d below =
-      let here : (get_or all k d).number ≡ k = are.numbers_are k d below in
-      record {
-        within = omega (arith, here, below, same_count);
-        is = sym (get_or-map vertex_of all k d ([], []) below)
-            ∙ ap (λ (xs : List Vertex). vertex_at xs k) are.vertices_are
-            ∙ ap (λ (n : ℕ). vertex_at vertices n) (sym here);
+  -- One more that is.
+  numbered_too : (next : Numbered) → next.number ≡ length front → next.vertex ≡ x → HasMark marks (length front) → AreMarkedModules (front ++ x ∷ []) marks (all ++ next ∷ [])
+  numbered_too next number_is vertex_is marked = record {
+    few = omega (arith, are.few, length_push front x, length_push all next);
+    placed = All-push (IsPlaced (front ++ x ∷ []) marks) all next (All-weaker (IsPlaced front marks) (IsPlaced (front ++ x ∷ []) marks) wider all are.placed) last;
+    each = λ number below h. elim (cases_eq number (length front)) [
+      | inl same ↦ (next, Contains-push all next, number_is ∙ sym same)
+      | inr apart ↦ (let (one, there, is) = are.each number (omega (arith, below, apart, length_push front x)) h in (one, Contains-append_left all (next ∷ []) one there, is))
+    ];
+    ascending = all_pairs_push (λ (a b : Numbered). a.number < b.number) all next are.ascending (λ k d below. lower k d below);
+  }
+    where
+      last : IsPlaced (front ++ x ∷ []) marks next
+      last = record {
+        within = omega (arith, number_is, length_push front x);
+        marked = subst (λ (n : ℕ). HasMark marks n) (sym number_is) marked;
+        is = vertex_is ∙ sym (get_or_push front x ([], []) next.number (sym number_is));
       }
 
+      lower : All (λ (one : Numbered). one.number < next.number) all
+      lower k d below = let placed = are.placed k d below in omega (arith, placed.within, number_is)
+
+  -- One more, by its mark.
+  pub next_numbered : (next : Numbered) → next.number ≡ length front → next.vertex ≡ x → AreMarkedModules (front ++ x ∷ []) marks (if get_or marks next.number false then all ++ next ∷ [] else all)
+  next_numbered next number_is vertex_is = elim (cases_Bool (get_or marks next.number false)) [
+    | inl marked ↦ subst (λ (b : Bool). AreMarkedModules (front ++ x ∷ []) marks (if b then all ++ next ∷ [] else all)) (sym marked)
+        (numbered_too next number_is vertex_is (subst (λ (n : ℕ). HasMark marks n) number_is marked))
+    | inr not ↦ subst (λ (b : Bool). AreMarkedModules (front ++ x ∷ []) marks (if b then all ++ next ∷ [] else all)) (sym not)
+        (passed_over (λ marked. false≢true (sym not ∙ subst (λ (n : ℕ). HasMark marks n) (sym number_is) marked)))
+  ]
+
+-- The next of the modules that are left.
+pub next_module : (modules rest : List Vertex) (x : Vertex) (i : ℕ) → i ≤ length modules → take i modules ++ x ∷ rest ≡ modules → (i < length modules) × (length (take i modules) ≡ i) × (take (i + 1) modules ≡ take i modules ++ x ∷ [])
+next_module modules rest x i within is = (inside, size, taken)
+  where
+    size : length (take i modules) ≡ i
+    size = length-take-le i modules within
+
+    inside : i < length modules
+    inside = omega (arith, size, ap (λ (xs : List Vertex). length xs) is, length-append (take i modules) (x ∷ rest))
+
+    here : get_or modules i x ≡ x
+    here = ap (λ (xs : List Vertex). get_or xs i x) (sym is) ∙ get_or_at (take i modules) x rest x i size
+
+    taken : take (i + 1) modules ≡ take i modules ++ x ∷ []
+    taken = take_more modules i x inside ∙ ap (λ (y : Vertex). take i modules ++ y ∷ []) here
+
+-- ---- the marked modules in another order
+
+module _ (modules : List Vertex) (marks : List Bool) (all : List Numbered) (are : AreMarkedModules modules marks all) where
+  -- Their vertices are distinct if the modules are.
+  all_distinct : IsDistinct pair_eq modules → IsDistinct pair_eq (map vertex_of all)
+  all_distinct distinct = IsDistinct-from_apart pair_eq (map vertex_of all) apart
+    where
+      vertex_is : (k : ℕ) (d : Vertex) (e : Numbered) → k < length all → get_or (map vertex_of all) k d ≡ get_or modules (get_or all k e).number d
+      vertex_is k d e below =
+          let placed = are.placed k e below in
+          get_or-map vertex_of all k e d below ∙ placed.is ∙ get_or_default modules (get_or all k e).number ([], []) d placed.within
+
+      apart : (i j : ℕ) (d : Vertex) → i < j → j < length (map vertex_of all) → pair_eq (get_or (map vertex_of all) i d) (get_or (map vertex_of all) j d) ≡ false
+      apart i j d lt below =
+          let e : Numbered = record { vertex = d; number = 0 } in
+          let inside : j < length all = omega (arith, below, length-map all vertex_of) in
+          ap₂ pair_eq (vertex_is i d e (omega (arith, lt, inside))) (vertex_is j d e inside)
+          ∙ apart_from_distinct pair_eq modules (get_or all i e).number (get_or all j e).number d distinct (are.ascending i j e lt inside) (are.placed j e inside).within
+
   module _ (ordered : List Numbered) (same : IsPermutation all ordered) where
-    pub ordered_count : length ordered ≡ length vertices
-    ordered_count = length_permutation all ordered same ∙ same_count
+    ordered_placed : All (IsPlaced modules marks) ordered
+    ordered_placed = All-permutation (IsPlaced modules marks) all ordered same are.placed
 
-    ordered_placed : All (IsPlaced vertices) ordered
-    ordered_placed = All-permutation (IsPlaced vertices) all ordered same all_placed
+    pub few_ordered : length ordered ≤ length modules
+    few_ordered = omega (arith, are.few, length_permutation all ordered same)
 
-    pub numbers_within : All (λ (one : Numbered). one.number < length ordered) ordered
-    numbers_within k d below =
-        let placed = ordered_placed k d below in
-        omega (arith, placed.within, ordered_count)
+    pub numbers_within : All (λ (one : Numbered). one.number < length modules) ordered
+    numbers_within k d below = (ordered_placed k d below).within
 
     pub one_vertex_each : HaveOneVertexEach ordered
     one_vertex_each a b in_a in_b e =
-        let first = All-contains (IsPlaced vertices) ordered a ordered_placed in_a in
-        let second = All-contains (IsPlaced vertices) ordered b ordered_placed in_b in
-        first.is ∙ ap (λ (n : ℕ). vertex_at vertices n) e ∙ sym second.is
+        let first = All-contains (IsPlaced modules marks) ordered a ordered_placed in_a in
+        let second = All-contains (IsPlaced modules marks) ordered b ordered_placed in_b in
+        first.is ∙ ap (λ (n : ℕ). vertex_at modules n) e ∙ sym second.is
 
-    vertices_permuted : IsPermutation vertices (map vertex_of ordered)
-    vertices_permuted = subst (λ (xs : List Vertex). IsPermutation xs (map vertex_of ordered)) are.vertices_are (IsPermutation-map vertex_of all ordered same)
+    -- The entry of a marked module.
+    its_entry : (number : ℕ) → number < length modules → HasMark marks number → (one : Numbered) × Contains ordered one × (one.number ≡ number)
+    its_entry number below marked = let (one, there, is) = are.each number below marked in (one, Contains-permutation all ordered one same there, is)
 
-    pub same_vertices : HaveSame vertices (map vertex_of ordered)
-    same_vertices x = (
-      (λ h. Contains-permutation vertices (map vertex_of ordered) x vertices_permuted h),
-      (λ h. Contains-permutation (map vertex_of ordered) vertices x (IsPermutation-sym vertices (map vertex_of ordered) vertices_permuted) h),
-    )
+    pub marked_modules : (x : Vertex) → Contains (map vertex_of ordered) x ↔ IsMarkedModule modules marks x
+    marked_modules x = (there, back)
+      where
+        there : Contains (map vertex_of ordered) x → IsMarkedModule modules marks x
+        there h =
+            let (one, found, is) = from_mapped vertex_of ordered x h in
+            let placed = All-contains (IsPlaced modules marks) ordered one ordered_placed found in
+            (one.number, placed.within, placed.marked, sym placed.is ∙ is)
+
+        back : IsMarkedModule modules marks x → Contains (map vertex_of ordered) x
+        back (number, below, marked, is) =
+            let (one, found, number_is) = its_entry number below marked in
+            let placed = All-contains (IsPlaced modules marks) ordered one ordered_placed found in
+            subst (λ (y : Vertex). Contains (map vertex_of ordered) y) (placed.is ∙ ap (λ (n : ℕ). vertex_at modules n) number_is ∙ is) (in_mapped vertex_of ordered one found)
 
     module _ (ranks : List ℕ) (each : All (IsRanked (map vertex_of ordered) ranks) ordered) where
-      rank_at : (number : ℕ) → number < length vertices → (one : Numbered) × Contains ordered one × (one.number ≡ number)
-      rank_at number below =
-          let d : Numbered = record { vertex = ([], []); number = 0 } in
-          let inside : number < length all = omega (arith, below, same_count) in
-          (get_or all number d, Contains-permutation all ordered (get_or all number d) same (Contains-get_or all number d inside), are.numbers_are number d inside)
-
-      pub ranks_are : length ranks ≡ length ordered → AreRanks vertices (map vertex_of ordered) ranks
-      ranks_are count = record {
-        count = count ∙ ordered_count;
-        within = λ number below.
-            let (one, there, e) = rank_at number below in
+      pub ranks_are : length ranks ≡ length modules → length marks ≡ length modules → AreRanks modules marks (map vertex_of ordered) ranks
+      ranks_are count marks_count = record {
+        count = count;
+        within = λ number marked.
+            let (one, there, e) = its_entry number (below number marked) marked in
             subst (λ (n : ℕ). rank_of ranks n < length (map vertex_of ordered)) e (All-contains (IsRanked (map vertex_of ordered) ranks) ordered one each there).within;
-        same = λ number below.
-            let (one, there, e) = rank_at number below in
-            let placed = All-contains (IsPlaced vertices) ordered one ordered_placed there in
-            subst (λ (n : ℕ). vertex_at (map vertex_of ordered) (rank_of ranks n) ≡ vertex_at vertices n) e
+        same = λ number marked.
+            let (one, there, e) = its_entry number (below number marked) marked in
+            let placed = All-contains (IsPlaced modules marks) ordered one ordered_placed there in
+            subst (λ (n : ℕ). vertex_at (map vertex_of ordered) (rank_of ranks n) ≡ vertex_at modules n) e
             ((All-contains (IsRanked (map vertex_of ordered) ranks) ordered one each there).is ∙ placed.is);
       }
+        where
+          below : (number : ℕ) → HasMark marks number → number < length modules
+          below number marked = omega (arith, marked_inside marks number marked, marks_count)
 
     -- ---- sorted vertices
 
@@ -153,16 +229,16 @@ module _ (vertices : List Vertex) (all : List Numbered) (are : AreNumberedByPlac
     eq_flips Greater = refl
 
     pair_flips : (x y : Vertex) → pair_eq x y ≡ pair_eq y x
-    pair_flips x y = pair_ties x y ∙ ap is_eq (vertex_total.antisymm x y) ∙ eq_flips (vertex_cmp y x) ∙ sym (pair_ties y x)
+    pair_flips x y = pair_ties x y ∙ ap is_eq (vertex_total.antisymm x y) ∙ eq_flips (pair_cmp y x) ∙ sym (pair_ties y x)
 
     -- Sorted, distinct vertices ascend.
-    pub vertices_ascend : IsSorted (λ (a b : Numbered). ordering_then (vertex_cmp a.vertex b.vertex) (nat_cmp a.number b.number)) ordered → IsDistinct pair_eq vertices → IsAscending vertex_cmp (map vertex_of ordered)
+    pub vertices_ascend : IsSorted (λ (a b : Numbered). ordering_then (pair_cmp a.vertex b.vertex) (nat_cmp a.number b.number)) ordered → IsDistinct pair_eq modules → IsAscending pair_cmp (map vertex_of ordered)
     vertices_ascend sorted distinct = from_adjacent vertex_total (map vertex_of ordered) next
       where
         apart : IsDistinct pair_eq (map vertex_of ordered)
-        apart = IsDistinct-IsPermutation pair_eq pair_flips vertices (map vertex_of ordered) vertices_permuted distinct
+        apart = IsDistinct-IsPermutation pair_eq pair_flips (map vertex_of all) (map vertex_of ordered) (IsPermutation-map vertex_of all ordered same) (all_distinct distinct)
 
-        next : (k : ℕ) (d : Vertex) → k + 1 < length (map vertex_of ordered) → true ≡ is_lt (vertex_cmp (get_or (map vertex_of ordered) k d) (get_or (map vertex_of ordered) (k + 1) d))
+        next : (k : ℕ) (d : Vertex) → k + 1 < length (map vertex_of ordered) → true ≡ is_lt (pair_cmp (get_or (map vertex_of ordered) k d) (get_or (map vertex_of ordered) (k + 1) d))
         next k d inside =
             let e : Numbered = record { vertex = d; number = 0 } in
             let within : k + 1 < length ordered = omega (arith, inside, length-map ordered vertex_of) in
@@ -170,8 +246,8 @@ module _ (vertices : List Vertex) (all : List Numbered) (are : AreNumberedByPlac
             let b = get_or ordered (k + 1) e in
             let left : get_or (map vertex_of ordered) k d ≡ a.vertex = get_or-map vertex_of ordered k e d (omega arith) in
             let right : get_or (map vertex_of ordered) (k + 1) d ≡ b.vertex = get_or-map vertex_of ordered (k + 1) e d within in
-            let differ : is_eq (vertex_cmp a.vertex b.vertex) ≡ false =
+            let differ : is_eq (pair_cmp a.vertex b.vertex) ≡ false =
             sym (pair_ties a.vertex b.vertex) ∙ sym (ap₂ pair_eq left right) ∙ apart_from_distinct pair_eq (map vertex_of ordered) k (k + 1) d apart (omega arith) inside in
-            let low : is_lt (ordering_then (ordering_reverse (vertex_cmp a.vertex b.vertex)) (nat_cmp b.number a.number)) ≡ false =
+            let low : is_lt (ordering_then (ordering_reverse (pair_cmp a.vertex b.vertex)) (nat_cmp b.number a.number)) ≡ false =
             ap (λ (r : Ordering). is_lt (ordering_then r (nat_cmp b.number a.number))) (sym (vertex_total.antisymm b.vertex a.vertex)) ∙ sorted k e (omega arith) within in
-            sym (ap is_lt (ap₂ vertex_cmp left right ∙ later_vertex (vertex_cmp a.vertex b.vertex) (nat_cmp b.number a.number) low differ))
+            sym (ap is_lt (ap₂ pair_cmp left right ∙ later_vertex (pair_cmp a.vertex b.vertex) (nat_cmp b.number a.number) low differ))

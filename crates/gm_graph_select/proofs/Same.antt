@@ -1,6 +1,6 @@
 -- Relations that lead to the same vertices have the same build lists. Relations between the same steps and vertices
 -- have the same levels and chains, too.
-use Rattle.std.proofs.Common.{◌≡◌, ◌↔◌, ◌∙◌, ◌<◌, ℕ, suc, List, [], ◌∷◌, length, get_or, map, Contains, ap, refl, subst, sym}
+use Rattle.std.proofs.Common.{◌↔◌, ◌∙◌, ◌<◌, ℕ, suc, List, length, get_or, map, Contains, ap, subst, sym}
 use Rattle.std.proofs.lemmas.List.{get_or-map, length-map}
 use Rattle.std.proofs.lemmas.List.Elements.{Contains-get_or}
 use Rattle.gm_file.specs.Directives.{Replacing}
@@ -72,20 +72,6 @@ alike_build_list main replaces E F entries h list = record {
     (λ is. (list.each x).1 (alike_selected main F E (alike_back E F h) x is)),
   );
 }
-
--- A build list of each list of edges that lead to these vertices is one of every such relation.
-pub build_list_of : (main : List ℕ) (replaces : List Replacing) (ends : List Vertex) (E : Edges) (entries : List Entry) → ((edges : List Edge) → AreEnds ends (among edges) → IsBuildList main replaces (among edges) entries) → AreEnds ends E → IsBuildList main replaces E entries
-build_list_of main replaces ends E entries list are = alike_build_list main replaces (among edges) E entries (ends_alike ends (among edges) E own are) (list edges own)
-  where
-    edges : List Edge
-    edges = map (edge Main) ends
-
-    same : (xs : List Vertex) → map (λ (e : Edge). e.to) (map (edge Main) xs) ≡ xs
-    same [] = refl
-    same (x ∷ xs) = ap (λ (ys : List Vertex). x ∷ ys) (same xs)
-
-    own : AreEnds ends (among edges)
-    own = subst (λ (xs : List Vertex). AreEnds xs (among edges)) (same ends) (ends_of edges)
 
 pub same_build_list : (main : List ℕ) (replaces : List Replacing) (E F : Edges) (entries : List Entry) → AreSame E F → IsBuildList main replaces E entries → IsBuildList main replaces F entries
 same_build_list main replaces E F entries h = alike_build_list main replaces E F entries (same_ends E F h)

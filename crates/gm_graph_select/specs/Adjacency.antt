@@ -9,7 +9,8 @@ use Rattle.gm_graph_select.specs.declared.adjacency.Adjacency.{Adjacency}
 use Rattle.gm_graph_select.specs.declared.step.Edge.{Edge}
 use Rattle.gm_graph_select.specs.declared.step.Step.{Step}
 use Rattle.gm_graph_select.specs.declared.step.Step.TheVariants.{Main, Of}
-use Rattle.gm_graph_select.specs.Graph.{Vertex, edge, vertex_cmp}
+use Rattle.gm_graph_select.specs.Graph.{Vertex, edge}
+use Rattle.gm_name.specs.PairOrder.{pair_cmp}
 use Rattle.gm_graph_select.specs.Order.{HaveSame, IsAscending}
 use Rattle.gm_graph_select.specs.StepOrder.{step_eq}
 
@@ -25,6 +26,10 @@ step_with vertices (Some number) = Of (vertex_at vertices number)
 -- the step that an adjacency list leaves
 abbrev pub left_by : List Vertex → Adjacency → Step
 left_by vertices one = step_with vertices one.from
+
+-- the steps that adjacency lists leave
+abbrev pub sources_of : List Vertex → List Adjacency → List Step
+sources_of vertices all = map (left_by vertices) all
 
 -- the edges of an adjacency list
 abbrev pub edges_from : List Vertex → Adjacency → List Edge
@@ -78,7 +83,7 @@ LeavesLower a b = option_cmp nat_cmp a.from b.from ≡ Less
 -- The vertices are in strictly ascending order, and so are the steps that the lists leave and the vertices that each
 -- list leads to: numbers are ranks.
 pub record AreRanked (vertices : List Vertex) (all : List Adjacency) : Type 0 where
-  pub vertices_ascend : IsAscending vertex_cmp vertices
+  pub vertices_ascend : IsAscending pair_cmp vertices
   pub numbered : HaveNumbers (length vertices) all
   pub lists_ascend : AllPairs LeavesLower all
   pub each_ascends : All (λ one. IsAscending nat_cmp one.to.items) all

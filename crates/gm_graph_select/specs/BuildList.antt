@@ -1,16 +1,13 @@
 -- The build list by minimal version selection (Go Modules Reference, "Minimal version selection"), and the rest of
 -- it after an entry.
-use Rattle.std.specs.Prelude.{◌≡◌, ◌≢◌, ◌↔◌, ℕ, false, List, [], ◌∷◌, ◌++◌, map, unwrap_or, Option, None, Contains}
+use Rattle.std.specs.Prelude.{◌≡◌, ◌≢◌, ◌↔◌, ℕ, false, List, ◌∷◌, ◌++◌, map, Option, None, Contains}
 use Rattle.std.specs.Option.{option_map}
 use Rattle.std.specs.declared.cmp.Ordering.{Ordering}
 use Rattle.std.specs.Ordering.{is_gt, nat_cmp}
 use Rattle.std.specs.Cmp.Lexicographic.{slice_cmp}
 use Rattle.gm_name.specs.Version.{version_cmp}
-use Rattle.gm_syntax.specs.Tokens.{Placed}
-use Rattle.gm_syntax.specs.Document.{Line}
-use Rattle.gm_syntax.specs.LineViews.{plain_lines}
-use Rattle.gm_file.specs.Directives.{Strict, Replacing, Right}
-use Rattle.gm_file.specs.Fields.{module_of, replaces_of, replacement_of}
+use Rattle.gm_file.specs.Directives.{Replacing, Right}
+use Rattle.gm_file.specs.Fields.{replacement_of}
 use Rattle.gm_file.specs.Views.{right_view}
 use Rattle.gm_graph_select.specs.declared.step.Step.{Step}
 use Rattle.gm_graph_select.specs.declared.step.Step.TheVariants.{Main, Of}
@@ -39,6 +36,11 @@ pub record IsSelected (main : List ℕ) (edges : Edges) (x : Vertex) : Type 0 wh
 abbrev pub path_cmp : Vertex → Vertex → Ordering
 path_cmp x y = slice_cmp nat_cmp x.0 y.0
 
+-- the vertices that are selected, in strictly ascending order of the bytes of their paths
+pub record AreSelected (main : List ℕ) (edges : Edges) (selected : List Vertex) : Type 0 where
+  pub ascending : IsAscending path_cmp selected
+  pub each : (x : Vertex) → Contains selected x ↔ IsSelected main edges x
+
 abbrev pub main_entry : Entry
 main_entry = (Main, None)
 
@@ -52,14 +54,6 @@ pub record IsBuildList (main : List ℕ) (replaces : List Replacing) (edges : Ed
   pub entries_are : entries ≡ main_entry ∷ map (entry_of replaces) selected
   pub ascending : IsAscending path_cmp selected
   pub each : (x : Vertex) → Contains selected x ↔ IsSelected main edges x
-
--- The path that a main file declares. A valid main file declares one.
-abbrev pub main_path : List (Line Placed) → List ℕ
-main_path lines = unwrap_or (module_of Strict (plain_lines lines)) []
-
--- what a main file replaces
-abbrev pub main_replaces : List (Line Placed) → List Replacing
-main_replaces lines = replaces_of (plain_lines lines)
 
 -- ---- entries by their path
 

@@ -3,9 +3,8 @@
 use Rattle.std.specs.Prelude.{◌↔◌, ℕ, List, Contains}
 use Rattle.std.specs.declared.cmp.Ordering.{Ordering}
 use Rattle.std.specs.declared.cmp.Ordering.TheVariants.{Less, Equal, Greater}
-use Rattle.std.specs.Ordering.{nat_cmp, ordering_then}
-use Rattle.std.specs.Cmp.Lexicographic.{slice_cmp}
-use Rattle.gm_name.specs.Version.{version_cmp}
+use Rattle.std.specs.Ordering.{ordering_then}
+use Rattle.gm_name.specs.PairOrder.{pair_cmp}
 use Rattle.gm_graph_select.specs.declared.step.Step.{Step}
 use Rattle.gm_graph_select.specs.declared.step.Step.TheVariants.{Main, Of}
 use Rattle.gm_graph_select.specs.declared.step.Edge.{Edge}
@@ -33,17 +32,13 @@ IsEdgeEnd edges x = (s : Step) × edges s x
 abbrev pub AreEnds : List Vertex → Edges → Type 0
 AreEnds ends edges = (x : Vertex) → Contains ends x ↔ IsEdgeEnd edges x
 
--- the order of vertices: by the bytes of the path, then by the version
-abbrev pub vertex_cmp : Vertex → Vertex → Ordering
-vertex_cmp x y = ordering_then (slice_cmp nat_cmp x.0 y.0) (version_cmp x.1 y.1)
-
 -- the order of steps: the main module, then the vertices
 abbrev pub step_cmp : Step → Step → Ordering
 step_cmp Main Main = Equal
 step_cmp Main (Of y) = Less
 step_cmp (Of x) Main = Greater
-step_cmp (Of x) (Of y) = vertex_cmp x y
+step_cmp (Of x) (Of y) = pair_cmp x y
 
 -- the order of edges: by the step that they leave, then by the vertex that they lead to
 abbrev pub edge_cmp : Edge → Edge → Ordering
-edge_cmp a b = ordering_then (step_cmp a.from b.from) (vertex_cmp a.to b.to)
+edge_cmp a b = ordering_then (step_cmp a.from b.from) (pair_cmp a.to b.to)

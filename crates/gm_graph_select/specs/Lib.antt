@@ -1,6 +1,7 @@
-pub mod Candidates
 pub mod Graph
 pub mod Adjacency
+pub mod EdgeList
+pub mod Marking
 pub mod StepOrder
 pub mod Order
 pub mod BuildList

@@ -5,7 +5,8 @@ use Rattle.gm_graph_select.specs.declared.step.Edge.{Edge}
 use Rattle.gm_graph_select.specs.declared.step.Step.{Step}
 use Rattle.gm_graph_select.specs.declared.step.Step.TheVariants.{Main, Of}
 use Rattle.gm_graph_select.specs.Adjacency.{GraphView, vertex_at}
-use Rattle.gm_graph_select.specs.Graph.{Vertex, Edges, among, edge, vertex_cmp}
+use Rattle.gm_graph_select.specs.Graph.{Vertex, Edges, among, edge}
+use Rattle.gm_name.specs.PairOrder.{pair_cmp}
 use Rattle.gm_graph_select.specs.Order.{IsAscending}
 
 -- the steps, by number
@@ -20,7 +21,7 @@ graph_edges graph = among graph.edges
 
 -- The vertices are in strictly ascending order, and edges lead from the main module and the vertices to vertices.
 pub record IsGraph (graph : GraphView) : Type 0 where
-  pub ascending : IsAscending vertex_cmp graph.vertices
+  pub ascending : IsAscending pair_cmp graph.vertices
   pub left : (e : Edge) → Contains graph.edges e → Contains (steps_of graph) e.from
   pub ends : (e : Edge) → Contains graph.edges e → Contains graph.vertices e.to
 

@@ -1,20 +1,34 @@
 -- The ranks of vertices: their places in ascending order.
-use Rattle.std.specs.Prelude.{◌≡◌, ◌<◌, ℕ, List, Contains, length, map, slice_index_or}
+use Rattle.std.specs.Prelude.{◌≡◌, ◌<◌, ◌≤◌, ℕ, Bool, List, All, AllPairs, Contains, length}
 use Rattle.gm_graph_select.specs.declared.ranking.Numbered.{Numbered}
 use Rattle.gm_graph_select.specs.Adjacency.{rank_of, vertex_at}
 use Rattle.gm_graph_select.specs.Graph.{Vertex}
+use Rattle.gm_graph_select.specs.Marking.{HasMark}
 
--- The rank of each vertex of the first list is its place in the second.
-pub record AreRanks (vertices ordered : List Vertex) (ranks : List ℕ) : Type 0 where
-  pub count : length ranks ≡ length vertices
-  pub within : (number : ℕ) → number < length vertices → rank_of ranks number < length ordered
-  pub same : (number : ℕ) → number < length vertices
-      → vertex_at ordered (rank_of ranks number) ≡ vertex_at vertices number
+-- The rank of each marked module is its place among the vertices.
+pub record AreRanks (modules : List Vertex) (marks : List Bool) (vertices : List Vertex) (ranks : List ℕ) : Type 0 where
+  pub count : length ranks ≡ length modules
+  pub within : (number : ℕ) → HasMark marks number → rank_of ranks number < length vertices
+  pub same : (number : ℕ) → HasMark marks number → vertex_at vertices (rank_of ranks number) ≡ vertex_at modules number
 
--- These are the vertices in order, each with its place as its number.
-pub record AreNumberedByPlace (vertices : List Vertex) (all : List Numbered) : Type 0 where
-  pub vertices_are : map (λ one. one.vertex) all ≡ vertices
-  pub numbers_are : (k : ℕ) (d : Numbered) → k < length all → (slice_index_or all k d).number ≡ k
+-- One of the modules that are marked.
+abbrev pub IsMarkedModule : List Vertex → List Bool → Vertex → Type 0
+IsMarkedModule modules marks x = (number : ℕ) × (number < length modules) × HasMark marks number
+    × (vertex_at modules number ≡ x)
+
+-- The vertex is a marked module, and its number is that of the module.
+pub record IsPlaced (modules : List Vertex) (marks : List Bool) (one : Numbered) : Type 0 where
+  pub within : one.number < length modules
+  pub marked : HasMark marks one.number
+  pub is : one.vertex ≡ vertex_at modules one.number
+
+-- These are the marked modules with their numbers, in ascending order.
+pub record AreMarkedModules (modules : List Vertex) (marks : List Bool) (all : List Numbered) : Type 0 where
+  pub few : length all ≤ length modules
+  pub placed : All (IsPlaced modules marks) all
+  pub each : (number : ℕ) → number < length modules → HasMark marks number
+      → (one : Numbered) × Contains all one × (one.number ≡ number)
+  pub ascending : AllPairs (λ a b. a.number < b.number) all
 
 -- A number has only one vertex.
 abbrev pub HaveOneVertexEach : List Numbered → Type 0

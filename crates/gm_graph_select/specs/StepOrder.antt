@@ -10,9 +10,10 @@ use Rattle.gm_name.specs.VersionOrder.{then_second, version-anti, version_total}
 use Rattle.gm_graph_select.specs.declared.step.Step.{Step}
 use Rattle.gm_graph_select.specs.declared.step.Step.TheVariants.{Main, Of}
 use Rattle.gm_graph_select.specs.declared.step.Edge.{Edge}
-use Rattle.gm_graph_select.specs.Graph.{Vertex, edge, vertex_cmp, step_cmp, edge_cmp}
+use Rattle.gm_graph_select.specs.Graph.{Vertex, edge, step_cmp, edge_cmp}
+use Rattle.gm_name.specs.PairOrder.{pair_cmp}
 
-pub vertex_total : IsTotalOrder vertex_cmp
+pub vertex_total : IsTotalOrder pair_cmp
 vertex_total = then_total (on_total (λ (x : Vertex). x.0) nat_list_cmp_total)
     (on_total (λ (x : Vertex). x.1) version_total)
 
@@ -22,7 +23,7 @@ then_first Equal s e = refl
 then_first Greater s e = e
 
 -- Two vertices that compare as equal are the same.
-pub vertex-anti : (x y : Vertex) → vertex_cmp x y ≡ Equal → x ≡ y
+pub vertex-anti : (x y : Vertex) → pair_cmp x y ≡ Equal → x ≡ y
 vertex-anti (p, v) (q, w) e =
     let paths : p ≡ q = slice_cmp-IsAntisymmetric nat_cmp-IsAntisymmetric p q (then_first _ _ e) in
     let versions : v ≡ w = version-anti v w (then_second _ _ e) in

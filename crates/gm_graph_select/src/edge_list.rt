@@ -1,113 +1,169 @@
-//! The edges of adjacency lists, as a list.
+//! The edges of adjacency lists, one after the other, without a copy of any module.
 
-ghost use Rattle.std.specs.Prelude.{◌≡◌, ◌++◌, ◌∷◌, [], ◌<◌, ◌≤◌, All, IfOk, OnOk, length, map};
-ghost use Rattle.std.specs.List.{sum_by};
-ghost use Rattle.gm_graph_select.specs.Adjacency.{HaveNumbers, IsBelow, IsNumbered, edges_from, edges_of, step_with, vertex_at};
-ghost use Rattle.gm_graph_select.specs.Graph.{edge};
+ghost use Rattle.std.specs.Prelude.{◌≡◌, ◌∷◌, ◌<◌, [], IfNone, IfOk, IfSome, length};
+ghost use Rattle.std.specs.Iterator.{YieldsFirst, YieldsFirstBy, item_count};
+ghost use Rattle.gm_graph_select.specs.Adjacency.{HaveNumbers, IsBelow, edges_of, step_with};
+ghost use Rattle.gm_graph_select.specs.EdgeList.{edge_of_ref, numbered_edges, step_of_ref};
 
 use crate::adjacency::Adjacency;
 use crate::step::{Edge, Step};
 use gm_name::ModVer;
 use std::alloc::{AllocError, Global};
+use std::marker::Model;
 
-/// The step with this number; the main module has none.
-fn step_with(alloc: Global, vertices: &[ModVer], number: Option<u32>) -> Result<Step, AllocError>
+/// The edges of adjacency lists, each as the numbers of its ends. A clause sees those that are still to come.
+#[derive(Drop)]
+pub(crate) struct Pairs<'a> {
+    /// The number of the vertex that the next edges leave, or `None` for the main module.
+    from: Option<u32>,
+    /// The numbers of the vertices that these edges lead to.
+    to: &'a [u32],
+    /// The adjacency lists of the edges after them.
+    rest: &'a [Adjacency],
+}
+
+impl<'a> Model for Pairs<'a> {
+    ghost use Rattle.std.specs.Prelude.{◌++◌, List};
+    ghost use Rattle.gm_graph_select.specs.EdgeList.{NumberedEdge, numbered_from, numbered_edges};
+
+    ghost Value = { List NumberedEdge };
+
+    ghost view = { λ p. numbered_from p.from p.to.now ++ numbered_edges p.rest.now };
+}
+
+impl<'a> Pairs<'a> {
+    /// The edges of all adjacency lists.
+    fn all(lists: &'a [Adjacency]) -> Pairs<'a>
+        ensures { result ≡ numbered_edges lists.now }
+    {
+        Pairs {
+            from: None,
+            to: &[],
+            rest: lists,
+        }
+    }
+}
+
+/// The first edge of adjacency lists, and those after it.
+fn first_of(lists: &[Adjacency]) -> Option<((Option<u32>, u32), Pairs<'_>)>
+    ensures some { IfSome result (λ found. numbered_edges lists.now ≡ found.0 ∷ found.1) }
+    ensures none { IfNone result (numbered_edges lists.now ≡ []) }
+{
+    for (place, one) in lists.iter().enumerate() {
+        if let Some((number, to)) = one.to.split_first() {
+            let rest = Pairs {
+                from: one.from,
+                to,
+                rest: &lists[place + 1..],
+            };
+            return Some(((one.from, *number), rest));
+        }
+    }
+    None
+}
+
+impl<'a> Iterator for Pairs<'a> {
+    /// The numbers of the vertex that the edge leaves, if it isn't the main module, and of that it leads to.
+    type Item = (Option<u32>, u32);
+
+    ghost next_gives = { YieldsFirst (λ pairs. pairs) };
+
+    ghost remaining = { item_count (λ pairs. pairs) };
+
+    /// The next edge, or `None` after the last one.
+    fn next(&mut self) -> Option<(Option<u32>, u32)> {
+        if let Some((number, to)) = self.to.split_first() {
+            self.to = to;
+            return Some((self.from, *number));
+        }
+        let (pair, rest) = first_of(self.rest)?;
+        *self = rest;
+        Some(pair)
+    }
+}
+
+/// An edge that a graph lends.
+#[derive(Clone, Copy, Debug, PartialEq, Eq)]
+pub struct EdgeRef<'a> {
+    /// The module that requires, or `None` for the main module.
+    pub from: Option<&'a ModVer>,
+    /// The module that it requires.
+    pub to: &'a ModVer,
+}
+
+impl<'a> EdgeRef<'a> {
+    /// The edge, which shares the texts of its modules. The only refusal is `AllocError`, if memory runs out.
+    pub fn to_edge(&self, alloc: Global) -> Result<Edge, AllocError>
+        ensures { IfOk result (λ edge. edge ≡ edge_of_ref self.now) }
+    {
+        let from = match self.from {
+            None => Step::Main,
+            Some(vertex) => Step::Of(vertex.copy(alloc)?),
+        };
+        let to = self.to.copy(alloc)?;
+        Ok(Edge { from, to })
+    }
+}
+
+/// Edges in order, which a clause sees as the list of those that are still to come. It takes no memory.
+#[derive(Drop)]
+pub struct Edges<'a> {
+    /// The vertices of the graph.
+    vertices: &'a [ModVer],
+    /// The edges that are still to come, by the numbers of these vertices.
+    pairs: Pairs<'a>,
+}
+
+impl<'a> Model for Edges<'a> {
+    ghost use Rattle.std.specs.Prelude.{All, List, length, map};
+    ghost use Rattle.gm_graph_select.specs.declared.step.Edge.{Edge};
+    ghost use Rattle.gm_graph_select.specs.EdgeList.{AreEndsBelow, edge_with};
+
+    ghost Value = { List Edge };
+
+    ghost view = { λ e. map (edge_with e.vertices.now) e.pairs };
+
+    ghost invariant = { λ e. All (AreEndsBelow (length e.vertices.now)) e.pairs };
+}
+
+/// The vertex with this number, or `None` for the main module.
+fn vertex_with(vertices: &[ModVer], number: Option<u32>) -> Option<&ModVer>
     requires { IsBelow (length vertices.now) number }
-    ensures { IfOk result (λ step. step ≡ step_with vertices.now number) }
+    ensures { step_of_ref result ≡ step_with vertices.now number }
 {
     match number {
-        None => Ok(Step::Main),
-        Some(number) => Ok(Step::Of(vertices[number as usize].copy(alloc)?)),
+        None => None,
+        Some(number) => Some(&vertices[number as usize]),
     }
 }
 
-/// Appends the edge from a step to a vertex.
-fn push_edge(
-    alloc: Global,
-    edges: &mut Vec<Edge>,
-    from: &Step,
-    to: &ModVer,
-) -> Result<(), AllocError>
-    ensures { OnOk result (edges.new.items ≡ edges.old.items ++ edge from.now to.now ∷ []) }
-{
-    edges.push(Edge {
-        from: from.copy(alloc)?,
-        to: to.copy(alloc)?,
-    })?;
-    Ok(())
-}
+impl<'a> Iterator for Edges<'a> {
+    /// An edge of the list.
+    type Item = EdgeRef<'a>;
 
-/// Appends the edges from a step to each of the vertices with these numbers.
-fn push_edges_to(
-    alloc: Global,
-    edges: &mut Vec<Edge>,
-    vertices: &[ModVer],
-    from: &Step,
-    to: &[u32],
-) -> Result<(), AllocError>
-    requires { All (λ number. number < length vertices.now) to.now }
-    ensures { OnOk result (edges.new.items
-        ≡ edges.old.items ++ map (λ number. edge from.now (vertex_at vertices.now number)) to.now) }
-{
-    for number in to {
-        push_edge(alloc, edges, from, &vertices[*number as usize])?;
+    ghost next_gives = { YieldsFirstBy edge_of_ref (λ edges. edges) };
+
+    ghost remaining = { item_count (λ edges. edges) };
+
+    /// The next edge, or `None` after the last one.
+    fn next(&mut self) -> Option<EdgeRef<'a>> {
+        let (from, to) = self.pairs.next()?;
+        Some(EdgeRef {
+            from: vertex_with(self.vertices, from),
+            to: &self.vertices[to as usize],
+        })
     }
-    Ok(())
 }
 
-/// Appends the edges of an adjacency list.
-fn push_edges_from(
-    alloc: Global,
-    edges: &mut Vec<Edge>,
-    vertices: &[ModVer],
-    one: &Adjacency,
-) -> Result<(), AllocError>
-    requires { IsNumbered (length vertices.now) one.now }
-    ensures { OnOk result (edges.new.items ≡ edges.old.items ++ edges_from vertices.now one.now) }
-{
-    let from = step_with(alloc, vertices, one.from)?;
-    push_edges_to(alloc, edges, vertices, &from, &one.to)?;
-    Ok(())
-}
-
-/// Appends the edges of all adjacency lists.
-fn push_all_edges(
-    alloc: Global,
-    edges: &mut Vec<Edge>,
-    vertices: &[ModVer],
-    all: &[Adjacency],
-) -> Result<(), AllocError>
-    requires { HaveNumbers (length vertices.now) all.now }
-    ensures { OnOk result (edges.new.items ≡ edges.old.items ++ edges_of vertices.now all.now) }
-{
-    for one in all {
-        push_edges_from(alloc, edges, vertices, one)?;
+impl<'a> Edges<'a> {
+    /// The edges of all adjacency lists, by the numbers of these vertices.
+    pub(crate) fn all(vertices: &'a [ModVer], lists: &'a [Adjacency]) -> Edges<'a>
+        requires { HaveNumbers (length vertices.now) lists.now }
+        ensures { result ≡ edges_of vertices.now lists.now }
+    {
+        Edges {
+            vertices,
+            pairs: Pairs::all(lists),
+        }
     }
-    Ok(())
-}
-
-/// How many edges adjacency lists have. It is only used to reserve memory, so it may stop at the greatest `usize`. It
-/// is never more than there are.
-fn count(all: &[Adjacency]) -> usize
-    ensures { result ≤ sum_by (λ one. length one.to.items) all.now }
-{
-    let mut edges: usize = 0;
-    for one in all {
-        edges = edges.saturating_add(one.to.len());
-    }
-    edges
-}
-
-/// The edges of adjacency lists, by the numbers of these vertices.
-pub(crate) fn all_edges(
-    alloc: Global,
-    vertices: &[ModVer],
-    all: &[Adjacency],
-) -> Result<Vec<Edge>, AllocError>
-    requires { HaveNumbers (length vertices.now) all.now }
-    ensures { IfOk result (λ edges. edges.items ≡ edges_of vertices.now all.now) }
-{
-    let mut edges = Vec::with_capacity(alloc, count(all))?;
-    push_all_edges(alloc, &mut edges, vertices, all)?;
-    Ok(edges)
 }

@@ -3,22 +3,21 @@
 //! The vertices are sorted once. From then on a vertex is its rank, its place in the sorted list, so that edges are in
 //! order if their ranks are.
 
-ghost use Rattle.std.specs.Prelude.{◌≡◌, ◌≤◌, IfOk, length};
+ghost use Rattle.std.specs.Prelude.{◌≡◌, ◌↔◌, ◌⊎◌, ◌≤◌, Contains, IfOk, length};
 ghost use Rattle.std.specs.List.{IsDistinct};
 ghost use Rattle.gm_name.specs.PairOrder.{pair_eq};
-ghost use Rattle.gm_graph_select.specs.Adjacency.{HaveNumbers, edges_of, same_step};
-ghost use Rattle.gm_graph_select.specs.BuildList.{IsBuildList, entries_of_rows, main_path, main_replaces};
-ghost use Rattle.gm_graph_select.specs.Graph.{AreEnds, among, edge_cmp};
+ghost use Rattle.gm_graph_select.specs.Adjacency.{HaveNumbers, edges_of, same_step, sources_of};
+ghost use Rattle.gm_graph_select.specs.declared.step.Step.TheVariants.{Of};
+ghost use Rattle.gm_graph_select.specs.BuildList.{AreSelected};
+ghost use Rattle.gm_graph_select.specs.Graph.{AreEnds, IsEdgeEnd, Vertex, among, edge_cmp};
 ghost use Rattle.gm_graph_select.specs.Order.{HaveSame, IsAscending};
 
 use crate::adjacency::{Adjacency, by_ranks};
-use crate::edge_list::all_edges;
+use crate::edge_list::Edges;
+use crate::marking::marks_of;
 use crate::ranking::ranked;
-use crate::row::Row;
-use crate::selecting::rows_of;
-use crate::step::Edge;
-use gm_file::MainFile;
-use gm_name::{ModVer, NoMemory};
+use crate::selecting::Selection;
+use gm_name::{ModPath, ModVer, NoMemory};
 use std::alloc::Global;
 use std::marker::Model;
 
@@ -42,25 +41,28 @@ impl Model for Graph {
 }
 
 impl Graph {
-    /// The graph of these vertices, which are distinct, and of these edges by the numbers of the vertices, with at most
-    /// one adjacency list for each step. An adjacency list may have its numbers in any order, and twice.
+    /// The graph of these edges by the numbers of modules, with at most one adjacency list for each step. An adjacency
+    /// list may have its numbers in any order, and twice. The modules are distinct; those that no edge leads to and no
+    /// adjacency list leaves are left out.
     ///
     /// The only refusal is `NoMemory`. For n vertices and m edges it takes n log n comparisons of vertices, and of
     /// numbers m log m at most.
     pub fn new(
         alloc: Global,
-        vertices: Vec<ModVer>,
+        modules: Vec<ModVer>,
         adjacency: Vec<Adjacency>,
     ) -> Result<Graph, NoMemory>
-        requires few { length vertices.items ≤ 4294967295 }
-        requires distinct { IsDistinct pair_eq vertices.items }
-        requires numbered { HaveNumbers (length vertices.items) adjacency.items }
-        requires once { IsDistinct (same_step vertices.items) adjacency.items }
-        ensures vertices { IfOk result (λ graph. HaveSame vertices.items graph.vertices) }
-        ensures edges { IfOk result (λ graph. HaveSame (edges_of vertices.items adjacency.items) graph.edges) }
+        requires few { length modules.items ≤ 4294967295 }
+        requires distinct { IsDistinct pair_eq modules.items }
+        requires numbered { HaveNumbers (length modules.items) adjacency.items }
+        requires once { IsDistinct (same_step modules.items) adjacency.items }
+        ensures vertices { IfOk result (λ graph. (x : Vertex) → Contains graph.vertices x
+            ↔ (IsEdgeEnd (among graph.edges) x ⊎ Contains (sources_of modules.items adjacency.items) (Of x))) }
+        ensures edges { IfOk result (λ graph. HaveSame (edges_of modules.items adjacency.items) graph.edges) }
         ensures ascending { IfOk result (λ graph. IsAscending edge_cmp graph.edges) }
     {
-        let ranking = ranked(alloc, vertices)?;
+        let is_vertex = marks_of(alloc, modules.len(), &adjacency)?;
+        let ranking = ranked(alloc, modules, &is_vertex)?;
         let adjacency = by_ranks(adjacency, &ranking.ranks);
         Ok(Graph {
             vertices: ranking.vertices,
@@ -68,23 +70,19 @@ impl Graph {
         })
     }
 
-    /// A copy of the edges, in strictly ascending order. The only refusal is `NoMemory`.
-    pub fn edges(&self, alloc: Global) -> Result<Vec<Edge>, NoMemory>
-        ensures { IfOk result (λ edges. edges.items ≡ self.now.edges) }
+    /// The edges, in strictly ascending order. It takes no memory.
+    pub fn edges(&self) -> Edges<'_>
+        ensures { result ≡ self.now.edges }
     {
-        let edges = all_edges(alloc, &self.vertices, &self.adjacency)?;
-        Ok(edges)
+        Edges::all(&self.vertices, &self.adjacency)
     }
 
-    /// The build list (Go Modules Reference, "Minimal version selection"). It begins with the main module. Each other
-    /// path of a vertex follows once, at its greatest version, in ascending order of the bytes of the path. Each row
-    /// has the replacement from the main file. The only refusal is `NoMemory`.
-    pub fn build_list(&self, alloc: Global, main: &MainFile<'_>) -> Result<Vec<Row>, NoMemory>
-        ensures { IfOk result (λ rows. AreEnds self.now.vertices (among self.now.edges)
-            → IsBuildList (main_path main.now) (main_replaces main.now) (among self.now.edges)
-            (entries_of_rows rows.items)) }
+    /// The selected modules (Go Modules Reference, "Minimal version selection"). Each path of a vertex but the main
+    /// module's comes once, at its greatest version, in ascending order of the bytes of the path. It takes no memory.
+    pub fn selected<'a>(&'a self, main: &'a ModPath) -> Selection<'a>
+        ensures { AreEnds self.now.vertices (among self.now.edges)
+            → AreSelected main.now (among self.now.edges) result }
     {
-        let rows = rows_of(alloc, main, &self.vertices)?;
-        Ok(rows)
+        Selection::among(main, &self.vertices)
     }
 }

@@ -1,6 +1,7 @@
-//! What follows from the edges of a module graph: the build list, the rest of it after an entry, and shortest
-//! chains of requirements (Go Modules Reference, "Minimal version selection",
-//! <https://go.dev/ref/mod#minimal-version-selection>).
+//! What follows from a module graph's edges: the build list and shortest chains of requirements.
+//!
+//! The rules are those of the Go Modules Reference ("Minimal version selection",
+//! <https://go.dev/ref/mod#minimal-version-selection>). `rest_after` gives the rest of a build list after an entry.
 //!
 //! An edge leads from the main module, or from a module path at a version, to a module path at a version that it
 //! requires. Minimal version selection takes, for each path, the greatest version that any edge leads to. The chain
@@ -18,8 +19,8 @@ mod adjacency;
 mod chaining;
 mod edge_list;
 mod graph;
-mod highest;
 pub mod laws;
+mod marking;
 mod numbering;
 mod ranking;
 mod row;
@@ -30,8 +31,9 @@ mod step;
 
 pub use crate::adjacency::Adjacency;
 pub use crate::chaining::ChainFault;
+pub use crate::edge_list::{EdgeRef, Edges};
 pub use crate::graph::Graph;
 pub use crate::row::{NotListed, Row, Rows, rest_after};
-pub use crate::selecting::build_list;
-pub use crate::sorting::{is_ascending, sorted, sorted_edges};
+pub use crate::selecting::{Selection, selected};
+pub use crate::sorting::{is_ascending, sorted, sorted_edges, sorted_vertices};
 pub use crate::step::{Edge, Step};

@@ -1,11 +1,11 @@
 //! The ranks of vertices: their places in ascending order.
 
-ghost use Rattle.std.specs.Prelude.{◌≡◌, ◌<◌, ◌≤◌, ◌++◌, ◌∷◌, [], All, IfOk, OnOk, length, map, slice_set};
+ghost use Rattle.std.specs.Prelude.{◌≡◌, ◌↔◌, ◌<◌, ◌≤◌, ◌++◌, ◌∷◌, [], All, Contains, IfOk, OnOk, if◌then◌else◌, length, map, slice_set};
 ghost use Rattle.std.specs.List.{IsDistinct};
-ghost use Rattle.gm_name.specs.PairOrder.{pair_eq};
-ghost use Rattle.gm_graph_select.specs.Graph.{vertex_cmp};
-ghost use Rattle.gm_graph_select.specs.Order.{HaveSame, IsAscending};
-ghost use Rattle.gm_graph_select.specs.Ranking.{AreNumberedByPlace, AreRanks, HaveOneVertexEach, IsRanked};
+ghost use Rattle.gm_name.specs.PairOrder.{pair_cmp, pair_eq};
+ghost use Rattle.gm_graph_select.specs.Graph.{Vertex};
+ghost use Rattle.gm_graph_select.specs.Order.{IsAscending};
+ghost use Rattle.gm_graph_select.specs.Ranking.{AreMarkedModules, AreRanks, HaveOneVertexEach, IsMarkedModule, IsRanked};
 
 use gm_name::ModVer;
 use std::alloc::{AllocError, Global};
@@ -24,31 +24,48 @@ struct Numbered {
 pub(crate) struct Ranking {
     /// The vertices, in ascending order.
     pub(crate) vertices: Vec<ModVer>,
-    /// The rank of each vertex, its place in that list, by its number.
+    /// By the numbers of the modules, the rank of each that is a vertex, its place in that list, and 0 for the others.
     pub(crate) ranks: Vec<u32>,
 }
 
-/// These vertices, each with its place in the list as its number.
-fn with_numbers(alloc: Global, vertices: Vec<ModVer>) -> Result<Vec<Numbered>, AllocError>
-    requires { length vertices.items ≤ 4294967295 }
-    ensures { IfOk result (λ all. AreNumberedByPlace vertices.items all.items) }
+/// Appends a module if it is marked.
+fn push_marked(all: &mut Vec<Numbered>, is_marked: bool, next: Numbered) -> Result<(), AllocError>
+    ensures { OnOk result (all.new.items ≡ (if is_marked then all.old.items ++ next ∷ [] else all.old.items)) }
 {
-    let mut all = Vec::with_capacity(alloc, vertices.len())?;
-    for vertex in vertices {
-        let number = all.len() as u32;
-        all.push(Numbered { vertex, number })?;
+    if is_marked {
+        all.push(next)?;
+    }
+    Ok(())
+}
+
+/// The modules that are marked, each with its place in the list as its number.
+fn with_numbers(
+    alloc: Global,
+    modules: Vec<ModVer>,
+    is_vertex: &[bool],
+) -> Result<Vec<Numbered>, AllocError>
+    requires few { length modules.items ≤ 4294967295 }
+    requires marks { length is_vertex.now ≡ length modules.items }
+    ensures { IfOk result (λ all. AreMarkedModules modules.items is_vertex.now all.items) }
+{
+    let mut all = Vec::new(alloc);
+    let mut number: u32 = 0;
+    for vertex in modules {
+        let is_marked = is_vertex[number as usize];
+        push_marked(&mut all, is_marked, Numbered { vertex, number })?;
+        number += 1;
     }
     Ok(all)
 }
 
 impl Ranking {
-    /// No vertices, and room for the ranks of this many.
-    fn with_capacity(alloc: Global, count: usize) -> Result<Ranking, AllocError>
+    /// No vertices, with room for so many, and a rank for each of so many modules.
+    fn with_capacity(alloc: Global, vertices: usize, modules: usize) -> Result<Ranking, AllocError>
         ensures vertices { IfOk result (λ ranking. ranking.vertices.items ≡ []) }
-        ensures ranks { IfOk result (λ ranking. length ranking.ranks.items ≡ count) }
+        ensures ranks { IfOk result (λ ranking. length ranking.ranks.items ≡ modules) }
     {
-        let vertices = Vec::with_capacity(alloc, count)?;
-        let ranks = vec![in alloc; 0; count]?;
+        let vertices = Vec::with_capacity(alloc, vertices)?;
+        let ranks = vec![in alloc; 0; modules]?;
         Ok(Ranking { vertices, ranks })
     }
 
@@ -66,33 +83,39 @@ impl Ranking {
     }
 }
 
-/// The vertices in the order of this list, and their ranks.
-fn ranking_of(alloc: Global, all: Vec<Numbered>) -> Result<Ranking, AllocError>
+/// The vertices in the order of this list, and their ranks, among those of so many modules.
+fn ranking_of(alloc: Global, all: Vec<Numbered>, modules: usize) -> Result<Ranking, AllocError>
     requires few { length all.items ≤ 4294967295 }
-    requires within { All (λ one. one.number < length all.items) all.items }
+    requires within { All (λ one. one.number < modules) all.items }
     requires once { HaveOneVertexEach all.items }
     ensures vertices { IfOk result (λ ranking. ranking.vertices.items ≡ map (λ one. one.vertex) all.items) }
-    ensures count { IfOk result (λ ranking. length ranking.ranks.items ≡ length all.items) }
+    ensures count { IfOk result (λ ranking. length ranking.ranks.items ≡ modules) }
     ensures ranks { IfOk result (λ ranking. All (IsRanked ranking.vertices.items ranking.ranks.items) all.items) }
 {
-    let mut ranking = Ranking::with_capacity(alloc, all.len())?;
+    let mut ranking = Ranking::with_capacity(alloc, all.len(), modules)?;
     for next in all {
         ranking.push(next)?;
     }
     Ok(ranking)
 }
 
-/// These vertices in ascending order, and their ranks. For n vertices it takes n log n comparisons.
-pub(crate) fn ranked(alloc: Global, vertices: Vec<ModVer>) -> Result<Ranking, AllocError>
-    requires few { length vertices.items ≤ 4294967295 }
-    requires distinct { IsDistinct pair_eq vertices.items }
-    ensures same { IfOk result (λ ranking. HaveSame vertices.items ranking.vertices.items) }
-    ensures ascending { IfOk result (λ ranking. IsAscending vertex_cmp ranking.vertices.items) }
+/// The modules that are vertices, in ascending order, and their ranks. For n vertices it takes n log n comparisons.
+pub(crate) fn ranked(
+    alloc: Global,
+    modules: Vec<ModVer>,
+    is_vertex: &[bool],
+) -> Result<Ranking, AllocError>
+    requires few { length modules.items ≤ 4294967295 }
+    requires distinct { IsDistinct pair_eq modules.items }
+    requires marks { length is_vertex.now ≡ length modules.items }
+    ensures vertices { IfOk result (λ ranking. (x : Vertex) → Contains ranking.vertices.items x
+        ↔ IsMarkedModule modules.items is_vertex.now x) }
+    ensures ascending { IfOk result (λ ranking. IsAscending pair_cmp ranking.vertices.items) }
     ensures ranks { IfOk result (λ ranking.
-        AreRanks vertices.items ranking.vertices.items ranking.ranks.items) }
+        AreRanks modules.items is_vertex.now ranking.vertices.items ranking.ranks.items) }
 {
-    let mut all = with_numbers(alloc, vertices)?;
+    let mut all = with_numbers(alloc, modules, is_vertex)?;
     all.sort_unstable();
-    let ranking = ranking_of(alloc, all)?;
+    let ranking = ranking_of(alloc, all, is_vertex.len())?;
     Ok(ranking)
 }

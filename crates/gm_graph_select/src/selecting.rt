@@ -3,24 +3,17 @@
 //! Sorted by path and version, the greatest version of each path is the last vertex of its path, so one pass
 //! selects them all.
 
-ghost use Rattle.std.specs.Prelude.{◌≡◌, ◌∷◌, ◌++◌, [], IfOk, List, OnOk, if◌then◌else◌, map};
-ghost use Rattle.std.specs.Option.{option_map};
-ghost use Rattle.gm_file.specs.Fields.{replacement_of};
-ghost use Rattle.gm_file.specs.Views.{right_view};
+ghost use Rattle.std.specs.Prelude.{◌≡◌, ◌∷◌, [], IfNone, IfSome, List};
+ghost use Rattle.std.specs.Iterator.{YieldsFirstRef, item_count};
 ghost use Rattle.gm_graph_select.specs.declared.step.Edge.{Edge};
-ghost use Rattle.gm_graph_select.specs.Candidates.{HaveHighest};
-ghost use Rattle.gm_graph_select.specs.Graph.{AreEnds, among, vertex_cmp};
-ghost use Rattle.gm_graph_select.specs.Order.{IsAscending};
+ghost use Rattle.gm_graph_select.specs.BuildList.{AreSelected};
+ghost use Rattle.gm_graph_select.specs.Graph.{AreEnds, among};
+ghost use Rattle.gm_name.specs.PairOrder.{pair_cmp};
 ghost use Rattle.gm_graph_select.specs.Greatest.{first_has_path, greatest_of, is_selected};
-ghost use Rattle.gm_graph_select.specs.BuildList.{IsBuildList, entries_of_rows, entry_of, entry_of_row, main_entry, main_path, main_replaces};
+ghost use Rattle.gm_graph_select.specs.Order.{IsAscending};
 
-use crate::highest::highest_of;
-use crate::row::Row;
-use crate::sorting::{is_ascending, sorted};
-use crate::step::Step;
-use gm_file::{MainFile, Right};
-use gm_name::{ModPath, ModVer, NoMemory};
-use std::alloc::{AllocError, Global};
+use gm_name::{ModPath, ModVer};
+use std::marker::Model;
 
 /// Whether the first of these vertices has the path.
 fn begins_with(path: &ModPath, vertices: &[ModVer]) -> bool
@@ -41,109 +34,77 @@ fn is_selected(main: &ModPath, vertex: &ModVer, behind: &[ModVer]) -> bool
     !begins_with(vertex.path(), behind) && *vertex.path() != *main
 }
 
-/// A copy of the replacement of a vertex in the main file, if it has one.
-fn replacement_of(
-    alloc: Global,
-    main: &MainFile<'_>,
-    vertex: &ModVer,
-) -> Result<Option<Right>, AllocError>
-    ensures { IfOk result (λ right. option_map right_view right ≡ replacement_of (main_replaces main.now) vertex.now) }
+/// The first of these vertices that is selected, and the vertices after it.
+fn first_selected<'a>(main: &ModPath, vertices: &'a [ModVer]) -> Option<(&'a ModVer, &'a [ModVer])>
+    ensures some { IfSome result (λ found.
+        greatest_of main.now vertices.now ≡ found.0.now ∷ greatest_of main.now found.1.now) }
+    ensures none { IfNone result (greatest_of main.now vertices.now ≡ []) }
 {
-    match main.replacement(vertex) {
-        Some(right) => Ok(Some(right.copy(alloc)?)),
-        None => Ok(None),
+    for (place, one) in vertices.iter().enumerate() {
+        let behind = &vertices[place + 1..];
+        if is_selected(main, one, behind) {
+            return Some((one, behind));
+        }
+    }
+    None
+}
+
+/// The selected modules in order, which a clause sees as the list of those that are still to come. It takes no memory.
+#[derive(Drop)]
+pub struct Selection<'a> {
+    /// The main module's path.
+    main: &'a ModPath,
+    /// The vertices that are still to come, in ascending order.
+    rest: &'a [ModVer],
+}
+
+impl<'a> Model for Selection<'a> {
+    ghost use Rattle.std.specs.Prelude.{List};
+    ghost use Rattle.gm_graph_select.specs.Graph.{Vertex};
+    ghost use Rattle.gm_graph_select.specs.Greatest.{greatest_of};
+
+    ghost Value = { List Vertex };
+
+    ghost view = { λ s. greatest_of s.main.now s.rest.now };
+}
+
+impl<'a> Iterator for Selection<'a> {
+    /// A path at its selected version.
+    type Item = &'a ModVer;
+
+    ghost next_gives = { YieldsFirstRef (λ selected. selected) };
+
+    ghost remaining = { item_count (λ selected. selected) };
+
+    /// The next selected module, or `None` after the last one.
+    fn next(&mut self) -> Option<&'a ModVer> {
+        let (first, behind) = first_selected(self.main, self.rest)?;
+        self.rest = behind;
+        Some(first)
     }
 }
 
-/// The row of a vertex, with its replacement.
-fn row_of(alloc: Global, main: &MainFile<'_>, vertex: &ModVer) -> Result<Row, AllocError>
-    ensures { IfOk result (λ row. entry_of_row row ≡ entry_of (main_replaces main.now) vertex.now) }
-{
-    let right = replacement_of(alloc, main, vertex)?;
-    Ok(Row {
-        step: Step::Of(vertex.copy(alloc)?),
-        right,
-    })
-}
-
-/// Appends the row of a vertex if it is selected. `behind` are the vertices after it.
-fn push_selected(
-    alloc: Global,
-    main: &MainFile<'_>,
-    rows: &mut Vec<Row>,
-    vertex: &ModVer,
-    behind: &[ModVer],
-) -> Result<(), AllocError>
-    ensures { OnOk result (entries_of_rows rows.new.items ≡ entries_of_rows rows.old.items
-        ++ (if is_selected (main_path main.now) vertex.now behind.now
-        then entry_of (main_replaces main.now) vertex.now ∷ [] else [])) }
-{
-    if is_selected(main.module(), vertex, behind) {
-        rows.push(row_of(alloc, main, vertex)?)?;
+impl<'a> Selection<'a> {
+    /// Those of these vertices that are selected. The vertices must be in ascending order.
+    pub(crate) fn among(main: &'a ModPath, vertices: &'a [ModVer]) -> Selection<'a>
+        ensures { result ≡ greatest_of main.now vertices.now }
+    {
+        Selection {
+            main,
+            rest: vertices,
+        }
     }
-    Ok(())
 }
 
-/// The rows of the build list before all vertices: that of the main module.
-fn main_row(alloc: Global) -> Result<Vec<Row>, AllocError>
-    ensures { IfOk result (λ rows. entries_of_rows rows.items ≡ main_entry ∷ []) }
-{
-    let mut rows = Vec::new(alloc);
-    rows.push(Row {
-        step: Step::Main,
-        right: None,
-    })?;
-    Ok(rows)
-}
-
-/// The main module's row, followed by the row of the greatest version of each path. The vertices must be in
-/// ascending order.
-pub(crate) fn rows_of(
-    alloc: Global,
-    main: &MainFile<'_>,
-    ends: &[ModVer],
-) -> Result<Vec<Row>, AllocError>
-    ensures { IfOk result (λ rows. entries_of_rows rows.items
-        ≡ main_entry ∷ map (entry_of (main_replaces main.now)) (greatest_of (main_path main.now) ends.now)) }
-{
-    let mut rows = main_row(alloc)?;
-    let mut left = ends;
-    'ends: while let Some((end, behind)) = left.split_first() {
-        push_selected(alloc, main, &mut rows, end, behind)?;
-        left = behind;
-    }
-    Ok(rows)
-}
-
-/// Some of these vertices in strictly ascending order, among them the highest version of each path.
-fn highest_in_order(alloc: Global, ends: Vec<ModVer>) -> Result<Vec<ModVer>, AllocError>
-    ensures ascending { IfOk result (λ some. IsAscending vertex_cmp some.items) }
-    ensures highest { IfOk result (λ some. HaveHighest ends.items some.items) }
-{
-    // Those of a graph that is not pruned come in order.
-    if is_ascending(&ends) {
-        return Ok(ends);
-    }
-    Ok(sorted(highest_of(alloc, ends)?))
-}
-
-/// The build list of a module graph (Go Modules Reference, "Minimal version selection"). It begins with the main
-/// module. Each other path that an edge leads to follows once, at the greatest version that an edge leads to, in
-/// ascending order of the bytes of the path. Each row has the replacement from the main file. `ends` are the
-/// vertices that edges lead to, in any order; duplicates are allowed.
+/// The modules that are selected from a module graph (Go Modules Reference, "Minimal version selection"). Each path
+/// but the main module's that an edge leads to comes once, at the greatest version that an edge leads to, in ascending
+/// order of the bytes of the path. `ends` are the vertices that edges lead to, as `sorted_vertices` puts them in order.
 ///
-/// The only refusal is `NoMemory`, if memory runs out. For n vertices it takes n log n comparisons at most, and memory
-/// for the rows and, where the vertices don't come in ascending order, for those that may be selected and a map of their
-/// paths.
-pub fn build_list(
-    alloc: Global,
-    main: &MainFile<'_>,
-    ends: Vec<ModVer>,
-) -> Result<Vec<Row>, NoMemory>
-    ensures { IfOk result (λ rows. (edges : List Edge) → AreEnds ends.items (among edges)
-        → IsBuildList (main_path main.now) (main_replaces main.now) (among edges) (entries_of_rows rows.items)) }
+/// It takes no memory, and two comparisons of paths for each vertex at most.
+pub fn selected<'a>(main: &'a ModPath, ends: &'a [ModVer]) -> Selection<'a>
+    requires { IsAscending pair_cmp ends.now }
+    ensures { (edges : List Edge) → AreEnds ends.now (among edges)
+        → AreSelected main.now (among edges) result }
 {
-    let ends = highest_in_order(alloc, ends)?;
-    let rows = rows_of(alloc, main, &ends)?;
-    Ok(rows)
+    Selection::among(main, ends)
 }

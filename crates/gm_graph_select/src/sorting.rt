@@ -4,9 +4,11 @@
 
 ghost use Rattle.std.specs.Prelude.{◌≡◌, false, true};
 ghost use Rattle.gm_graph_select.specs.Graph.{edge_cmp};
+ghost use Rattle.gm_name.specs.PairOrder.{pair_cmp};
 ghost use Rattle.gm_graph_select.specs.Order.{TiesAreEqual, HaveSame, IsAscending};
 
 use crate::step::Edge;
+use gm_name::ModVer;
 
 /// Whether each item is less than the next. It takes no memory, and one comparison per item.
 pub fn is_ascending<T: Ord>(items: &[T]) -> bool
@@ -46,4 +48,13 @@ pub fn sorted_edges(edges: Vec<Edge>) -> Vec<Edge>
     ensures members { HaveSame edges.items result.items }
 {
     sorted(edges)
+}
+
+/// The same vertices in strictly ascending order, without duplicates. It takes no memory, and n log n comparisons, or
+/// only n if the vertices are in that order already.
+pub fn sorted_vertices(vertices: Vec<ModVer>) -> Vec<ModVer>
+    ensures ascending { IsAscending pair_cmp result.items }
+    ensures members { HaveSame vertices.items result.items }
+{
+    sorted(vertices)
 }

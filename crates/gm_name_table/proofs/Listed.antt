@@ -1,45 +1,70 @@
 -- Lists of modules by their numbers, in a table that grows at its end.
-use Rattle.std.proofs.Common.{◌≡◌, ◌∙◌, ◌<◌, ◌-◌, ℕ, List, [], ◌∷◌, ◌++◌, Some, length, take, drop, ap, refl, sym, subst, inl, inr, arith}
+use Rattle.std.proofs.Common.{◌≡◌, ◌∙◌, ◌-◌, ◌<◌, ℕ, List, [], ◌∷◌, ◌++◌, Some, length, take, drop, ap, append-nil, refl, sym, subst, inl, inr, arith}
 use Rattle.std.specs.Prelude.{slice_get}
 use Rattle.std.proofs.lemmas.List.{drop-map, get_or_append_left, length-append, map_push, take-map}
 use Rattle.std.proofs.lemmas.List.Elements.{All-head, All-push, All-tail, All-weaker}
 use Rattle.std.proofs.lemmas.Option.{get_or_from_slice_get, slice_get_within}
-use Rattle.gm_name_table.specs.Listed.{AreModuleNumbers, module_at, modules_at, part}
+use Rattle.gm_name_table.specs.Listed.{Appends, AreModuleNumbers, BeginsWith, NumberedList, listed, module_at, modules_at, part}
 use Rattle.gm_name_table.specs.Lists.{IsOneMoreAtMost, Pair}
 
--- The modules with the numbers of a table are what they were, if the table has one more at most.
-pub same_modules : (old new : List Pair) (pair : Pair) (numbers : List ℕ) → IsOneMoreAtMost old new pair
-    → AreModuleNumbers old numbers → modules_at new numbers ≡ modules_at old numbers
-same_modules old new pair numbers (inl same) are = ap (λ (modules : List Pair). modules_at modules numbers) same
-same_modules old new pair numbers (inr more) are =
-    ap (λ (modules : List Pair). modules_at modules numbers) more ∙ each numbers are
+-- A table that has one module more at most begins as it was.
+pub begins_as : (old new : List Pair) (pair : Pair) → IsOneMoreAtMost old new pair → BeginsWith old new
+begins_as old new pair (inl same) = ([], same ∙ sym (append-nil old))
+begins_as old new pair (inr more) = (pair ∷ [], more)
+
+-- The modules with the numbers of a table are what they were, if the table begins as it was.
+pub same_modules : (old new : List Pair) (numbers : List ℕ) → BeginsWith old new → AreModuleNumbers old numbers
+    → modules_at new numbers ≡ modules_at old numbers
+same_modules old new numbers begins are =
+    ap (λ (modules : List Pair). modules_at modules numbers) begins.1 ∙ each numbers are
   where
-    each : (ns : List ℕ) → AreModuleNumbers old ns → modules_at (old ++ pair ∷ []) ns ≡ modules_at old ns
+    each : (ns : List ℕ) → AreModuleNumbers old ns → modules_at (old ++ begins.0) ns ≡ modules_at old ns
     each [] below = refl
     each (n ∷ ns) below =
-        ap (λ (rest : List Pair). module_at (old ++ pair ∷ []) n ∷ rest)
+        ap (λ (rest : List Pair). module_at (old ++ begins.0) n ∷ rest)
         (each ns (All-tail (λ number. number < length old) n ns below))
         ∙ ap (λ (first : Pair). first ∷ modules_at old ns)
-        (get_or_append_left old (pair ∷ []) ([], []) n (All-head (λ number. number < length old) n ns below))
+        (get_or_append_left old begins.0 ([], []) n (All-head (λ number. number < length old) n ns below))
 
 -- They are numbers of the table still.
-pub still_numbers : (old new : List Pair) (pair : Pair) (numbers : List ℕ) → IsOneMoreAtMost old new pair
-    → AreModuleNumbers old numbers → AreModuleNumbers new numbers
-still_numbers old new pair numbers (inl same) are =
-    subst (λ (modules : List Pair). AreModuleNumbers modules numbers) (sym same) are
-still_numbers old new pair numbers (inr more) are =
-    subst (λ (modules : List Pair). AreModuleNumbers modules numbers) (sym more)
-    (All-weaker (λ number. number < length old) (λ number. number < length (old ++ pair ∷ []))
-    (λ number below. omega (arith, below, length-append old (pair ∷ []))) numbers are)
+pub still_numbers : (old new : List Pair) (numbers : List ℕ) → BeginsWith old new → AreModuleNumbers old numbers
+    → AreModuleNumbers new numbers
+still_numbers old new numbers begins are =
+    subst (λ (modules : List Pair). AreModuleNumbers modules numbers) (sym begins.1)
+    (All-weaker (λ number. number < length old) (λ number. number < length (old ++ begins.0))
+    (λ number below. omega (arith, below, length-append old begins.0)) numbers are)
 
--- The number of a module at the end of the numbers is that module at the end of theirs.
-pub pushed_module : (modules : List Pair) (pair : Pair) (numbers : List ℕ) (number : ℕ)
-    → slice_get modules number ≡ Some pair
-    → modules_at modules (numbers ++ number ∷ []) ≡ modules_at modules numbers ++ pair ∷ []
-pushed_module modules pair numbers number there =
-    map_push (module_at modules) numbers number
-    ∙ ap (λ (last : Pair). modules_at modules numbers ++ last ∷ [])
-    (get_or_from_slice_get modules number pair ([], []) there)
+-- The number of a module was put to the end of the numbers.
+pub pushed : {was old : NumberedList} (new : List Pair) (pair : Pair) (numbers : List ℕ) (number : ℕ) → was ≡ old
+    → IsOneMoreAtMost was.modules new pair → AreModuleNumbers was.modules was.numbers
+    → slice_get new number ≡ Some pair → numbers ≡ was.numbers ++ number ∷ []
+    → Appends old (record { modules = new; numbers = numbers }) (pair ∷ [])
+pushed {was} new pair numbers number is_old only are there more =
+    subst (λ (list : NumberedList). Appends list (record { modules = new; numbers = numbers }) (pair ∷ [])) is_old
+    (record {
+      numbered = begins_as was.modules new pair only;
+      kept = (number ∷ [], more);
+      listed = ap (λ (ns : List ℕ). modules_at new ns) more
+          ∙ map_push (module_at new) was.numbers number
+          ∙ ap (λ (last : Pair). modules_at new was.numbers ++ last ∷ [])
+          (get_or_from_slice_get new number pair ([], []) there)
+          ∙ ap (λ (list : List Pair). list ++ pair ∷ [])
+          (same_modules was.modules new was.numbers (begins_as was.modules new pair only) are);
+    })
+
+-- The numbers are what they were.
+pub not_pushed : {was old : NumberedList} (new : List Pair) (pair : Pair) (numbers : List ℕ) → was ≡ old
+    → IsOneMoreAtMost was.modules new pair → AreModuleNumbers was.modules was.numbers → numbers ≡ was.numbers
+    → Appends old (record { modules = new; numbers = numbers }) []
+not_pushed {was} new pair numbers is_old only are same =
+    subst (λ (list : NumberedList). Appends list (record { modules = new; numbers = numbers }) []) is_old
+    (record {
+      numbered = begins_as was.modules new pair only;
+      kept = ([], same ∙ sym (append-nil was.numbers));
+      listed = ap (λ (ns : List ℕ). modules_at new ns) same
+          ∙ same_modules was.modules new was.numbers (begins_as was.modules new pair only) are
+          ∙ sym (append-nil (listed was));
+    })
 
 pub pushed_numbers : (modules : List Pair) (pair : Pair) (numbers : List ℕ) (number : ℕ)
     → slice_get modules number ≡ Some pair → AreModuleNumbers modules numbers → AreModuleNumbers modules (numbers ++ number ∷ [])

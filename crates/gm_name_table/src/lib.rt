@@ -1,4 +1,4 @@
-//! The table of modules, each with a number.
+//! Tables of modules, each with a number, and lists of these numbers.
 //!
 //! Where many modules are looked up, each is referred to by its number: its place in the list of distinct modules, in
 //! the order in which they were first put in. A number never changes, and numbers compare faster than names.

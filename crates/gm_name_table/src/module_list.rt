@@ -1,17 +1,19 @@
 //! A list of modules, of which many come more than once, by their numbers.
 
-ghost use Rattle.std.specs.Prelude.{◌≡◌, ◌≤◌, ◌++◌, ◌∷◌, [], false, true, IfOk, Ok, OnErr, OnOk, length, take};
+ghost use Rattle.std.specs.Prelude.{◌≡◌, ◌≤◌, ◌<◌, ◌∷◌, [], false, true, IfOk, Ok, OnErr, OnOk, length, take};
 ghost use Rattle.std.specs.Iterator.{YieldsFirstRef, item_count};
+ghost use Rattle.std.specs.List.{IsDistinct};
+ghost use Rattle.gm_name.specs.PairOrder.{pair_eq};
 ghost use Rattle.gm_name.specs.Readings.{PairReading};
-ghost use Rattle.gm_name_table.specs.Listed.{part};
+ghost use Rattle.gm_name_table.specs.Listed.{Appends, AreModuleNumbers, listed, module_at, modules_at, part};
 
 use crate::module_table::ModuleTable;
 use gm_name::{ModVer, NoMemory};
 use std::alloc::Global;
 use std::marker::Model;
 
-/// A list of modules (paths at versions). Each distinct module is kept once, also after the list was cut, and the list
-/// has its number. Contracts see the list.
+/// A list of modules (paths at versions). Each distinct module is kept once, also after the list was cut, and has a
+/// number, which never changes; the list has the numbers. Contracts see both.
 #[derive(Drop)]
 pub struct ModuleList {
     /// The distinct modules.
@@ -21,12 +23,11 @@ pub struct ModuleList {
 }
 
 impl Model for ModuleList {
-    ghost use Rattle.std.specs.Prelude.{List, ℕ};
-    ghost use Rattle.gm_name_table.specs.Listed.{AreModuleNumbers, modules_at};
+    ghost use Rattle.gm_name_table.specs.Listed.{AreModuleNumbers, NumberedList};
 
-    ghost Value = { List (List ℕ × List ℕ) };
+    ghost Value = { NumberedList };
 
-    ghost view = { λ a. modules_at a.table a.numbers.items };
+    ghost view = { λ a. record { modules = a.table; numbers = a.numbers.items } };
 
     ghost invariant = { λ a. AreModuleNumbers a.table a.numbers.items };
 }
@@ -34,7 +35,8 @@ impl Model for ModuleList {
 impl ModuleList {
     /// The empty list. Allocates no memory.
     pub fn new(alloc: Global) -> ModuleList
-        ensures { result ≡ [] }
+        ensures modules { result.modules ≡ [] }
+        ensures numbers { result.numbers ≡ [] }
     {
         ModuleList {
             table: ModuleTable::new(alloc),
@@ -44,9 +46,27 @@ impl ModuleList {
 
     /// How many modules the list has.
     pub fn len(&self) -> usize
-        ensures { result ≡ length self.now }
+        ensures len { result ≡ length self.now.numbers }
+        ensures below { AreModuleNumbers self.now.modules self.now.numbers }
     {
         self.numbers.len()
+    }
+
+    /// How many distinct modules there are.
+    pub fn module_count(&self) -> usize
+        ensures count { result ≡ length self.now.modules }
+        ensures distinct { IsDistinct pair_eq self.now.modules }
+    {
+        self.table.len()
+    }
+
+    /// The module with a number.
+    pub fn module(&self, number: u32) -> &ModVer
+        requires { number < length self.now.modules }
+        ensures module { result.now ≡ module_at self.now.modules number }
+        ensures distinct { IsDistinct pair_eq self.now.modules }
+    {
+        self.table.at(number)
     }
 
     /// Appends the module with these texts, if it is found among those that were put in before, and reports whether it
@@ -54,7 +74,7 @@ impl ModuleList {
     /// again. The only refusal is `NoMemory`, which leaves the list as it was.
     pub fn push_known(&mut self, path: &str, version: &str) -> Result<bool, NoMemory>
         ensures pushed { IfOk result (λ is_known. is_known ≡ true
-            → self.new ≡ self.old ++ (path.now, version.now) ∷ []) }
+            → Appends self.old self.new ((path.now, version.now) ∷ [])) }
         ensures read { IfOk result (λ is_known. is_known ≡ true
             → PairReading path.now version.now (Ok (path.now, version.now))) }
         ensures unknown { IfOk result (λ is_known. is_known ≡ false → self.new ≡ self.old) }
@@ -69,28 +89,50 @@ impl ModuleList {
         }
     }
 
-    /// Appends a module. The only refusal is `NoMemory`, which leaves the list as it was.
+    /// Appends a module. The only refusal is `NoMemory`, which leaves the list as it was; the module may have a number
+    /// then.
     pub fn push(&mut self, pair: &ModVer) -> Result<(), NoMemory>
-        ensures ok { OnOk result (self.new ≡ self.old ++ pair.now ∷ []) }
-        ensures err { OnErr result (self.new ≡ self.old) }
+        ensures ok { OnOk result (Appends self.old self.new (pair.now ∷ [])) }
+        ensures err { OnErr result (Appends self.old self.new []) }
     {
         let number = self.table.number(pair)?;
         self.numbers.push(number)?;
         Ok(())
     }
 
-    /// Cuts the list to a length, unless it is shorter.
+    /// Cuts the list to a length, unless it is shorter. Each module keeps its number.
     pub fn truncate(&mut self, len: usize)
-        ensures { self.new ≡ take len self.old }
+        ensures modules { self.new.modules ≡ self.old.modules }
+        ensures numbers { self.new.numbers ≡ take len self.old.numbers }
     {
         self.numbers.truncate(len);
+    }
+
+    /// The distinct modules, in the order of their numbers.
+    pub fn into_modules(self) -> Vec<ModVer>
+        ensures modules { result.items ≡ self.modules }
+        ensures distinct { IsDistinct pair_eq result.items }
+        ensures few { length result.items ≤ 4294967295 }
+    {
+        self.table.into_modules()
+    }
+
+    /// The numbers of the modules from one place of the list to another.
+    pub fn numbers(&self, start: usize, end: usize) -> &[u32]
+        requires order { start ≤ end }
+        requires within { end ≤ length self.now.numbers }
+        ensures numbers { result.now ≡ part start end self.now.numbers }
+        ensures below { AreModuleNumbers self.now.modules result.now }
+        ensures modules { modules_at self.now.modules result.now ≡ part start end (listed self.now) }
+    {
+        &self.numbers[start..end]
     }
 
     /// The modules from one place to another.
     pub fn part(&self, start: usize, end: usize) -> Modules<'_>
         requires order { start ≤ end }
-        requires within { end ≤ length self.now }
-        ensures { result ≡ part start end self.now }
+        requires within { end ≤ length self.now.numbers }
+        ensures { result ≡ part start end (listed self.now) }
     {
         Modules {
             modules: self.table.modules(),

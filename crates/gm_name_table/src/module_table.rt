@@ -70,7 +70,8 @@ impl ModuleTable {
     /// The module with a number.
     pub fn at(&self, number: u32) -> &ModVer
         requires { number < length self.now }
-        ensures { slice_get self.now number ≡ Some result.now }
+        ensures module { slice_get self.now number ≡ Some result.now }
+        ensures distinct { IsDistinct pair_eq self.now }
     {
         &self.modules[number as usize]
     }

@@ -1,7 +1,7 @@
 -- Counts of failures of a device: they don't fall, and a failure raises them unless they are at their greatest value.
 use Rattle.std.proofs.Common.{◌≡◌, ◌∙◌, ◌<◌, ◌≤◌, ◌^◌, ◌⊎◌, inl, inr, ℕ, List, arith}
 use Rattle.std.proofs.lemmas.Bool.{cases_lt}
-use Rattle.gm_store.specs.declared.proxy_list.Mark.{Mark}
+use Rattle.gm_store.specs.declared.fallback.proxy_list.Mark.{Mark}
 use Rattle.gm_store.specs.Steps.{HasCounted, Seen, counted_up}
 
 -- a count doesn't fall

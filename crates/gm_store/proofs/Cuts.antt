@@ -13,7 +13,7 @@ use Rattle.std.specs.Str.{IsUtf8, chars}
 use Rattle.std.specs.String.{string_bytes}
 use Rattle.gm_store.specs.Cutting.{IsParsedPrefix}
 use Rattle.gm_store.specs.Proxies.{is_proxy_mark, mark_of}
-use Rattle.gm_store.specs.declared.proxy_list.Mark.{Mark}
+use Rattle.gm_store.specs.declared.fallback.proxy_list.Mark.{Mark}
 use Rattle.gm_store.proofs.Splits.{glue, glue-last, not_false, split-append, split_plain}
 
 high : (b : ℕ) → 128 ≤ b → not (is_proxy_mark b) ≡ true

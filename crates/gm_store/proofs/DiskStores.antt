@@ -1,6 +1,6 @@
 -- Stores over the same folders may give the same answers.
 use Rattle.std.proofs.Common.{◌≡◌, ℕ, List, subst}
-use Rattle.gm_store.specs.declared.proxy_list.Mark.{Mark}
+use Rattle.gm_store.specs.declared.fallback.proxy_list.Mark.{Mark}
 use Rattle.gm_store.specs.Asked.{Name, Reply}
 use Rattle.gm_store.specs.DiskAnswers.{MayAnswer}
 use Rattle.gm_store.specs.Openings.{Opening}

@@ -8,7 +8,7 @@ use Rattle.gm_store.specs.declared.reading.ReadFault.TheVariants.{NoMemory, Devi
 use Rattle.gm_store.specs.Found.{result_for_bytes}
 use Rattle.gm_store.specs.Openings.{IsReadLookup, MayShow, opened}
 use Rattle.gm_store.specs.Steps.{Seen, found, result_of, too_long}
-use Rattle.gm_store.specs.declared.fallback_step.Looked.{Looked}
+use Rattle.gm_store.specs.declared.folders.Looked.{Looked}
 
 abbrev result_up_to : ℕ → List ℕ → Seen
 result_up_to limit bytes = if nat_le (length bytes) limit then found bytes else too_long

@@ -4,10 +4,10 @@ use Rattle.std.specs.Prelude.{slice_get}
 use Rattle.std.specs.List.{count_by}
 use Rattle.std.proofs.lemmas.Bool.{cases_lt}
 use Rattle.std.proofs.lemmas.List.Sums.{sum_by-append}
-use Rattle.gm_store.specs.declared.proxy_list.Mark.{Mark}
-use Rattle.gm_store.specs.declared.proxy_list.Mark.TheVariants.{Comma, Bar}
-use Rattle.gm_store.specs.declared.fallback_step.Next.{Next}
-use Rattle.gm_store.specs.declared.fallback_step.Next.TheVariants.{Take, Go, Fail}
+use Rattle.gm_store.specs.declared.fallback.proxy_list.Mark.{Mark}
+use Rattle.gm_store.specs.declared.fallback.proxy_list.Mark.TheVariants.{Comma, Bar}
+use Rattle.gm_store.specs.declared.fallback.step.Next.{Next}
+use Rattle.gm_store.specs.declared.fallback.step.Next.TheVariants.{Take, Go, Fail}
 use Rattle.gm_store.specs.Asked.{Reply}
 use Rattle.gm_store.specs.Steps.{HasCounted, HasFallenBack, MayStop, Seen, absent, counted_up, failed, found, has_failed, outcome_of, step_of, too_long}
 

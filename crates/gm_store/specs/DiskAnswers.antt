@@ -1,6 +1,6 @@
 -- The answers that a store over folders of a file system may give.
 use Rattle.std.specs.Prelude.{ℕ, List, Some}
-use Rattle.gm_store.specs.declared.proxy_list.Mark.{Mark}
+use Rattle.gm_store.specs.declared.fallback.proxy_list.Mark.{Mark}
 use Rattle.gm_store.specs.Asked.{Name, Reply}
 use Rattle.gm_store.specs.FolderLookups.{marks_for}
 use Rattle.gm_store.specs.Openings.{MayLookUp, Opening}

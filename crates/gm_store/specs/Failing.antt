@@ -1,7 +1,7 @@
 -- A store in memory whose device fails once.
 use Rattle.std.specs.Prelude.{ℕ, ◌-◌, List, map, Option, Some, None}
-use Rattle.gm_store.specs.declared.failing_files.FailingFiles.{FailingFiles}
-use Rattle.gm_store.specs.declared.memory_files.MemoryFiles.{MemoryFiles}
+use Rattle.gm_store.specs.declared.files.failing.FailingFiles.{FailingFiles}
+use Rattle.gm_store.specs.declared.files.memory.MemoryFiles.{MemoryFiles}
 use Rattle.gm_store.specs.Asked.{Name, name_of}
 use Rattle.gm_store.specs.Memory.{pairs_of}
 use Rattle.gm_store.specs.States.{StoreState}

@@ -1,7 +1,7 @@
 -- Which folders and marks a name is looked up with, and the results of all lookups over folders in memory.
 use Rattle.std.specs.Prelude.{ℕ, List, [], ◌∷◌, map}
-use Rattle.gm_store.specs.declared.proxy_list.Mark.{Mark}
-use Rattle.gm_store.specs.declared.folders_in_memory.FoldersInMemory.{FoldersInMemory}
+use Rattle.gm_store.specs.declared.fallback.proxy_list.Mark.{Mark}
+use Rattle.gm_store.specs.declared.folders.in_memory.FoldersInMemory.{FoldersInMemory}
 use Rattle.gm_store.specs.Asked.{Name, mod_file, folder_file, list_file}
 use Rattle.gm_store.specs.FoldersInMemory.{result_at}
 use Rattle.gm_store.specs.Steps.{Seen}

@@ -1,9 +1,9 @@
 -- Folders in memory: the files of one folder, and the results of lookups in it.
 use Rattle.std.specs.Prelude.{ℕ, List, Option, Some, None}
 use Rattle.std.specs.Map.{lookup}
-use Rattle.gm_store.specs.declared.memory_folder.Held.{Held}
-use Rattle.gm_store.specs.declared.memory_folder.Held.TheVariants.{Content, Broken}
-use Rattle.gm_store.specs.declared.memory_folder.MemoryFolder.{MemoryFolder}
+use Rattle.gm_store.specs.declared.folders.memory_folder.Held.{Held}
+use Rattle.gm_store.specs.declared.folders.memory_folder.Held.TheVariants.{Content, Broken}
+use Rattle.gm_store.specs.declared.folders.memory_folder.MemoryFolder.{MemoryFolder}
 use Rattle.gm_store.specs.Asked.{Name, name_of, same_name}
 use Rattle.gm_store.specs.Found.{result_for_bytes}
 use Rattle.gm_store.specs.Steps.{Seen, absent, failed}

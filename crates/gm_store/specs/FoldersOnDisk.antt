@@ -1,7 +1,7 @@
 -- Views of the folders of a file system that a fallback store looks into.
 use Rattle.std.specs.Prelude.{ℕ, List, map}
 use Rattle.std.specs.String.{string_bytes}
-use Rattle.gm_store.specs.declared.disk_fallback.FoldersOnDisk.{FoldersOnDisk}
+use Rattle.gm_store.specs.declared.folders.on_disk.FoldersOnDisk.{FoldersOnDisk}
 
 -- the file system that they are in
 abbrev pub system_of : {S File : Type 0} → FoldersOnDisk S File → S

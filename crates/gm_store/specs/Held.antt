@@ -1,6 +1,6 @@
 -- Views of a sink in memory.
 use Rattle.std.specs.Prelude.{ℕ, ◌-◌, List, length, Some}
-use Rattle.gm_store.specs.declared.memory_sink.MemorySink.{MemorySink}
+use Rattle.gm_store.specs.declared.sinks.memory.MemorySink.{MemorySink}
 use Rattle.gm_store.specs.Taken.{SinkState}
 
 -- the bytes taken so far

@@ -2,13 +2,13 @@
 use Rattle.std.specs.Prelude.{◌≡◌, ℕ, List, [], map, Option, if◌then◌else◌, Some}
 use Rattle.std.specs.Option.{option_map}
 use Rattle.std.specs.Map.{lookup}
-use Rattle.gm_store.specs.declared.files.Asked.{Asked}
-use Rattle.gm_store.specs.declared.memory_files.MemoryFiles.{MemoryFiles}
+use Rattle.gm_store.specs.declared.files.Answered.{Answered}
+use Rattle.gm_store.specs.declared.files.memory.MemoryFiles.{MemoryFiles}
 use Rattle.gm_store.specs.Asked.{Name, Reply, name_of, reply_of, same_name, reply_for}
 use Rattle.gm_store.specs.States.{StoreState}
 
 -- the names and answers of a list of requests
-abbrev pub pairs : List Asked → List (Name × Reply)
+abbrev pub pairs : List Answered → List (Name × Reply)
 pairs = map (λ one. (name_of one.name, reply_of one.answer))
 
 -- the requests of a store, in order

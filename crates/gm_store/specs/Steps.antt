@@ -2,12 +2,12 @@
 -- the next is tried if a file isn't found, "a pipe indicates" that it is tried "regardless of the error".
 use Rattle.std.specs.Prelude.{◌≡◌, ◌≢◌, ◌-◌, ◌^◌, ◌+◌, ◌<◌, ℕ, min, Bool, true, false, List, [], ◌∷◌, ◌++◌, length, Option, Some, None, slice_get}
 use Rattle.std.specs.List.{count_by}
-use Rattle.gm_store.specs.declared.proxy_list.Mark.{Mark}
-use Rattle.gm_store.specs.declared.proxy_list.Mark.TheVariants.{Comma, Bar}
-use Rattle.gm_store.specs.declared.fallback_step.Looked.{Looked}
-use Rattle.gm_store.specs.declared.fallback_step.Looked.TheVariants.{Found, TooLong, Absent, Failed}
-use Rattle.gm_store.specs.declared.fallback_step.Next.{Next}
-use Rattle.gm_store.specs.declared.fallback_step.Next.TheVariants.{Take, Go, Fail}
+use Rattle.gm_store.specs.declared.fallback.proxy_list.Mark.{Mark}
+use Rattle.gm_store.specs.declared.fallback.proxy_list.Mark.TheVariants.{Comma, Bar}
+use Rattle.gm_store.specs.declared.folders.Looked.{Looked}
+use Rattle.gm_store.specs.declared.folders.Looked.TheVariants.{Found, TooLong, Absent, Failed}
+use Rattle.gm_store.specs.declared.fallback.step.Next.{Next}
+use Rattle.gm_store.specs.declared.fallback.step.Next.TheVariants.{Take, Go, Fail}
 use Rattle.gm_store.specs.Asked.{Reply}
 use Rattle.gm_store.specs.Asked as reply
 

@@ -1,8 +1,8 @@
 -- Views of a fallback store: its folders and marks, its requests with their answers, and its refusals.
 use Rattle.std.specs.Prelude.{ℕ, List, map}
-use Rattle.gm_store.specs.declared.fallback_store.FallbackStore.{FallbackStore}
-use Rattle.gm_store.specs.declared.proxy_list.Mark.{Mark}
-use Rattle.gm_store.specs.declared.fallback_walk.Folders.{Ghosts}
+use Rattle.gm_store.specs.declared.fallback.store.FallbackStore.{FallbackStore}
+use Rattle.gm_store.specs.declared.fallback.proxy_list.Mark.{Mark}
+use Rattle.gm_store.specs.declared.folders.FolderList.{Ghosts}
 use Rattle.gm_store.specs.Asked.{Name, Reply, name_of}
 use Rattle.gm_store.specs.Memory.{pairs}
 use Rattle.gm_store.specs.States.{StoreState}

@@ -1,6 +1,6 @@
 -- Views of a sink over a writer.
 use Rattle.std.specs.Prelude.{ℕ}
-use Rattle.gm_store.specs.declared.std_sink.StdSink.{StdSink}
+use Rattle.gm_store.specs.declared.sinks.writer.StdSink.{StdSink}
 
 -- the writer
 abbrev pub writer_of : {W : Type 0} → StdSink W → W

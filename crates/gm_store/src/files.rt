@@ -1,7 +1,12 @@
-//! Names of files, answers, and `Files`, the trait of stores.
+//! Names of files, answers, and `Files`, the trait of stores. The modules in the folder have the stores in memory and
+//! what every store keeps.
 //!
 //! Other crates get the files of dependencies only through this trait. A store keeps each answer, so a run is a
 //! function of the answers, and one store can stand in for another.
+
+pub(crate) mod failing;
+pub(crate) mod keeping;
+pub(crate) mod memory;
 
 ghost use Rattle.std.specs.Prelude.{◌≡◌, ◌+◌, ◌<◌, [], ◌∷◌, ◌++◌, length, slice_get, Some, None, OnOk, OnErr, IfOk};
 ghost use Rattle.gm_store.specs.Asked.{IsWithinLimit, name_of, reply_of};
@@ -36,7 +41,7 @@ pub enum Answer {
 
 /// A requested name with its answer.
 #[derive(Drop)]
-pub struct Asked {
+pub struct Answered {
     /// The name that was requested.
     pub name: FileName,
     /// The answer to it.

@@ -1,4 +1,4 @@
-//! Input and output of gomod: the files of modules, and the sinks that output is written to.
+//! Stores of modules' files, lists of versions, and the sinks that output is written to.
 //!
 //! Go fetches modules through GOPROXY, a list of proxies that are tried in turn (Go Modules Reference, "Module
 //! proxies"). Here each proxy is a folder with the layout of the proxy's URLs. Take the list `/mirror,/backup`:
@@ -17,51 +17,35 @@
 #![tactic(auto)]
 
 mod blanks;
-mod buffers;
-mod disk_fallback;
-mod failing_files;
-mod fallback_step;
-mod fallback_store;
-mod fallback_walk;
+mod fallback;
 mod file_system;
 mod files;
-mod folders_in_memory;
-mod keeping;
-mod latest_version;
+mod folders;
 pub mod laws;
-mod lookup_paths;
-mod lookup_result;
-mod main_folder;
-mod memory_fallback;
-mod memory_files;
-mod memory_folder;
-mod memory_sink;
-mod proxy_list;
-mod proxy_list_parser;
 mod reading;
-mod relative_path;
 mod sinks;
-mod std_sink;
-mod version_list;
+mod versions;
 
 pub use crate::blanks::{Cut, cut_word, first_word};
-pub use crate::disk_fallback::{DiskFallback, FoldersOnDisk};
-pub use crate::failing_files::FailingFiles;
-pub use crate::fallback_step::{Looked, Next, step};
-pub use crate::fallback_store::FallbackStore;
+pub use crate::fallback::in_memory::MemoryFallback;
+pub use crate::fallback::on_disk::DiskFallback;
+pub use crate::fallback::proxy_list::{Mark, ProxyFault, ProxyList};
+pub use crate::fallback::step::{Next, step};
+pub use crate::fallback::store::FallbackStore;
 pub use crate::file_system::{FileSystem, read_file};
+pub use crate::files::failing::FailingFiles;
+pub use crate::files::memory::MemoryFiles;
 pub use crate::files::{Answer, AskFault, FileName, Files, copy_name};
-pub use crate::folders_in_memory::FoldersInMemory;
-pub use crate::latest_version::latest;
-pub use crate::main_folder::folder_of;
-pub use crate::memory_fallback::MemoryFallback;
-pub use crate::memory_files::MemoryFiles;
-pub use crate::memory_folder::{Held, MemoryFolder};
-pub use crate::memory_sink::MemorySink;
-pub use crate::proxy_list::{Mark, ProxyFault, ProxyList};
+pub use crate::folders::Looked;
+pub use crate::folders::in_memory::FoldersInMemory;
+pub use crate::folders::main_folder::folder_of;
+pub use crate::folders::memory_folder::{Held, MemoryFolder};
+pub use crate::folders::on_disk::FoldersOnDisk;
+pub use crate::folders::relative_path::relative_name;
 pub use crate::reading::{LIMIT, ReadFault, read_limited};
-pub use crate::relative_path::relative_name;
+pub use crate::sinks::memory::MemorySink;
+pub use crate::sinks::writer::StdSink;
 pub use crate::sinks::{Sink, WriteFault, write_all};
-pub use crate::std_sink::StdSink;
-pub use crate::version_list::versions_of;
+pub use crate::versions::latest::latest;
+pub use crate::versions::list::versions_of;
 pub use gm_name::NoMemory;

@@ -1,7 +1,10 @@
-//! Sinks: the trait of everything that output is written to.
+//! Sinks: the trait of everything that output is written to. The modules in the folder have the two sinks.
 //!
 //! Contracts about output refer to the bytes that were written and to the failures. The writers of the standard
 //! library don't count failures, so sinks wrap them.
+
+pub(crate) mod memory;
+pub(crate) mod writer;
 
 ghost use Rattle.std.specs.Prelude.{◌≡◌, MatchResult, OnOk, OnErr};
 ghost use Rattle.std.specs.Io.KnownBytes.{Appends, Keeps};

@@ -1,5 +1,6 @@
-//! Calls: commands of a case that call a function of a library below the command line, for rules that no command line
-//! shows by itself. docs/CASES.md says what each of them gives.
+//! Commands of a case that call a function of a library below the command line.
+//!
+//! They are for rules that no command line shows by itself. docs/CASES.md says what each of them gives.
 #![tactic(auto)]
 
 mod call_faults;

@@ -1,4 +1,4 @@
-//! Files of cases: worked examples of a command line as text, and the folder that one of them runs in.
+//! Cases, worked examples of a command line, as text, and the folders they run in.
 //!
 //! A case has a title, commands with the results that they must have, and the files that they run over.
 //! docs/CASES.md describes the whole form. For example, this text has one case:

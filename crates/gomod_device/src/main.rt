@@ -1,4 +1,4 @@
-//! The gomod program again, with a stored run that ends with status 3: a folder is in the place of a module's list.
+//! The gomod program again, with a stored run that ends with status 3. A folder is in the place of a module's list.
 #![tactic(auto)]
 
 use std::process::ExitCode;

@@ -1,4 +1,4 @@
-//! The gomod program again, with a stored run that ends with status 1: it reports the modules whose hashes differ from
+//! The gomod program again, with a stored run that ends with status 1. It reports the modules whose hashes differ from
 //! those in a go.sum.
 #![tactic(auto)]
 

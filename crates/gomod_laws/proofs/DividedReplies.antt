@@ -4,10 +4,10 @@ use Rattle.std.specs.Prelude.{All, map, slice_get}
 use Rattle.std.specs.List.{count_by}
 use Rattle.std.proofs.lemmas.List.{length-map}
 use Rattle.std.proofs.lemmas.List.Elements.{All-cons, All-head, All-nil, All-tail}
-use Rattle.gm_store.specs.declared.fallback_step.Next.TheVariants.{Go, Take}
-use Rattle.gm_store.specs.declared.folders_in_memory.FoldersInMemory.{FoldersInMemory}
-use Rattle.gm_store.specs.declared.memory_folder.MemoryFolder.{MemoryFolder}
-use Rattle.gm_store.specs.declared.proxy_list.Mark.{Mark}
+use Rattle.gm_store.specs.declared.fallback.step.Next.TheVariants.{Go, Take}
+use Rattle.gm_store.specs.declared.folders.in_memory.FoldersInMemory.{FoldersInMemory}
+use Rattle.gm_store.specs.declared.folders.memory_folder.MemoryFolder.{MemoryFolder}
+use Rattle.gm_store.specs.declared.fallback.proxy_list.Mark.{Mark}
 use Rattle.gm_store.specs.Asked as reply
 use Rattle.gm_store.specs.Asked.{Name, Reply, folder_file, list_file, mod_file}
 use Rattle.gm_store.specs.FoldersInMemory.{result_at}

@@ -17,13 +17,14 @@ use Rattle.gm_graph_cache.specs.declared.class.Class.TheVariants.{Missing}
 use Rattle.gm_graph_cache.specs.declared.class.Misreading.TheVariants as misreading
 use Rattle.gm_graph_select.specs.declared.step.Step.TheVariants.{Main as FromMain, Of}
 use Rattle.gm_graph_select.specs.BuildList.{main_entry, path_cmp}
-use Rattle.gm_graph_select.specs.Graph.{IsEdgeEnd, vertex_cmp}
+use Rattle.gm_graph_select.specs.Graph.{IsEdgeEnd}
+use Rattle.gm_name.specs.PairOrder.{pair_cmp, pair_eq}
 use Rattle.gm_graph_select.proofs.Ascending.{member_cases, member_head, no_member}
-use Rattle.gm_graph.specs.Graph.{IsEdge, IsOpened, IsTop, from_deep, from_main, from_top, same_vertex}
+use Rattle.gm_graph.specs.Graph.{IsEdge, IsOpened, IsTop, from_deep, from_main, from_top}
 use Rattle.gm_graph.specs.Loading.{AreFew, AreTooMany}
 use Rattle.gm_graph.specs.Outcome.{AreFaults}
 use Rattle.gm_graph.specs.declared.fault.Fault.{Fault}
-use Rattle.gm_graph.proofs.Sameness.{same_vertex-refl}
+use Rattle.gm_graph.proofs.Sameness.{pair_eq-refl}
 use Rattle.gm_graph_listing.specs.Outcomes.{AreKnown, AreRows, IsListOutcome, IsOutcomeOver, IsStopped, Outcome, PrintsList, answers, device, faulty, printed, too_many}
 use Rattle.gm_graph_listing.proofs.OneOutcome.{one_list_outcome}
 use Rattle.gomod_laws.specs.ExampleWorld.{top_one}
@@ -83,7 +84,7 @@ none_rows = record {
 
 none_faulty : AreFaults (main_requiring []) none_said []
 none_faulty = record {
-  ascending = pairs_of (λ (a b : Fault). vertex_cmp a.vertex b.vertex ≡ Less) [] tt;
+  ascending = pairs_of (λ (a b : Fault). pair_cmp a.vertex b.vertex ≡ Less) [] tt;
   each = λ one. ((λ there. absurd (no_member one there)), λ has. absurd (none_opened one.vertex has.0));
 }
 
@@ -130,15 +131,15 @@ module _ (held : Held) (silent : (x : ModuleVersion) → vertex_requirements mai
   opened_is y (inr (from_top {x = x} top unpruned there)) = absurd (none_required x y there)
   opened_is y (inr (from_deep {x = x} deep there)) = absurd (none_required x y there)
 
-  one_at_most : (all : List ModuleVersion) → IsDistinct same_vertex all → ((x : ModuleVersion) → Contains all x → IsOpened main (readings_by main held) x)
+  one_at_most : (all : List ModuleVersion) → IsDistinct pair_eq all → ((x : ModuleVersion) → Contains all x → IsOpened main (readings_by main held) x)
       → length all ≤ 1
   one_at_most [] distinct each = omega arith
   one_at_most (x ∷ []) distinct each = omega arith
   one_at_most (x ∷ y ∷ all) distinct each =
       let first : x ≡ top_one = opened_is x (each x (member_head x (y ∷ all))) in
       let second : y ≡ top_one = opened_is y (each y (1, omega arith, refl)) in
-      let same : same_vertex x y ≡ true = subst (λ (z : ModuleVersion). same_vertex x z ≡ true) (first ∙ sym second) (same_vertex-refl x) in
-      absurd (false≢true (sym (IsDistinct-head same_vertex x (y ∷ all) distinct).0 ∙ same))
+      let same : pair_eq x y ≡ true = subst (λ (z : ModuleVersion). pair_eq x z ≡ true) (first ∙ sym second) (pair_eq-refl x) in
+      absurd (false≢true (sym (IsDistinct-head pair_eq x (y ∷ all) distinct).0 ∙ same))
 
   one_few : AreFew main (readings_by main held)
   one_few all distinct each = let one = one_at_most all distinct each in omega (arith, one)
@@ -238,7 +239,7 @@ faulty_member one (opens, has) =
 
 missing_faulty : AreFaults main (readings_by main missing) (top_fault ∷ [])
 missing_faulty = record {
-  ascending = pairs_of (λ (a b : Fault). vertex_cmp a.vertex b.vertex ≡ Less) (top_fault ∷ []) (tt, tt);
+  ascending = pairs_of (λ (a b : Fault). pair_cmp a.vertex b.vertex ≡ Less) (top_fault ∷ []) (tt, tt);
   each = λ one. (member_faulty one, faulty_member one);
 }
 

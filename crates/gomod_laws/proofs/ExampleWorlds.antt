@@ -20,7 +20,8 @@ use Rattle.gm_graph_select.specs.declared.step.Edge.{Edge}
 use Rattle.gm_graph_select.specs.declared.step.Step.{Step}
 use Rattle.gm_graph_select.specs.declared.step.Step.TheVariants.{Main as FromMain, Of}
 use Rattle.gm_graph_select.specs.BuildList.{Entry, HasEntryFor, IsSelected, main_entry, path_cmp, path_of}
-use Rattle.gm_graph_select.specs.Graph.{IsEdgeEnd, edge, edge_cmp, vertex_cmp}
+use Rattle.gm_graph_select.specs.Graph.{IsEdgeEnd, edge, edge_cmp}
+use Rattle.gm_name.specs.PairOrder.{pair_cmp}
 use Rattle.gm_graph_select.proofs.Ascending.{member_cases, member_head, member_tail, no_member}
 use Rattle.gm_graph_select.proofs.Lawful.{same_build_lists}
 use Rattle.gm_graph.specs.Graph.{IsDeep, IsEdge, IsOpened, IsTop, from_deep, from_main, from_top}
@@ -470,11 +471,11 @@ faulty_member one (opens, has) = elim (opened_cases (Err Missing) requirements_a
 pub one_fault_is_reported : OneFaultIsReported
 one_fault_is_reported = record {
   none = record {
-    ascending = pairs_of (λ (a b : Fault). vertex_cmp a.vertex b.vertex ≡ Less) [] tt;
+    ascending = pairs_of (λ (a b : Fault). pair_cmp a.vertex b.vertex ≡ Less) [] tt;
     each = λ one. ((λ there. absurd (no_member one there)), λ has. absurd (no_fault one.vertex one.class has.0 has.1));
   };
   one = record {
-    ascending = pairs_of (λ (a b : Fault). vertex_cmp a.vertex b.vertex ≡ Less) (fault_of_mid ∷ []) (tt, tt);
+    ascending = pairs_of (λ (a b : Fault). pair_cmp a.vertex b.vertex ≡ Less) (fault_of_mid ∷ []) (tt, tt);
     each = λ one. (member_faulty one, faulty_member one);
   };
   text = refl;

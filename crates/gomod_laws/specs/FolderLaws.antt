@@ -1,8 +1,8 @@
 -- Laws of proxy folders in memory: Go Modules Reference, GOPROXY ("falls back to the next").
 use Rattle.std.specs.Prelude.{◌≡◌, ◌≢◌, ◌↔◌, ◌++◌, ◌∷◌, ℕ, suc, All, List, [], Option, Some, Contains, length, map, slice_get}
-use Rattle.gm_store.specs.declared.folders_in_memory.FoldersInMemory.{FoldersInMemory}
-use Rattle.gm_store.specs.declared.memory_folder.MemoryFolder.{MemoryFolder}
-use Rattle.gm_store.specs.declared.proxy_list.Mark.{Mark}
+use Rattle.gm_store.specs.declared.folders.in_memory.FoldersInMemory.{FoldersInMemory}
+use Rattle.gm_store.specs.declared.folders.memory_folder.MemoryFolder.{MemoryFolder}
+use Rattle.gm_store.specs.declared.fallback.proxy_list.Mark.{Mark}
 use Rattle.gm_store.specs.Asked.{Name, Reply, list_file, mod_file, names_in}
 use Rattle.gm_store.specs.FolderLookups.{lookup_results, marks_for}
 use Rattle.gm_store.specs.FoldersInMemory.{result_at}

@@ -4,8 +4,8 @@ use Rattle.std.specs.Str.{IsUtf8}
 use Rattle.gm_store.specs.Asked.{Name, Reply, answer_in, list_file, reply_for}
 use Rattle.gm_store.specs.Memory.{may_give}
 use Rattle.gm_store.specs.Openings.{Opening}
-use Rattle.gm_store.specs.declared.proxy_list.ProxyList.{ProxyList}
-use Rattle.gm_store.specs.declared.memory_files.MemoryFiles.{MemoryFiles}
+use Rattle.gm_store.specs.declared.fallback.proxy_list.ProxyList.{ProxyList}
+use Rattle.gm_store.specs.declared.files.memory.MemoryFiles.{MemoryFiles}
 use Rattle.gomod_words.specs.declared.usage.Command.TheVariants.{Fmt, Edit, Versions, Graph, List as Rows, Chain}
 use Rattle.gomod_words.specs.Usage.{AskFor, IsFaultOf, IsLineOf, unreadable_text}
 use Rattle.gomod_words.specs.declared.usage.UsageFault.{UsageFault}

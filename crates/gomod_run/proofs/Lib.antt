@@ -1,6 +1,5 @@
 pub mod AllAsked
 pub mod Answering
-pub mod EditsInTurn
 pub mod Endings
 pub mod InTurn
 pub mod Misread

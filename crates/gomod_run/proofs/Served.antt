@@ -10,8 +10,8 @@ use Rattle.gm_store.specs.Openings.{MayRead, Opening}
 use Rattle.gm_store.specs.Relative.{IsFolderOf, at_root, below_folder, here}
 use Rattle.gm_store.specs.States.{StoreState}
 use Rattle.gm_store.specs.Taken.{SinkState}
-use Rattle.gm_store.specs.declared.memory_files.MemoryFiles.{MemoryFiles}
-use Rattle.gm_store.specs.declared.proxy_list.ProxyList.{ProxyList}
+use Rattle.gm_store.specs.declared.files.memory.MemoryFiles.{MemoryFiles}
+use Rattle.gm_store.specs.declared.fallback.proxy_list.ProxyList.{ProxyList}
 use Rattle.gm_store.specs.declared.reading.ReadFault.{ReadFault}
 use Rattle.gomod_words.specs.declared.usage.Command.{Command}
 use Rattle.gomod_words.specs.declared.usage.Command.TheVariants.{Fmt, Edit, Versions, Graph, List as Rows, Chain}
@@ -179,10 +179,10 @@ memory_served may_open (Chain path) places inputs before after read holds allowe
 
 -- ---- what can't be read
 
--- what `?` passes on
-pub unread_passed : {T : Type 0} (stated : Unread → Type 0) (unread : Unread) (result : Result T Unread) → IsErrAnd result (λ passed. passed ≡ unread) → stated unread → IfErr result stated
-unread_passed stated unread (Err passed) same is = subst stated (sym same) is
-unread_passed stated unread (Ok value) same is = tt
+-- what holds of an error holds of what `?` passes on
+pub passed_on : {T E : Type 0} (stated : E → Type 0) (error : E) (result : Result T E) → IsErrAnd result (λ passed. passed ≡ error) → stated error → IfErr result stated
+passed_on stated error (Err passed) same is = subst stated (sym same) is
+passed_on stated error (Ok value) same is = tt
 
 -- the report of a file that can't be read is an outcome of the command
 pub input_unserved : (may_open : List ℕ → Opening → Type 0) (command : Command) (places : Places) (proxy : Option ProxyList) (unread : Unread) → IsUnreadInput may_open command places unread

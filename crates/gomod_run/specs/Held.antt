@@ -2,7 +2,7 @@
 use Rattle.std.specs.Prelude.{◌≡◌, ℕ, List, Some, None, if◌then◌else◌}
 use Rattle.gm_store.specs.Asked.{Name, same_name}
 use Rattle.gm_store.specs.Memory.{held_at}
-use Rattle.gm_store.specs.declared.memory_files.MemoryFiles.{MemoryFiles}
+use Rattle.gm_store.specs.declared.files.memory.MemoryFiles.{MemoryFiles}
 
 -- the store has these bytes under this name, and nothing under any other
 abbrev pub HoldsOne : Name → List ℕ → MemoryFiles → Type 0

@@ -1,5 +1,4 @@
 pub mod Asking
-pub mod Edited
 pub mod Editing
 pub mod Held
 pub mod Kinds
@@ -9,6 +8,7 @@ pub mod Needs
 pub mod Program
 pub mod Queries
 pub mod Reads
+pub mod Refusals
 pub mod Runs
 pub mod Versions
 pub mod Written

@@ -8,7 +8,7 @@ use Rattle.gm_store.specs.DiskAnswers.{MayAnswer}
 use Rattle.gm_store.specs.Openings.{MayRead, Opening}
 use Rattle.gm_store.specs.Proxies.{folders_in, marks_in}
 use Rattle.gm_store.specs.Relative.{IsFolderOf}
-use Rattle.gm_store.specs.declared.proxy_list.ProxyList.{ProxyList}
+use Rattle.gm_store.specs.declared.fallback.proxy_list.ProxyList.{ProxyList}
 use Rattle.gm_store.specs.declared.reading.ReadFault.{ReadFault}
 use Rattle.gm_store.specs.declared.reading.ReadFault.TheVariants as reading
 use Rattle.gomod_words.specs.Usage.{AskFor, IsFaultOf, unreadable_text}

@@ -6,8 +6,8 @@ use Rattle.gm_store.specs.Asked.{Name, list_file}
 use Rattle.gm_store.specs.Memory.{held_at}
 use Rattle.gm_store.specs.Openings.{MayRead, Opening}
 use Rattle.gm_store.specs.Relative.{IsFolderOf}
-use Rattle.gm_store.specs.declared.memory_files.MemoryFiles.{MemoryFiles}
-use Rattle.gm_store.specs.declared.proxy_list.ProxyList.{ProxyList}
+use Rattle.gm_store.specs.declared.files.memory.MemoryFiles.{MemoryFiles}
+use Rattle.gm_store.specs.declared.fallback.proxy_list.ProxyList.{ProxyList}
 use Rattle.gm_store.specs.declared.reading.ReadFault.TheVariants as reading
 use Rattle.gomod_words.specs.declared.usage.Command.{Command}
 use Rattle.gomod_words.specs.declared.usage.Command.TheVariants.{Fmt, Edit, Versions}

@@ -26,3 +26,4 @@ mod writing;
 pub use crate::program::{exit_code, status_of, status_of_words};
 pub use crate::running::run;
 pub use gm_graph_listing::Status;
+pub use gomod_words::{Command, Places, UsageFault, read_words};

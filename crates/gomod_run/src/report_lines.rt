@@ -3,8 +3,10 @@
 
 ghost use Rattle.std.specs.Prelude.{◌≡◌, IfOk};
 ghost use Rattle.std.specs.String.{string_bytes};
+ghost use Rattle.gm_graph_cache.specs.ClassWords.{class_word};
 ghost use Rattle.gomod_run.specs.Kinds.{edit_line, list_line};
 
+use gm_graph_cache::Class;
 use gm_name::{ModPath, NoMemory};
 use std::alloc::Global;
 
@@ -18,9 +20,10 @@ pub(crate) fn edit_line(alloc: Global, number: usize, kind: &str) -> Result<Stri
 
 /// The report that the list of a module can't be used: `PATH: KIND`. The kind is `NotFetchable`, `Missing` or
 /// `TooLong`.
-pub(crate) fn list_line(alloc: Global, path: &ModPath, kind: &str) -> Result<String, NoMemory>
-    ensures { IfOk result (λ text. string_bytes text ≡ list_line path.now kind.now) }
+pub(crate) fn list_line(alloc: Global, path: &ModPath, class: Class) -> Result<String, NoMemory>
+    ensures { IfOk result (λ text. string_bytes text ≡ list_line path.now (class_word class)) }
 {
+    let kind = class.word();
     let text = format!(in alloc; "{path}: {kind}\n")?;
     Ok(text)
 }

@@ -91,11 +91,13 @@ fn list_in<'a>(alloc: Global, path: &ModPath, answer: &'a Answer) -> Result<&'a 
     ensures refused { (all : Bool) (answers : AnswersByName) → IfErr result (StopsWith
         (IsOutcomeByList path.now all answers (reply_of answer.entry.now))) }
 {
-    match answer {
-        Answer::Bytes(list) => Ok(list.as_slice()),
-        Answer::Absent => Err(Stop::Reported(refused(alloc, list_line(alloc, path, "Missing")?))),
-        Answer::TooLong => Err(Stop::Reported(refused(alloc, list_line(alloc, path, "TooLong")?))),
-    }
+    let class = match answer {
+        Answer::Bytes(list) => return Ok(list.as_slice()),
+        Answer::Absent => Class::Missing,
+        Answer::TooLong => Class::TooLong,
+    };
+    let line = list_line(alloc, path, class)?;
+    Err(Stop::Reported(refused(alloc, line)))
 }
 
 /// A copy of the list of a module, as `list_in` finds it.
@@ -104,10 +106,8 @@ fn list_copy(alloc: Global, path: &ModPath, answer: &Answer) -> Result<Vec<u8>, 
     ensures refused { (all : Bool) (answers : AnswersByName) → IfErr result (StopsWith
         (IsOutcomeByList path.now all answers (reply_of answer.now))) }
 {
-    match list_in(alloc, path, answer) {
-        Ok(list) => Ok(Vec::from_slice(alloc, list)?),
-        Err(stop) => Err(stop),
-    }
+    let list = list_in(alloc, path, answer)?;
+    Ok(Vec::from_slice(alloc, list)?)
 }
 
 /// What the answer for a go.mod says, or what is wrong with it. No hash is checked.
@@ -233,7 +233,7 @@ fn ask_if_fetchable<F: Files>(
     ensures later { (F.state files.old).faults ≤ (F.state files.new).faults }
 {
     if !path.is_fetchable() {
-        return Ok(Some(refused(alloc, list_line(alloc, path, "NotFetchable")?)));
+        return Ok(Some(refused(alloc, list_line(alloc, path, Class::NotFetchable)?)));
     }
     ask_for_list(alloc, path, files)
 }

@@ -1,4 +1,4 @@
-//! The gomod program again, with a stored run that ends with status 2: the command line lacks a path.
+//! The gomod program again, with a stored run that ends with status 2. The command line lacks a path.
 #![tactic(auto)]
 
 use std::process::ExitCode;

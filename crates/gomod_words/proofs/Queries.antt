@@ -3,7 +3,7 @@ use Rattle.std.proofs.Common.{◌≡◌, ◌∙◌, ℕ, List, Option, IfSome, a
 use Rattle.std.specs.Prelude.{is_some}
 use Rattle.clap.specs.Walk.{Row, Text, first_of}
 use Rattle.gm_name.specs.Path.{IsPath}
-use Rattle.gm_store.specs.declared.proxy_list.ProxyList.{ProxyList}
+use Rattle.gm_store.specs.declared.fallback.proxy_list.ProxyList.{ProxyList}
 use Rattle.gomod_words.specs.Usage.{AreRecognized, HasBadPath, IsEntriesFault, IsLimit, IsPlacesFault, IsProxy, IsValidBeforeProxy, Means, has_limit}
 use Rattle.gomod_words.specs.declared.usage.Command.{Command}
 use Rattle.gomod_words.specs.declared.usage.Command.TheVariants.{Versions, Fmt, Edit, Graph, List as Rows, Chain}

@@ -20,7 +20,7 @@ use Rattle.clap.specs.declared.error.kind.ErrorKind.{ErrorKind}
 use Rattle.clap.specs.declared.error.kind.ErrorKind.TheVariants.{DisplayHelp, DisplayVersion, OutOfMemory}
 use Rattle.gm_name.specs.Path.{IsPath}
 use Rattle.gm_store.specs.Proxies.{folders_in, folders_of, is_folder, marks_in, marks_of}
-use Rattle.gm_store.specs.declared.proxy_list.ProxyList.{ProxyList}
+use Rattle.gm_store.specs.declared.fallback.proxy_list.ProxyList.{ProxyList}
 use Rattle.gomod_words.specs.Dashed.{dashed_in}
 use Rattle.gomod_words.specs.Limits.{limit_of}
 use Rattle.gomod_words.specs.declared.usage.Command.{Command}

@@ -6,8 +6,8 @@ ghost use Rattle.gm_graph_select.specs.Order.{IsAscending};
 
 use crate::files::main_file;
 use anyhow::Context;
-use gm_file::MainFile;
-use gm_graph_select::{Edge, Row, Step, build_list, sorted_edges};
+use gm_file::{MainFile, Right};
+use gm_graph_select::{Edge, Step, selected, sorted_edges, sorted_vertices};
 use gm_name::{ModPath, ModVer, ModVersion, NoMemory};
 use std::alloc::Global;
 use std::io;
@@ -59,28 +59,24 @@ fn ends(alloc: Global, edges: &[Edge]) -> Result<Vec<ModVer>, NoMemory> {
     Ok(ends)
 }
 
-/// Prints a step: the main module's path, or a path and a version.
-pub(crate) fn print_step(rt: &impl Print, main: &MainFile<'_>, step: &Step) -> io::Result<()> {
-    match step {
-        Step::Main => println!(rt; "{}", main.module())?,
-        Step::Of(vertex) => println!(rt; "{vertex}")?,
+/// Prints a selected module, and what replaces it, if anything does.
+fn print_selected(rt: &impl Print, main: &MainFile<'_>, module: &ModVer) -> io::Result<()> {
+    match main.replacement(module) {
+        None => println!(rt; "{module}")?,
+        Some(Right::Folder(folder)) => println!(rt; "{module} => {folder}")?,
+        Some(Right::Module(path, version)) => println!(rt; "{module} => {path}@{version}")?,
     }
     Ok(())
 }
 
-/// Prints the rows of a build list.
-pub(crate) fn print_rows(rt: &impl Print, main: &MainFile<'_>, rows: &[Row]) -> io::Result<()> {
-    for row in rows {
-        print_step(rt, main, &row.step)?;
-    }
-    Ok(())
-}
-
-/// Prints the build list of a graph.
+/// Prints the main module, then the selected modules, each with what replaces it.
 fn show_over(rt: &impl Print, alloc: Global, main: &MainFile<'_>) -> anyhow::Result<()> {
     let edges = edges(alloc, main)?;
-    let rows = build_list(alloc, main, ends(alloc, &edges)?)?;
-    print_rows(rt, main, &rows)?;
+    let ends = sorted_vertices(ends(alloc, &edges)?);
+    println!(rt; "{}", main.module())?;
+    for module in selected(main.module(), &ends) {
+        print_selected(rt, main, module)?;
+    }
     Ok(())
 }
 

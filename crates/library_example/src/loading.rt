@@ -3,9 +3,8 @@
 ghost use Rattle.std.specs.Prelude.{◌≡◌, []};
 
 use crate::files::main_file;
-use crate::graph::{print_rows, print_step};
 use gm_file::MainFile;
-use gm_graph::{Fault, Loaded, load};
+use gm_graph::{Fault, Loaded, Row, Step, load};
 use gm_name::ModPath;
 use gm_store::{DiskFallback, ProxyList, folder_of, read_limited};
 use std::{fs, io};
@@ -26,6 +25,23 @@ fn graph(rt: HostRuntime, main: &MainFile<'_>, proxies: &str) -> anyhow::Result<
     let proxies = ProxyList::read(alloc, proxies)?;
     let mut store = DiskFallback::new(rt, alloc, folder, proxies);
     Ok(load(alloc, main, &mut store, None)?)
+}
+
+/// Prints a step: the main module's path, or a path and a version.
+fn print_step(rt: &impl Print, main: &MainFile<'_>, step: &Step) -> io::Result<()> {
+    match step {
+        Step::Main => println!(rt; "{}", main.module())?,
+        Step::Of(vertex) => println!(rt; "{vertex}")?,
+    }
+    Ok(())
+}
+
+/// Prints the rows of a build list.
+fn print_rows(rt: &impl Print, main: &MainFile<'_>, rows: &[Row]) -> io::Result<()> {
+    for row in rows {
+        print_step(rt, main, &row.step)?;
+    }
+    Ok(())
 }
 
 /// Prints which modules have no file that can be read, and why.

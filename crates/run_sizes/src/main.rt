@@ -1,5 +1,5 @@
-//! Runs cases at several sizes each, up to the greatest that a file, a graph or a command line may have, in the files
-//! that the command line names. docs/CASES.md has the form of these files.
+//! Runs the cases in the files that the command line names, at several sizes each. The greatest of them is the greatest
+//! that a file, a graph or a command line may have. docs/CASES.md has the form of these files.
 #![tactic(auto)]
 
 use gomod_cases::Stream;

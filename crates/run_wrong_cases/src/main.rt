@@ -1,5 +1,5 @@
-//! Runs cases that are wrong on purpose, and reports on standard output how each differs, so that the stored run shows
-//! that a wrong case is found.
+//! Runs cases that are wrong on purpose, and reports how each differs. It reports on standard output, so that the
+//! stored run shows that a wrong case is found.
 #![tactic(auto)]
 
 use gomod_cases::Stream;

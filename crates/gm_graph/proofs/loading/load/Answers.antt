@@ -1,9 +1,16 @@
-use Rattle.std.proofs.Common.{◌∙◌, Err, Option, sym, ap, subst}
+use Rattle.std.proofs.Common.{◌∙◌, Contains, Err, List, Option, sym, ap, subst}
+use Rattle.std.specs.List.{IsDistinct}
 use Rattle.std.specs.Option.{option_copied}
 use Rattle.gm_store.specs.Asked.{name_of}
 use Rattle.gm_store_sums.specs.declared.sum_table.SumTable.{SumTable}
 use Rattle.gm_graph_cache.specs.Cached.{main_in}
-use Rattle.gm_graph_cache.specs.Main.{Main, main_of}
+use Rattle.gm_graph_cache.specs.Main.{Main, ModuleVersion, main_of}
+use Rattle.gm_graph_select.specs.declared.step.Step.TheVariants.{Of}
+use Rattle.gm_graph_select.specs.Chains.{IsRooted}
+use Rattle.gm_graph_select.specs.Graph.{IsEdgeEnd, among}
+use Rattle.gm_graph_select.specs.Order.{HaveSame}
+use Rattle.gm_graph_select.specs.StepOrder.{step_eq}
+use Rattle.gm_graph.specs.Builder.{IsBuilder, edges_in, sources_in}
 use Rattle.gm_graph.specs.Loading.{AreTooMany, IsDue, Told}
 use Rattle.gm_graph_cache.proofs.Growing.{may_none}
 use Rattle.gm_graph.proofs.Dues.{asks_nothing, may_all}
@@ -19,7 +26,7 @@ returns-in_err-cache-clause-asks g c = asks_nothing _ _ _ c.requires
 pub returns-in_err-builder-clause-too_many : goal.returns-in_err-builder-clause-too_many
 returns-in_err-builder-clause-too_many g c = λ e.
     too_many_first (main_of c.args.main.now) (option_copied c.args.sums) (g.F.Files.state c.args.files.now).asked c.requires
-    (c.in_err-builder.ensures.too_many (ap Err (sym (rw e at c.from_residual.ensures.1))))
+    (c.in_err-builder.ensures.too_many (ap Err (sym (rw e at c.from_residual-in_err-builder.ensures.1))))
 
 pub returns-in_err-visit_all-clause-device : goal.returns-in_err-visit_all-clause-device
 returns-in_err-visit_all-clause-device g c = λ name e.
@@ -39,19 +46,28 @@ pub returns-in_err-visit_all-clause-cause : goal.returns-in_err-visit_all-clause
 returns-in_err-visit_all-clause-cause g c = λ name e. c.in_err-visit_all.ensures.cause name (ap Err (sym (rw e at c.from_residual-in_err-visit_all.ensures.1)))
 
 pub assemble-requires : goal.assemble-requires
-assemble-requires g c = record {
-  builder = c.in_ok-visit_all.ensures.opened.is_builder;
-  rooted = gathered_rooted _ _ _ c.visit_all.new.builder c.in_ok-visit_all.ensures.opened;
-  once = c.in_ok-visit_all.ensures.opened.once;
-  ends = gathered_ends _ _ _ c.visit_all.new.builder c.in_ok-visit_all.ensures.opened;
-}
+assemble-requires g c =
+    let opened = c.in_ok-visit_all.ensures.opened in
+    let builder = c.visit_all.new.builder in
+    let same = sym c.into_parts-modules.ensures.modules in
+    record {
+      few = c.into_parts-modules.ensures.few;
+      builder = subst (λ (ms : List ModuleVersion). IsBuilder ms builder) same opened.is_builder;
+      rooted = subst (λ (ms : List ModuleVersion). IsRooted (among (edges_in ms builder))) same (gathered_rooted _ _ _ builder opened);
+      once = subst (λ (ms : List ModuleVersion). IsDistinct step_eq (sources_in ms builder)) same opened.once;
+      sources = subst (λ (ms : List ModuleVersion). (x : ModuleVersion) → Contains (sources_in ms builder) (Of x) → IsEdgeEnd (among (edges_in ms builder)) x) same (gathered_ends _ _ _ builder opened);
+    }
 
 pub returns-clause-loaded : goal.returns-clause-loaded
 returns-clause-loaded g c =
     let told = c.in_ok-assemble.ensures in
-    loads_of c.in_ok-cache.cache c.visit_all.new.cache (g.F.Files.state c.visit_all.new.files).asked c.visit_all.new.builder c.in_ok-visit_all.ensures.opened
-    (main_of c.args.main.now) (option_copied c.args.sums) c.in_ok-cache.ensures.main c.in_ok-cache.ensures.sums c.in_ok-assemble.field-0 c.visit_all.ensures.asks
-    told.main told.faults told.ordered told.ascending told.edges told.rows (told.turns ∙ c.into_turns-turns.ensures)
+    let builder = c.visit_all.new.builder in
+    let loaded = c.in_ok-assemble.field-0 in
+    loads_of c.in_ok-cache.cache c.visit_all.new.cache (g.F.Files.state c.visit_all.new.files).asked builder c.in_ok-visit_all.ensures.opened
+    (main_of c.args.main.now) (option_copied c.args.sums) c.in_ok-cache.ensures.main c.in_ok-cache.ensures.sums loaded c.visit_all.ensures.asks
+    told.main told.faults told.ordered told.ascending
+    (subst (λ (ms : List ModuleVersion). HaveSame (edges_in ms builder) loaded.edges) c.into_parts-modules.ensures.modules told.edges)
+    told.rows (told.turns ∙ c.into_parts-modules.ensures.turns)
 
 pub returns-in_err-builder-clause-may_answer : goal.returns-in_err-builder-clause-may_answer
 returns-in_err-builder-clause-may_answer g c =

@@ -1,12 +1,12 @@
 use Rattle.std.proofs.Common.{◌∙◌, ◌++◌, sym, ap, Err, arith, refl, List, append-nil}
 use Rattle.gm_store.specs.Asked.{Name}
 use Rattle.gm_store.proofs.Counts.{cause_later, later_both}
-use Rattle.gm_graph_cache.specs.Cached.{main_in, sums_in}
+use Rattle.gm_graph_cache.specs.Cached.{main_in, modules_in, numbered, sums_in}
 use Rattle.gm_graph_cache.specs.Refusals.{refused_names}
 use Rattle.gm_graph_cache.proofs.Growing.{may_along, may_none}
 use Rattle.gm_graph.proofs.Dues.{asks_more, due_here, many_here, refused_same}
 use Rattle.gm_graph.proofs.Rounds.{few_turns}
-use Rattle.gm_graph.specs.Builder.{turns_of, vertex_of}
+use Rattle.gm_graph.specs.Builder.{turns_of}
 use Rattle.gm_graph.proofs.Stepping.{first_step, last_step, number_here, past_all, step, turn_below, turn_here}
 use Rattle.gm_graph.proofs.loading.visit_all.Goals as goal
 
@@ -20,17 +20,22 @@ turns-init g c = record {
 }
 
 pub turns-smaller : goal.turns-smaller
-turns-smaller g c = let below = turn_below c.turns.builder c.turns.at (omega arith) in let few = few_turns c.turns.invariant.state.builder_is.opened (turns_of c.turns.builder) c.turns.invariant.state.builder_is.turns in omega arith
+turns-smaller g c =
+    let modules = modules_in c.turns.cache in
+    let below = turn_below modules c.turns.builder c.turns.at (omega arith) in
+    let few = few_turns c.turns.invariant.state.builder_is.opened (turns_of modules c.turns.builder) c.turns.invariant.state.builder_is.turns in
+    omega arith
 
 pub turns-preserved : goal.turns-preserved
 turns-preserved g c =
     let one = c.index-one.result.now in
-    let x = vertex_of c.turns.builder one in
-    let below = turn_below c.turns.builder c.turns.at (omega arith) in
-    let here = turn_here c.turns.builder c.turns.at one (omega arith) c.index-one.ensures in
+    let modules = modules_in c.turns.cache in
+    let x = numbered c.turns.cache one.number in
+    let below = turn_below modules c.turns.builder c.turns.at (omega arith) in
+    let here = turn_here modules c.turns.builder c.turns.at one (omega arith) c.index-one.ensures in
     record {
       state = step (main_in c.args.cache.now) (sums_in c.args.cache.now) c.turns.cache c.visit.new.cache (g.F.Files.state c.turns.files).asked (g.F.Files.state c.visit.new.files).asked c.turns.builder c.visit.new.builder c.turns.at x one.depth
-          c.turns.invariant.state below here c.in_ok-visit.ensures.knows c.in_ok-visit.ensures.continues c.in_ok-visit.ensures.turns c.in_ok-visit.ensures.followed c.visit.ensures.asks;
+          c.turns.invariant.state below here c.in_ok-visit.ensures.knows c.in_ok-visit.ensures.continues c.in_ok-visit.ensures.turns c.in_ok-visit.ensures.builder c.in_ok-visit.ensures.followed c.visit.ensures.asks;
       may = may_along _ _ (g.F.Files.state c.args.files.now) (g.F.Files.state c.turns.files) (g.F.Files.state c.visit.new.files) c.turns.invariant.same_store c.turns.invariant.may c.visit.ensures.may;
       same_store = λ n r h. c.turns.invariant.same_store n r (c.visit.ensures.same_store n r h);
       refused = c.in_ok-visit.ensures.refused ∙ append-nil _ ∙ c.turns.invariant.refused;
@@ -38,7 +43,7 @@ turns-preserved g c =
     }
 
 pub returns-clause-opened : goal.returns-clause-opened
-returns-clause-opened g c = last_step c.args.cache.now c.turns.cache (g.F.Files.state c.turns.files).asked c.turns.builder c.turns.at c.turns.invariant.state (past_all c.turns.builder c.turns.at (omega arith))
+returns-clause-opened g c = last_step c.args.cache.now c.turns.cache (g.F.Files.state c.turns.files).asked c.turns.builder c.turns.at c.turns.invariant.state (past_all (modules_in c.turns.cache) c.turns.builder c.turns.at (omega arith))
 
 pub returns-clause-asks : goal.returns-clause-asks
 returns-clause-asks g c = c.turns.invariant.state.asks
@@ -47,38 +52,41 @@ pub visit-requires : goal.visit-requires
 visit-requires g c = record {
   knows = c.turns.invariant.state.knows;
   builder = c.turns.invariant.state.builder_is;
-  below = number_here c.turns.builder c.turns.at c.index-one.result.now c.turns.invariant.state.builder_is (omega arith) c.index-one.ensures;
+  below = number_here (modules_in c.turns.cache) c.turns.builder c.turns.at c.index-one.result.now c.turns.invariant.state.builder_is (omega arith) c.index-one.ensures;
 }
 
 pub returns-in_err-visit-clause-asks : goal.returns-in_err-visit-clause-asks
 returns-in_err-visit-clause-asks g c =
     let one = c.index-one.result.now in
-    let x = vertex_of c.turns.builder one in
-    let below = turn_below c.turns.builder c.turns.at (omega arith) in
-    let here = turn_here c.turns.builder c.turns.at one (omega arith) c.index-one.ensures in
+    let modules = modules_in c.turns.cache in
+    let x = numbered c.turns.cache one.number in
+    let below = turn_below modules c.turns.builder c.turns.at (omega arith) in
+    let here = turn_here modules c.turns.builder c.turns.at one (omega arith) c.index-one.ensures in
     let state = c.turns.invariant.state in
-    asks_more (main_in c.args.cache.now) (sums_in c.args.cache.now) c.turns.cache state.main_is state.sums_are (g.F.Files.state c.turns.files).asked state.knows (turns_of c.turns.builder) c.turns.at x one.depth state.queue.sound below here
+    asks_more (main_in c.args.cache.now) (sums_in c.args.cache.now) c.turns.cache state.main_is state.sums_are (g.F.Files.state c.turns.files).asked state.knows (turns_of modules c.turns.builder) c.turns.at x one.depth state.queue.sound below here
     (g.F.Files.state c.visit.new.files).asked state.asks c.visit.ensures.asks
 
 pub returns-in_err-visit-clause-too_many : goal.returns-in_err-visit-clause-too_many
 returns-in_err-visit-clause-too_many g c = λ e.
     let one = c.index-one.result.now in
-    let x = vertex_of c.turns.builder one in
-    let below = turn_below c.turns.builder c.turns.at (omega arith) in
-    let here = turn_here c.turns.builder c.turns.at one (omega arith) c.index-one.ensures in
+    let modules = modules_in c.turns.cache in
+    let x = numbered c.turns.cache one.number in
+    let below = turn_below modules c.turns.builder c.turns.at (omega arith) in
+    let here = turn_here modules c.turns.builder c.turns.at one (omega arith) c.index-one.ensures in
     let state = c.turns.invariant.state in
-    many_here (main_in c.args.cache.now) (sums_in c.args.cache.now) c.turns.cache state.main_is state.sums_are (g.F.Files.state c.turns.files).asked state.knows (turns_of c.turns.builder) c.turns.at x one.depth state.queue.sound below here
+    many_here (main_in c.args.cache.now) (sums_in c.args.cache.now) c.turns.cache state.main_is state.sums_are (g.F.Files.state c.turns.files).asked state.knows (turns_of modules c.turns.builder) c.turns.at x one.depth state.queue.sound below here
     (g.F.Files.state c.visit.new.files).asked (c.in_err-visit.ensures.too_many (ap Err (sym (rw e at c.from_residual.ensures.1))))
 
 pub returns-in_err-visit-clause-device : goal.returns-in_err-visit-clause-device
 returns-in_err-visit-clause-device g c = λ name e.
     let one = c.index-one.result.now in
-    let x = vertex_of c.turns.builder one in
-    let below = turn_below c.turns.builder c.turns.at (omega arith) in
-    let here = turn_here c.turns.builder c.turns.at one (omega arith) c.index-one.ensures in
+    let modules = modules_in c.turns.cache in
+    let x = numbered c.turns.cache one.number in
+    let below = turn_below modules c.turns.builder c.turns.at (omega arith) in
+    let here = turn_here modules c.turns.builder c.turns.at one (omega arith) c.index-one.ensures in
     let state = c.turns.invariant.state in
     let said = c.in_err-visit.ensures.device name (ap Err (sym (rw e at c.from_residual.ensures.1))) in
-    due_here (main_in c.args.cache.now) (sums_in c.args.cache.now) c.turns.cache state.main_is state.sums_are (g.F.Files.state c.turns.files).asked state.knows (turns_of c.turns.builder) c.turns.at x one.depth state.queue.sound below here
+    due_here (main_in c.args.cache.now) (sums_in c.args.cache.now) c.turns.cache state.main_is state.sums_are (g.F.Files.state c.turns.files).asked state.knows (turns_of modules c.turns.builder) c.turns.at x one.depth state.queue.sound below here
     (g.F.Files.state c.visit.new.files).asked _ said.0 said.1 said.2 said.3
 
 pub returns-in_err-visit-clause-cause : goal.returns-in_err-visit-clause-cause

@@ -1,7 +1,11 @@
-use Rattle.std.proofs.Common.{◌≡◌, take, string_bytes}
+use Rattle.std.proofs.Common.{◌≡◌, ◌++◌, string_bytes}
 use Rattle.gm_graph_listing.specs.Texts.{graph_text}
 use Rattle.gm_graph_listing.proofs.graph_lines.graph_text.Given as goal
 
--- the lines of the edges so far
+-- the lines so far, followed by those of the remaining edges
 abbrev pub invariant-edges : goal.invariant-edges
-invariant-edges l = string_bytes l.text ≡ graph_text l.main (take l.edge-index l.edges)
+invariant-edges l = record {
+  can : (goal.iterator-edges).can_next l.rest;
+  finite : (goal.iterator-edges).is_finite l.rest;
+  text : string_bytes l.text ++ graph_text l.main l.rest ≡ graph_text l.main l.fn.edges;
+}

@@ -26,7 +26,7 @@ loop-next-preserved c =
     let ranks = c.loop-next.ranking.ranks.items in
     let rest_from : (x : Numbered) → Contains (next ∷ rest) x → Contains all x = λ x h. so.rest x (subst (λ (xs : List Numbered). Contains xs x) (sym before) h) in
     let in_all : Contains all next = rest_from next (member_head next rest) in
-    let low : next.number < length all = All-contains (λ (one : Numbered). one.number < length all) all next c.requires.within in_all in
+    let low : next.number < c.args.modules = All-contains (λ (one : Numbered). one.number < c.args.modules) all next c.requires.within in_all in
     let inside : next.number < length ranks = omega (arith, low, so.count) in
     record {
       vertices = ap (λ (xs : List Vertex). xs ++ map (λ (one : Numbered). one.vertex) rest) c.in_ok-push.ensures.vertices

@@ -1,11 +1,11 @@
-use Rattle.std.proofs.Common.{◌≡◌, ◌++◌, ◌<◌, ℕ, length, map}
-use Rattle.std.specs.Prelude.{slice_index_or}
+use Rattle.std.proofs.Common.{◌≡◌, ◌≤◌, ◌++◌, length, take}
 use Rattle.std.specs.Vec.Iter.{into_iter_items}
-use Rattle.gm_graph_select.specs.declared.ranking.Numbered.{Numbered}
+use Rattle.gm_graph_select.specs.Ranking.{AreMarkedModules}
 use Rattle.gm_graph_select.proofs.ranking.with_numbers.Given as goal
 
 abbrev pub invariant-loop-vertex : goal.invariant-loop-vertex
 invariant-loop-vertex l = record {
-  vertices : map (λ (one : Numbered). one.vertex) l.all.items ++ into_iter_items l.vertex-iterator ≡ l.fn.vertices.items;
-  numbers : (k : ℕ) (d : Numbered) → k < length l.all.items → (slice_index_or l.all.items k d).number ≡ k;
+  within : l.number ≤ length l.fn.modules.items;
+  rest : take l.number l.fn.modules.items ++ into_iter_items l.vertex-iterator ≡ l.fn.modules.items;
+  numbered : AreMarkedModules (take l.number l.fn.modules.items) l.is_vertex l.all.items;
 }

@@ -3,14 +3,14 @@ use Rattle.std.specs.String.{string_bytes}
 use Rattle.gm_store.specs.Views.{fallback_state}
 use Rattle.gomod_run.specs.Reads.{IsServedUnread, IsStoreFolder, with_proxy}
 use Rattle.gomod_run.proofs.Endings.{ends_weaken}
-use Rattle.gomod_run.proofs.Served.{folders_served, input_unserved, same_run, unread_passed}
+use Rattle.gomod_run.proofs.Served.{folders_served, input_unserved, passed_on, same_run}
 use Rattle.gomod_run.proofs.serving.over_folders.Goals as goal
 
 pub returns-in_err-read-clause-unread : goal.returns-in_err-read-clause-unread
 returns-in_err-read-clause-unread g c =
     let may_open = g.S.FileSystem.may_open c.args.rt.now in
     let unread = c.in_err-read.field-0.0 in
-    unread_passed (IsServedUnread may_open c.args.command.now (with_proxy c.args.places.now (Some c.args.folders))) unread c.from_residual.result
+    passed_on (IsServedUnread may_open c.args.command.now (with_proxy c.args.places.now (Some c.args.folders))) unread c.from_residual.result
     c.from_residual.ensures.1 (inl (input_unserved may_open c.args.command.now c.args.places.now (Some c.args.folders) unread c.in_err-read.ensures))
 
 pub returns-clause-ends : goal.returns-clause-ends

@@ -1,9 +1,10 @@
-use Rattle.std.proofs.Common.{◌≡◌, ◌++◌, ℕ, List, ap, refl, subst, ◌∙◌, Some}
-use Rattle.std.proofs.lemmas.List.{take_at}
+use Rattle.std.proofs.Common.{ℕ, List, ap, subst, ◌∙◌, Some}
+use Rattle.gm_name_table.specs.Listed.{Appends}
 use Rattle.gm_file.specs.DepLines.{AreAllRead}
 use Rattle.gm_file.specs.Directives.{Pair}
 use Rattle.gm_file.specs.Listed.{Head, with_requirements}
 use Rattle.gm_file.proofs.DepReading.{dep-whole}
+use Rattle.gm_file.proofs.ListEnds.{cut_appends}
 use Rattle.gm_file.proofs.dep_file.DepFile.read_listed.Goals as goal
 use Rattle.gm_file.proofs.dep_file.DepFile.read_listed.Goals.{After-of_fields-file}
 
@@ -11,8 +12,8 @@ use Rattle.gm_file.proofs.dep_file.DepFile.read_listed.Goals.{After-of_fields-fi
 abbrev items : After-of_fields-file → List Pair
 items c = c.read_all-read.new.said.fields.requirements.items
 
--- the list that is put back is the old one, and then the requirements
-list-back : (c : After-of_fields-file) → c.of_fields-file.new.modules ≡ c.args.modules.now ++ items c
+-- the requirements were put to the end of the old list
+list-back : (c : After-of_fields-file) → Appends c.args.modules.now c.of_fields-file.new.modules (items c)
 list-back c =
     let taken = c.over-said.ensures.before ∙ c.at_end.ensures.before ∙ ap Some c.replace-list.ensures.value in
     c.of_fields-file.ensures.modules c.args.modules.now (c.read_all-read.ensures.before ∙ taken)
@@ -32,4 +33,5 @@ returns-in-Ok-clause-ok c =
 pub returns-clause-err : goal.returns-clause-err
 returns-clause-err c =
     let k = (goal.at.returns-clause-err c).After-of_fields-file in
-    rw (c.truncate.ensures, list-back k, c.len-start.ensures) (take_at c.args.modules.now (items k) _ refl)
+    cut_appends c.args.modules.now k.of_fields-file.new.modules c.truncate.new.self (items k) (list-back k)
+    c.len-start.ensures.below c.truncate.ensures.modules (rw c.len-start.ensures.len at c.truncate.ensures.numbers)

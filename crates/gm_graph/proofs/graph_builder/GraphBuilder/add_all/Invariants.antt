@@ -1,13 +1,15 @@
-use Rattle.std.proofs.Common.{map, take}
-use Rattle.gm_graph_select.specs.Adjacency.{vertex_at}
+use Rattle.std.proofs.Common.{◌≤◌, length, take}
+use Rattle.gm_name_table.specs.Listed.{modules_at}
+use Rattle.gm_graph_cache.specs.Lent.{lent_table}
 use Rattle.gm_graph.specs.Builder.{IsBuilder, KeepsGraph, turns_of}
 use Rattle.gm_graph.specs.Turns.{AddsAll}
 use Rattle.gm_graph.proofs.graph_builder.GraphBuilder.add_all.Given as goal
 
 abbrev pub invariant-loop-number : goal.invariant-loop-number
 invariant-loop-number l = record {
-  builder : IsBuilder l.self;
-  adds : AddsAll (turns_of l.fn.self) (turns_of l.self)
-      (map (vertex_at l.fn.self.vertices) (take l.number-index l.numbers)) l.depth;
+  builder : IsBuilder (lent_table l.fn.list) l.self;
+  made : length (lent_table l.fn.list) ≤ length l.self.marks.items;
+  adds : AddsAll (turns_of (lent_table l.fn.list) l.fn.self) (turns_of (lent_table l.fn.list) l.self)
+      (modules_at (lent_table l.fn.list) (take l.number-index l.number-items)) l.depth;
   graph : KeepsGraph l.fn.self l.self;
 }

@@ -1,61 +1,55 @@
-use Rattle.std.proofs.Common.{◌≡◌, ◌∙◌, sym, ap, append-nil, refl, subst, Err, Bor, Option}
-use Rattle.std.specs.Option.{option_copied, option_map}
+use Rattle.std.proofs.Common.{◌≡◌, ◌∙◌, sym, ap, append-nil, refl, subst, Err}
 use Rattle.gm_store.specs.Asked.{name_of}
 use Rattle.gm_store.specs.declared.files.FileName.{FileName}
-use Rattle.gm_graph_cache.specs.declared.summary.Kept.{Kept}
 use Rattle.gm_graph_cache.specs.Asking.{StillLacks}
-use Rattle.gm_graph_cache.specs.Cached.{main_in}
-use Rattle.gm_graph_cache.specs.Entries.{found_in}
-use Rattle.gm_graph_cache.specs.Reading.{Held}
-use Rattle.gm_graph_cache.specs.Summaries.{summary_reading}
+use Rattle.gm_graph_cache.specs.Cached.{main_in, numbered}
+use Rattle.gm_graph_cache.specs.Reading.{file_of}
 use Rattle.gm_graph_cache.proofs.Growing.{asks_file}
 use Rattle.gm_graph_cache.proofs.Keeping.{any_err, holds_after, keeps_same, lent_after, lent_same, none_refused}
 use Rattle.gm_graph_cache.proofs.Telling.{keeps_read, knows_read, not_asked}
 use Rattle.gm_graph_cache.proofs.cache.Cache.known.Goals as goal
 
-pub returns-in-Some-clause-finding : goal.returns-in-Some-clause-finding
-returns-in-Some-clause-finding g c =
-    let reading = summary_reading c.args.self.now.modules in
-    let held : Held = λ name. option_map reading (found_in c.args.self.now.summaries name) in
-    c.finding_of.ensures c.args.self.now.modules held (ap (option_map reading) (sym c.find.ensures ∙ ap (λ (o : Option (Bor Kept)). option_copied o) c.in-Some.is))
+pub read_file-requires-clause-fresh : goal.read_file-requires-clause-fresh
+read_file-requires-clause-fresh g c =
+    not_asked c.args.self.now (g.F.Files.state c.args.files.now).asked (name_of c.in_ok-name.name) c.requires.knows (c.in_default.ensures)
 
 pub returns-in_ok-keep-in-Ok-clause-knows : goal.returns-in_ok-keep-in-Ok-clause-knows
 returns-in_ok-keep-in-Ok-clause-knows g c =
     let read = c.in-Ok.ensures.reading in
-    let none = sym c.find.ensures ∙ ap (λ (o : Option (Bor Kept)). option_copied o) c.in_default.is in
+    let none = c.in_default.ensures in
     knows_read c.args.self.now c.read_file.new.self c.keep.new.self (g.F.Files.state c.args.files.now).asked (g.F.Files.state c.read_file.new.files).asked (name_of c.in_ok-name.name) read.0 c.in-Ok.kept
-    c.requires c.read_file.ensures.unchanged.holds c.keep.ensures.lent c.keep.ensures.modules none c.in_ok-keep-in-Ok.ensures.adds read.1 read.2 c.in-Ok.ensures.kept
+    c.requires.knows c.read_file.ensures.unchanged.holds c.keep.ensures.lent c.keep.ensures.modules none c.in_ok-keep-in-Ok.ensures.adds read.1 read.2 c.in-Ok.ensures.kept
 
 pub returns-in-Err-Device-clause-device : goal.returns-in-Err-Device-clause-device
 returns-in-Err-Device-clause-device g c = λ name e.
-    let none = sym c.find.ensures ∙ ap (λ (o : Option (Bor Kept)). option_copied o) c.in_default.is in
+    let none = c.in_default.ensures in
     let same : c.in_ok-name.name ≡ name = cc in
-    subst (λ (n : FileName). StillLacks (main_in c.args.self.now) (g.F.Files.state c.args.files.now) (g.F.Files.state c.read_file.new.files) c.args.x.now (name_of n)) same (
+    subst (λ (n : FileName). StillLacks (main_in c.args.self.now) (g.F.Files.state c.args.files.now) (g.F.Files.state c.read_file.new.files) (numbered c.args.self.now c.args.number) (name_of n)) same (
       (c.in-Err-Device.ensures.device (ap Err c.in-Err-Device.field-0-is)).0,
-      c.in_ok-name.ensures,
+      c.in_ok-name.ensures ∙ ap (file_of (main_in c.args.self.now)) c.module.ensures.module,
       sym c.is_askable.ensures ∙ c.if-not-is_askable.false,
-      not_asked c.args.self.now (g.F.Files.state c.args.files.now).asked (name_of c.in_ok-name.name) c.requires none,
+      not_asked c.args.self.now (g.F.Files.state c.args.files.now).asked (name_of c.in_ok-name.name) c.requires.knows none,
     )
 
 pub returns-in-Err-Device-clause-asks : goal.returns-in-Err-Device-clause-asks
 returns-in-Err-Device-clause-asks g c =
-    asks_file (main_in c.args.self.now) (g.F.Files.state c.args.files.now) (g.F.Files.state c.read_file.new.files) c.args.x.now (name_of c.in_ok-name.name)
-    (c.in_ok-name.ensures) (sym c.is_askable.ensures ∙ c.if-not-is_askable.false) c.read_file.ensures.asks
+    asks_file (main_in c.args.self.now) (g.F.Files.state c.args.files.now) (g.F.Files.state c.read_file.new.files) (numbered c.args.self.now c.args.number) (name_of c.in_ok-name.name)
+    (c.in_ok-name.ensures ∙ ap (file_of (main_in c.args.self.now)) c.module.ensures.module) (sym c.is_askable.ensures ∙ c.if-not-is_askable.false) c.read_file.ensures.asks
 
 pub returns-in-Err-NoMemory-clause-asks : goal.returns-in-Err-NoMemory-clause-asks
 returns-in-Err-NoMemory-clause-asks g c =
-    asks_file (main_in c.args.self.now) (g.F.Files.state c.args.files.now) (g.F.Files.state c.read_file.new.files) c.args.x.now (name_of c.in_ok-name.name)
-    (c.in_ok-name.ensures) (sym c.is_askable.ensures ∙ c.if-not-is_askable.false) c.read_file.ensures.asks
+    asks_file (main_in c.args.self.now) (g.F.Files.state c.args.files.now) (g.F.Files.state c.read_file.new.files) (numbered c.args.self.now c.args.number) (name_of c.in_ok-name.name)
+    (c.in_ok-name.ensures ∙ ap (file_of (main_in c.args.self.now)) c.module.ensures.module) (sym c.is_askable.ensures ∙ c.if-not-is_askable.false) c.read_file.ensures.asks
 
 pub returns-in_ok-keep-in-Ok-clause-asks : goal.returns-in_ok-keep-in-Ok-clause-asks
 returns-in_ok-keep-in-Ok-clause-asks g c =
-    asks_file (main_in c.args.self.now) (g.F.Files.state c.args.files.now) (g.F.Files.state c.read_file.new.files) c.args.x.now (name_of c.in_ok-name.name)
-    (c.in_ok-name.ensures) (sym c.is_askable.ensures ∙ c.if-not-is_askable.false) c.read_file.ensures.asks
+    asks_file (main_in c.args.self.now) (g.F.Files.state c.args.files.now) (g.F.Files.state c.read_file.new.files) (numbered c.args.self.now c.args.number) (name_of c.in_ok-name.name)
+    (c.in_ok-name.ensures ∙ ap (file_of (main_in c.args.self.now)) c.module.ensures.module) (sym c.is_askable.ensures ∙ c.if-not-is_askable.false) c.read_file.ensures.asks
 
 pub returns-in_err-keep-in-Ok-clause-asks : goal.returns-in_err-keep-in-Ok-clause-asks
 returns-in_err-keep-in-Ok-clause-asks g c =
-    asks_file (main_in c.args.self.now) (g.F.Files.state c.args.files.now) (g.F.Files.state c.read_file.new.files) c.args.x.now (name_of c.in_ok-name.name)
-    (c.in_ok-name.ensures) (sym c.is_askable.ensures ∙ c.if-not-is_askable.false) c.read_file.ensures.asks
+    asks_file (main_in c.args.self.now) (g.F.Files.state c.args.files.now) (g.F.Files.state c.read_file.new.files) (numbered c.args.self.now c.args.number) (name_of c.in_ok-name.name)
+    (c.in_ok-name.ensures ∙ ap (file_of (main_in c.args.self.now)) c.module.ensures.module) (sym c.is_askable.ensures ∙ c.if-not-is_askable.false) c.read_file.ensures.asks
 
 -- ---- memory ran out before anything was asked for
 
@@ -82,7 +76,7 @@ returns-in_ok-keep-in-Ok-clause-lent g c = lent_after c.args.self.now c.read_fil
 pub returns-in_ok-keep-in-Ok-clause-grows : goal.returns-in_ok-keep-in-Ok-clause-grows
 returns-in_ok-keep-in-Ok-clause-grows g c =
     keeps_read c.args.self.now c.read_file.new.self c.keep.new.self (name_of c.in_ok-name.name) c.in-Ok.kept c.read_file.ensures.unchanged.holds c.keep.ensures.modules
-    (sym c.find.ensures ∙ ap (λ (o : Option (Bor Kept)). option_copied o) c.in_default.is) c.in_ok-keep-in-Ok.ensures.adds
+    (c.in_default.ensures) c.in_ok-keep-in-Ok.ensures.adds
 
 pub returns-in_ok-keep-in-Ok-clause-refused : goal.returns-in_ok-keep-in-Ok-clause-refused
 returns-in_ok-keep-in-Ok-clause-refused g c = c.in-Ok.ensures.not_refused (λ e. cc e) ∙ sym (append-nil _)

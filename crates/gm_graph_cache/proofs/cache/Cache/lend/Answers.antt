@@ -1,17 +1,39 @@
-use Rattle.std.proofs.Common.{◌∙◌, ap, refl, subst, sym}
+use Rattle.std.proofs.Common.{◌≡◌, ◌∙◌, ◌++◌, ◌∷◌, [], ap, refl, subst, sym}
+use Rattle.gm_name_table.specs.Listed.{listed}
 use Rattle.gm_graph_cache.specs.declared.summary.Span.{Span}
+use Rattle.gm_graph_cache.specs.Cached.{numbered}
+use Rattle.gm_graph_cache.specs.Main.{ModuleVersion}
+use Rattle.gm_graph_cache.specs.Turns.{turn}
 use Rattle.gm_graph_cache.specs.Summaries.{IsWithinList, at_span}
-use Rattle.gm_graph_cache.proofs.Lending.{lent_kept, lent_within}
+use Rattle.gm_graph_cache.proofs.Lending.{lender_within, lent_kept, lent_within}
 use Rattle.gm_graph_cache.proofs.cache.Cache.lend.Goals as goal
 
+pub span_of-span-requires : goal.span_of-span-requires
+span_of-span-requires c = lender_within c.args.self.now (numbered c.args.self.now c.args.number) c.args.place c.requires.lender
+
 pub at-requires : goal.at-requires
-at-requires c = subst (λ (span : Span). IsWithinList c.args.self.now.modules span) (sym c.span_of-span.ensures) (lent_within c.args.self.now _ c.requires.lends)
+at-requires c =
+    let cache = c.args.self.now in
+    subst (λ (span : Span). IsWithinList (listed cache.modules) span) (sym c.span_of-span.ensures)
+    (lent_within cache (numbered cache c.args.number) c.args.place c.requires.lends c.requires.lender)
 
 pub returns : goal.returns
-returns c = (
-  (refl, λ _. tt, record { turns = c.in_ok-push_turn.ensures.ok; holds = record { main = refl; sums = refl; held = λ _. refl; lends = λ lends. lends } }),
-  record {
-    lent = c.at.ensures ∙ ap (λ (span : Span). at_span c.args.self.now.modules span) c.span_of-span.ensures ∙ lent_kept c.args.self.now c.args.vertex.now _ c.requires.lends c.requires.lender;
-    after = tt;
-  },
-)
+returns c =
+    let cache = c.args.self.now in (
+      (
+        refl,
+        λ _. tt,
+        record {
+          turns = subst (λ (x : ModuleVersion). c.push_turn.new.turns.items ≡ c.args.self.now.turns.items ++ turn x c.args.depth ∷ [])
+              c.module.ensures.module c.in_ok-push_turn.ensures.ok;
+          modules = refl;
+          holds = record { main = refl; sums = refl; held = λ _. refl; lends = λ lends. lends };
+        },
+      ),
+      record {
+        lent = c.at.ensures.modules ∙ ap (λ (span : Span). at_span (listed cache.modules) span) c.span_of-span.ensures
+            ∙ lent_kept cache (numbered cache c.args.number) c.args.place c.requires.lends c.requires.lender;
+        table = c.at.ensures.table;
+        after = tt;
+      },
+    )

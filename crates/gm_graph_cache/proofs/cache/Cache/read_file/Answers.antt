@@ -24,7 +24,7 @@ pub returns-clause-asks : goal.returns-clause-asks
 returns-clause-asks g c = let (reply, _, adds) = c.in_ok-ask.ensures.ok in inr (reply, c.requires.fresh, adds)
 
 pub returns-in_err-kept-clause-unchanged : goal.returns-in_err-kept-clause-unchanged
-returns-in_err-kept-clause-unchanged g c = record { turns = refl; holds = holds_grown c.args.self.now _ refl refl (λ _. refl) c.summarize.ensures.grows c.requires.lends }
+returns-in_err-kept-clause-unchanged g c = record { turns = refl; holds = holds_grown c.args.self.now _ refl refl refl c.summarize.ensures.grows c.requires.lends }
 
 pub returns-clause-unchanged : goal.returns-clause-unchanged
-returns-clause-unchanged g c = record { turns = refl; holds = holds_grown c.args.self.now _ refl refl (λ _. refl) c.summarize.ensures.grows c.requires.lends }
+returns-clause-unchanged g c = record { turns = refl; holds = holds_grown c.args.self.now _ refl refl refl c.summarize.ensures.grows c.requires.lends }

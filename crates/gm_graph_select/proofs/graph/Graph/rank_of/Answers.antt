@@ -4,7 +4,8 @@ use Rattle.std.specs.Ordering.{ordering_index}
 use Rattle.std.specs.Prelude.{Contains}
 use Rattle.std.specs.declared.cmp.Ordering.TheVariants.{Less, Greater}
 use Rattle.gm_graph_select.specs.Adjacency.{GraphView, vertex_at}
-use Rattle.gm_graph_select.specs.Graph.{Vertex, vertex_cmp}
+use Rattle.gm_graph_select.specs.Graph.{Vertex}
+use Rattle.gm_name.specs.PairOrder.{pair_cmp}
 use Rattle.gm_graph_select.specs.Numbering.{IsGraph}
 use Rattle.gm_graph_select.specs.StepOrder.{vertex-anti}
 use Rattle.gm_graph_select.proofs.NumberedSteps.{is_graph, vertex_not_found}
@@ -27,5 +28,5 @@ pub returns-in-Err-clause-none : goal.returns-in-Err-clause-none
 returns-in-Err-clause-none c =
     let x = c.args.vertex.now in
     let i = c.in-Err.field-0 in
-    let says = subst (λ (xs : List Vertex). IsNonDecreasingBy (λ (y : Vertex). ordering_index (vertex_cmp y x)) xs → IsPartitionPoint (λ (y : Vertex). vertex_cmp y x ≡ Less) (λ (y : Vertex). vertex_cmp y x ≡ Greater) xs i) c.deref.ensures.value c.in-Err.ensures.position in
+    let says = subst (λ (xs : List Vertex). IsNonDecreasingBy (λ (y : Vertex). ordering_index (pair_cmp y x)) xs → IsPartitionPoint (λ (y : Vertex). pair_cmp y x ≡ Less) (λ (y : Vertex). pair_cmp y x ≡ Greater) xs i) c.deref.ensures.value c.in-Err.ensures.position in
     subst (λ (g : GraphView). Contains g.vertices x → ⊥) c.self.view_is (vertex_not_found c.self.inside.vertices.items x i c.self.invariant.vertices_ascend says)

@@ -1,0 +1,105 @@
+-- The end of a list of modules, to which requirements are put.
+use Rattle.std.proofs.Common.{◌≡◌, ◌∙◌, ◌≤◌, ℕ, Bool, true, false, List, [], ◌∷◌, ◌++◌, Some, append-nil, ap, arith, drop, length, length-append, refl, subst, sym, take}
+use Rattle.std.proofs.lemmas.List.{take-append-drop, take-append-le, take-map, take_all}
+use Rattle.std.proofs.lemmas.Option.{same_Some}
+use Rattle.gm_name_table.specs.Listed.{Appends, AreModuleNumbers, BeginsWith, NumberedList, listed, module_at, modules_at}
+use Rattle.gm_name_table.proofs.Listed.{same_modules}
+use Rattle.gm_file.specs.Directives.{Pair}
+use Rattle.gm_file.specs.Requirements.{IsLonger, Requirements, items_in, list_before}
+use Rattle.gm_file.specs.declared.required.Place.TheVariants as place
+
+-- What stood at the beginning of a list stands there still.
+begun_as : {T : Type 0} (old new : List T) (n : ℕ) → n ≤ length old → BeginsWith old new → take n new ≡ take n old
+begun_as {T} old new n within begins =
+    ap (λ (list : List T). take n list) begins.1 ∙ take-append-le n old begins.0 within
+
+no_shorter : {T : Type 0} (old new : List T) → BeginsWith old new → length old ≤ length new
+no_shorter {T} old new begins =
+    let is = ap (λ (list : List T). length list) begins.1 in omega (arith, is, length-append old begins.0)
+
+-- What the list was before stays, if modules are put to its end.
+same_before : (old new : NumberedList) (start known : ℕ) (more : List Pair) → IsLonger old start known
+    → Appends old new more → list_before new start known ≡ list_before old start known
+same_before old new start known more longer appends =
+    ap (λ (modules : List Pair). record { modules = modules; numbers = take start new.numbers })
+    (begun_as old.modules new.modules known longer.modules appends.numbered)
+    ∙ ap (λ (numbers : List ℕ). record { modules = take known old.modules; numbers = numbers })
+    (begun_as old.numbers new.numbers start longer.numbers appends.kept)
+
+still_longer : (old new : NumberedList) (start known : ℕ) (more : List Pair) → IsLonger old start known
+    → Appends old new more → IsLonger new start known
+still_longer old new start known more longer appends = record {
+  numbers = omega (arith, longer.numbers, no_shorter old.numbers new.numbers appends.kept);
+  modules = omega (arith, longer.modules, no_shorter old.modules new.modules appends.numbered);
+  below = subst (λ (list : NumberedList). AreModuleNumbers list.modules list.numbers)
+      (sym (same_before old new start known more longer appends)) longer.below;
+}
+
+-- What came after was put to the end of what the list was before.
+end_appends : (list : NumberedList) (start known : ℕ) → IsLonger list start known
+    → Appends (list_before list start known) list (drop start (listed list))
+end_appends list start known longer =
+    let begins : BeginsWith (take known list.modules) list.modules =
+    (drop known list.modules, sym (take-append-drop known list.modules)) in
+    record {
+      numbered = begins;
+      kept = (drop start list.numbers, sym (take-append-drop start list.numbers));
+      listed = sym (take-append-drop start (listed list))
+          ∙ ap (λ (before : List Pair). before ++ drop start (listed list))
+          (take-map (module_at list.modules) start list.numbers
+          ∙ same_modules (take known list.modules) list.modules (take start list.numbers) begins longer.below);
+    }
+
+-- It is so in any list that is this one, if this is what stands before in the place.
+pub given_back : {requirements : Requirements} (list given before : NumberedList) (start known : ℕ)
+    → items_in (place.End list start known) ≡ requirements → IsLonger list start known
+    → requirements.before ≡ Some before → given ≡ list → Appends before given requirements.items
+given_back list given before start known is longer has same =
+    subst (λ (r : Requirements). r.before ≡ Some before → Appends before given r.items) is
+    (λ there.
+    subst (λ (b : NumberedList). Appends b given (drop start (listed list)))
+    (same_Some (list_before list start known) before there)
+    (subst (λ (l : NumberedList). Appends (list_before list start known) l (drop start (listed list))) (sym same)
+    (end_appends list start known longer)))
+    has
+
+-- Nothing was put to the end of the same list.
+nothing_appends : (list : NumberedList) → Appends list list []
+nothing_appends list = record {
+  numbered = ([], sym (append-nil list.modules));
+  kept = ([], sym (append-nil list.numbers));
+  listed = sym (append-nil (listed list));
+}
+
+-- Either this module was put to the end of a list, or nothing was.
+appends_if_known : (old new : NumberedList) (pair : Pair) (is_known : Bool)
+    → (is_known ≡ true → Appends old new (pair ∷ [])) → (is_known ≡ false → new ≡ old)
+    → (more : List Pair) × Appends old new more
+appends_if_known old new pair true known unknown = (pair ∷ [], known refl)
+appends_if_known old new pair false known unknown =
+    ([], subst (λ (list : NumberedList). Appends old list []) (sym (unknown refl)) (nothing_appends old))
+
+-- So the list is no shorter, and what it was before stays.
+pub stays_if_known : (old new : NumberedList) (start known : ℕ) (pair : Pair) (is_known : Bool) → IsLonger old start known
+    → (is_known ≡ true → Appends old new (pair ∷ [])) → (is_known ≡ false → new ≡ old)
+    → IsLonger new start known × (list_before new start known ≡ list_before old start known)
+stays_if_known old new start known pair is_known longer pushed unknown =
+    let more = appends_if_known old new pair is_known pushed unknown in (
+      still_longer old new start known more.0 longer more.1,
+      same_before old new start known more.0 longer more.1,
+    )
+
+-- Nothing was put to the end of a list that was cut to its old length.
+pub cut_appends : (old new cut : NumberedList) (more : List Pair) → Appends old new more
+    → AreModuleNumbers old.modules old.numbers → cut.modules ≡ new.modules
+    → cut.numbers ≡ take (length old.numbers) new.numbers → Appends old cut []
+cut_appends old new cut more appends below same cut_numbers =
+    let numbers = cut_numbers ∙ begun_as old.numbers new.numbers (length old.numbers) (omega arith) appends.kept
+    ∙ take_all (length old.numbers) old.numbers (omega arith) in
+    let begins : BeginsWith old.modules cut.modules = (appends.numbered.0, same ∙ appends.numbered.1) in
+    record {
+      numbered = begins;
+      kept = ([], numbers ∙ sym (append-nil old.numbers));
+      listed = ap (λ (ns : List ℕ). modules_at cut.modules ns) numbers
+          ∙ same_modules old.modules cut.modules old.numbers begins below ∙ sym (append-nil (listed old));
+    }

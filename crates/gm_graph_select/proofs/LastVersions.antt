@@ -1,0 +1,192 @@
+-- Among vertices in ascending order, the last ones of their paths are the selected ones.
+use Rattle.std.proofs.Common.{◌≡◌, ◌≢◌, ◌⊎◌, ◌&&◌, ℕ, zero, suc, Bool, true, false, List, [], ◌∷◌, map, Contains, ap, ◌∙◌, sym, refl, subst, inl, inr, arith}
+use Rattle.std.specs.Prelude.{if◌then◌else◌, not}
+use Rattle.std.specs.declared.cmp.Ordering.{Ordering}
+use Rattle.std.specs.declared.cmp.Ordering.TheVariants.{Less, Equal, Greater}
+use Rattle.std.specs.Ordering.{is_eq, is_gt, nat_cmp, ordering_reverse, ordering_then}
+use Rattle.std.specs.Cmp.Lexicographic.{slice_cmp}
+use Rattle.std.specs.Str.{bytes_eq}
+use Rattle.std.proofs.lemmas.Bool.{false≢true}
+use Rattle.std.proofs.lemmas.Cmp.{nat_list_cmp_total}
+use Rattle.std.proofs.lemmas.List.{get_or_default}
+use Rattle.std.proofs.lemmas.Map.Text.{is_eq-slice_cmp}
+use Rattle.std.proofs.lemmas.Slice.Eq.{bytes_eq-Decides}
+use Rattle.gm_name.specs.Version.{version_cmp}
+use Rattle.gm_name.specs.VersionOrder.{version_total}
+use Rattle.gm_file.specs.Directives.{Replacing}
+use Rattle.gm_graph_select.specs.BuildList.{AreSelected, IsBuildList, entry_of, main_entry, path_cmp}
+use Rattle.gm_graph_select.specs.Graph.{AreEnds, Edges, Vertex}
+use Rattle.gm_name.specs.PairOrder.{pair_cmp}
+use Rattle.gm_graph_select.specs.Greatest.{first_has_path, greatest_of, is_selected}
+use Rattle.gm_graph_select.specs.Order.{IsAscending}
+use Rattle.gm_graph_select.proofs.Ascending.{less_itself, member_cases, member_head, member_tail, no_member, pairs_head, pairs_tail}
+use Rattle.gm_graph_select.proofs.Greatest.{equal_itself}
+use Rattle.gm_graph_select.proofs.RestRows.{texts_differ}
+
+abbrev Below : Vertex → Vertex → Type 0
+Below x y = pair_cmp x y ≡ Less
+
+-- ---- two vertices, one less than the other
+
+same_paths : (a b : List ℕ) → slice_cmp nat_cmp a b ≡ Equal → a ≡ b
+same_paths a b e = (bytes_eq-Decides a b).0 (sym (is_eq-slice_cmp a b) ∙ ap is_eq e)
+
+-- It has a lesser path, or a lower version of the same path.
+below_parts : (x y : Vertex) → Below x y → (path_cmp x y ≡ Less) ⊎ ((x.0 ≡ y.0) × (version_cmp x.1 y.1 ≡ Less))
+below_parts x y h = go (slice_cmp nat_cmp x.0 y.0) refl h
+  where
+    go : (r : Ordering) → slice_cmp nat_cmp x.0 y.0 ≡ r → ordering_then r (version_cmp x.1 y.1) ≡ Less → (path_cmp x y ≡ Less) ⊎ ((x.0 ≡ y.0) × (version_cmp x.1 y.1 ≡ Less))
+    go Less e h = inl e
+    go Equal e h = inr (same_paths x.0 y.0 e, h)
+    go Greater e h = cc
+
+no_lower_path : (x y : Vertex) → x.0 ≡ y.0 → path_cmp x y ≡ Less → ⊥
+no_lower_path x y same less = less_itself nat_list_cmp_total x.0 (subst (λ (p : List ℕ). slice_cmp nat_cmp x.0 p ≡ Less) (sym same) less)
+
+lower_version : (x y : Vertex) → Below x y → x.0 ≡ y.0 → version_cmp x.1 y.1 ≡ Less
+lower_version x y h same = elim (below_parts x y h) [
+  | inl less ↦ absurd (no_lower_path x y same less)
+  | inr found ↦ found.1
+]
+
+lower_path : (x y : Vertex) → Below x y → y.0 ≢ x.0 → path_cmp x y ≡ Less
+lower_path x y h apart = elim (below_parts x y h) [
+  | inl less ↦ less
+  | inr found ↦ absurd (apart (sym found.0))
+]
+
+-- ---- after the last vertex of a path come other paths
+
+other_paths : (z : Vertex) (zs : List Vertex) → IsAscending pair_cmp (z ∷ zs) → first_has_path z.0 zs ≡ false → (y : Vertex) → Contains zs y → y.0 ≢ z.0
+other_paths z [] up e y h same = no_member y h
+other_paths z (next ∷ zs) up e y h same = elim (member_cases next y zs h) [
+  | inl is ↦ apart (ap (λ (v : Vertex). v.0) is ∙ same)
+  | inr later ↦ behind (below_parts next y (pairs_head Below next y zs (pairs_tail Below z (next ∷ zs) up) later))
+]
+  where
+    apart : next.0 ≢ z.0
+    apart = texts_differ next.0 z.0 e
+
+    above : path_cmp z next ≡ Less
+    above = lower_path z next (pairs_head Below z next (next ∷ zs) up (member_head next zs)) apart
+
+    behind : (path_cmp next y ≡ Less) ⊎ ((next.0 ≡ y.0) × (version_cmp next.1 y.1 ≡ Less)) → ⊥
+    behind (inl less) = no_lower_path z y (sym same) (nat_list_cmp_total.trans z.0 next.0 y.0 above less)
+    behind (inr found) = apart (found.0 ∙ same)
+
+neither : (a b : Bool) → (not a && not b) ≡ true → (a ≡ false) × (b ≡ false)
+neither true b e = absurd (false≢true e)
+neither false true e = absurd (false≢true e)
+neither false false e = (refl, refl)
+
+both_not : (a b : Bool) → a ≡ false → b ≡ false → (not a && not b) ≡ true
+both_not true b e f = cc
+both_not false true e f = cc
+both_not false false e f = refl
+
+apart_texts : (a b : List ℕ) → a ≢ b → bytes_eq a b ≡ false
+apart_texts a b apart = go (bytes_eq a b) refl
+  where
+    go : (r : Bool) → bytes_eq a b ≡ r → bytes_eq a b ≡ false
+    go true e = absurd (apart ((bytes_eq-Decides a b).0 e))
+    go false e = e
+
+-- ---- what is selected
+
+-- The path is not the main module's, and none of these vertices has a greater version of it.
+abbrev IsGreatestOf : List ℕ → List Vertex → Vertex → Type 0
+IsGreatestOf main xs x = (x.0 ≢ main) × Contains xs x × ((y : Vertex) → Contains xs y → y.0 ≡ x.0 → is_gt (version_cmp y.1 x.1) ≡ false)
+
+-- one more vertex at the beginning
+selected_first : (main : List ℕ) (z : Vertex) (zs : List Vertex) → IsAscending pair_cmp (z ∷ zs) → is_selected main z zs ≡ true → IsGreatestOf main (z ∷ zs) z
+selected_first main z zs up e =
+    let two = neither (bytes_eq z.0 main) (first_has_path z.0 zs) e in (
+      texts_differ z.0 main two.0,
+      member_head z zs,
+      (λ y there same. elim (member_cases z y zs there) [
+        | inl is ↦ subst (λ (v : Vertex). is_gt (version_cmp v.1 z.1) ≡ false) is (equal_itself z.1)
+        | inr later ↦ absurd (other_paths z zs up two.1 y later same)
+      ]),
+    )
+
+selected_behind : (main : List ℕ) (z : Vertex) (zs : List Vertex) → IsAscending pair_cmp (z ∷ zs) → (x : Vertex) → IsGreatestOf main zs x → IsGreatestOf main (z ∷ zs) x
+selected_behind main z zs up x is =
+    let lower : Below z x = pairs_head Below z x zs up is.1 in (
+      is.0,
+      member_tail z x zs is.1,
+      (λ y there same. elim (member_cases z y zs there) [
+        | inl first ↦ subst (λ (v : Vertex). is_gt (version_cmp v.1 x.1) ≡ false) first (ap is_gt (lower_version z x lower (ap (λ (v : Vertex). v.0) first ∙ same)))
+        | inr later ↦ is.2 y later same
+      ]),
+    )
+
+selected_by : (main : List ℕ) (z : Vertex) (zs : List Vertex) → IsAscending pair_cmp (z ∷ zs) → ((x : Vertex) → Contains (greatest_of main zs) x → IsGreatestOf main zs x)
+    → (x : Vertex) (b : Bool) → is_selected main z zs ≡ b → Contains (if b then z ∷ greatest_of main zs else greatest_of main zs) x → IsGreatestOf main (z ∷ zs) x
+selected_by main z zs up behind x true e h = elim (member_cases z x (greatest_of main zs) h) [
+  | inl is ↦ subst (λ (v : Vertex). IsGreatestOf main (z ∷ zs) v) is (selected_first main z zs up e)
+  | inr later ↦ selected_behind main z zs up x (behind x later)
+]
+selected_by main z zs up behind x false e h = selected_behind main z zs up x (behind x h)
+
+selected_is : (main : List ℕ) (xs : List Vertex) → IsAscending pair_cmp xs → (x : Vertex) → Contains (greatest_of main xs) x → IsGreatestOf main xs x
+selected_is main [] up x h = absurd (no_member x h)
+selected_is main (z ∷ zs) up x h = selected_by main z zs up (λ y there. selected_is main zs (pairs_tail Below z zs up) y there) x (is_selected main z zs) refl h
+
+-- No vertex of the same path comes after the greatest version.
+last_of_path : (z : Vertex) (zs : List Vertex) → IsAscending pair_cmp (z ∷ zs) → ((y : Vertex) → Contains zs y → y.0 ≡ z.0 → is_gt (version_cmp y.1 z.1) ≡ false) → first_has_path z.0 zs ≡ false
+last_of_path z [] up top = refl
+last_of_path z (next ∷ zs) up top = apart_texts next.0 z.0 (λ same.
+    let less = lower_version z next (pairs_head Below z next (next ∷ zs) up (member_head next zs)) (sym same) in
+    let more : version_cmp next.1 z.1 ≡ Greater = version_total.antisymm next.1 z.1 ∙ ap ordering_reverse less in
+    false≢true (sym (top next (member_head next zs) same) ∙ ap is_gt more))
+
+is_selected_in : (main : List ℕ) (xs : List Vertex) → IsAscending pair_cmp xs → (x : Vertex) → IsGreatestOf main xs x → Contains (greatest_of main xs) x
+is_selected_in main [] up x is = absurd (no_member x is.1)
+is_selected_in main (z ∷ zs) up x is = elim (member_cases z x zs is.1) [
+  | inl first ↦ here first (is_selected main z zs) (subst (λ (v : Vertex). is_selected main v zs ≡ true) (sym first) (kept first))
+  | inr later ↦ along (is_selected main z zs) (is_selected_in main zs (pairs_tail Below z zs up) x (is.0, later, λ y there. is.2 y (member_tail z y zs there)))
+]
+  where
+    kept : z ≡ x → is_selected main x zs ≡ true
+    kept first = both_not (bytes_eq x.0 main) (first_has_path x.0 zs) (apart_texts x.0 main is.0)
+        (last_of_path x zs (subst (λ (v : Vertex). IsAscending pair_cmp (v ∷ zs)) first up) (λ y there. is.2 y (member_tail z y zs there)))
+
+    here : z ≡ x → (b : Bool) → b ≡ true → Contains (if b then z ∷ greatest_of main zs else greatest_of main zs) x
+    here first true e = subst (λ (v : Vertex). Contains (z ∷ greatest_of main zs) v) first (member_head z (greatest_of main zs))
+    here first false e = cc
+
+    along : (b : Bool) → Contains (greatest_of main zs) x → Contains (if b then z ∷ greatest_of main zs else greatest_of main zs) x
+    along true h = member_tail z x (greatest_of main zs) h
+    along false h = h
+
+-- ---- their order
+
+pairs_more : (x : Vertex) (xs : List Vertex) → ((y : Vertex) → Contains xs y → path_cmp x y ≡ Less) → IsAscending path_cmp xs → IsAscending path_cmp (x ∷ xs)
+pairs_more x xs low up zero zero d lt below = absurd (omega (arith, lt))
+pairs_more x xs low up zero (suc j) d lt below = low _ (j, omega (arith, below), get_or_default xs j _ d (omega (arith, below)))
+pairs_more x xs low up (suc i) zero d lt below = absurd (omega (arith, lt))
+pairs_more x xs low up (suc i) (suc j) d lt below = up i j d (omega (arith, lt)) (omega (arith, below))
+
+ascend_by : (main : List ℕ) (z : Vertex) (zs : List Vertex) → IsAscending pair_cmp (z ∷ zs) → IsAscending path_cmp (greatest_of main zs) → (b : Bool) → is_selected main z zs ≡ b → IsAscending path_cmp (if b then z ∷ greatest_of main zs else greatest_of main zs)
+ascend_by main z zs up behind true e = pairs_more z (greatest_of main zs)
+    (λ y h. let there = (selected_is main zs (pairs_tail Below z zs up) y h).1 in
+    lower_path z y (pairs_head Below z y zs up there) (other_paths z zs up (neither (bytes_eq z.0 main) (first_has_path z.0 zs) e).1 y there)) behind
+ascend_by main z zs up behind false e = behind
+
+selected_ascend : (main : List ℕ) (xs : List Vertex) → IsAscending pair_cmp xs → IsAscending path_cmp (greatest_of main xs)
+selected_ascend main [] up = λ i j d lt below. absurd (omega (arith, below))
+selected_ascend main (z ∷ zs) up = ascend_by main z zs up (selected_ascend main zs (pairs_tail Below z zs up)) (is_selected main z zs) refl
+
+-- Of vertices in ascending order, these are the selected ones of every relation that leads to exactly those vertices.
+pub are_selected : (main : List ℕ) (xs : List Vertex) → IsAscending pair_cmp xs → (edges : Edges) → AreEnds xs edges → AreSelected main edges (greatest_of main xs)
+are_selected main xs up edges ends = record {
+  ascending = selected_ascend main xs up;
+  each = λ x. (
+    (λ h. let is = selected_is main xs up x h in record { not_main = is.0; is_end = (ends x).0 is.1; greatest = λ y end same. is.2 y ((ends y).1 end) same }),
+    (λ is. is_selected_in main xs up x (is.not_main, (ends x).1 is.is_end, λ y there same. is.greatest y ((ends y).0 there) same)),
+  );
+}
+
+-- The main module and the selected vertices are the build list.
+pub listed : (main : List ℕ) (replaces : List Replacing) (edges : Edges) (xs : List Vertex) → AreSelected main edges xs → IsBuildList main replaces edges (main_entry ∷ map (entry_of replaces) xs)
+listed main replaces edges xs are = record { selected = xs; entries_are = refl; ascending = are.ascending; each = are.each }

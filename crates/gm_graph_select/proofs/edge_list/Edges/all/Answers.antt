@@ -1,0 +1,13 @@
+use Rattle.std.proofs.Common.{◌∙◌, List, ap, length, map, subst, sym}
+use Rattle.std.specs.Prelude.{All}
+use Rattle.gm_graph_select.specs.EdgeList.{AreEndsBelow, NumberedEdge, edge_with}
+use Rattle.gm_graph_select.proofs.EdgeLists.{edges_are, pairs_below}
+use Rattle.gm_graph_select.proofs.edge_list.Edges.all.Goals as goal
+
+pub invariant_of-result : goal.invariant_of-result
+invariant_of-result c =
+    let count = length c.args.vertices.now in
+    subst (λ (pairs : List NumberedEdge). All (AreEndsBelow count) pairs) (sym c.all.ensures) (pairs_below count c.args.lists.now c.requires)
+
+pub returns : goal.returns
+returns c = ap (λ (pairs : List NumberedEdge). map (edge_with c.args.vertices.now) pairs) c.all.ensures ∙ edges_are c.args.vertices.now c.args.lists.now

@@ -1,0 +1,38 @@
+-- The edges of adjacency lists, one after the other.
+use Rattle.std.specs.Prelude.{◌<◌, ℕ, Option, None, Some, List, map}
+use Rattle.std.specs.Borrow.{Bor}
+use Rattle.std.specs.List.{flat_map}
+use Rattle.gm_graph_select.specs.declared.adjacency.Adjacency.{Adjacency}
+use Rattle.gm_graph_select.specs.declared.edge_list.EdgeRef.{EdgeRef}
+use Rattle.gm_graph_select.specs.declared.step.Edge.{Edge}
+use Rattle.gm_graph_select.specs.declared.step.Step.{Step}
+use Rattle.gm_graph_select.specs.declared.step.Step.TheVariants.{Main, Of}
+use Rattle.gm_graph_select.specs.Adjacency.{IsBelow, step_with, vertex_at}
+use Rattle.gm_graph_select.specs.Graph.{Vertex, edge}
+
+-- an edge by the numbers of its ends
+abbrev pub NumberedEdge : Type 0
+NumberedEdge = Option ℕ × ℕ
+
+abbrev pub numbered_from : Option ℕ → List ℕ → List NumberedEdge
+numbered_from from to = map (λ number. (from, number)) to
+
+abbrev pub numbered_edges : List Adjacency → List NumberedEdge
+numbered_edges all = flat_map (λ one. numbered_from one.from one.to.items) all
+
+abbrev pub edge_with : List Vertex → NumberedEdge → Edge
+edge_with vertices pair = edge (step_with vertices pair.0) (vertex_at vertices pair.1)
+
+-- Both numbers are below this count.
+abbrev pub AreEndsBelow : ℕ → NumberedEdge → Type 0
+AreEndsBelow count pair = IsBelow count pair.0 × (pair.1 < count)
+
+-- ---- edges that are lent
+
+-- the step of a vertex that may be lent
+abbrev pub step_of_ref : Option (Bor Vertex) → Step
+step_of_ref None = Main
+step_of_ref (Some vertex) = Of vertex.now
+
+abbrev pub edge_of_ref : EdgeRef → Edge
+edge_of_ref one = edge (step_of_ref one.from) one.to.now

@@ -1,0 +1,5 @@
+use Rattle.gm_store.proofs.Inside.{list_below}
+use Rattle.gm_store.proofs.folders.relative_path.push_list_file.Goals as goal
+
+pub returns-clause-inside : goal.returns-clause-inside
+returns-clause-inside c = list_below c.args.path.now c.as_str-path.ensures.path

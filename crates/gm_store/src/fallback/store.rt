@@ -1,0 +1,166 @@
+//! The GOPROXY fallback as a store: each request is looked up in several folders in turn.
+//!
+//! Folders in memory and folders of a file system differ only in the lookup, so both share this store and its
+//! proofs.
+
+ghost use Rattle.std.specs.Prelude.{◌≡◌, ◌<◌, length};
+ghost use Rattle.gm_store.specs.Asked.{Name, name_of};
+ghost use Rattle.gm_store.specs.FolderLookups.{marks_for};
+
+use crate::fallback::proxy_list::Mark;
+use crate::fallback::walk::walk;
+use crate::files::keeping::{keep_answer, keep_name};
+use crate::files::{Answer, Answered, AskFault, FileName, Files};
+use crate::folders::FolderList;
+use crate::folders::buffers::Buffers;
+use std::alloc::Global;
+
+/// A store over several folders. `MemoryFallback` has them in memory, `DiskFallback` on a device.
+///
+/// The answer to a request is that of the folder at which `step` stops. Each failure of the device is counted,
+/// even if the lookup then falls back to the next folder. Running out of memory stops a request at once; the
+/// failures until then are still counted.
+#[derive(Drop)]
+pub struct FallbackStore<F: FolderList> {
+    /// The allocator for the kept names and answers.
+    pub(crate) alloc: Global,
+    /// The folders.
+    pub(crate) folders: F,
+    /// The buffers for look-ups.
+    pub(crate) buffers: Buffers,
+    /// The marks between the proxy folders, one fewer than these.
+    pub(crate) marks: Vec<Mark>,
+    /// The answered requests, in order.
+    pub(crate) asked: Vec<Answered>,
+    /// The names whose requests were refused because the device failed, in order.
+    pub(crate) refused: Vec<FileName>,
+    /// How often the device has failed. The count saturates.
+    pub(crate) faults: u64,
+    // A folder follows each mark, for each name, so the walk can't leave the list.
+    ghost between: { (name : Name) → length (marks_for name marks.items) < F.count_for folders name },
+}
+
+impl<F: FolderList> FallbackStore<F> {
+    ghost use Rattle.std.specs.Prelude.{[]};
+    ghost use Rattle.gm_store.specs.Views.{asked_by, faults_of, folders_under, marks_between, refused_by};
+
+    /// A store over these folders, with the marks between the proxy folders. Nothing has been requested from it
+    /// yet.
+    ///
+    /// The caller shows that for each name there are more folders than marks.
+    pub(crate) fn over(alloc: Global, folders: F, marks: Vec<Mark>) -> FallbackStore<F>
+        requires { (name : Name) → length (marks_for name marks.items) < F.count_for folders name }
+        ensures folders { folders_under result ≡ folders }
+        ensures marks { marks_between result ≡ marks.items }
+        ensures asked { asked_by result ≡ [] }
+        ensures refused { refused_by result ≡ [] }
+        ensures faults { faults_of result ≡ 0 }
+    {
+        FallbackStore {
+            alloc,
+            folders,
+            buffers: Buffers::new(alloc),
+            marks,
+            asked: Vec::new(alloc),
+            refused: Vec::new(alloc),
+            faults: 0,
+        }
+    }
+}
+
+impl<F: FolderList> Files for FallbackStore<F> {
+    ghost use Rattle.std.specs.Prelude.{◌≤◌, ℕ, [], ◌∷◌, ◌++◌, None, Some, OnOk, OnErr};
+    ghost use Rattle.gm_store.specs.Asked.{IsWithinLimit, Reply, answer_in};
+    ghost use Rattle.gm_store.specs.States.{AddsAnswer, CountsFailure};
+    ghost use Rattle.gm_store.specs.Steps.{HasCounted, MayStop, counted_up};
+    ghost use Rattle.gm_store.specs.Views.{fallback_state as state_of, folders_under, marks_between};
+
+    ghost state = { state_of };
+
+    ghost may_answer = { λ store name reply. (failures : ℕ)
+        × MayStop (λ k seen. F.may_find (folders_under store) k name seen)
+        (marks_for name (marks_between store)) (Some reply) failures };
+
+    fn ask(&mut self, name: &FileName) -> Result<(), AskFault>
+        requires { answer_in (state_of self.old).asked (name_of name.now) ≡ None }
+        ensures ok { OnOk result ((reply : Reply)
+            × ((failures : ℕ) × MayStop (λ k seen. F.may_find (folders_under self.old) k (name_of name.now) seen)
+            (marks_for (name_of name.now) (marks_between self.old)) (Some reply) failures)
+            × AddsAnswer (state_of self.old) (state_of self.new) (name_of name.now) reply) }
+        ensures err { OnErr result ((state_of self.new).asked ≡ (state_of self.old).asked) }
+        ensures refused { result ≡ Err AskFault.Device
+            → (state_of self.new).refused ≡ (state_of self.old).refused ++ name_of name.now ∷ [] }
+        ensures not_refused { (result ≡ Err AskFault.Device → ⊥)
+            → (state_of self.new).refused ≡ (state_of self.old).refused }
+        ensures cause { result ≡ Err AskFault.Device → CountsFailure (state_of self.old) (state_of self.new) }
+        ensures same_store { (folders_under self.new ≡ folders_under self.old)
+            × (marks_between self.new ≡ marks_between self.old) }
+        ensures within_limit { OnOk result ((reply : Reply) × IsWithinLimit reply
+            × AddsAnswer (state_of self.old) (state_of self.new) (name_of name.now) reply) }
+        ensures later { (state_of self.old).faults ≤ (state_of self.new).faults }
+
+        // The answer is that of the folder at which `step` stops. The request fails only if `step` stops at a
+        // failure of the device. Failures in the folders before are counted too.
+        ensures counted { OnOk result ((reply : Reply)
+            × (failures : ℕ) × MayStop (λ k seen. F.may_find (folders_under self.old) k (name_of name.now) seen)
+            (marks_for (name_of name.now) (marks_between self.old)) (Some reply) failures
+            × AddsAnswer (state_of self.old) (state_of self.new) (name_of name.now) reply
+            × ((state_of self.new).faults ≡ counted_up (state_of self.old).faults failures)) }
+        ensures device { result ≡ Err AskFault.Device
+            → (failures : ℕ) × MayStop (λ k seen. F.may_find (folders_under self.old) k (name_of name.now) seen)
+            (marks_for (name_of name.now) (marks_between self.old)) None failures
+            × ((state_of self.new).faults ≡ counted_up (state_of self.old).faults failures) }
+        ensures no_memory { result ≡ Err AskFault.NoMemory
+            → HasCounted (λ k seen. F.may_find (folders_under self.old) k (name_of name.now) seen)
+            (marks_for (name_of name.now) (marks_between self.old))
+            (state_of self.old).faults (state_of self.new).faults }
+    {
+        // This read puts the count's range into the proof, also for the early return when memory runs out.
+        let _faults = self.faults;
+        let marks = marks_for(name, &self.marks);
+        let outcome = walk(
+            &self.folders,
+            &mut self.buffers,
+            marks,
+            name,
+            &mut self.faults,
+        )?;
+        match outcome {
+            Some(answer) => {
+                keep_answer(self.alloc, &mut self.asked, name, answer)?;
+                Ok(())
+            }
+            None => {
+                keep_name(self.alloc, &mut self.refused, name)?;
+                Err(AskFault::Device)
+            }
+        }
+    }
+
+    fn count(&self) -> usize {
+        self.asked.len()
+    }
+
+    fn name(&self, i: usize) -> &FileName {
+        &self.asked[i].name
+    }
+
+    fn answer(&self, i: usize) -> &Answer {
+        &self.asked[i].answer
+    }
+
+    fn faults(&self) -> u64 {
+        self.faults
+    }
+}
+
+/// The marks that apply to a name: those between the proxy folders for a module's file, and none for the `go.mod`
+/// of a local folder, which is looked up in one place only.
+fn marks_for<'a>(name: &FileName, marks: &'a [Mark]) -> &'a [Mark]
+    ensures { result.now ≡ marks_for (name_of name.now) marks.now }
+{
+    match name {
+        FileName::Folder(_) => &[],
+        _ => marks,
+    }
+}
