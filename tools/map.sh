@@ -35,7 +35,8 @@ CRATES_INTRODUCTION = """\
 # The crates
 
 The crates in the order of `crates.txt`, each below those that it stands on. What a crate is for is the first sentence \
-of its src/lib.rt or src/main.rt. To use a library, copy the folders in the last column (LIBRARY.md, "To depend on \
+of its src/lib.rt or src/main.rt. `crates.txt` also has the crates of the toolchain that it takes. The calls of a type \
+are its own; `next` of an iterator, and what else is a trait's, is left out. To use a library, copy the folders in the last column (LIBRARY.md, "To depend on \
 them"). [CONTRACTS.md](CONTRACTS.md) has what the calls promise, [MAP.md](MAP.md) the files. `tools/map.sh` generates \
 this page.
 

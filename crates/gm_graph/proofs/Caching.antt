@@ -39,8 +39,8 @@ on_ok_two (Err e) f p q = tt
 
 -- A visit according to a cache that knows the vertex's file. The modules that it adds have numbers that the builder doesn't use.
 module _ (old mid : Cache) (builder : GraphBuilder) (one : NumberedTurn) (numbered_by : BeginsWith (modules_in old) (modules_in mid)) (is : IsBuilder (modules_in old) builder) (below : one.number < length (modules_in old)) where
-  pair_eq : numbered mid one.number ≡ numbered old one.number
-  pair_eq = ap (λ (ms : List ModuleVersion). vertex_at ms one.number) numbered_by.1 ∙ vertex_stays (modules_in old) numbered_by.0 one.number below
+  same_module : numbered mid one.number ≡ numbered old one.number
+  same_module = ap (λ (ms : List ModuleVersion). vertex_at ms one.number) numbered_by.1 ∙ vertex_stays (modules_in old) numbered_by.0 one.number below
 
   -- what it did
   pub visited_by : (new : Cache) (after : GraphBuilder) → AddsTurn mid new (turn_of (modules_in mid) one)
@@ -49,7 +49,7 @@ module _ (old mid : Cache) (builder : GraphBuilder) (one : NumberedTurn) (number
   visited_by new after adds followed =
       readings_same mid new (turn_of (modules_in mid) one) adds (λ (m : Main) (r : Readings) (ms : List ModuleVersion). IsVisited m r (built (modules_in old) builder) (built ms after) (numbered old one.number) one.depth)
       (subst (λ (b : Built). IsVisited (main_in mid) (readings_in mid) b (built (modules_in mid) after) (numbered old one.number) one.depth) (built_over (modules_in old) (modules_in mid) builder is numbered_by)
-      (subst (λ (x : ModuleVersion). IsVisited (main_in mid) (readings_in mid) (built (modules_in mid) builder) (built (modules_in mid) after) x one.depth) pair_eq followed))
+      (subst (λ (x : ModuleVersion). IsVisited (main_in mid) (readings_in mid) (built (modules_in mid) builder) (built (modules_in mid) after) x one.depth) same_module followed))
 
   -- too many vertices
   pub overflows_at : (pairs : List (Name × Reply)) → LentSame old mid → KeepsHeld (held_of old) (held_of mid) → Knows mid pairs
@@ -61,5 +61,5 @@ module _ (old mid : Cache) (builder : GraphBuilder) (one : NumberedTurn) (number
     grows,
     subst (λ (m : Main). VisitOverflows m (readings_by m (held_of mid)) (turns_of (modules_in old) builder) (numbered old one.number) one.depth) (ap main_of lent.main)
         (subst (λ (ts : List Turn). VisitOverflows (main_in mid) (readings_in mid) ts (numbered old one.number) one.depth) (turns_over (modules_in old) (modules_in mid) builder is numbered_by)
-        (subst (λ (x : ModuleVersion). VisitOverflows (main_in mid) (readings_in mid) (turns_of (modules_in mid) builder) x one.depth) pair_eq over)),
+        (subst (λ (x : ModuleVersion). VisitOverflows (main_in mid) (readings_in mid) (turns_of (modules_in mid) builder) x one.depth) same_module over)),
   )

@@ -20,7 +20,7 @@ use Rattle.gm_graph.proofs.Rounds.{first_turns_are}
 use Rattle.gm_graph.proofs.Turning.{main_gathered}
 
 -- the vertices that the main file requires
-abbrev required_in : Main → List ModuleVersion
+abbrev pub required_in : Main → List ModuleVersion
 required_in main = without_excluded main main.requirements
 
 no_faults : (builder : GraphBuilder) → builder.faults.entries ≡ [] → (x : ModuleVersion)

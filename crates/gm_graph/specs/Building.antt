@@ -35,7 +35,7 @@ noted (Some class) x faults y = if pair_eq x y then Some class else faults y
 -- the fault that was found
 abbrev pub found_fault : Finding → Option Class
 found_fault (Fault class) = Some class
-found_fault (Sound name) = None
+found_fault (Sound place) = None
 
 -- Whether a vertex's edges are added in a visit to this depth: if it is visited at both depths, at the top only.
 abbrev pub gathers_at : Depth → Bool → Bool

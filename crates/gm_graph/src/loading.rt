@@ -140,7 +140,7 @@ pub fn load<F: Files>(
     let mut cache = Cache::new(alloc, main, sums)?;
     let mut builder = first_graph(alloc, main, &cache)?;
     visit_all(&mut cache, files, &mut builder)?;
-    // The summaries are dropped here, before the sorted vertices take their memory.
+    // What was read of the files is dropped here, before the sorted vertices take their memory.
     let (modules, turns) = cache.into_parts();
     Ok(assemble(alloc, main, modules, turns, builder)?)
 }

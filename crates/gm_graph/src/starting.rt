@@ -1,7 +1,7 @@
 //! The main module's requirements, and the graph that loading starts with.
 
 ghost use Rattle.std.specs.Prelude.{◌≡◌, [], IfOk, Err};
-ghost use Rattle.gm_graph_cache.specs.Cached.{first_in, modules_in};
+ghost use Rattle.gm_graph_cache.specs.Cached.{main_in, modules_in};
 ghost use Rattle.gm_graph_cache.specs.Main.{is_pruned_by, without_excluded, main_of};
 ghost use Rattle.gm_graph_cache.specs.Refusals.{refused_in};
 ghost use Rattle.gm_graph.specs.Turns.{OverflowsWith, depth_by};
@@ -31,7 +31,7 @@ pub(crate) fn first_graph(
     main: &MainFile,
     cache: &Cache<'_>,
 ) -> Result<GraphBuilder, LoadFault>
-    requires { first_in cache.now ≡ without_excluded (main_of main.now) (main_of main.now).requirements }
+    requires { main_in cache.now ≡ main_of main.now }
     ensures first { IfOk result (IsFirstGraph (main_of main.now) (modules_in cache.now)) }
     ensures too_many { result ≡ Err LoadFault.TooMany
         → OverflowsWith [] (without_excluded (main_of main.now) (main_of main.now).requirements) }

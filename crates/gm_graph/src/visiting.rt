@@ -1,7 +1,6 @@
 //! One visit of the worklist: what reading one vertex adds to the worklist and to the graph.
 
 ghost use Rattle.std.specs.Prelude.{◌≡◌, ◌≤◌, ◌<◌, ◌++◌, ◌∷◌, [], OnOk, Ok, Err, length};
-ghost use Rattle.std.specs.List.{IsDistinct};
 ghost use Rattle.gm_store.specs.Asked.{name_of};
 ghost use Rattle.gm_store.specs.States.{CountsFailure};
 ghost use Rattle.gm_store.specs.declared.files.FileName.{FileName};
@@ -10,7 +9,6 @@ ghost use Rattle.gm_graph_cache.specs.Cached.{AddsTurn, IsFinding, Knows, LendsK
 ghost use Rattle.gm_graph_cache.specs.Main.{ModuleVersion};
 ghost use Rattle.gm_graph_cache.specs.Refusals.{refused_in};
 ghost use Rattle.gm_graph.specs.Builder.{IsBuilder, built, turn_of, turns_of};
-ghost use Rattle.gm_name.specs.PairOrder.{pair_eq};
 ghost use Rattle.gm_graph.specs.Turns.{VisitOverflows, leads_on};
 ghost use Rattle.gm_graph.specs.Visiting.{Continues, IsVisited, OverflowsAt, lender_of, readings_in};
 
@@ -44,8 +42,7 @@ fn leads_on(cache: &Cache<'_>, depth: Depth, finding: &Finding) -> bool
 }
 
 /// Processes the requirements of a vertex that was read. Its edges and its fault are added to the graph, and, if the
-/// visit leads further, the turns of the required vertices to the worklist. The modules of a cache are distinct, as
-/// `Cache::module` says.
+/// visit leads further, the turns of the required vertices to the worklist.
 fn add_requirements(
     cache: &mut Cache<'_>,
     builder: &mut GraphBuilder,
@@ -53,7 +50,7 @@ fn add_requirements(
     finding: &Finding,
 ) -> Result<(), LoadFault>
     requires lends { LendsKept cache.old }
-    requires builder { IsDistinct pair_eq (modules_in cache.old) → IsBuilder (modules_in cache.old) builder.old }
+    requires builder { IsBuilder (modules_in cache.old) builder.old }
     requires below { one.number < length (modules_in cache.old) }
     requires finding { IsFinding cache.old (numbered cache.old one.number) finding.now }
     ensures builder { OnOk result (IsBuilder (modules_in cache.old) builder.new) }

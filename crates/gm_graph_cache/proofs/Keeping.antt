@@ -1,6 +1,6 @@
 -- What stays when more is asked for, and when a cache returns requirements.
-use Rattle.std.proofs.Common.{◌≡◌, ◌∙◌, Bool, true, false, cond, List, [], ◌∷◌, ◌++◌, Option, Some, None, Result, Ok, Err, append-nil, sym, ap, subst, refl}
-use Rattle.std.specs.Prelude.{IsErrAnd, OnErr}
+use Rattle.std.proofs.Common.{◌≡◌, ◌∙◌, ◌<◌, ℕ, zero, suc, Bool, true, false, cond, List, [], ◌∷◌, ◌++◌, Option, Some, None, Result, Ok, Err, append_assoc, append-nil, arith, length, length-append, sym, ap, subst, refl}
+use Rattle.std.specs.Prelude.{IsErrAnd, OnErr, slice_get}
 use Rattle.std.specs.Option.{option_map}
 use Rattle.gm_file.specs.Fields.{Dependency}
 use Rattle.gm_store.specs.Asked.{Name, Reply, answer_in, same_name}
@@ -10,16 +10,18 @@ use Rattle.std.proofs.Math.Path.{fun_ext}
 use Rattle.gm_name_table.specs.Listed.{BeginsWith, NumberedList, listed}
 use Rattle.gm_graph_cache.specs.declared.cache.Cache.{Cache}
 use Rattle.gm_graph_cache.specs.declared.file_table.FileTable.{FileTable}
+use Rattle.gm_graph_cache.specs.declared.summary.Kept.{Kept}
 use Rattle.gm_graph_cache.specs.Main.{Main, ModuleVersion, main_of, replacement_in}
 use Rattle.gm_graph_cache.specs.Reading.{Held, IsTold, Keeps, KeepsHeld, Tells, file_of, is_askable, reading_if, readings_by, with_right_path}
 use Rattle.gm_graph_cache.specs.FileTable.{KeepsFiles, kept_at}
 use Rattle.gm_graph_cache.specs.Summaries.{Grows, IsKept, summary_reading}
-use Rattle.gm_graph_cache.specs.Cached.{HoldsSame, IsUnchanged, Knows, LendsKept, LentSame, held_of, main_in, modules_in, summary_at, sums_in}
+use Rattle.gm_graph_cache.specs.Cached.{HoldsSame, KeepsSound, Knows, LendsKept, LentSame, held_of, kept_file, main_in, modules_in, summary_at, sums_in}
 use Rattle.gm_graph_cache.specs.Refusals.{refused_in, refused_names}
 use Rattle.gm_graph_cache.specs.declared.load_fault.LoadFault.{LoadFault}
 use Rattle.gm_graph_cache.specs.declared.load_fault.LoadFault.TheVariants as load
 use Rattle.gm_graph_cache.proofs.OneReading.{one_reading}
 use Rattle.gm_graph_cache.proofs.FilePlaces.{kept_if_more}
+use Rattle.gm_graph_cache.proofs.PuttingPlaces.{front_stays}
 use Rattle.gm_graph_cache.proofs.Spans.{kept_still, readings_still}
 
 -- ---- readings are unique
@@ -93,6 +95,31 @@ reading_stays false main x a b stays s e = e
 pub readings_stay : (main : Main) (old new : Held) → KeepsHeld old new → Keeps (readings_by main old) (readings_by main new)
 readings_stay main old new keeps x reading e = reading_stays (is_askable (file_of main x)) main x (old (file_of main x)) (new (file_of main x)) (λ r f. keeps (file_of main x) r f) reading e
 
+-- ---- places stay
+
+file_there : (files : List Kept) (place : ℕ) → place < length files → (one : Kept) × (slice_get files place ≡ Some one)
+file_there [] place within = absurd (omega arith)
+file_there (file ∷ files) zero within = (file, refl)
+file_there (file ∷ files) (suc place) within = file_there files place (omega arith)
+
+-- If the files are still where they were and what they were found by, what was found at a place is found there still.
+pub sound_still : (old new : Cache) → new.main.now ≡ old.main.now → BeginsWith old.files.files.items new.files.files.items
+    → ((name : Name) (one : Kept) → summary_at old name ≡ Some one → summary_at new name ≡ Some one)
+    → KeepsHeld (held_of old) (held_of new) → KeepsSound old new
+sound_still old new main files stay keeps x place sound =
+    let same : main_in new ≡ main_in old = ap main_of main in
+    let there = file_there old.files.files.items place sound.within in
+    let here : kept_file new place ≡ kept_file old place =
+    ap (λ (list : List Kept). slice_get list place) files.1 ∙ front_stays old.files.files.items files.0 place sound.within in
+    record {
+      within = omega (arith, sound.within, ap length files.1, length-append old.files.files.items files.0);
+      kept = here ∙ there.1 ∙ sym (stay (file_of (main_in old) x) there.0 (sym sound.kept ∙ there.1))
+          ∙ ap (λ (m : Main). summary_at new (file_of m x)) (sym same);
+      file = sound.file;
+      reading = ap (λ (m : Main). readings_by m (held_of new) x) same
+          ∙ readings_stay (main_in old) (held_of old) (held_of new) keeps x (Ok sound.file) sound.reading;
+    }
+
 -- ---- a cache that holds the same
 
 pub main_same : (old new : Cache) → HoldsSame old new → main_in new ≡ main_in old
@@ -117,41 +144,72 @@ holds_grown old new main sums files grows lends =
     ∙ ap (λ (modules : List ModuleVersion). kept_at modules old.files name) grows.1.numbered.1
     ∙ sym (kept_if_more (modules_in old) grows.1.numbered.0 old.files name old.own_within) in
     let begins : BeginsWith (listed old.modules) (listed new.modules) = (grows.0, grows.1.listed) in
+    let held : (name : Name) → held_of new name ≡ held_of old name =
+    λ name. ap (option_map (summary_reading (listed new.modules))) (found name)
+    ∙ readings_still (main_in old) (listed old.modules) (listed new.modules) (summary_at old name) begins (lends name) in
     record {
       main = main;
       sums = sums;
-      held = λ name. ap (option_map (summary_reading (listed new.modules))) (found name)
-          ∙ readings_still (main_in old) (listed old.modules) (listed new.modules) (summary_at old name) begins (lends name);
+      held = held;
       lends = λ _ name one e. subst (λ (m : Main). IsKept m (listed new.modules) one) (ap main_of (sym main))
           (kept_still (main_in old) (listed old.modules) (listed new.modules) one begins (lends name one (sym (found name) ∙ e)));
+      numbered = grows.1.numbered;
+      sound = sound_still old new main ([], ap (λ (kept : FileTable). kept.files.items) files ∙ sym (append-nil old.files.files.items))
+          (λ name one e. found name ∙ e) (λ name reading e. held name ∙ e);
     }
 
--- So does one with the same list of modules.
+-- So does one with the same list of modules, whose files begin with the old ones.
 pub holds_listed : (old new : Cache) → new.main.now ≡ old.main.now → sums_in new ≡ sums_in old
-    → KeepsFiles (modules_in old) old.files new.files → new.modules ≡ old.modules → HoldsSame old new
-holds_listed old new main sums keeps modules =
+    → KeepsFiles (modules_in old) old.files new.files → BeginsWith old.files.files.items new.files.files.items
+    → new.modules ≡ old.modules → HoldsSame old new
+holds_listed old new main sums keeps files modules =
     let found : (name : Name) → summary_at new name ≡ summary_at old name =
     λ name. ap (λ (list : NumberedList). kept_at list.modules new.files name) modules ∙ keeps name in
+    let held : (name : Name) → held_of new name ≡ held_of old name =
+    λ name. ap (λ (list : NumberedList). option_map (summary_reading (listed list)) (summary_at new name)) modules
+    ∙ ap (option_map (summary_reading (listed old.modules))) (found name) in
     record {
       main = main;
       sums = sums;
-      held = λ name. ap (λ (list : NumberedList). option_map (summary_reading (listed list)) (summary_at new name)) modules
-          ∙ ap (option_map (summary_reading (listed old.modules))) (found name);
+      held = held;
+      numbered = ([], ap (λ (list : NumberedList). list.modules) modules ∙ sym (append-nil (modules_in old)));
+      sound = sound_still old new main files (λ name one e. found name ∙ e) (λ name reading e. held name ∙ e);
       lends = λ lends name one e. subst (λ (m : Main). IsKept m (listed new.modules) one) (ap main_of (sym main))
           (subst (λ (list : NumberedList). IsKept (main_in old) (listed list) one) (sym modules) (lends name one (sym (found name) ∙ e)));
     }
 
+-- The same cache holds the same.
+pub holds_itself : (cache : Cache) → HoldsSame cache cache
+holds_itself cache = record {
+  main = refl;
+  sums = refl;
+  held = λ name. refl;
+  lends = λ lends. lends;
+  numbered = ([], sym (append-nil (modules_in cache)));
+  sound = λ x place sound. sound;
+}
+
+begins_after : {T : Type 0} (old mid new : List T) → BeginsWith old mid → BeginsWith mid new → BeginsWith old new
+begins_after old mid new one two = (
+  one.0 ++ two.0,
+  two.1 ∙ ap (λ (list : List _). list ++ two.0) one.1 ∙ append_assoc old one.0 two.0,
+)
+
 pub holds_after : (old mid new : Cache) → HoldsSame old mid → HoldsSame mid new → HoldsSame old new
-holds_after old mid new one two = record { main = two.main ∙ one.main; sums = two.sums ∙ one.sums; held = λ name. two.held name ∙ one.held name; lends = λ lends. two.lends (one.lends lends) }
+holds_after old mid new one two = record {
+  main = two.main ∙ one.main;
+  sums = two.sums ∙ one.sums;
+  held = λ name. two.held name ∙ one.held name;
+  lends = λ lends. two.lends (one.lends lends);
+  numbered = begins_after (modules_in old) (modules_in mid) (modules_in new) one.numbered two.numbered;
+  sound = λ x place sound. two.sound x place (one.sound x place sound);
+}
 
 pub keeps_same : (old new : Cache) → HoldsSame old new → KeepsHeld (held_of old) (held_of new)
 keeps_same old new same name reading e = ap (λ (held : Held). held name) (held_same old new same) ∙ e
 
-pub lent_same : (old new : Cache) → IsUnchanged old new → LentSame old new
-lent_same old new same = record { main = same.holds.main; sums = same.holds.sums; turns = same.turns }
-
-pub lent_after : (old mid new : Cache) → IsUnchanged old mid → LentSame mid new → LentSame old new
-lent_after old mid new same lent = record { main = lent.main ∙ same.holds.main; sums = lent.sums ∙ same.holds.sums; turns = lent.turns ∙ same.turns }
+pub lent_after : (old mid new : Cache) → LentSame old mid → LentSame mid new → LentSame old new
+lent_after old mid new one two = record { main = two.main ∙ one.main; sums = two.sums ∙ one.sums; turns = two.turns ∙ one.turns }
 
 -- ---- refusals
 

@@ -1,23 +1,22 @@
 -- What changes of the places of files, and of what is kept, if a place is put.
-use Rattle.std.proofs.Common.{◌≡◌, ◌∙◌, ◌<◌, ℕ, zero, suc, Bool, true, false, cond, List, [], ◌∷◌, ◌++◌, Option, Some, None, Result, Ok, Err, length, nat_eq, get_or, ap, ap₂, arith, inl, inr, refl, subst, sym}
-use Rattle.std.specs.BTreeMap.{insert_entry}
-use Rattle.std.specs.List.{All, IsDistinct}
-use Rattle.std.specs.Map.{values_of}
-use Rattle.std.specs.Option.{IsSome, is_some, unwrap_or}
-use Rattle.std.specs.Prelude.{OnErr, OnOk, slice_get}
-use Rattle.std.specs.declared.cmp.Ordering.{Ordering}
+use Rattle.std.proofs.Common.{◌≡◌, ◌∙◌, ◌<◌, ℕ, zero, suc, Bool, true, false, cond, List, [], ◌∷◌, ◌++◌, Option, Some, None, length, nat_eq, get_or, ap, ap₂, arith, inl, inr, refl, subst, sym}
+use Rattle.std.specs.List.{IsDistinct}
+use Rattle.std.specs.Map.{lookup, set_value}
+use Rattle.std.specs.Option.{IsSome, unwrap_or}
+use Rattle.std.specs.Ordering.{is_eq}
+use Rattle.std.specs.Prelude.{slice_get}
 use Rattle.std.proofs.Math.Path.{fun_ext}
 use Rattle.std.proofs.lemmas.Bool.{ne_eqb}
 use Rattle.std.proofs.lemmas.Bool.Decides.{Decides-eqb, eqb_tells, same_from_decides}
 use Rattle.std.proofs.lemmas.List.{length-append}
 use Rattle.std.proofs.lemmas.Map.Keys.{IsDistinct-tail, apart_from_distinct}
-use Rattle.std.proofs.lemmas.Map.Views.{All-values-insert_entry}
 use Rattle.std.proofs.lemmas.Option.{slice_get_past}
 use Rattle.gm_name.specs.PairOrder.{pair_eq}
 use Rattle.gm_name_table.proofs.Pairs.{pair-eq}
 use Rattle.gm_name_table.specs.Listed.{module_at}
-use Rattle.gm_store.proofs.NameOrder.{names_equal, same_from_equal}
-use Rattle.gm_store.specs.Asked.{Name, mod_file, folder_file, list_file, same_name}
+use Rattle.gm_store.proofs.NameOrder.{names_equal, same_from_equal, same_name_from_cmp}
+use Rattle.gm_store.specs.Asked.{Name, mod_file, folder_file, list_file, name_of, same_name}
+use Rattle.gm_store.specs.contracts.files.FileNameOrd.TheImpl.{cmp-value}
 use Rattle.gm_store.specs.declared.files.FileName.{FileName}
 use Rattle.gm_graph_cache.proofs.FilePlaces.{beside_by, beside_is, place_within}
 use Rattle.gm_graph_cache.proofs.Replacements.{some_still}
@@ -30,11 +29,11 @@ use Rattle.gm_graph_cache.specs.Reading.{file_of}
 
 -- ---- the place of one number is put
 
-twice : (b : Bool) (p q r : ℕ) → cond b p r ≡ cond b p (cond b q r)
+twice : {T : Type 0} (b : Bool) (p q r : T) → cond b p r ≡ cond b p (cond b q r)
 twice true p q r = refl
 twice false p q r = refl
 
-exchanged : (b c : Bool) (p q r : ℕ) → (c ≡ true → b ≡ true → ⊥) → cond c q (cond b p r) ≡ cond b p (cond c q r)
+exchanged : {T : Type 0} (b c : Bool) (p q r : T) → (c ≡ true → b ≡ true → ⊥) → cond c q (cond b p r) ≡ cond b p (cond c q r)
 exchanged true true p q r never = absurd (never refl refl)
 exchanged true false p q r never = refl
 exchanged false true p q r never = refl
@@ -132,11 +131,11 @@ places_kept modules old new own replacing = λ name.
 
 -- ---- what is kept, if there is one file more
 
-front_stays : (files : List Kept) (kept : Kept) (place : ℕ) → place < length files
-    → slice_get (files ++ kept ∷ []) place ≡ slice_get files place
-front_stays [] kept place within = absurd (omega arith)
-front_stays (file ∷ files) kept zero within = refl
-front_stays (file ∷ files) kept (suc place) within = front_stays files kept place (omega arith)
+pub front_stays : (files more : List Kept) (place : ℕ) → place < length files
+    → slice_get (files ++ more) place ≡ slice_get files place
+front_stays [] more place within = absurd (omega arith)
+front_stays (file ∷ files) more zero within = refl
+front_stays (file ∷ files) more (suc place) within = front_stays files more place (omega arith)
 
 pub at_end : (files : List Kept) (kept : Kept) → slice_get (files ++ kept ∷ []) (length files) ≡ Some kept
 at_end [] kept = refl
@@ -150,7 +149,7 @@ still_there files kept place few is =
           let within : length files < place = omega (arith, none.1) in
           slice_get_past (files ++ kept ∷ []) place (omega (arith, length-append files (kept ∷ [])))
           ∙ sym (slice_get_past files place (omega arith))
-      | inr some ↦ front_stays files kept place (is some.1)
+      | inr some ↦ front_stays files (kept ∷ []) place (is some.1)
     ]
 
 pub files_kept : (modules : List ModuleVersion) (old new : FileTable) (kept : Kept) → new.files.items ≡ old.files.items ++ kept ∷ []
@@ -173,7 +172,41 @@ file_added modules old new name kept more few puts = λ other.
 
 -- ---- the files of replacements
 
-replacing_put : (old new : FileTable) (name : Name) (place : ℕ) → PutsReplacing old new name place
+-- A value was set for one name; the other names have theirs.
+set_found : {K : Type 0} (at found : K → Bool) (b : Bool) (entries : List (K × ℕ)) (place : ℕ)
+    → ((k : K) → at k ≡ true → found k ≡ b) → ((k : K) → b ≡ true → found k ≡ at k) → IsSome (lookup at entries)
+    → lookup found (set_value at entries place) ≡ cond b (Some place) (lookup found entries)
+set_found at found b [] place here same some = absurd (cc some)
+set_found at found b (entry ∷ entries) place here same some =
+    by (at entry.0) refl (set_found at found b entries place here same) some
+  where
+    rest : Option ℕ
+    rest = lookup found entries
+
+    by : (t : Bool) → at entry.0 ≡ t → (IsSome (lookup at entries) → lookup found (set_value at entries place) ≡ cond b (Some place) rest)
+        → IsSome (cond t (Some entry.1) (lookup at entries)) → lookup found (cond t ((entry.0, place) ∷ entries) (entry ∷ set_value at entries place))
+        ≡ cond b (Some place) (cond (found entry.0) (Some entry.1) rest)
+    by true is further some =
+        ap (λ (c : Bool). cond c (Some place) rest) (here entry.0 is)
+        ∙ twice b (Some place) (Some entry.1) rest
+        ∙ sym (ap (λ (c : Bool). cond b (Some place) (cond c (Some entry.1) rest)) (here entry.0 is))
+    by false is further some =
+        ap (λ (o : Option ℕ). cond (found entry.0) (Some entry.1) o) (further some)
+        ∙ exchanged b (found entry.0) (Some place) (Some entry.1) rest
+        (λ found_so same_so. let never : true ≡ false = sym found_so ∙ same entry.0 same_so ∙ is in cc never)
+
+-- The place of the file of this name was set, which had one.
+pub replacing_set : (entries : List (FileName × ℕ)) (name : FileName) (place : ℕ) (other : Name)
+    → IsSome (lookup (λ file. is_eq (cmp-value.it name file)) entries)
+    → lookup (λ file. same_name other (name_of file)) (set_value (λ file. is_eq (cmp-value.it name file)) entries place)
+    ≡ cond (same_name other (name_of name)) (Some place) (lookup (λ file. same_name other (name_of file)) entries)
+replacing_set entries name place other some =
+    set_found (λ file. is_eq (cmp-value.it name file)) (λ file. same_name other (name_of file)) (same_name other (name_of name)) entries place
+    (λ file at. ap (same_name other) (sym (names_equal (name_of name) (name_of file) (sym (same_name_from_cmp name file) ∙ at))))
+    (λ file same. ap (λ (n : Name). same_name n (name_of file)) (names_equal other (name_of name) same) ∙ sym (same_name_from_cmp name file))
+    some
+
+pub replacing_put : (old new : FileTable) (name : Name) (place : ℕ) → PutsReplacing old new name place
     → (main : Main) → HasReplacing main old → HasReplacing main new
 replacing_put old new name place puts main has = λ x some.
     subst (λ (r : Option ℕ). IsSome r) (sym (puts (file_of main x)))
@@ -182,23 +215,3 @@ replacing_put old new name place puts main has = λ x some.
 pub replacing_kept : (old new : FileTable) → KeepsReplacing old new → (main : Main) → HasReplacing main old → HasReplacing main new
 replacing_kept old new keeps main has = λ x some.
     subst (λ (r : Option ℕ). IsSome r) (sym (keeps (file_of main x))) (has x some)
-
--- So it is whether the place was put or not.
-pub replacing_after : {T E : Type 0} (result : Result T E) (old new : FileTable) (name : Name) (place : ℕ)
-    → OnOk result (PutsReplacing old new name place) → OnErr result (KeepsReplacing old new)
-    → (main : Main) → HasReplacing main old → HasReplacing main new
-replacing_after (Ok value) old new name place puts keeps = replacing_put old new name place puts
-replacing_after (Err fault) old new name place puts keeps = replacing_kept old new keeps
-
-pub values_after : {T E : Type 0} (result : Result T E) (P : ℕ → Type 0) (cmp : FileName → FileName → Ordering)
-    (old new : List (FileName × ℕ)) (key : FileName) (place : ℕ) → OnOk result (new ≡ insert_entry cmp old key place)
-    → OnErr result (new ≡ old) → P place → All P (values_of old) → All P (values_of new)
-values_after (Ok value) P cmp old new key place puts keeps is are =
-    subst (λ (es : List (FileName × ℕ)). All P (values_of es)) (sym puts) (All-values-insert_entry cmp key place P old are is)
-values_after (Err fault) P cmp old new key place puts keeps is are =
-    subst (λ (es : List (FileName × ℕ)). All P (values_of es)) (sym keeps) are
-
--- A lookup that found nothing is none.
-pub none_if_not : {T : Type 0} (o : Option T) (b : Bool) → b ≡ is_some o → b ≡ false → o ≡ None
-none_if_not None b is not = refl
-none_if_not (Some x) b is not = absurd (cc (sym is ∙ not))

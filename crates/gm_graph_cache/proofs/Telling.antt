@@ -5,16 +5,16 @@ use Rattle.gm_file.specs.Fields.{Dependency}
 use Rattle.gm_store.specs.Asked.{Name, Reply, answer_in, replies_in, same_name}
 use Rattle.gm_store_sums.specs.declared.sum_table.SumTable.{SumTable}
 use Rattle.gm_store.proofs.NameOrder.{names_equal, name_itself}
-use Rattle.gm_name_table.specs.Listed.{NumberedList, listed}
+use Rattle.gm_name_table.specs.Listed.{BeginsWith, NumberedList, listed}
 use Rattle.gm_graph_cache.specs.declared.class.Class.{Class}
 use Rattle.gm_graph_cache.specs.declared.summary.Kept.{Kept}
 use Rattle.gm_graph_cache.specs.declared.cache.Cache.{Cache}
 use Rattle.gm_graph_cache.specs.Main.{Main, ModuleVersion, main_of}
 use Rattle.gm_graph_cache.specs.Reading.{Held, IsFileReading, IsTold, KeepsHeld, Tells}
 use Rattle.gm_graph_cache.specs.FileTable.{PutsFile, kept_at}
-use Rattle.gm_graph_cache.proofs.Keeping.{held_same, knows_still, main_same}
+use Rattle.gm_graph_cache.proofs.Keeping.{keeps_same, knows_still, main_same, sound_still}
 use Rattle.gm_graph_cache.specs.Summaries.{IsKept, summary_reading}
-use Rattle.gm_graph_cache.specs.Cached.{HoldsSame, Knows, LentSame, held_of, main_in, modules_in, summary_at, sums_in}
+use Rattle.gm_graph_cache.specs.Cached.{HoldsSame, KeepsSound, Knows, LentSame, held_of, main_in, modules_in, summary_at, sums_in}
 
 -- If no reading is held, the name was not answered.
 none_told : (sums : Option SumTable) (name : Name) (a : Option Reply) (h : Option (Result Dependency Class)) → IsTold sums name a h → h ≡ None → a ≡ None
@@ -124,9 +124,35 @@ stays true v r old new is none e = let never = sym (none refl) ∙ e in absurd (
 stays false v r old new is none e = is ∙ e
 
 -- What is held stays when what was read of one more file is added.
+keeps_more : (old new : Cache) (name : Name) (one : Kept) → new.modules ≡ old.modules → summary_at old name ≡ None
+    → PutsFile (modules_in old) old.files new.files name one → KeepsHeld (held_of old) (held_of new)
+keeps_more old new name one modules none adds other reading e =
+    stays (same_name other name) (summary_reading (listed old.modules) one) reading (held_of old other) (held_of new other)
+    (held_with old new name one modules adds other)
+    (λ is. ap (held_of old) (names_equal other name is) ∙ said_none (listed old.modules) (summary_at old name) none) e
+
+none_kept : (modules : List ModuleVersion) (o : Option Kept) → option_map (summary_reading modules) o ≡ None → o ≡ None
+none_kept modules None e = refl
+none_kept modules (Some one) e = absurd cc
+
+-- A cache that holds the same keeps no file of which nothing was kept.
+none_still : (old mid : Cache) (name : Name) → HoldsSame old mid → summary_at old name ≡ None → summary_at mid name ≡ None
+none_still old mid name same none =
+    none_kept (listed mid.modules) (summary_at mid name) (same.held name ∙ said_none (listed old.modules) (summary_at old name) none)
+
 pub keeps_read : (old mid new : Cache) (name : Name) (one : Kept) → HoldsSame old mid → new.modules ≡ mid.modules → summary_at old name ≡ None
     → PutsFile (modules_in mid) mid.files new.files name one → KeepsHeld (held_of old) (held_of new)
 keeps_read old mid new name one same modules none adds other reading e =
-    stays (same_name other name) (summary_reading (listed mid.modules) one) reading (held_of old other) (held_of new other)
-    (held_with mid new name one modules adds other ∙ ap (λ (held : Held). cond (same_name other name) (Some (summary_reading (listed mid.modules) one)) (held other)) (held_same old mid same))
-    (λ is. ap (held_of old) (names_equal other name is) ∙ said_none (listed old.modules) (summary_at old name) none) e
+    keeps_more mid new name one modules (none_still old mid name same none) adds other reading (keeps_same old mid same other reading e)
+
+-- So does what was found at a place, if the files begin with those that were kept.
+pub sound_read : (old mid new : Cache) (name : Name) (one : Kept) → HoldsSame old mid → LentSame mid new → new.modules ≡ mid.modules
+    → summary_at old name ≡ None → PutsFile (modules_in mid) mid.files new.files name one
+    → BeginsWith mid.files.files.items new.files.files.items → KeepsSound old new
+sound_read old mid new name one same lent modules none adds files x place sound =
+    let none_more : summary_at mid name ≡ None = none_still old mid name same none in
+    sound_still mid new lent.main files
+    (λ other some e. ap (λ (list : NumberedList). kept_at list.modules new.files other) modules
+    ∙ stays (same_name other name) one some (summary_at mid other) (kept_at (modules_in mid) new.files other) (adds other)
+    (λ is. ap (summary_at mid) (names_equal other name is) ∙ none_more) e)
+    (keeps_more mid new name one modules none_more adds) x place (same.sound x place sound)

@@ -1,9 +1,9 @@
 -- What a cache holds, what it finds of a vertex, and which requirements it returns.
-use Rattle.std.specs.Prelude.{◌≡◌, ◌<◌, ℕ, List, [], ◌∷◌, ◌++◌, Option, Some, None, MatchResult, Result, Ok, Err, length, slice_get, take}
+use Rattle.std.specs.Prelude.{◌≡◌, ◌<◌, ℕ, List, [], ◌∷◌, ◌++◌, Option, Some, None, MatchResult, Result, Ok, Err, length, slice_get}
 use Rattle.std.specs.Option.{option_copied, option_map}
 use Rattle.std.specs.Borrow.{Fml, MutBor}
 use Rattle.std.specs.Io.BufRead.{Rests}
-use Rattle.gm_name_table.specs.Listed.{listed, module_at}
+use Rattle.gm_name_table.specs.Listed.{BeginsWith, listed, module_at}
 use Rattle.gm_file.specs.Fields.{Dependency}
 use Rattle.gm_store.specs.Asked.{Name, Reply}
 use Rattle.gm_store_sums.specs.declared.sum_table.SumTable.{SumTable}
@@ -40,10 +40,6 @@ modules_in cache = cache.modules.modules
 abbrev pub numbered : Cache → ℕ → ModuleVersion
 numbered cache number = module_at (modules_in cache) number
 
--- the requirements that the list of modules begins with
-abbrev pub first_in : Cache → List ModuleVersion
-first_in cache = take cache.first (listed cache.modules)
-
 -- what is kept of the file of a name
 abbrev pub summary_at : Cache → Name → Option Kept
 summary_at cache name = kept_at (modules_in cache) cache.files name
@@ -69,18 +65,11 @@ pub record Knows (cache : Cache) (pairs : List (Name × Reply)) : Type 0 where
   pub tells : Tells (sums_in cache) pairs (held_of cache)
   pub lends : LendsKept cache
 
--- The main file, the go.sum and what is held of each file are the same, and requirements can still be returned.
-pub record HoldsSame (old new : Cache) : Type 0 where
-  pub main : new.main.now ≡ old.main.now
-  pub sums : sums_in new ≡ sums_in old
-  pub held : (name : Name) → held_of new name ≡ held_of old name
-  pub lends : LendsKept old → LendsKept new
+-- ---- what is found of a vertex
 
--- the same main file, go.sum and list of turns
-pub record LentSame (old new : Cache) : Type 0 where
-  pub main : new.main.now ≡ old.main.now
-  pub sums : sums_in new ≡ sums_in old
-  pub turns : turns_in new ≡ turns_in old
+-- what was read of the file at a place
+abbrev pub read_at : Cache → ℕ → Option (Result Dependency Class)
+read_at cache place = option_map (summary_reading (listed cache.modules)) (kept_file cache place)
 
 -- The vertex has no fault, and what is kept at this place is what was read of its file.
 pub record IsSound (cache : Cache) (x : ModuleVersion) (place : ℕ) : Type 0 where
@@ -99,6 +88,28 @@ abbrev pub IsLender : Cache → ModuleVersion → Option ℕ → Type 0
 IsLender cache x None = (class : Class) × (readings_by (main_in cache) (held_of cache) x ≡ Some (Err class))
 IsLender cache x (Some place) = IsSound cache x place
 
+-- Each file is at the place at which it was.
+abbrev pub KeepsSound : Cache → Cache → Type 0
+KeepsSound old new = (x : ModuleVersion) (place : ℕ) → IsSound old x place → IsSound new x place
+
+-- ---- what changes
+
+-- The main file, the go.sum and what is held of each file are the same, requirements can still be returned, and what
+-- had a number or a place has it still. More modules may have numbers.
+pub record HoldsSame (old new : Cache) : Type 0 where
+  pub main : new.main.now ≡ old.main.now
+  pub sums : sums_in new ≡ sums_in old
+  pub held : (name : Name) → held_of new name ≡ held_of old name
+  pub lends : LendsKept old → LendsKept new
+  pub numbered : BeginsWith (modules_in old) (modules_in new)
+  pub sound : KeepsSound old new
+
+-- the same main file, go.sum and list of turns
+pub record LentSame (old new : Cache) : Type 0 where
+  pub main : new.main.now ≡ old.main.now
+  pub sums : sums_in new ≡ sums_in old
+  pub turns : turns_in new ≡ turns_in old
+
 -- The list has one more turn at its end, and everything else is the same.
 pub record AddsTurn (old new : Cache) (one : Turn) : Type 0 where
   pub turns : turns_in new ≡ turns_in old ++ one ∷ []
@@ -108,6 +119,7 @@ pub record AddsTurn (old new : Cache) (one : Turn) : Type 0 where
 -- Everything is the same.
 pub record IsUnchanged (old new : Cache) : Type 0 where
   pub turns : turns_in new ≡ turns_in old
+  pub modules : modules_in new ≡ modules_in old
   pub holds : HoldsSame old new
 
 -- Once the borrow of the requirements ends, the cache has one more turn. If the call was refused, the cache is

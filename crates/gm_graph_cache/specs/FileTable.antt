@@ -11,7 +11,7 @@ use Rattle.gm_graph_cache.specs.Main.{Main, ModuleVersion, replacement_in}
 use Rattle.gm_graph_cache.specs.Places.{no_place}
 use Rattle.gm_graph_cache.specs.Reading.{file_of}
 
--- the place beside a module, in a list that has one for each module
+-- the place beside a module, in a list of places by the modules' numbers, of which the last ones may be left out
 abbrev pub place_beside : List ModuleVersion → List ℕ → ModuleVersion → ℕ
 place_beside [] places x = no_place
 place_beside (y ∷ modules) [] x = no_place

@@ -3,7 +3,7 @@
 //! It exists so that each file is asked for and parsed once, however many vertices and turns need it. The test of
 //! the declared path depends on the vertex, not on the file alone, and is therefore repeated for each vertex.
 
-ghost use Rattle.std.specs.Prelude.{◌≡◌, ◌≤◌, ◌<◌, ◌++◌, ◌∷◌, [], List, IfOk, OnOk, OnErr, MatchOption, None, Some, Ok, Err, length, true};
+ghost use Rattle.std.specs.Prelude.{◌≡◌, ◌≤◌, ◌<◌, ◌++◌, ◌∷◌, [], List, IfOk, OnOk, OnErr, MatchOption, None, Some, Ok, Err, length, take, true};
 ghost use Rattle.std.specs.Option.{option_copied};
 ghost use Rattle.gm_name_table.specs.Listed.{listed};
 ghost use Rattle.gm_store.specs.Asked.{IsWithinLimit, Name, Reply, answer_in, name_of, reply_of};
@@ -11,7 +11,7 @@ ghost use Rattle.gm_store.specs.States.{AddsAnswer, CountsFailure};
 ghost use Rattle.gm_store.specs.declared.files.FileName.{FileName};
 ghost use Rattle.gm_graph_cache.specs.Main.{ModuleVersion, main_of, without_excluded};
 ghost use Rattle.gm_graph_cache.specs.Asking.{AsksAtMost, AsksFor, MayGrow, MayLess, StillLacks};
-ghost use Rattle.gm_graph_cache.specs.Reading.{IsFileReading, KeepsHeld, file_of, is_askable as may_be_asked, is_unpruned, readings_by, vertex_requirements};
+ghost use Rattle.gm_graph_cache.specs.Reading.{IsFileReading, KeepsHeld, file_of, is_askable as may_be_asked, is_unpruned, is_unpruned_in, readings_by, said_in, vertex_requirements};
 ghost use Rattle.gm_graph_cache.specs.Refusals.{refused_in};
 ghost use Rattle.gm_graph_cache.specs.FileTable.{PutsFile, HasReplacing};
 ghost use Rattle.gm_graph_cache.specs.Lent.{lent_modules};
@@ -51,13 +51,15 @@ pub struct Cache<'a> {
     names: KnownNames,
     /// The requirements of the main file and of all that were read, one file after another. All modules have numbers.
     modules: ModuleList,
-    /// How many of them are those of the main file, without the excluded ones, which come first.
+    /// The list begins with so many requirements of the main file: those that it doesn't exclude.
     first: usize,
     /// What was read of each file, or what is wrong with it.
     files: FileTable,
     /// The turns whose requirements were requested, in order.
     turns: Vec<Turn>,
     ghost first_within: { first ≤ length modules.numbers },
+    ghost first_are: { take first (listed modules)
+        ≡ without_excluded (main_of main.now) (main_of main.now).requirements },
     ghost own_within: { length files.own.items ≤ length modules.modules },
     ghost has_replacing: { HasReplacing (main_of main.now) files },
 }
@@ -154,7 +156,7 @@ impl<'a> Cache<'a> {
     ghost use Rattle.std.specs.List.{IsDistinct};
     ghost use Rattle.gm_name.specs.PairOrder.{pair_eq};
     ghost use Rattle.gm_name_table.specs.Listed.{BeginsWith};
-    ghost use Rattle.gm_graph_cache.specs.Cached.{HoldsSame, IsFinding, IsLender, IsSound, IsUnchanged, Knows, LendsKept, LentSame, Lends, kept_file, file_count, first_in, held_of, main_in, modules_in, numbered, summary_at, sums_in, turns_in};
+    ghost use Rattle.gm_graph_cache.specs.Cached.{HoldsSame, IsFinding, IsLender, IsSound, KeepsSound, Knows, LendsKept, LentSame, Lends, kept_file, file_count, held_of, main_in, modules_in, numbered, read_at, summary_at, sums_in, turns_in};
     ghost use Rattle.gm_graph_cache.specs.Lent.{lent_table};
 
     /// A cache for a main file, without files. If there is a go.sum, the files that come from proxies are checked
@@ -169,8 +171,6 @@ impl<'a> Cache<'a> {
         ensures main { IfOk result (λ cache. main_in cache ≡ main_of main.entry.now) }
         ensures sums { IfOk result (λ cache. sums_in cache ≡ option_copied sums.entry) }
         ensures knows { IfOk result (λ cache. Knows cache []) }
-        ensures first { IfOk result (λ cache. first_in cache
-            ≡ without_excluded (main_of main.entry.now) (main_of main.entry.now).requirements) }
         ensures turns { IfOk result (λ cache. turns_in cache ≡ []) }
     {
         let names = names_for(alloc, main)?;
@@ -198,8 +198,8 @@ impl<'a> Cache<'a> {
             × IsFileReading (sums_in self.old) (name_of name.now) reply
             (summary_reading (listed self.new.modules) kept)) }
         ensures kept { IfOk result (IsKept (main_in self.old) (listed self.new.modules)) }
-        ensures unchanged { IsUnchanged self.old self.new }
-        ensures numbered { BeginsWith (modules_in self.old) (modules_in self.new) }
+        ensures holds { HoldsSame self.old self.new }
+        ensures lent { LentSame self.old self.new }
         ensures files { self.new.files ≡ self.old.files }
         ensures asks { AsksAtMost (F.state files.old) (F.state files.new) (name_of name.now) }
         ensures device { result ≡ Err AskFault.Device
@@ -267,6 +267,8 @@ impl<'a> Cache<'a> {
         ensures adds { OnOk result
             (PutsFile (modules_in self.old) self.old.files self.new.files (name_of name.now) kept) }
         ensures modules { self.new.modules ≡ self.old.modules }
+        ensures distinct { OnOk result (IsDistinct pair_eq (modules_in self.new)) }
+        ensures files { BeginsWith self.old.files.files.items self.new.files.files.items }
         ensures finding { IfOk result (IsFinding self.new (numbered self.old number)) }
         ensures lent { LentSame self.old self.new }
         ensures err { OnErr result (HoldsSame self.old self.new) }
@@ -286,7 +288,8 @@ impl<'a> Cache<'a> {
 
     /// The requirements of the main file, without the excluded ones.
     pub fn first_requirements(&self) -> Lent<'_>
-        ensures modules { lent_modules result ≡ first_in self.now }
+        ensures modules { lent_modules result
+            ≡ without_excluded (main_in self.now) (main_in self.now).requirements }
         ensures table { lent_table result ≡ modules_in self.now }
     {
         let span = Span {
@@ -301,7 +304,7 @@ impl<'a> Cache<'a> {
     ///
     /// `NoMemory` is returned if memory runs out; the store may then hold an answer that the cache doesn't.
     /// `Device` is returned exactly if the store's device fails in this request. `TooMany` is never returned. After
-    /// any refusal the cache is unchanged.
+    /// any refusal the cache holds the same; more modules may have numbers.
     pub fn known<F: Files>(&mut self, files: &mut F, number: u32) -> Result<Finding, LoadFault>
         requires knows { Knows self.old (F.state files.old).asked }
         requires vertex { number < length (modules_in self.old) }
@@ -310,6 +313,8 @@ impl<'a> Cache<'a> {
         ensures lent { LentSame self.old self.new }
         ensures grows { KeepsHeld (held_of self.old) (held_of self.new) }
         ensures numbered { BeginsWith (modules_in self.old) (modules_in self.new) }
+        ensures distinct { OnOk result (IsDistinct pair_eq (modules_in self.new)) }
+        ensures sound { KeepsSound self.old self.new }
         ensures err { OnErr result (HoldsSame self.old self.new) }
         ensures asks { AsksFor (main_in self.old) (F.state files.old) (F.state files.new) (numbered self.old number) }
         ensures not_too_many { result ≡ Err LoadFault.TooMany → ⊥ }
@@ -368,7 +373,8 @@ impl<'a> Cache<'a> {
     /// version are below 1.17 (Go Modules Reference, "Module graph pruning").
     pub fn is_unpruned(&self, place: u32) -> bool
         requires { place < file_count self.now }
-        ensures { (x : ModuleVersion) → IsSound self.now x place
+        ensures read { result ≡ is_unpruned_in (said_in (read_at self.now place)) }
+        ensures vertex { (x : ModuleVersion) → IsSound self.now x place
             → result ≡ is_unpruned (readings_by (main_in self.now) (held_of self.now)) x }
     {
         self.files.at(place).is_unpruned()

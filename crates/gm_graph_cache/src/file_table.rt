@@ -12,7 +12,7 @@ use crate::naming::right_name;
 use crate::summary::{Kept, Span};
 use gm_file::MainFile;
 use gm_name::NoMemory;
-use gm_store::{FileName, copy_name};
+use gm_store::FileName;
 use std::alloc::{AllocError, Global};
 use std::collections::BTreeMap;
 
@@ -22,8 +22,6 @@ const NO_PLACE: u32 = 4_294_967_295;
 /// What is kept of the files that were read.
 #[derive(Drop)]
 pub(crate) struct FileTable {
-    /// The allocator of the names.
-    alloc: Global,
     /// What is kept of each file, in the order in which they were read.
     files: Vec<Kept>,
     /// For each module, by its number, the place of its own file in `files`, or `NO_PLACE`. The last ones may be left
@@ -37,8 +35,9 @@ pub(crate) struct FileTable {
 }
 
 impl FileTable {
-    ghost use Rattle.std.specs.Prelude.{◌≡◌, ◌<◌, ℕ, IfOk, IfSome, List, None, OnErr, OnOk, Some, slice_get, slice_index_or, unwrap_or};
+    ghost use Rattle.std.specs.Prelude.{◌≡◌, ◌<◌, ℕ, IfOk, IfSome, List, None, OnErr, OnOk, Some, false, slice_get, slice_index_or, true, unwrap_or};
     ghost use Rattle.std.specs.Option.{option_and_then};
+    ghost use Rattle.gm_name_table.specs.Listed.{BeginsWith};
     ghost use Rattle.gm_store.specs.Asked.{Name, name_of};
     ghost use Rattle.gm_graph_cache.specs.FileTable.{PutsFile, HasReplacing, IsFileOf, IsOwnWithin, IsPlaceOf, KeepsFiles, KeepsOthers, KeepsOwn, KeepsPlaces, KeepsReplacing, PutsOwn, NotesPlace, PutsReplacing, kept_at, replacing_place};
     ghost use Rattle.gm_graph_cache.specs.Main.{Main, ModuleVersion, main_of};
@@ -57,7 +56,6 @@ impl FileTable {
             replacing.insert(right_name(alloc, &replace.right)?, NO_PLACE)?;
         }
         Ok(FileTable {
-            alloc,
             files: Vec::new(alloc),
             own: Vec::new(alloc),
             replacing,
@@ -149,17 +147,22 @@ impl FileTable {
         Ok(())
     }
 
-    /// Notes the place of the file of a replacement with this name. The only refusal is `NoMemory`, after which no
-    /// place was noted.
-    fn put_replacing(&mut self, name: &FileName, place: u32) -> Result<(), NoMemory>
+    /// Notes the place of the file of a replacement, if the name is that of one, and reports whether it is.
+    fn put_replacing(&mut self, name: &FileName, place: u32) -> bool
         requires { place < length self.old.files.items }
-        ensures puts { OnOk result (PutsReplacing self.old self.new (name_of name.now) place) }
-        ensures err { OnErr result (KeepsReplacing self.old self.new) }
+        ensures puts { result ≡ true → PutsReplacing self.old self.new (name_of name.now) place }
+        ensures none { result ≡ false → replacing_place self.old (name_of name.now) ≡ None }
+        ensures keeps { result ≡ false → KeepsReplacing self.old self.new }
         ensures files { self.new.files ≡ self.old.files }
         ensures own { self.new.own ≡ self.old.own }
     {
-        self.replacing.insert(copy_name(self.alloc, name)?, place)?;
-        Ok(())
+        match self.replacing.get_mut(name) {
+            None => false,
+            Some(noted) => {
+                *noted = place;
+                true
+            }
+        }
     }
 
     /// Notes the place of the file of a name, as `place_of` finds it. The only refusal is `NoMemory`, after which no
@@ -173,8 +176,8 @@ impl FileTable {
         ensures own { IsOwnWithin number self.old self.new }
         ensures replacing { (main : Main) → HasReplacing main self.old → HasReplacing main self.new }
     {
-        if self.replacing.contains_key(name) {
-            return self.put_replacing(name, place);
+        if self.put_replacing(name, place) {
+            return Ok(());
         }
         self.put_own(number, place)
     }
@@ -187,9 +190,9 @@ impl FileTable {
         ensures adds { (modules : List ModuleVersion) → IsFileOf modules self.old number (name_of name.now)
             → OnOk result (PutsFile modules self.old self.new (name_of name.now) kept) }
         ensures place { IfOk result (λ place. slice_get self.new.files.items place ≡ Some kept) }
+        ensures files { BeginsWith self.old.files.items self.new.files.items }
         ensures err { (modules : List ModuleVersion) → OnErr result (KeepsFiles modules self.old self.new) }
-        ensures own { (count : ℕ) → number < count → length self.old.own.items ≤ count
-            → length self.new.own.items ≤ count }
+        ensures own { IsOwnWithin number self.old self.new }
         ensures replacing { (main : Main) → HasReplacing main self.old → HasReplacing main self.new }
     {
         if self.files.len() >= NO_PLACE as usize {

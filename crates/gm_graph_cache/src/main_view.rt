@@ -1,7 +1,7 @@
 //! The main module's file through the definitions of `Main`.
 //!
-//! These wrappers state what gm_file's accessors return in terms of the graph's own record, so that the proofs
-//! above need not look at the lines of a file.
+//! These wrappers state what gm_file's accessors return in terms of the graph's own record, so that proofs need not
+//! look at the lines of a file.
 
 ghost use Rattle.std.specs.Prelude.{◌≡◌};
 ghost use Rattle.std.specs.Option.{option_map};

@@ -87,7 +87,7 @@ fn append(modules: &mut ModuleList, some: &[ModVer]) -> Result<(), NoMemory>
     Ok(())
 }
 
-/// The summary of a file whose requirements are those of the list from this place on. Where some are excluded, the
+/// The summary of a file whose requirements are those of the list from this place on. If some are excluded, the
 /// others are appended to the list.
 pub(crate) fn summary_of(
     alloc: Global,

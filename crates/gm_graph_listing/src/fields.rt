@@ -30,8 +30,7 @@ pub(crate) fn push_vertex(out: &mut String, vertex: &ModVer) -> Result<(), NoMem
     Ok(())
 }
 
-/// Appends the path of the main module, or `PATH@VERSION` if there is another module. Refused only when memory
-/// runs out.
+/// Appends `PATH@VERSION` of a module, or the main module's path if there is none. Refused only when memory runs out.
 pub(crate) fn push_main_or(
     out: &mut String,
     main: &ModPath,

@@ -29,8 +29,7 @@ pub fn graph_text(alloc: Global, main: &ModPath, edges: Edges<'_>) -> Result<Str
     ensures { IfOk result (λ text. string_bytes text ≡ graph_text main.now edges.entry) }
 {
     let mut text = String::new(alloc);
-    let mut rest = edges;
-    'edges: while let Some(edge) = rest.next() {
+    'edges: for edge in edges {
         push_edge(&mut text, main, edge)?;
     }
     Ok(text)

@@ -39,14 +39,14 @@ module _ (main : List ℕ) (replaces : List Replacing) (E : Edges) (entries : Li
   pub row_selected : (x : Vertex) (right : Option Right) → Contains entries (Of x, right) → IsSelected main E x
   row_selected x right there = (list.each x).0 (cases (member_cases main_entry (Of x, right) (map (entry_of replaces) list.selected) (subst (λ (es : List Entry). Contains es (Of x, right)) list.entries_are there)))
     where
-      pair_eq : (v : Vertex) → Of v ≡ Of x → v ≡ x
-      pair_eq v e = cc e
+      same_vertex : (v : Vertex) → Of v ≡ Of x → v ≡ x
+      same_vertex v e = cc e
 
       cases : (main_entry ≡ (Of x, right)) ⊎ Contains (map (entry_of replaces) list.selected) (Of x, right) → Contains list.selected x
       cases (inl is) = absurd (let first : Main ≡ Of x = ap (λ (e : Entry). e.0) is in cc first)
       cases (inr (k, below, at)) =
           let inside : k < length list.selected = rw length-map at below in
-          (k, inside, pair_eq (get_or list.selected k x) (ap (λ (e : Entry). e.0) (sym (get_or-map (entry_of replaces) list.selected k x (Of x, right) inside) ∙ at)))
+          (k, inside, same_vertex (get_or list.selected k x) (ap (λ (e : Entry). e.0) (sym (get_or-map (entry_of replaces) list.selected k x (Of x, right) inside) ∙ at)))
 
   -- Each selected vertex has a row.
   pub selected_row : (x : Vertex) → IsSelected main E x → Contains entries (entry_of replaces x)

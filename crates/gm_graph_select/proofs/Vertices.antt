@@ -65,14 +65,14 @@ module _ (modules : List Vertex) (marks : List Bool) (all : List Adjacency) (are
         let (one, there, is) = from_mapped (left_by modules) all (Of x) h in
         its_vertex one there one.from refl is
       where
-        pair_eq : (y : Vertex) → Of y ≡ Of x → y ≡ x
-        pair_eq y e = cc
+        same_vertex : (y : Vertex) → Of y ≡ Of x → y ≡ x
+        same_vertex y e = cc
 
         its_vertex : (one : Adjacency) → Contains all one → (from : Option ℕ) → one.from ≡ from → step_with modules one.from ≡ Of x → IsMarkedModule modules marks x
         its_vertex one there None is step = absurd (let main : Main ≡ Of x = sym (ap (λ (f : Option ℕ). step_with modules f) is) ∙ step in cc main)
         its_vertex one there (Some number) is step =
             marked_module count x one there number (names_from one number is)
-            (pair_eq (vertex_at modules number) (sym (ap (λ (f : Option ℕ). step_with modules f) is) ∙ step))
+            (same_vertex (vertex_at modules number) (sym (ap (λ (f : Option ℕ). step_with modules f) is) ∙ step))
 
     vertices_named : length marks ≡ length modules → (x : Vertex) → IsMarkedModule modules marks x ↔ (IsEdgeEnd (among edges) x ⊎ Contains (sources_of modules all) (Of x))
     vertices_named count x = (

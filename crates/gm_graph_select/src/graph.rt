@@ -46,7 +46,7 @@ impl Graph {
     /// adjacency list leaves are left out.
     ///
     /// The only refusal is `NoMemory`. For n vertices and m edges it takes n log n comparisons of vertices, and of
-    /// numbers m log m at most.
+    /// numbers m log m at most. Time and memory are also in proportion to the modules.
     pub fn new(
         alloc: Global,
         modules: Vec<ModVer>,
@@ -78,7 +78,8 @@ impl Graph {
     }
 
     /// The selected modules (Go Modules Reference, "Minimal version selection"). Each path of a vertex but the main
-    /// module's comes once, at its greatest version, in ascending order of the bytes of the path. It takes no memory.
+    /// module's comes once, at its greatest version, in ascending order of the bytes of the path. That is minimal
+    /// version selection if an edge leads to each vertex. It takes no memory.
     pub fn selected<'a>(&'a self, main: &'a ModPath) -> Selection<'a>
         ensures { AreEnds self.now.vertices (among self.now.edges)
             → AreSelected main.now (among self.now.edges) result }

@@ -11,8 +11,7 @@ use crate::stores::{Folders, Form};
 use gm_name::ModPath;
 use gm_store::{FileName, Files, MemoryFiles, ProxyList, copy_name};
 use gomod_case_files::{STDIN, View};
-use gomod_run::run;
-use gomod_words::Command;
+use gomod_run::{Command, run};
 use std::alloc::{AllocError, Global};
 
 /// A file that a store was asked for.

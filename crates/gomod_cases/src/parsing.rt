@@ -2,7 +2,7 @@
 
 use gm_store::ProxyList;
 use gomod_case_files::{Case, Run, tidied};
-use gomod_words::{Command, Places, UsageFault, read_words};
+use gomod_run::{Command, Places, UsageFault, read_words};
 use std::alloc::{AllocError, Global};
 
 /// What a command line asks for, and the files that it names, each by the shortest spelling of its place.

@@ -3,7 +3,7 @@ use Rattle.gm_graph_cache.specs.Lent.{lent_modules, lent_table}
 use Rattle.gm_graph_cache.specs.Main.{ModuleVersion, main_of}
 use Rattle.gm_graph.specs.Visiting.{IsFirstGraph}
 use Rattle.gm_graph.proofs.AddFaults.{add_too_many}
-use Rattle.gm_graph.proofs.FirstGraph.{is_first, too_many_first}
+use Rattle.gm_graph.proofs.FirstGraph.{is_first, required_in, too_many_first}
 use Rattle.gm_graph.proofs.starting.first_graph.Goals as goal
 
 pub add_all-requires : goal.add_all-requires
@@ -16,7 +16,7 @@ returns-in_err-add_all-clause-too_many c = λ e.
     let many = add_too_many c.from_residual-in_err-add_all.result c.in_err-add_all.field-0.0
     c.from_residual-in_err-add_all.ensures.1 e in
     too_many_first (main_of c.args.main.now) (lent_table required.result) (lent_modules required.result)
-    c.in_ok-builder.builder c.in_ok-builder.ensures.turns (required.ensures.modules ∙ c.requires)
+    c.in_ok-builder.builder c.in_ok-builder.ensures.turns (required.ensures.modules ∙ ap required_in c.requires)
     (c.in_err-add_all.ensures.too_many (ap Err many))
 
 pub returns-clause-first : goal.returns-clause-first
@@ -29,5 +29,6 @@ returns-clause-first c =
     let last = c.in_ok-add_edges.ensures in
     subst (λ (modules : List ModuleVersion). IsFirstGraph main modules made) required.ensures.table
     (is_first main (lent_table required.result) (lent_modules required.result) c.in_ok-builder.builder none.turns
-    (required.ensures.modules ∙ c.requires) c.add_all.new.self made c.first_depth.result none.edges none.faults
-    c.first_depth.ensures turned.adds turned.graph last.builder last.turns last.edges last.sources last.faults)
+    (required.ensures.modules ∙ ap required_in c.requires) c.add_all.new.self made c.first_depth.result
+    none.edges none.faults c.first_depth.ensures turned.adds turned.graph last.builder last.turns last.edges
+    last.sources last.faults)

@@ -44,7 +44,7 @@ returns-in_err-add_all-clause-too_many c = λ e.
 pub add_edges-requires-clause-builder : goal.add_edges-requires-clause-builder
 add_edges-requires-clause-builder c =
     let table = lent_table c.in_ok-required.required in
-    let noted = c.in_ok-note.ensures.builder (modules_in c.args.cache.now) (c.requires.builder c.module.ensures.distinct) in
+    let noted = c.in_ok-note.ensures.builder (modules_in c.args.cache.now) c.requires.builder in
     elim c.if-leads.branch [
       | then-leads+in_ok-add_all w ↦ subst (λ (b : GraphBuilder). IsBuilder table b) (sym w.builder-is) w.in_ok-add_all.ensures.builder
       | else-leads w ↦ subst (λ (b : GraphBuilder). IsBuilder table b) (sym w.builder-is)
@@ -55,7 +55,7 @@ pub returns-clause-builder : goal.returns-clause-builder
 returns-clause-builder c =
     let modules = modules_in c.args.cache.now in
     let table = c.in_ok-required.ensures.table in
-    let noted = c.in_ok-note.ensures.builder modules (c.requires.builder c.module.ensures.distinct) in
+    let noted = c.in_ok-note.ensures.builder modules c.requires.builder in
     let turned : IsBuilder modules c.if-leads.builder = elim c.if-leads.branch [
       | then-leads+in_ok-add_all w ↦ subst (λ (b : GraphBuilder). IsBuilder modules b) (sym w.builder-is)
           (subst (λ (ms : List ModuleVersion). IsBuilder ms w.add_all.new.self) table w.in_ok-add_all.ensures.builder)
@@ -86,7 +86,7 @@ returns-clause-followed c =
     let lent = c.in_ok-required.ensures.lent in
     let known = finding_known cache x found c.requires.finding in
     let leads : c.leads_on-leads.result ≡ leads_on readings x d = c.leads_on-leads.ensures x c.requires.finding in
-    let adds_edges : c.gathers-gathers.result ≡ gathers (turns_of modules old) (turn x d) = c.gathers-gathers.ensures modules (c.requires.builder c.module.ensures.distinct) c.requires.below in
+    let adds_edges : c.gathers-gathers.result ≡ gathers (turns_of modules old) (turn x d) = c.gathers-gathers.ensures modules c.requires.builder c.requires.below in
     let notes : Notes (built modules old) (built modules noted) x found = notes_fault modules old noted x found c.in_ok-note.ensures.turns c.in_ok-note.ensures.leaving
     (λ y. c.in_ok-note.ensures.faults y ∙ ap (λ (v : ModuleVersion). with_fault (found_fault found) v (faults_by_vertex old) y) c.module.ensures.module) in
     let opens : Opens main readings (built modules noted) (built modules turned) x d = elim c.if-leads.branch [

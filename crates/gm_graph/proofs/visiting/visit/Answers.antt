@@ -7,7 +7,7 @@ use Rattle.gm_graph.proofs.Growing.{builder_over}
 use Rattle.gm_graph.proofs.visiting.visit.Goals as goal
 
 pub add_requirements-requires-clause-builder : goal.add_requirements-requires-clause-builder
-add_requirements-requires-clause-builder g c = λ distinct. builder_over (modules_in c.args.cache.now) (modules_in c.known.new.self) c.args.builder.now c.requires.builder c.known.ensures.numbered distinct
+add_requirements-requires-clause-builder g c = builder_over (modules_in c.args.cache.now) (modules_in c.known.new.self) c.args.builder.now c.requires.builder c.known.ensures.numbered c.in_ok-finding.ensures.distinct
 
 pub returns-clause-knows : goal.returns-clause-knows
 returns-clause-knows g c = on_ok_weaker c.add_requirements.result (λ adds. knows_still c.known.new.self c.add_requirements.new.cache (g.F.Files.state c.known.new.files).asked adds.holds c.in_ok-finding.ensures.knows) c.add_requirements.ensures.cache

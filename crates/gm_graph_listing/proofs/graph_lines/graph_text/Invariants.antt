@@ -4,8 +4,4 @@ use Rattle.gm_graph_listing.proofs.graph_lines.graph_text.Given as goal
 
 -- the lines so far, followed by those of the remaining edges
 abbrev pub invariant-edges : goal.invariant-edges
-invariant-edges l = record {
-  can : (goal.iterator-edges).can_next l.rest;
-  finite : (goal.iterator-edges).is_finite l.rest;
-  text : string_bytes l.text ++ graph_text l.main l.rest ≡ graph_text l.main l.fn.edges;
-}
+invariant-edges l = string_bytes l.text ++ graph_text l.main l.edge-iterator ≡ graph_text l.main l.fn.edges

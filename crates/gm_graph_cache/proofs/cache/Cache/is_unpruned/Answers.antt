@@ -1,9 +1,19 @@
-use Rattle.std.proofs.Common.{◌∙◌}
+use Rattle.std.proofs.Common.{◌∙◌, Option, ap, sym}
+use Rattle.std.specs.Option.{option_map}
 use Rattle.gm_name_table.specs.Listed.{listed}
+use Rattle.gm_graph_cache.specs.declared.summary.Kept.{Kept}
+use Rattle.gm_graph_cache.specs.Reading.{is_unpruned_in, said_in}
+use Rattle.gm_graph_cache.specs.Summaries.{summary_reading}
 use Rattle.gm_graph_cache.proofs.Lending.{unpruned_same}
 use Rattle.gm_graph_cache.proofs.cache.Cache.is_unpruned.Goals as goal
 
-pub returns : goal.returns
-returns c = λ x sound.
+pub returns-clause-read : goal.returns-clause-read
+returns-clause-read c =
+    let modules = listed c.args.self.now.modules in
+    c.is_unpruned.ensures modules
+    ∙ sym (ap (λ (kept : Option Kept). is_unpruned_in (said_in (option_map (summary_reading modules) kept))) c.at.ensures)
+
+pub returns-clause-vertex : goal.returns-clause-vertex
+returns-clause-vertex c = λ x sound.
     let cache = c.args.self.now in
     c.is_unpruned.ensures (listed cache.modules) ∙ unpruned_same cache x c.args.place c.at.result.now c.at.ensures sound

@@ -17,7 +17,7 @@ invariant_of-self-clause-has_replacing c = c.add.ensures.replacing (main_in c.ar
 
 pub returns-in_err-place-clause-err : goal.returns-in_err-place-clause-err
 returns-in_err-place-clause-err c =
-    any_err c.from_residual.result (holds_listed c.args.self.now _ refl refl (c.in_err-place.ensures.err (modules_in c.args.self.now)) refl)
+    any_err c.from_residual.result (holds_listed c.args.self.now _ refl refl (c.in_err-place.ensures.err (modules_in c.args.self.now)) c.add.ensures.files refl)
 
 pub finding-requires-clause-within : goal.finding-requires-clause-within
 finding-requires-clause-within c = slice_get_within c.add.new.self.files.items c.in_ok-place.place c.args.kept c.in_ok-place.ensures.place

@@ -5,8 +5,8 @@ use Rattle.gm_graph_cache.specs.Asking.{StillLacks}
 use Rattle.gm_graph_cache.specs.Cached.{main_in, numbered}
 use Rattle.gm_graph_cache.specs.Reading.{file_of}
 use Rattle.gm_graph_cache.proofs.Growing.{asks_file}
-use Rattle.gm_graph_cache.proofs.Keeping.{any_err, holds_after, keeps_same, lent_after, lent_same, none_refused}
-use Rattle.gm_graph_cache.proofs.Telling.{keeps_read, knows_read, not_asked}
+use Rattle.gm_graph_cache.proofs.Keeping.{any_err, holds_after, holds_itself, keeps_same, lent_after, none_refused}
+use Rattle.gm_graph_cache.proofs.Telling.{keeps_read, knows_read, not_asked, sound_read}
 use Rattle.gm_graph_cache.proofs.cache.Cache.known.Goals as goal
 
 pub read_file-requires-clause-fresh : goal.read_file-requires-clause-fresh
@@ -18,7 +18,7 @@ returns-in_ok-keep-in-Ok-clause-knows g c =
     let read = c.in-Ok.ensures.reading in
     let none = c.in_default.ensures in
     knows_read c.args.self.now c.read_file.new.self c.keep.new.self (g.F.Files.state c.args.files.now).asked (g.F.Files.state c.read_file.new.files).asked (name_of c.in_ok-name.name) read.0 c.in-Ok.kept
-    c.requires.knows c.read_file.ensures.unchanged.holds c.keep.ensures.lent c.keep.ensures.modules none c.in_ok-keep-in-Ok.ensures.adds read.1 read.2 c.in-Ok.ensures.kept
+    c.requires.knows c.read_file.ensures.holds c.keep.ensures.lent c.keep.ensures.modules none c.in_ok-keep-in-Ok.ensures.adds read.1 read.2 c.in-Ok.ensures.kept
 
 pub returns-in-Err-Device-clause-device : goal.returns-in-Err-Device-clause-device
 returns-in-Err-Device-clause-device g c = λ name e.
@@ -54,7 +54,7 @@ returns-in_err-keep-in-Ok-clause-asks g c =
 -- ---- memory ran out before anything was asked for
 
 pub returns-in_err-name-clause-err : goal.returns-in_err-name-clause-err
-returns-in_err-name-clause-err g c = any_err c.from_residual.result (record { main = refl; sums = refl; held = λ _. refl; lends = λ lends. lends })
+returns-in_err-name-clause-err g c = any_err c.from_residual.result (holds_itself c.args.self.now)
 
 pub returns-in_err-name-clause-not_too_many : goal.returns-in_err-name-clause-not_too_many
 returns-in_err-name-clause-not_too_many g c = λ e. cc (rw e at c.from_residual.ensures.1)
@@ -71,12 +71,17 @@ returns-in_err-name-clause-refused g c = none_refused c.from_residual.result (g.
 -- ---- what was read is kept
 
 pub returns-in_ok-keep-in-Ok-clause-lent : goal.returns-in_ok-keep-in-Ok-clause-lent
-returns-in_ok-keep-in-Ok-clause-lent g c = lent_after c.args.self.now c.read_file.new.self c.keep.new.self c.read_file.ensures.unchanged c.keep.ensures.lent
+returns-in_ok-keep-in-Ok-clause-lent g c = lent_after c.args.self.now c.read_file.new.self c.keep.new.self c.read_file.ensures.lent c.keep.ensures.lent
 
 pub returns-in_ok-keep-in-Ok-clause-grows : goal.returns-in_ok-keep-in-Ok-clause-grows
 returns-in_ok-keep-in-Ok-clause-grows g c =
-    keeps_read c.args.self.now c.read_file.new.self c.keep.new.self (name_of c.in_ok-name.name) c.in-Ok.kept c.read_file.ensures.unchanged.holds c.keep.ensures.modules
+    keeps_read c.args.self.now c.read_file.new.self c.keep.new.self (name_of c.in_ok-name.name) c.in-Ok.kept c.read_file.ensures.holds c.keep.ensures.modules
     (c.in_default.ensures) c.in_ok-keep-in-Ok.ensures.adds
+
+pub returns-in_ok-keep-in-Ok-clause-sound : goal.returns-in_ok-keep-in-Ok-clause-sound
+returns-in_ok-keep-in-Ok-clause-sound g c =
+    sound_read c.args.self.now c.read_file.new.self c.keep.new.self (name_of c.in_ok-name.name) c.in-Ok.kept c.read_file.ensures.holds c.keep.ensures.lent
+    c.keep.ensures.modules (c.in_default.ensures) c.in_ok-keep-in-Ok.ensures.adds c.keep.ensures.files
 
 pub returns-in_ok-keep-in-Ok-clause-refused : goal.returns-in_ok-keep-in-Ok-clause-refused
 returns-in_ok-keep-in-Ok-clause-refused g c = c.in-Ok.ensures.not_refused (λ e. cc e) ∙ sym (append-nil _)
@@ -84,15 +89,19 @@ returns-in_ok-keep-in-Ok-clause-refused g c = c.in-Ok.ensures.not_refused (λ e.
 -- ---- memory ran out when it was to be kept
 
 pub returns-in_err-keep-in-Ok-clause-lent : goal.returns-in_err-keep-in-Ok-clause-lent
-returns-in_err-keep-in-Ok-clause-lent g c = lent_after c.args.self.now c.read_file.new.self c.keep.new.self c.read_file.ensures.unchanged c.keep.ensures.lent
+returns-in_err-keep-in-Ok-clause-lent g c = lent_after c.args.self.now c.read_file.new.self c.keep.new.self c.read_file.ensures.lent c.keep.ensures.lent
 
 pub returns-in_err-keep-in-Ok-clause-grows : goal.returns-in_err-keep-in-Ok-clause-grows
 returns-in_err-keep-in-Ok-clause-grows g c =
-    keeps_same c.args.self.now c.keep.new.self (holds_after c.args.self.now c.read_file.new.self c.keep.new.self c.read_file.ensures.unchanged.holds c.in_err-keep-in-Ok.ensures.err)
+    keeps_same c.args.self.now c.keep.new.self (holds_after c.args.self.now c.read_file.new.self c.keep.new.self c.read_file.ensures.holds c.in_err-keep-in-Ok.ensures.err)
+
+pub returns-in_err-keep-in-Ok-clause-sound : goal.returns-in_err-keep-in-Ok-clause-sound
+returns-in_err-keep-in-Ok-clause-sound g c =
+    (holds_after c.args.self.now c.read_file.new.self c.keep.new.self c.read_file.ensures.holds c.in_err-keep-in-Ok.ensures.err).sound
 
 pub returns-in_err-keep-in-Ok-clause-err : goal.returns-in_err-keep-in-Ok-clause-err
 returns-in_err-keep-in-Ok-clause-err g c =
-    any_err c.from_residual-in_err-keep-in-Ok.result (holds_after c.args.self.now c.read_file.new.self c.keep.new.self c.read_file.ensures.unchanged.holds c.in_err-keep-in-Ok.ensures.err)
+    any_err c.from_residual-in_err-keep-in-Ok.result (holds_after c.args.self.now c.read_file.new.self c.keep.new.self c.read_file.ensures.holds c.in_err-keep-in-Ok.ensures.err)
 
 pub returns-in_err-keep-in-Ok-clause-not_too_many : goal.returns-in_err-keep-in-Ok-clause-not_too_many
 returns-in_err-keep-in-Ok-clause-not_too_many g c = λ e. cc (rw e at c.from_residual-in_err-keep-in-Ok.ensures.1)
@@ -109,21 +118,15 @@ returns-in_err-keep-in-Ok-clause-refused g c =
 
 -- ---- memory ran out when the file was asked for, or the device failed
 
-pub returns-in-Err-NoMemory-clause-lent : goal.returns-in-Err-NoMemory-clause-lent
-returns-in-Err-NoMemory-clause-lent g c = lent_same c.args.self.now c.read_file.new.self c.read_file.ensures.unchanged
-
 pub returns-in-Err-NoMemory-clause-grows : goal.returns-in-Err-NoMemory-clause-grows
-returns-in-Err-NoMemory-clause-grows g c = keeps_same c.args.self.now c.read_file.new.self c.read_file.ensures.unchanged.holds
+returns-in-Err-NoMemory-clause-grows g c = keeps_same c.args.self.now c.read_file.new.self c.read_file.ensures.holds
 
 pub returns-in-Err-NoMemory-clause-refused : goal.returns-in-Err-NoMemory-clause-refused
 returns-in-Err-NoMemory-clause-refused g c =
     c.in-Err-NoMemory.ensures.not_refused (λ e. let never = sym (ap Err c.in-Err-NoMemory.field-0-is) ∙ e in cc never) ∙ sym (append-nil _)
 
-pub returns-in-Err-Device-clause-lent : goal.returns-in-Err-Device-clause-lent
-returns-in-Err-Device-clause-lent g c = lent_same c.args.self.now c.read_file.new.self c.read_file.ensures.unchanged
-
 pub returns-in-Err-Device-clause-grows : goal.returns-in-Err-Device-clause-grows
-returns-in-Err-Device-clause-grows g c = keeps_same c.args.self.now c.read_file.new.self c.read_file.ensures.unchanged.holds
+returns-in-Err-Device-clause-grows g c = keeps_same c.args.self.now c.read_file.new.self c.read_file.ensures.holds
 
 pub returns-in-Err-Device-clause-refused : goal.returns-in-Err-Device-clause-refused
 returns-in-Err-Device-clause-refused g c = (c.in-Err-Device.ensures.device (ap Err c.in-Err-Device.field-0-is)).1

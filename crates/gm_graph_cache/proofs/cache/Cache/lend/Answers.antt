@@ -1,10 +1,11 @@
-use Rattle.std.proofs.Common.{◌≡◌, ◌∙◌, ◌++◌, ◌∷◌, [], ap, refl, subst, sym}
+use Rattle.std.proofs.Common.{◌≡◌, ◌∙◌, ◌++◌, ◌∷◌, [], ap, append-nil, refl, subst, sym}
 use Rattle.gm_name_table.specs.Listed.{listed}
 use Rattle.gm_graph_cache.specs.declared.summary.Span.{Span}
 use Rattle.gm_graph_cache.specs.Cached.{numbered}
 use Rattle.gm_graph_cache.specs.Main.{ModuleVersion}
 use Rattle.gm_graph_cache.specs.Turns.{turn}
 use Rattle.gm_graph_cache.specs.Summaries.{IsWithinList, at_span}
+use Rattle.gm_graph_cache.proofs.Keeping.{holds_listed}
 use Rattle.gm_graph_cache.proofs.Lending.{lender_within, lent_kept, lent_within}
 use Rattle.gm_graph_cache.proofs.cache.Cache.lend.Goals as goal
 
@@ -27,7 +28,7 @@ returns c =
           turns = subst (λ (x : ModuleVersion). c.push_turn.new.turns.items ≡ c.args.self.now.turns.items ++ turn x c.args.depth ∷ [])
               c.module.ensures.module c.in_ok-push_turn.ensures.ok;
           modules = refl;
-          holds = record { main = refl; sums = refl; held = λ _. refl; lends = λ lends. lends };
+          holds = holds_listed cache _ refl refl (λ _. refl) ([], sym (append-nil cache.files.files.items)) refl;
         },
       ),
       record {

@@ -1,7 +1,7 @@
 use Rattle.std.proofs.Common.{inr, refl}
 use Rattle.gm_store.specs.Asked.{name_of}
 use Rattle.gm_graph_cache.proofs.Growing.{may_more, may_same}
-use Rattle.gm_graph_cache.proofs.Keeping.{holds_grown}
+use Rattle.gm_graph_cache.proofs.Keeping.{holds_grown, holds_itself}
 use Rattle.gm_graph_cache.proofs.cache.Cache.read_file.Goals as goal
 
 pub returns-in_err-ask-clause-may : goal.returns-in_err-ask-clause-may
@@ -23,8 +23,11 @@ returns-in_err-kept-clause-asks g c = let (reply, _, adds) = c.in_ok-ask.ensures
 pub returns-clause-asks : goal.returns-clause-asks
 returns-clause-asks g c = let (reply, _, adds) = c.in_ok-ask.ensures.ok in inr (reply, c.requires.fresh, adds)
 
-pub returns-in_err-kept-clause-unchanged : goal.returns-in_err-kept-clause-unchanged
-returns-in_err-kept-clause-unchanged g c = record { turns = refl; holds = holds_grown c.args.self.now _ refl refl refl c.summarize.ensures.grows c.requires.lends }
+pub returns-in_err-ask-clause-holds : goal.returns-in_err-ask-clause-holds
+returns-in_err-ask-clause-holds g c = holds_itself c.args.self.now
 
-pub returns-clause-unchanged : goal.returns-clause-unchanged
-returns-clause-unchanged g c = record { turns = refl; holds = holds_grown c.args.self.now _ refl refl refl c.summarize.ensures.grows c.requires.lends }
+pub returns-in_err-kept-clause-holds : goal.returns-in_err-kept-clause-holds
+returns-in_err-kept-clause-holds g c = holds_grown c.args.self.now _ refl refl refl c.summarize.ensures.grows c.requires.lends
+
+pub returns-clause-holds : goal.returns-clause-holds
+returns-clause-holds g c = holds_grown c.args.self.now _ refl refl refl c.summarize.ensures.grows c.requires.lends

@@ -1,23 +1,30 @@
-use Rattle.std.proofs.Common.{◌∙◌, ℕ, List, Some, ap, cond, length}
-use Rattle.std.specs.Map.{lookup}
-use Rattle.gm_store.proofs.NameOrder.{held_inserted}
-use Rattle.gm_store.specs.Asked.{Name, name_of, same_name}
+use Rattle.std.proofs.Common.{◌∙◌, ℕ, List, Option, ap, length, refl, subst, sym}
+use Rattle.std.specs.BTreeMap.{is_at}
+use Rattle.std.specs.List.{All}
+use Rattle.std.specs.Map.{lookup, values_of}
+use Rattle.std.specs.Option.{IsSome}
+use Rattle.std.proofs.lemmas.Map.Views.{All-values-set_value}
+use Rattle.gm_store.proofs.NameOrder.{found_by}
+use Rattle.gm_store.specs.Asked.{name_of, same_name}
 use Rattle.gm_store.specs.contracts.files.FileNameOrd.TheImpl.{cmp-value}
 use Rattle.gm_store.specs.declared.files.FileName.{FileName}
-use Rattle.gm_graph_cache.proofs.PuttingPlaces.{values_after}
+use Rattle.gm_graph_cache.proofs.PuttingPlaces.{replacing_set}
 use Rattle.gm_graph_cache.specs.Places.{IsPlace}
 use Rattle.gm_graph_cache.proofs.file_table.FileTable.put_replacing.Goals as goal
 
-pub invariant_of-self-2-clause-replacing_places : goal.invariant_of-self-2-clause-replacing_places
-invariant_of-self-2-clause-replacing_places c =
+pub invariant_of-self-in-Some-clause-replacing_places : goal.invariant_of-self-in-Some-clause-replacing_places
+invariant_of-self-in-Some-clause-replacing_places c =
     let old = c.args.self.now in
-    values_after c.insert.result (IsPlace (length old.files.items)) cmp-value.it old.replacing.entries c.insert.new.self.entries
-    c.in_ok-copy_name.field-0 c.args.place c.insert.ensures.entries c.insert.ensures.err (λ some. c.requires) old.replacing_places
+    subst (λ (es : List (FileName × ℕ)). All (IsPlace (length old.files.items)) (values_of es)) (sym (c.get_mut.follows.holds c.args.place).0)
+    (All-values-set_value (is_at (cmp-value.it c.args.name.now)) (IsPlace (length old.files.items)) old.replacing.entries c.args.place
+    old.replacing_places (λ some. c.requires))
 
-pub returns-clause-puts : goal.returns-clause-puts
-returns-clause-puts c = λ other.
+pub returns-in-None-clause-none : goal.returns-in-None-clause-none
+returns-in-None-clause-none c = λ _. sym (c.in-None.ensures.value ∙ found_by c.args.name.now c.args.self.now.replacing.entries)
+
+pub returns-in-Some-clause-puts : goal.returns-in-Some-clause-puts
+returns-in-Some-clause-puts c = λ _ other.
     let old = c.args.self.now in
-    ap (λ (es : List (FileName × ℕ)). lookup (λ file. same_name other (name_of file)) es) c.in_ok-insert.ensures.entries
-    ∙ held_inserted old.replacing.entries c.in_ok-copy_name.field-0 c.args.place other
-    ∙ ap (λ (name : Name). cond (same_name other name) (Some c.args.place) (lookup (λ file. same_name other (name_of file)) old.replacing.entries))
-    c.in_ok-copy_name.ensures
+    ap (λ (es : List (FileName × ℕ)). lookup (λ file. same_name other (name_of file)) es) (c.get_mut.follows.holds c.args.place).0
+    ∙ replacing_set old.replacing.entries c.args.name.now c.args.place other
+    (subst (λ (o : Option ℕ). IsSome o) c.in-Some.ensures.value refl)
