@@ -21,8 +21,6 @@ import sys
 # file, function, and why memory has run out there
 LISTED = """
 gm_graph_cache/src/file_table.rt add: the list has the greatest size
-gm_graph_listing/src/report.rt syntax_report: the fault has no place, so it is that memory ran out
-gm_graph_listing/src/report.rt directive_report: the fault has no place, so it is that memory ran out
 gm_name/src/borrowed_version.rt to_version: a text that is a version was refused
 gm_name/src/version.rt read: the parser says so
 gm_name/src/version.rt with: a text that is a pre-release was refused

@@ -27,7 +27,7 @@ import sys
 WALKS = [
     ("list, to where the graph is loaded", 9, """
         gomod/src/main.rt main
-        gomod_run/src/program.rt exit_code status_of status_of_words
+        gomod_run/src/program.rt exit_code ending_of ending_of_words
         gomod_run/src/serving.rt serve over_folders
         gomod_run/src/running.rt run
         gomod_run/src/outcome.rt outcome
@@ -36,7 +36,7 @@ WALKS = [
     """),
     ("edit, to the first change of a line", 12, """
         gomod/src/main.rt main
-        gomod_run/src/program.rt exit_code status_of status_of_words
+        gomod_run/src/program.rt exit_code ending_of ending_of_words
         gomod_run/src/serving.rt serve over_memory
         gomod_run/src/running.rt run
         gomod_run/src/outcome.rt outcome

@@ -1,16 +1,15 @@
 -- The steps of reading a dependency's file from its bytes.
-use Rattle.std.proofs.Common.{◌≡◌, ℕ, ◌+◌, List, [], ◌∷◌, ◌++◌, length, Option, Some, None, Ok, Err, codes, refl, sym, ap, subst, ◌∙◌, arith, append-nil, Bor}
+use Rattle.std.proofs.Common.{◌≡◌, ℕ, ◌+◌, List, [], ◌∷◌, ◌++◌, length, Option, Some, None, Ok, Err, refl, sym, ap, subst, ◌∙◌, arith, append-nil, Bor}
 use Rattle.std.proofs.lemmas.List.{length-append, length-map, map-append, map_push}
 use Rattle.std.specs.Prelude.{unwrap_or}
 use Rattle.std.specs.Option.{option_copied, option_map, option_to_list}
 use Rattle.std.specs.Global.{Vec}
 use Rattle.gm_syntax.specs.Words.{Word}
 use Rattle.gm_syntax.specs.Tokens.{Placed}
-use Rattle.gm_syntax.specs.Document.{Line, Blank, Open, Close}
-use Rattle.gm_syntax.specs.Pairs.{IsOpeningRead}
+use Rattle.gm_syntax.specs.Document.{Line}
 use Rattle.gm_syntax.specs.LineViews.{plain, plain_lines}
 use Rattle.gm_syntax.specs.Parsed.{IsParsedAs}
-use Rattle.gm_syntax.specs.LineReading.{HasRead, IsRestRead, Unread}
+use Rattle.gm_syntax.specs.LineReading.{IsRestRead, Unread}
 use Rattle.gm_syntax.specs.declared.fault.SyntaxFault.{SyntaxFault}
 use Rattle.gm_syntax.specs.declared.fault.SyntaxFault.TheVariants as syntax
 use Rattle.gm_file.specs.declared.dep_lines.DepLines.{DepLines}
@@ -19,12 +18,11 @@ use Rattle.gm_file.specs.declared.fault.LineFault.TheVariants as line
 use Rattle.gm_file.specs.declared.fields.Fields.{Fields}
 use Rattle.gm_file.specs.declared.replace.Interval.{Interval}
 use Rattle.gm_file.specs.DepLines.{AreAllRead, AreDepLines, HasNextFault, IsDependencyIn, IsMisread}
-use Rattle.gm_file.specs.Directives.{Directive, Item, Lax, Pair, Opening, Silent, block_after_line, item_at, verb_in}
-use Rattle.gm_file.specs.Faults.{fault_of, opening_kinds}
+use Rattle.gm_file.specs.Directives.{Item, Lax, Pair, block_after_line, item_at}
+use Rattle.gm_file.specs.Faults.{fault_of}
 use Rattle.gm_file.specs.Fields.{Dependency}
 use Rattle.gm_file.specs.Holding.{AreFound, AreReadTo, Holds, IsLineAdded}
 use Rattle.gm_file.specs.ReadFaults.{read_by_file, read_by_syntax}
-use Rattle.gm_file.specs.PairLines.{AreReadSofar}
 use Rattle.gm_file.specs.Retracting.{retraction_at}
 use Rattle.gm_file.specs.Views.{file_fault_at, interval_views}
 use Rattle.gm_file.proofs.Lines.{fault-reported, read-more, read-none}
@@ -96,63 +94,10 @@ dep-whole bytes said file all is = (
   sym (is ∙ dependency-is (plain_lines all.0) said.fields (unwrap_or said.fields.go (1, 16)) (interval_views said.retracts.items) all.2.read.read refl all.2.retracted),
 )
 
--- a line without content says nothing
-silent-added : (fields : Fields) (block : Option Word) → IsLineAdded Lax fields fields (item_at (block, Blank)) (Ok tt)
-unfolding item_at
-silent-added fields block = λ ds holds. (subst (λ (all : List Directive). Holds Lax all fields) (sym (append-nil ds)) holds, refl)
-
-no-retraction : (block : Option Word) → retraction_at (item_at (block, Blank)) ≡ None
-unfolding item_at
-no-retraction block = refl
-
--- one more line that is empty
-pub dep-blank : (lines : List (Line Word)) (said : DepLines) → AreDepLines lines said → AreDepLines (lines ++ Blank ∷ []) said
-dep-blank lines said so =
-    let intervals = interval_views said.retracts.items in
-    dep-more lines Blank (word_of said.block) said said so refl so.read.read.found (silent-added said.fields (word_of said.block))
-    (sym (ap (λ (o : Option Pair). intervals ++ option_to_list o) (no-retraction (word_of said.block)) ∙ append-nil intervals)) refl
-
--- after an empty line
-pub sofar-blank : (left next : Unread) (said : DepLines) → ((lines : List (Line Placed)) → HasRead left lines → HasRead next (lines ++ Blank ∷ [])) → AreReadSofar left said → AreReadSofar next said
-sofar-blank left next said more (lines, read, so) =
-    (lines ++ Blank ∷ [], more lines read, subst (λ (ls : List (Line Word)). AreDepLines ls said) (sym (map_push plain lines Blank)) (dep-blank (plain_lines lines) said so))
-
--- ---- the start and the end of a block
-
-opening-item : (block : Option Word) (verb : Word) (suffix : Option (List ℕ)) → item_at (block, Open verb suffix) ≡ Opening verb.spelling
-unfolding item_at
-opening-item block verb suffix = refl
-
-closing-item : (block : Option Word) → item_at (block, Close None) ≡ Silent
-unfolding item_at
-closing-item block = refl
-
--- a line that says nothing, and opens or closes a block without a fault
-level-more : (lines : List (Line Word)) (here : Line Word) (item : Item) (old : DepLines) (block : Option Placed) → item_at (word_of old.block, here) ≡ item → retraction_at item ≡ None → AreDepLines lines old
+-- a line that says nothing but may open or close a block, without a fault
+pub level-more : (lines : List (Line Word)) (here : Line Word) (item : Item) (old : DepLines) (block : Option Placed) → item_at (word_of old.block, here) ≡ item → retraction_at item ≡ None → AreDepLines lines old
     → IsLineAdded Lax old.fields old.fields item (Ok tt) → word_of block ≡ block_after_line (word_of old.block) here → AreDepLines (lines ++ here ∷ []) (record old { block = block })
 level-more lines here item old block is none so added after =
     let intervals = interval_views old.retracts.items in
     dep-more lines here (word_of old.block) old (record old { block = block }) so refl so.read.read.found (subst (λ (i : Item). IsLineAdded Lax old.fields old.fields i (Ok tt)) (sym is) added)
     (sym (ap (λ (o : Option Pair). intervals ++ option_to_list o) (ap retraction_at is ∙ none) ∙ append-nil intervals)) after
-
-same-fields : (fields : Fields) (ds : List Directive) → Holds Lax ds fields → Holds Lax (ds ++ []) fields
-same-fields fields ds holds = subst (λ (all : List Directive). Holds Lax all fields) (sym (append-nil ds)) holds
-
--- after a line that opens a block of `require`
-pub sofar-opening : (left next : Unread) (said : DepLines) (verb : Placed) → verb.word.spelling ≡ codes "require" → ((lines : List (Line Placed)) → HasRead left lines → IsOpeningRead next lines verb) → AreReadSofar left said
-    → AreReadSofar next (record said { block = Some verb })
-sofar-opening left next said verb spelled more (lines, read, so) =
-    let next_read = more lines read in
-    let here : Line Placed = Open verb next_read.0 in
-    let kinds : opening_kinds (verb_in Lax verb.word.spelling) ≡ [] = ap (λ (text : List ℕ). opening_kinds (verb_in Lax text)) spelled in
-    let told : AreDepLines (plain_lines lines ++ plain here ∷ []) (record said { block = Some verb }) =
-    level-more (plain_lines lines) (plain here) (Opening verb.word.spelling) said (Some verb) (opening-item (word_of said.block) verb.word next_read.0) refl so (λ ds holds. (same-fields said.fields ds holds, kinds)) refl in
-    (lines ++ here ∷ [], next_read.1, subst (λ (ls : List (Line Word)). AreDepLines ls (record said { block = Some verb })) (sym (map_push plain lines here)) told)
-
--- after a line that closes a block
-pub sofar-closing : (left next : Unread) (said : DepLines) → ((lines : List (Line Placed)) → HasRead left lines → HasRead next (lines ++ Close None ∷ [])) → AreReadSofar left said
-    → AreReadSofar next (record said { block = None })
-sofar-closing left next said more (lines, read, so) =
-    let told : AreDepLines (plain_lines lines ++ Close None ∷ []) (record said { block = None }) =
-    level-more (plain_lines lines) (Close None) Silent said None (closing-item (word_of said.block)) refl so (λ ds holds. (same-fields said.fields ds holds, refl)) refl in
-    (lines ++ Close None ∷ [], more lines read, subst (λ (ls : List (Line Word)). AreDepLines ls (record said { block = None })) (sym (map_push plain lines (Close None))) told)

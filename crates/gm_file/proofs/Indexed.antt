@@ -14,15 +14,15 @@ use Rattle.std.specs.Str.{bytes_eq}
 use Rattle.std.specs.declared.cmp.Ordering.{Ordering}
 use Rattle.std.proofs.lemmas.Map.Text.{is_eq-slice_cmp}
 use Rattle.std.specs.Cmp.Lexicographic.{slice_cmp}
+use Rattle.gm_name.specs.PairOrder.{pair_cmp, pair_ties}
 use Rattle.gm_file.specs.declared.fault.LineFault.{LineFault}
 use Rattle.gm_file.specs.declared.fault.LineFault.TheVariants as fault
 use Rattle.gm_file.specs.declared.replace.Replace.{Replace}
-use Rattle.gm_file.proofs.Sets.{pair-ties}
 use Rattle.gm_file.specs.declared.replace.Right as declared
 use Rattle.gm_file.specs.Directives.{Pair, pair, Left, Right, Folder, Module, Replacing, replacing, left_with, left_without}
 use Rattle.gm_file.specs.Faults.{is_conflict, is_same_left, is_same_right, is_same_version}
 use Rattle.gm_file.specs.Fields.{right_for}
-use Rattle.gm_file.specs.Indexes.{IndexLines, IsInserted, IsNoted, ReportsConflict, differs, pair_cmp, right_at}
+use Rattle.gm_file.specs.Indexes.{IndexLines, IsInserted, IsNoted, ReportsConflict, differs, right_at}
 use Rattle.gm_file.specs.Views.{replace_view, replace_views, right_view}
 
 text-self : (a : List ℕ) → bytes_eq a a ≡ true
@@ -189,7 +189,7 @@ agree-snoc rs x agree none y =
     ∙ ap (differs y.1) (sym (right-for-snoc rs x y.0))
 
 pair-left-ties : (a b : Pair) → is_eq (pair_cmp a b) ≡ is_same_left (left_with a.0 a.1) (left_with b.0 b.1)
-pair-left-ties a b = pair-ties a b
+pair-left-ties a b = sym (pair_ties a b)
 
 and-true : (a : Bool) → (a && true) ≡ a
 and-true true = refl

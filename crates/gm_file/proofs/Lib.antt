@@ -17,5 +17,5 @@ pub mod Lines
 pub mod Whole
 pub mod Retracted
 pub mod DepReading
-pub mod PairLines
+pub mod SimpleLines
 pub mod ListEnds

@@ -6,7 +6,7 @@ use Rattle.gm_name_table.specs.Listed.{Appends, AreModuleNumbers, BeginsWith, Nu
 use Rattle.gm_name_table.proofs.Listed.{same_modules}
 use Rattle.gm_file.specs.Directives.{Pair}
 use Rattle.gm_file.specs.Requirements.{IsLonger, Requirements, items_in, list_before}
-use Rattle.gm_file.specs.declared.required.Place.TheVariants as place
+use Rattle.gm_file.specs.declared.required.Destination.TheVariants as place
 
 -- What stood at the beginning of a list stands there still.
 begun_as : {T : Type 0} (old new : List T) (n : ℕ) → n ≤ length old → BeginsWith old new → take n new ≡ take n old

@@ -1,5 +1,5 @@
 -- The retractions of a dependency's file.
-use Rattle.std.proofs.Common.{◌≡◌, ℕ, ◌||◌, not, Bool, true, false, List, [], ◌∷◌, ◌++◌, length, codes, Option, Some, None, Ok, Err, refl, sym, ap, ◌∙◌, append-nil, arith, inl, inr}
+use Rattle.std.proofs.Common.{◌≡◌, ℕ, ◌||◌, not, Bool, true, false, List, [], ◌∷◌, ◌++◌, length, codes, Option, Some, None, Ok, Err, refl, sym, ap, ◌∙◌, arith, inl, inr}
 use Rattle.std.specs.Prelude.{◌==◌, if◌then◌else◌, option_and_then}
 use Rattle.std.proofs.lemmas.Bool.{cases_Bool}
 use Rattle.std.proofs.lemmas.Bool.Decides.{Decides-eqb}
@@ -10,7 +10,7 @@ use Rattle.std.specs.List.{cons_option, filter_map}
 use Rattle.std.specs.Str.{bytes_eq}
 use Rattle.gm_syntax.specs.Words.{Word}
 use Rattle.gm_syntax.specs.Document.{Line}
-use Rattle.gm_file.specs.Directives.{Strict, Verb, ForModule, ForGo, ForRequire, ForExclude, ForReplace, ForRetract, ForNothing, Unknown, Pair, Directive, DeclaresModule, DeclaresGo, Requires, Excludes, Replaces, Retracts, Item, Silent, Opening, Saying, block_after_lines, block_after_line, directive_in, directive_of, directives, ends_of, item_at, main_verb, one_of, pair_of, replacing_of}
+use Rattle.gm_file.specs.Directives.{Strict, Verb, ForModule, ForGo, ForRequire, ForExclude, ForReplace, ForRetract, ForNothing, Unknown, Pair, Directive, DeclaresModule, DeclaresGo, Requires, Excludes, Replaces, Retracts, Item, Saying, block_after_lines, block_after_line, directive_in, directive_of, directives, ends_of, item_at, main_verb, one_of, pair_of, replacing_of}
 use Rattle.gm_file.specs.declared.fault.DirectiveKind.{DirectiveKind}
 use Rattle.gm_file.specs.declared.fault.DirectiveKind.TheVariants.{WrongArguments}
 use Rattle.gm_file.specs.declared.fault.LineFault.TheVariants as line
@@ -19,8 +19,7 @@ use Rattle.gm_file.specs.Fields.{first, lax_retracts_of, valid_ends, valid_inter
 use Rattle.gm_file.specs.Reading.{IsRead}
 use Rattle.gm_file.specs.Retracting.{retraction_at, retraction_in}
 use Rattle.gm_file.specs.declared.replace.Interval.{Interval}
-use Rattle.gm_file.specs.Views.{interval_view, interval_views}
-use Rattle.std.proofs.lemmas.List.{map-append}
+use Rattle.gm_file.specs.Views.{interval_view}
 use Rattle.gm_file.proofs.Lines.{block-snoc, said-once}
 
 is_retract : Verb → Bool
@@ -72,12 +71,6 @@ retract-retracts item verb words is same =
     let e : verb ≡ codes "retract" = same_text verb (codes "retract") (sym same) in
     sym (ap retraction_at is ∙ ap (λ (v : List ℕ). retraction_at (Saying v words)) e ∙ and-map (ends_of words))
 
--- a line that is not an entry retracts nothing
-pub none-retracts : (item : Item) → ((verb : List ℕ) (words : List Word) → ¬ (item ≡ Saying verb words)) → None ≡ retraction_at item
-none-retracts Silent none = refl
-none-retracts (Opening verb) none = refl
-none-retracts (Saying verb words) none = absurd (none verb words refl)
-
 to-list : (o : Option Directive) → filter_map valid_interval (option_to_list o) ≡ option_to_list (option_and_then valid_interval o)
 to-list None = refl
 to-list (Some d) = by (valid_interval d)
@@ -102,9 +95,6 @@ pub record AreRetracted (lines : List (Line Word)) (block : Option Word) (interv
   pub open_is : block ≡ block_after_lines None lines
   pub are : intervals ≡ lax_retracts_of lines
 
-pub retracted-none : AreRetracted [] None []
-retracted-none = record { open_is = refl; are = refl }
-
 -- after one more line
 pub retracted-more : (lines : List (Line Word)) (block : Option Word) (line : Line Word) (intervals more : List Pair) → AreRetracted lines block intervals
     → more ≡ intervals ++ option_to_list (retraction_at (item_at (block, line))) → AreRetracted (lines ++ line ∷ []) (block_after_line block line) more
@@ -114,16 +104,6 @@ retracted-more lines block line intervals more so is = record {
       ∙ ap (λ (b : Option Word). lax_retracts_of lines ++ option_to_list (retraction_at (item_at (b, line)))) so.open_is
       ∙ sym (retracts-snoc lines line);
 }
-
-pub pushed-more : (items more : List Interval) (interval : Interval) (o : Option Interval) (r : Option Pair) → more ≡ items ++ interval ∷ [] → o ≡ Some interval → option_map interval_view o ≡ r
-    → interval_views more ≡ interval_views items ++ option_to_list r
-pushed-more items more interval o r is some seen =
-    ap interval_views is ∙ map-append interval_view items (interval ∷ [])
-    ∙ ap (λ (q : Option Pair). interval_views items ++ option_to_list q) (ap (option_map interval_view) (sym some) ∙ seen)
-
-pub kept-more : (items : List Interval) (o : Option Interval) (r : Option Pair) → o ≡ None → option_map interval_view o ≡ r → interval_views items ≡ interval_views items ++ option_to_list r
-kept-more items o r none seen =
-    sym (append-nil (interval_views items)) ∙ ap (λ (q : Option Pair). interval_views items ++ option_to_list q) (ap (option_map interval_view) (sym none) ∙ seen)
 
 -- an interval that was read
 pub ends-read : (part : Option Pair) (interval : Interval) → IsRead interval_view WrongArguments ends_kinds part (Ok interval) → Some (interval_view interval) ≡ option_and_then valid_ends part

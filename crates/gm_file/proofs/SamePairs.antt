@@ -6,8 +6,8 @@ use Rattle.std.specs.Cmp.Lexicographic.{nat_list_eq_equiv}
 use Rattle.std.specs.List.{Contains, list_any}
 use Rattle.std.specs.Str.{bytes_eq}
 use Rattle.std.proofs.lemmas.Bool.{and_parts as and_both}
+use Rattle.gm_name.specs.PairOrder.{pair_eq}
 use Rattle.gm_file.specs.Directives.{Pair}
-use Rattle.gm_file.specs.Pairs.{pair_eq}
 
 pub pair-same : (a b : Pair) → pair_eq a b ≡ true → a ≡ b
 pair-same a b e =

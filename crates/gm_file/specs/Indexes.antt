@@ -2,12 +2,12 @@
 use Rattle.std.specs.Prelude.{◌≡◌, ℕ, ◌⊎◌, ⊤, not, Bool, true, false, List, Option, Some, None, Result, Ok, Err}
 use Rattle.std.specs.Option.{option_map}
 use Rattle.std.specs.List.{list_any}
-use Rattle.std.specs.Ordering.{nat_cmp, ordering_then}
+use Rattle.std.specs.Ordering.{nat_cmp}
 use Rattle.std.specs.declared.cmp.Ordering.{Ordering}
 use Rattle.std.specs.Cmp.Lexicographic.{slice_cmp}
 use Rattle.std.specs.BTreeSet as set
 use Rattle.std.specs.BTreeMap as map
-use Rattle.gm_name.specs.Version.{version_cmp}
+use Rattle.gm_name.specs.PairOrder.{pair_cmp, pair_eq}
 use Rattle.gm_file.specs.declared.fault.DirectiveKind.TheVariants.{ConflictingReplace}
 use Rattle.gm_file.specs.declared.fault.LineFault.{LineFault}
 use Rattle.gm_file.specs.declared.fault.LineFault.TheVariants as line
@@ -18,11 +18,6 @@ use Rattle.gm_file.specs.Directives.{Pair, Right, Replacing, left_with, left_wit
 use Rattle.gm_file.specs.Faults.{is_conflict, is_same_right}
 use Rattle.gm_file.specs.Fields.{right_for}
 use Rattle.gm_file.specs.Views.{replace_views, right_view}
-use Rattle.gm_file.specs.Pairs.{pair_eq}
-
--- the order of pairs: by the bytes of the path, then by the version
-abbrev pub pair_cmp : Pair → Pair → Ordering
-pair_cmp a b = ordering_then (slice_cmp nat_cmp a.0 b.0) (version_cmp a.1 b.1)
 
 -- the set contains exactly the pairs of the lines
 abbrev pub IsSetOfLines : Exclusions → Type 0

@@ -9,11 +9,10 @@ pub mod Views
 pub mod Held
 pub mod VerbViews
 pub mod DirectiveViews
-pub mod Pairs
 pub mod Indexes
 pub mod Holding
 pub mod Retracting
 pub mod ReadFaults
 pub mod DepLines
 pub mod Listed
-pub mod PairLines
+pub mod SimpleLines

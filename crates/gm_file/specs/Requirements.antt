@@ -1,8 +1,8 @@
 -- The requirements of a file while it is read.
 use Rattle.std.specs.Prelude.{◌≤◌, ℕ, List, Option, Some, None, drop, length, take, ⊤}
 use Rattle.gm_name_table.specs.Listed.{AreModuleNumbers, NumberedList, listed}
-use Rattle.gm_file.specs.declared.required.Place.{Place}
-use Rattle.gm_file.specs.declared.required.Place.TheVariants as place
+use Rattle.gm_file.specs.declared.required.Destination.{Destination}
+use Rattle.gm_file.specs.declared.required.Destination.TheVariants as place
 use Rattle.gm_file.specs.Directives.{Pair}
 
 -- the requirements; and if they go to the end of a list of modules, that list as it was before
@@ -15,7 +15,7 @@ abbrev pub list_before : NumberedList → ℕ → ℕ → NumberedList
 list_before list start known = record { modules = take known list.modules; numbers = take start list.numbers }
 
 -- the requirements in a place
-abbrev pub items_in : Place → Requirements
+abbrev pub items_in : Destination → Requirements
 items_in (place.Own pairs) = record { before = None; items = pairs.items }
 items_in (place.End list start known) =
     record { before = Some (list_before list start known); items = drop start (listed list) }
@@ -26,6 +26,6 @@ pub record IsLonger (list : NumberedList) (start known : ℕ) : Type 0 where
   pub modules : known ≤ length list.modules
   pub below : AreModuleNumbers (take known list.modules) (take start list.numbers)
 
-abbrev pub IsLongEnough : Place → Type 0
+abbrev pub IsLongEnough : Destination → Type 0
 IsLongEnough (place.Own pairs) = ⊤
 IsLongEnough (place.End list start known) = IsLonger list start known

@@ -11,14 +11,12 @@ ghost use Rattle.gm_file.specs.Fields.{dependency_of};
 ghost use Rattle.gm_file.specs.Listed.{IsListedFrom};
 ghost use Rattle.gm_file.specs.Views.{ReportsFault, interval_views};
 
-use crate::dep_lines::{DepLines, read_all};
+use crate::dep_lines::{DepLines, read_all, read_document};
 use crate::fault::{FileFault, ReadFault};
-use crate::fields::{Fields, read_lines};
+use crate::fields::Fields;
 use crate::listed_file::ListedFile;
 use crate::replace::Interval;
 use crate::required::Required;
-use crate::retractions::read_retractions;
-use crate::verb::Mode;
 use gm_name::{KnownNames, ModPath, ModVer};
 use gm_name_table::ModuleList;
 use gm_syntax::{Doc, LineReader};
@@ -63,15 +61,19 @@ impl DepFile {
     /// 1, and the first kind of that line's faults in the order of `DirectiveKind`. A `retract` is never a fault: an
     /// entry that strict reading would refuse retracts nothing. `NoMemory` may replace any result, when memory runs
     /// out.
-    ///
     pub fn read(alloc: Global, doc: &Doc) -> Result<DepFile, FileFault>
         ensures ok { IfOk result (λ file. (file ≡ dependency_of (plain_lines doc.now))
             × (fault_of Lax (plain_lines doc.now) ≡ None)) }
         ensures fault { IfErr result (ReportsFault Lax (plain_lines doc.now)) }
     {
         let mut names = KnownNames::new(alloc, 0);
-        let fields = read_lines(alloc, &mut names, Mode::Lax, doc.lines())?;
-        let retracts = read_retractions(alloc, &mut names, doc.lines())?;
+        let mut said = DepLines::over(alloc, Required::own(Vec::new(alloc)));
+        read_document(alloc, &mut names, doc.lines(), &mut said)?;
+        let DepLines {
+            fields,
+            retracts,
+            ..
+        } = said;
         Ok(DepFile::of_fields(fields, retracts))
     }
 

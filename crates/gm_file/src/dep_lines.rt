@@ -1,27 +1,27 @@
-//! A dependency's file read from its bytes: line by line and in one pass, so that no document is kept.
+//! A dependency's lines: the ones of a document, or those of bytes, read in one pass, so that no document is kept.
 
-ghost use Rattle.std.specs.Prelude.{◌≡◌, ◌≤◌, ◌∷◌, ◌++◌, [], ℕ, List, None, Option, IfErr, IfOk, IsTrue, OnOk, length};
+ghost use Rattle.std.specs.Prelude.{◌≡◌, ◌≤◌, ◌∷◌, ◌++◌, [], ℕ, List, None, Option, IfErr, IsTrue, OnOk, codes, length};
 ghost use Rattle.std.specs.Option.{option_map};
-ghost use Rattle.gm_syntax.specs.Document.{Entry, Line as LineOf};
-ghost use Rattle.gm_syntax.specs.LineReading.{HasRead};
-ghost use Rattle.gm_syntax.specs.LineViews.{line_of, plain, plain_lines};
-ghost use Rattle.gm_syntax.specs.Pairs.{pair_line};
+ghost use Rattle.gm_syntax.specs.Document.{Line as LineOf};
+ghost use Rattle.gm_syntax.specs.LineReading.{HasRead, Unread};
+ghost use Rattle.gm_syntax.specs.LineViews.{line_of, line_views, plain, plain_lines};
+ghost use Rattle.gm_syntax.specs.SimpleLines.{pair_line, triple_line, IsSimpleRead};
 ghost use Rattle.gm_syntax.specs.Tokens.{Placed};
 ghost use Rattle.gm_syntax.specs.Words.{Word};
-ghost use Rattle.gm_file.specs.declared.dep_lines.DepLines.{DepLines};
 ghost use Rattle.gm_file.specs.DepLines.{AreAllRead, AreDepLines, HasNextFault, IsMisread, IsNextLineOf};
-ghost use Rattle.gm_file.specs.Directives.{block_after_line};
+ghost use Rattle.gm_file.specs.Directives.{Lax, block_after_line};
 ghost use Rattle.gm_file.specs.Holding.{AreFound};
-ghost use Rattle.gm_file.specs.PairLines.{AreReadSofar, IsRequirement, IsRequiring};
+ghost use Rattle.gm_file.specs.SimpleLines.{AreReadSofar, IsLineSaid, TakesSimple};
+ghost use Rattle.gm_file.specs.Views.{ReportsFault};
 
-use crate::fault::{LineFault, ReadFault};
+use crate::fault::{DirectiveKind, FileFault, LineFault, ReadFault};
 use crate::fields::Fields;
 use crate::replace::Interval;
 use crate::required::Required;
 use crate::retractions::{add_retraction, add_single_retraction};
 use crate::verb::Mode;
 use gm_name::KnownNames;
-use gm_syntax::{Line, LineReader, Token};
+use gm_syntax::{Line, LineReader, SimpleLine, Token};
 use std::alloc::{AllocError, Global};
 
 /// What the lines so far of a dependency's file say.
@@ -47,9 +47,7 @@ fn pass_line<'a>(
     match line {
         Line::Open(verb, _) => set_block(block, Some(verb.copy(alloc)?)),
         Line::Close(_) => set_block(block, None),
-        Line::Blank => (),
-        Line::Comment(_) => (),
-        Line::Entry(_, _) => (),
+        Line::Blank | Line::Comment(_) | Line::Entry(_, _) => (),
     }
     Ok(())
 }
@@ -96,52 +94,87 @@ impl<'a> DepLines<'a> {
         Ok(())
     }
 
-    /// Whether a block of `require` is open.
-    fn is_requiring(&self) -> bool
-        ensures { IsTrue result → IsRequiring self.now }
+    /// Whether the next line may be read as a simple one: no block is open, or one of `require`.
+    fn takes_simple(&self) -> bool
+        ensures { IsTrue result → TakesSimple self.now }
     {
         match &self.block {
             Some(verb) => verb.spelling() == "require",
-            None => false,
+            None => true,
         }
     }
 
-    /// Reads the next line, which requires the version in one text of the path in another.
-    fn require(
+    /// Reads the next line, which is these two bare words.
+    fn read_pair(
+        &mut self,
+        names: &mut KnownNames,
+        first: &str,
+        second: &str,
+    ) -> Result<(), LineFault>
+        requires block { TakesSimple self.old }
+        requires found { AreFound self.old.fields }
+        ensures block { self.new.block ≡ self.old.block }
+        ensures before { self.new.fields.requirements.before ≡ self.old.fields.requirements.before }
+        ensures found { OnOk result (AreFound self.new.fields) }
+        ensures read { (lines : List (LineOf Word)) (suffix : Option (List ℕ)) → AreDepLines lines self.old
+            → IsNextLineOf lines (pair_line first.now second.now suffix) self.new result }
+    {
+        if self.block.is_some() {
+            return self.fields.read_requirement(names, first, second);
+        }
+        self.fields.read_single(names, first, second)?;
+        add_single_retraction(names, &mut self.retracts, first, second)?;
+        Ok(())
+    }
+
+    /// Reads the next line, which is `require` and these two bare words.
+    fn read_pair_after(
         &mut self,
         names: &mut KnownNames,
         path: &str,
         version: &str,
     ) -> Result<(), LineFault>
-        requires { AreFound self.old.fields }
+        requires block { TakesSimple self.old }
+        requires found { AreFound self.old.fields }
         ensures block { self.new.block ≡ self.old.block }
         ensures before { self.new.fields.requirements.before ≡ self.old.fields.requirements.before }
         ensures found { OnOk result (AreFound self.new.fields) }
-        ensures read { (lines : List (LineOf Word)) (words : List Word) (suffix : Option (List ℕ))
-            → AreDepLines lines self.old → IsRequirement self.old (Entry words suffix) path.now version.now
-            → IsNextLineOf lines (Entry words suffix) self.new result }
+        ensures read { (lines : List (LineOf Word)) (suffix : Option (List ℕ)) → AreDepLines lines self.old
+            → IsNextLineOf lines (triple_line (codes "require") path.now version.now suffix) self.new result }
     {
+        // In a block of `require` these are three arguments.
+        if self.block.is_some() {
+            return Err(LineFault::Kind(DirectiveKind::WrongArguments));
+        }
         self.fields.read_requirement(names, path, version)
     }
 
-    /// Reads the next line, which is these two bare words outside blocks.
-    fn read_single(
-        &mut self,
-        names: &mut KnownNames,
-        verb: &str,
-        value: &str,
-    ) -> Result<(), LineFault>
-        requires block { self.old.block ≡ None }
+    /// Reads the next line, which is simple. The verb that was asked for is `require`.
+    // Inlined, so that the line isn't moved.
+    #[inline(always)]
+    fn read_simple(&mut self, names: &mut KnownNames, line: SimpleLine<'a>) -> Result<(), LineFault>
+        requires block { TakesSimple self.old }
         requires found { AreFound self.old.fields }
-        ensures block { OnOk result (self.new.block ≡ None) }
+        ensures block { (lines : List (LineOf Placed)) (left : Unread)
+            → IsSimpleRead left lines (codes "require") line.entry → OnOk result (TakesSimple self.new) }
         ensures before { self.new.fields.requirements.before ≡ self.old.fields.requirements.before }
         ensures found { OnOk result (AreFound self.new.fields) }
-        ensures read { (lines : List (LineOf Word)) (suffix : Option (List ℕ)) → AreDepLines lines self.old
-            → IsNextLineOf lines (pair_line verb.now value.now suffix) self.new result }
+        ensures read { (lines : List (LineOf Placed)) (left : Unread) → AreDepLines (plain_lines lines) self.old
+            → IsSimpleRead left lines (codes "require") line.entry → IsLineSaid left lines self.new result }
     {
-        self.fields.read_single(names, verb, value)?;
-        add_single_retraction(names, &mut self.retracts, verb, value)?;
-        Ok(())
+        match line {
+            SimpleLine::Blank => Ok(()),
+            SimpleLine::Pair(first, second) => self.read_pair(names, first, second),
+            SimpleLine::PairAfter(path, version) => self.read_pair_after(names, path, version),
+            SimpleLine::Opening(verb) => {
+                set_block(&mut self.block, Some(verb));
+                Ok(())
+            }
+            SimpleLine::Closing => {
+                set_block(&mut self.block, None);
+                Ok(())
+            }
+        }
     }
 }
 
@@ -158,124 +191,8 @@ fn fault_of_all(reader: &mut LineReader, fault: LineFault) -> ReadFault
     }
 }
 
-/// Passes over the empty lines that come next, which say nothing.
-fn skip_blanks(reader: &mut LineReader)
-    ensures read { (said : DepLines) → AreReadSofar reader.old said → AreReadSofar reader.new said }
-    ensures source { reader.new.source ≡ reader.old.source }
-    ensures no_longer { length reader.new.rest ≤ length reader.old.rest }
-{
-    'blanks: while reader.skip_blank() {}
-}
-
-/// Reads the next lines in a block of `require` that are two bare words, up to the first other line.
-fn read_pairs(
-    names: &mut KnownNames,
-    reader: &mut LineReader,
-    said: &mut DepLines,
-) -> Result<(), ReadFault>
-    requires block { IsRequiring said.old }
-    requires found { AreFound said.old.fields }
-    requires read { AreReadSofar reader.old said.old }
-    ensures before { said.new.fields.requirements.before ≡ said.old.fields.requirements.before }
-    ensures found { OnOk result (AreFound said.new.fields) }
-    ensures read { OnOk result (AreReadSofar reader.new said.new) }
-    ensures source { OnOk result (reader.new.source ≡ reader.old.source) }
-    ensures no_longer { OnOk result (length reader.new.rest ≤ length reader.old.rest) }
-    ensures fault { IfErr result (IsMisread reader.old.source) }
-{
-    while let Some((path, version)) = reader.next_pair() {
-        if let Err(fault) = said.require(names, path, version) {
-            return Err(fault_of_all(reader, fault));
-        }
-    }
-    Ok(())
-}
-
-/// Reads the next lines outside blocks that are empty or two bare words, up to the first other line.
-fn read_singles(
-    names: &mut KnownNames,
-    reader: &mut LineReader,
-    said: &mut DepLines,
-) -> Result<(), ReadFault>
-    requires block { said.old.block ≡ None }
-    requires found { AreFound said.old.fields }
-    requires read { AreReadSofar reader.old said.old }
-    ensures block { OnOk result (said.new.block ≡ None) }
-    ensures before { said.new.fields.requirements.before ≡ said.old.fields.requirements.before }
-    ensures found { OnOk result (AreFound said.new.fields) }
-    ensures read { OnOk result (AreReadSofar reader.new said.new) }
-    ensures source { OnOk result (reader.new.source ≡ reader.old.source) }
-    ensures no_longer { OnOk result (length reader.new.rest ≤ length reader.old.rest) }
-    ensures fault { IfErr result (IsMisread reader.old.source) }
-{
-    skip_blanks(reader);
-    while let Some((verb, value)) = reader.next_pair() {
-        if let Err(fault) = said.read_single(names, verb, value) {
-            return Err(fault_of_all(reader, fault));
-        }
-        skip_blanks(reader);
-    }
-    Ok(())
-}
-
-/// Reads the next lines outside blocks that are `require` and two bare words, with the empty lines after them, up to the
-/// first other line.
-fn read_requires(
-    names: &mut KnownNames,
-    reader: &mut LineReader,
-    said: &mut DepLines,
-) -> Result<(), ReadFault>
-    requires block { said.old.block ≡ None }
-    requires found { AreFound said.old.fields }
-    requires read { AreReadSofar reader.old said.old }
-    ensures before { said.new.fields.requirements.before ≡ said.old.fields.requirements.before }
-    ensures found { OnOk result (AreFound said.new.fields) }
-    ensures read { OnOk result (AreReadSofar reader.new said.new) }
-    ensures source { OnOk result (reader.new.source ≡ reader.old.source) }
-    ensures no_longer { OnOk result (length reader.new.rest ≤ length reader.old.rest) }
-    ensures fault { IfErr result (IsMisread reader.old.source) }
-{
-    while let Some((path, version)) = reader.next_pair_after("require") {
-        if let Err(fault) = said.require(names, path, version) {
-            return Err(fault_of_all(reader, fault));
-        }
-        skip_blanks(reader);
-    }
-    Ok(())
-}
-
-/// Reads the next line if that opens a block of `require`.
-fn open_block<'a>(reader: &mut LineReader<'a>, said: &mut DepLines<'a>)
-    requires found { AreFound said.old.fields }
-    requires read { AreReadSofar reader.old said.old }
-    ensures before { said.new.fields.requirements.before ≡ said.old.fields.requirements.before }
-    ensures found { AreFound said.new.fields }
-    ensures read { AreReadSofar reader.new said.new }
-    ensures source { reader.new.source ≡ reader.old.source }
-    ensures no_longer { length reader.new.rest ≤ length reader.old.rest }
-{
-    if let Some(verb) = reader.next_opening("require") {
-        said.block = Some(verb);
-    }
-}
-
-/// Reads the next line if that closes a block.
-fn close_block(reader: &mut LineReader, said: &mut DepLines)
-    requires found { AreFound said.old.fields }
-    requires read { AreReadSofar reader.old said.old }
-    ensures before { said.new.fields.requirements.before ≡ said.old.fields.requirements.before }
-    ensures found { AreFound said.new.fields }
-    ensures read { AreReadSofar reader.new said.new }
-    ensures source { reader.new.source ≡ reader.old.source }
-    ensures no_longer { length reader.new.rest ≤ length reader.old.rest }
-{
-    if reader.skip_closing() {
-        said.block = None;
-    }
-}
-
-/// Reads the next lines as far as that needs no tokens. Nearly all lines of a file are read here.
-fn read_ahead<'a>(
+/// Reads the next lines as far as they are simple. Nearly all lines of a file are read here.
+fn read_simple_lines<'a>(
     names: &mut KnownNames,
     reader: &mut LineReader<'a>,
     said: &mut DepLines<'a>,
@@ -289,16 +206,14 @@ fn read_ahead<'a>(
     ensures no_longer { OnOk result (length reader.new.rest ≤ length reader.old.rest) }
     ensures fault { IfErr result (IsMisread reader.old.source) }
 {
-    if said.block.is_none() {
-        read_singles(names, reader, said)?;
-        open_block(reader, said);
+    if !said.takes_simple() {
+        return Ok(());
     }
-    if said.is_requiring() {
-        read_pairs(names, reader, said)?;
-        close_block(reader, said);
-    }
-    if said.block.is_none() {
-        read_requires(names, reader, said)?;
+    // A simple line opens or closes no other block than one of `require`, so no line needs another look at the verb.
+    while let Some(line) = reader.next_simple("require") {
+        if let Err(fault) = said.read_simple(names, line) {
+            return Err(fault_of_all(reader, fault));
+        }
     }
     Ok(())
 }
@@ -317,13 +232,35 @@ pub(crate) fn read_all<'a>(
     ensures ok { OnOk result (AreAllRead reader.old.source said.new) }
     ensures fault { IfErr result (IsMisread reader.old.source) }
 {
-    read_ahead(names, reader, said)?;
-    while let Some(line) = reader.next()? {
+    loop {
+        read_simple_lines(names, reader, said)?;
+        let Some(line) = reader.next()? else {
+            return Ok(());
+        };
         if let Err(fault) = said.read_line(alloc, names, &line) {
             return Err(fault_of_all(reader, fault));
         }
         reader.recycle(line);
-        read_ahead(names, reader, said)?;
+    }
+}
+
+/// Reads the lines of a document, so that what no lines say becomes what these say. Lines are counted from 1.
+pub(crate) fn read_document<'a>(
+    alloc: Global,
+    names: &mut KnownNames,
+    lines: &[Line<'a>],
+    said: &mut DepLines<'a>,
+) -> Result<(), FileFault>
+    requires lines { AreDepLines [] said.old }
+    requires found { AreFound said.old.fields }
+    ensures before { said.new.fields.requirements.before ≡ said.old.fields.requirements.before }
+    ensures ok { OnOk result (AreDepLines (plain_lines (line_views lines.now)) said.new) }
+    ensures fault { IfErr result (ReportsFault Lax (plain_lines (line_views lines.now))) }
+{
+    for (n, line) in lines.iter().enumerate() {
+        if let Err(fault) = said.read_line(alloc, names, line) {
+            return Err(fault.at_line(n + 1));
+        }
     }
     Ok(())
 }

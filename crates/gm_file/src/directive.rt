@@ -113,10 +113,8 @@ pub(crate) fn read_line_with_names(
         (item_at (option_map (λ t. t.now.word) block.entry, plain (line_of line.now))) result }
 {
     match line {
-        Line::Blank => Ok(None),
-        Line::Comment(_) => Ok(None),
+        Line::Blank | Line::Comment(_) | Line::Close(_) => Ok(None),
         Line::Open(verb, _) => read_block_start(mode, verb),
-        Line::Close(_) => Ok(None),
         Line::Entry(words, _) => match block {
             Some(verb) => read_verb_entry(alloc, names, mode, verb, words.as_slice()),
             None => match words.as_slice() {

@@ -1,15 +1,15 @@
-//! The loop that both ways of reading share: it collects the fields of a file line by line, and stops at the first
+//! The fields that both ways of reading collect, line by line, and the loop of strict reading, which stops at the first
 //! fault.
 
 ghost use Rattle.std.specs.Prelude.{◌≡◌, [], IfErr, IfOk, None, OnOk};
 ghost use Rattle.std.specs.Option.{option_map};
 ghost use Rattle.gm_syntax.specs.LineViews.{line_of, line_views, plain, plain_lines};
-ghost use Rattle.gm_file.specs.Directives.{Mode as ModeOf, Lax, DeclaresGo, DeclaresModule, block_after_line, item_at};
+ghost use Rattle.gm_file.specs.Directives.{Mode as ModeOf, Strict, Lax, DeclaresGo, DeclaresModule, block_after_line, item_at};
 ghost use Rattle.gm_file.specs.DirectiveViews.{directive_view};
 ghost use Rattle.gm_file.specs.Faults.{go_in, path_kinds};
 ghost use Rattle.gm_file.specs.Holding.{AreFound, AreRead, Holds, IsAdded, IsLineAdded};
 ghost use Rattle.gm_file.specs.Reading.{own_kinds};
-ghost use Rattle.gm_file.specs.PairLines.{require_item, single_item};
+ghost use Rattle.gm_file.specs.SimpleLines.{require_item, single_item};
 ghost use Rattle.gm_file.specs.VerbViews.{mode_view};
 ghost use Rattle.gm_file.specs.Views.{ReportsFault};
 
@@ -219,30 +219,27 @@ pub fn block_after_line<'w, 'a>(
         ≡ block_after_line (option_map (λ t. t.now.word) block.entry) (plain (line_of line.now)) }
 {
     match line {
-        Line::Blank => block,
-        Line::Comment(_) => block,
         Line::Open(verb, _) => Some(verb),
         Line::Close(_) => None,
-        Line::Entry(_, _) => block,
+        Line::Blank | Line::Comment(_) | Line::Entry(_, _) => block,
     }
 }
 
-/// The fields of all lines, or the first fault of the lowest line that has one. Lines are counted from 1. A missing
-/// `module` is no fault here: `MainFile::read` checks for it.
+/// The fields of all lines of a main file, or the first fault of the lowest line that has one. Lines are counted from 1.
+/// A missing `module` is no fault here: `MainFile::read` checks for it.
 pub(crate) fn read_lines(
     alloc: Global,
     names: &mut KnownNames,
-    mode: Mode,
     lines: &[Line],
 ) -> Result<Fields, FileFault>
     ensures own { IfOk result (λ fields. fields.requirements.before ≡ None) }
-    ensures ok { IfOk result (AreRead (mode_view mode) (plain_lines (line_views lines.now))) }
-    ensures fault { IfErr result (ReportsFault (mode_view mode) (plain_lines (line_views lines.now))) }
+    ensures ok { IfOk result (AreRead Strict (plain_lines (line_views lines.now))) }
+    ensures fault { IfErr result (ReportsFault Strict (plain_lines (line_views lines.now))) }
 {
     let mut fields = Fields::new(alloc);
     let mut block = None;
     for (n, line) in lines.iter().enumerate() {
-        if let Err(fault) = fields.read_line(alloc, names, mode, block, line) {
+        if let Err(fault) = fields.read_line(alloc, names, Mode::Strict, block, line) {
             return Err(fault.at_line(n + 1));
         }
         block = block_after_line(block, line);

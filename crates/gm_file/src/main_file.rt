@@ -14,7 +14,6 @@ use crate::fault::{DirectiveKind, FileFault};
 use crate::fields::{Fields, read_lines};
 use crate::replace::{Interval, Replace, Right};
 use crate::replacements::Replacements;
-use crate::verb::Mode;
 use gm_name::{KnownNames, ModPath, ModVer};
 use gm_syntax::Doc;
 use std::alloc::Global;
@@ -74,7 +73,7 @@ impl<'a> MainFile<'a> {
         ensures fault { IfErr result (ReportsFault Strict (plain_lines doc.entry)) }
     {
         let mut names = KnownNames::new(alloc, MOST_SHARED);
-        let fields = read_lines(alloc, &mut names, Mode::Strict, doc.lines())?;
+        let fields = read_lines(alloc, &mut names, doc.lines())?;
         MainFile::of_fields(doc, fields)
     }
 

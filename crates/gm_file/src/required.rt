@@ -15,7 +15,7 @@ use std::mem;
 
 /// Where requirements go.
 #[derive(Drop)]
-enum Place {
+enum Destination {
     /// A list of their own.
     Own(Vec<ModVer>),
     /// The end of a list of modules, which had this many before, so many of them distinct.
@@ -30,7 +30,7 @@ enum Place {
 #[derive(Drop)]
 pub(crate) struct Required {
     /// Where they are.
-    place: Place,
+    place: Destination,
 }
 
 impl Model for Required {
@@ -50,7 +50,7 @@ impl Required {
         ensures items { result.items ≡ pairs.items }
     {
         Required {
-            place: Place::Own(pairs),
+            place: Destination::Own(pairs),
         }
     }
 
@@ -62,7 +62,7 @@ impl Required {
         let start = list.len();
         let known = list.module_count();
         Required {
-            place: Place::End { list, start, known },
+            place: Destination::End { list, start, known },
         }
     }
 
@@ -72,11 +72,11 @@ impl Required {
         ensures items { OnOk result (self.new.items ≡ self.old.items ++ pair ∷ []) }
     {
         match &mut self.place {
-            Place::Own(pairs) => {
+            Destination::Own(pairs) => {
                 pairs.push(pair)?;
                 Ok(())
             }
-            Place::End { list, .. } => {
+            Destination::End { list, .. } => {
                 list.push(&pair)?;
                 Ok(())
             }
@@ -93,8 +93,8 @@ impl Required {
         ensures unknown { IfOk result (λ is_known. is_known ≡ false → self.new.items ≡ self.old.items) }
     {
         match &mut self.place {
-            Place::Own(_) => Ok(false),
-            Place::End { list, .. } => Ok(list.push_known(path, version)?),
+            Destination::Own(_) => Ok(false),
+            Destination::End { list, .. } => Ok(list.push_known(path, version)?),
         }
     }
 
@@ -124,8 +124,8 @@ impl Required {
         ensures { result.items ≡ self.items }
     {
         match self.place {
-            Place::Own(pairs) => pairs,
-            Place::End { .. } => unreachable!(),
+            Destination::Own(pairs) => pairs,
+            Destination::End { .. } => unreachable!(),
         }
     }
 
@@ -135,8 +135,8 @@ impl Required {
         ensures { (before : NumberedList) → self.before ≡ Some before → Appends before modules.new self.items }
     {
         match self.place {
-            Place::Own(_) => (),
-            Place::End { list, .. } => {
+            Destination::Own(_) => (),
+            Destination::End { list, .. } => {
                 let _before = mem::replace(modules, list);
             }
         }

@@ -1,18 +1,16 @@
-//! The retractions of a dependency's file. Their faults don't count, while the loop in `fields` stops at every fault,
-//! so those of a document are read in a pass of their own.
+//! The retractions of a dependency's file. Their faults don't count, so they are read apart from the directives whose
+//! faults do.
 
 ghost use Rattle.std.specs.Prelude.{◌≡◌, ◌++◌, IfOk, OnOk};
 ghost use Rattle.std.specs.Option.{option_map, option_to_list};
-ghost use Rattle.gm_syntax.specs.LineViews.{line_of, line_views, plain, plain_lines};
+ghost use Rattle.gm_syntax.specs.LineViews.{line_of, plain};
 ghost use Rattle.gm_syntax.specs.Tokens.{words_of};
 ghost use Rattle.gm_file.specs.Directives.{item_at};
-ghost use Rattle.gm_file.specs.Fields.{lax_retracts_of};
-ghost use Rattle.gm_file.specs.PairLines.{single_item};
+ghost use Rattle.gm_file.specs.SimpleLines.{single_item};
 ghost use Rattle.gm_file.specs.Retracting.{IsEntryRead, retraction_at, retraction_in};
 ghost use Rattle.gm_file.specs.Views.{interval_view, interval_views};
 
 use crate::fault::LineFault;
-use crate::fields::block_after_line;
 use crate::part::{interval_of_texts, is_empty_block, read_interval};
 use crate::replace::Interval;
 use gm_name::KnownNames;
@@ -29,22 +27,17 @@ fn entry_of<'w, 'a>(
     ensures { IsEntryRead (item_at (option_map (λ t. t.now.word) block.entry, plain (line_of line.now)))
         (option_map (λ e. (e.0.now.word, words_of e.1.now)) result) }
 {
-    match line {
-        Line::Blank => None,
-        Line::Comment(_) => None,
-        Line::Open(_, _) => None,
-        Line::Close(_) => None,
-        Line::Entry(words, _) => match block {
-            Some(verb) => Some((verb, words.as_slice())),
-            None => match words.as_slice() {
-                [] => None,
-                [verb, arguments @ ..] => {
-                    if is_empty_block(arguments) {
-                        return None;
-                    }
-                    Some((verb, arguments))
+    let words = line.entry()?;
+    match block {
+        Some(verb) => Some((verb, words)),
+        None => match words {
+            [] => None,
+            [verb, arguments @ ..] => {
+                if is_empty_block(arguments) {
+                    return None;
                 }
-            },
+                Some((verb, arguments))
+            }
         },
     }
 }
@@ -138,23 +131,4 @@ pub(crate) fn add_single_retraction(
         intervals.push(interval)?;
     }
     Ok(())
-}
-
-/// The intervals that the lines retract, in order and with duplicates. An entry that strict reading would refuse is
-/// skipped.
-pub(crate) fn read_retractions(
-    alloc: Global,
-    names: &mut KnownNames,
-    lines: &[Line],
-) -> Result<Vec<Interval>, AllocError>
-    ensures { IfOk result (λ intervals. interval_views intervals.items
-        ≡ lax_retracts_of (plain_lines (line_views lines.now))) }
-{
-    let mut intervals = Vec::new(alloc);
-    let mut block = None;
-    for line in lines {
-        add_retraction(alloc, names, &mut intervals, block, line)?;
-        block = block_after_line(block, line);
-    }
-    Ok(intervals)
 }

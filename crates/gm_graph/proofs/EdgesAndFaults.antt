@@ -3,7 +3,6 @@ use Rattle.std.proofs.Common.{◌≡◌, ◌++◌, ◌∷◌, ◌∙◌, [], con
 use Rattle.std.specs.Prelude.{if◌then◌else◌}
 use Rattle.std.specs.BTreeMap as tree
 use Rattle.std.specs.Ordering.{is_eq}
-use Rattle.gm_file.proofs.Sets.{pair-ties}
 use Rattle.gm_graph_cache.specs.declared.class.Class.{Class}
 use Rattle.gm_graph_cache.specs.declared.finding.Finding.{Finding}
 use Rattle.gm_graph_cache.specs.declared.finding.Finding.TheVariants.{Fault}
@@ -13,7 +12,7 @@ use Rattle.gm_graph_select.specs.declared.step.Edge.{Edge}
 use Rattle.gm_graph_select.specs.declared.step.Step.{Step}
 use Rattle.gm_graph_select.specs.Adjacency.{edges_from, edges_of, left_by, vertex_at}
 use Rattle.gm_graph_select.specs.Graph.{edge}
-use Rattle.gm_name.specs.PairOrder.{pair_cmp, pair_eq}
+use Rattle.gm_name.specs.PairOrder.{pair_cmp, pair_eq, pair_ties}
 use Rattle.gm_graph.specs.Building.{found_fault, noted}
 
 -- A fault was put into the map.
@@ -24,7 +23,7 @@ pub fault_put : (old new : tree.BTreeMap ModuleVersion Class) (x v : ModuleVersi
     → (q : ModuleVersion) → tree.get pair_cmp new q ≡ noted (found_fault found) x (λ y. tree.get pair_cmp old y) q
 fault_put old new x v class found e f puts q =
     puts q
-    ∙ ap (λ (b : Bool). cond b (Some class) (tree.get pair_cmp old q)) (pair-ties v q)
+    ∙ ap (λ (b : Bool). cond b (Some class) (tree.get pair_cmp old q)) (sym (pair_ties v q))
     ∙ ap (λ (w : ModuleVersion). if pair_eq w q then Some class else tree.get pair_cmp old q) f
     ∙ ap (λ (n : Finding). noted (found_fault n) x (λ y. tree.get pair_cmp old y) q) (sym e)
 

@@ -73,6 +73,13 @@ impl Loaded {
         self.faults.as_slice()
     }
 
+    /// The faults, as `faults` lends them. All else is dropped. It takes no memory.
+    pub fn into_faults(self) -> Vec<Fault>
+        ensures { result.items ≡ self.faults }
+    {
+        self.faults
+    }
+
     /// The edges of the graph, in strictly ascending order. It takes no memory.
     pub fn edges(&self) -> Edges<'_>
         ensures { result ≡ self.now.edges }

@@ -1,7 +1,7 @@
 -- Whether a list of excluded modules has one.
 use Rattle.std.proofs.Common.{◌≡◌, ◌↔◌, ◌||◌, not, Bool, true, false, cond, IsTrue, List, [], ◌∷◌, refl, sym, ap, ◌∙◌}
 use Rattle.std.specs.List.{Contains, filter, list_any}
-use Rattle.gm_file.specs.Pairs.{pair_eq}
+use Rattle.gm_name.specs.PairOrder.{pair_eq}
 use Rattle.gm_file.proofs.SamePairs.{contains-tells}
 use Rattle.gm_graph_cache.specs.Main.{ModuleVersion}
 

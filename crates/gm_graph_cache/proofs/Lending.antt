@@ -9,7 +9,7 @@ use Rattle.gm_graph_cache.specs.declared.class.Class.{Class}
 use Rattle.gm_graph_cache.specs.declared.class.Class.TheVariants.{WrongPath}
 use Rattle.gm_graph_cache.specs.declared.summary.Kept.{Kept}
 use Rattle.gm_graph_cache.specs.declared.summary.Kept.TheVariants.{Valid, Faulty}
-use Rattle.gm_graph_cache.specs.declared.summary.Span.{Span}
+use Rattle.gm_graph_cache.specs.declared.summary.ListSpan.{ListSpan}
 use Rattle.gm_graph_cache.specs.declared.cache.Cache.{Cache}
 use Rattle.gm_graph_cache.specs.Main.{Main, ModuleVersion, without_excluded, replacement_in}
 use Rattle.gm_graph_cache.specs.Reading.{Held, file_of, is_askable, is_right_path, is_unpruned, is_unpruned_in, reading_if, readings_by, requirements_in, vertex_requirements, said_in, with_right_path}
@@ -43,7 +43,7 @@ held_there : (cache : Cache) (x : ModuleVersion) (place : ℕ) (sound : IsSound 
 held_there cache x place sound =
     ap (option_map (summary_reading (listed cache.modules))) sound.kept ∙ held_sound (main_in cache) (held_of cache) x sound.file sound.reading
 
-abbrev span_at : Cache → Option ℕ → Span
+abbrev span_at : Cache → Option ℕ → ListSpan
 span_at cache place = span_found (option_and_then (slice_get cache.files.files.items) place)
 
 -- The requirements returned from the place of a vertex's file, or from none if the vertex has a fault, are its

@@ -7,7 +7,7 @@ use Rattle.gm_name_table.specs.Listed.{BeginsWith, part}
 use Rattle.gm_file.specs.Listed.{Head, with_requirements}
 use Rattle.gm_graph_cache.specs.declared.summary.Kept.{Kept}
 use Rattle.gm_graph_cache.specs.declared.summary.Kept.TheVariants.{Valid, Faulty}
-use Rattle.gm_graph_cache.specs.declared.summary.Span.{Span}
+use Rattle.gm_graph_cache.specs.declared.summary.ListSpan.{ListSpan}
 use Rattle.gm_graph_cache.specs.Main.{Main, ModuleVersion, is_excluded, without_excluded}
 use Rattle.gm_graph_cache.specs.Summaries.{IsKept, IsSummary, IsWithinList, at_span, span_found, summary_reading}
 use Rattle.gm_graph_cache.proofs.Excluding.{all_others}
@@ -15,11 +15,11 @@ use Rattle.gm_graph_cache.proofs.Excluding.{all_others}
 longer : (old new : List ModuleVersion) → BeginsWith old new → length old ≤ length new
 longer old new begins = omega (arith, ap length begins.1, length-append old begins.0)
 
-pub within_still : (old new : List ModuleVersion) (span : Span) → BeginsWith old new → IsWithinList old span → IsWithinList new span
+pub within_still : (old new : List ModuleVersion) (span : ListSpan) → BeginsWith old new → IsWithinList old span → IsWithinList new span
 within_still old new span begins is = record { order = is.order; within = omega (arith, is.within, longer old new begins) }
 
 -- A span within the old list has the same modules in the new one.
-pub span_still : (old new : List ModuleVersion) (span : Span) → BeginsWith old new → IsWithinList old span → at_span new span ≡ at_span old span
+pub span_still : (old new : List ModuleVersion) (span : ListSpan) → BeginsWith old new → IsWithinList old span → at_span new span ≡ at_span old span
 span_still old new span begins is =
     let size = span.end - span.start in
     ap (λ (xs : List ModuleVersion). take size (drop span.start xs)) begins.1

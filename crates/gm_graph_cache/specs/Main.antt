@@ -6,7 +6,7 @@ use Rattle.gm_syntax.specs.Document.{Line}
 use Rattle.gm_syntax.specs.LineViews.{plain_lines}
 use Rattle.gm_file.specs.Directives.{Strict, Replacing, Right}
 use Rattle.gm_file.specs.Fields.{module_of, go_of, requirements_of, excludes_of, replaces_of, replacement_of as right_among}
-use Rattle.gm_file.specs.Pairs.{pair_eq}
+use Rattle.gm_name.specs.PairOrder.{pair_eq}
 
 -- a module at a version: its path and its version. The vertices of the module graph are of this type.
 abbrev pub ModuleVersion : Type 0

@@ -10,7 +10,7 @@ use Rattle.gm_graph_cache.specs.declared.reading.ListedReading.{ListedReading}
 use Rattle.gm_graph_cache.specs.declared.reading.ListedReading.TheVariants as listed
 use Rattle.gm_graph_cache.specs.declared.summary.Kept.{Kept}
 use Rattle.gm_graph_cache.specs.declared.summary.Kept.TheVariants.{Valid, Faulty}
-use Rattle.gm_graph_cache.specs.declared.summary.Span.{Span}
+use Rattle.gm_graph_cache.specs.declared.summary.ListSpan.{ListSpan}
 use Rattle.gm_graph_cache.specs.declared.summary.Summary.{Summary}
 use Rattle.gm_graph_cache.specs.Main.{Main, ModuleVersion, without_excluded}
 
@@ -27,15 +27,15 @@ listed_reading requirements (listed.Faulty class) = Err class
 -- ---- places in the list of modules
 
 -- the modules of a span of the list
-abbrev pub at_span : List ModuleVersion → Span → List ModuleVersion
+abbrev pub at_span : List ModuleVersion → ListSpan → List ModuleVersion
 at_span modules span = part span.start span.end modules
 
 -- the span of no modules
-abbrev pub nowhere : Span
+abbrev pub nowhere : ListSpan
 nowhere = record { start = 0; end = 0 }
 
 -- A span is within the list.
-pub record IsWithinList (modules : List ModuleVersion) (span : Span) : Type 0 where
+pub record IsWithinList (modules : List ModuleVersion) (span : ListSpan) : Type 0 where
   pub order : span.start ≤ span.end
   pub within : span.end ≤ length modules
 
@@ -51,7 +51,7 @@ summary_reading modules (Valid summary) = Ok (with_requirements summary.file (at
 summary_reading modules (Faulty class) = Err class
 
 -- where the requirements of a file are: nowhere if it has a fault or nothing is kept of it
-abbrev pub span_found : Option Kept → Span
+abbrev pub span_found : Option Kept → ListSpan
 span_found None = nowhere
 span_found (Some (Valid summary)) = summary.kept
 span_found (Some (Faulty class)) = nowhere

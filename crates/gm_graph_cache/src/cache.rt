@@ -28,7 +28,7 @@ use crate::main_view;
 use crate::naming::{file_name, is_askable};
 use crate::paths::is_right_path;
 use crate::reading::{ListedReading, read_answer};
-use crate::summary::{Kept, Span, summary_of};
+use crate::summary::{Kept, ListSpan, summary_of};
 use gm_file::MainFile;
 use gm_name::{KnownNames, ModVer, NoMemory};
 use gm_name_table::ModuleList;
@@ -292,7 +292,7 @@ impl<'a> Cache<'a> {
             ≡ without_excluded (main_in self.now) (main_in self.now).requirements }
         ensures table { lent_table result ≡ modules_in self.now }
     {
-        let span = Span {
+        let span = ListSpan {
             start: 0,
             end: self.first,
         };

@@ -9,7 +9,7 @@ ghost use Rattle.gm_graph_cache.specs.Places.{IsPlace};
 
 use crate::main_view::replaces;
 use crate::naming::right_name;
-use crate::summary::{Kept, Span};
+use crate::summary::{Kept, ListSpan};
 use gm_file::MainFile;
 use gm_name::NoMemory;
 use gm_store::FileName;
@@ -107,12 +107,12 @@ impl FileTable {
 
     /// Where the requirements of the file at a place are, without the excluded ones: nowhere if there is no place or
     /// the file has a fault.
-    pub(crate) fn span_of(&self, place: Option<u32>) -> Span
+    pub(crate) fn span_of(&self, place: Option<u32>) -> ListSpan
         requires { IfSome place (λ place. place < length self.now.files.items) }
         ensures { result ≡ span_found (option_and_then (slice_get self.now.files.items) place) }
     {
         match place {
-            None => Span::nowhere(),
+            None => ListSpan::nowhere(),
             Some(place) => self.at(place).span(),
         }
     }

@@ -3,7 +3,7 @@
 ghost use Rattle.gm_name_table.specs.Listed.{listed};
 ghost use Rattle.gm_graph_cache.specs.Summaries.{IsWithinList};
 
-use crate::summary::Span;
+use crate::summary::ListSpan;
 use gm_name_table::{ModuleList, Modules};
 
 /// Requirements that a cache returned: a part of its list of modules.
@@ -12,7 +12,7 @@ pub struct Lent<'a> {
     /// The list of modules.
     modules: &'a ModuleList,
     /// Where the requirements are in it.
-    span: Span,
+    span: ListSpan,
     ghost within: { IsWithinList (listed modules.now) span },
 }
 
@@ -25,7 +25,7 @@ impl<'a> Lent<'a> {
     ghost use Rattle.gm_graph_cache.specs.Summaries.{at_span};
 
     /// The part of a list of modules at a span.
-    pub(crate) fn at(modules: &'a ModuleList, span: Span) -> Lent<'a>
+    pub(crate) fn at(modules: &'a ModuleList, span: ListSpan) -> Lent<'a>
         requires { IsWithinList (listed modules.now) span }
         ensures modules { lent_modules result ≡ at_span (listed modules.now) span }
         ensures table { lent_table result ≡ modules.now.modules }

@@ -19,19 +19,19 @@ use std::alloc::Global;
 
 /// Where some modules are in the list of modules: from one place to another.
 #[derive(Clone, Copy)]
-pub(crate) struct Span {
+pub(crate) struct ListSpan {
     /// The place of the first one.
     pub(crate) start: usize,
     /// The place after the last one.
     pub(crate) end: usize,
 }
 
-impl Span {
+impl ListSpan {
     /// The span of no modules.
-    pub(crate) fn nowhere() -> Span
+    pub(crate) fn nowhere() -> ListSpan
         ensures { result ≡ nowhere }
     {
-        Span { start: 0, end: 0 }
+        ListSpan { start: 0, end: 0 }
     }
 }
 
@@ -41,10 +41,10 @@ pub(crate) struct Summary {
     /// What the file says, other than its requirements.
     pub(crate) file: ListedFile,
     /// Where its requirements are.
-    pub(crate) all: Span,
+    pub(crate) all: ListSpan,
     /// Where its requirements without the excluded ones are: in the same place if none is excluded, so that most
     /// files have their requirements in the list once.
-    pub(crate) kept: Span,
+    pub(crate) kept: ListSpan,
 }
 
 /// What the cache keeps of a file.
@@ -103,7 +103,7 @@ pub(crate) fn summary_of(
     ensures grows { Grows modules.old modules.new }
 {
     let end = modules.len();
-    let all = Span { start, end };
+    let all = ListSpan { start, end };
     if !has_excluded(main, modules.part(start, end)) {
         return Ok(Summary {
             file,
@@ -113,7 +113,7 @@ pub(crate) fn summary_of(
     }
     let some = copy_kept(alloc, main, modules.part(start, end))?;
     append(modules, &some)?;
-    let kept = Span {
+    let kept = ListSpan {
         start: end,
         end: modules.len(),
     };
@@ -133,12 +133,12 @@ impl Kept {
     }
 
     /// Where the requirements without the excluded ones are: nowhere if the file has a fault.
-    pub(crate) fn span(&self) -> Span
+    pub(crate) fn span(&self) -> ListSpan
         ensures { result ≡ span_found (Some self.now) }
     {
         match self {
             Kept::Valid(summary) => summary.kept,
-            Kept::Faulty(_) => Span::nowhere(),
+            Kept::Faulty(_) => ListSpan::nowhere(),
         }
     }
 }

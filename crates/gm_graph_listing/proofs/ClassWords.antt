@@ -1,5 +1,5 @@
 -- The text of a class determines it.
-use Rattle.std.proofs.Common.{◌≡◌, ◌∙◌, ◌^◌, ◌<◌, ◌≤◌, ℕ, Bool, true, false, cond, List, [], ◌∷◌, ◌++◌, Option, Some, None, codes, ap, append_assoc, arith, refl, sym, subst}
+use Rattle.std.proofs.Common.{◌≡◌, ◌∙◌, ◌^◌, ◌<◌, ◌≤◌, ℕ, Bool, true, false, cond, List, ◌∷◌, ◌++◌, Option, Some, None, codes, ap, append_assoc, arith, refl, sym, subst}
 use Rattle.std.specs.Prelude.{nat_lt}
 use Rattle.std.specs.Char.{is_ascii_digit}
 use Rattle.std.specs.Fmt.{decimal}
@@ -7,9 +7,7 @@ use Rattle.std.specs.List.{list_all}
 use Rattle.std.specs.Str.{bytes_eq}
 use Rattle.std.proofs.lemmas.Fmt.{decimal_injective}
 use Rattle.gm_name.proofs.Marks.{decimal-digits}
-use Rattle.gm_syntax.specs.declared.fault.SyntaxKind.{SyntaxKind}
 use Rattle.gm_syntax.specs.declared.fault.SyntaxKind.TheVariants as syntax
-use Rattle.gm_file.specs.declared.fault.DirectiveKind.{DirectiveKind}
 use Rattle.gm_file.specs.declared.fault.DirectiveKind.TheVariants as directive
 use Rattle.gm_graph_cache.specs.declared.class.Class.{Class}
 use Rattle.gm_graph_cache.specs.declared.class.Class.TheVariants.{NotFetchable, Missing, TooLong, NoSum, SumDiffers, Malformed, WrongPath}
@@ -17,7 +15,7 @@ use Rattle.gm_graph_cache.specs.declared.class.Misreading.{Misreading}
 use Rattle.gm_graph_cache.specs.declared.class.Misreading.TheVariants as misreading
 use Rattle.gm_graph_cache.specs.ClassWords.{misreading_word}
 use Rattle.gm_graph_listing.specs.PrintedLines.{IsProperClass}
-use Rattle.gm_graph_listing.specs.Reports.{class_text, malformed_text}
+use Rattle.gm_report.specs.Reports.{class_text, malformed_text}
 use Rattle.gm_graph_listing.proofs.ListLines.{Lacks, both_lack, cut_at, has_it, lacks}
 
 -- ---- the misreading that a word is for

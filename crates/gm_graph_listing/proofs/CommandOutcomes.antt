@@ -1,6 +1,6 @@
 -- What the commands do with what was found.
 use Rattle.std.proofs.Common.{◌≡◌, ◌⊎◌, ◌∙◌, ◌++◌, ℕ, List, [], ◌∷◌, Option, Some, Result, Ok, Err, IfOk, MatchResult, sym, refl, subst, ap, inl, inr, append-nil}
-use Rattle.std.specs.Result.{IsErr, IsErrAnd}
+use Rattle.std.proofs.lemmas.List.{append_cancel_left}
 use Rattle.gm_syntax.specs.Document.{Line}
 use Rattle.gm_syntax.specs.Tokens.{Placed}
 use Rattle.gm_store.specs.Asked.{Name, Reply, name_of}
@@ -9,7 +9,7 @@ use Rattle.gm_store.specs.declared.files.FileName.{FileName}
 use Rattle.gm_store_sums.specs.declared.sum_table.SumTable.{SumTable}
 use Rattle.gm_graph_cache.specs.Main.{Main, main_of}
 use Rattle.gm_graph_cache.specs.Reading.{Held, Readings, Tells, readings_by}
-use Rattle.gm_graph_cache.specs.Refusals.{refused_names, refused_in}
+use Rattle.gm_graph_cache.specs.Refusals.{refused_in, refused_names}
 use Rattle.gm_graph_cache.specs.declared.load_fault.LoadFault.{LoadFault}
 use Rattle.gm_graph_cache.specs.declared.load_fault.LoadFault.TheVariants as load
 use Rattle.gm_graph_select.specs.BuildList.{Entry, IsRestAfter}
@@ -19,27 +19,25 @@ use Rattle.gm_graph.specs.declared.fault.Fault.{Fault}
 use Rattle.gm_graph.specs.Graph.{IsEdge}
 use Rattle.gm_graph.specs.Loading.{AreTooMany, IsDue, Told}
 use Rattle.gm_graph.specs.Outcome.{AreFaults, IsLoaded, LoadedGraph as Loaded}
+use Rattle.gm_report.specs.declared.report.Report.{Report}
+use Rattle.gm_report.specs.FromFaults.{report_by_load}
+use Rattle.gm_report.specs.Outcome.{OrNoMemory, Outcome, failed, printed, refused, report_outcome}
+use Rattle.gm_report.specs.Reports.{device_line}
 use Rattle.gm_graph_listing.specs.declared.answering.Read.{Read}
-use Rattle.gm_graph_listing.specs.declared.output.Output.{Output}
-use Rattle.gm_graph_listing.specs.declared.output.Stop.{Stop}
-use Rattle.gm_graph_listing.specs.declared.output.Stop.TheVariants as stop
 use Rattle.gm_graph_listing.specs.declared.query.Query.{Query}
 use Rattle.gm_graph_listing.specs.declared.query.Query.TheVariants.{Graph, List as Rows, Chain}
 use Rattle.gm_graph_listing.specs.Texts.{limited, list_text}
-use Rattle.gm_graph_listing.specs.Reports.{Place, main_line}
-use Rattle.gm_graph_listing.specs.Outcomes.{Answers, AreKnown, AreInvalidSums, AreSums, FailsInOrder, IsAnswer, IsMainFile, IsMainOf, IsMalformedMain, IsOutcomeOver, IsRefusedRead, Outcome, PrintsFor, PrintsRows, StopsWith, answers, device, faulty, given, outcome_view, printed, refused, too_many}
-use Rattle.gm_graph_listing.specs.Found.{IsLoadEnd, IsLoadReport, ReportsFaultsOr, PrintsFound, FilesReadAs}
+use Rattle.gm_graph_listing.specs.Outcomes.{AreKnown, AreInvalidSums, AreSums, FailsInOrder, IsAnswerOver, IsMainFile, IsMainOf, IsOutcomeOver, IsRefusedRead, PrintsFor, PrintsRows, answers, device, faulty, too_many}
+use Rattle.gm_graph_listing.specs.Found.{FilesReadAs, IsOutcomeOfFound, PrintsFound, ReportsFaultsOr}
+use Rattle.gm_graph_listing.proofs.Misreading.{IsMalformed}
+
+-- ---- what is printed
 
 -- the case where the rows after a path are printed
-pub rest_printed : {E : Type 0} (main : Main) (rows rest : List Entry) (path : List ℕ) (limit : Option ℕ) (result : Result Output E) → IsRestAfter main.path rows path rest
-    → IfOk result (λ output. outcome_view output ≡ printed (list_text main.path (limited limit rest)))
-    → IfOk result (λ output. PrintsRows main rows (Some path) limit (outcome_view output))
-rest_printed main rows rest path limit (Ok output) is says = inl (rest, is, says)
-rest_printed main rows rest path limit (Err e) is says = tt
-
--- the outcome of a command when both files are valid
-abbrev pub IsAnswerOver : Query → Main → Option SumTable → Answers → Outcome → Type 0
-IsAnswerOver query main table told outcome = IsOutcomeOver (PrintsFor query) main table told outcome
+pub rest_printed : (main : Main) (rows rest : List Entry) (path : List ℕ) (limit : Option ℕ) (outcome : Outcome) → IsRestAfter main.path rows path rest
+    → OrNoMemory (λ outcome. outcome ≡ printed (list_text main.path (limited limit rest))) outcome → OrNoMemory (PrintsRows main rows (Some path) limit) outcome
+rest_printed main rows rest path limit outcome is (inl says) = inl (inl (rest, is, says))
+rest_printed main rows rest path limit outcome is (inr none) = inr none
 
 -- When both files are valid: the device failed on no file, or on one that was due under the answers.
 abbrev pub FailsOver : Main → Option SumTable → StoreState → StoreState → Type 0
@@ -50,17 +48,7 @@ FailsOver main table old new =
 -- the outcome when both files are valid, with the names on which the store's device failed
 abbrev pub Answered : Query → Main → Option SumTable → StoreState → StoreState → Outcome → Type 0
 Answered query main table old new outcome =
-    (failed : List Name) × (new.refused ≡ old.refused ++ failed) × IsAnswerOver query main table (answers new.asked failed) outcome
-
-pub not_loaded : (query : Query) (main : Main) (table : Option SumTable) (old new : StoreState) (fault : LoadFault) (outcome : Outcome)
-    → (fault ≡ load.TooMany → Told main table new.asked (AreTooMany main))
-    → ((name : FileName) → fault ≡ load.Device name → IsDue main table new.asked (name_of name))
-    → new.refused ≡ old.refused ++ refused_names fault → IsLoadReport fault outcome
-    → Answered query main table old new outcome
-not_loaded query main table old new load.NoMemory outcome many due failed report = absurd report
-not_loaded query main table old new load.TooMany outcome many due failed report = ([], failed, inl (too_many (many refl) refl report))
-not_loaded query main table old new (load.Device name) outcome many due failed report =
-    (name_of name ∷ [], failed, inl (device (name_of name) (due name refl) refl report))
+    (failed : List Name) × (new.refused ≡ old.refused ++ failed) × IsOutcomeOver (PrintsFor query) main table (answers new.asked failed) outcome
 
 -- the device failed on the file that loading names
 pub load_fails : {T : Type 0} (main : Main) (table : Option SumTable) (old new : StoreState) (result : Result T LoadFault)
@@ -115,77 +103,109 @@ by_faults query main table old new loaded (first ∷ others) outcome (held, tell
 
 -- ---- what was read
 
--- the output that a command ends with when it stops, or the refusal when memory ran out
-abbrev pub IsOutputOf : {E : Type 0} → Stop → Result Output E → Type 0
-IsOutputOf s result = MatchResult result (λ output. s ≡ stop.Reported output) (λ _. s ≡ stop.NoMemory)
+abbrev pub IsMainRead : List ℕ → Result (List (Line Placed)) Report → Type 0
+IsMainRead file r = MatchResult r (λ lines. IsMainOf file lines) (λ told. OrNoMemory (IsMalformed file) (report_outcome told))
 
--- what holds of the output of a stop holds of the output that the command ends with
-pub output_of : {E : Type 0} (Is : Outcome → Type 0) (s : Stop) (result : Result Output E) → IsOutputOf s result → StopsWith Is s
-    → IfOk result (λ output. Is (outcome_view output))
-output_of Is s (Ok output) ends is = subst (StopsWith Is) ends is
-output_of Is s (Err e) ends is = tt
-
-abbrev pub IsMainRead : List ℕ → Result (List (Line Placed)) Stop → Type 0
-IsMainRead file r =
-    MatchResult r (λ lines. IsMainOf file lines) (StopsWith (λ outcome. (place : Place) × IsMalformedMain file place × (outcome ≡ refused (main_line place))))
-
-pub main_ok : (file : List ℕ) (r : Result (List (Line Placed)) Stop) (lines : List (Line Placed)) → r ≡ Ok lines → IsMainRead file r → IsMainFile file (main_of lines)
+pub main_ok : (file : List ℕ) (r : Result (List (Line Placed)) Report) (lines : List (Line Placed)) → r ≡ Ok lines → IsMainRead file r → IsMainFile file (main_of lines)
 main_ok file r lines is match = (lines, subst (IsMainRead file) is match, refl)
 
-abbrev pub AreSumsRead : Option (List ℕ) → Result (Option SumTable) Stop → Type 0
-AreSumsRead sums r =
-    MatchResult r (λ table. AreSums sums table) (StopsWith (λ outcome. (report : List ℕ) × AreInvalidSums sums report × (outcome ≡ refused report)))
+-- a main module's file that was not read refuses both
+pub main_told : (file : List ℕ) (sums : Option (List ℕ)) (r : Result (List (Line Placed)) Report) (told : Report) → r ≡ Err told → IsMainRead file r
+    → OrNoMemory (IsRefusedRead file sums) (report_outcome told)
+main_told file sums r told stops match = refused_main (subst (IsMainRead file) stops match)
+  where
+    refused_main : OrNoMemory (IsMalformed file) (report_outcome told) → OrNoMemory (IsRefusedRead file sums) (report_outcome told)
+    refused_main (inl is) = inl (inl is)
+    refused_main (inr none) = inr none
 
-pub sums_ok : (sums : Option (List ℕ)) (r : Result (Option SumTable) Stop) (table : Option SumTable) → r ≡ Ok table → AreSumsRead sums r → AreSums sums table
+-- the go.sum is reported
+abbrev pub AreReported : Option (List ℕ) → Outcome → Type 0
+AreReported sums outcome = (report : List ℕ) × AreInvalidSums sums report × (outcome ≡ refused report)
+
+abbrev pub AreSumsRead : Option (List ℕ) → Result (Option SumTable) Report → Type 0
+AreSumsRead sums r = MatchResult r (λ table. AreSums sums table) (λ told. OrNoMemory (AreReported sums) (report_outcome told))
+
+pub sums_ok : (sums : Option (List ℕ)) (r : Result (Option SumTable) Report) (table : Option SumTable) → r ≡ Ok table → AreSumsRead sums r → AreSums sums table
 sums_ok sums r table is match = subst (AreSumsRead sums) is match
 
-sums_refused : (file : List ℕ) (sums : Option (List ℕ)) (main : Main) (outcome : Outcome) → IsMainFile file main
-    → ((report : List ℕ) × AreInvalidSums sums report × (outcome ≡ refused report)) → IsRefusedRead file sums outcome
-sums_refused file sums main outcome is (report, misread, says) = inr (main, report, is, misread, says)
-
 -- a go.sum that was not read refuses both, after a main module's file that was read
-pub sums_stop : (file : List ℕ) (sums : Option (List ℕ)) (main : Main) (r : Result (Option SumTable) Stop) (s : Stop) → IsMainFile file main → r ≡ Err s → AreSumsRead sums r
-    → StopsWith (IsRefusedRead file sums) s
-sums_stop file sums main r stop.NoMemory is stops match = tt
-sums_stop file sums main r (stop.Reported output) is stops match =
-    sums_refused file sums main (outcome_view output) is (subst (AreSumsRead sums) stops match)
+pub sums_told : (file : List ℕ) (sums : Option (List ℕ)) (main : Main) (r : Result (Option SumTable) Report) (told : Report) → IsMainFile file main → r ≡ Err told → AreSumsRead sums r
+    → OrNoMemory (IsRefusedRead file sums) (report_outcome told)
+sums_told file sums main r told is stops match = refused_sums (subst (AreSumsRead sums) stops match)
+  where
+    refused_sums : OrNoMemory (AreReported sums) (report_outcome told) → OrNoMemory (IsRefusedRead file sums) (report_outcome told)
+    refused_sums (inl (report, misread, says)) = inl (inr (main, report, is, misread, says))
+    refused_sums (inr none) = inr none
 
-pub both_read : (file : List ℕ) (sums : Option (List ℕ)) (r : Result (List (Line Placed)) Stop) (s : Result (Option SumTable) Stop) (lines : List (Line Placed)) (table : Option SumTable)
+pub both_read : (file : List ℕ) (sums : Option (List ℕ)) (r : Result (List (Line Placed)) Report) (s : Result (Option SumTable) Report) (lines : List (Line Placed)) (table : Option SumTable)
     → r ≡ Ok lines → IsMainRead file r → s ≡ Ok table → AreSumsRead sums s → FilesReadAs file sums (main_of lines) table
 both_read file sums r s lines table is main are read = (main_ok file r lines is main, sums_ok sums s table are read)
 
-abbrev pub IsBothRead : List ℕ → Option (List ℕ) → Result Read Stop → Type 0
-IsBothRead file sums r = MatchResult r (λ both. FilesReadAs file sums (main_of both.main) both.table) (StopsWith (IsRefusedRead file sums))
+abbrev pub IsBothRead : List ℕ → Option (List ℕ) → Result Read Report → Type 0
+IsBothRead file sums r =
+    MatchResult r (λ both. FilesReadAs file sums (main_of both.main) both.table) (λ told. OrNoMemory (IsRefusedRead file sums) (report_outcome told))
 
--- the stop of one file is passed on as that of both
-pub passed_on : (file : List ℕ) (sums : Option (List ℕ)) (s : Stop) (result : Result Read Stop) → IsErr result → IsErrAnd result (λ e. e ≡ s)
-    → StopsWith (IsRefusedRead file sums) s → IsBothRead file sums result
-passed_on file sums s (Ok both) failed same is = absurd (cc failed)
-passed_on file sums s (Err e) failed same is = subst (StopsWith (IsRefusedRead file sums)) (sym same) is
-
-pub both_ok : (file : List ℕ) (sums : Option (List ℕ)) (r : Result Read Stop) (x : Read) → r ≡ Ok x → IsBothRead file sums r → FilesReadAs file sums (main_of x.main) x.table
+pub both_ok : (file : List ℕ) (sums : Option (List ℕ)) (r : Result Read Report) (x : Read) → r ≡ Ok x → IsBothRead file sums r → FilesReadAs file sums (main_of x.main) x.table
 both_ok file sums r x is match = subst (IsBothRead file sums) is match
 
--- the outcome of a whole run, with the names on which the store's device failed
-abbrev pub AnsweredOf : Query → List ℕ → Option (List ℕ) → StoreState → StoreState → Outcome → Type 0
-AnsweredOf query file sums old new outcome =
-    (failed : List Name) × (new.refused ≡ old.refused ++ failed) × IsAnswer query (given file sums (answers new.asked failed)) outcome
+-- ---- the outcome of a whole run
 
-pub refused_read : {E : Type 0} (query : Query) (file : List ℕ) (sums : Option (List ℕ)) (state : StoreState) (r : Result Read Stop) (s : Stop) (result : Result Output E)
-    → state.asked ≡ [] → r ≡ Err s → IsBothRead file sums r → IsOutputOf s result → IfOk result (λ output. AnsweredOf query file sums state state (outcome_view output))
-refused_read query file sums state r s (Err e) none stops read ends = tt
-refused_read query file sums state r s (Ok output) none stops read ends =
-    let is = subst (StopsWith (IsRefusedRead file sums)) ends (subst (IsBothRead file sums) stops read) in
-    ([], sym (append-nil state.refused), inl (is, (none, refl)))
+pub refused_read : (query : Query) (file : List ℕ) (sums : Option (List ℕ)) (state : StoreState) (r : Result Read Report) (told : Report) → state.asked ≡ []
+    → r ≡ Err told → IsBothRead file sums r → OrNoMemory (IsAnswerOver query file sums state state) (report_outcome told)
+refused_read query file sums state r told none stops read = refused_run (subst (IsBothRead file sums) stops read)
+  where
+    refused_run : OrNoMemory (IsRefusedRead file sums) (report_outcome told) → OrNoMemory (IsAnswerOver query file sums state state) (report_outcome told)
+    refused_run (inl is) = inl ([], sym (append-nil state.refused), inl (is, (none, refl)))
+    refused_run (inr ended) = inr ended
 
--- the outcome of a run in which both files were valid
-pub answered : (query : Query) (file : List ℕ) (sums : Option (List ℕ)) (main : Main) (table : Option SumTable) (old new : StoreState) (result : Result Loaded LoadFault) (outcome : Outcome)
-    → FilesReadAs file sums main table → IfOk result (λ loaded. Told main table new.asked (IsLoaded main new.asked loaded))
-    → (result ≡ Err load.TooMany → Told main table new.asked (AreTooMany main))
+-- both files are valid, and loading was refused
+pub not_loaded : (query : Query) (file : List ℕ) (sums : Option (List ℕ)) (main : Main) (table : Option SumTable) (old new : StoreState) (result : Result Loaded LoadFault) (fault : LoadFault)
+    → result ≡ Err fault → FilesReadAs file sums main table → (result ≡ Err load.TooMany → Told main table new.asked (AreTooMany main))
     → ((name : FileName) → result ≡ Err (load.Device name) → IsDue main table new.asked (name_of name))
-    → new.refused ≡ old.refused ++ refused_in result → IsLoadEnd query main result outcome → AnsweredOf query file sums old new outcome
-answered query file sums main table old new (Ok loaded) outcome (main_file, sums_are) is many due grown told =
-    let over = by_faults query main table old new loaded loaded.faults outcome is grown refl told in (over.0, over.1, inr (main, table, record { main_file = main_file; sums = sums_are }, over.2))
-answered query file sums main table old new (Err fault) outcome (main_file, sums_are) is many due grown told =
-    let over = not_loaded query main table old new fault outcome (λ e. many (ap Err e)) (λ name e. due name (ap Err e)) grown told in
-    (over.0, over.1, inr (main, table, record { main_file = main_file; sums = sums_are }, over.2))
+    → new.refused ≡ old.refused ++ refused_in result → OrNoMemory (IsAnswerOver query file sums old new) (report_outcome (report_by_load fault))
+not_loaded query file sums main table old new result load.NoMemory is read many due grown = inr refl
+not_loaded query file sums main table old new result load.TooMany is (main_file, sums_are) many due grown =
+    let none = subst (λ r. new.refused ≡ old.refused ++ refused_in r) is grown in
+    inl ([], none, inr (main, table, record { main_file = main_file; sums = sums_are }, inl (too_many (many is) refl refl)))
+not_loaded query file sums main table old new result (load.Device name) is (main_file, sums_are) many due grown =
+    let one = subst (λ r. new.refused ≡ old.refused ++ refused_in r) is grown in
+    inl (name_of name ∷ [], one, inr (main, table, record { main_file = main_file; sums = sums_are }, inl (device (name_of name) (due name is) refl refl)))
+
+-- both files are valid, and loading found a graph
+pub answered : (query : Query) (file : List ℕ) (sums : Option (List ℕ)) (main : Main) (table : Option SumTable) (old new : StoreState) (result : Result Loaded LoadFault) (loaded : Loaded)
+    (outcome : Outcome) → result ≡ Ok loaded → FilesReadAs file sums main table → IfOk result (λ loaded. Told main table new.asked (IsLoaded main new.asked loaded))
+    → new.refused ≡ old.refused ++ refused_in result → OrNoMemory (IsOutcomeOfFound query main loaded) outcome → OrNoMemory (IsAnswerOver query file sums old new) outcome
+answered query file sums main table old new result loaded outcome ok (main_file, sums_are) is grown (inl told) =
+    let found = subst (λ r. IfOk r (λ loaded. Told main table new.asked (IsLoaded main new.asked loaded))) ok is in
+    let none = subst (λ r. new.refused ≡ old.refused ++ refused_in r) ok grown in
+    let over = by_faults query main table old new loaded loaded.faults outcome found none refl told in
+    inl (over.0, over.1, inr (main, table, record { main_file = main_file; sums = sums_are }, over.2))
+answered query file sums main table old new result loaded outcome ok read is grown (inr none) = inr none
+
+-- ---- a device that failed
+
+no_more : (before : List Name) (name : Name) → before ++ [] ≡ before ++ name ∷ [] → ⊥
+no_more before name same = let ends : [] ≡ name ∷ [] = append_cancel_left before [] (name ∷ []) same in cc ends
+
+-- nothing was asked, so the device did not fail
+pub unasked : {A : Type 0} (state : StoreState) (name : Name) → state.refused ≡ state.refused ++ name ∷ [] → A
+unasked state name same = absurd (no_more state.refused name (append-nil state.refused ∙ same))
+
+-- loading found a graph, so the device did not fail
+pub not_broken : {A : Type 0} (old new : StoreState) (result : Result Loaded LoadFault) (loaded : Loaded) (name : Name) → result ≡ Ok loaded
+    → new.refused ≡ old.refused ++ refused_in result → new.refused ≡ old.refused ++ name ∷ [] → A
+not_broken old new result loaded name ok grown same =
+    absurd (no_more old.refused name (sym (subst (λ r. new.refused ≡ old.refused ++ refused_in r) ok grown) ∙ same))
+
+-- the file at which the device failed is the one that is reported
+pub broken : (old new : StoreState) (result : Result Loaded LoadFault) (fault : LoadFault) (name : Name) → result ≡ Err fault
+    → new.refused ≡ old.refused ++ refused_in result → new.refused ≡ old.refused ++ name ∷ [] → report_outcome (report_by_load fault) ≡ failed (device_line name)
+broken old new result fault name stops grown same = by_fault fault (sym (subst (λ r. new.refused ≡ old.refused ++ refused_in r) stops grown) ∙ same)
+  where
+    by_fault : (fault : LoadFault) → old.refused ++ refused_names fault ≡ old.refused ++ name ∷ [] → report_outcome (report_by_load fault) ≡ failed (device_line name)
+    by_fault load.NoMemory is = absurd (no_more old.refused name is)
+    by_fault load.TooMany is = absurd (no_more old.refused name is)
+    by_fault (load.Device file) is =
+        let ends : name_of file ∷ [] ≡ name ∷ [] = append_cancel_left old.refused (name_of file ∷ []) (name ∷ []) is in
+        let names : name_of file ≡ name = cc ends in
+        ap (λ n. failed (device_line n)) names

@@ -9,8 +9,8 @@ use Rattle.gm_graph_cache.specs.Main.{ModuleVersion}
 use Rattle.gm_graph.specs.declared.fault.Fault.{Fault}
 use Rattle.gm_graph.specs.Building.{fault}
 use Rattle.gm_graph_listing.specs.PrintedLines.{IsProperFault, LineIsOfAFault, LineSaysFault, ReportHasLines, TextSaysFaults, fault_text}
-use Rattle.gm_graph_listing.specs.Reports.{class_text}
-use Rattle.gm_graph_listing.specs.Texts.{vertex_text}
+use Rattle.gm_report.specs.Reports.{class_text}
+use Rattle.gm_report.specs.Texts.{vertex_text}
 use Rattle.gm_graph_listing.proofs.ClassWords.{class_has_no_feed, says_class}
 use Rattle.gm_graph_listing.proofs.GraphLines.{at_is_no_feed, says_vertex, vertex_lacks}
 use Rattle.gm_graph_listing.proofs.ListLines.{Lacks, both_lack, cut_at, found_line, lacks, lines_are, same_are, path_has_no_feed, version_has_no_feed}

@@ -6,9 +6,8 @@ use Rattle.std.proofs.lemmas.Bool.{cases_eq}
 use Rattle.std.proofs.lemmas.List.{length-append}
 use Rattle.std.proofs.lemmas.List.Elements.{Contains-append_cases}
 use Rattle.gm_syntax.specs.declared.fault.SyntaxKind.{SyntaxKind}
-use Rattle.gm_syntax.specs.declared.place.Place.{Place}
 use Rattle.gm_syntax.specs.Words.{Word}
-use Rattle.gm_syntax.specs.Document.{Blank, Close, Comment, Entry, Faulty, Finish, Line, Open, ReadsLines, Whole, after, start}
+use Rattle.gm_syntax.specs.Document.{Blank, Close, Comment, Entry, Faulty, Finish, Line, Open, ReadsLines, Whole, after, start, Place}
 use Rattle.gm_syntax.specs.LineViews.{plain_lines}
 use Rattle.gm_syntax.specs.Lines.{lines_of, put_first}
 use Rattle.gm_syntax.specs.Parsed.{IsParsedAs}

@@ -1,7 +1,5 @@
 -- What is reported of invalid bytes.
-use Rattle.std.proofs.Common.{◌≡◌, ◌∙◌, ℕ, List, Some, Ok, Err, ap, sym, refl}
-use Rattle.std.specs.Option.{option_map}
-use Rattle.std.proofs.lemmas.Option.{none-some, same_Some}
+use Rattle.std.proofs.Common.{◌≡◌, ℕ, List, Ok, Err, inl, inr, refl}
 use Rattle.gm_syntax.specs.Document.{Line}
 use Rattle.gm_syntax.specs.Tokens.{Placed}
 use Rattle.gm_syntax.specs.LineViews.{plain_lines}
@@ -13,20 +11,22 @@ use Rattle.gm_file.specs.Views.{ReportsFault}
 use Rattle.gm_file.specs.declared.fault.FileFault.{FileFault}
 use Rattle.gm_file.specs.declared.fault.FileFault.TheVariants as file
 use Rattle.gm_graph_cache.specs.declared.class.Misreading.TheVariants as misreading
-use Rattle.gm_graph_listing.specs.Reports.{Place, directive_place, main_line, syntax_place}
-use Rattle.gm_graph_listing.specs.Outcomes.{IsMalformedMain, Outcome, refused}
+use Rattle.gm_report.specs.FromFaults.{report_by_file, report_by_syntax}
+use Rattle.gm_report.specs.Outcome.{OrNoMemory, Outcome, refused, report_outcome}
+use Rattle.gm_report.specs.Reports.{FaultPlace, main_line}
+use Rattle.gm_graph_listing.specs.Outcomes.{IsMalformedMain}
 
-pub no_document : (bytes : List ℕ) (fault : SyntaxFault) (text : List ℕ) (outcome : Outcome) → IsParsedAs bytes (Err fault)
-    → Some text ≡ option_map main_line (syntax_place fault) → outcome ≡ refused text
-    → (place : Place) × IsMalformedMain bytes place × (outcome ≡ refused (main_line place))
-no_document bytes syntax.NoMemory text outcome parsed says is = absurd (none-some text (sym says))
-no_document bytes syntax.TooMany text outcome parsed says is = ((0, misreading.TooMany), (refl, parsed), is ∙ ap refused (same_Some _ _ says))
-no_document bytes syntax.NotUtf8 text outcome parsed says is = ((0, misreading.NotUtf8), (refl, parsed), is ∙ ap refused (same_Some _ _ says))
-no_document bytes (syntax.Syntax number kind) text outcome parsed says is = ((number, misreading.Syntax kind), parsed, is ∙ ap refused (same_Some _ _ says))
+-- the first fault of the main module's file is reported
+abbrev pub IsMalformed : List ℕ → Outcome → Type 0
+IsMalformed bytes outcome = (place : FaultPlace) × IsMalformedMain bytes place × (outcome ≡ refused (main_line place))
 
-pub no_main_file : (bytes : List ℕ) (lines : List (Line Placed)) (fault : FileFault) (text : List ℕ) (outcome : Outcome) → IsParsedAs bytes (Ok lines)
-    → ReportsFault Strict (plain_lines lines) fault → Some text ≡ option_map main_line (directive_place fault) → outcome ≡ refused text
-    → (place : Place) × IsMalformedMain bytes place × (outcome ≡ refused (main_line place))
-no_main_file bytes lines file.NoMemory text outcome parsed tells says is = absurd (none-some text (sym says))
-no_main_file bytes lines (file.Directive number kind) text outcome parsed tells says is =
-    ((number, misreading.Directive kind), (lines, parsed, tells), is ∙ ap refused (same_Some _ _ says))
+pub no_document : (bytes : List ℕ) (fault : SyntaxFault) → IsParsedAs bytes (Err fault) → OrNoMemory (IsMalformed bytes) (report_outcome (report_by_syntax fault))
+no_document bytes syntax.NoMemory parsed = inr refl
+no_document bytes syntax.TooMany parsed = inl ((0, misreading.TooMany), (refl, parsed), refl)
+no_document bytes syntax.NotUtf8 parsed = inl ((0, misreading.NotUtf8), (refl, parsed), refl)
+no_document bytes (syntax.Syntax number kind) parsed = inl ((number, misreading.Syntax kind), parsed, refl)
+
+pub no_main_file : (bytes : List ℕ) (lines : List (Line Placed)) (fault : FileFault) → IsParsedAs bytes (Ok lines)
+    → ReportsFault Strict (plain_lines lines) fault → OrNoMemory (IsMalformed bytes) (report_outcome (report_by_file fault))
+no_main_file bytes lines file.NoMemory parsed tells = inr refl
+no_main_file bytes lines (file.Directive number kind) parsed tells = inl ((number, misreading.Directive kind), (lines, parsed, tells), refl)

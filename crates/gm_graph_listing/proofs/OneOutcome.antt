@@ -11,8 +11,9 @@ use Rattle.gm_graph.specs.Loading.{AreTooMany, Told}
 use Rattle.gm_graph.specs.Outcome.{AreFaults}
 use Rattle.gm_graph_listing.specs.Found.{ReportsFaultsOr}
 use Rattle.gm_graph_listing.specs.Laws.{AlikeChains, AlikeGraphs, AlikeLists, AnswerAlike, AreAlike, AllFilesAreValid, OneChainOutcome, OneGraphOutcome, OneListOutcome}
-use Rattle.gm_graph_listing.specs.Outcomes.{Answers, AreKnown, GivenFilesReadAs, AreSums, Given, IsMainFile, IsOutcome, IsOutcomeOver, IsRefusedRead, Outcome, Prints, PrintsChain, PrintsGraph, PrintsList, device, failed, faulty, refused, too_many}
-use Rattle.gm_graph_listing.specs.Reports.{Place, device_line, main_line, too_many_line}
+use Rattle.gm_graph_listing.specs.Outcomes.{Answers, AreKnown, GivenFilesReadAs, AreSums, Given, IsMainFile, IsOutcome, IsOutcomeOver, IsRefusedRead, Prints, PrintsChain, PrintsGraph, PrintsList, device, faulty, too_many}
+use Rattle.gm_report.specs.Outcome.{Outcome, failed, refused}
+use Rattle.gm_report.specs.Reports.{FaultPlace, device_line, main_line, too_many_line}
 use Rattle.gm_graph_listing.proofs.OnePrinted.{PrintsOnce, chain_once, graph_once, list_once, one_faults}
 use Rattle.gm_graph_listing.proofs.OneRead.{FindSame, misread_or_main, misread_or_sums, one_finding, one_main, one_misreport, one_place, tells_alike}
 use Rattle.gm_graph_listing.proofs.OneStore.{Agrees, alike_back, same_edges, stores_agree, too_many as many_stay}
@@ -85,7 +86,7 @@ module _ (prints : Prints) (once : PrintsOnce prints) (main : Main) (table : Opt
 -- ---- when a file is invalid
 
 one_refusal : (file : List ℕ) (sums : Option (List ℕ)) (a b : Outcome) → IsRefusedRead file sums a → IsRefusedRead file sums b → a ≡ b
-one_refusal file sums a b (inl (here, misread, says)) (inl (there, other, tells)) = says ∙ ap (λ (place : Place). refused (main_line place)) (one_place file here there misread other) ∙ sym tells
+one_refusal file sums a b (inl (here, misread, says)) (inl (there, other, tells)) = says ∙ ap (λ (place : FaultPlace). refused (main_line place)) (one_place file here there misread other) ∙ sym tells
 one_refusal file sums a b (inl (here, misread, says)) (inr (main, report, is, other, tells)) = absurd (misread_or_main file here main misread is)
 one_refusal file sums a b (inr (main, report, is, misread, says)) (inl (there, other, tells)) = absurd (misread_or_main file there main other is)
 one_refusal file sums a b (inr (main, report, is, misread, says)) (inr (again, line, be, other, tells)) = says ∙ ap refused (one_misreport sums report line misread other) ∙ sym tells

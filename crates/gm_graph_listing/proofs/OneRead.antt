@@ -23,7 +23,7 @@ use Rattle.gm_graph_cache.specs.declared.class.Class.TheVariants.{Malformed}
 use Rattle.gm_graph_cache.specs.declared.class.Misreading.{Misreading}
 use Rattle.gm_graph_cache.specs.declared.class.Misreading.TheVariants as misreading
 use Rattle.gm_graph_cache.proofs.OneReading.{one_reading}
-use Rattle.gm_graph_listing.specs.Reports.{Place, bad_sum_line}
+use Rattle.gm_report.specs.Reports.{FaultPlace, bad_sum_line}
 use Rattle.gm_graph_listing.specs.Outcomes.{AreInvalidSums, AreSums, IsMainFile, IsMainOf, IsMalformedMain}
 
 -- ---- the main module's file
@@ -46,61 +46,61 @@ pub one_main : (content : List ℕ) (a b : Main) → IsMainFile content a → Is
 one_main content a b (lines, (is, sound), says) (others, (other, whole), tells) = sym says ∙ ap main_by (same_lines content lines others is other) ∙ tells
 
 -- the bytes are not a document, and this is wrong at this place
-abbrev IsBroken : List ℕ → Place → Type 0
+abbrev IsBroken : List ℕ → FaultPlace → Type 0
 IsBroken content (number, misreading.TooMany) = (number ≡ 0) × IsParsedAs content (Err syntax.TooMany)
 IsBroken content (number, misreading.NotUtf8) = (number ≡ 0) × IsParsedAs content (Err syntax.NotUtf8)
 IsBroken content (number, misreading.Syntax kind) = IsParsedAs content (Err (syntax.Syntax number kind))
 IsBroken content (number, misreading.Directive kind) = ⊥
 
-abbrev place_of : Fault → Place
+abbrev place_of : Fault → FaultPlace
 place_of fault = (fault.0, misreading.Directive fault.1)
 
 -- the bytes are a document, and this is the first fault of its directives
-abbrev IsFaulty : List ℕ → Place → Type 0
+abbrev IsFaulty : List ℕ → FaultPlace → Type 0
 IsFaulty content place = (lines : List (Line Placed)) × (fault : Fault) × IsParsedAs content (Ok lines) × (fault_of Strict (plain_lines lines) ≡ Some fault) × (place ≡ place_of fault)
 
-misread_as : (content : List ℕ) (place : Place) → IsMalformedMain content place → IsBroken content place ⊎ IsFaulty content place
+misread_as : (content : List ℕ) (place : FaultPlace) → IsMalformedMain content place → IsBroken content place ⊎ IsFaulty content place
 misread_as content (number, misreading.TooMany) is = inl is
 misread_as content (number, misreading.NotUtf8) is = inl is
 misread_as content (number, misreading.Syntax kind) is = inl is
 misread_as content (number, misreading.Directive kind) (lines, parsed, first) = inr (lines, (number, kind), parsed, first, refl)
 
-broken_or_lines : (content : List ℕ) (place : Place) (lines : List (Line Placed)) → IsBroken content place → IsParsedAs content (Ok lines) → ⊥
+broken_or_lines : (content : List ℕ) (place : FaultPlace) (lines : List (Line Placed)) → IsBroken content place → IsParsedAs content (Ok lines) → ⊥
 broken_or_lines content (number, misreading.TooMany) lines is other = omega (arith, is.1, other.0.0)
 broken_or_lines content (number, misreading.NotUtf8) lines is other = is.1.1 other.0.1
 broken_or_lines content (number, misreading.Syntax kind) lines is other = let ends = (other.1.only is.1 (Faulty number kind) is.2.reads).1 in cc ends
 broken_or_lines content (number, misreading.Directive kind) lines is other = is
 
 -- Bytes that aren't too many read the same as a dependency's file, and that file is known to have exactly one reading.
-abbrev as_dependency : Place → Result Dependency Class
+abbrev as_dependency : FaultPlace → Result Dependency Class
 as_dependency place = Err (Malformed place.0 place.1)
 
-broken_reading : (content : List ℕ) (place : Place) → length content ≤ 16777216 → IsBroken content place → IsFileReading None (folder_file []) (bytes content) (as_dependency place)
+broken_reading : (content : List ℕ) (place : FaultPlace) → length content ≤ 16777216 → IsBroken content place → IsFileReading None (folder_file []) (bytes content) (as_dependency place)
 broken_reading content (number, misreading.TooMany) few is = absurd (omega (arith, few, is.1))
 broken_reading content (number, misreading.NotUtf8) few is = is
 broken_reading content (number, misreading.Syntax kind) few is = is
 broken_reading content (number, misreading.Directive kind) few is = absurd is
 
 -- the bytes are too many, and that is their place
-abbrev IsLong : List ℕ → Place → Type 0
+abbrev IsLong : List ℕ → FaultPlace → Type 0
 IsLong content place = (16777216 < length content) × (place ≡ (0, misreading.TooMany))
 
-few_or_long : (content : List ℕ) (place : Place) → IsBroken content place → (length content ≤ 16777216) ⊎ IsLong content place
-few_or_long content (number, misreading.TooMany) is = inr (is.1, ap (λ (n : ℕ). let place : Place = (n, misreading.TooMany) in place) is.0)
+few_or_long : (content : List ℕ) (place : FaultPlace) → IsBroken content place → (length content ≤ 16777216) ⊎ IsLong content place
+few_or_long content (number, misreading.TooMany) is = inr (is.1, ap (λ (n : ℕ). let place : FaultPlace = (n, misreading.TooMany) in place) is.0)
 few_or_long content (number, misreading.NotUtf8) is = inl is.1.0
 few_or_long content (number, misreading.Syntax kind) is = inl is.0.0
 few_or_long content (number, misreading.Directive kind) is = absurd is
 
-same_place : (here there : Place) → as_dependency here ≡ as_dependency there → here ≡ there
-same_place (number, kind) (other, sort) same = let numbers : number ≡ other = cc same in let kinds : kind ≡ sort = cc same in ap₂ (λ (n : ℕ) (k : Misreading). let place : Place = (n, k) in place) numbers kinds
+same_place : (here there : FaultPlace) → as_dependency here ≡ as_dependency there → here ≡ there
+same_place (number, kind) (other, sort) same = let numbers : number ≡ other = cc same in let kinds : kind ≡ sort = cc same in ap₂ (λ (n : ℕ) (k : Misreading). let place : FaultPlace = (n, k) in place) numbers kinds
 
-same_fault : (content : List ℕ) (here there : Place) → IsFaulty content here → IsFaulty content there → here ≡ there
+same_fault : (content : List ℕ) (here there : FaultPlace) → IsFaulty content here → IsFaulty content there → here ≡ there
 same_fault content here there (lines, fault, parsed, first, is) (others, next, other, second, at) =
     let found : Some fault ≡ Some next = sym first ∙ ap (fault_of Strict) (same_lines content lines others parsed other) ∙ second in
     let faults : fault ≡ next = cc found in
     is ∙ ap place_of faults ∙ sym at
 
-same_misreading : (content : List ℕ) (here there : Place) → IsBroken content here ⊎ IsFaulty content here → IsBroken content there ⊎ IsFaulty content there → here ≡ there
+same_misreading : (content : List ℕ) (here there : FaultPlace) → IsBroken content here ⊎ IsFaulty content here → IsBroken content there ⊎ IsFaulty content there → here ≡ there
 same_misreading content here there (inl is) (inl other) = by_length (few_or_long content here is) (few_or_long content there other)
   where
     by_length : (length content ≤ 16777216) ⊎ IsLong content here → (length content ≤ 16777216) ⊎ IsLong content there → here ≡ there
@@ -114,18 +114,18 @@ same_misreading content here there (inr is) (inl other) = absurd (broken_or_line
 same_misreading content here there (inr is) (inr other) = same_fault content here there is other
 
 -- an invalid file has exactly one place that is reported
-pub one_place : (content : List ℕ) (a b : Place) → IsMalformedMain content a → IsMalformedMain content b → a ≡ b
+pub one_place : (content : List ℕ) (a b : FaultPlace) → IsMalformedMain content a → IsMalformedMain content b → a ≡ b
 one_place content a b is other = same_misreading content a b (misread_as content a is) (misread_as content b other)
 
-misread_or_read : (content : List ℕ) (place : Place) (others : List (Line Placed)) → IsBroken content place ⊎ IsFaulty content place → IsMainOf content others → ⊥
+misread_or_read : (content : List ℕ) (place : FaultPlace) (others : List (Line Placed)) → IsBroken content place ⊎ IsFaulty content place → IsMainOf content others → ⊥
 misread_or_read content place others (inl is) (parsed, sound) = broken_or_lines content place others is parsed
 misread_or_read content place others (inr (lines, fault, parsed, first, at)) (other, sound) =
     let found : Some fault ≡ None = sym first ∙ ap (fault_of Strict) (same_lines content lines others parsed other) ∙ sound in cc found
 
-pub misread_or_lines : (content : List ℕ) (place : Place) (lines : List (Line Placed)) → IsMalformedMain content place → IsMainOf content lines → ⊥
+pub misread_or_lines : (content : List ℕ) (place : FaultPlace) (lines : List (Line Placed)) → IsMalformedMain content place → IsMainOf content lines → ⊥
 misread_or_lines content place lines is other = misread_or_read content place lines (misread_as content place is) other
 
-pub misread_or_main : (content : List ℕ) (place : Place) (main : Main) → IsMalformedMain content place → IsMainFile content main → ⊥
+pub misread_or_main : (content : List ℕ) (place : FaultPlace) (main : Main) → IsMalformedMain content place → IsMainFile content main → ⊥
 misread_or_main content place main is (lines, other, says) = misread_or_lines content place lines is other
 
 -- ---- the go.sum

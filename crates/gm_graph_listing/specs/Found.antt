@@ -1,11 +1,8 @@
--- What loading found, what is reported when it stops early, and what the commands do with its result.
-use Rattle.std.specs.Prelude.{◌≡◌, ◌⊎◌, ℕ, List, [], ◌∷◌, Option, Result, Ok, Err}
+-- What loading found, and what the commands do with its result.
+use Rattle.std.specs.Prelude.{◌≡◌, ◌⊎◌, ℕ, List, [], ◌∷◌, Option}
 use Rattle.std.specs.Option.{option_copied}
-use Rattle.gm_store.specs.Asked.{name_of}
 use Rattle.gm_store_sums.specs.declared.sum_table.SumTable.{SumTable}
 use Rattle.gm_graph_cache.specs.Main.{Main}
-use Rattle.gm_graph_cache.specs.declared.load_fault.LoadFault.{LoadFault}
-use Rattle.gm_graph_cache.specs.declared.load_fault.LoadFault.TheVariants as load
 use Rattle.gm_graph_select.specs.declared.step.Step.{Step}
 use Rattle.gm_graph_select.specs.BuildList.{IsEntryOf}
 use Rattle.gm_graph_select.specs.Chains.{IsChain}
@@ -15,14 +12,9 @@ use Rattle.gm_graph.specs.Outcome.{LoadedGraph as Found}
 use Rattle.gm_graph_listing.specs.declared.query.Query.{Query}
 use Rattle.gm_graph_listing.specs.declared.query.Query.TheVariants.{Graph, List as Rows, Chain}
 use Rattle.gm_graph_listing.specs.Texts.{chain_text, graph_text}
-use Rattle.gm_graph_listing.specs.Reports.{device_line, faults_text, too_many_line}
-use Rattle.gm_graph_listing.specs.Outcomes.{AreSums, IsMainFile, IsUnlisted, Outcome, PrintsRows, failed, printed, refused}
-
--- what is reported when loading stops early. Memory running out has no report of its own.
-abbrev pub IsLoadReport : LoadFault → Outcome → Type 0
-IsLoadReport load.NoMemory outcome = ⊥
-IsLoadReport load.TooMany outcome = outcome ≡ refused too_many_line
-IsLoadReport (load.Device name) outcome = outcome ≡ failed (device_line (name_of name))
+use Rattle.gm_report.specs.Reports.{faults_text}
+use Rattle.gm_graph_listing.specs.Outcomes.{AreSums, IsMainFile, IsUnlisted, PrintsRows}
+use Rattle.gm_report.specs.Outcome.{Outcome, printed, refused}
 
 -- both files are valid, and this is what they say
 abbrev pub FilesReadAs : List ℕ → Option (List ℕ) → Main → Option SumTable → Type 0
@@ -53,8 +45,3 @@ ReportsFaultsOr (first ∷ others) prints outcome = outcome ≡ refused (faults_
 -- the outcome of a command over what was found
 abbrev pub IsOutcomeOfFound : Query → Main → Found → Outcome → Type 0
 IsOutcomeOfFound query main found outcome = ReportsFaultsOr found.faults (PrintsFound query main found outcome) outcome
-
--- the outcome of a command once loading has ended
-abbrev pub IsLoadEnd : Query → Main → Result Found LoadFault → Outcome → Type 0
-IsLoadEnd query main (Ok found) outcome = IsOutcomeOfFound query main found outcome
-IsLoadEnd query main (Err fault) outcome = IsLoadReport fault outcome

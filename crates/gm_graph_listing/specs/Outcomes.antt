@@ -1,7 +1,7 @@
 -- The outcomes of `graph`, `list` and `chain`, given the bytes of a main module's file, those of a go.sum and
 -- the answers of a store: Go Modules Reference, "Minimal version selection", "go.mod files", "go.sum files",
 -- "go mod graph", "go list -m".
-use Rattle.std.specs.Prelude.{◌≡◌, ◌<◌, ◌≤◌, ◌⊎◌, ◌++◌, ℕ, List, [], ◌∷◌, length, Option, Some, None, Ok, ⊤, codes}
+use Rattle.std.specs.Prelude.{◌≡◌, ◌<◌, ◌≤◌, ◌⊎◌, ◌++◌, ℕ, List, [], ◌∷◌, length, Option, Some, None, Ok, ⊤}
 use Rattle.gm_syntax.specs.Document.{Line}
 use Rattle.gm_syntax.specs.Tokens.{Placed}
 use Rattle.gm_syntax.specs.LineViews.{plain_lines}
@@ -25,49 +25,10 @@ use Rattle.gm_graph.specs.Loading.{AreAsked, AreFew, AreTooMany, AsksInTurn, IsA
 use Rattle.gm_graph.specs.Outcome.{AreEdges, AreFaults}
 use Rattle.gm_graph_listing.specs.declared.query.Query.{Query}
 use Rattle.gm_graph_listing.specs.declared.query.Query.TheVariants.{Graph, List as Rows, Chain}
-use Rattle.gm_graph_listing.specs.declared.output.Output.{Output}
-use Rattle.gm_graph_listing.specs.declared.output.Status.{Status}
-use Rattle.gm_graph_listing.specs.declared.output.Stop.{Stop}
-use Rattle.gm_graph_listing.specs.declared.output.Stop.TheVariants as stop
-use Rattle.gm_graph_listing.specs.declared.output.Status.TheVariants.{Done, Fault as Faulty, Device}
-use Rattle.gm_graph_listing.specs.Texts.{chain_text, graph_text, limited, line, list_text}
-use Rattle.gm_graph_listing.specs.Reports.{Place, bad_sum_line, device_line, faults_text, main_line, not_listed_line, too_many_line}
+use Rattle.gm_graph_listing.specs.Texts.{chain_text, graph_text, limited, list_text}
+use Rattle.gm_report.specs.Outcome.{Outcome, failed, printed, refused}
+use Rattle.gm_report.specs.Reports.{FaultPlace, bad_sum_line, device_line, faults_text, long_sums_line, main_line, not_listed_line, too_many_line}
 use Rattle.std.specs.Option.{option_copied}
-use Rattle.std.specs.String.{string_bytes}
-
--- the exit status
-abbrev pub code_of : Status → ℕ
-code_of Done = 0
-code_of Faulty = 1
-code_of Device = 3
-
--- what is printed, what is reported, and the exit status
-pub record Outcome : Type 0 where
-  pub text : List ℕ
-  pub report : List ℕ
-  pub status : ℕ
-
--- the outcome that an `Output` of the library stands for
-abbrev pub outcome_view : Output → Outcome
-outcome_view output =
-    record { text = string_bytes output.text; report = string_bytes output.report; status = code_of output.status }
-
--- a text, and nothing to report
-abbrev pub printed : List ℕ → Outcome
-printed text = record { text = text; report = []; status = 0 }
-
--- nothing printed, and what is wrong with what was read
-abbrev pub refused : List ℕ → Outcome
-refused report = record { text = []; report = report; status = 1 }
-
--- nothing printed, and what failed
-abbrev pub failed : List ℕ → Outcome
-failed report = record { text = []; report = report; status = 3 }
-
--- unless memory ran out, the command ends with such an outcome
-abbrev pub StopsWith : (Outcome → Type 0) → Stop → Type 0
-StopsWith Is stop.NoMemory = ⊤
-StopsWith Is (stop.Reported output) = Is (outcome_view output)
 
 -- What a store answered: the names that it was asked for with its answers, and the names on which its device
 -- failed.
@@ -107,7 +68,7 @@ IsMainFile bytes main = (lines : List (Line Placed)) × IsMainOf bytes lines × 
 -- The bytes are not a valid main module's file: the line, or 0 for the whole file, and the kind of what is
 -- wrong there. Bytes that are not a document are misread in the same way as a dependency's file; directives are
 -- read strictly.
-abbrev pub IsMalformedMain : List ℕ → Place → Type 0
+abbrev pub IsMalformedMain : List ℕ → FaultPlace → Type 0
 IsMalformedMain bytes (number, misreading.TooMany) = IsMisreadAt bytes number misreading.TooMany
 IsMalformedMain bytes (number, misreading.NotUtf8) = IsMisreadAt bytes number misreading.NotUtf8
 IsMalformedMain bytes (number, misreading.Syntax kind) = IsMisreadAt bytes number (misreading.Syntax kind)
@@ -126,7 +87,7 @@ AreSums (Some text) (Some table) = (length text ≤ longest) × HasValidLines te
 abbrev pub AreInvalidSums : Option (List ℕ) → List ℕ → Type 0
 AreInvalidSums None report = ⊥
 AreInvalidSums (Some text) report =
-    ((longest < length text) × (report ≡ line (codes "go.sum:0: TooMany")))
+    ((longest < length text) × (report ≡ long_sums_line))
     ⊎ ((length text ≤ longest) × (number : ℕ) × IsFirstInvalid text number × (report ≡ bad_sum_line number))
 
 -- both are valid, and this is what they say
@@ -179,7 +140,7 @@ IsOutcomeOver prints main table told outcome =
 -- go.sum is invalid.
 abbrev pub IsRefusedRead : List ℕ → Option (List ℕ) → Outcome → Type 0
 IsRefusedRead file sums outcome =
-    ((place : Place) × IsMalformedMain file place × (outcome ≡ refused (main_line place)))
+    ((place : FaultPlace) × IsMalformedMain file place × (outcome ≡ refused (main_line place)))
     ⊎ ((main : Main) × (report : List ℕ) × IsMainFile file main × AreInvalidSums sums report
     × (outcome ≡ refused report))
 
@@ -254,6 +215,13 @@ PrintsFor (Chain path) = PrintsChain path.now
 -- the outcome of the command for a query
 abbrev pub IsAnswer : Query → Given → Outcome → Type 0
 IsAnswer query run outcome = IsOutcome (PrintsFor query) run outcome
+
+-- the outcome of the command for a query over these files and a store: given the files that the store was asked for,
+-- its answers, and the files at which its device failed in the run
+abbrev pub IsAnswerOver : Query → List ℕ → Option (List ℕ) → StoreState → StoreState → Outcome → Type 0
+IsAnswerOver query file sums old new outcome =
+    (failed : List Name) × (new.refused ≡ old.refused ++ failed)
+    × IsAnswer query (given file sums (answers new.asked failed)) outcome
 
 -- ---- what a run asks for, however it ends
 

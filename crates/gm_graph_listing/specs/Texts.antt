@@ -6,18 +6,10 @@ use Rattle.gm_file.specs.Directives.{Right, Folder, Module}
 use Rattle.gm_graph_select.specs.declared.step.Step.{Step}
 use Rattle.gm_graph_select.specs.declared.step.Step.TheVariants.{Main, Of}
 use Rattle.gm_graph_select.specs.declared.step.Edge.{Edge}
-use Rattle.gm_graph_select.specs.Graph.{Vertex}
 use Rattle.gm_graph_select.specs.BuildList.{Entry}
-
--- a text with the line feed that ends it
-abbrev pub line : List ℕ → List ℕ
-line text = text ++ codes "\n"
+use Rattle.gm_report.specs.Texts.{line, vertex_text}
 
 -- ---- graph and chain
-
--- `PATH@VERSION`
-abbrev pub vertex_text : Vertex → List ℕ
-vertex_text x = x.0 ++ codes "@" ++ x.1
 
 -- the main module's path alone, or `PATH@VERSION`
 abbrev pub step_text : List ℕ → Step → List ℕ

@@ -6,9 +6,6 @@
 //! requirements that explains why a module is in that list. `answer` runs a command from start to end. `laws`
 //! holds what can be relied on across the three.
 //!
-//! The result of a command (`Output`, `Status`) and the lines of reports serve the program's other commands too,
-//! so that the same fault reads alike whichever command reports it.
-//!
 //! For example, let `example.com/m` require `a.io` v1.0.0, which requires `b.io` v1.2.0. Then `graph` prints
 //! the lines `example.com/m a.io@v1.0.0` and `a.io@v1.0.0 b.io@v1.2.0`. `list` prints the lines
 //! `example.com/m`, `a.io v1.0.0` and `b.io v1.2.0`. `chain` for `b.io` prints `example.com/m`, `a.io@v1.0.0`
@@ -20,20 +17,14 @@ mod answering;
 mod fields;
 mod graph_lines;
 pub mod laws;
-mod output;
 mod printing;
 mod query;
 mod reading;
-mod report;
 mod row_lines;
 
 pub use crate::answering::answer;
 pub use crate::graph_lines::{chain_text, graph_text};
-pub use crate::output::{Output, Status, Stop, failed, printed, refused};
 pub use crate::query::Query;
 pub use crate::reading::main_file;
-pub use crate::report::{
-    TOO_MANY, device_report, directive_report, fault_report, faults_text, not_listed_report,
-    sum_report, syntax_report,
-};
 pub use crate::row_lines::list_text;
+pub use gm_report::Report;

@@ -3,49 +3,40 @@
 
 ghost use Rattle.std.specs.Prelude.{◌≡◌, MatchResult, List, ℕ};
 ghost use Rattle.std.specs.Option.{option_copied};
-ghost use Rattle.gm_graph_listing.specs.Outcomes.{AreInvalidSums, AreSums, IsMainOf, IsMalformedMain, StopsWith, refused};
-ghost use Rattle.gm_graph_listing.specs.Reports.{Place, main_line};
+ghost use Rattle.gm_graph_listing.specs.Outcomes.{AreInvalidSums, AreSums, IsMainOf, IsMalformedMain};
+ghost use Rattle.gm_report.specs.Outcome.{OrNoMemory, refused, report_outcome};
+ghost use Rattle.gm_report.specs.Reports.{FaultPlace, main_line};
 
-use crate::output::{Stop, refused};
-use crate::report::{directive_report, sum_report, syntax_report};
 use gm_file::MainFile;
+use gm_report::Report;
 use gm_store_sums::SumTable;
 use gm_syntax::Doc;
 use std::alloc::Global;
 
-/// The main module's file. It stops with a report exactly if the bytes are invalid, unless memory runs out.
-pub fn main_file<'a>(alloc: Global, bytes: &'a [u8]) -> Result<MainFile<'a>, Stop>
+/// The main module's file, or the report of the first fault of its bytes.
+pub fn main_file<'a, 'r>(alloc: Global, bytes: &'a [u8]) -> Result<MainFile<'a>, Report<'r>>
     ensures { MatchResult result
         (λ file. IsMainOf bytes.now file)
-        (StopsWith (λ outcome. (place : Place) × IsMalformedMain bytes.now place
-        × (outcome ≡ refused (main_line place)))) }
+        (λ told. OrNoMemory (λ outcome. (place : FaultPlace) × IsMalformedMain bytes.now place
+        × (outcome ≡ refused (main_line place))) (report_outcome told)) }
 {
-    let doc = match Doc::parse(alloc, bytes) {
-        Ok(doc) => doc,
-        Err(fault) => return Err(Stop::Reported(refused(alloc, syntax_report(alloc, fault)?))),
-    };
-    match MainFile::read(alloc, doc) {
-        Ok(file) => Ok(file),
-        Err(fault) => Err(Stop::Reported(refused(alloc, directive_report(alloc, fault)?))),
-    }
+    let doc = Doc::parse(alloc, bytes)?;
+    let file = MainFile::read(alloc, doc)?;
+    Ok(file)
 }
 
-/// The table of a go.sum, or `None` if no go.sum is given. It stops with a report exactly if the bytes are
-/// invalid, unless memory runs out.
-pub(crate) fn sum_table<'a>(
+/// The table of a go.sum, or `None` if no go.sum is given; or the report of its first fault.
+pub(crate) fn sum_table<'a, 'r>(
     alloc: Global,
     sums: Option<&'a [u8]>,
-) -> Result<Option<SumTable<'a>>, Stop>
+) -> Result<Option<SumTable<'a>>, Report<'r>>
     ensures { MatchResult result
         (λ table. AreSums (option_copied sums.entry) table)
-        (StopsWith (λ outcome. (report : List ℕ) × AreInvalidSums (option_copied sums.entry) report
-        × (outcome ≡ refused report))) }
+        (λ told. OrNoMemory (λ outcome. (report : List ℕ) × AreInvalidSums (option_copied sums.entry) report
+        × (outcome ≡ refused report)) (report_outcome told)) }
 {
-    let Some(text) = sums else {
-        return Ok(None);
-    };
-    match SumTable::read(alloc, text) {
-        Ok(table) => Ok(Some(table)),
-        Err(fault) => Err(Stop::Reported(refused(alloc, sum_report(alloc, fault)?))),
+    match sums {
+        Some(text) => Ok(Some(SumTable::read(alloc, text)?)),
+        None => Ok(None),
     }
 }

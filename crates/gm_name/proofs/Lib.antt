@@ -17,3 +17,4 @@ pub mod PseudoTexts
 pub mod Fronts
 pub mod Words
 pub mod PreReleases
+pub mod FieldLemmas

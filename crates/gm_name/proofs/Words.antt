@@ -1,17 +1,17 @@
 -- A fingerprint, eight bytes further on, and at fewer than eight.
 use Rattle.std.proofs.Common.{◌≡◌, ◌<◌, ◌≤◌, ℕ, List, [], ◌∷◌, arith, drop, length, refl}
-use Rattle.gm_name.specs.Fingerprint.{by_bytes, fingerprint, first_word, mixed}
+use Rattle.gm_name.specs.Fingerprint.{by_bytes, fingerprint, first_eight, mixed}
 
-pub after_word : (number : ℕ) (xs : List ℕ) → 8 ≤ length xs → fingerprint (mixed number (first_word xs)) (drop 8 xs) ≡ fingerprint number xs
-after_word number [] many = absurd (omega (arith, many))
-after_word number (a ∷ []) many = absurd (omega (arith, many))
-after_word number (a ∷ b ∷ []) many = absurd (omega (arith, many))
-after_word number (a ∷ b ∷ c ∷ []) many = absurd (omega (arith, many))
-after_word number (a ∷ b ∷ c ∷ d ∷ []) many = absurd (omega (arith, many))
-after_word number (a ∷ b ∷ c ∷ d ∷ e ∷ []) many = absurd (omega (arith, many))
-after_word number (a ∷ b ∷ c ∷ d ∷ e ∷ f ∷ []) many = absurd (omega (arith, many))
-after_word number (a ∷ b ∷ c ∷ d ∷ e ∷ f ∷ g ∷ []) many = absurd (omega (arith, many))
-after_word number (a ∷ b ∷ c ∷ d ∷ e ∷ f ∷ g ∷ h ∷ rest) many = refl
+pub after_eight : (number : ℕ) (xs : List ℕ) → 8 ≤ length xs → fingerprint (mixed number (first_eight xs)) (drop 8 xs) ≡ fingerprint number xs
+after_eight number [] many = absurd (omega (arith, many))
+after_eight number (a ∷ []) many = absurd (omega (arith, many))
+after_eight number (a ∷ b ∷ []) many = absurd (omega (arith, many))
+after_eight number (a ∷ b ∷ c ∷ []) many = absurd (omega (arith, many))
+after_eight number (a ∷ b ∷ c ∷ d ∷ []) many = absurd (omega (arith, many))
+after_eight number (a ∷ b ∷ c ∷ d ∷ e ∷ []) many = absurd (omega (arith, many))
+after_eight number (a ∷ b ∷ c ∷ d ∷ e ∷ f ∷ []) many = absurd (omega (arith, many))
+after_eight number (a ∷ b ∷ c ∷ d ∷ e ∷ f ∷ g ∷ []) many = absurd (omega (arith, many))
+after_eight number (a ∷ b ∷ c ∷ d ∷ e ∷ f ∷ g ∷ h ∷ rest) many = refl
 
 pub no_word : (number : ℕ) (xs : List ℕ) → length xs < 8 → by_bytes number xs ≡ fingerprint number xs
 no_word number [] few = refl

@@ -11,8 +11,8 @@ abbrev pub mixed : ℕ → ℕ → ℕ
 mixed number word = folded (bit_xor number word * 11400714819323198485 % 2 ^ 64)
 
 -- the number of the first eight bytes, the first one lowest
-abbrev pub first_word : List ℕ → ℕ
-first_word xs = from_le_bytes w64 (slice_index xs 0 ∷ slice_index xs 1 ∷ slice_index xs 2 ∷ slice_index xs 3
+abbrev pub first_eight : List ℕ → ℕ
+first_eight xs = from_le_bytes w64 (slice_index xs 0 ∷ slice_index xs 1 ∷ slice_index xs 2 ∷ slice_index xs 3
     ∷ slice_index xs 4 ∷ slice_index xs 5 ∷ slice_index xs 6 ∷ slice_index xs 7 ∷ [])
 
 -- each byte as a word
@@ -23,5 +23,5 @@ by_bytes number (byte ∷ rest) = by_bytes (mixed number byte) rest
 -- each eight bytes as a word, and then each byte that is left
 abbrev pub fingerprint : ℕ → List ℕ → ℕ
 fingerprint number (a ∷ b ∷ c ∷ d ∷ e ∷ f ∷ g ∷ h ∷ rest) =
-    fingerprint (mixed number (first_word (a ∷ b ∷ c ∷ d ∷ e ∷ f ∷ g ∷ h ∷ []))) rest
+    fingerprint (mixed number (first_eight (a ∷ b ∷ c ∷ d ∷ e ∷ f ∷ g ∷ h ∷ []))) rest
 fingerprint number rest = by_bytes number rest

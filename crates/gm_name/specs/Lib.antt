@@ -1,8 +1,10 @@
+pub mod Cuts
 pub mod Element
 pub mod Fingerprint
 pub mod Fit
 pub mod Kept
 pub mod Laws
+pub mod Lines
 pub mod NameText
 pub mod Names
 pub mod Number

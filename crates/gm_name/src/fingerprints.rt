@@ -1,7 +1,7 @@
 //! Fingerprints of texts: hashes to look names up by, because numbers compare faster than texts.
 
 ghost use Rattle.std.specs.Prelude.{◌≡◌, ◌≤◌, drop, length};
-ghost use Rattle.gm_name.specs.Fingerprint.{by_bytes, fingerprint, first_word, mixed};
+ghost use Rattle.gm_name.specs.Fingerprint.{by_bytes, fingerprint, first_eight, mixed};
 
 /// A 64-bit hash of a text's bytes, computed from the number `start`. To hash two texts in a row, pass the first one's
 /// fingerprint as the `start` of the second.
@@ -15,16 +15,16 @@ pub fn fingerprint(start: u64, text: &str) -> u64
     let mut number = start;
     let mut rest = text.as_bytes();
     'words: while rest.len() >= 8 {
-        number = mixed(number, first_word(rest));
-        rest = after_word(rest);
+        number = mixed(number, first_eight(rest));
+        rest = after_eight(rest);
     }
     by_bytes(number, rest)
 }
 
 /// The number of the first eight bytes, the first one lowest.
-fn first_word(bytes: &[u8]) -> u64
+fn first_eight(bytes: &[u8]) -> u64
     requires { 8 ≤ length bytes.now }
-    ensures { result ≡ first_word bytes.now }
+    ensures { result ≡ first_eight bytes.now }
 {
     u64::from_le_bytes([
         bytes[0], bytes[1], bytes[2], bytes[3], bytes[4], bytes[5], bytes[6], bytes[7],
@@ -32,7 +32,7 @@ fn first_word(bytes: &[u8]) -> u64
 }
 
 /// What follows the first eight bytes.
-fn after_word(bytes: &[u8]) -> &[u8]
+fn after_eight(bytes: &[u8]) -> &[u8]
     requires { 8 ≤ length bytes.now }
     ensures { result.now ≡ drop 8 bytes.now }
 {

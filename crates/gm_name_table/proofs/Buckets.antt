@@ -7,14 +7,14 @@ use Rattle.std.proofs.Math.Nat.{mul_assoc, mul-suc, mul-zero}
 use Rattle.std.proofs.lemmas.Bool.{cases_eq, cases_lt, ne_eqb}
 use Rattle.std.proofs.lemmas.List.{length-set, get_or-set_same}
 use Rattle.std.proofs.lemmas.Option.{get_or_from_slice_get, slice_get_past, slice_get_read, slice_get_within}
-use Rattle.gm_name_table.specs.declared.bucket.Bucket.{Bucket}
+use Rattle.gm_name_table.specs.declared.bucket.ModuleBucket.{ModuleBucket}
 use Rattle.gm_name_table.specs.Buckets.{AreParts, HasNone, bucket_of, held_at, held_in, number_in}
 
 -- Empty buckets hold nothing.
-pub nothing_held : (buckets : List Bucket) → All HasNone buckets → (n : ℕ) → held_in buckets n ≡ None
+pub nothing_held : (buckets : List ModuleBucket) → All HasNone buckets → (n : ℕ) → held_in buckets n ≡ None
 nothing_held buckets none n = by_bucket (slice_get buckets (bucket_of n (length buckets))) refl
   where
-    by_bucket : (o : Option Bucket) → slice_get buckets (bucket_of n (length buckets)) ≡ o → option_and_then (λ bucket. number_in bucket.slots n) o ≡ None
+    by_bucket : (o : Option ModuleBucket) → slice_get buckets (bucket_of n (length buckets)) ≡ o → option_and_then (λ bucket. number_in bucket.slots n) o ≡ None
     by_bucket None e = refl
     by_bucket (Some bucket) e =
         let at = bucket_of n (length buckets) in
@@ -33,12 +33,12 @@ elsewhere (y ∷ ys) (suc i) zero x apart = refl
 elsewhere (y ∷ ys) (suc i) (suc j) x apart = elsewhere ys i j x (λ e. apart (ap suc e))
 
 -- What the bucket at a place holds is what they hold there.
-pub held_there : (buckets : List Bucket) (old : Bucket) (at n : ℕ) → at < length buckets → old ≡ get_or buckets at old → held_at buckets at n ≡ number_in old.slots n
+pub held_there : (buckets : List ModuleBucket) (old : ModuleBucket) (at n : ℕ) → at < length buckets → old ≡ get_or buckets at old → held_at buckets at n ≡ number_in old.slots n
 held_there buckets old at n within is =
-    ap (λ (o : Option Bucket). option_and_then (λ bucket. number_in bucket.slots n) o) (slice_get_read buckets (length buckets) at old refl within is)
+    ap (λ (o : Option ModuleBucket). option_and_then (λ bucket. number_in bucket.slots n) o) (slice_get_read buckets (length buckets) at old refl within is)
 
 -- A place that is put in the bucket of its number is put in all.
-pub put_in : (buckets : List Bucket) (old new : Bucket) (at number place : ℕ) → at ≡ bucket_of number (length buckets) → at < length buckets → old ≡ get_or buckets at old
+pub put_in : (buckets : List ModuleBucket) (old new : ModuleBucket) (at number place : ℕ) → at ≡ bucket_of number (length buckets) → at < length buckets → old ≡ get_or buckets at old
     → ((n : ℕ) → number_in new.slots n ≡ cond (nat_eq number n) (Some place) (number_in old.slots n))
     → (n : ℕ) → held_in (set buckets at new) n ≡ cond (nat_eq number n) (Some place) (held_in buckets n)
 put_in buckets old new at number place chosen within is puts n =
@@ -48,13 +48,13 @@ put_in buckets old new at number place chosen within is puts n =
     here : at ≡ bucket_of n (length buckets) → held_at (set buckets at new) (bucket_of n (length buckets)) n ≡ cond (nat_eq number n) (Some place) (held_in buckets n)
     here same =
         subst (λ (m : ℕ). held_at (set buckets at new) m n ≡ cond (nat_eq number n) (Some place) (held_at buckets m n)) same
-        (ap (λ (o : Option Bucket). option_and_then (λ bucket. number_in bucket.slots n) o) (there buckets at new within)
+        (ap (λ (o : Option ModuleBucket). option_and_then (λ bucket. number_in bucket.slots n) o) (there buckets at new within)
         ∙ puts n
         ∙ ap (λ (o : Option ℕ). cond (nat_eq number n) (Some place) o) (sym (held_there buckets old at n within is)))
 
     other : (at ≡ bucket_of n (length buckets) → ⊥) → held_at (set buckets at new) (bucket_of n (length buckets)) n ≡ cond (nat_eq number n) (Some place) (held_in buckets n)
     other apart =
-        ap (λ (o : Option Bucket). option_and_then (λ bucket. number_in bucket.slots n) o) (elsewhere buckets at (bucket_of n (length buckets)) new apart)
+        ap (λ (o : Option ModuleBucket). option_and_then (λ bucket. number_in bucket.slots n) o) (elsewhere buckets at (bucket_of n (length buckets)) new apart)
         ∙ sym (ap (λ (b : Bool). cond b (Some place) (held_in buckets n))
         (ne_eqb number n (λ same. apart (chosen ∙ ap (λ (m : ℕ). bucket_of m (length buckets)) same))))
 
@@ -66,7 +66,7 @@ half n many = ap (λ (m : ℕ). m / 4294967296 / 2) (sym (mul_assoc n many 2)) �
     halved m = omega arith
 
 -- Buckets that were divided hold the same.
-pub divided : (buckets parts : List Bucket) (many : ℕ) → many ≡ length buckets * 2 → length parts ≡ many → AreParts buckets many parts
+pub divided : (buckets parts : List ModuleBucket) (many : ℕ) → many ≡ length buckets * 2 → length parts ≡ many → AreParts buckets many parts
     → (n : ℕ) → held_in parts n ≡ held_in buckets n
 divided buckets parts many twice all are n =
     let at = bucket_of n many in
@@ -76,8 +76,8 @@ divided buckets parts many twice all are n =
     ∙ elim (cases_lt at (length parts)) [
       | inl within ↦ are at n within refl
       | inr past ↦
-          ap (λ (o : Option Bucket). option_and_then (λ bucket. number_in bucket.slots n) o) (slice_get_past parts at past)
-          ∙ sym (ap (λ (o : Option Bucket). option_and_then (λ bucket. number_in bucket.slots n) o) (slice_get_past buckets (at / 2) (omega (arith, past, all, twice))))
+          ap (λ (o : Option ModuleBucket). option_and_then (λ bucket. number_in bucket.slots n) o) (slice_get_past parts at past)
+          ∙ sym (ap (λ (o : Option ModuleBucket). option_and_then (λ bucket. number_in bucket.slots n) o) (slice_get_past buckets (at / 2) (omega (arith, past, all, twice))))
     ]
     ∙ ap (λ (m : ℕ). held_at buckets m n) halved
 

@@ -8,9 +8,9 @@ use Rattle.std.proofs.lemmas.Bool.{eq-eqb, eqb-true}
 use Rattle.gm_name.specs.PairOrder.{pair_cmp}
 use Rattle.gm_name_table.specs.Index.{IsIndexOf, tag_of}
 use Rattle.gm_name_table.specs.Lists.{IsAbsent, Pair}
-use Rattle.gm_name_table.specs.Marks.{IsMarked, KeepsMarks}
+use Rattle.gm_name_table.specs.TagMarks.{IsMarked, KeepsMarks}
 use Rattle.gm_name_table.specs.Tags.{HasSame, PutsUnder, number_under}
-use Rattle.gm_name_table.specs.declared.marks.Marks.{Marks}
+use Rattle.gm_name_table.specs.declared.tag_marks.TagMarks.{TagMarks}
 use Rattle.gm_name_table.specs.declared.tags.Tags.{Tags}
 use Rattle.gm_name_table.proofs.Lists.{kept, last, old-or-last, still-distinct}
 use Rattle.gm_name_table.proofs.Pairs.{pair-tie}
@@ -25,7 +25,7 @@ put-apart n m i place old new puts none is = by-test (nat_eq n m) refl
     by-test false e = puts ∙ ap (λ (b : Bool). cond b (Some place) old) e ∙ is
 
 -- One more module, under its tag, which had no number.
-pub added-first : (old new : Tags) (others : BTreeMap Pair ℕ) (marks : Marks) (pairs : List Pair) (pair : Pair)
+pub added-first : (old new : Tags) (others : BTreeMap Pair ℕ) (marks : TagMarks) (pairs : List Pair) (pair : Pair)
     → IsIndexOf (record { first = old; others = others; marks = marks }) pairs → IsAbsent pairs pair
     → number_under old (tag_of pair) ≡ None → PutsUnder old new (tag_of pair) (length pairs)
     → IsIndexOf (record { first = new; others = others; marks = marks }) (pairs ++ pair ∷ [])
@@ -54,7 +54,7 @@ added-first old new others marks pairs pair is absent none puts = record {
         ∙ ap (λ (j : ℕ). Some j) (sym end))
 
 -- One more module among the others, with a mark at its tag.
-pub added-other : (first : Tags) (old new : BTreeMap Pair ℕ) (marks : Marks) (pairs : List Pair) (pair : Pair)
+pub added-other : (first : Tags) (old new : BTreeMap Pair ℕ) (marks : TagMarks) (pairs : List Pair) (pair : Pair)
     → IsIndexOf (record { first = first; others = old; marks = marks }) pairs
     → IsAbsent pairs pair → IsMarked marks (tag_of pair)
     → ((p : Pair)
@@ -101,7 +101,7 @@ added-other first old new marks pairs pair is absent marked puts = record {
         ∙ ap (λ (j : ℕ). Some j) (sym end))
 
 -- Tags that hold the same, and as many marks or more, are as good.
-pub same-first : (old new : Tags) (others : BTreeMap Pair ℕ) (marks more : Marks) (pairs : List Pair)
+pub same-first : (old new : Tags) (others : BTreeMap Pair ℕ) (marks more : TagMarks) (pairs : List Pair)
     → IsIndexOf (record { first = old; others = others; marks = marks }) pairs
     → HasSame old new → KeepsMarks marks more
     → IsIndexOf (record { first = new; others = others; marks = more }) pairs

@@ -5,7 +5,7 @@ use Rattle.std.specs.List.{IsDistinct}
 use Rattle.gm_name.specs.Fingerprint.{fingerprint}
 use Rattle.gm_name.specs.PairOrder.{pair_cmp, pair_eq}
 use Rattle.gm_name_table.specs.Lists.{Pair}
-use Rattle.gm_name_table.specs.Marks.{IsMarked}
+use Rattle.gm_name_table.specs.TagMarks.{IsMarked}
 use Rattle.gm_name_table.specs.Tags.{number_under}
 use Rattle.gm_name_table.specs.declared.index.Index.{Index}
 

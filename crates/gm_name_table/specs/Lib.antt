@@ -2,5 +2,5 @@ pub mod Buckets
 pub mod Index
 pub mod Listed
 pub mod Lists
-pub mod Marks
+pub mod TagMarks
 pub mod Tags

@@ -4,7 +4,7 @@ ghost use Rattle.std.specs.Prelude.{◌≡◌, ◌<◌, ◌↔◌, ◌++◌, ◌
 ghost use Rattle.gm_name_table.specs.Index.{IsIndexOf, tag_of};
 ghost use Rattle.gm_name_table.specs.Lists.{IsAbsent};
 
-use crate::marks::Marks;
+use crate::tag_marks::TagMarks;
 use crate::tags::Tags;
 use gm_name::{ModVer, NoMemory, fingerprint};
 use std::alloc::Global;
@@ -19,7 +19,7 @@ pub(crate) struct Index {
     /// The places of the others: those whose tag was another module's, or whose bucket was full.
     others: BTreeMap<ModVer, u32>,
     /// Marks at the tags of the others, so that most modules that aren't in the list are known so without a search.
-    marks: Marks,
+    marks: TagMarks,
 }
 
 /// The tag of a module: the high half of its fingerprint.
@@ -55,7 +55,7 @@ impl Index {
         Index {
             first: Tags::new(alloc),
             others: BTreeMap::new(alloc),
-            marks: Marks::new(alloc),
+            marks: TagMarks::new(alloc),
         }
     }
 

@@ -6,6 +6,7 @@ ghost use Rattle.std.specs.List.{IsDistinct};
 ghost use Rattle.gm_name.specs.PairOrder.{pair_eq};
 ghost use Rattle.gm_name.specs.Readings.{PairReading};
 ghost use Rattle.gm_name_table.specs.Listed.{Appends, AreModuleNumbers, listed, module_at, modules_at, part};
+ghost use Rattle.gm_name_table.specs.Lists.{IsOneMoreAtMost};
 
 use crate::module_table::ModuleTable;
 use gm_name::{ModVer, NoMemory};
@@ -78,6 +79,7 @@ impl ModuleList {
         ensures read { IfOk result (λ is_known. is_known ≡ true
             → PairReading path.now version.now (Ok (path.now, version.now))) }
         ensures unknown { IfOk result (λ is_known. is_known ≡ false → self.new ≡ self.old) }
+        ensures modules { self.new.modules ≡ self.old.modules }
         ensures err { OnErr result (self.new ≡ self.old) }
     {
         match self.table.find_texts(path, version) {
@@ -93,6 +95,7 @@ impl ModuleList {
     /// then.
     pub fn push(&mut self, pair: &ModVer) -> Result<(), NoMemory>
         ensures ok { OnOk result (Appends self.old self.new (pair.now ∷ [])) }
+        ensures only { IsOneMoreAtMost self.old.modules self.new.modules pair.now }
         ensures err { OnErr result (Appends self.old self.new []) }
     {
         let number = self.table.number(pair)?;

@@ -8,7 +8,7 @@
 ghost use Rattle.std.specs.Prelude.{◌≡◌, ◌≤◌, ◌<◌, ◌*◌, ℕ, IfOk, None, Ok, OnErr, OnOk, false, length, true};
 ghost use Rattle.gm_name_table.specs.Buckets.{held_in};
 
-use crate::bucket::{Bucket, bucket_of};
+use crate::bucket::{ModuleBucket, bucket_of};
 use gm_name::NoMemory;
 use std::alloc::Global;
 
@@ -24,26 +24,26 @@ pub(crate) struct Tags {
     /// The allocator of the buckets.
     alloc: Global,
     /// The buckets: none before the first number.
-    buckets: Vec<Bucket>,
+    buckets: Vec<ModuleBucket>,
     /// How many numbers there are. It decides when there are more buckets.
     count: usize,
     ghost few: { length buckets.items ≤ 4294967296 },
 }
 
 /// The buckets for the first number, all empty.
-fn first_buckets(alloc: Global) -> Result<Vec<Bucket>, NoMemory>
+fn first_buckets(alloc: Global) -> Result<Vec<ModuleBucket>, NoMemory>
     ensures len { IfOk result (λ buckets. length buckets.items ≡ 64) }
     ensures none { IfOk result (λ buckets. (t : ℕ) → held_in buckets.items t ≡ None) }
 {
     let mut buckets = Vec::with_capacity(alloc, FIRST)?;
     for _ in 0..FIRST {
-        buckets.push(Bucket::new())?;
+        buckets.push(ModuleBucket::new())?;
     }
     Ok(buckets)
 }
 
 /// Twice as many buckets with the same numbers.
-fn doubled(alloc: Global, buckets: &[Bucket]) -> Result<Vec<Bucket>, NoMemory>
+fn doubled(alloc: Global, buckets: &[ModuleBucket]) -> Result<Vec<ModuleBucket>, NoMemory>
     requires { length buckets.now ≤ 2147483648 }
     ensures len { IfOk result (λ doubled. length doubled.items ≡ length buckets.now * 2) }
     ensures same { IfOk result (λ doubled. (t : ℕ) → held_in doubled.items t ≡ held_in buckets.now t) }

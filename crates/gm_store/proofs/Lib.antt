@@ -12,6 +12,5 @@ pub mod DiskStores
 pub mod Walks
 pub mod Greatest
 pub mod Inside
-pub mod FieldLemmas
 pub mod Shown
 pub mod Stops

@@ -14,7 +14,7 @@ use Rattle.std.proofs.lemmas.List.Kept.{Contains-dedup, Contains-from_dedup, IsS
 use Rattle.std.proofs.lemmas.List.Sorted.{Contains-permutation, IsPermutation-sym}
 use Rattle.gm_name.specs.Version.{version_cmp}
 use Rattle.gm_name.specs.VersionOrder.{version_ties, version_total, version-anti}
-use Rattle.gm_store.specs.Lines.{first_word, lines}
+use Rattle.gm_name.specs.Lines.{first_word, lines}
 use Rattle.gm_store.specs.Listed.{AreListed, HoldsListable, IsListable}
 
 Contains-only : (x y : List ℕ) → Contains (x ∷ []) y → x ≡ y

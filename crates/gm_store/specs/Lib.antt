@@ -6,7 +6,6 @@ pub mod Found
 pub mod Asked
 pub mod Held
 pub mod Latest
-pub mod Lines
 pub mod Listed
 pub mod Memory
 pub mod Openings
@@ -22,5 +21,4 @@ pub mod Steps
 pub mod Stops
 pub mod Taken
 pub mod Views
-pub mod Words
 pub mod Written

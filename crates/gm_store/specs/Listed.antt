@@ -5,7 +5,7 @@ use Rattle.std.specs.List.Sorted.{IsStrictlySortedBy}
 use Rattle.gm_name.specs.Fit.{Fits}
 use Rattle.gm_name.specs.Pseudo.{IsPseudo}
 use Rattle.gm_name.specs.Version.{IsVersion, version_cmp}
-use Rattle.gm_store.specs.Lines.{first_word, lines}
+use Rattle.gm_name.specs.Lines.{first_word, lines}
 
 -- a pseudo-version, of any of the three forms
 abbrev pub IsPseudoVersion : List ℕ → Type 0

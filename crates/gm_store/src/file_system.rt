@@ -2,7 +2,7 @@
 
 ghost use Rattle.gm_store.specs.Openings.{MayRead};
 
-use crate::reading::{ReadFault, read_limited};
+use crate::reading::{InputFault, read_limited};
 use std::alloc::Global;
 use std::io::{ErrorKind, Read};
 use std::{fs, io, rt};
@@ -39,12 +39,16 @@ impl<R: rt::Files> FileSystem for R {
 /// Reads the file at a path, or its first `LIMIT + 1` bytes if there are more.
 ///
 /// `Device` is returned if the file can't be opened or read, `NoMemory` if memory runs out.
-pub fn read_file<S: FileSystem>(system: &S, alloc: Global, path: &str) -> Result<Vec<u8>, ReadFault>
+pub fn read_file<S: FileSystem>(
+    system: &S,
+    alloc: Global,
+    path: &str,
+) -> Result<Vec<u8>, InputFault>
     ensures { MayRead (S.may_open system.now path.now) result }
 {
     match system.open(path) {
         Ok(mut file) => read_limited(alloc, &mut file),
-        Err(error) if error.kind() == ErrorKind::OutOfMemory => Err(ReadFault::NoMemory),
-        Err(_) => Err(ReadFault::Device),
+        Err(error) if error.kind() == ErrorKind::OutOfMemory => Err(InputFault::NoMemory),
+        Err(_) => Err(InputFault::Device),
     }
 }

@@ -16,7 +16,6 @@
 //! including those that don't fail a request.
 #![tactic(auto)]
 
-mod blanks;
 mod fallback;
 mod file_system;
 mod files;
@@ -26,7 +25,6 @@ mod reading;
 mod sinks;
 mod versions;
 
-pub use crate::blanks::{Cut, cut_word, first_word};
 pub use crate::fallback::in_memory::MemoryFallback;
 pub use crate::fallback::on_disk::DiskFallback;
 pub use crate::fallback::proxy_list::{Mark, ProxyFault, ProxyList};
@@ -42,7 +40,7 @@ pub use crate::folders::main_folder::folder_of;
 pub use crate::folders::memory_folder::{Held, MemoryFolder};
 pub use crate::folders::on_disk::FoldersOnDisk;
 pub use crate::folders::relative_path::relative_name;
-pub use crate::reading::{LIMIT, ReadFault, read_limited};
+pub use crate::reading::{InputFault, LIMIT, read_limited};
 pub use crate::sinks::memory::MemorySink;
 pub use crate::sinks::writer::StdSink;
 pub use crate::sinks::{Sink, WriteFault, write_all};

@@ -4,7 +4,7 @@
 //! calls.
 
 ghost use Rattle.gm_store.specs.Pieces.{AddsPiece};
-ghost use Rattle.gm_store.specs.declared.reading.ReadFault.TheVariants as read_fault;
+ghost use Rattle.gm_store.specs.declared.reading.InputFault.TheVariants as input_fault;
 ghost use Rattle.std.specs.Prelude.{◌≡◌, ◌+◌, ◌<◌, ◌≤◌, ℕ, length, take, drop, Some, IfOk, IfSome, OnOk, vec_len};
 
 use std::alloc::{AllocError, Global};
@@ -23,9 +23,9 @@ const MOST: usize = 65_536;
 /// The factor by which the next piece is longer than one that was filled.
 const GROWTH: usize = 16;
 
-/// Why reading failed.
+/// Why a file or standard input was not read.
 #[derive(Clone, Copy, Debug, PartialEq, Eq, Error)]
-pub enum ReadFault {
+pub enum InputFault {
     /// Memory ran out.
     #[error("out of memory")]
     NoMemory,
@@ -34,16 +34,16 @@ pub enum ReadFault {
     Device,
 }
 
-impl From<AllocError> for ReadFault {
-    ghost from_gives = { λ _ fault. fault ≡ read_fault.NoMemory };
+impl From<AllocError> for InputFault {
+    ghost from_gives = { λ _ fault. fault ≡ input_fault.NoMemory };
 
-    fn from(_error: AllocError) -> ReadFault {
-        ReadFault::NoMemory
+    fn from(_error: AllocError) -> InputFault {
+        InputFault::NoMemory
     }
 }
 
 /// A buffer of `length` bytes to read a piece into.
-fn piece_of(alloc: Global, length: usize) -> Result<Vec<u8>, ReadFault>
+fn piece_of(alloc: Global, length: usize) -> Result<Vec<u8>, InputFault>
     ensures { IfOk result (λ piece. vec_len piece ≡ length) }
 {
     Ok(vec![in alloc; 0u8; length]?)
@@ -57,12 +57,12 @@ fn read_piece<R: Read>(
     reader: &mut R,
     room: &mut [u8],
     bytes: &mut Vec<u8>,
-) -> Result<usize, ReadFault>
+) -> Result<usize, InputFault>
     ensures { IfOk result (λ count. AddsPiece (R.remaining reader.old) (R.remaining reader.new)
         bytes.old.items bytes.new.items (length room.old) count) }
 {
     let Ok(count) = reader.read(room) else {
-        return Err(ReadFault::Device);
+        return Err(InputFault::Device);
     };
     bytes.extend_from_slice(&room[..count])?;
     Ok(count)
@@ -77,7 +77,7 @@ fn read_next<R: Read>(
     reader: &mut R,
     piece: &mut Vec<u8>,
     bytes: &mut Vec<u8>,
-) -> Result<usize, ReadFault>
+) -> Result<usize, InputFault>
     requires short { length bytes.old.items ≤ LIMIT }
     requires room { 0 < vec_len piece.old }
     ensures adds { IfOk result (λ count. (room : ℕ) × (0 < room) × (length bytes.old.items + room ≤ LIMIT + 1)
@@ -98,7 +98,7 @@ fn read_next<R: Read>(
 ///
 /// `Device` is returned if a read fails or is interrupted; the bytes read before are lost. `NoMemory` is returned
 /// if memory runs out. Each read but the last yields at least one byte, so the loop ends.
-pub fn read_limited<R: Read>(alloc: Global, reader: &mut R) -> Result<Vec<u8>, ReadFault>
+pub fn read_limited<R: Read>(alloc: Global, reader: &mut R) -> Result<Vec<u8>, InputFault>
     ensures bytes { IfOk result (λ bytes. IfSome (R.remaining reader.old) (λ all. bytes.items ≡ take (LIMIT + 1) all)) }
     ensures short { IfOk result (λ bytes. length bytes.items ≤ LIMIT + 1) }
     ensures rest { OnOk result (IfSome (R.remaining reader.old)
@@ -115,7 +115,7 @@ pub(crate) fn read_by_pieces<R: Read>(
     alloc: Global,
     reader: &mut R,
     piece: &mut Vec<u8>,
-) -> Result<Vec<u8>, ReadFault>
+) -> Result<Vec<u8>, InputFault>
     ensures bytes { IfOk result (λ bytes. IfSome (R.remaining reader.old) (λ all. bytes.items ≡ take (LIMIT + 1) all)) }
     ensures short { IfOk result (λ bytes. length bytes.items ≤ LIMIT + 1) }
     ensures rest { OnOk result (IfSome (R.remaining reader.old)

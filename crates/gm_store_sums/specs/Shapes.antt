@@ -1,12 +1,12 @@
 -- The fields of a line, and the hash that a line of a go.sum lists.
 use Rattle.std.specs.Prelude.{◌≡◌, ◌⊎◌, ℕ, nat_eq, true, false, List, [], ◌∷◌, ◌++◌, codes}
 use Rattle.std.specs.List.{starts_with}
-use Rattle.gm_store_sums.specs.declared.sum_lines.Fields.{Fields}
-use Rattle.gm_store_sums.specs.declared.sum_lines.Fields.TheVariants.{Blank, Three, Other}
+use Rattle.gm_store_sums.specs.declared.sum_lines.SumFields.{SumFields}
+use Rattle.gm_store_sums.specs.declared.sum_lines.SumFields.TheVariants.{Blank, Three, Other}
 use Rattle.gm_store_sums.specs.Sums.{are_valid_fields}
 
 -- there are no fields, three fields, or another number of fields
-abbrev pub AreFields : Fields → List (List ℕ) → Type 0
+abbrev pub AreFields : SumFields → List (List ℕ) → Type 0
 AreFields Blank fields = fields ≡ []
 AreFields (Three path version hash) fields = fields ≡ path.now ∷ version.now ∷ hash.now ∷ []
 AreFields Other fields = (are_valid_fields fields ≡ false)

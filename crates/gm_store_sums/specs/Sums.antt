@@ -5,7 +5,7 @@ use Rattle.std.specs.Str.{bytes_eq, is_utf8}
 use Rattle.gm_store_sums.specs.declared.sum_table.Sum.{Sum}
 use Rattle.gm_store_sums.specs.declared.sum_table.Sum.TheVariants.{Good, Unlisted, Differs}
 use Rattle.gm_store_sums.specs.declared.sum_table.SumTable.{SumTable}
-use Rattle.gm_store.specs.Lines.{fields, lines}
+use Rattle.gm_name.specs.Lines.{fields, lines}
 use Rattle.gm_store_sums.specs.Order.{triple}
 
 -- ---- the lines of a go.sum

@@ -17,5 +17,5 @@ mod sum_lines;
 mod sum_table;
 
 pub use crate::hashing::mod_hash;
-pub use crate::sum_table::{Sum, SumFault, SumTable};
+pub use crate::sum_table::{MAX_BYTES, Sum, SumFault, SumTable};
 pub use gm_name::NoMemory;

@@ -2,19 +2,18 @@
 
 ghost use Rattle.std.specs.Prelude.{◌≡◌, ◌≢◌, ◌<◌, ◌≤◌, ℕ, List, length, map, true, Ok, IfNone, IfOk, IfSome, MatchOption};
 ghost use Rattle.std.specs.Str.{is_utf8};
-ghost use Rattle.gm_store.specs.Lines.{fields, lines};
+ghost use Rattle.gm_name.specs.Lines.{fields, lines};
 ghost use Rattle.gm_store_sums.specs.Shapes.{AddsGiven, AreFields, Gives};
 ghost use Rattle.gm_store_sums.specs.Sums.{HasValidLines, HoldsSums, IsFirstInvalid, are_valid_fields, lines_before_invalid};
 ghost use Rattle.gm_store_sums.specs.Order.{triple};
 
 use crate::sum_table::{SumFault, SumLine};
-use gm_name::NoMemory;
-use gm_store::cut_word;
+use gm_name::{NoMemory, cut_word};
 use std::alloc::Global;
 
 /// The fields of a line.
 #[derive(Clone, Copy)]
-pub(crate) enum Fields<'a> {
+pub(crate) enum SumFields<'a> {
     /// The line has no fields.
     Blank,
     /// The line has three fields: the path, the version and the hash.
@@ -24,26 +23,26 @@ pub(crate) enum Fields<'a> {
 }
 
 /// Splits a line into its fields.
-fn fields_of(line: &[u8]) -> Fields<'_>
+fn fields_of(line: &[u8]) -> SumFields<'_>
     ensures { AreFields result (fields line.now) }
 {
     let path = cut_word(line);
     if path.word.is_empty() {
-        return Fields::Blank;
+        return SumFields::Blank;
     }
     let version = cut_word(path.rest);
     if version.word.is_empty() {
-        return Fields::Other;
+        return SumFields::Other;
     }
     let hash = cut_word(version.rest);
     if hash.word.is_empty() {
-        return Fields::Other;
+        return SumFields::Other;
     }
     let more = cut_word(hash.rest);
     if !more.word.is_empty() {
-        return Fields::Other;
+        return SumFields::Other;
     }
-    Fields::Three(path.word, version.word, hash.word)
+    SumFields::Three(path.word, version.word, hash.word)
 }
 
 /// Whether a field is UTF-8.
@@ -54,13 +53,13 @@ fn is_text(word: &[u8]) -> bool
 }
 
 /// Whether the fields of a line are none or three of UTF-8.
-fn are_valid(found: Fields<'_>) -> bool
+fn are_valid(found: SumFields<'_>) -> bool
     ensures { (words : List (List ℕ)) → AreFields found.entry words → result ≡ are_valid_fields words }
 {
     match found {
-        Fields::Blank => true,
-        Fields::Three(path, version, hash) => is_text(path) && is_text(version) && is_text(hash),
-        Fields::Other => false,
+        SumFields::Blank => true,
+        SumFields::Three(path, version, hash) => is_text(path) && is_text(version) && is_text(hash),
+        SumFields::Other => false,
     }
 }
 
@@ -88,13 +87,13 @@ pub(crate) fn fault_of(text: &[u8]) -> SumFault
 
 /// The hash that the fields of a line list for a module's go.mod, or `None` if they list none. Hashes of other kinds
 /// than `h1:` are skipped.
-fn sum_in(found: Fields<'_>) -> Option<SumLine<'_>>
+fn sum_in(found: SumFields<'_>) -> Option<SumLine<'_>>
     ensures some { (words : List (List ℕ)) → AreFields found.entry words
         → IfSome result (λ sum. Gives words sum.path.now sum.version.now sum.hash.now) }
     ensures none { (words : List (List ℕ)) → AreFields found.entry words
         → IfNone result ((path version hash : List ℕ) → ¬ (Gives words path version hash)) }
 {
-    let Fields::Three(path, version, hash) = found else {
+    let SumFields::Three(path, version, hash) = found else {
         return None;
     };
     let version = version.strip_suffix(b"/go.mod".as_slice())?;

@@ -12,10 +12,12 @@ ghost use Rattle.gm_store_sums.specs.declared.sum_table.SumFault.TheVariants.{No
 use crate::hashing::hash_bytes;
 use crate::sum_lines::{fault_of, sums_of};
 use gm_name::{ModPath, ModVersion};
-use gm_store::LIMIT;
 use std::alloc::{AllocError, Global};
 use std::cmp::Ordering;
 use thiserror::Error;
+
+/// The greatest length of a go.sum, in bytes: 16 MiB. Who cuts off long files must let more than this through.
+pub const MAX_BYTES: usize = 16_777_216;
 
 /// Why `SumTable::read` returned no table.
 #[derive(Clone, Copy, Debug, PartialEq, Eq, Error)]
@@ -23,7 +25,7 @@ pub enum SumFault {
     /// Memory ran out.
     #[error("out of memory")]
     NoMemory,
-    /// The text has more than `LIMIT` bytes.
+    /// The text has more than 16,777,216 bytes (`MAX_BYTES`).
     #[error("too many bytes")]
     TooMany,
     /// The line of this number, counted from 1, is the first that is neither blank nor three fields of UTF-8.
@@ -75,17 +77,17 @@ impl<'a> SumTable<'a> {
     /// The table of a go.sum (Go Modules Reference, go.sum files). Blank lines are skipped, and so are the
     /// hashes of whole modules and those that don't begin with `h1:`.
     ///
-    /// `TooMany` exactly when the text has more than `LIMIT` bytes, whatever its lines. Otherwise `BadSum` with
+    /// `TooMany` exactly when the text has more than `MAX_BYTES` bytes, whatever its lines. Otherwise `BadSum` with
     /// the number of the first line that is neither blank nor three fields of UTF-8. `NoMemory` only if the
     /// text has neither fault.
     pub fn read(alloc: Global, text: &'a [u8]) -> Result<SumTable<'a>, SumFault>
         ensures ok { IfOk result (λ table. ReadsAs table text.now) }
         ensures good { OnOk result (HasValidLines text.now) }
-        ensures too_many { (result ≡ Err SumFault.TooMany) ↔ (LIMIT < length text.now) }
+        ensures too_many { (result ≡ Err SumFault.TooMany) ↔ (MAX_BYTES < length text.now) }
         ensures bad { (number : ℕ) → result ≡ Err (SumFault.BadSum number) → IsFirstInvalid text.now number }
         ensures no_memory { result ≡ Err SumFault.NoMemory → HasValidLines text.now }
     {
-        if text.len() > LIMIT {
+        if text.len() > MAX_BYTES {
             return Err(SumFault::TooMany);
         }
         let Ok(Some(mut lines)) = sums_of(alloc, text) else {

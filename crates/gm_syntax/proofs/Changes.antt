@@ -5,10 +5,9 @@ use Rattle.std.specs.List.{list_all}
 use Rattle.std.proofs.lemmas.Bool.{cases_Bool, true≢false}
 use Rattle.std.proofs.lemmas.List.{take-append-drop, drop-drop}
 use Rattle.gm_syntax.specs.declared.fault.SyntaxKind.TheVariants.{StrayClose, NestedOpen}
-use Rattle.gm_syntax.specs.declared.place.Place.{Place}
 use Rattle.gm_syntax.specs.Words.{Word}
 use Rattle.gm_syntax.specs.Spelling.{IsSuffix}
-use Rattle.gm_syntax.specs.Document.{Line, Blank, Comment, Open, Close, Entry, is_alone, ends_open, opens_block, begins_close, class_of, is_bare, is_mark, inside_after, inside_after_all, is_level, IsValidLine, IsEntry, AreLines, IsDocument, start, after, without}
+use Rattle.gm_syntax.specs.Document.{Line, Blank, Comment, Open, Close, Entry, is_alone, ends_open, opens_block, begins_close, class_of, is_bare, is_mark, inside_after, inside_after_all, is_level, IsValidLine, IsEntry, AreLines, IsDocument, start, after, without, Place}
 use Rattle.gm_syntax.proofs.Classing.{class_blank, class_comment, class_inside_entry, class_entry}
 use Rattle.gm_syntax.proofs.Stable.{line_ok, same_ok, not_ok, and_both, after_inside, words_are_spelled, good_parts, from_words}
 

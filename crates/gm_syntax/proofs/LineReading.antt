@@ -6,11 +6,10 @@ use Rattle.gm_syntax.specs.declared.fault.LineFault.TheVariants as faults
 use Rattle.gm_syntax.specs.declared.fault.SyntaxKind.TheVariants.{OpenBlock}
 use Rattle.gm_syntax.specs.declared.fault.SyntaxFault.TheVariants as syntax
 use Rattle.gm_syntax.specs.declared.line.Line as declared
-use Rattle.gm_syntax.specs.declared.place.Place.{Place}
 use Rattle.gm_syntax.specs.Words.{Word}
 use Rattle.gm_syntax.specs.Lines.{lines_of, HasNoLineFeed}
 use Rattle.gm_syntax.specs.Tokens.{Placed, AreSlicesBetween, AreNumbered}
-use Rattle.gm_syntax.specs.Document.{Line, start, after}
+use Rattle.gm_syntax.specs.Document.{Line, start, after, Place}
 use Rattle.gm_syntax.specs.LineViews.{line_of, plain, plain_lines, tokens_of, all_tokens}
 use Rattle.gm_syntax.specs.Placing.{FillsLine, FillLines}
 use Rattle.gm_syntax.specs.Parsed.{IsText, IsParsedAs}

@@ -3,7 +3,6 @@ use Rattle.std.proofs.Common.{◌≡◌, ℕ, ◌+◌, Bool, false, List, [], �
 use Rattle.std.specs.List.{AllByRecursion}
 use Rattle.std.proofs.lemmas.Bool.{true≢false}
 use Rattle.std.proofs.lemmas.List.{append_cancel_left}
-use Rattle.gm_syntax.specs.declared.place.Place.{Place}
 use Rattle.gm_syntax.specs.declared.word.Span.{Span}
 use Rattle.gm_syntax.specs.declared.word.Kind.{Kind}
 use Rattle.gm_syntax.specs.declared.word.Kind.TheVariants.{Bare, Text, Mark}
@@ -12,7 +11,7 @@ use Rattle.gm_syntax.specs.Words.{Word, AllBlank, HasShape, IsShaped, escaped_va
 use Rattle.gm_syntax.specs.Lines.{lines_of}
 use Rattle.gm_syntax.specs.Tokens.{Placed, words_of}
 use Rattle.gm_syntax.specs.Spelling.{Ending, Reads, ending_of}
-use Rattle.gm_syntax.specs.Document.{Line, Blank, Comment, Open, Close, Entry, Finish, Whole, IsLineAt, ReadsLines, start, after}
+use Rattle.gm_syntax.specs.Document.{Line, Blank, Comment, Open, Close, Entry, Finish, Whole, IsLineAt, ReadsLines, start, after, Place}
 use Rattle.gm_syntax.specs.LineViews.{plain, plain_lines, tokens_of, all_tokens}
 use Rattle.gm_syntax.specs.Parsed.{IsParsedAs}
 use Rattle.gm_syntax.specs.Placing.{IsNextWord, FillText, FillsLine, FillLines, line_feeds, IsLineCounted, IsPlacedIn}

@@ -6,12 +6,11 @@ use Rattle.gm_syntax.specs.declared.fault.SyntaxKind.{SyntaxKind}
 use Rattle.gm_syntax.specs.declared.fault.SyntaxKind.TheVariants.{StrayClose, NestedOpen, OpenBlock}
 use Rattle.gm_syntax.specs.declared.fault.SyntaxFault.{SyntaxFault}
 use Rattle.gm_syntax.specs.declared.fault.SyntaxFault.TheVariants as faults
-use Rattle.gm_syntax.specs.declared.place.Place.{Place}
 use Rattle.gm_syntax.specs.Words.{Word}
 use Rattle.gm_syntax.specs.Tokens.{Placed}
 use Rattle.gm_syntax.specs.Lines.{lines_of}
 use Rattle.gm_syntax.specs.Spelling.{Fault, Reads, IsSpelledBy}
-use Rattle.gm_syntax.specs.Document.{Line, Open, Close, Entry, ends_open, opens_block, begins_close, is_alone, Finish, Whole, Faulty, class_of, IsLineAt, HasLineFault, ReadsLines, start, after}
+use Rattle.gm_syntax.specs.Document.{Line, Open, Close, Entry, ends_open, opens_block, begins_close, is_alone, Finish, Whole, Faulty, class_of, IsLineAt, HasLineFault, ReadsLines, start, after, Place}
 use Rattle.gm_syntax.specs.LineViews.{plain_lines}
 use Rattle.gm_syntax.specs.Parsed.{IsParsedAs}
 use Rattle.gm_syntax.specs.Reader.{IsOnlyText}

@@ -7,19 +7,17 @@ ghost use Rattle.gm_syntax.specs.LineViews.{line_of, tokens_of};
 ghost use Rattle.gm_syntax.specs.Lines.{line_len, lines_of, HasNoLineFeed};
 ghost use Rattle.gm_syntax.specs.Parsed.{IsParsedAs};
 ghost use Rattle.gm_syntax.specs.Placing.{FillsLine};
-ghost use Rattle.gm_syntax.specs.Document.{Line as LineOf, Blank, Close};
+ghost use Rattle.gm_syntax.specs.Document.{Line as LineOf};
 ghost use Rattle.gm_syntax.specs.Reader.{IsLineReadAs};
 ghost use Rattle.gm_syntax.specs.LineReading.{HasRead, IsNextRead, IsRestRead};
-ghost use Rattle.gm_syntax.specs.Pairs.{IsOpeningRead, IsPairRead, IsTripleRead};
+ghost use Rattle.gm_syntax.specs.SimpleLines.{IsSimpleRead};
 
 use crate::fault::{LineFault, SyntaxFault, SyntaxKind};
 use crate::line::{Line, classify};
-use crate::pair::{is_closing, opening_in, pair_after, pair_in};
 use crate::place::Place;
 use crate::reader::read_line;
-use crate::scan::begins_line_feed;
+use crate::simple_line::{SimpleLine, simple_line};
 use crate::token::Token;
-use crate::word::Kind;
 use memchr::memchr;
 use std::alloc::Global;
 use std::marker::Model;
@@ -97,9 +95,9 @@ impl<'a> LineReader<'a> {
         ensures err { OnErr result (self.new ≡ self.old) }
     {
         if self.rest.is_empty() {
-            if self.place.inside {
+            if self.place.is_inside() {
                 return Err(SyntaxFault::Syntax {
-                    line: self.place.opened,
+                    line: self.place.opened(),
                     kind: SyntaxKind::OpenBlock,
                 });
             }
@@ -113,122 +111,31 @@ impl<'a> LineReader<'a> {
                 self.rest = after;
                 Ok(Some(line))
             }
-            Err(fault) => Err(fault.at_line(self.place.number)),
+            Err(fault) => Err(fault.at_line(self.place.number())),
         }
     }
 
-    /// The words of the next line, where that consists of two bare words, perhaps with a comment. It takes a fraction
-    /// of the time of `next`, and no memory.
+    /// The next line, if it is simple: an empty one, one of two bare words or of this verb and two, an opening of a block
+    /// of this verb, or a closing parenthesis alone. It takes a fraction of the time of `next`, and no memory.
     ///
-    /// `None`, and a reader that is unchanged, for every other line, and for some unusual lines of two bare words:
-    /// `next` reads these.
-    pub fn next_pair(&mut self) -> Option<(&'a str, &'a str)>
-        ensures pair { IfSome result (λ words. (lines : List (LineOf Placed)) → HasRead self.old lines
-            → IsPairRead self.new lines words.0.now words.1.now) }
+    /// `None`, and a reader that is unchanged, for every other line, for some unusual lines of these forms, and after the
+    /// last line: `next` reads these.
+    pub fn next_simple(&mut self, verb: &str) -> Option<SimpleLine<'a>>
+        ensures read { IfSome result (λ line. (lines : List (LineOf Placed)) → HasRead self.old lines
+            → IsSimpleRead self.new lines verb.now line) }
         ensures source { self.new.source ≡ self.old.source }
-        ensures shorter { IfSome result (λ words. length self.new.rest < length self.old.rest) }
+        ensures shorter { IfSome result (λ line. length self.new.rest < length self.old.rest) }
         ensures none { IfNone result (self.new ≡ self.old) }
     {
         if self.rest.is_empty() {
             return None;
         }
-        let (front, after) = split_first_line(self.rest);
-        let pair = pair_in(front)?;
-        self.place.number += 1;
-        self.rest = after;
-        Some(pair)
-    }
-
-    /// The two bare words after this verb, where the next line consists of the three, perhaps with a comment. It takes
-    /// a fraction of the time of `next`, and no memory.
-    ///
-    /// `None`, and a reader that is unchanged, for every other line, and for some unusual lines of three bare words:
-    /// `next` reads these.
-    pub fn next_pair_after(&mut self, verb: &str) -> Option<(&'a str, &'a str)>
-        ensures pair { IfSome result (λ words. (lines : List (LineOf Placed)) → HasRead self.old lines
-            → IsTripleRead self.new lines verb.now words.0.now words.1.now) }
-        ensures source { self.new.source ≡ self.old.source }
-        ensures shorter { IfSome result (λ words. length self.new.rest < length self.old.rest) }
-        ensures none { IfNone result (self.new ≡ self.old) }
-    {
-        if self.rest.is_empty() {
-            return None;
-        }
-        let (front, after) = split_first_line(self.rest);
-        let pair = pair_after(verb, front)?;
-        self.place.number += 1;
-        self.rest = after;
-        Some(pair)
-    }
-
-    /// The verb of the next line, where that opens a block and the verb is this one as a bare word. It takes a fraction
-    /// of the time of `next`, and no memory.
-    ///
-    /// `None`, and a reader that is unchanged, for every other line, and for one that opens a block of this verb but
-    /// begins with a blank: `next` reads these.
-    pub fn next_opening(&mut self, verb: &str) -> Option<Token<'a>>
-        ensures verb { IfSome result (λ token. token.word.spelling ≡ verb.now) }
-        ensures opening { IfSome result (λ token. (lines : List (LineOf Placed)) → HasRead self.old lines
-            → IsOpeningRead self.new lines token) }
-        ensures source { self.new.source ≡ self.old.source }
-        ensures shorter { IfSome result (λ token. length self.new.rest < length self.old.rest) }
-        ensures none { IfNone result (self.new ≡ self.old) }
-    {
-        if self.place.inside || self.rest.is_empty() {
-            return None;
-        }
-        let number = self.place.number;
         let first = self.text.len() - self.rest.len();
         let (front, after) = split_first_line(self.rest);
-        let word = opening_in(front)?;
-        if word != verb {
-            return None;
-        }
-        self.place = Place {
-            number: number + 1,
-            inside: true,
-            opened: number,
-        };
+        let line = simple_line(self.place, first, front, verb)?;
+        self.place = self.place.after_simple(&line);
         self.rest = after;
-        Some(Token::in_source(Kind::Bare, word, first as u32, number as u32))
-    }
-
-    /// Passes over the next line if that is `)` alone and closes a block, and says whether it did. It takes a fraction
-    /// of the time of `next`.
-    pub fn skip_closing(&mut self) -> bool
-        ensures closing { IsTrue result → (lines : List (LineOf Placed)) → HasRead self.old lines
-            → HasRead self.new (lines ++ Close None ∷ []) }
-        ensures source { self.new.source ≡ self.old.source }
-        ensures shorter { IsTrue result → length self.new.rest < length self.old.rest }
-        ensures not_closing { IsFalse result → self.new ≡ self.old }
-    {
-        if !self.place.inside || self.rest.is_empty() {
-            return false;
-        }
-        let (front, after) = split_first_line(self.rest);
-        if !is_closing(front) {
-            return false;
-        }
-        self.place.number += 1;
-        self.place.inside = false;
-        self.rest = after;
-        true
-    }
-
-    /// Passes over the next line if that is empty, and says whether it did. It takes a fraction of the time of `next`.
-    pub fn skip_blank(&mut self) -> bool
-        ensures blank { IsTrue result → (lines : List (LineOf Placed)) → HasRead self.old lines
-            → HasRead self.new (lines ++ Blank ∷ []) }
-        ensures source { self.new.source ≡ self.old.source }
-        ensures shorter { IsTrue result → length self.new.rest < length self.old.rest }
-        ensures not_blank { IsFalse result → self.new ≡ self.old }
-    {
-        let Some(after) = after_line_feed(self.rest) else {
-            return false;
-        };
-        self.place.number += 1;
-        self.rest = after;
-        true
+        Some(line)
     }
 
     /// Takes a line back, so that the next one can use the memory of its words.
@@ -259,7 +166,7 @@ impl<'a> LineReader<'a> {
     pub fn lines_read(&self) -> usize
         ensures { (lines : List (LineOf Placed)) → HasRead self.now lines → result ≡ length lines }
     {
-        self.place.number - 1
+        self.place.number() - 1
     }
 
     /// The number of bytes from the next line on.
@@ -275,17 +182,6 @@ fn line_len(bytes: &[u8]) -> usize
     ensures { result ≡ line_len bytes.now }
 {
     memchr(b'\n', bytes).unwrap_or(bytes.len())
-}
-
-/// The text after the line feed that it begins with, if it does.
-fn after_line_feed(text: &str) -> Option<&str>
-    ensures { IfSome result (λ after. text.now ≡ 10 ∷ after.now) }
-{
-    if !begins_line_feed(text.as_bytes()) {
-        return None;
-    }
-    let (_, after) = text.split_at(1);
-    Some(after)
 }
 
 /// The first line without its line feed, and the text after that line feed. The text must not be empty.
@@ -330,8 +226,8 @@ fn read_line_at<'a>(
     ensures filled { IfOk result (λ line. FillsLine first text.now (line_of line)) }
 {
     let list = mem::replace(words, Vec::new(alloc));
-    let parts = read_line(list, text, first, place.number)?;
-    match classify(place.inside, parts, words) {
+    let parts = read_line(list, text, first, place.number())?;
+    match classify(place.is_inside(), parts, words) {
         Ok(line) => Ok(line),
         Err(kind) => Err(LineFault::Syntax(kind)),
     }

@@ -35,7 +35,7 @@ pub(crate) fn is_cut(text: &[u8], at: usize, is_cut_everywhere: bool) -> bool {
 
 /// A file that is cut off, and what is left of it.
 #[derive(Clone, Copy)]
-pub(crate) struct Cut<'a> {
+pub(crate) struct CutFile<'a> {
     pub(crate) name: &'a str,
     pub(crate) bytes: &'a [u8],
     /// Whether the real file is cut off too, and not only the file in memory.
@@ -48,7 +48,7 @@ pub(crate) struct Cut<'a> {
 pub(crate) fn check_cut(
     workspace: &Workspace<'_>,
     runs: &[ParsedRun<'_>],
-    cut: &Cut<'_>,
+    cut: &CutFile<'_>,
     differences: &mut Differences,
 ) -> Result<(), AllocError> {
     let layout = layout_of(workspace, runs, cut)?;
@@ -59,7 +59,7 @@ pub(crate) fn check_cut(
 fn check_runs_over_cut(
     workspace: &Workspace<'_>,
     runs: &[ParsedRun<'_>],
-    cut: &Cut<'_>,
+    cut: &CutFile<'_>,
     layout: &Option<Outcome>,
     differences: &mut Differences,
 ) -> Result<(), AllocError> {
@@ -75,7 +75,7 @@ fn check_runs_over_cut(
 fn check_run_over_cut(
     workspace: &Workspace<'_>,
     parsed_run: &ParsedRun<'_>,
-    cut: &Cut<'_>,
+    cut: &CutFile<'_>,
     layout: &Option<Outcome>,
     differences: &mut Differences,
 ) -> Result<(), AllocError> {
@@ -90,7 +90,7 @@ fn check_run_over_cut(
 /// Checks the result of a command in memory, if it runs there.
 fn check_found(
     parsed_run: &ParsedRun<'_>,
-    cut: &Cut<'_>,
+    cut: &CutFile<'_>,
     layout: &Option<Outcome>,
     found: &Option<Outcome>,
     differences: &mut Differences,
@@ -107,7 +107,7 @@ fn check_found(
 fn check_real(
     workspace: &Workspace<'_>,
     parsed_run: &ParsedRun<'_>,
-    cut: &Cut<'_>,
+    cut: &CutFile<'_>,
     layout: &Option<Outcome>,
     found: &Option<Outcome>,
     differences: &mut Differences,
@@ -134,7 +134,7 @@ fn otherwise(found: &Outcome, real: &Outcome) -> Option<&'static str> {
 }
 
 /// The files of a case in memory, of which one is cut off.
-fn cut_memory<'a>(workspace: &Workspace<'a>, cut: &Cut<'a>) -> Memory<'a> {
+fn cut_memory<'a>(workspace: &Workspace<'a>, cut: &CutFile<'a>) -> Memory<'a> {
     Memory {
         alloc: workspace.alloc(),
         view: View {
@@ -149,7 +149,7 @@ fn cut_memory<'a>(workspace: &Workspace<'a>, cut: &Cut<'a>) -> Memory<'a> {
 fn report_cut(
     run: &Run<'_>,
     fault: &str,
-    cut: &Cut<'_>,
+    cut: &CutFile<'_>,
     outcome: &Outcome,
     differences: &mut Differences,
 ) {
@@ -163,7 +163,7 @@ fn report_cut(
 fn layout_of(
     workspace: &Workspace<'_>,
     runs: &[ParsedRun<'_>],
-    cut: &Cut<'_>,
+    cut: &CutFile<'_>,
 ) -> Result<Option<Outcome>, AllocError> {
     if !runs.iter().any(|run| run.reads_main(cut.name)) {
         return Ok(None);
@@ -175,7 +175,7 @@ fn layout_of(
 fn differs(
     layout: &Option<Outcome>,
     parsed_run: &ParsedRun<'_>,
-    cut: &Cut<'_>,
+    cut: &CutFile<'_>,
     outcome: &Outcome,
 ) -> Option<&'static str> {
     // an invalid go.sum is reported before an invalid main file
@@ -194,7 +194,7 @@ fn differs(
 fn unsound(
     layout: &Option<Outcome>,
     parsed_run: &ParsedRun<'_>,
-    cut: &Cut<'_>,
+    cut: &CutFile<'_>,
     outcome: &Outcome,
 ) -> Option<&'static str> {
     if is_sound(parsed_run.run, outcome) {

@@ -1,6 +1,6 @@
 //! Commands over an output that is full, a file that can't be opened, a store that fails, or a file that is cut off.
 
-use crate::cutting::{Cut, begins_line, check_cut, is_cut, is_short};
+use crate::cutting::{CutFile, begins_line, check_cut, is_cut, is_short};
 use crate::differences::Differences;
 use crate::outputs::sweep_outputs;
 use crate::parsing::ParsedRun;
@@ -93,7 +93,7 @@ fn sweep_cuts(
     let needs_files = runs.iter().any(|run| run.run.is_over_files_only);
     for end in 0..bytes.len() {
         if differences.is_empty() && is_cut(bytes, end, is_cut_everywhere) {
-            let cut = Cut {
+            let cut = CutFile {
                 name,
                 bytes: &bytes[..end],
                 is_real: needs_files || begins_line(bytes, end),
@@ -108,7 +108,7 @@ fn sweep_cuts(
 fn sweep_cut(
     workspace: &Workspace<'_>,
     runs: &[ParsedRun<'_>],
-    cut: &Cut<'_>,
+    cut: &CutFile<'_>,
     differences: &mut Differences,
 ) -> io::Result<()> {
     if cut.is_real {

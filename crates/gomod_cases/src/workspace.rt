@@ -4,7 +4,7 @@ use crate::counting::Count;
 use crate::memory::Memory;
 use crate::outcomes::{Outcome, Room};
 use gomod_case_files::{Case, CaseRuntime, Log, Run, View, tidied};
-use gomod_run::status_of;
+use gomod_run::ending_of;
 use std::alloc::{AllocError, Global};
 
 /// A case, a real folder with its files, and what its commands read from standard input.
@@ -79,7 +79,7 @@ impl<'a> Workspace<'a> {
             log,
         };
         self.count.add();
-        let status = status_of(&runtime, &mut out, &mut report);
+        let status = ending_of(&runtime, &mut out, &mut report).code();
         Ok(Outcome {
             out,
             report,

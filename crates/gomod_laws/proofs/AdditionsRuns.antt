@@ -15,7 +15,8 @@ use Rattle.gm_graph.specs.Graph.{IsOpened}
 use Rattle.gm_graph.specs.Outcome.{AreFaults}
 use Rattle.gm_graph.proofs.BuiltEdges.{fault_reading}
 use Rattle.gm_graph_listing.specs.Laws.{AllFilesAreValid, AnswerAlike}
-use Rattle.gm_graph_listing.specs.Outcomes.{AreInvalidSums, AreKnown, AreSums, Given, IsMainFile, IsOutcome, IsOutcomeOver, IsStopped, Outcome, Prints, device, faulty, too_many}
+use Rattle.gm_graph_listing.specs.Outcomes.{AreInvalidSums, AreKnown, AreSums, Given, IsMainFile, IsOutcome, IsOutcomeOver, IsStopped, Prints, device, faulty, too_many}
+use Rattle.gm_report.specs.Outcome.{Outcome}
 use Rattle.gm_graph_listing.proofs.OneRead.{misread_or_main, misread_or_sums, one_finding, one_main, tells_alike}
 use Rattle.gm_graph_listing.proofs.OneStore.{Agrees, stores_agree}
 use Rattle.gm_graph_listing.proofs.PrintedList.{printed_run}

@@ -12,7 +12,8 @@ use Rattle.gm_graph_select.specs.declared.step.Step.TheVariants.{Main as FromMai
 use Rattle.gm_graph_select.specs.BuildList.{Entry, main_entry}
 use Rattle.gm_graph_select.proofs.Ascending.{member_cases, member_head, no_member}
 use Rattle.gm_graph.specs.declared.fault.Fault.{Fault}
-use Rattle.gm_graph_listing.specs.Outcomes.{Given, Outcome}
+use Rattle.gm_graph_listing.specs.Outcomes.{Given}
+use Rattle.gm_report.specs.Outcome.{Outcome}
 use Rattle.gm_graph_listing.specs.PrintedLines.{AreProperEdges, AreProperRows, IsProperRow}
 use Rattle.gm_graph_listing.specs.Texts.{graph_text}
 use Rattle.gm_graph_listing.proofs.GraphLines.{text_says_edges}

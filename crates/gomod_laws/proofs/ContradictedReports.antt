@@ -16,7 +16,8 @@ use Rattle.gm_graph_select.specs.BuildList.{Entry, main_entry}
 use Rattle.gm_graph_select.proofs.Ascending.{member_cases, member_head, member_tail, no_member}
 use Rattle.gm_graph_select.proofs.Lawful.{row_selected}
 use Rattle.gm_graph.specs.Graph.{IsDeep, IsEdge, IsTop, from_deep, from_main, from_top}
-use Rattle.gm_graph_listing.specs.Outcomes.{Given, Outcome, printed}
+use Rattle.gm_graph_listing.specs.Outcomes.{Given}
+use Rattle.gm_report.specs.Outcome.{Outcome, printed}
 use Rattle.gm_graph_listing.specs.PrintedLines.{AreProperEdges, AreProperRows, IsProperEdge, IsProperRow}
 use Rattle.gm_graph_listing.specs.Texts.{graph_text, list_text}
 use Rattle.gomod_laws.specs.CounterListings.{b_one}

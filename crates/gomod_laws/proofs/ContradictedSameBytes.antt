@@ -2,13 +2,13 @@
 use Rattle.std.proofs.Common.{◌≡◌, ◌∙◌, ℕ, Bool, List, length, Option, Some, ap, arith, codes, cond, map, refl, sym}
 use Rattle.std.proofs.lemmas.List.{length-map}
 use Rattle.gm_file.specs.Directives.{Right}
-use Rattle.gm_file.specs.Pairs.{pair_eq}
+use Rattle.gm_name.specs.PairOrder.{pair_eq}
 use Rattle.gm_syntax.specs.Lines.{lines_of}
 use Rattle.gm_graph_cache.specs.Main.{ModuleVersion}
 use Rattle.gm_graph_select.specs.declared.step.Step.TheVariants.{Main as FromMain, Of}
 use Rattle.gm_graph_select.specs.BuildList.{Entry}
 use Rattle.gm_graph.proofs.Mapped.{from_mapped}
-use Rattle.gm_graph_listing.specs.Outcomes.{Outcome}
+use Rattle.gm_report.specs.Outcome.{Outcome}
 use Rattle.gm_graph_listing.specs.PrintedLines.{row_text}
 use Rattle.gm_graph_listing.specs.Texts.{list_text}
 use Rattle.gm_graph_listing.proofs.ListLines.{list_has_lines}

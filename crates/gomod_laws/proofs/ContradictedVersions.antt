@@ -16,7 +16,7 @@ use Rattle.gm_graph_cache.specs.declared.class.Class.{Class}
 use Rattle.gm_graph_cache.specs.Reading.{IsFileReading}
 use Rattle.gm_graph_cache.proofs.OneReading.{one_reading}
 use Rattle.gm_graph_select.proofs.Ascending.{less_itself, member_cases, member_head, no_member}
-use Rattle.gm_graph_listing.specs.Outcomes.{Outcome, printed}
+use Rattle.gm_report.specs.Outcome.{Outcome, printed}
 use Rattle.gomod_run.specs.Versions.{versions_line}
 use Rattle.gomod_run.proofs.Uniqueness.{latest_once}
 use Rattle.gomod_laws.specs.CounterVersions.{ListedIsMissing, RetractedIsShown, UnretractedIsLeftOut, VersionDoesNotFit, VersionIsUnlisted, VersionStandsTwice, VersionsDescend, both_of_a}

@@ -15,9 +15,10 @@ use Rattle.gm_graph.specs.Graph.{IsEdge, IsTop}
 use Rattle.gm_graph.specs.Outcome.{AreEdges}
 use Rattle.gm_graph.proofs.Rooted.{same_edges}
 use Rattle.gm_graph_listing.specs.Laws.{AllFilesAreValid, IsWalk, further, here}
-use Rattle.gm_graph_listing.specs.Outcomes.{AreRows, Given, printed}
+use Rattle.gm_graph_listing.specs.Outcomes.{AreRows, Given}
+use Rattle.gm_report.specs.Outcome.{printed}
 use Rattle.gm_graph_listing.specs.PrintedLines.{AreProperRows, AreProperSteps, IsProperRow, IsProperStep}
-use Rattle.gm_graph_listing.specs.Reports.{not_listed_line}
+use Rattle.gm_report.specs.Reports.{not_listed_line}
 use Rattle.gm_graph_listing.specs.Texts.{chain_text, graph_text, list_text}
 use Rattle.gm_graph_listing.proofs.GraphLines.{text_says_edges, text_says_steps}
 use Rattle.gm_graph_listing.proofs.ListLines.{cut_at, path_has_no_feed}

@@ -16,9 +16,10 @@ use Rattle.gm_graph_select.specs.Laws.{entries_of_pages}
 use Rattle.gm_graph_select.proofs.Ascending.{member_cases, member_head, member_tail, no_member}
 use Rattle.gm_graph.specs.Graph.{IsDeep, IsOpened, IsTop, IsVertex, from_deep, from_main, from_top}
 use Rattle.gm_graph_listing.specs.Laws.{AllFilesAreValid, AreGreatest, ArePrintedPages, ShowsBuildList, no_row, one_page}
-use Rattle.gm_graph_listing.specs.Outcomes.{AreRows, Given, IsListOutcome, IsMainFile, Outcome, printed, refused}
+use Rattle.gm_graph_listing.specs.Outcomes.{AreRows, Given, IsListOutcome, IsMainFile}
+use Rattle.gm_report.specs.Outcome.{Outcome, printed, refused}
 use Rattle.gm_graph_listing.specs.PrintedLines.{AreProperRows, IsProperRow}
-use Rattle.gm_graph_listing.specs.Reports.{not_listed_line}
+use Rattle.gm_report.specs.Reports.{not_listed_line}
 use Rattle.gm_graph_listing.specs.Texts.{limited, list_text}
 use Rattle.gm_graph_listing.proofs.GreatestRows.{as_build_list}
 use Rattle.gm_graph_listing.proofs.ListLines.{Lacks, cut_at, lacks, path_has_no_blank, path_has_no_feed, text_says_rows}

@@ -7,8 +7,9 @@ use Rattle.gm_graph_cache.specs.Main.{Main}
 use Rattle.gm_graph_cache.specs.Reading.{Held, Tells, readings_by}
 use Rattle.gm_graph_select.proofs.Ascending.{no_member}
 use Rattle.gm_graph_listing.specs.Laws.{AnswerAlike}
-use Rattle.gm_graph_listing.specs.Outcomes.{AreKnown, Given, GivenFilesReadAs, IsOutcome, IsRefusedRead, Outcome, Prints as PrintsBy, PrintsChain, PrintsGraph, PrintsList, answers, device, faulty, given, refused, too_many}
-use Rattle.gm_graph_listing.specs.Reports.{too_many_line}
+use Rattle.gm_graph_listing.specs.Outcomes.{AreKnown, Given, GivenFilesReadAs, IsOutcome, IsRefusedRead, Prints as PrintsBy, PrintsChain, PrintsGraph, PrintsList, answers, device, faulty, given, too_many}
+use Rattle.gm_report.specs.Outcome.{Outcome, refused}
+use Rattle.gm_report.specs.Reports.{too_many_line}
 use Rattle.gm_graph_listing.proofs.OneRead.{misread_or_main, misread_or_sums, one_finding, one_main, tells_alike}
 use Rattle.gm_graph_listing.proofs.OneStore.{Agrees, alike_back, opened, stores_agree}
 use Rattle.gomod_words.specs.declared.usage.Command.{Command}

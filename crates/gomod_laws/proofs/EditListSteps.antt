@@ -16,12 +16,12 @@ use Rattle.gm_file_edit.specs.Laws.{IsEditOf, directives_of}
 use Rattle.gm_file_edit.proofs.SaidAfter.{others-stay}
 use Rattle.gm_graph_cache.specs.Main.{Main, main_of}
 use Rattle.gm_graph_select.proofs.Ascending.{member_head, member_tail}
-use Rattle.gm_graph_listing.specs.Outcomes.{IsMainFile, IsMainOf, Outcome, longest, printed}
-use Rattle.gm_graph_listing.specs.Reports.{main_line}
+use Rattle.gm_graph_listing.specs.Outcomes.{IsMainFile, IsMainOf, longest}
+use Rattle.gm_report.specs.Outcome.{Outcome, printed}
+use Rattle.gm_report.specs.Reports.{main_line, edit_line}
 use Rattle.gm_graph_listing.proofs.OneRead.{one_main}
 use Rattle.gomod_words.specs.Usage.{texts_in}
 use Rattle.gomod_run.specs.Editing.{IsEditOutcome, edited_in_turn, edits_outcome, refusal_of, refusals_from}
-use Rattle.gomod_run.specs.Kinds.{edit_line}
 use Rattle.gomod_laws.specs.EditListLaws.{AreRetractions, PrintsAfter, RetractionsChangeNoBuild, is_retraction}
 use Rattle.gomod_laws.specs.FormattingLaws.{IsEdited}
 use Rattle.gomod_laws.proofs.EditListSaid.{main_without_retractions}

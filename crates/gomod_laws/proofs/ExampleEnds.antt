@@ -25,7 +25,8 @@ use Rattle.gm_graph.specs.Loading.{AreFew, AreTooMany}
 use Rattle.gm_graph.specs.Outcome.{AreFaults}
 use Rattle.gm_graph.specs.declared.fault.Fault.{Fault}
 use Rattle.gm_graph.proofs.Sameness.{pair_eq-refl}
-use Rattle.gm_graph_listing.specs.Outcomes.{AreKnown, AreRows, IsListOutcome, IsOutcomeOver, IsStopped, Outcome, PrintsList, answers, device, faulty, printed, too_many}
+use Rattle.gm_graph_listing.specs.Outcomes.{AreKnown, AreRows, IsListOutcome, IsOutcomeOver, IsStopped, PrintsList, answers, device, faulty, too_many}
+use Rattle.gm_report.specs.Outcome.{Outcome, printed}
 use Rattle.gm_graph_listing.proofs.OneOutcome.{one_list_outcome}
 use Rattle.gomod_laws.specs.ExampleWorld.{top_one}
 use Rattle.gomod_laws.specs.ExampleRuns.{EmptyIsRefused, IsListedAlone, RequiredIsAsked, alone, main_requiring, run_of, top_name}

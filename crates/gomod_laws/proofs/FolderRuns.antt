@@ -15,7 +15,8 @@ use Rattle.gm_graph_select.proofs.Ascending.{member_cases, no_member}
 use Rattle.gm_graph.specs.declared.fault.Fault.{Fault}
 use Rattle.gm_graph.specs.Loading.{IsNeeded}
 use Rattle.gm_graph_listing.specs.Laws.{AllFilesAreValid, AnswerAlike}
-use Rattle.gm_graph_listing.specs.Outcomes.{Given, Outcome, answers, given}
+use Rattle.gm_graph_listing.specs.Outcomes.{Given, answers, given}
+use Rattle.gm_report.specs.Outcome.{Outcome}
 use Rattle.gm_graph_listing.proofs.OneRead.{one_finding, one_main, tells_alike}
 use Rattle.gm_graph_listing.proofs.OneStore.{Agrees, alike_back, opened, stores_agree}
 use Rattle.gomod_words.specs.declared.usage.Command.{Command}

@@ -21,13 +21,13 @@ use Rattle.gm_file_edit.specs.Edits.{Edit as Change, edit_in}
 use Rattle.gm_file_edit.proofs.EditedSound.{edited-document}
 use Rattle.gm_file_edit.proofs.Written.{written-sound}
 use Rattle.gm_graph_cache.specs.Main.{Main}
-use Rattle.gm_graph_listing.specs.Outcomes.{IsMainFile, IsMainOf, Outcome, longest, printed, refused}
-use Rattle.gm_graph_listing.specs.Reports.{main_line}
+use Rattle.gm_graph_listing.specs.Outcomes.{IsMainFile, IsMainOf, longest}
+use Rattle.gm_report.specs.Outcome.{Outcome, printed, refused}
+use Rattle.gm_report.specs.Reports.{main_line, edit_line}
 use Rattle.gm_graph_listing.proofs.OneRead.{misread_or_main, same_lines}
 use Rattle.gomod_words.specs.Usage.{texts_in}
 use Rattle.gomod_words.specs.declared.usage.Command.TheVariants.{Fmt, Edit}
 use Rattle.gomod_run.specs.Editing.{IsEditOutcome, edited_in_turn, edits_outcome, refusal_of, refusals_from}
-use Rattle.gomod_run.specs.Kinds.{edit_line}
 use Rattle.gomod_run.specs.Runs.{IsFmtOutcome}
 use Rattle.gomod_run.proofs.Sameness.{one_outcome}
 use Rattle.gomod_laws.specs.FormattingLaws.{EditOfNothingFormats, EditsAreFormatted, FormattingChangesNoBuild, IsFormatted, LayoutsAreFormatted}

@@ -4,7 +4,7 @@ use Rattle.std.specs.Global.{Global, Vec}
 use Rattle.std.specs.Prelude.{String}
 use Rattle.gm_store.specs.Asked.{Name, Reply, absent, answer_in, bytes, list_file, mod_file, too_long}
 use Rattle.gm_graph_listing.specs.Laws.{AnswerAlike}
-use Rattle.gm_graph_listing.specs.Outcomes.{Outcome}
+use Rattle.gm_report.specs.Outcome.{Outcome}
 use Rattle.gm_graph_listing.proofs.OneStore.{alike_back}
 use Rattle.gomod_words.specs.declared.usage.Command.{Command}
 use Rattle.gomod_words.specs.declared.usage.Command.TheVariants.{Fmt, Edit, Versions, Graph, List as Rows, Chain}

@@ -9,7 +9,8 @@ use Rattle.gm_graph_select.proofs.Same.{AreSame, same_build_list}
 use Rattle.gm_graph.specs.declared.fault.Fault.{Fault}
 use Rattle.gm_graph.specs.Graph.{IsEdge}
 use Rattle.gm_graph_listing.specs.Laws.{AllFilesAreValid}
-use Rattle.gm_graph_listing.specs.Outcomes.{IsOutcome, IsOutcomeOver, Outcome, Prints as PrintsBy, PrintsChain, PrintsGraph, PrintsList, answers, device, faulty, given, too_many}
+use Rattle.gm_graph_listing.specs.Outcomes.{IsOutcome, IsOutcomeOver, Prints as PrintsBy, PrintsChain, PrintsGraph, PrintsList, answers, device, faulty, given, too_many}
+use Rattle.gm_report.specs.Outcome.{Outcome}
 use Rattle.gm_graph_listing.proofs.OneRead.{misread_or_main, misread_or_sums, one_finding, one_main, tells_alike}
 use Rattle.gomod_words.specs.declared.usage.Command.{Command}
 use Rattle.gomod_words.specs.declared.usage.Command.TheVariants.{Fmt, Edit, Versions, Graph, List as Rows, Chain}

@@ -12,8 +12,9 @@ use Rattle.gm_graph.specs.Loading.{AreTooMany, Told}
 use Rattle.gm_graph.specs.Outcome.{AreEdges, AreFaults}
 use Rattle.gm_graph_listing.specs.Found.{ReportsFaultsOr}
 use Rattle.gm_graph_listing.specs.Laws.{AllFilesAreValid, AnswerAlike}
-use Rattle.gm_graph_listing.specs.Outcomes.{AreInvalidSums, AreKnown, AreRows, AreSums, Given, GivenFilesReadAs, IsMainFile, IsOutcome, IsOutcomeOver, Outcome, Prints, PrintsGraph, PrintsList, device, faulty, refused, too_many}
-use Rattle.gm_graph_listing.specs.Reports.{too_many_line}
+use Rattle.gm_graph_listing.specs.Outcomes.{AreInvalidSums, AreKnown, AreRows, AreSums, Given, GivenFilesReadAs, IsMainFile, IsOutcome, IsOutcomeOver, Prints, PrintsGraph, PrintsList, device, faulty, too_many}
+use Rattle.gm_report.specs.Outcome.{Outcome, refused}
+use Rattle.gm_report.specs.Reports.{too_many_line}
 use Rattle.gm_graph_listing.proofs.OneRead.{misread_or_main, misread_or_sums, one_finding, one_main, tells_alike}
 use Rattle.gm_graph_listing.proofs.OneStore.{Agrees, alike_back, stores_agree}
 use Rattle.gm_graph_listing.proofs.PrintedList.{not_refused}

@@ -15,7 +15,7 @@ use Rattle.gm_file.specs.Directives.{Strict, directive_of, item_at}
 use Rattle.gm_file.specs.Faults.{directive_kinds, fault_of, faults}
 use Rattle.gm_store.specs.States.{StoreState}
 use Rattle.gm_graph_cache.specs.Main.{main_of}
-use Rattle.gm_graph_listing.specs.Outcomes.{printed}
+use Rattle.gm_report.specs.Outcome.{printed}
 use Rattle.gomod_words.specs.declared.usage.Command.TheVariants.{Fmt, Edit}
 use Rattle.gomod_laws.specs.Premises.{EditOfNothingPrints, module_m}
 use Rattle.gomod_laws.specs.Runs.{HasOutcome}

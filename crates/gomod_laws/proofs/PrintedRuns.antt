@@ -6,7 +6,8 @@ use Rattle.gm_store.specs.Asked.{Name, Reply}
 use Rattle.gm_graph_cache.specs.Main.{Main}
 use Rattle.gm_graph_cache.specs.Reading.{Held, readings_by}
 use Rattle.gm_graph_listing.specs.Laws.{AllFilesAreValid}
-use Rattle.gm_graph_listing.specs.Outcomes.{Given, IsOutcome, Outcome, Prints as PrintsBy, PrintsChain, PrintsGraph, PrintsList, answers, device, faulty, given, too_many}
+use Rattle.gm_graph_listing.specs.Outcomes.{Given, IsOutcome, Prints as PrintsBy, PrintsChain, PrintsGraph, PrintsList, answers, device, faulty, given, too_many}
+use Rattle.gm_report.specs.Outcome.{Outcome}
 use Rattle.gomod_words.specs.declared.usage.Command.{Command}
 use Rattle.gomod_words.specs.declared.usage.Command.TheVariants.{Fmt, Edit, Versions, Graph, List as Rows, Chain}
 use Rattle.gomod_run.specs.Queries.{AnswersQuery, IsQueryOutcome, RunsTo}

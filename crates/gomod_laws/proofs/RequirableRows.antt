@@ -19,7 +19,8 @@ use Rattle.gm_graph_select.specs.BuildList.{Entry}
 use Rattle.gm_graph_select.proofs.Ascending.{member_cases, member_head, member_tail, no_member}
 use Rattle.gm_graph_select.proofs.Lawful.{row_selected}
 use Rattle.gm_graph.specs.Graph.{IsEdge}
-use Rattle.gm_graph_listing.specs.Outcomes.{IsMainFile, Outcome}
+use Rattle.gm_graph_listing.specs.Outcomes.{IsMainFile}
+use Rattle.gm_report.specs.Outcome.{Outcome}
 use Rattle.gm_graph_listing.proofs.OneRead.{one_main}
 use Rattle.gomod_words.specs.Usage.{texts_in}
 use Rattle.gomod_words.specs.declared.usage.Command.TheVariants.{List as Rows}

@@ -8,7 +8,7 @@ use Rattle.gm_file.proofs.SamePairs.{pair-same}
 use Rattle.gm_file.specs.Directives.{Left, Replacing, Right, Folder, Module, left_with, left_without}
 use Rattle.gm_file.specs.Faults.{is_same_left}
 use Rattle.gm_file.specs.Fields.{Dependency, replacement_of, right_for}
-use Rattle.gm_file.specs.Pairs.{pair_eq}
+use Rattle.gm_name.specs.PairOrder.{pair_eq}
 use Rattle.gm_store.specs.Asked.{Name, Reply, absent, answer_in, bytes, mod_file, too_long}
 use Rattle.gm_store_sums.specs.declared.sum_table.SumTable.{SumTable}
 use Rattle.gm_graph_cache.specs.declared.class.Class.{Class}
@@ -21,7 +21,8 @@ use Rattle.gm_graph_select.proofs.Same.{AreSame}
 use Rattle.gm_graph.specs.declared.fault.Fault.{Fault}
 use Rattle.gm_graph.specs.Graph.{IsEdge, IsOpened, IsTop}
 use Rattle.gm_graph_listing.specs.Laws.{AllFilesAreValid}
-use Rattle.gm_graph_listing.specs.Outcomes.{AreSums, IsOutcome, Outcome, Prints, answers, given}
+use Rattle.gm_graph_listing.specs.Outcomes.{AreSums, IsOutcome, Prints, answers, given}
+use Rattle.gm_report.specs.Outcome.{Outcome}
 use Rattle.gm_graph_listing.proofs.OneRead.{one_finding, tells_alike}
 use Rattle.gm_graph_listing.proofs.OneStore.{Agrees, alike_back, stores_agree}
 use Rattle.gomod_laws.specs.ExclusionLaws.{HasOneMoreReplace, is_left_of}

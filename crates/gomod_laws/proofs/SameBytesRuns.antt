@@ -2,7 +2,7 @@
 use Rattle.std.proofs.Common.{◌≡◌, ◌∙◌, ◌∷◌, ℕ, Bool, true, false, cond, List, [], Option, Some, None, ap, ap₂, inl, inr, map, refl, subst, sym}
 use Rattle.std.proofs.lemmas.List.{map-append}
 use Rattle.gm_file.specs.Directives.{Replacing, Right, left_with}
-use Rattle.gm_file.specs.Pairs.{pair_eq}
+use Rattle.gm_name.specs.PairOrder.{pair_eq}
 use Rattle.gm_file.proofs.SamePairs.{pair-same}
 use Rattle.gm_graph_cache.specs.Main.{Main, ModuleVersion, replacement_in}
 use Rattle.gm_graph_cache.specs.Reading.{Readings, readings_by}
@@ -13,7 +13,8 @@ use Rattle.gm_graph_select.specs.Graph.{Edges}
 use Rattle.gm_graph_select.proofs.Same.{AreSame, same_back, same_build_list, same_chain}
 use Rattle.gm_graph.specs.Graph.{IsEdge}
 use Rattle.gm_graph.proofs.Mapped.{from_mapped}
-use Rattle.gm_graph_listing.specs.Outcomes.{AreRows, Outcome, PrintsChain, PrintsGraph, PrintsList, PrintsRows, answers, given, printed}
+use Rattle.gm_graph_listing.specs.Outcomes.{AreRows, PrintsChain, PrintsGraph, PrintsList, PrintsRows, answers, given}
+use Rattle.gm_report.specs.Outcome.{Outcome, printed}
 use Rattle.gm_graph_listing.specs.Texts.{chain_text, graph_text}
 use Rattle.gm_graph_listing.proofs.OnePrinted.{chain_once, graph_once, one_rows}
 use Rattle.gomod_words.specs.declared.usage.Command.TheVariants.{Graph, List as Rows, Chain}

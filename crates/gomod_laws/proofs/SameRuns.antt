@@ -7,8 +7,9 @@ use Rattle.gm_graph_cache.specs.Reading.{Held, Tells, readings_by}
 use Rattle.gm_graph.specs.Graph.{IsVertex}
 use Rattle.gm_graph.specs.Loading.{AreTooMany}
 use Rattle.gm_graph_listing.specs.Laws.{AnswerAlike, AreAlike}
-use Rattle.gm_graph_listing.specs.Outcomes.{AreKnown, AreSums, Given, IsMainFile, IsOutcome, IsOutcomeOver, Outcome, Prints as PrintsBy, PrintsChain, PrintsGraph, PrintsList, answers, device, faulty, given, refused, too_many}
-use Rattle.gm_graph_listing.specs.Reports.{too_many_line}
+use Rattle.gm_graph_listing.specs.Outcomes.{AreKnown, AreSums, Given, IsMainFile, IsOutcome, IsOutcomeOver, Prints as PrintsBy, PrintsChain, PrintsGraph, PrintsList, answers, device, faulty, given, too_many}
+use Rattle.gm_report.specs.Outcome.{Outcome, refused}
+use Rattle.gm_report.specs.Reports.{too_many_line}
 use Rattle.gm_graph_listing.proofs.OneOutcome.{alike_chains, alike_graphs, alike_lists}
 use Rattle.gm_graph_listing.proofs.OneRead.{misread_or_main, misread_or_sums, one_finding, one_main, tells_alike}
 use Rattle.gm_graph_listing.proofs.OneStore.{Agrees, alike_back, edge, stores_agree, too_many as many_stay}

@@ -12,9 +12,11 @@ use Rattle.gm_graph_select.specs.BuildList.{Entry, entry_of, main_entry}
 use Rattle.gm_graph_select.specs.Chains.{IsChain, begins, goes_on}
 use Rattle.gm_graph_select.proofs.Ascending.{member_head}
 use Rattle.gm_graph_listing.specs.Laws.{AllFilesAreValid}
-use Rattle.gm_graph_listing.specs.Outcomes.{Given, Outcome, printed}
+use Rattle.gm_graph_listing.specs.Outcomes.{Given}
+use Rattle.gm_report.specs.Outcome.{Outcome, printed}
 use Rattle.gm_graph_listing.specs.PrintedLines.{AreProperEdges, AreProperRows, AreProperSteps, IsProperStep}
-use Rattle.gm_graph_listing.specs.Texts.{chain_text, graph_text, list_text, step_text, vertex_text}
+use Rattle.gm_graph_listing.specs.Texts.{chain_text, graph_text, list_text, step_text}
+use Rattle.gm_report.specs.Texts.{vertex_text}
 use Rattle.gm_graph_listing.proofs.GraphLines.{text_says_edges, text_says_steps}
 use Rattle.gm_graph_listing.proofs.ListLines.{Lacks, cut_at, has_it, path_has_no_blank, path_has_no_feed, text_says_rows, version_has_no_blank}
 use Rattle.gm_graph_listing.proofs.RunNames.{run_has_names, run_has_proper_edges, run_has_proper_rows, run_has_proper_steps}

@@ -13,8 +13,9 @@ use Rattle.gm_graph_cache.specs.Main.{Main}
 use Rattle.gm_graph_cache.specs.Reading.{Held, IsReadUnless, IsTold, Tells, class_of_sum, file_of, is_askable, readings_by, sum_fault}
 use Rattle.gm_graph.specs.Loading.{AreTooMany, IsNeeded}
 use Rattle.gm_graph_listing.specs.Laws.{AnswerAlike}
-use Rattle.gm_graph_listing.specs.Outcomes.{AreKnown, AreSums, IsMainFile, IsOutcome, IsOutcomeOver, Outcome, Prints as PrintsOver, PrintsChain, PrintsGraph, PrintsList, answers, device, faulty, given, refused, too_many}
-use Rattle.gm_graph_listing.specs.Reports.{too_many_line}
+use Rattle.gm_graph_listing.specs.Outcomes.{AreKnown, AreSums, IsMainFile, IsOutcome, IsOutcomeOver, Prints as PrintsOver, PrintsChain, PrintsGraph, PrintsList, answers, device, faulty, given, too_many}
+use Rattle.gm_report.specs.Outcome.{Outcome, refused}
+use Rattle.gm_report.specs.Reports.{too_many_line}
 use Rattle.gm_graph_listing.proofs.OneOutcome.{one_outcome}
 use Rattle.gm_graph_listing.proofs.OnePrinted.{PrintsOnce, chain_once, graph_once, list_once}
 use Rattle.gm_graph_listing.proofs.OneRead.{misread_or_main, misread_or_sums, one_main}

@@ -7,7 +7,8 @@ use Rattle.gm_graph_cache.specs.Main.{Main}
 use Rattle.gm_graph_cache.specs.Reading.{Held, Tells, readings_by, sum_fault}
 use Rattle.gm_graph.specs.Loading.{AreTooMany, IsNeeded, Told}
 use Rattle.gm_graph_listing.specs.Laws.{AnswerAlike}
-use Rattle.gm_graph_listing.specs.Outcomes.{AreKnown, AreSums, IsMainFile, IsOutcome, IsOutcomeOver, Outcome, Prints as PrintsOver, PrintsChain, PrintsGraph, PrintsList, answers, device, faulty, given, longest, too_many}
+use Rattle.gm_graph_listing.specs.Outcomes.{AreKnown, AreSums, IsMainFile, IsOutcome, IsOutcomeOver, Prints as PrintsOver, PrintsChain, PrintsGraph, PrintsList, answers, device, faulty, given, longest, too_many}
+use Rattle.gm_report.specs.Outcome.{Outcome}
 use Rattle.gm_graph_listing.proofs.OneOutcome.{one_outcome}
 use Rattle.gm_graph_listing.proofs.OnePrinted.{PrintsOnce, chain_once, graph_once, list_once}
 use Rattle.gm_graph_listing.proofs.OneRead.{misread_or_main}

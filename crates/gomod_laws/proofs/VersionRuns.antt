@@ -16,7 +16,7 @@ use Rattle.std.specs.List.Sorted.{IsStrictlySortedBy}
 use Rattle.gm_store.specs.Listed.{AreListed, IsListed}
 use Rattle.gm_graph_cache.specs.declared.class.Class.{Class}
 use Rattle.gm_graph_cache.specs.Reading.{IsFileReading}
-use Rattle.gm_graph_listing.specs.Outcomes.{Outcome, printed, refused}
+use Rattle.gm_report.specs.Outcome.{Outcome, printed, refused}
 use Rattle.gomod_words.specs.declared.usage.Command.TheVariants.{Versions}
 use Rattle.gomod_run.specs.Runs.{IsRunOutcome, Needs, StatesOutcome}
 use Rattle.gomod_run.specs.Versions.{AnswersByName, IsListedOutcome, IsOutcomeByList, IsVersionsOutcome, shown_by, versions_line}

@@ -6,7 +6,8 @@ use Rattle.gm_graph_cache.specs.Main.{Main, ModuleVersion}
 use Rattle.gm_graph.specs.declared.fault.Fault.{Fault}
 use Rattle.gm_graph.specs.Graph.{IsTop}
 use Rattle.gm_graph_listing.specs.Laws.{JoinsPages, ShowOneGraph, ShowsBuildList, ShowsPart, ShowsShortestWalk}
-use Rattle.gm_graph_listing.specs.Outcomes.{Given, IsListOutcome, IsMainFile, Outcome, printed}
+use Rattle.gm_graph_listing.specs.Outcomes.{Given, IsListOutcome, IsMainFile}
+use Rattle.gm_report.specs.Outcome.{Outcome, printed}
 use Rattle.gm_graph_listing.specs.PrintedLines.{fault_text}
 use Rattle.gomod_laws.specs.Counterexamples.{a_one, chain_to_a, fault_of_a, graph_of_a, list_of_a}
 

@@ -1,6 +1,6 @@
 -- What the law on merges concludes is false of outputs that contradict it.
 use Rattle.std.specs.Prelude.{◌≡◌, ℕ, List, [], Option, None, codes}
-use Rattle.gm_graph_listing.specs.Outcomes.{Outcome, printed}
+use Rattle.gm_report.specs.Outcome.{Outcome, printed}
 use Rattle.gomod_words.specs.declared.usage.Command.{Command}
 use Rattle.gomod_words.specs.declared.usage.Command.TheVariants.{Graph, List as Rows}
 use Rattle.gomod_laws.specs.Counterexamples.{fault_of_a, graph_of_a, list_of_a}

@@ -2,7 +2,8 @@
 use Rattle.std.specs.Prelude.{List, None, codes}
 use Rattle.gm_graph_cache.specs.Main.{Main}
 use Rattle.gm_graph_select.specs.BuildList.{Entry}
-use Rattle.gm_graph_listing.specs.Outcomes.{Given, Outcome, printed}
+use Rattle.gm_graph_listing.specs.Outcomes.{Given}
+use Rattle.gm_report.specs.Outcome.{Outcome, printed}
 use Rattle.gomod_laws.specs.OwnListLaws.{AreNotAbove}
 use Rattle.gomod_laws.specs.Shown.{ShowsRows}
 

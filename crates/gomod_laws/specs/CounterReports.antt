@@ -2,7 +2,8 @@
 use Rattle.std.specs.Prelude.{◌≡◌, ◌∷◌, [], Some, codes}
 use Rattle.gm_store.specs.Asked.{absent, answer_in, mod_file}
 use Rattle.gm_graph_cache.specs.Main.{Main}
-use Rattle.gm_graph_listing.specs.Outcomes.{Given, Outcome, printed}
+use Rattle.gm_graph_listing.specs.Outcomes.{Given}
+use Rattle.gm_report.specs.Outcome.{Outcome, printed}
 use Rattle.gomod_laws.specs.Counterexamples.{a_one, fault_of_a}
 use Rattle.gomod_laws.specs.ReportLaws.{ShowsEdgesBy, ShowsRowsBy}
 

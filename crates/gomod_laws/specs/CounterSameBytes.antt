@@ -3,7 +3,7 @@ use Rattle.std.specs.Prelude.{ℕ, List, Option, None, codes}
 use Rattle.gm_file.specs.Directives.{Right}
 use Rattle.gm_store.specs.Asked.{Name, Reply}
 use Rattle.gm_graph_cache.specs.Main.{Main, ModuleVersion}
-use Rattle.gm_graph_listing.specs.Outcomes.{printed}
+use Rattle.gm_report.specs.Outcome.{printed}
 use Rattle.gomod_laws.specs.Counterexamples.{a_one, list_of_a}
 use Rattle.gomod_laws.specs.SameBytesLaws.{ShowsTheArrow}
 

@@ -2,7 +2,8 @@
 use Rattle.std.specs.Prelude.{◌≡◌, ℕ, List, [], ◌∷◌, None, codes}
 use Rattle.gm_store.specs.Asked.{Name, Reply, mod_file, absent}
 use Rattle.gm_graph_cache.specs.Main.{Main, ModuleVersion}
-use Rattle.gm_graph_listing.specs.Outcomes.{Given, IsListOutcome, IsMainFile, IsOutcomeOver, Outcome, PrintsList, answers, failed, given, printed, refused}
+use Rattle.gm_graph_listing.specs.Outcomes.{Given, IsListOutcome, IsMainFile, IsOutcomeOver, PrintsList, answers, given}
+use Rattle.gm_report.specs.Outcome.{Outcome, failed, printed, refused}
 use Rattle.gomod_laws.specs.ExampleWorld.{top_one}
 
 abbrev pub alone : List ℕ

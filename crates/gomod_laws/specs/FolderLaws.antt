@@ -7,8 +7,8 @@ use Rattle.gm_store.specs.Asked.{Name, Reply, list_file, mod_file, names_in}
 use Rattle.gm_store.specs.FolderLookups.{lookup_results, marks_for}
 use Rattle.gm_store.specs.FoldersInMemory.{result_at}
 use Rattle.gm_store.specs.Steps.{MayStop, Seen, absent}
-use Rattle.gm_graph_listing.specs.Outcomes.{Outcome, refused}
-use Rattle.gm_graph_listing.specs.Reports.{too_many_line}
+use Rattle.gm_report.specs.Outcome.{Outcome, refused}
+use Rattle.gm_report.specs.Reports.{too_many_line}
 use Rattle.gomod_words.specs.declared.usage.Command.{Command}
 use Rattle.gomod_run.specs.Runs.{AskedInTurn, Needs}
 use Rattle.gomod_laws.specs.Runs.{HasOutcome, HasPrinted}

@@ -4,7 +4,8 @@ use Rattle.std.specs.Global.{Global, Vec}
 use Rattle.gm_store.specs.Asked.{Name, Reply}
 use Rattle.gm_graph_cache.specs.Main.{Main}
 use Rattle.gm_graph_listing.specs.Laws.{AnswerAlike}
-use Rattle.gm_graph_listing.specs.Outcomes.{IsMainFile, Outcome, longest, printed}
+use Rattle.gm_graph_listing.specs.Outcomes.{IsMainFile, longest}
+use Rattle.gm_report.specs.Outcome.{Outcome, printed}
 use Rattle.gomod_words.specs.Usage.{texts_in}
 use Rattle.gomod_words.specs.declared.usage.Command.{Command}
 use Rattle.gomod_words.specs.declared.usage.Command.TheVariants.{Fmt, Edit}

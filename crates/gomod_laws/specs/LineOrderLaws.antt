@@ -9,7 +9,8 @@ use Rattle.gm_store.specs.Asked.{Name, Reply}
 use Rattle.gm_graph.specs.Graph.{IsTop}
 use Rattle.gm_graph_cache.specs.Main.{Main, ModuleVersion, is_pruned_by, replacement_in}
 use Rattle.gm_graph_listing.specs.Laws.{AnswerAlike}
-use Rattle.gm_graph_listing.specs.Outcomes.{IsMainFile, IsMainOf, Outcome}
+use Rattle.gm_graph_listing.specs.Outcomes.{IsMainFile, IsMainOf}
+use Rattle.gm_report.specs.Outcome.{Outcome}
 use Rattle.gomod_words.specs.declared.usage.Command.{Command}
 use Rattle.gomod_run.specs.Runs.{is_query}
 use Rattle.gomod_laws.specs.Runs.{HasOutcome}

@@ -14,8 +14,9 @@ use Rattle.gm_graph.specs.declared.fault.Fault.{Fault}
 use Rattle.gm_graph.specs.Graph.{IsTop}
 use Rattle.gm_graph.specs.Outcome.{AreFaults}
 use Rattle.gm_graph_listing.specs.Laws.{AnswerAlike}
-use Rattle.gm_graph_listing.specs.Outcomes.{AreKnown, AreSums, Given, GivenFilesReadAs, IsMainFile, Outcome, refused}
-use Rattle.gm_graph_listing.specs.Reports.{faults_text, too_many_line}
+use Rattle.gm_graph_listing.specs.Outcomes.{AreKnown, AreSums, Given, GivenFilesReadAs, IsMainFile}
+use Rattle.gm_report.specs.Outcome.{Outcome, refused}
+use Rattle.gm_report.specs.Reports.{faults_text, too_many_line}
 use Rattle.gomod_words.specs.declared.usage.Command.{Command}
 use Rattle.gomod_words.specs.declared.usage.Command.TheVariants.{Graph, List as Rows}
 use Rattle.gomod_laws.specs.AdditionLaws.{AreNotLower}

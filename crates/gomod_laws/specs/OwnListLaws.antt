@@ -8,7 +8,7 @@ use Rattle.gm_store.specs.Asked.{answer_in, bytes, mod_file}
 use Rattle.gm_graph_cache.specs.Main.{Main, ModuleVersion, is_pruned_by}
 use Rattle.gm_graph_select.specs.declared.step.Step.TheVariants.{Of}
 use Rattle.gm_graph_select.specs.BuildList.{Entry}
-use Rattle.gm_graph_listing.specs.Outcomes.{Outcome}
+use Rattle.gm_report.specs.Outcome.{Outcome}
 use Rattle.gomod_words.specs.declared.usage.Command.TheVariants.{List as Rows}
 use Rattle.gomod_laws.specs.AdditionLaws.{AreTwoRuns}
 use Rattle.gomod_laws.specs.Runs.{HasPrinted}

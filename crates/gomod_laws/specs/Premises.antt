@@ -2,7 +2,8 @@
 use Rattle.std.specs.Prelude.{◌≡◌, ℕ, List, [], None, String, codes}
 use Rattle.std.specs.Global.{Global, Vec}
 use Rattle.gm_graph_cache.specs.Main.{Main}
-use Rattle.gm_graph_listing.specs.Outcomes.{IsMainFile, printed}
+use Rattle.gm_graph_listing.specs.Outcomes.{IsMainFile}
+use Rattle.gm_report.specs.Outcome.{printed}
 use Rattle.gomod_words.specs.Usage.{texts_in}
 use Rattle.gomod_words.specs.declared.usage.Command.TheVariants.{Fmt, Edit}
 use Rattle.gomod_laws.specs.Runs.{HasOutcome}

@@ -9,7 +9,7 @@ use Rattle.gm_graph_cache.specs.Main.{Main, ModuleVersion, is_pruned_by}
 use Rattle.gm_graph_select.specs.declared.step.Edge.{Edge}
 use Rattle.gm_graph.specs.Graph.{IsTop}
 use Rattle.gm_graph_listing.specs.Laws.{AnswerAlike}
-use Rattle.gm_graph_listing.specs.Outcomes.{Outcome}
+use Rattle.gm_report.specs.Outcome.{Outcome}
 use Rattle.gomod_words.specs.Usage.{texts_in}
 use Rattle.gomod_words.specs.declared.usage.Command.TheVariants.{List as Rows}
 use Rattle.gomod_laws.specs.AdditionLaws.{AreTwoRuns, LowersNothing}

@@ -13,7 +13,8 @@ use Rattle.gm_graph_select.specs.declared.step.Edge.{Edge}
 use Rattle.gm_graph_select.specs.BuildList.{Entry}
 use Rattle.gm_graph.specs.declared.fault.Fault.{Fault}
 use Rattle.gm_graph.specs.Outcome.{AreEdges}
-use Rattle.gm_graph_listing.specs.Outcomes.{AreKnown, AreRows, Given, GivenFilesReadAs, Outcome, longest}
+use Rattle.gm_graph_listing.specs.Outcomes.{AreKnown, AreRows, Given, GivenFilesReadAs, longest}
+use Rattle.gm_report.specs.Outcome.{Outcome}
 use Rattle.gomod_words.specs.declared.usage.Command.{Command}
 use Rattle.gomod_words.specs.declared.usage.Command.TheVariants.{Graph, List as Rows}
 use Rattle.gomod_run.specs.Runs.{is_query}

@@ -1,7 +1,7 @@
 -- Runs of commands, as the laws speak of them.
 use Rattle.std.specs.Prelude.{◌≡◌, ℕ, List, Option}
 use Rattle.gm_store.specs.Asked.{Name, Reply}
-use Rattle.gm_graph_listing.specs.Outcomes.{Outcome}
+use Rattle.gm_report.specs.Outcome.{Outcome}
 use Rattle.gomod_words.specs.declared.usage.Command.{Command}
 use Rattle.gomod_run.specs.Queries.{RunsTo}
 use Rattle.gm_store.specs.States.{StoreState}

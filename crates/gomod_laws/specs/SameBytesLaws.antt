@@ -1,7 +1,7 @@
 -- A replace by the same bytes changes no graph: Go Modules Reference, replace directive.
 use Rattle.std.specs.Prelude.{◌≡◌, ℕ, true, if◌then◌else◌, List, Option, Some, None, map, ⊤}
 use Rattle.gm_file.specs.Directives.{Folder, Module, Right, left_with}
-use Rattle.gm_file.specs.Pairs.{pair_eq}
+use Rattle.gm_name.specs.PairOrder.{pair_eq}
 use Rattle.gm_store.specs.Asked.{Name, Reply, answer_in, bytes, mod_file}
 use Rattle.gm_store_sums.specs.Hash.{file_hash}
 use Rattle.gm_store_sums.specs.Sums.{Says}
@@ -11,7 +11,8 @@ use Rattle.gm_graph_cache.specs.Reading.{file_named, is_askable}
 use Rattle.gm_graph_select.specs.declared.step.Step.TheVariants.{Main as FromMain, Of}
 use Rattle.gm_graph_select.specs.BuildList.{Entry}
 use Rattle.gm_graph_listing.specs.Laws.{AnswerAlike}
-use Rattle.gm_graph_listing.specs.Outcomes.{IsMainFile, Outcome}
+use Rattle.gm_graph_listing.specs.Outcomes.{IsMainFile}
+use Rattle.gm_report.specs.Outcome.{Outcome}
 use Rattle.gomod_words.specs.declared.usage.Command.{Command}
 use Rattle.gomod_words.specs.declared.usage.Command.TheVariants.{Graph, List as Rows, Chain}
 use Rattle.gomod_laws.specs.ExclusionLaws.{HasOneMoreReplace}

@@ -2,12 +2,13 @@
 use Rattle.std.specs.Prelude.{◌↔◌, ◌≡◌, ◌≤◌, ◌⊎◌, ◌++◌, ◌∷◌, ℕ, List, [], Some, None, Contains, codes, false, length, map, nat_eq}
 use Rattle.std.specs.List.{starts_with}
 use Rattle.gm_store.specs.Asked.{Name, Reply, answer_in, bytes, mod_file}
-use Rattle.gm_store.specs.Lines.{fields, lines}
+use Rattle.gm_name.specs.Lines.{fields, lines}
 use Rattle.gm_store_sums.specs.Hash.{file_hash}
 use Rattle.gm_store_sums.specs.Sums.{HasValidLines, IsSum, Says}
 use Rattle.gm_store_sums.specs.declared.sum_table.Sum.TheVariants.{Good}
 use Rattle.gm_graph_listing.specs.Laws.{AnswerAlike}
-use Rattle.gm_graph_listing.specs.Outcomes.{Outcome, longest}
+use Rattle.gm_graph_listing.specs.Outcomes.{longest}
+use Rattle.gm_report.specs.Outcome.{Outcome}
 use Rattle.gomod_words.specs.declared.usage.Command.{Command}
 use Rattle.gomod_run.specs.Needs.{GraphNeeds}
 use Rattle.gomod_laws.specs.Runs.{HasOutcome, HasPrinted}

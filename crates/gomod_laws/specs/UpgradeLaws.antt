@@ -11,7 +11,7 @@ use Rattle.gm_store.specs.Asked.{Name, Reply, answer_in, bytes}
 use Rattle.gm_graph_cache.specs.Main.{Main, ModuleVersion, is_excluded, is_pruned_by, without_excluded}
 use Rattle.gm_graph_cache.specs.Reading.{IsReadAsDependency, file_of}
 use Rattle.gm_graph.specs.Graph.{IsTop}
-use Rattle.gm_graph_listing.specs.Outcomes.{Outcome}
+use Rattle.gm_report.specs.Outcome.{Outcome}
 use Rattle.gomod_words.specs.declared.usage.Command.TheVariants.{List as Rows}
 use Rattle.gomod_laws.specs.AdditionLaws.{AreTwoRuns, LowersNothing}
 use Rattle.gomod_laws.specs.RedundantLaws.{IsEditedBy}

@@ -10,7 +10,8 @@ use Rattle.gm_graph_cache.specs.Main.{Main, ModuleVersion}
 use Rattle.gm_graph_cache.specs.Reading.{Held, IsFileReading, IsReadUnless, IsTold, Tells, is_askable, readings_by}
 use Rattle.gm_graph.specs.Graph.{IsOpened}
 use Rattle.gm_graph.specs.Loading.{IsAnswered, IsNeeded}
-use Rattle.gm_graph_listing.specs.Outcomes.{AreSums, IsMainFile, IsOutcome, Outcome, Prints, PrintsChain, PrintsGraph, PrintsList, answers, device, faulty, given, too_many}
+use Rattle.gm_graph_listing.specs.Outcomes.{AreSums, IsMainFile, IsOutcome, Prints, PrintsChain, PrintsGraph, PrintsList, answers, device, faulty, given, too_many}
+use Rattle.gm_report.specs.Outcome.{OrNoMemory, Outcome}
 use Rattle.gm_graph_listing.proofs.OneRead.{FindSame, one_finding, one_main}
 use Rattle.gomod_words.specs.declared.usage.Command.{Command}
 use Rattle.gomod_words.specs.declared.usage.Command.TheVariants.{Fmt, Edit, Versions, Graph, List as Rows, Chain}
@@ -94,6 +95,14 @@ done_answers (Versions path all) main sums old new outcome runs done =
 done_answers Graph main sums old new outcome (failed, grown, is) done = query_done PrintsGraph main sums new.asked failed outcome is done
 done_answers (Rows after limit) main sums old new outcome (failed, grown, is) done = query_done (PrintsList after limit) main sums new.asked failed outcome is done
 done_answers (Chain path) main sums old new outcome (failed, grown, is) done = query_done (PrintsChain path) main sums new.asked failed outcome is done
+
+-- the same where memory may have run out: its report has another status
+pub done_if_memory : (command : Command) (main : List ℕ) (sums : Option (List ℕ)) (old new : StoreState) (outcome : Outcome)
+    → OrNoMemory (RunsTo command main sums old new) outcome → outcome.status ≡ 0
+    → AnsweredAll (Needs command main sums) (answer_in new.asked)
+done_if_memory command main sums old new outcome (inl runs) done = done_answers command main sums old new outcome runs done
+done_if_memory command main sums old new outcome (inr memory) done =
+    let code = ap (λ (o : Outcome). o.status) memory in absurd (omega (arith, code, done))
 
 -- an outcome that was written with the status of a done run has that status
 pub written_done : (outcome : Outcome) (out out' report report' : SinkState) (status : ℕ) → IsWritten outcome out out' report report' status → status ≡ 0 → outcome.status ≡ 0

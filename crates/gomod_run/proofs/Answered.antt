@@ -1,13 +1,12 @@
 -- What the program says to single words.
 use Rattle.std.proofs.Common.{◌≡◌, ◌⊎◌, ◌∷◌, ◌∙◌, ℕ, List, [], ap, codes, inl, inr, subst, true}
-use Rattle.gm_graph_listing.specs.Outcomes.{Outcome, printed}
+use Rattle.gm_report.specs.Outcome.{Outcome, printed, out_of_memory}
 use Rattle.gomod_words.specs.Laws.{AreUsageError, AskForVersion}
 use Rattle.gomod_words.specs.Usage.{IsVersionLine, is_line_or_memory, version_line}
 use Rattle.gomod_words.specs.declared.usage.UsageFault.{UsageFault}
 use Rattle.gomod_words.specs.declared.usage.UsageFault.TheVariants.{NoMemory, Help, Version, Line, BadPath, BadProxy}
 use Rattle.gomod_words.proofs.Asked.{error_without_words, version_by_long, version_by_short}
 use Rattle.gomod_run.specs.Program.{IsWordsOutcome, anything, usage_outcome}
-use Rattle.gomod_run.specs.Written.{out_of_memory}
 
 version_outcome : (fault : UsageFault) (outcome : Outcome) → IsVersionLine fault → outcome ≡ usage_outcome fault
     → (outcome ≡ printed version_line) ⊎ (outcome ≡ out_of_memory)

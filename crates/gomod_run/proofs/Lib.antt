@@ -3,6 +3,7 @@ pub mod Answering
 pub mod Endings
 pub mod InTurn
 pub mod Misread
+pub mod Operations
 pub mod Joining
 pub mod Sameness
 pub mod Uniqueness
@@ -11,3 +12,4 @@ pub mod Served
 pub mod OneEnd
 pub mod OneStore
 pub mod Answered
+pub mod WrittenTexts

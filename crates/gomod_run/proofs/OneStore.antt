@@ -3,7 +3,8 @@ use Rattle.std.proofs.Common.{◌≡◌, ◌∙◌, ◌++◌, ◌∷◌, ℕ, Bo
 use Rattle.std.proofs.lemmas.List.{append_cancel_left}
 use Rattle.gm_store.specs.Asked.{Name, Reply, absent, answer_in, bytes, too_long}
 use Rattle.gm_graph_listing.specs.Laws.{AnswerAlike, AreAlike}
-use Rattle.gm_graph_listing.specs.Outcomes.{Given, Outcome, answers, given}
+use Rattle.gm_graph_listing.specs.Outcomes.{Given, answers, given}
+use Rattle.gm_report.specs.Outcome.{Outcome}
 use Rattle.gm_graph_listing.proofs.OneOutcome.{alike_chains, alike_graphs, alike_lists}
 use Rattle.gomod_words.specs.declared.usage.Command.{Command}
 use Rattle.gomod_words.specs.declared.usage.Command.TheVariants.{Fmt, Edit, Versions, Graph, List as Rows, Chain}

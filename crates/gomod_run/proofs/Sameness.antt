@@ -18,8 +18,8 @@ use Rattle.gomod_words.specs.Usage.{texts_in}
 use Rattle.gomod_words.specs.declared.usage.Command.{Command}
 use Rattle.gomod_words.specs.declared.usage.Command.TheVariants.{Fmt, Edit, Versions, Graph, List as Rows, Chain}
 use Rattle.gm_graph_cache.proofs.OneReading.{one_reading}
-use Rattle.gm_graph_listing.specs.Outcomes.{Outcome, printed, refused}
-use Rattle.gm_graph_listing.specs.Reports.{Place, main_line, syntax_place}
+use Rattle.gm_report.specs.Outcome.{Outcome, printed, refused}
+use Rattle.gm_report.specs.Reports.{FaultPlace, main_line, syntax_place}
 use Rattle.gm_graph_listing.proofs.OneRead.{misread_or_lines, one_place, same_lines}
 use Rattle.gomod_run.specs.Editing.{IsEditOutcome, edited_in_turn, edits_outcome, refusals_from}
 use Rattle.gomod_run.specs.Runs.{IsFmtOutcome, StatesOutcome}
@@ -28,14 +28,14 @@ use Rattle.gomod_run.proofs.Uniqueness.{latest_once, listed_once, none_latest}
 
 -- ---- fmt
 
-no_fault : (file : List ℕ) (lines : List (Line Placed)) (fault : SyntaxFault) (place : Place) → IsParsedAs file (Ok lines)
+no_fault : (file : List ℕ) (lines : List (Line Placed)) (fault : SyntaxFault) (place : FaultPlace) → IsParsedAs file (Ok lines)
     → IsParsedAs file (Err fault) → syntax_place fault ≡ Some place → ⊥
 no_fault file lines faults.NoMemory place good bad named = cc
 no_fault file lines faults.TooMany place good bad named = let short = good.0.0 in absurd (omega arith)
 no_fault file lines faults.NotUtf8 place good bad named = bad.1 good.0.1
 no_fault file lines (faults.Syntax line kind) place good bad named = let ends = (good.1.only bad.1 (Faulty line kind) bad.2.reads).1 in cc
 
-same_place : (file : List ℕ) (one other : SyntaxFault) (here there : Place) → IsParsedAs file (Err one) → IsParsedAs file (Err other)
+same_place : (file : List ℕ) (one other : SyntaxFault) (here there : FaultPlace) → IsParsedAs file (Err one) → IsParsedAs file (Err other)
     → syntax_place one ≡ Some here → syntax_place other ≡ Some there → here ≡ there
 same_place file faults.NoMemory other here there a b p q = absurd (cc)
 same_place file faults.TooMany faults.NoMemory here there a b p q = absurd (cc)
@@ -58,7 +58,7 @@ fmt_once file one other (inl a) (inl b) =
 fmt_once file one other (inl a) (inr b) = absurd (no_fault file a.0 b.0 b.1 a.1 b.2 b.3)
 fmt_once file one other (inr a) (inl b) = absurd (no_fault file b.0 a.0 a.1 b.1 a.2 a.3)
 fmt_once file one other (inr a) (inr b) =
-    a.4 ∙ ap (λ (place : Place). refused (main_line place)) (same_place file a.0 b.0 a.1 b.1 a.2 b.2 a.3 b.3) ∙ sym b.4
+    a.4 ∙ ap (λ (place : FaultPlace). refused (main_line place)) (same_place file a.0 b.0 a.1 b.1 a.2 b.2 a.3 b.3) ∙ sym b.4
 
 -- ---- edit
 
@@ -72,7 +72,7 @@ printed_same [] one other same = ap (λ (ls : List (Line Word)). printed (layout
 printed_same (refusal ∷ later) one other same = refl
 
 edit_once : (texts : List (List ℕ)) (file : List ℕ) (one other : Outcome) → IsEditOutcome texts file one → IsEditOutcome texts file other → one ≡ other
-edit_once texts file one other (inl a) (inl b) = a.2 ∙ ap (λ (place : Place). refused (main_line place)) (one_place file a.0 b.0 a.1 b.1) ∙ sym b.2
+edit_once texts file one other (inl a) (inl b) = a.2 ∙ ap (λ (place : FaultPlace). refused (main_line place)) (one_place file a.0 b.0 a.1 b.1) ∙ sym b.2
 edit_once texts file one other (inl a) (inr b) = absurd (misread_or_lines file a.0 b.0 a.1 b.1)
 edit_once texts file one other (inr a) (inl b) = absurd (misread_or_lines file b.0 a.0 b.1 a.1)
 edit_once texts file one other (inr a) (inr b) =

@@ -12,29 +12,31 @@ use Rattle.gm_store.specs.States.{StoreState}
 use Rattle.gm_store.specs.Taken.{SinkState}
 use Rattle.gm_store.specs.declared.files.memory.MemoryFiles.{MemoryFiles}
 use Rattle.gm_store.specs.declared.fallback.proxy_list.ProxyList.{ProxyList}
-use Rattle.gm_store.specs.declared.reading.ReadFault.{ReadFault}
 use Rattle.gomod_words.specs.declared.usage.Command.{Command}
 use Rattle.gomod_words.specs.declared.usage.Command.TheVariants.{Fmt, Edit, Versions, Graph, List as Rows, Chain}
 use Rattle.gomod_words.specs.declared.usage.Places.{Places}
-use Rattle.gm_graph_listing.specs.Outcomes.{Outcome, answers, code_of, longest}
-use Rattle.gm_graph_listing.specs.declared.output.Status.{Status}
+use Rattle.gm_graph_listing.specs.Outcomes.{answers, longest}
+use Rattle.gm_report.specs.Outcome.{OrNoMemory, Outcome, code_of, report_outcome}
+use Rattle.gm_report.specs.declared.report.Report.{Report}
+use Rattle.gm_report.specs.declared.status.Status.{Status}
 use Rattle.gomod_run.specs.declared.inputs.Inputs.{Inputs}
-use Rattle.gomod_run.specs.declared.inputs.Unread.{Unread}
-use Rattle.gomod_run.specs.Program.{IsMainServed, IsQueryRun, IsServed, IsSumsServed, MayBeTold, unread_outcome}
+use Rattle.gomod_run.specs.Program.{IsMainServed, IsQueryRun, IsServed, IsSumsServed, MayBeTold}
 use Rattle.gomod_run.specs.Queries.{RunsTo}
-use Rattle.gomod_run.specs.Reads.{AreBothRead, AreInputs, AreSumsInput, AreSumsUnread, HoldsInput, IsOneUnread, IsServedUnread, IsStoreFolder, IsUnreadInput, IsUnreadStore, with_proxy}
+use Rattle.gomod_run.specs.Reads.{AreBothRead, AreInputs, AreSumsInput, AreSumsUnread, HoldsInput, IsOneUnread, IsStoreFolder, IsUnreadInput, IsUnreadStore, with_proxy}
 use Rattle.gomod_run.specs.Runs.{is_query}
-use Rattle.gomod_run.specs.Written.{EndsAsStated}
+use Rattle.gomod_run.specs.Written.{EndsAsStated, IsWritten}
 use Rattle.gomod_run.proofs.Endings.{by_bytes, folder_weaken, input_weaken}
 
 -- ---- the inputs
 
 -- a go.sum that can't be read, where `?` passes that on
-pub sums_passed_on : (may_open : List ℕ → Opening → Type 0) (places : Places) (main : Vec ℕ) (unread : Unread) (result : Result Inputs Unread)
-    → IsErr result → IsErrAnd result (λ passed. passed ≡ unread) → MayRead (may_open (string_bytes places.main)) (Ok main)
-    → AreSumsUnread may_open (option_map string_bytes places.sums) unread → MatchResult result (AreBothRead may_open places) (IsOneUnread may_open places)
-sums_passed_on may_open places main unread (Err passed) none same may is = inr (main, may, subst (AreSumsUnread may_open (option_map string_bytes places.sums)) (sym same) is)
-sums_passed_on may_open places main unread (Ok inputs) none same may is = absurd (cc none)
+pub sums_passed_on : (may_open : List ℕ → Opening → Type 0) (places : Places) (main : Vec ℕ) (told : Report) (result : Result Inputs Report)
+    → IsErr result → IsErrAnd result (λ passed. passed ≡ told) → MayRead (may_open (string_bytes places.main)) (Ok main)
+    → AreSumsUnread may_open (option_map string_bytes places.sums) (report_outcome told)
+    → MatchResult result (AreBothRead may_open places) (λ told. IsOneUnread may_open places (report_outcome told))
+sums_passed_on may_open places main told (Err passed) none same may is =
+    inr (main, may, subst (λ (told : Report). AreSumsUnread may_open (option_map string_bytes places.sums) (report_outcome told)) (sym same) is)
+sums_passed_on may_open places main told (Ok inputs) none same may is = absurd (cc none)
 
 -- the outcome of a query follows from what its store answered
 query_weaken : (may_answer : Name → Reply → Type 0) (command : Command) (main : List ℕ) (sums : Option (List ℕ)) (old new : StoreState) → is_query command ≡ true
@@ -56,17 +58,17 @@ sums_served may_open may_answer command None main (Some sums) outcome read runs 
 sums_served may_open may_answer command (Some name) main None outcome read runs = absurd read
 
 -- a query that ends because the named go.sum can't be read
-sums_unserved : (may_open : List ℕ → Opening → Type 0) (may_answer : Name → Reply → Type 0) (command : Command) (name : Option (List ℕ)) (main : List ℕ) (unread : Unread)
-    → AreSumsUnread may_open name unread → IsSumsServed may_open may_answer command name main (unread_outcome unread.name.now unread.fault)
-sums_unserved may_open may_answer command None main unread is = absurd is
-sums_unserved may_open may_answer command (Some name) main unread is = (Err unread.fault, is.1, ap (λ (name : List ℕ). unread_outcome name unread.fault) is.0)
+sums_unserved : (may_open : List ℕ → Opening → Type 0) (may_answer : Name → Reply → Type 0) (command : Command) (name : Option (List ℕ)) (main : List ℕ) (outcome : Outcome)
+    → AreSumsUnread may_open name outcome → IsSumsServed may_open may_answer command name main outcome
+sums_unserved may_open may_answer command None main outcome is = absurd is
+sums_unserved may_open may_answer command (Some name) main outcome (fault, may, is) = (Err fault, may, is)
 
 -- a query that ends because one of its files can't be read
-one_unserved : (may_open : List ℕ → Opening → Type 0) (may_answer : Name → Reply → Type 0) (command : Command) (places : Places) (unread : Unread)
-    → IsOneUnread may_open places unread → IsMainServed may_open may_answer command (string_bytes places.main) (option_map string_bytes places.sums) (unread_outcome unread.name.now unread.fault)
-one_unserved may_open may_answer command places unread (inl main) = (Err unread.fault, main.1, ap (λ (name : List ℕ). unread_outcome name unread.fault) main.0)
-one_unserved may_open may_answer command places unread (inr both) =
-    (Ok both.0, both.1, sums_unserved may_open may_answer command (option_map string_bytes places.sums) both.0.items unread both.2)
+one_unserved : (may_open : List ℕ → Opening → Type 0) (may_answer : Name → Reply → Type 0) (command : Command) (places : Places) (outcome : Outcome)
+    → IsOneUnread may_open places outcome → IsMainServed may_open may_answer command (string_bytes places.main) (option_map string_bytes places.sums) outcome
+one_unserved may_open may_answer command places outcome (inl (fault, may, is)) = (Err fault, may, is)
+one_unserved may_open may_answer command places outcome (inr both) =
+    (Ok both.0, both.1, sums_unserved may_open may_answer command (option_map string_bytes places.sums) both.0.items outcome both.2)
 
 -- ---- the folder of the main file
 
@@ -185,78 +187,60 @@ passed_on stated error (Err passed) same is = subst stated (sym same) is
 passed_on stated error (Ok value) same is = tt
 
 -- the report of a file that can't be read is an outcome of the command
-pub input_unserved : (may_open : List ℕ → Opening → Type 0) (command : Command) (places : Places) (proxy : Option ProxyList) (unread : Unread) → IsUnreadInput may_open command places unread
-    → IsServed may_open command (with_proxy places proxy) (unread_outcome unread.name.now unread.fault)
-input_unserved may_open Fmt places proxy unread is = (Err unread.fault, is.1, ap (λ (name : List ℕ). unread_outcome name unread.fault) is.0)
-input_unserved may_open (Edit operations) places proxy unread is = (Err unread.fault, is.1, ap (λ (name : List ℕ). unread_outcome name unread.fault) is.0)
-input_unserved may_open (Versions path all) places proxy unread is = absurd is
-input_unserved may_open Graph places proxy unread is =
-    let folder = a_folder (string_bytes places.main) in (folder.0, folder.1, one_unserved may_open (MayBeTold may_open folder.0 proxy) Graph places unread is)
-input_unserved may_open (Rows after limit) places proxy unread is =
-    let folder = a_folder (string_bytes places.main) in (folder.0, folder.1, one_unserved may_open (MayBeTold may_open folder.0 proxy) (Rows after limit) places unread is)
-input_unserved may_open (Chain path) places proxy unread is =
-    let folder = a_folder (string_bytes places.main) in (folder.0, folder.1, one_unserved may_open (MayBeTold may_open folder.0 proxy) (Chain path) places unread is)
+pub input_unserved : (may_open : List ℕ → Opening → Type 0) (command : Command) (places : Places) (proxy : Option ProxyList) (outcome : Outcome) → IsUnreadInput may_open command places outcome
+    → IsServed may_open command (with_proxy places proxy) outcome
+input_unserved may_open Fmt places proxy outcome (fault, may, is) = (Err fault, may, is)
+input_unserved may_open (Edit operations) places proxy outcome (fault, may, is) = (Err fault, may, is)
+input_unserved may_open (Versions path all) places proxy outcome is = absurd is
+input_unserved may_open Graph places proxy outcome is =
+    let folder = a_folder (string_bytes places.main) in (folder.0, folder.1, one_unserved may_open (MayBeTold may_open folder.0 proxy) Graph places outcome is)
+input_unserved may_open (Rows after limit) places proxy outcome is =
+    let folder = a_folder (string_bytes places.main) in (folder.0, folder.1, one_unserved may_open (MayBeTold may_open folder.0 proxy) (Rows after limit) places outcome is)
+input_unserved may_open (Chain path) places proxy outcome is =
+    let folder = a_folder (string_bytes places.main) in (folder.0, folder.1, one_unserved may_open (MayBeTold may_open folder.0 proxy) (Chain path) places outcome is)
 
--- and so is the report of standard input, unless memory ran out
-pub store_unserved : (may_open : List ℕ → Opening → Type 0) (command : Command) (places : Places) (unread : Unread) → IsUnreadStore command unread
-    → IsServedUnread may_open command (with_proxy places None) unread
-store_unserved may_open (Versions path all) places unread (inl same) = inl (Err unread.fault, ap (λ (name : List ℕ). unread_outcome name unread.fault) same)
-store_unserved may_open (Versions path all) places unread (inr memory) = inr memory
-store_unserved may_open Fmt places unread is = absurd is
-store_unserved may_open (Edit operations) places unread is = absurd is
-store_unserved may_open Graph places unread is = absurd is
-store_unserved may_open (Rows after limit) places unread is = absurd is
-store_unserved may_open (Chain path) places unread is = absurd is
+-- and so is the report of standard input
+pub store_unserved : (may_open : List ℕ → Opening → Type 0) (command : Command) (places : Places) (outcome : Outcome) → IsUnreadStore command outcome
+    → IsServed may_open command (with_proxy places None) outcome
+store_unserved may_open (Versions path all) places outcome (fault, is) = (Err fault, is)
+store_unserved may_open Fmt places outcome is = absurd is
+store_unserved may_open (Edit operations) places outcome is = absurd is
+store_unserved may_open Graph places outcome is = absurd is
+store_unserved may_open (Rows after limit) places outcome is = absurd is
+store_unserved may_open (Chain path) places outcome is = absurd is
 
 -- ---- the end
 
--- an end that reports what can't be read, where nothing was written before
-pub unread_ends : (may_open : List ℕ → Opening → Type 0) (command : Command) (places : Places) (unread : Unread) (out mid out' report between report' : SinkState) (status : ℕ)
-    → mid ≡ out → between ≡ report → IsServedUnread may_open command places unread
-    → EndsAsStated (λ outcome. outcome ≡ unread_outcome unread.name.now unread.fault) mid out' between report' status → EndsAsStated (IsServed may_open command places) out out' report report' status
-unread_ends may_open command places unread out mid out' report between report' status same_text same_report may ends =
-    let P : SinkState → Type 0 = λ report. EndsAsStated (λ outcome. outcome ≡ unread_outcome unread.name.now unread.fault) mid out' report report' status in
-    let Q : SinkState → Type 0 = λ out. EndsAsStated (λ outcome. outcome ≡ unread_outcome unread.name.now unread.fault) out out' report report' status in
-    let ends' : Q out = subst Q same_text (subst P same_report ends) in record {
-      outcome = ends'.outcome;
-      as_stated = elim ends'.as_stated [
-        | inl is ↦ elim may [
-          | inl stated ↦ inl (subst (λ (outcome : Outcome). IsServed may_open command places outcome) (sym is) stated)
-          | inr memory ↦ inr (is ∙ ap (λ (fault : ReadFault). unread_outcome unread.name.now fault) memory)
-        ]
-        | inr memory ↦ inr memory
-      ];
-      written = ends'.written;
-    }
-
 -- what a run over a store gives its caller: an end, or what can't be read, where nothing was written
-pub record IsRun (may_open : List ℕ → Opening → Type 0) (command : Command) (places : Places) (out out' report report' : SinkState) (served : Result Status Unread) : Type 0 where
+pub record IsRun (may_open : List ℕ → Opening → Type 0) (command : Command) (places : Places) (out out' report report' : SinkState) (served : Result Status Report) : Type 0 where
   pub ends : IfOk served (λ status. EndsAsStated (IsServed may_open command places) out out' report report' (code_of status))
-  pub unread : IfErr served (IsServedUnread may_open command places)
+  pub unread : IfErr served (λ told. OrNoMemory (IsServed may_open command places) (report_outcome told))
   pub no_text : IfErr served (λ _. out' ≡ out)
   pub no_report : IfErr served (λ _. report' ≡ report)
 
 -- it gives the same where its results have other names
-pub same_served : (may_open : List ℕ → Opening → Type 0) (command : Command) (places : Places) (proxy : Option ProxyList) (out mid out' report between report' : SinkState) (made served : Result Status Unread)
+pub same_served : (may_open : List ℕ → Opening → Type 0) (command : Command) (places : Places) (proxy : Option ProxyList) (out mid out' report between report' : SinkState) (made served : Result Status Report)
     → proxy ≡ places.proxy → out' ≡ mid → report' ≡ between → served ≡ made
     → IsRun may_open command (with_proxy places proxy) out mid report between made → IsRun may_open command places out out' report report' served
 same_served may_open command places proxy out mid out' report between report' made served same_proxy same_out same_report same run =
     let P : Option ProxyList → Type 0 = λ proxy. IsRun may_open command (with_proxy places proxy) out mid report between made in
     let Q : SinkState → Type 0 = λ out'. IsRun may_open command places out out' report between made in
     let R : SinkState → Type 0 = λ report'. IsRun may_open command places out out' report report' made in
-    let S : Result Status Unread → Type 0 = λ served. IsRun may_open command places out out' report report' served in
+    let S : Result Status Report → Type 0 = λ served. IsRun may_open command places out out' report report' served in
     subst S (sym same) (subst R (sym same_report) (subst Q (sym same_out) (subst P same_proxy run)))
 
 -- the end of a command whose run has one
-pub done_ends : (may_open : List ℕ → Opening → Type 0) (command : Command) (places : Places) (out out' report report' : SinkState) (served : Result Status Unread) (status : Status) → served ≡ Ok status
+pub done_ends : (may_open : List ℕ → Opening → Type 0) (command : Command) (places : Places) (out out' report report' : SinkState) (served : Result Status Report) (status : Status) → served ≡ Ok status
     → IsRun may_open command places out out' report report' served → EndsAsStated (IsServed may_open command places) out out' report report' (code_of status)
 done_ends may_open command places out out' report report' served status is run =
-    subst (λ (served : Result Status Unread). IfOk served (λ status. EndsAsStated (IsServed may_open command places) out out' report report' (code_of status))) is run.ends
+    subst (λ (served : Result Status Report). IfOk served (λ status. EndsAsStated (IsServed may_open command places) out out' report report' (code_of status))) is run.ends
 
 -- the end of a command whose run has none: what can't be read is reported
-pub stopped_ends : (may_open : List ℕ → Opening → Type 0) (command : Command) (places : Places) (unread : Unread) (out mid out' report between report' : SinkState) (served : Result Status Unread) (status : ℕ) → served ≡ Err unread
+pub stopped_ends : (may_open : List ℕ → Opening → Type 0) (command : Command) (places : Places) (told : Report) (out mid out' report between report' : SinkState) (served : Result Status Report) (status : ℕ) → served ≡ Err told
     → IsRun may_open command places out mid report between served
-    → EndsAsStated (λ outcome. outcome ≡ unread_outcome unread.name.now unread.fault) mid out' between report' status → EndsAsStated (IsServed may_open command places) out out' report report' status
-stopped_ends may_open command places unread out mid out' report between report' served status is run ends =
+    → IsWritten (report_outcome told) mid out' between report' status → EndsAsStated (IsServed may_open command places) out out' report report' status
+stopped_ends may_open command places told out mid out' report between report' served status is run written =
     let run' = subst (IsRun may_open command places out mid report between) is run in
-    unread_ends may_open command places unread out mid out' report between report' status run'.no_text run'.no_report run'.unread ends
+    let P : SinkState → Type 0 = λ report. IsWritten (report_outcome told) mid out' report report' status in
+    let Q : SinkState → Type 0 = λ out. IsWritten (report_outcome told) out out' report report' status in
+    record { outcome = report_outcome told; as_stated = run'.unread; written = subst Q run'.no_text (subst P run'.no_report written) }

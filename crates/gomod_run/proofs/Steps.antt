@@ -1,6 +1,11 @@
 -- Runs of `versions` over a store, step by step.
-use Rattle.std.proofs.Common.{◌≡◌, ◌⊎◌, ◌∙◌, ◌++◌, ◌∷◌, zero, suc, ℕ, ◌<◌, ◌≤◌, length, Bool, true, false, List, [], Option, Some, None, Result, Ok, Err, Contains, IfErr, IfNone, IfOk, IfSome, ap, arith, codes, inl, inr, refl, subst, sym}
-use Rattle.std.specs.Result.{IsErr}
+use Rattle.std.proofs.lemmas.List.{append_cancel_left}
+use Rattle.std.proofs.lemmas.Option.{same_Some}
+use Rattle.std.proofs.lemmas.Result.{err_from_is_err_and}
+use Rattle.std.proofs.Common.{◌≡◌, ◌⊎◌, ◌∙◌, ◌++◌, ◌∷◌, zero, suc, ℕ, ◌<◌, ◌≤◌, length, Bool, true, false, List, [], Some, None, Result, Ok, Err, Contains, IfOk, append-nil, ap, arith, codes, inl, inr, refl, subst, sym}
+use Rattle.std.specs.Prelude.{String, ⊤}
+use Rattle.std.specs.declared.alloc.Global.{Global}
+use Rattle.std.specs.Result.{IsErrAnd}
 use Rattle.gm_name.specs.Path.{is_fetchable}
 use Rattle.gm_store.specs.Asked.{IsWithinLimit, Name, Reply, absent, answer_in, bytes, list_file, mod_file, too_long}
 use Rattle.gm_store.specs.Latest.{IsLatest}
@@ -10,18 +15,15 @@ use Rattle.gm_graph_cache.specs.declared.class.Class.{Class}
 use Rattle.gm_graph_cache.specs.declared.reading.FileReading.{FileReading}
 use Rattle.gm_graph_cache.specs.Reading.{IsContentReading, IsFileReading}
 use Rattle.gm_graph_cache.specs.Summaries.{reading_of}
-use Rattle.gm_graph_listing.specs.declared.output.Output.{Output}
-use Rattle.gm_graph_listing.specs.declared.output.Stop.{Stop}
-use Rattle.gm_graph_listing.specs.Outcomes.{Outcome, StopsWith, failed, outcome_view, printed, refused}
-use Rattle.gm_graph_listing.proofs.CommandOutcomes.{IsOutputOf, output_of}
-use Rattle.gm_graph_listing.specs.Reports.{device_line}
-use Rattle.gomod_run.specs.Asking.{IsAnsweredAsk, IsAsked, IsFailedAsk, IsLatestAsked}
-use Rattle.gomod_run.specs.Listing.{IsListAnswered}
-use Rattle.gomod_run.specs.Kinds.{list_line}
+use Rattle.gm_report.specs.Outcome.{OrNoMemory, Outcome, failed, out_of_memory, outcome_view, printed, refused, report_outcome}
+use Rattle.gm_report.specs.declared.report.Report.{Report}
+use Rattle.gm_report.specs.declared.report.Report.TheVariants as report
+use Rattle.gm_report.specs.Reports.{device_line, list_line}
+use Rattle.gomod_run.specs.Asking.{IsAnsweredAsk, IsAsked, IsLatestAsked, IsRefusedAt, IsUnanswered}
+use Rattle.gomod_run.specs.Listing.{IsAllOutcome, IsListAsked, IsShownAsked}
 use Rattle.gm_store.specs.States.{StoreState}
 use Rattle.gomod_run.specs.Runs.{AnsweredAll, AskedInTurn, IsRunOutcome, FailsInTurn}
-use Rattle.gomod_run.specs.Versions.{AnswersByName, IsOutcomeByList, IsShownOutcome, IsVersionsOutcome, NeedsFile, VersionsNeed, shown_by, versions_line}
-use Rattle.gomod_run.specs.Written.{out_of_memory}
+use Rattle.gomod_run.specs.Versions.{AnswersByName, IsEndByList, IsRefusedList, IsShownOutcome, IsUnfetchable, IsVersionsOutcome, NeedsFile, VersionsNeed, shown_by, versions_line}
 use Rattle.gomod_run.proofs.Answering.{file_answer, list_answer}
 use Rattle.gomod_run.proofs.Uniqueness.{latest_once, listed_once, none_latest}
 
@@ -168,6 +170,24 @@ module _ (path : List ℕ) (all : Bool) where
           same,
         )
 
+-- ---- what the store's device failed on
+
+-- one name more is another list
+none_more : (names : List Name) (name : Name) → ¬ (names ≡ names ++ name ∷ [])
+none_more names name e = let rest : [] ≡ name ∷ [] = append_cancel_left names [] (name ∷ []) (append-nil names ∙ e) in cc rest
+
+-- the device failed on no file
+unrefused : (old new : StoreState) (outcome : Outcome) → new.refused ≡ old.refused
+    → (name : Name) → new.refused ≡ old.refused ++ name ∷ [] → outcome ≡ failed (device_line name)
+unrefused old new outcome same name more = absurd (none_more old.refused name (sym same ∙ more))
+
+-- it failed on one file, which is reported
+refused_on : (old new : StoreState) (outcome : Outcome) (one : Name) → outcome ≡ failed (device_line one) → new.refused ≡ old.refused ++ one ∷ []
+    → (name : Name) → new.refused ≡ old.refused ++ name ∷ [] → outcome ≡ failed (device_line name)
+refused_on old new outcome one is grown name more =
+    let tail : one ∷ [] ≡ name ∷ [] = append_cancel_left old.refused (one ∷ []) (name ∷ []) (sym grown ∙ more) in
+    let same : one ≡ name = cc tail in is ∙ ap (λ (name : Name). failed (device_line name)) same
+
 -- ---- from the contracts of the functions
 
 -- the one answer is one that the store may give
@@ -193,215 +213,239 @@ none_allowed may asked none name r inside =
     let there = subst (λ (a : Pairs). Contains {X = Name × Reply} a (name, r)) none inside in
     let within : there.0 < 0 = there.1 in absurd (omega arith)
 
--- memory ran out before a file was asked for
-pub not_asked : {E : Type 0} (name : Name) (may : Name → Reply → Type 0) (state : StoreState) (result : Result (Option Output) E) → IsErr result → IsAsked name may state state result
-not_asked name may state (Ok output) is = absurd (cc is)
-not_asked name may state (Err e) is = (refl, inl refl)
+-- ---- the clauses of a run
 
--- the store answered with a list, which names these versions
-pub record IsListState (path : List ℕ) (may : Name → Reply → Type 0) (old new : StoreState) (versions : List (List ℕ)) : Type 0 where
-  pub list : List ℕ
-  pub fetchable : is_fetchable path ≡ true
-  pub allowed : may (list_file path) (bytes list)
-  pub asked : new.asked ≡ (list_file path, bytes list) ∷ []
-  pub unrefused : new.refused ≡ old.refused
-  pub listed : AreListed path list versions
+-- what the contract of `versions_outcome` says of a run
+pub record IsVersionsRun (path : List ℕ) (all : Bool) (may : Name → Reply → Type 0) (old new : StoreState) (outcome : Outcome) : Type 0 where
+  pub comes : OrNoMemory (IsRunOutcome (VersionsNeed path all) (IsVersionsOutcome path all) old new) outcome
+  pub device : (name : Name) → new.refused ≡ old.refused ++ name ∷ [] → outcome ≡ failed (device_line name)
+  pub no_list : (other : Outcome) → IsRefusedList path (answer_in new.asked) other → outcome ≡ other
+  pub in_turn : AskedInTurn (VersionsNeed path all) new.asked
+  pub fails : FailsInTurn (VersionsNeed path all) old new
+  pub answers : (name : Name) (reply : Reply) → Contains new.asked (name, reply) → may name reply
 
-pub list_answered : (path : List ℕ) (may : Name → Reply → Type 0) (old new : StoreState) (reply : Reply) → is_fetchable path ≡ true → old.asked ≡ []
-    → IsAnsweredAsk (list_file path) may old new reply → IsListAnswered path may old new reply
-list_answered path may old new reply fetchable none answered = record {
-  fetchable = fetchable;
-  allowed = answered.0;
-  asked = answered.1 ∙ ap (λ (a : Pairs). a ++ (list_file path, reply) ∷ []) none;
-  unrefused = answered.2;
-}
+-- the report that there is no list, or that it is too long, is one
+one_refusal : (Leads : List ℕ → Outcome → Type 0) (path : List ℕ) (reply : Reply) (outcome other : Outcome)
+    → IsEndByList Leads path reply outcome → IsEndByList (λ list outcome. ⊥) path reply other → outcome ≡ other
+one_refusal Leads path absent outcome other is ends = is ∙ sym ends
+one_refusal Leads path too_long outcome other is ends = is ∙ sym ends
+one_refusal Leads path (bytes list) outcome other is ends = absurd ends
 
--- the device failed at the list
-pub list_fails : (path : List ℕ) (all : Bool) (old new : StoreState) → is_fetchable path ≡ true → new.asked ≡ [] → new.refused ≡ old.refused ++ list_file path ∷ []
-    → FailsInTurn (VersionsNeed path all) old new
-list_fails path all old new fetchable none more = inr (list_file path, (fetchable, inl refl), ap (λ (a : Pairs). answer_in a (list_file path)) none, more)
+-- if the list was answered, an outcome by this answer is the one that takes no memory, if there is such
+refused_as : (Leads : List ℕ → Outcome → Type 0) (path : List ℕ) (answers : AnswersByName) (reply : Reply) (outcome : Outcome)
+    → is_fetchable path ≡ true → answers (list_file path) ≡ Some reply → IsEndByList Leads path reply outcome
+    → (other : Outcome) → IsRefusedList path answers other → outcome ≡ other
+refused_as Leads path answers reply outcome fetchable told is other (inl no_path) = let e : true ≡ false = sym fetchable ∙ no_path.0 in cc e
+refused_as Leads path answers reply outcome fetchable told is other (inr (seen, answered, ends)) =
+    let same : seen ≡ reply = same_Some seen reply (sym answered ∙ told) in
+    one_refusal Leads path reply outcome other is (subst (λ (r : Reply). IsEndByList (λ list outcome. ⊥) path r other) same ends)
 
-pub list_allowed : (path : List ℕ) (may : Name → Reply → Type 0) (old new : StoreState) (reply : Reply) → IsListAnswered path may old new reply
-    → (name : Name) (r : Reply) → Contains new.asked (name, r) → may name r
-list_allowed path may old new reply answered = one_allowed may new.asked (list_file path) reply answered.allowed answered.asked
+-- if nothing was answered, only a path that is not fetchable has such an outcome
+refused_first : (path : List ℕ) (asked : Pairs) (other : Outcome) → asked ≡ [] → IsRefusedList path (answer_in asked) other → IsUnfetchable path other
+refused_first path asked other none (inl no_path) = no_path
+refused_first path asked other none (inr (reply, answered, ends)) =
+    let e : None ≡ Some reply = sym (ap (λ (a : Pairs). answer_in a (list_file path)) none) ∙ answered in cc e
 
--- ---- what follows from the ask for the list
+-- if the path is fetchable and nothing was answered, there is no such outcome
+none_refused : (path : List ℕ) (asked : Pairs) (outcome : Outcome) → is_fetchable path ≡ true → asked ≡ []
+    → (other : Outcome) → IsRefusedList path (answer_in asked) other → outcome ≡ other
+none_refused path asked outcome fetchable none other is =
+    let e : true ≡ false = sym fetchable ∙ (refused_first path asked other none is).0 in cc e
 
-module _ {E : Type 0} (path : List ℕ) (may : Name → Reply → Type 0) (old new : StoreState) where
-  pub asked_answered : (result : Result (Option Output) E) → is_fetchable path ≡ true → old.asked ≡ [] → IsAsked (list_file path) may old new result
-      → IfOk result (λ output. IfNone output ((reply : Reply) × IsListAnswered path may old new reply))
-  asked_answered (Err e) fetchable none asked = tt
-  asked_answered (Ok (Some output)) fetchable none asked = tt
-  asked_answered (Ok None) fetchable none (reply, answered) = (reply, list_answered path may old new reply fetchable none answered)
+-- the versions of the list are printed, since all are asked for or there are none
+abbrev IsPrinted : List ℕ → Bool → List ℕ → Outcome → Type 0
+IsPrinted path all list outcome = (versions : List (List ℕ)) × AreListed path list versions × ((all ≡ true) ⊎ (versions ≡ []))
+    × (outcome ≡ printed (versions_line path versions))
 
-  pub asked_comes : (all : Bool) (result : Result (Option Output) E) → is_fetchable path ≡ true → old.asked ≡ [] → IsAsked (list_file path) may old new result
-      → IfOk result (λ output. IfSome output (λ output. IsRunOutcome (VersionsNeed path all) (IsVersionsOutcome path all) old new (outcome_view output)))
-  asked_comes all (Err e) fetchable none asked = tt
-  asked_comes all (Ok None) fetchable none asked = tt
-  asked_comes all (Ok (Some output)) fetchable none asked = ends_device_list path all old new (outcome_view output) fetchable (asked.1 ∙ none) asked.0 asked.2
+-- the outcome if only the list was asked for
+by_list : (path : List ℕ) (all : Bool) (old new : StoreState) (reply : Reply) (outcome : Outcome) → is_fetchable path ≡ true
+    → new.asked ≡ (list_file path, reply) ∷ [] → new.refused ≡ old.refused
+    → IsEndByList (λ list. OrNoMemory (IsPrinted path all list)) path reply outcome
+    → OrNoMemory (IsRunOutcome (VersionsNeed path all) (IsVersionsOutcome path all) old new) outcome
+by_list path all old new absent outcome fetchable asked still is = inl (ends_missing path all old new outcome fetchable asked still is)
+by_list path all old new too_long outcome fetchable asked still is = inl (ends_too_long path all old new outcome fetchable asked still is)
+by_list path all old new (bytes list) outcome fetchable asked still (inl (versions, listed, every, is)) =
+    inl (ends_all path all old new outcome list versions fetchable listed every asked still is)
+by_list path all old new (bytes list) outcome fetchable asked still (inr memory) = inr memory
 
-  pub asked_in_turn : (all : Bool) (result : Result (Option Output) E) → is_fetchable path ≡ true → old.asked ≡ [] → IsAsked (list_file path) may old new result
-      → AskedInTurn (VersionsNeed path all) new.asked
-  asked_in_turn all (Err e) fetchable none asked = none_in_turn path all new.asked (asked.0 ∙ none)
-  asked_in_turn all (Ok (Some output)) fetchable none asked = none_in_turn path all new.asked (asked.1 ∙ none)
-  asked_in_turn all (Ok None) fetchable none (reply, answered) =
-      list_in_turn path all new.asked reply fetchable (list_answered path may old new reply fetchable none answered).asked
+-- an end by one kind of outcome of a list is one by another
+ends_wider : (One Other : List ℕ → Outcome → Type 0) (path : List ℕ) (reply : Reply) (outcome : Outcome) → ((list : List ℕ) → One list outcome → Other list outcome)
+    → IsEndByList One path reply outcome → IsEndByList Other path reply outcome
+ends_wider One Other path absent outcome wider is = is
+ends_wider One Other path too_long outcome wider is = is
+ends_wider One Other path (bytes list) outcome wider is = wider list is
 
-  pub asked_fails : (all : Bool) (result : Result (Option Output) E) → is_fetchable path ≡ true → old.asked ≡ [] → IsAsked (list_file path) may old new result
-      → FailsInTurn (VersionsNeed path all) old new
-  asked_fails all (Err e) fetchable none (same, inl unrefused) = inl unrefused
-  asked_fails all (Err e) fetchable none (same, inr more) = list_fails path all old new fetchable (same ∙ none) more
-  asked_fails all (Ok (Some output)) fetchable none asked = list_fails path all old new fetchable (asked.1 ∙ none) asked.2
-  asked_fails all (Ok None) fetchable none (reply, answered) = inl answered.2
+module _ (path : List ℕ) (all : Bool) (may : Name → Reply → Type 0) (old : StoreState) (first : old.asked ≡ []) where
+  -- ---- no list was answered
 
-  pub asked_allowed : (result : Result (Option Output) E) → is_fetchable path ≡ true → old.asked ≡ [] → IsAsked (list_file path) may old new result
-      → (name : Name) (r : Reply) → Contains new.asked (name, r) → may name r
-  asked_allowed (Err e) fetchable none asked = none_allowed may new.asked (asked.0 ∙ none)
-  asked_allowed (Ok (Some output)) fetchable none asked = none_allowed may new.asked (asked.1 ∙ none)
-  asked_allowed (Ok None) fetchable none (reply, answered) = list_allowed path may old new reply (list_answered path may old new reply fetchable none answered)
+  -- the path is not fetchable, or the device failed at the list, or memory ran out
+  pub unlisted_run : (new : StoreState) (told : Report) → IsListAsked path may old new (Err told) → IsVersionsRun path all may old new (report_outcome told)
+  unlisted_run new told (inl ((no_path, is), same)) =
+      let none : new.asked ≡ [] = ap (λ (s : StoreState). s.asked) same ∙ first in
+      let still : new.refused ≡ old.refused = ap (λ (s : StoreState). s.refused) same in
+      record {
+        comes = inl (ends_unfetchable path all old new (report_outcome told) no_path still is);
+        device = unrefused old new (report_outcome told) still;
+        no_list = λ other refusal. is ∙ sym (refused_first path new.asked other none refusal).1;
+        in_turn = none_in_turn path all new.asked none;
+        fails = inl still;
+        answers = none_allowed may new.asked none;
+      }
+  unlisted_run new told (inr (fetchable, inl (is, same, grown))) =
+      let none : new.asked ≡ [] = same ∙ first in
+      record {
+        comes = inl (ends_device_list path all old new (report_outcome told) fetchable none is grown);
+        device = refused_on old new (report_outcome told) (list_file path) is grown;
+        no_list = none_refused path new.asked (report_outcome told) fetchable none;
+        in_turn = none_in_turn path all new.asked none;
+        fails = inr (list_file path, (fetchable, inl refl), ap (λ (a : Pairs). answer_in a (list_file path)) none, grown);
+        answers = none_allowed may new.asked none;
+      }
+  unlisted_run new told (inr (fetchable, inr (is, same, still))) =
+      let none : new.asked ≡ [] = same ∙ first in
+      record {
+        comes = inr is;
+        device = unrefused old new (report_outcome told) still;
+        no_list = none_refused path new.asked (report_outcome told) fetchable none;
+        in_turn = none_in_turn path all new.asked none;
+        fails = inl still;
+        answers = none_allowed may new.asked none;
+      }
 
--- ---- what follows from the answer for the list
+  -- ---- the list was answered
 
--- the answer is a list that names these versions
-pub listed_state : (path : List ℕ) (may : Name → Reply → Type 0) (old new : StoreState) (reply : Reply) (list : List ℕ) (versions : List (List ℕ))
-    → IsListAnswered path may old new reply → reply ≡ bytes list → AreListed path list versions → IsListState path may old new versions
-listed_state path may old new reply list versions answered is listed = record {
-  list = list;
-  fetchable = answered.fetchable;
-  allowed = subst (λ (r : Reply). may (list_file path) r) is answered.allowed;
-  asked = answered.asked ∙ ap (λ (r : Reply). (list_file path, r) ∷ []) is;
-  unrefused = answered.unrefused;
-  listed = listed;
-}
+  module _ (mid : StoreState) (reply : Reply) (fetchable : is_fetchable path ≡ true) (answered : IsAnsweredAsk (list_file path) may old mid reply) where
+    -- only the list was asked for
+    only_list : mid.asked ≡ (list_file path, reply) ∷ []
+    only_list = answered.1 ∙ ap (λ (a : Pairs). a ++ (list_file path, reply) ∷ []) first
 
--- an outcome that follows from the answer for the list, whatever else is answered, is that of `versions`
-pub ends_by_list : (path : List ℕ) (all : Bool) (may : Name → Reply → Type 0) (old new : StoreState) (reply : Reply) (output : Outcome)
-    → IsListAnswered path may old new reply → ((answers : AnswersByName) → IsOutcomeByList path all answers reply output)
-    → IsRunOutcome (VersionsNeed path all) (IsVersionsOutcome path all) old new output
-ends_by_list path all may old new absent output answered known =
-    ends_missing path all old new output answered.fetchable answered.asked answered.unrefused (known (answer_in new.asked))
-ends_by_list path all may old new too_long output answered known =
-    ends_too_long path all old new output answered.fetchable answered.asked answered.unrefused (known (answer_in new.asked))
-ends_by_list path all may old new (bytes list) output answered known = by (known (answer_in new.asked))
-  where
-    by : IsOutcomeByList path all (answer_in new.asked) (bytes list) output → IsRunOutcome (VersionsNeed path all) (IsVersionsOutcome path all) old new output
-    by (versions, listed, inl (every, is)) =
-        ends_all path all old new output list versions answered.fetchable listed every answered.asked answered.unrefused is
-    by (versions, listed, inr (latest, other, some, greatest, told, shows)) =
-        let none : answer_in new.asked (mod_file path latest) ≡ None = ap (λ (a : Pairs). answer_in a (mod_file path latest)) answered.asked in
-        absurd (cc (none, told))
+    -- nothing else was asked
+    listed_run : (outcome : Outcome) → IsEndByList (λ list. OrNoMemory (IsPrinted path all list)) path reply outcome → IsVersionsRun path all may old mid outcome
+    listed_run outcome is = record {
+      comes = by_list path all old mid reply outcome fetchable only_list answered.2 is;
+      device = unrefused old mid outcome answered.2;
+      no_list = refused_as (λ list. OrNoMemory (IsPrinted path all list)) path (answer_in mid.asked) reply outcome fetchable (list_is path all old mid outcome reply only_list) is;
+      in_turn = list_in_turn path all mid.asked reply fetchable only_list;
+      fails = inl answered.2;
+      answers = one_allowed may mid.asked (list_file path) reply answered.0 only_list;
+    }
 
--- likewise the output of a command
-pub result_by_list : {E : Type 0} (path : List ℕ) (all : Bool) (may : Name → Reply → Type 0) (old new : StoreState) (reply : Reply) (result : Result Output E)
-    → IsListAnswered path may old new reply → ((answers : AnswersByName) → IfOk result (λ output. IsOutcomeByList path all answers reply (outcome_view output)))
-    → IfOk result (λ output. IsRunOutcome (VersionsNeed path all) (IsVersionsOutcome path all) old new (outcome_view output))
-result_by_list path all may old new reply (Err e) answered known = tt
-result_by_list path all may old new reply (Ok output) answered known = ends_by_list path all may old new reply (outcome_view output) answered known
+-- ---- the list was answered, and the go.mod of the latest version may have been asked for
 
--- the output of a stop at the answer for the list
-pub stop_by_list : {E X : Type 0} (path : List ℕ) (all : Bool) (answers : AnswersByName) (reply : Reply) (read : Result X Stop) (s : Stop) (result : Result Output E)
-    → IfErr read (StopsWith (IsOutcomeByList path all answers reply)) → read ≡ Err s → IsOutputOf s result
-    → IfOk result (λ output. IsOutcomeByList path all answers reply (outcome_view output))
-stop_by_list path all answers reply read s result known is ends = output_of (IsOutcomeByList path all answers reply) s result ends (rw is at known)
+module _ (path : List ℕ) (all : Bool) (may later : Name → Reply → Type 0) (old mid new : StoreState) (first : old.asked ≡ []) (list : List ℕ)
+    (some : all ≡ false) (fetchable : is_fetchable path ≡ true) (answered : IsAnsweredAsk (list_file path) may old mid (bytes list))
+    (same_store : (name : Name) (reply : Reply) → later name reply → may name reply) where
+  -- only the list had been asked for
+  list_alone : mid.asked ≡ (list_file path, bytes list) ∷ []
+  list_alone = only_list path all may old first mid (bytes list) fetchable answered
 
--- the output that prints all versions of the list
-pub printed_by_list : {E : Type 0} (path : List ℕ) (answers : AnswersByName) (reply : Reply) (list : List ℕ) (versions : List (List ℕ)) (result : Result Output E)
-    → reply ≡ bytes list → AreListed path list versions → IfOk result (λ output. outcome_view output ≡ printed (versions_line path versions))
-    → IfOk result (λ output. IsOutcomeByList path true answers reply (outcome_view output))
-printed_by_list path answers reply list versions (Err e) is listed says = tt
-printed_by_list path answers reply list versions (Ok output) is listed says =
-    subst (λ (r : Reply). IsOutcomeByList path true answers r (outcome_view output)) (sym is) (versions, listed, inl (inl refl, says))
+  -- memory ran out before anything more was asked
+  unasked_run : (outcome : Outcome) → IsUnanswered mid new outcome → IsVersionsRun path all may old new outcome
+  unasked_run outcome (is, asked, still) =
+      listed_run path all may old first new (bytes list) fetchable (answered.0, asked ∙ answered.1, still ∙ answered.2) outcome (inr is)
 
--- the outcome where all versions are asked for
-pub all_by_list : {E : Type 0} (path : List ℕ) (all : Bool) (may : Name → Reply → Type 0) (old new : StoreState) (answer reply : Reply) (result : Result Output E)
-    → all ≡ true → IsListAnswered path may old new reply → answer ≡ reply
-    → ((answers : AnswersByName) → IfOk result (λ output. IsOutcomeByList path true answers answer (outcome_view output)))
-    → IfOk result (λ output. IsRunOutcome (VersionsNeed path all) (IsVersionsOutcome path all) old new (outcome_view output))
-all_by_list path all may old new answer reply result every answered same known =
-    result_by_list path all may old new reply result answered (λ answers.
-    subst (λ (b : Bool). IfOk result (λ output. IsOutcomeByList path b answers reply (outcome_view output))) (sym every)
-    (subst (λ (r : Reply). IfOk result (λ output. IsOutcomeByList path true answers r (outcome_view output))) same (known answers)))
+  -- the go.mod of the latest version was asked for
+  latest_run : (versions : List (List ℕ)) (latest : List ℕ) (outcome : Outcome) → AreListed path list versions → IsLatest versions latest
+      → IsLatestAsked path versions latest later mid new outcome → IsVersionsRun path all may old new outcome
+  latest_run versions latest outcome listed greatest (inl a) =
+      let both : new.asked ≡ (list_file path, bytes list) ∷ (mod_file path latest, a.0) ∷ [] = a.1.1 ∙ ap (λ (p : Pairs). p ++ (mod_file path latest, a.0) ∷ []) list_alone in
+      let still : new.refused ≡ old.refused = a.1.2 ∙ answered.2 in
+      record {
+        comes = elim a.2 [
+          | inl shows ↦ inl (ends_shown path all old new outcome list versions latest a.0 fetchable some listed greatest both still shows)
+          | inr memory ↦ inr memory
+        ];
+        device = unrefused old new outcome still;
+        no_list = refused_as (λ list outcome. ⊤) path (answer_in new.asked) (bytes list) outcome fetchable (both_list path all old new outcome list latest a.0 both) tt;
+        in_turn = both_in_turn path all new.asked list versions latest a.0 fetchable some listed greatest both;
+        fails = inl still;
+        answers = both_allowed may new.asked (list_file path) (mod_file path latest) (bytes list) a.0 answered.0 (same_store _ _ a.1.0) both;
+      }
+  latest_run versions latest outcome listed greatest (inr (inl (is, asked, grown))) =
+      let alone : new.asked ≡ (list_file path, bytes list) ∷ [] = asked ∙ list_alone in
+      let more : new.refused ≡ old.refused ++ mod_file path latest ∷ [] = grown ∙ ap (λ (names : List Name). names ++ mod_file path latest ∷ []) answered.2 in
+      let wanted : IsWanted (VersionsNeed path all) new.asked (mod_file path latest) =
+      file_wanted path all old new outcome list versions latest fetchable some listed greatest alone in
+      record {
+        comes = inl (ends_device_file path all old new outcome list versions latest fetchable some listed greatest alone is more);
+        device = refused_on old new outcome (mod_file path latest) is more;
+        no_list = refused_as (λ list outcome. ⊤) path (answer_in new.asked) (bytes list) outcome fetchable (list_is path all old new outcome (bytes list) alone) tt;
+        in_turn = list_in_turn path all new.asked (bytes list) fetchable alone;
+        fails = inr (mod_file path latest, wanted.0, wanted.1, more);
+        answers = one_allowed may new.asked (list_file path) (bytes list) answered.0 alone;
+      }
+  latest_run versions latest outcome listed greatest (inr (inr unasked)) = unasked_run outcome unasked
 
--- the outcome where the answer is no list that can be read
-pub stop_comes : {E X : Type 0} (path : List ℕ) (all : Bool) (may : Name → Reply → Type 0) (old new : StoreState) (answer reply : Reply) (read : Result X Stop) (s : Stop) (result : Result Output E)
-    → IsListAnswered path may old new reply → answer ≡ reply → ((all : Bool) (answers : AnswersByName) → IfErr read (StopsWith (IsOutcomeByList path all answers answer)))
-    → read ≡ Err s → IsOutputOf s result
-    → IfOk result (λ output. IsRunOutcome (VersionsNeed path all) (IsVersionsOutcome path all) old new (outcome_view output))
-stop_comes path all may old new answer reply read s result answered same known is ends =
-    result_by_list path all may old new reply result answered (λ answers.
-    stop_by_list path all answers reply read s result
-    (subst (λ (r : Reply). IfErr read (StopsWith (IsOutcomeByList path all answers r))) same (known all answers)) is ends)
+  -- the versions that are not retracted are to be printed
+  shown_run : (outcome : Outcome) → IsShownAsked path list later mid new outcome → IsVersionsRun path all may old new outcome
+  shown_run outcome (inl (listed, is, same)) =
+      subst (λ (state : StoreState). IsVersionsRun path all may old state outcome) (sym same)
+      (listed_run path all may old first mid (bytes list) fetchable answered outcome (inl ([], listed, inr refl, is)))
+  shown_run outcome (inr (inl full)) = latest_run full.0 full.1 outcome full.2 full.3 full.4
+  shown_run outcome (inr (inr unasked)) = unasked_run outcome unasked
 
--- no go.mod has been answered yet
-pub file_unasked : (path latest : List ℕ) (may : Name → Reply → Type 0) (old new : StoreState) (reply : Reply) → IsListAnswered path may old new reply
-    → answer_in new.asked (mod_file path latest) ≡ None
-file_unasked path latest may old new reply answered = ap (λ (a : Pairs). answer_in a (mod_file path latest)) answered.asked
+-- this is the reply to the last ask
+abbrev IsLastReply : StoreState → Reply → Type 0
+IsLastReply state answer = (before : Pairs) (last : Name × Reply) → state.asked ≡ before ++ last ∷ [] → answer ≡ last.1
 
--- the device failed at the go.mod of the latest version, or memory ran out
-pub latest_failed : {E : Type 0} (path : List ℕ) (versions : List (List ℕ)) (latest : List ℕ) (may : Name → Reply → Type 0) (old new : StoreState) (result : Result Output E)
-    → IsErr result → IsFailedAsk (mod_file path latest) old new → IsLatestAsked path versions latest may old new result
-latest_failed path versions latest may old new (Ok output) is failed = absurd (cc is)
-latest_failed path versions latest may old new (Err e) is failed = inl failed
+module _ (path : List ℕ) (all : Bool) (may : Name → Reply → Type 0) (old mid : StoreState) (first : old.asked ≡ []) (answer : Reply) (last : IsLastReply mid answer) where
+  -- no go.mod has been answered yet
+  pub file_unasked : (u : Unit {0}) → IsListAsked path may old mid (Ok u) → (latest : List ℕ) → answer_in mid.asked (mod_file path latest) ≡ None
+  file_unasked u (fetchable, (reply, answered)) latest =
+      ap (λ (a : Pairs). answer_in a (mod_file path latest)) (only_list path all may old first mid reply fetchable answered)
 
--- the output follows from the latest version's go.mod
-pub shown_asked : {E : Type 0} (path : List ℕ) (versions : List (List ℕ)) (latest : List ℕ) (may : Name → Reply → Type 0) (old new : StoreState) (answer reply : Reply)
-    (result : Result Output E) → IsAnsweredAsk (mod_file path latest) may old new reply → answer ≡ reply → IsWithinLimit answer
-    → IfOk result (λ output. IsWithinLimit answer → IsShownOutcome path versions latest answer (outcome_view output)) → IsLatestAsked path versions latest may old new result
-shown_asked path versions latest may old new answer reply (Ok output) answered same within known =
-    inl (reply, answered, subst (λ (r : Reply). IsShownOutcome path versions latest r (outcome_view output)) same (known within))
-shown_asked path versions latest may old new answer reply (Err e) answered same within known = inr (reply, answered)
+  -- an outcome by the answer, if only the list was asked for
+  by_answer : (One : List ℕ → Outcome → Type 0) (outcome : Outcome) (u : Unit {0}) → IsListAsked path may old mid (Ok u)
+      → ((list : List ℕ) → One list outcome → OrNoMemory (IsPrinted path all list) outcome)
+      → IsEndByList One path answer outcome → IsVersionsRun path all may old mid outcome
+  by_answer One outcome u (fetchable, (reply, answered)) wider is =
+      let is' : IsEndByList One path reply outcome =
+      subst (λ (r : Reply). IsEndByList One path r outcome) (last old.asked (list_file path, reply) answered.1) is in
+      listed_run path all may old first mid reply fetchable answered outcome
+      (ends_wider One (λ list. OrNoMemory (IsPrinted path all list)) path reply outcome wider is')
 
-module _ (path : List ℕ) (mid new : StoreState) (latest : List ℕ) where
-  grown : (list : List ℕ) (reply : Reply) → mid.asked ≡ (list_file path, bytes list) ∷ [] → new.asked ≡ mid.asked ++ (mod_file path latest, reply) ∷ []
-      → new.asked ≡ (list_file path, bytes list) ∷ (mod_file path latest, reply) ∷ []
-  grown list reply first second = second ∙ ap (λ (a : Pairs). a ++ (mod_file path latest, reply) ∷ []) first
+  -- all versions are printed
+  pub all_run : (outcome : Outcome) (u : Unit {0}) → IsListAsked path may old mid (Ok u) → all ≡ true → IsEndByList (λ list. OrNoMemory (IsAllOutcome path list)) path answer outcome
+      → IsVersionsRun path all may old mid outcome
+  all_run outcome u asked every is =
+      by_answer (λ list. OrNoMemory (IsAllOutcome path list)) outcome u asked
+      (λ list known. elim known [ inl shows ↦ inl (shows.0, shows.1, inl every, shows.2) | inr memory ↦ inr memory ]) is
 
--- the device failed at the go.mod of the latest version
-file_fails : (path : List ℕ) (all : Bool) (may : Name → Reply → Type 0) (old mid new : StoreState) (versions : List (List ℕ)) (latest : List ℕ)
-    → IsListState path may old mid versions → all ≡ false → IsLatest versions latest → new.asked ≡ mid.asked
-    → new.refused ≡ mid.refused ++ mod_file path latest ∷ [] → FailsInTurn (VersionsNeed path all) old new
-file_fails path all may old mid new versions latest state some is same more =
-    let wanted : IsWanted (VersionsNeed path all) new.asked (mod_file path latest) =
-    file_wanted path all old new out_of_memory state.list versions latest state.fetchable some state.listed is (same ∙ state.asked) in
-    inr (mod_file path latest, wanted.0, wanted.1, more ∙ ap (λ (r : List Name). r ++ mod_file path latest ∷ []) state.unrefused)
+  -- there is no list, or memory ran out before it was copied
+  pub uncopied_run : (outcome : Outcome) (u : Unit {0}) → IsListAsked path may old mid (Ok u) → IsEndByList (λ list outcome. outcome ≡ out_of_memory) path answer outcome
+      → IsVersionsRun path all may old mid outcome
+  uncopied_run outcome u asked is = by_answer (λ list outcome. outcome ≡ out_of_memory) outcome u asked (λ list memory. inr memory) is
 
-module _ {E : Type 0} (path : List ℕ) (all : Bool) (may later : Name → Reply → Type 0) (old mid new : StoreState) (versions : List (List ℕ)) (latest : List ℕ) where
-  pub latest_comes : (result : Result Output E) → IsListState path may old mid versions → all ≡ false → IsLatest versions latest
-      → IsLatestAsked path versions latest later mid new result
-      → IfOk result (λ output. IsRunOutcome (VersionsNeed path all) (IsVersionsOutcome path all) old new (outcome_view output))
-  latest_comes (Err e) state some is asked = tt
-  latest_comes (Ok output) state some is (inl a) =
-      ends_shown path all old new (outcome_view output) state.list versions latest a.0 state.fetchable some state.listed is
-      (grown path mid new latest state.list a.0 state.asked a.1.1) (a.1.2 ∙ state.unrefused) a.2
-  latest_comes (Ok output) state some is (inr a) =
-      ends_device_file path all old new (outcome_view output) state.list versions latest state.fetchable some state.listed is
-      (a.1 ∙ state.asked) a.0 (a.2 ∙ ap (λ (r : List Name). r ++ mod_file path latest ∷ []) state.unrefused)
+  -- the versions that are not retracted are to be printed
+  pub copied_run : (later : Name → Reply → Type 0) (new : StoreState) (list : List ℕ) (outcome : Outcome) (u : Unit {0}) → IsListAsked path may old mid (Ok u) → all ≡ false
+      → answer ≡ bytes list → ((name : Name) (reply : Reply) → later name reply → may name reply) → IsShownAsked path list later mid new outcome
+      → IsVersionsRun path all may old new outcome
+  copied_run later new list outcome u (fetchable, (reply, answered)) some is same_store shown =
+      let same : reply ≡ bytes list = sym (last old.asked (list_file path, reply) answered.1) ∙ is in
+      shown_run path all may later old mid new first list some fetchable
+      (subst (λ (r : Reply). IsAnsweredAsk (list_file path) may old mid r) same answered) same_store outcome shown
 
-  pub latest_in_turn : (result : Result Output E) → IsListState path may old mid versions → all ≡ false → IsLatest versions latest
-      → IsLatestAsked path versions latest later mid new result → AskedInTurn (VersionsNeed path all) new.asked
-  latest_in_turn (Ok output) state some is (inl a) =
-      both_in_turn path all new.asked state.list versions latest a.0 state.fetchable some state.listed is (grown path mid new latest state.list a.0 state.asked a.1.1)
-  latest_in_turn (Ok output) state some is (inr a) = list_in_turn path all new.asked (bytes state.list) state.fetchable (a.1 ∙ state.asked)
-  latest_in_turn (Err e) state some is (inl a) = list_in_turn path all new.asked (bytes state.list) state.fetchable (a.0 ∙ state.asked)
-  latest_in_turn (Err e) state some is (inr a) =
-      both_in_turn path all new.asked state.list versions latest a.0 state.fetchable some state.listed is (grown path mid new latest state.list a.0 state.asked a.1.1)
+-- ---- single functions
 
-  pub latest_allowed : (result : Result Output E) → IsListState path may old mid versions → ((name : Name) (r : Reply) → later name r → may name r)
-      → IsLatestAsked path versions latest later mid new result → (name : Name) (r : Reply) → Contains new.asked (name, r) → may name r
-  latest_allowed (Ok output) state same (inl a) =
-      both_allowed may new.asked (list_file path) (mod_file path latest) (bytes state.list) a.0 state.allowed (same _ _ a.1.0) (grown path mid new latest state.list a.0 state.asked a.1.1)
-  latest_allowed (Ok output) state same (inr a) = one_allowed may new.asked (list_file path) (bytes state.list) state.allowed (a.1 ∙ state.asked)
-  latest_allowed (Err e) state same (inl a) = one_allowed may new.asked (list_file path) (bytes state.list) state.allowed (a.0 ∙ state.asked)
-  latest_allowed (Err e) state same (inr a) =
-      both_allowed may new.asked (list_file path) (mod_file path latest) (bytes state.list) a.0 state.allowed (same _ _ a.1.0) (grown path mid new latest state.list a.0 state.asked a.1.1)
+-- memory ran out, which is passed on
+pub no_memory : (result : Result (String Global) Report) → IsErrAnd result (λ told. told ≡ report.NoMemory) → outcome_view result ≡ out_of_memory
+no_memory result is = let p = err_from_is_err_and result is in ap outcome_view p.1 ∙ ap report_outcome p.2
 
-  pub latest_fails : (result : Result Output E) → IsListState path may old mid versions → all ≡ false → IsLatest versions latest
-      → IsLatestAsked path versions latest later mid new result → FailsInTurn (VersionsNeed path all) old new
-  latest_fails (Ok output) state some is (inl a) = inl (a.1.2 ∙ state.unrefused)
-  latest_fails (Ok output) state some is (inr a) = file_fails path all may old mid new versions latest state some is a.1 a.2
-  latest_fails (Err e) state some is (inl (same, inl none)) = inl (none ∙ state.unrefused)
-  latest_fails (Err e) state some is (inl (same, inr more)) = file_fails path all may old mid new versions latest state some is same more
-  latest_fails (Err e) state some is (inr a) = inl (a.1.2 ∙ state.unrefused)
+-- that there is no list is an end by the answer, whatever a list leads to
+pub none_ends : (Leads : List ℕ → Outcome → Type 0) (path : List ℕ) (reply : Reply) (outcome : Outcome) → IsEndByList (λ list outcome. ⊥) path reply outcome
+    → IsEndByList Leads path reply outcome
+none_ends Leads path reply outcome is = ends_wider (λ list outcome. ⊥) Leads path reply outcome (λ list never. absurd never) is
+
+-- what a list leads to is an end by it
+pub list_ends : (Leads : List ℕ → Outcome → Type 0) (path : List ℕ) (reply : Reply) (list : List ℕ) (outcome : Outcome) → reply ≡ bytes list → Leads list outcome
+    → IsEndByList Leads path reply outcome
+list_ends Leads path reply list outcome is known = subst (λ (r : Reply). IsEndByList Leads path r outcome) (sym is) known
+
+-- the list was asked for
+pub list_asked : (path : List ℕ) (may : Name → Reply → Type 0) (old new : StoreState) (result : Result (Unit {0}) Report) → is_fetchable path ≡ true
+    → IsAsked (list_file path) may old new result → IsListAsked path may old new result
+list_asked path may old new (Ok u) fetchable asked = (fetchable, asked)
+list_asked path may old new (Err told) fetchable asked = inr (fetchable, asked)
 
 -- what an answer says, by what its bytes say
 pub answer_says : {E : Type 0} (name : Name) (reply : Reply) (content : List ℕ) (result : Result FileReading E) → reply ≡ bytes content
@@ -417,9 +461,20 @@ pub shown_read : (path : List ℕ) (versions : List (List ℕ)) (latest : List �
 shown_read path versions latest reply read reading outcome says is shows =
     record { reading = reading; says = subst (IsFileReading None (mod_file path latest) reply) is says; outcome_is = shows }
 
-pub all_comes : {E : Type 0} (path : List ℕ) (all : Bool) (may : Name → Reply → Type 0) (old new : StoreState) (versions : List (List ℕ)) (result : Result Output E)
-    → IsListState path may old new versions → (all ≡ true) ⊎ (versions ≡ []) → IfOk result (λ output. outcome_view output ≡ printed (versions_line path versions))
-    → IfOk result (λ output. IsRunOutcome (VersionsNeed path all) (IsVersionsOutcome path all) old new (outcome_view output))
-all_comes path all may old new versions (Err e) state every known = tt
-all_comes path all may old new versions (Ok output) state every known =
-    ends_all path all old new (outcome_view output) state.list versions state.fetchable state.listed every state.asked state.unrefused known
+-- ---- the go.mod of the latest version
+
+-- the file was not answered
+pub latest_unanswered : (path : List ℕ) (versions : List (List ℕ)) (latest : List ℕ) (may : Name → Reply → Type 0) (old new : StoreState) (name : Name) (told : Report)
+    → name ≡ mod_file path latest → IsAsked name may old new (Err told) → IsLatestAsked path versions latest may old new (report_outcome told)
+latest_unanswered path versions latest may old new name told same asked =
+    inr (subst (λ (n : Name). IsRefusedAt n old new (report_outcome told) ⊎ IsUnanswered old new (report_outcome told)) same asked)
+
+-- the outcome follows from the answer for it
+pub latest_answered : (path : List ℕ) (versions : List (List ℕ)) (latest : List ℕ) (may : Name → Reply → Type 0) (old new : StoreState) (name : Name) (answer reply : Reply) (outcome : Outcome)
+    → name ≡ mod_file path latest → IsAnsweredAsk name may old new reply → answer ≡ reply → IsWithinLimit answer
+    → (IsWithinLimit answer → OrNoMemory (IsShownOutcome path versions latest answer) outcome) → IsLatestAsked path versions latest may old new outcome
+latest_answered path versions latest may old new name answer reply outcome same answered is within known = inl (
+  reply,
+  subst (λ (n : Name). IsAnsweredAsk n may old new reply) same answered,
+  subst (λ (r : Reply). OrNoMemory (IsShownOutcome path versions latest r) outcome) is (known within),
+)

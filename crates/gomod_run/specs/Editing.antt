@@ -10,14 +10,19 @@ use Rattle.gm_syntax.specs.Tokens.{Placed}
 use Rattle.gm_file_edit.specs.Edited.{edited}
 use Rattle.gm_file_edit.specs.Kinds.{is_fit}
 use Rattle.gm_file_edit.specs.Edits.{Edit, edit_in}
-use Rattle.gm_graph_listing.specs.Outcomes.{IsMainOf, IsMalformedMain, Outcome, printed, refused}
-use Rattle.gm_graph_listing.specs.Reports.{Place, main_line}
-use Rattle.gomod_run.specs.Kinds.{edit_line}
+use Rattle.gm_graph_listing.specs.Outcomes.{IsMainOf, IsMalformedMain}
+use Rattle.gm_report.specs.Outcome.{Outcome, printed, refused}
+use Rattle.gm_report.specs.Reports.{FaultPlace, main_line, edit_line}
 
 -- why a parsed operation is refused, if it is
 abbrev pub refusal_of : Option Edit → Option (List ℕ)
 refusal_of None = Some (codes "Spelling")
 refusal_of (Some edit) = if is_fit edit then None else Some (codes "Misfit")
+
+-- the operation of this number is refused, and this is reported
+abbrev pub IsRefusedOperation : ℕ → Option Edit → Outcome → Type 0
+IsRefusedOperation number operation outcome =
+    (kind : List ℕ) × (refusal_of operation ≡ Some kind) × (outcome ≡ refused (edit_line (number, kind)))
 
 -- the refused operations with their numbers; the first operation has this number
 abbrev pub refusals_from : ℕ → List (List ℕ) → List (ℕ × List ℕ)
@@ -38,6 +43,6 @@ edits_outcome (refusal ∷ later) lines = refused (edit_line refusal)
 -- `edit FILE OP..` over the bytes of the file: the file is read strictly, then each operation is parsed and applied
 abbrev pub IsEditOutcome : List (List ℕ) → List ℕ → Outcome → Type 0
 IsEditOutcome texts file outcome =
-    ((place : Place) × IsMalformedMain file place × (outcome ≡ refused (main_line place)))
+    ((place : FaultPlace) × IsMalformedMain file place × (outcome ≡ refused (main_line place)))
     ⊎ ((lines : List (Line Placed)) × IsMainOf file lines
     × (outcome ≡ edits_outcome (refusals_from 1 texts) (edited_in_turn (filter_map edit_in texts) lines)))

@@ -1,7 +1,6 @@
 pub mod Asking
 pub mod Editing
 pub mod Held
-pub mod Kinds
 pub mod Laws
 pub mod Listing
 pub mod Needs

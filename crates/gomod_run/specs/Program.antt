@@ -9,21 +9,22 @@ use Rattle.gm_store.specs.Openings.{MayRead, Opening}
 use Rattle.gm_store.specs.Proxies.{folders_in, marks_in}
 use Rattle.gm_store.specs.Relative.{IsFolderOf}
 use Rattle.gm_store.specs.declared.fallback.proxy_list.ProxyList.{ProxyList}
-use Rattle.gm_store.specs.declared.reading.ReadFault.{ReadFault}
-use Rattle.gm_store.specs.declared.reading.ReadFault.TheVariants as reading
+use Rattle.gm_store.specs.declared.reading.InputFault.{InputFault}
+use Rattle.gm_store.specs.declared.reading.InputFault.TheVariants as reading
 use Rattle.gomod_words.specs.Usage.{AskFor, IsFaultOf, unreadable_text}
 use Rattle.gomod_words.specs.declared.usage.Command.{Command}
 use Rattle.gomod_words.specs.declared.usage.Command.TheVariants.{Fmt, Edit, Versions, Graph, List as Rows, Chain}
 use Rattle.gomod_words.specs.declared.usage.Places.{Places}
 use Rattle.gomod_words.specs.declared.usage.UsageFault.{UsageFault}
 use Rattle.gomod_words.specs.declared.usage.UsageFault.TheVariants as usage
-use Rattle.gm_graph_listing.specs.Outcomes.{Answers as Told, Outcome, failed, given, longest, printed}
-use Rattle.gm_graph_listing.specs.Reports.{device_line}
-use Rattle.gm_graph_listing.specs.Texts.{line}
+use Rattle.gm_graph_listing.specs.Outcomes.{Answers as Told, given, longest}
+use Rattle.gm_report.specs.Outcome.{Outcome, code_of, failed, out_of_memory, printed}
+use Rattle.gm_report.specs.Reports.{cannot_read_line, device_line}
+use Rattle.gomod_run.specs.declared.ending.Ending.{Ending}
+use Rattle.gomod_run.specs.declared.ending.Ending.TheVariants.{Run, Usage}
 use Rattle.gomod_run.specs.Runs.{Needs, StatesOutcome}
 use Rattle.gomod_run.specs.Queries.{IsQueryOutcome}
 use Rattle.gomod_run.specs.Versions.{AnswersByName}
-use Rattle.gomod_run.specs.Written.{out_of_memory}
 
 -- the report of a usage error, which no run ends with
 abbrev pub usage_error : List ℕ → Outcome
@@ -38,17 +39,13 @@ usage_outcome (usage.Line text) = usage_error (string_bytes text)
 usage_outcome (usage.BadPath text) = usage_error (codes "gomod: bad path " ++ string_bytes text ++ codes "\n")
 usage_outcome (usage.BadProxy text) = usage_error (codes "gomod: bad proxy " ++ string_bytes text ++ codes "\n")
 
--- `gomod: cannot read NAME`
-abbrev pub cannot_read_line : List ℕ → List ℕ
-cannot_read_line name = line (codes "gomod: cannot read " ++ name)
-
 -- the file or device with this name could not be read
-abbrev pub unread_outcome : List ℕ → ReadFault → Outcome
+abbrev pub unread_outcome : List ℕ → InputFault → Outcome
 unread_outcome name reading.NoMemory = out_of_memory
 unread_outcome name reading.Device = failed (cannot_read_line name)
 
 -- the result of reading the file or device with this name: the outcome over its bytes, or the report
-abbrev pub IsReadOutcome : List ℕ → (List ℕ → Outcome → Type 0) → Result (Vec ℕ) ReadFault → Outcome → Type 0
+abbrev pub IsReadOutcome : List ℕ → (List ℕ → Outcome → Type 0) → Result (Vec ℕ) InputFault → Outcome → Type 0
 IsReadOutcome name states (Ok content) outcome = states content.items outcome
 IsReadOutcome name states (Err fault) outcome = outcome ≡ unread_outcome name fault
 
@@ -91,7 +88,7 @@ IsFolderOutcome may_open folders command outcome =
 -- `versions PATH`: over standard input, or over proxy folders if there are any
 abbrev pub IsVersionsServed : (List ℕ → Opening → Type 0) → Command → List ℕ → Option ProxyList → Outcome → Type 0
 IsVersionsServed may_open command path None outcome =
-    (read : Result (Vec ℕ) ReadFault)
+    (read : Result (Vec ℕ) InputFault)
     × IsReadOutcome (codes "-") (IsInputOutcome command path) read outcome
 IsVersionsServed may_open command path (Some folders) outcome = IsFolderOutcome may_open folders command outcome
 
@@ -106,14 +103,14 @@ IsQueryRun may_answer command main sums outcome = (told : Told)
 abbrev pub IsSumsServed : (List ℕ → Opening → Type 0) → (Name → Reply → Type 0) → Command → Option (List ℕ) → List ℕ
     → Outcome → Type 0
 IsSumsServed may_open may_answer command None main outcome = IsQueryRun may_answer command main None outcome
-IsSumsServed may_open may_answer command (Some name) main outcome = (read : Result (Vec ℕ) ReadFault)
+IsSumsServed may_open may_answer command (Some name) main outcome = (read : Result (Vec ℕ) InputFault)
     × MayRead (may_open name) read
     × IsReadOutcome name (λ sums outcome. IsQueryRun may_answer command main (Some sums) outcome) read outcome
 
 -- the main file is read, then the go.sum
 abbrev pub IsMainServed : (List ℕ → Opening → Type 0) → (Name → Reply → Type 0) → Command → List ℕ
     → Option (List ℕ) → Outcome → Type 0
-IsMainServed may_open may_answer command name sums outcome = (read : Result (Vec ℕ) ReadFault)
+IsMainServed may_open may_answer command name sums outcome = (read : Result (Vec ℕ) InputFault)
     × MayRead (may_open name) read
     × IsReadOutcome name (λ main outcome. IsSumsServed may_open may_answer command sums main outcome) read outcome
 
@@ -125,7 +122,7 @@ IsQueryServed may_open command places outcome = (folder : List ℕ) × IsFolderO
 
 -- `fmt` or `edit` over the bytes of the file that the words name
 abbrev pub IsFileServed : (List ℕ → Opening → Type 0) → Command → List ℕ → Outcome → Type 0
-IsFileServed may_open command name outcome = (read : Result (Vec ℕ) ReadFault)
+IsFileServed may_open command name outcome = (read : Result (Vec ℕ) InputFault)
     × MayRead (may_open name) read
     × IsReadOutcome name (λ main outcome. StatesOutcome command main None (λ name. None) outcome) read outcome
 
@@ -158,6 +155,11 @@ abbrev pub IsProgramOutcome : (List ℕ → Opening → Type 0) → Outcome → 
 IsProgramOutcome may_open outcome =
     ((words : List (List ℕ)) × IsWordsOutcome may_open words outcome)
     ⊎ ((fault : UsageFault) × IsUnreadableWords fault × (outcome ≡ usage_outcome fault))
+
+-- the exit status of an ending
+abbrev pub ending_code : Ending → ℕ
+ending_code (Run status) = code_of status
+ending_code Usage = 2
 
 -- the exit status: that of the program's outcome, or 3 if memory runs out or an output fails
 abbrev pub IsProgramStatus : (List ℕ → Opening → Type 0) → ℕ → Type 0

@@ -1,7 +1,8 @@
 -- The outcomes of `graph`, `list` and `chain`, and of each command.
 use Rattle.std.specs.Prelude.{◌≡◌, ◌++◌, ℕ, List, Option}
 use Rattle.gm_store.specs.Asked.{Name}
-use Rattle.gm_graph_listing.specs.Outcomes.{Given, IsChainOutcome, IsGraphOutcome, IsListOutcome, Outcome, answers, given}
+use Rattle.gm_graph_listing.specs.Outcomes.{Given, IsChainOutcome, IsGraphOutcome, IsListOutcome, answers, given}
+use Rattle.gm_report.specs.Outcome.{Outcome}
 use Rattle.gomod_words.specs.declared.usage.Command.{Command}
 use Rattle.gomod_words.specs.declared.usage.Command.TheVariants.{Fmt, Edit, Versions, Graph, List as Rows, Chain}
 use Rattle.gm_store.specs.States.{StoreState}

@@ -8,14 +8,14 @@ use Rattle.gm_store.specs.Openings.{MayRead, Opening}
 use Rattle.gm_store.specs.Relative.{IsFolderOf}
 use Rattle.gm_store.specs.declared.files.memory.MemoryFiles.{MemoryFiles}
 use Rattle.gm_store.specs.declared.fallback.proxy_list.ProxyList.{ProxyList}
-use Rattle.gm_store.specs.declared.reading.ReadFault.TheVariants as reading
+use Rattle.gm_store.specs.declared.reading.InputFault.{InputFault}
+use Rattle.gm_report.specs.Outcome.{Outcome}
 use Rattle.gomod_words.specs.declared.usage.Command.{Command}
 use Rattle.gomod_words.specs.declared.usage.Command.TheVariants.{Fmt, Edit, Versions}
 use Rattle.gomod_words.specs.declared.usage.Places.{Places}
 use Rattle.gomod_run.specs.declared.inputs.Inputs.{Inputs}
-use Rattle.gomod_run.specs.declared.inputs.Unread.{Unread}
 use Rattle.gomod_run.specs.Held.{HoldsOne}
-use Rattle.gomod_run.specs.Program.{IsServed, unread_outcome}
+use Rattle.gomod_run.specs.Program.{unread_outcome}
 
 -- In what follows `may_open` says what may come of opening the file at a path.
 
@@ -26,18 +26,19 @@ AreSumsInput may_open (Some name) (Some sums) = MayRead (may_open name) (Ok sums
 AreSumsInput may_open None (Some sums) = ⊥
 AreSumsInput may_open (Some name) None = ⊥
 
+-- the file with this name can't be read, which is reported
+abbrev pub IsFileUnread : (List ℕ → Opening → Type 0) → List ℕ → Outcome → Type 0
+IsFileUnread may_open name outcome = (fault : InputFault) × MayRead (may_open name) (Err fault)
+    × (outcome ≡ unread_outcome name fault)
+
 -- a go.sum is named, and can't be read
-abbrev pub AreSumsUnread : (List ℕ → Opening → Type 0) → Option (List ℕ) → Unread → Type 0
-AreSumsUnread may_open None unread = ⊥
-AreSumsUnread may_open (Some name) unread = (unread.name.now ≡ name) × MayRead (may_open name) (Err unread.fault)
+abbrev pub AreSumsUnread : (List ℕ → Opening → Type 0) → Option (List ℕ) → Outcome → Type 0
+AreSumsUnread may_open None outcome = ⊥
+AreSumsUnread may_open (Some name) outcome = IsFileUnread may_open name outcome
 
 -- the main file with this name was read, and no go.sum
 abbrev pub IsMainInput : (List ℕ → Opening → Type 0) → List ℕ → Inputs → Type 0
 IsMainInput may_open name inputs = MayRead (may_open name) (Ok inputs.main) × (inputs.sums ≡ None)
-
--- the main file with this name can't be read
-abbrev pub IsMainUnread : (List ℕ → Opening → Type 0) → List ℕ → Unread → Type 0
-IsMainUnread may_open name unread = (unread.name.now ≡ name) × MayRead (may_open name) (Err unread.fault)
 
 -- the main file was read, and the go.sum if one is named
 abbrev pub AreBothRead : (List ℕ → Opening → Type 0) → Places → Inputs → Type 0
@@ -45,11 +46,11 @@ AreBothRead may_open places inputs = MayRead (may_open (string_bytes places.main
     × AreSumsInput may_open (option_map string_bytes places.sums) inputs.sums
 
 -- the main file can't be read, or it was read and the go.sum can't be
-abbrev pub IsOneUnread : (List ℕ → Opening → Type 0) → Places → Unread → Type 0
-IsOneUnread may_open places unread =
-    IsMainUnread may_open (string_bytes places.main) unread
+abbrev pub IsOneUnread : (List ℕ → Opening → Type 0) → Places → Outcome → Type 0
+IsOneUnread may_open places outcome =
+    IsFileUnread may_open (string_bytes places.main) outcome
     ⊎ ((main : Vec ℕ) × MayRead (may_open (string_bytes places.main)) (Ok main)
-    × AreSumsUnread may_open (option_map string_bytes places.sums) unread)
+    × AreSumsUnread may_open (option_map string_bytes places.sums) outcome)
 
 -- what a command reads before it runs
 abbrev pub AreInputs : (List ℕ → Opening → Type 0) → Command → Places → Inputs → Type 0
@@ -58,12 +59,12 @@ AreInputs may_open (Edit operations) places inputs = IsMainInput may_open (strin
 AreInputs may_open (Versions path all) places inputs = inputs.sums ≡ None
 AreInputs may_open _ places inputs = AreBothRead may_open places inputs
 
--- what it can't read of it
-abbrev pub IsUnreadInput : (List ℕ → Opening → Type 0) → Command → Places → Unread → Type 0
-IsUnreadInput may_open Fmt places unread = IsMainUnread may_open (string_bytes places.main) unread
-IsUnreadInput may_open (Edit operations) places unread = IsMainUnread may_open (string_bytes places.main) unread
-IsUnreadInput may_open (Versions path all) places unread = ⊥
-IsUnreadInput may_open _ places unread = IsOneUnread may_open places unread
+-- what it can't read of it, which is reported
+abbrev pub IsUnreadInput : (List ℕ → Opening → Type 0) → Command → Places → Outcome → Type 0
+IsUnreadInput may_open Fmt places outcome = IsFileUnread may_open (string_bytes places.main) outcome
+IsUnreadInput may_open (Edit operations) places outcome = IsFileUnread may_open (string_bytes places.main) outcome
+IsUnreadInput may_open (Versions path all) places outcome = ⊥
+IsUnreadInput may_open _ places outcome = IsOneUnread may_open places outcome
 
 -- the folder that a store on disk takes local folders from: that of the main file with this name. `versions`, which
 -- has no main file, names none.
@@ -76,21 +77,15 @@ abbrev pub HoldsInput : Command → MemoryFiles → Type 0
 HoldsInput (Versions path all) files = (list : Vec ℕ) × HoldsOne (list_file path) list.items files
 HoldsInput _ files = (name : Name) → held_at files name ≡ None
 
--- what may keep such a store from being made: standard input that can't be read, or memory running out
-abbrev pub IsUnreadList : Unread → Type 0
-IsUnreadList unread = (unread.name.now ≡ codes "-") ⊎ (unread.fault ≡ reading.NoMemory)
+-- standard input can't be read, which is reported
+abbrev pub IsUnreadList : Outcome → Type 0
+IsUnreadList outcome = (fault : InputFault) × (outcome ≡ unread_outcome (codes "-") fault)
 
--- the same by command: only `versions` reads standard input
-abbrev pub IsUnreadStore : Command → Unread → Type 0
-IsUnreadStore (Versions path all) unread = IsUnreadList unread
-IsUnreadStore _ unread = ⊥
+-- what keeps such a store from being made: only `versions` reads standard input
+abbrev pub IsUnreadStore : Command → Outcome → Type 0
+IsUnreadStore (Versions path all) outcome = IsUnreadList outcome
+IsUnreadStore _ outcome = ⊥
 
 -- these places with these proxy folders
 abbrev pub with_proxy : Places → Option ProxyList → Places
 with_proxy places proxy = record { main = places.main; proxy = proxy; sums = places.sums }
-
--- the report of what can't be read is an outcome of the command, unless memory ran out
-abbrev pub IsServedUnread : (List ℕ → Opening → Type 0) → Command → Places → Unread → Type 0
-IsServedUnread may_open command places unread =
-    IsServed may_open command places (unread_outcome unread.name.now unread.fault)
-    ⊎ (unread.fault ≡ reading.NoMemory)

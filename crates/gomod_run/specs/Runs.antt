@@ -8,8 +8,8 @@ use Rattle.gm_syntax.specs.Layout.{layout}
 use Rattle.gm_syntax.specs.LineViews.{plain_lines}
 use Rattle.gm_syntax.specs.Parsed.{IsParsedAs}
 use Rattle.gm_syntax.specs.Tokens.{Placed}
-use Rattle.gm_graph_listing.specs.Outcomes.{Outcome, failed, printed, refused}
-use Rattle.gm_graph_listing.specs.Reports.{Place, device_line, main_line, syntax_place}
+use Rattle.gm_report.specs.Outcome.{Outcome, failed, printed, refused}
+use Rattle.gm_report.specs.Reports.{FaultPlace, device_line, main_line, syntax_place}
 use Rattle.gomod_words.specs.Usage.{texts_in}
 use Rattle.gomod_words.specs.declared.usage.Command.{Command}
 use Rattle.gomod_words.specs.declared.usage.Command.TheVariants.{Fmt, Edit, Versions, Graph, List as Rows, Chain}
@@ -21,7 +21,7 @@ use Rattle.gomod_run.specs.Versions.{AnswersByName, IsVersionsOutcome, VersionsN
 abbrev pub IsFmtOutcome : List ℕ → Outcome → Type 0
 IsFmtOutcome file outcome =
     ((lines : List (Line Placed)) × IsParsedAs file (Ok lines) × (outcome ≡ printed (layout (plain_lines lines))))
-    ⊎ ((fault : SyntaxFault) × (place : Place) × IsParsedAs file (Err fault) × (syntax_place fault ≡ Some place)
+    ⊎ ((fault : SyntaxFault) × (place : FaultPlace) × IsParsedAs file (Err fault) × (syntax_place fault ≡ Some place)
     × (outcome ≡ refused (main_line place)))
 
 -- whether a command is a query on a module graph

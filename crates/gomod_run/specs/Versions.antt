@@ -10,9 +10,8 @@ use Rattle.gm_file.specs.Fields.{Dependency}
 use Rattle.gm_file_retract.specs.Shown.{shown_of}
 use Rattle.gm_graph_cache.specs.declared.class.Class.{Class}
 use Rattle.gm_graph_cache.specs.Reading.{IsFileReading}
-use Rattle.gm_graph_listing.specs.Outcomes.{Outcome, printed, refused}
-use Rattle.gm_graph_listing.specs.Reports.{fault_line}
-use Rattle.gomod_run.specs.Kinds.{list_line}
+use Rattle.gm_report.specs.Outcome.{Outcome, printed, refused}
+use Rattle.gm_report.specs.Reports.{fault_line, list_line}
 
 -- what a store answered
 abbrev pub AnswersByName : Type 0
@@ -46,19 +45,33 @@ IsListedOutcome path all answers versions outcome =
     × (answers (mod_file path latest) ≡ Some reply)
     × IsShownOutcome path versions latest reply outcome)
 
+-- a proxy can't have the module, which is reported
+abbrev pub IsUnfetchable : List ℕ → Outcome → Type 0
+IsUnfetchable path outcome =
+    (is_fetchable path ≡ false) × (outcome ≡ refused (list_line path (codes "NotFetchable")))
+
+-- the report that there is no list, or that it is too long; if there is a list, an outcome that it leads to
+abbrev pub IsEndByList : (List ℕ → Outcome → Type 0) → List ℕ → Reply → Outcome → Type 0
+IsEndByList Leads path absent outcome = outcome ≡ refused (list_line path (codes "Missing"))
+IsEndByList Leads path too_long outcome = outcome ≡ refused (list_line path (codes "TooLong"))
+IsEndByList Leads path (bytes list) outcome = Leads list outcome
+
 -- the outcome given the answer for the list
 abbrev pub IsOutcomeByList : List ℕ → Bool → AnswersByName → Reply → Outcome → Type 0
-IsOutcomeByList path all answers absent outcome = outcome ≡ refused (list_line path (codes "Missing"))
-IsOutcomeByList path all answers too_long outcome = outcome ≡ refused (list_line path (codes "TooLong"))
-IsOutcomeByList path all answers (bytes list) outcome =
-    (versions : List (List ℕ))
+IsOutcomeByList path all answers = IsEndByList (λ list outcome. (versions : List (List ℕ))
     × AreListed path list versions
-    × IsListedOutcome path all answers versions outcome
+    × IsListedOutcome path all answers versions outcome) path
+
+-- the outcomes if there is no list to read: a proxy can't have the module, or the store has no list, or one that is too
+-- long
+abbrev pub IsRefusedList : List ℕ → AnswersByName → Outcome → Type 0
+IsRefusedList path answers outcome = IsUnfetchable path outcome
+    ⊎ ((reply : Reply) × (answers (list_file path) ≡ Some reply)
+    × IsEndByList (λ list outcome. ⊥) path reply outcome)
 
 -- `versions PATH`: the path is checked first, then the list, then the go.mod of the latest version
 abbrev pub IsVersionsOutcome : List ℕ → Bool → AnswersByName → Outcome → Type 0
-IsVersionsOutcome path all answers outcome =
-    ((is_fetchable path ≡ false) × (outcome ≡ refused (list_line path (codes "NotFetchable"))))
+IsVersionsOutcome path all answers outcome = IsUnfetchable path outcome
     ⊎ ((reply : Reply) × (is_fetchable path ≡ true)
     × (answers (list_file path) ≡ Some reply)
     × IsOutcomeByList path all answers reply outcome)

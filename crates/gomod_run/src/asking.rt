@@ -5,20 +5,14 @@ ghost use Rattle.gm_store.specs.Asked.{IsWithinLimit, Name, Reply, answer_in, na
 ghost use Rattle.gm_store.specs.States.{RefusesWithCause};
 ghost use Rattle.gomod_run.specs.Asking.{IsAsked};
 
-use gm_graph_listing::{Output, device_report, failed};
-use gm_name::NoMemory;
+use gm_report::Report;
 use gm_store::{Answer, AskFault, FileName, Files};
-use std::alloc::{AllocError, Global};
 
-/// Asks for a file that has not been asked for before. `None` where the store answered; if its device fails, the
-/// result is the output that reports it. The only refusal is running out of memory.
-pub(crate) fn ask_for<F: Files>(
-    alloc: Global,
-    files: &mut F,
-    name: &FileName,
-) -> Result<Option<Output>, NoMemory>
-    requires { answer_in (F.state files.old).asked (name_of name.now) ≡ None }
-    ensures asked { IsAsked (name_of name.now) (F.may_answer files.old)
+/// Asks for a file that has not been asked for before. If the store's device fails, that is reported; otherwise only
+/// memory can run out.
+pub(crate) fn ask_for<'r, F: Files>(files: &mut F, name: FileName) -> Result<(), Report<'r>>
+    requires { answer_in (F.state files.old).asked (name_of name) ≡ None }
+    ensures asked { IsAsked (name_of name) (F.may_answer files.old)
         (F.state files.old) (F.state files.new)
         result }
     ensures same_store { (name : Name) (reply : Reply)
@@ -26,10 +20,10 @@ pub(crate) fn ask_for<F: Files>(
     ensures cause { RefusesWithCause (F.state files.old) (F.state files.new) }
     ensures later { (F.state files.old).faults ≤ (F.state files.new).faults }
 {
-    match files.ask(name) {
-        Ok(()) => Ok(None),
-        Err(AskFault::NoMemory) => Err(AllocError),
-        Err(AskFault::Device) => Ok(Some(failed(alloc, device_report(alloc, name)?))),
+    match files.ask(&name) {
+        Ok(()) => Ok(()),
+        Err(AskFault::NoMemory) => Err(Report::NoMemory),
+        Err(AskFault::Device) => Err(Report::Device(name)),
     }
 }
 

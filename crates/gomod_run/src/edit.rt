@@ -1,98 +1,80 @@
-//! The outcome of `edit`. It is built here and not in `gm_file_edit`, because its reports belong to the program and
-//! not to the library.
+//! `edit`: each operation is parsed and applied in turn. This is here and not in `gm_file_edit`, because reports belong
+//! to the program and not to the library.
 
-ghost use Rattle.std.specs.Prelude.{◌≡◌, ◌∷◌, [], IfErr, IfOk, IfSome, MatchResult, None, OnOk, Some, map};
+ghost use Rattle.std.specs.Prelude.{◌≡◌, ◌∷◌, [], IfErr, None, OnOk, map};
 ghost use Rattle.std.specs.List.{filter_map};
 ghost use Rattle.std.specs.String.{string_bytes};
 ghost use Rattle.gm_file_edit.specs.Edits.{edit_in};
-ghost use Rattle.gm_graph_listing.specs.Outcomes.{outcome_view};
-ghost use Rattle.gomod_run.specs.Editing.{IsEditOutcome, edited_in_turn, refusal_of};
-ghost use Rattle.gomod_run.specs.Refusals.{refusal_by_edit, refusal_by_op, refusal_word};
+ghost use Rattle.gm_report.specs.Outcome.{OrNoMemory, outcome_view, report_outcome};
+ghost use Rattle.gomod_run.specs.Editing.{IsEditOutcome, IsRefusedOperation, edited_in_turn, refusal_of};
+ghost use Rattle.gomod_run.specs.Refusals.{report_by_edit, report_by_op};
 
-use crate::report_lines::edit_line;
 use gm_file_edit::{EditFault, Editor, Op, OpFault};
-use gm_graph_listing::{Output, main_file, printed, refused};
-use gm_name::NoMemory;
-use std::alloc::{AllocError, Global};
+use gm_graph_listing::main_file;
+use gm_report::{Refusal, Report};
+use std::alloc::Global;
 
-/// Why an operation isn't applied.
-#[derive(Clone, Copy)]
-enum Refusal {
-    /// Memory ran out.
-    NoMemory,
-    /// The text is not an operation.
-    Spelling,
-    /// A version doesn't fit its path.
-    Misfit,
-}
-
-impl From<OpFault> for Refusal {
-    ghost from_gives = { λ fault refusal. refusal ≡ refusal_by_op fault };
-
-    /// Why a text that can't be parsed isn't applied.
-    fn from(fault: OpFault) -> Refusal {
-        match fault {
-            OpFault::NoMemory => Refusal::NoMemory,
-            OpFault::Spelling => Refusal::Spelling,
-        }
+/// The report of a text that is not parsed as the operation of this number.
+fn unparsed<'r>(number: usize, fault: OpFault) -> Report<'r>
+    ensures { result ≡ report_by_op number fault }
+{
+    match fault {
+        OpFault::NoMemory => Report::NoMemory,
+        OpFault::Spelling => Report::Operation {
+            number,
+            refusal: Refusal::Spelling,
+        },
     }
 }
 
-impl From<EditFault> for Refusal {
-    ghost from_gives = { λ fault refusal. refusal ≡ refusal_by_edit fault };
-
-    /// Why an operation that has been parsed isn't applied.
-    fn from(fault: EditFault) -> Refusal {
-        match fault {
-            EditFault::NoMemory => Refusal::NoMemory,
-            EditFault::Misfit => Refusal::Misfit,
-        }
+/// The report of an operation of this number that is not applied.
+fn unapplied<'r>(number: usize, fault: EditFault) -> Report<'r>
+    ensures { result ≡ report_by_edit number fault }
+{
+    match fault {
+        EditFault::NoMemory => Report::NoMemory,
+        EditFault::Misfit => Report::Operation {
+            number,
+            refusal: Refusal::Misfit,
+        },
     }
 }
 
-impl Refusal {
-    /// The word for it in a report. Refused only if memory ran out, which has none.
-    fn word(self) -> Result<&'static str, NoMemory>
-        ensures { MatchResult result (λ word. refusal_word self ≡ Some word.now) (λ _. refusal_word self ≡ None) }
-    {
-        match self {
-            Refusal::NoMemory => Err(AllocError),
-            Refusal::Spelling => Ok("Spelling"),
-            Refusal::Misfit => Ok("Misfit"),
-        }
-    }
-}
-
-/// Parses one operation and applies it.
-fn apply_text(alloc: Global, editor: &mut Editor<'_>, text: &str) -> Result<(), Refusal>
+/// Parses the operation of this number and applies it.
+fn apply_text<'r>(
+    alloc: Global,
+    editor: &mut Editor<'_>,
+    number: usize,
+    text: &str,
+) -> Result<(), Report<'r>>
     ensures accepted { OnOk result (refusal_of (edit_in text.now) ≡ None) }
     ensures applied { OnOk result (editor.new ≡ edited_in_turn (filter_map edit_in (text.now ∷ [])) editor.old) }
-    ensures refused { IfErr result (λ refusal. IfSome (refusal_word refusal)
-        (λ word. refusal_of (edit_in text.now) ≡ Some word)) }
+    ensures refused { IfErr result (λ told. OrNoMemory (IsRefusedOperation number (edit_in text.now))
+        (report_outcome told)) }
 {
-    let op = Op::parse(alloc, text)?;
-    editor.apply(&op)?;
-    Ok(())
+    let op = match Op::parse(alloc, text) {
+        Ok(op) => op,
+        Err(fault) => return Err(unparsed(number, fault)),
+    };
+    match editor.apply(&op) {
+        Ok(()) => Ok(()),
+        Err(fault) => Err(unapplied(number, fault)),
+    }
 }
 
-/// The outcome of `edit` over the bytes of a main module's file: the layout after all operations, or the report of the
-/// first that is refused. The only refusal is running out of memory.
-pub(crate) fn edit_outcome(
+/// What `edit` ends with over the bytes of a main module's file: the layout after all operations, or the report of the
+/// first that is refused.
+pub(crate) fn edit_outcome<'r>(
     alloc: Global,
     operations: &[String],
     file: &[u8],
-) -> Result<Output, NoMemory>
-    ensures { IfOk result (λ output. IsEditOutcome (map string_bytes operations.now) file.now (outcome_view output)) }
+) -> Result<String, Report<'r>>
+    ensures { OrNoMemory (IsEditOutcome (map string_bytes operations.now) file.now) (outcome_view result) }
 {
-    let main = match main_file(alloc, file) {
-        Ok(main) => main,
-        Err(stop) => return stop.into_output(),
-    };
+    let main = main_file(alloc, file)?;
     let mut editor = Editor::of(alloc, main)?;
     for (n, text) in operations.iter().enumerate() {
-        if let Err(refusal) = apply_text(alloc, &mut editor, text.as_str()) {
-            return Ok(refused(alloc, edit_line(alloc, n + 1, refusal.word()?)?));
-        }
+        apply_text(alloc, &mut editor, n + 1, text.as_str())?;
     }
-    Ok(printed(alloc, editor.into_doc().format()?))
+    Ok(editor.into_doc().format()?)
 }

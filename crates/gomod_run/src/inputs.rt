@@ -4,12 +4,14 @@ ghost use Rattle.std.specs.Prelude.{◌≡◌, IfErr, IfOk, MatchResult, Ok, Err
 ghost use Rattle.std.specs.Option.{option_map};
 ghost use Rattle.std.specs.String.{string_bytes};
 ghost use Rattle.gm_store.specs.Openings.{MayRead};
-ghost use Rattle.gm_store.specs.declared.reading.ReadFault.TheVariants.{NoMemory};
-ghost use Rattle.gomod_run.specs.Reads.{AreBothRead, AreInputs, AreSumsInput, AreSumsUnread, IsMainInput, IsMainUnread, IsOneUnread, IsUnreadInput};
+ghost use Rattle.gm_report.specs.Outcome.{report_outcome};
+ghost use Rattle.gomod_run.specs.Program.{unread_outcome};
+ghost use Rattle.gomod_run.specs.Reads.{AreBothRead, AreInputs, AreSumsInput, AreSumsUnread, IsFileUnread, IsMainInput, IsOneUnread, IsUnreadInput};
 
-use gm_store::{FileSystem, ReadFault, read_file};
+use gm_report::Report;
+use gm_store::{FileSystem, InputFault, read_file};
 use gomod_words::{Command, Places};
-use std::alloc::{AllocError, Global};
+use std::alloc::Global;
 
 /// The bytes of the files that a command works on, besides those that it asks its store for.
 #[derive(Drop)]
@@ -32,24 +34,13 @@ impl Inputs {
     }
 }
 
-/// Why a command can't be run: a file can't be read, or memory runs out before.
-#[derive(Drop)]
-pub(crate) struct Unread<'a> {
-    /// The name of the file, `-` for standard input, or empty if memory ran out elsewhere.
-    pub(crate) name: &'a str,
-    /// Why it can't be read.
-    pub(crate) fault: ReadFault,
-}
-
-impl<'a> From<AllocError> for Unread<'a> {
-    ghost from_gives = { λ _ unread. unread.fault ≡ NoMemory };
-
-    /// A failed allocation concerns no file.
-    fn from(_error: AllocError) -> Unread<'a> {
-        Unread {
-            name: "",
-            fault: ReadFault::NoMemory,
-        }
+/// The report of the file with this name, or of standard input, that can't be read.
+pub(crate) fn unread_report<'a>(name: &'a str, fault: InputFault) -> Report<'a>
+    ensures { report_outcome result ≡ unread_outcome name.now fault }
+{
+    match fault {
+        InputFault::NoMemory => Report::NoMemory,
+        InputFault::Device => Report::Unreadable(name),
     }
 }
 
@@ -57,14 +48,13 @@ impl<'a> From<AllocError> for Unread<'a> {
 fn read_named<'a, S: FileSystem + Alloc<A = Global>>(
     rt: &S,
     name: &'a str,
-) -> Result<Vec<u8>, Unread<'a>>
+) -> Result<Vec<u8>, Report<'a>>
     ensures read { IfOk result (λ bytes. MayRead (S.may_open rt.now name.now) (Ok bytes)) }
-    ensures name { IfErr result (λ unread. unread.name.now ≡ name.now) }
-    ensures fault { IfErr result (λ unread. MayRead (S.may_open rt.now name.now) (Err unread.fault)) }
+    ensures unread { IfErr result (λ told. IsFileUnread (S.may_open rt.now) name.now (report_outcome told)) }
 {
     match read_file(rt, rt.alloc(), name) {
         Ok(bytes) => Ok(bytes),
-        Err(fault) => Err(Unread { name, fault }),
+        Err(fault) => Err(unread_report(name, fault)),
     }
 }
 
@@ -72,10 +62,10 @@ fn read_named<'a, S: FileSystem + Alloc<A = Global>>(
 fn read_sums<'a, S: FileSystem + Alloc<A = Global>>(
     rt: &S,
     places: &'a Places,
-) -> Result<Option<Vec<u8>>, Unread<'a>>
+) -> Result<Option<Vec<u8>>, Report<'a>>
     ensures { MatchResult result
         (AreSumsInput (S.may_open rt.now) (option_map string_bytes places.now.sums))
-        (AreSumsUnread (S.may_open rt.now) (option_map string_bytes places.now.sums)) }
+        (λ told. AreSumsUnread (S.may_open rt.now) (option_map string_bytes places.now.sums) (report_outcome told)) }
 {
     match &places.sums {
         Some(name) => Ok(Some(read_named(rt, name.as_str())?)),
@@ -87,10 +77,10 @@ fn read_sums<'a, S: FileSystem + Alloc<A = Global>>(
 fn read_main<'a, S: FileSystem + Alloc<A = Global>>(
     rt: &S,
     places: &'a Places,
-) -> Result<Inputs, Unread<'a>>
+) -> Result<Inputs, Report<'a>>
     ensures { MatchResult result
         (IsMainInput (S.may_open rt.now) (string_bytes places.now.main))
-        (IsMainUnread (S.may_open rt.now) (string_bytes places.now.main)) }
+        (λ told. IsFileUnread (S.may_open rt.now) (string_bytes places.now.main) (report_outcome told)) }
 {
     let main = read_named(rt, places.main.as_str())?;
     Ok(Inputs { main, sums: None })
@@ -100,10 +90,10 @@ fn read_main<'a, S: FileSystem + Alloc<A = Global>>(
 fn read_both<'a, S: FileSystem + Alloc<A = Global>>(
     rt: &S,
     places: &'a Places,
-) -> Result<Inputs, Unread<'a>>
+) -> Result<Inputs, Report<'a>>
     ensures { MatchResult result
         (AreBothRead (S.may_open rt.now) places.now)
-        (IsOneUnread (S.may_open rt.now) places.now) }
+        (λ told. IsOneUnread (S.may_open rt.now) places.now (report_outcome told)) }
 {
     let main = read_named(rt, places.main.as_str())?;
     let sums = read_sums(rt, places)?;
@@ -115,10 +105,10 @@ pub(crate) fn read_inputs<'a, S: FileSystem + Alloc<A = Global>>(
     rt: &S,
     command: &Command,
     places: &'a Places,
-) -> Result<Inputs, Unread<'a>>
+) -> Result<Inputs, Report<'a>>
     ensures { MatchResult result
         (AreInputs (S.may_open rt.now) command.now places.now)
-        (IsUnreadInput (S.may_open rt.now) command.now places.now) }
+        (λ told. IsUnreadInput (S.may_open rt.now) command.now places.now (report_outcome told)) }
 {
     match command {
         Command::Fmt => read_main(rt, places),

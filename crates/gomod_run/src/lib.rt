@@ -1,7 +1,7 @@
 //! What the gomod program does between its command line and its exit status.
 //!
 //! `exit_code` is the whole program: it reads the words of the command line and the files that they name, runs the
-//! command, and writes to standard output and standard error. `status_of` and `status_of_words` do the same over
+//! command, and writes to standard output and standard error. `ending_of` and `ending_of_words` do the same over
 //! any runtime and any two sinks, so that whole runs can be checked inside one process. `run` takes bytes that have
 //! been read already.
 //!
@@ -11,19 +11,20 @@
 
 mod asking;
 mod edit;
+mod ending;
 mod fmt;
 mod inputs;
 pub mod laws;
 mod outcome;
 mod program;
-mod report_lines;
 mod running;
 mod serving;
 mod stores;
 mod versions;
 mod writing;
 
-pub use crate::program::{exit_code, status_of, status_of_words};
+pub use crate::ending::Ending;
+pub use crate::program::{ending_of, ending_of_words, exit_code};
 pub use crate::running::run;
-pub use gm_graph_listing::Status;
+pub use gm_report::Status;
 pub use gomod_words::{Command, Places, UsageFault, read_words};

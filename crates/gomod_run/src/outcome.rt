@@ -1,36 +1,43 @@
 //! The outcome of a command. It is complete before anything is written, since a fault that is found late must leave
 //! standard output empty.
 
-ghost use Rattle.std.specs.Prelude.{◌≡◌, ◌≤◌, [], Contains, IfOk};
+ghost use Rattle.std.specs.Prelude.{◌≡◌, ◌≤◌, ◌++◌, ◌∷◌, [], Bool, Contains, List, ℕ};
 ghost use Rattle.std.specs.Option.{option_map};
-ghost use Rattle.gm_store.specs.Asked.{Name, Reply};
+ghost use Rattle.gm_store.specs.Asked.{Name, Reply, answer_in};
 ghost use Rattle.gm_store.specs.States.{RefusesWithCause};
-ghost use Rattle.gm_graph_listing.specs.Outcomes.{outcome_view};
+ghost use Rattle.gm_report.specs.Outcome.{OrNoMemory, Outcome, failed, outcome_view};
+ghost use Rattle.gm_report.specs.Reports.{device_line};
 ghost use Rattle.gomod_run.specs.Runs.{AskedInTurn, FailsInTurn, Needs};
 ghost use Rattle.gomod_run.specs.Queries.{RunsTo};
+ghost use Rattle.gomod_run.specs.Versions.{IsRefusedList};
+ghost use Rattle.gomod_words.specs.declared.usage.Command.TheVariants.{Versions};
 
 use crate::edit::edit_outcome;
 use crate::fmt::fmt_outcome;
 use crate::versions::versions_outcome;
-use gm_graph_listing::{Output, Query, answer};
-use gm_name::NoMemory;
+use gm_graph_listing::{Query, answer};
+use gm_report::Report;
 use gm_store::Files;
 use gomod_words::Command;
 use std::alloc::Global;
 
-/// The outcome of a command over the main file, a go.sum where one is given, and a store that has not been asked
-/// yet. The only refusal is running out of memory.
-pub(crate) fn outcome<F: Files>(
+/// What a command ends with over the main file, a go.sum where one is given, and a store that has not been asked yet:
+/// a text or a report.
+pub(crate) fn outcome<'c, F: Files>(
     alloc: Global,
-    command: &Command,
+    command: &'c Command,
     main: &[u8],
     sums: Option<&[u8]>,
     files: &mut F,
-) -> Result<Output, NoMemory>
+) -> Result<String, Report<'c>>
     requires { (F.state files.old).asked ≡ [] }
-    ensures comes { IfOk result (λ output. RunsTo command.now main.now (option_map (λ sums. sums.now) sums.entry)
-        (F.state files.old) (F.state files.new)
-        (outcome_view output)) }
+    ensures comes { OrNoMemory (RunsTo command.now main.now (option_map (λ sums. sums.now) sums.entry)
+        (F.state files.old) (F.state files.new))
+        (outcome_view result) }
+    ensures device { (name : Name) → (F.state files.new).refused ≡ (F.state files.old).refused ++ name ∷ []
+        → outcome_view result ≡ failed (device_line name) }
+    ensures no_list { (path : List ℕ) (all : Bool) (outcome : Outcome) → command.now ≡ Versions path all
+        → IsRefusedList path (answer_in (F.state files.new).asked) outcome → outcome_view result ≡ outcome }
     ensures in_turn { AskedInTurn (Needs command.now main.now (option_map (λ sums. sums.now) sums.entry))
         (F.state files.new).asked }
     ensures fails { FailsInTurn (Needs command.now main.now (option_map (λ sums. sums.now) sums.entry))

@@ -1,17 +1,17 @@
 //! The program itself: from the words of the command line to the exit status. It is generic over the runtime and
 //! the two sinks, so that whole runs can be checked without a process.
 
-ghost use Rattle.std.specs.Prelude.{◌≡◌, ◌++◌, ℕ, IfErr, IfOk, List, codes, map};
+ghost use Rattle.std.specs.Prelude.{◌≡◌, IfErr, IfOk, MatchResult, map};
 ghost use Rattle.std.specs.Process.{exit_status};
 ghost use Rattle.std.specs.String.{string_bytes};
-ghost use Rattle.gomod_run.specs.Program.{IsProgramOutcome, IsProgramStatus, IsUnreadableWords, IsWordsOutcome, anything, usage_error, usage_outcome};
+ghost use Rattle.gomod_run.specs.Program.{IsProgramOutcome, IsProgramStatus, IsUnreadableWords, IsWordsOutcome, anything, ending_code, usage_outcome};
 ghost use Rattle.gomod_run.specs.Written.{EndsAsStated, IsWritten};
 
+use crate::ending::Ending;
 use crate::serving::serve;
-use crate::writing::{NO_MEMORY, end, write_both};
-use gm_graph_listing::Status;
-use gm_name::NoMemory;
-use gm_store::{FileSystem, Sink, StdSink};
+use crate::writing::{print_text, write_report};
+use gm_report::{Report, Status, write_line};
+use gm_store::{FileSystem, Sink, StdSink, WriteFault, write_all};
 use gomod_words::{UsageFault, read_words, unreadable};
 use std::alloc::{AllocError, Global};
 use std::env::FillError;
@@ -19,47 +19,44 @@ use std::process::ExitCode;
 use std::rt::Env;
 use std::str;
 
-/// The exit status of usage errors.
-const USAGE_STATUS: u8 = 2;
-
 /// The room for a word of the command line that is tried first.
 const FIRST_ROOM: usize = 256;
 
 /// The whole program: reads the words of the command line and runs the command, with standard output and standard
 /// error as the two sinks.
 ///
-/// The exit status is that of `status_of_words`, 2 for a usage error, or 3 if memory runs out, or a device or an
+/// The exit status is that of `ending_of_words`, 2 for a usage error, or 3 if memory runs out, or a device or an
 /// output fails.
 pub fn exit_code(rt: &HostRuntime) -> ExitCode
     ensures { IsProgramStatus anything (exit_status result) }
 {
     let mut out = StdSink::new(rt.stdout());
     let mut report = StdSink::new(rt.stderr());
-    ExitCode::from(status_of(rt, &mut out, &mut report))
+    ExitCode::from(ending_of(rt, &mut out, &mut report).code())
 }
 
-/// Reads the words of the command line and does what `status_of_words` does with them. If a word is not UTF-8, the
+/// Reads the words of the command line and does what `ending_of_words` does with them. If a word is not UTF-8, the
 /// report is a usage error that shows the first such word with its bytes escaped, and the status is 2.
-pub fn status_of<S: Env + Input + FileSystem + Copy + Drop + Alloc<A = Global>, O: Sink, R: Sink>(
+pub fn ending_of<S: Env + Input + FileSystem + Copy + Drop + Alloc<A = Global>, O: Sink, R: Sink>(
     rt: &S,
     out: &mut O,
     report: &mut R,
-) -> u8
+) -> Ending
     ensures { EndsAsStated (IsProgramOutcome (S.may_open rt.now))
         (O.state out.old) (O.state out.new) (R.state report.old) (R.state report.new)
-        result }
+        (ending_code result) }
 {
     let words = match words_of(rt) {
         Ok(words) => words,
-        Err(fault) => return tell(rt.alloc(), &fault, out, report),
+        Err(fault) => return tell(&fault, out, report),
     };
     match texts_of(rt.alloc(), words.as_slice()) {
-        Ok(texts) => status_of_words(rt, texts.as_slice(), out, report),
-        Err(_) => end(out, b"", report, NO_MEMORY, Status::Device).code(),
+        Ok(texts) => ending_of_words(rt, texts.as_slice(), out, report),
+        Err(_) => Ending::Run(write_report(report, &Report::NoMemory)),
     }
 }
 
-/// Runs the command that the words of a command line ask for, and returns the exit status. The first word is the
+/// Runs the command that the words of a command line ask for, and returns how the program ends. The first word is the
 /// program's name.
 ///
 /// | Command | Reads |
@@ -81,19 +78,19 @@ pub fn status_of<S: Env + Input + FileSystem + Copy + Drop + Alloc<A = Global>, 
 /// or of standard input are read: one more than a command accepts, so that the command sees that there are too
 /// many. If memory runs out, the report is `gomod: no memory`; if an output fails, it has a prefix of its text.
 /// The status is 3 then.
-pub fn status_of_words<S: Input + FileSystem + Copy + Drop + Alloc<A = Global>, O: Sink, R: Sink>(
+pub fn ending_of_words<S: Input + FileSystem + Copy + Drop + Alloc<A = Global>, O: Sink, R: Sink>(
     rt: &S,
     words: &[&str],
     out: &mut O,
     report: &mut R,
-) -> u8
+) -> Ending
     ensures { EndsAsStated (IsWordsOutcome (S.may_open rt.now) (map (λ word. word.now) words.now))
         (O.state out.old) (O.state out.new) (R.state report.old) (R.state report.new)
-        result }
+        (ending_code result) }
 {
     match read_words(rt.alloc(), words) {
-        Ok((command, places)) => serve(rt, &command, places, out, report).code(),
-        Err(fault) => tell(rt.alloc(), &fault, out, report),
+        Ok((command, places)) => Ending::Run(serve(rt, &command, places, out, report)),
+        Err(fault) => tell(&fault, out, report),
     }
 }
 
@@ -169,71 +166,32 @@ fn text_of(alloc: Global, word: &[u8]) -> Result<String, UsageFault>
     }
 }
 
-/// The report of an invalid module path, with its line feed.
-fn bad_path(alloc: Global, path: &str) -> Result<String, NoMemory>
-    ensures { IfOk result (λ line. string_bytes line ≡ codes "gomod: bad path " ++ path.now ++ codes "\n") }
-{
-    let line = format!(in alloc; "gomod: bad path {path}\n")?;
-    Ok(line)
-}
-
-/// The report of an invalid list of proxy folders, with its line feed.
-fn bad_proxy(alloc: Global, value: &str) -> Result<String, NoMemory>
-    ensures { IfOk result (λ line. string_bytes line ≡ codes "gomod: bad proxy " ++ value.now ++ codes "\n") }
-{
-    let line = format!(in alloc; "gomod: bad proxy {value}\n")?;
-    Ok(line)
-}
-
-/// Shows help or the version, or reports a usage error, and returns the exit status.
-fn tell<O: Sink, R: Sink>(alloc: Global, fault: &UsageFault, out: &mut O, report: &mut R) -> u8
-    ensures { EndsAsStated (λ outcome. outcome ≡ usage_outcome fault.now)
+/// Shows help or the version, or reports a usage error.
+fn tell<O: Sink, R: Sink>(fault: &UsageFault, out: &mut O, report: &mut R) -> Ending
+    ensures { IsWritten (usage_outcome fault.now)
         (O.state out.old) (O.state out.new) (R.state report.old) (R.state report.new)
-        result }
+        (ending_code result) }
 {
     match fault {
-        UsageFault::NoMemory => end(out, b"", report, NO_MEMORY, Status::Device).code(),
-        UsageFault::Help(text) => end(
-            out,
-            text.as_str().as_bytes(),
-            report,
-            b"",
-            Status::Done,
-        ).code(),
-        UsageFault::Version(text) => end(
-            out,
-            text.as_str().as_bytes(),
-            report,
-            b"",
-            Status::Done,
-        ).code(),
-        UsageFault::Line(text) => report_usage(out, report, text.as_str()),
-        UsageFault::BadPath(path) => tell_line(bad_path(alloc, path.as_str()), out, report),
-        UsageFault::BadProxy(value) => tell_line(bad_proxy(alloc, value.as_str()), out, report),
+        UsageFault::NoMemory => Ending::Run(write_report(report, &Report::NoMemory)),
+        UsageFault::Help(text) => Ending::Run(print_text(out, text.as_str())),
+        UsageFault::Version(text) => Ending::Run(print_text(out, text.as_str())),
+        UsageFault::Line(text) => usage_error(write_all(report, text.as_str().as_bytes())),
+        UsageFault::BadPath(path) => {
+            usage_error(write_line(report, &["gomod: bad path ", path.as_str()]))
+        }
+        UsageFault::BadProxy(value) => {
+            usage_error(write_line(report, &["gomod: bad proxy ", value.as_str()]))
+        }
     }
 }
 
-/// Reports a usage error, or that memory ran out when its line was made, and returns the exit status.
-fn tell_line<O: Sink, R: Sink>(line: Result<String, NoMemory>, out: &mut O, report: &mut R) -> u8
-    ensures { (text : List ℕ) → IfOk line (λ line. string_bytes line ≡ text)
-        → EndsAsStated (λ outcome. outcome ≡ usage_error text)
-        (O.state out.old) (O.state out.new) (R.state report.old) (R.state report.new)
-        result }
+/// The ending of a usage error, given whether it was written.
+fn usage_error(written: Result<(), WriteFault>) -> Ending
+    ensures { MatchResult written (λ _. ending_code result ≡ 2) (λ _. ending_code result ≡ 3) }
 {
-    match line {
-        Ok(line) => report_usage(out, report, line.as_str()),
-        Err(_) => end(out, b"", report, NO_MEMORY, Status::Device).code(),
-    }
-}
-
-/// Reports a usage error and returns the exit status: 2, or 3 if a sink fails.
-fn report_usage<O: Sink, R: Sink>(out: &mut O, report: &mut R, text: &str) -> u8
-    ensures { IsWritten (usage_error text.now)
-        (O.state out.old) (O.state out.new) (R.state report.old) (R.state report.new)
-        result }
-{
-    match write_both(out, b"", report, text.as_bytes()) {
-        Ok(()) => USAGE_STATUS,
-        Err(_) => Status::Device.code(),
+    match written {
+        Ok(()) => Ending::Usage,
+        Err(_) => Ending::Run(Status::Device),
     }
 }

@@ -1,17 +1,20 @@
 //! Running one command, from bytes that have been read to bytes that are written.
 
-ghost use Rattle.std.specs.Prelude.{◌≡◌, ◌≤◌, [], Contains, None, false};
+ghost use Rattle.std.specs.Prelude.{◌≡◌, ◌≤◌, ◌++◌, ◌∷◌, [], Bool, Contains, List, None, false, ℕ};
 ghost use Rattle.std.specs.Option.{option_map};
 ghost use Rattle.gm_store.specs.Asked.{Name, Reply, answer_in};
 ghost use Rattle.gm_store.specs.States.{RefusesWithCause};
-ghost use Rattle.gm_graph_listing.specs.Outcomes.{code_of};
+ghost use Rattle.gm_report.specs.Outcome.{Outcome, code_of, failed};
+ghost use Rattle.gm_report.specs.Reports.{device_line};
 ghost use Rattle.gomod_run.specs.Runs.{AnsweredAll, AskedInTurn, FailsInTurn, Needs, takes_sums};
 ghost use Rattle.gomod_run.specs.Queries.{RunsTo};
-ghost use Rattle.gomod_run.specs.Written.{EndsAsStated};
+ghost use Rattle.gomod_run.specs.Versions.{IsRefusedList};
+ghost use Rattle.gomod_run.specs.Written.{EndsAsStated, IsWritten};
+ghost use Rattle.gomod_words.specs.declared.usage.Command.TheVariants.{Versions};
 
 use crate::outcome::outcome;
-use crate::writing::{NO_MEMORY, end};
-use gm_graph_listing::Status;
+use crate::writing::{print_text, write_report};
+use gm_report::Status;
 use gm_store::{Files, Sink};
 use gomod_words::Command;
 use std::alloc::Global;
@@ -41,6 +44,9 @@ use std::alloc::Global;
 /// | as `gm_graph_listing::answer` says | `Fault` | `graph`, `list`, `chain`: no answer can be given |
 /// | `gomod: device at NAME` | `Device` | the store's device fails at a needed file |
 /// | `gomod: no memory` | `Device` | memory runs out |
+///
+/// Memory may run out in place of any of these but the report of the store's device and the reports of `versions` that
+/// there is no list to read. No report takes memory.
 ///
 /// `edit`: each operation applies to what those before it left, and the first that is refused is reported. A version
 /// must fit its path where the operation requires or excludes it, or has it on the left of its replace (go help mod
@@ -73,6 +79,17 @@ pub fn run<F: Files, O: Sink, R: Sink>(
         (F.state files.old) (F.state files.new))
         (O.state out.old) (O.state out.new) (R.state report.old) (R.state report.new)
         (code_of result) }
+    // If the store's device failed at a file, that is reported, whatever the memory.
+    ensures device { (name : Name) → (F.state files.new).refused ≡ (F.state files.old).refused ++ name ∷ []
+        → IsWritten (failed (device_line name))
+        (O.state out.old) (O.state out.new) (R.state report.old) (R.state report.new)
+        (code_of result) }
+    // If `versions` can't have a list, has none, or one that is too long, that is reported, whatever the memory.
+    ensures no_list { (path : List ℕ) (all : Bool) (outcome : Outcome) → command.now ≡ Versions path all
+        → IsRefusedList path (answer_in (F.state files.new).asked) outcome
+        → IsWritten outcome
+        (O.state out.old) (O.state out.new) (R.state report.old) (R.state report.new)
+        (code_of result) }
     // Each file is asked for once, and is needed by the answers before it. `fmt` and `edit` need none. `graph`,
     // `list` and `chain` need the go.mod files of the opened modules, and none if the main file or the go.sum can't
     // be parsed (Go Modules Reference, "Minimal version selection" and "Module graph pruning"). This clause and
@@ -94,11 +111,7 @@ pub fn run<F: Files, O: Sink, R: Sink>(
     ensures later { (F.state files.old).faults ≤ (F.state files.new).faults }
 {
     match outcome(alloc, command, main, sums, files) {
-        Ok(output) => {
-            let text = output.text.as_str().as_bytes();
-            let line = output.report.as_str().as_bytes();
-            end(out, text, report, line, output.status)
-        }
-        Err(_) => end(out, b"", report, NO_MEMORY, Status::Device),
+        Ok(text) => print_text(out, text.as_str()),
+        Err(told) => write_report(report, &told),
     }
 }

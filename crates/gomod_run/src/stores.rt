@@ -5,12 +5,14 @@ ghost use Rattle.std.specs.Global.{Vec};
 ghost use Rattle.std.specs.String.{string_bytes};
 ghost use Rattle.gm_store.specs.Asked.{Name, Reply, list_file};
 ghost use Rattle.gm_store.specs.Memory.{pairs, pairs_of};
+ghost use Rattle.gm_report.specs.Outcome.{report_outcome};
 ghost use Rattle.gomod_run.specs.Held.{HoldsOne};
 ghost use Rattle.gomod_run.specs.Program.{MayBeTold};
 ghost use Rattle.gomod_run.specs.Reads.{HoldsInput, IsStoreFolder, IsUnreadList, IsUnreadStore};
 
-use crate::inputs::Unread;
+use crate::inputs::unread_report;
 use gm_name::{ModPath, NoMemory};
+use gm_report::Report;
 use gm_store::{
     DiskFallback, FileName, FileSystem, Files, MemoryFiles, ProxyList, folder_of, read_limited,
 };
@@ -66,12 +68,12 @@ fn store_of(alloc: Global, path: &ModPath, list: Vec<u8>) -> Result<MemoryFiles,
 }
 
 /// The bytes of standard input.
-fn read_input<S: Input + Alloc<A = Global>>(rt: &S) -> Result<Vec<u8>, Unread<'static>>
-    ensures { IfErr result IsUnreadList }
+fn read_input<S: Input + Alloc<A = Global>>(rt: &S) -> Result<Vec<u8>, Report<'static>>
+    ensures { IfErr result (λ told. IsUnreadList (report_outcome told)) }
 {
     match read_limited(rt.alloc(), &mut rt.reader()) {
         Ok(bytes) => Ok(bytes),
-        Err(fault) => Err(Unread { name: "-", fault }),
+        Err(fault) => Err(unread_report("-", fault)),
     }
 }
 
@@ -79,10 +81,10 @@ fn read_input<S: Input + Alloc<A = Global>>(rt: &S) -> Result<Vec<u8>, Unread<'s
 fn list_store<S: Input + Alloc<A = Global>>(
     rt: &S,
     path: &ModPath,
-) -> Result<MemoryFiles, Unread<'static>>
+) -> Result<MemoryFiles, Report<'static>>
     ensures asked { IfOk result (λ files. pairs_of files ≡ []) }
     ensures held { IfOk result (λ files. (list : Vec ℕ) × HoldsOne (list_file path.now) list.items files) }
-    ensures fault { IfErr result IsUnreadList }
+    ensures unread { IfErr result (λ told. IsUnreadList (report_outcome told)) }
 {
     let list = read_input(rt)?;
     let files = store_of(rt.alloc(), path, list)?;
@@ -94,10 +96,10 @@ fn list_store<S: Input + Alloc<A = Global>>(
 pub(crate) fn memory_store<S: Input + Alloc<A = Global>>(
     rt: &S,
     command: &Command,
-) -> Result<MemoryFiles, Unread<'static>>
+) -> Result<MemoryFiles, Report<'static>>
     ensures asked { IfOk result (λ files. pairs_of files ≡ []) }
     ensures held { IfOk result (HoldsInput command.now) }
-    ensures fault { IfErr result (IsUnreadStore command.now) }
+    ensures unread { IfErr result (λ told. IsUnreadStore command.now (report_outcome told)) }
 {
     match command {
         Command::Versions { path, .. } => list_store(rt, path),

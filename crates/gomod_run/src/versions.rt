@@ -1,30 +1,30 @@
 //! The outcome of `versions`: it needs a module's list and then perhaps one go.mod, so the asks of the store are
 //! ordered here.
 
-ghost use Rattle.std.specs.Prelude.{◌≡◌, ◌≤◌, ◌++◌, [], Bool, Contains, IfErr, IfNone, IfOk, IfSome, MatchOption, None, OnOk, Some, codes, map, true};
+ghost use Rattle.std.specs.Prelude.{◌≡◌, ◌≤◌, ◌++◌, ◌∷◌, ℕ, [], Contains, IfOk, List, MatchOption, MatchResult, None, OnOk, codes, map};
 ghost use Rattle.std.specs.String.{string_bytes};
 ghost use Rattle.std.specs.List.Sorted.{IsStrictlySortedBy};
 ghost use Rattle.gm_name.specs.Version.{version_cmp};
 ghost use Rattle.gm_file.specs.Views.{interval_views};
 ghost use Rattle.gm_file_retract.specs.Shown.{shown_of};
-ghost use Rattle.gm_store.specs.Asked.{IsWithinLimit, Name, Reply, answer_in, bytes, list_file, mod_file, reply_of};
+ghost use Rattle.gm_store.specs.Asked.{IsWithinLimit, Name, Reply, answer_in, bytes, mod_file, reply_of};
 ghost use Rattle.gm_store.specs.States.{RefusesWithCause};
 ghost use Rattle.gm_graph_cache.specs.Reading.{IsFileReading};
 ghost use Rattle.gm_graph_cache.specs.Summaries.{reading_of};
-ghost use Rattle.gm_graph_listing.specs.Outcomes.{StopsWith, outcome_view, printed};
+ghost use Rattle.gm_report.specs.Outcome.{OrNoMemory, Outcome, failed, out_of_memory, outcome_view, report_outcome};
+ghost use Rattle.gm_report.specs.Reports.{device_line};
 ghost use Rattle.gm_store.specs.Latest.{IsLatest};
-ghost use Rattle.gomod_run.specs.Asking.{IsAsked, IsLatestAsked};
-ghost use Rattle.gomod_run.specs.Listing.{IsListAnswered};
+ghost use Rattle.gomod_run.specs.Asking.{IsLatestAsked};
+ghost use Rattle.gomod_run.specs.Listing.{IsAllOutcome, IsListAsked, IsShownAsked};
 ghost use Rattle.gomod_run.specs.Runs.{AskedInTurn, IsRunOutcome, FailsInTurn};
-ghost use Rattle.gomod_run.specs.Versions.{AnswersByName, IsOutcomeByList, IsShownOutcome, IsVersionsOutcome, VersionsNeed, versions_line};
+ghost use Rattle.gomod_run.specs.Versions.{IsEndByList, IsRefusedList, IsShownOutcome, IsVersionsOutcome, VersionsNeed, versions_line};
 
 use crate::asking::{ask_for, last_answer};
-use crate::report_lines::list_line;
 use gm_file::Interval;
 use gm_file_retract::shown_versions;
 use gm_graph_cache::{Class, FileReading};
-use gm_graph_listing::{Output, Stop, fault_report, printed, refused};
 use gm_name::{BorrowedVersion, KnownNames, ModPath, ModVersion, NoMemory};
+use gm_report::Report;
 use gm_store::{Answer, FileName, Files, latest, versions_of};
 use std::alloc::Global;
 
@@ -85,28 +85,28 @@ fn shown_line(
     versions_line(alloc, path, shown.as_slice())
 }
 
-/// The list of a module in the answer for it. It stops with a report if there is none or it is too long.
-fn list_in<'a>(alloc: Global, path: &ModPath, answer: &'a Answer) -> Result<&'a [u8], Stop>
-    ensures list { IfOk result (λ list. reply_of answer.entry.now ≡ bytes list.now) }
-    ensures refused { (all : Bool) (answers : AnswersByName) → IfErr result (StopsWith
-        (IsOutcomeByList path.now all answers (reply_of answer.entry.now))) }
+/// The list of a module in the answer for it, or the report that there is none or that it is too long. It takes no
+/// memory.
+fn list_in<'p, 'a>(path: &'p ModPath, answer: &'a Answer) -> Result<&'a [u8], Report<'p>>
+    ensures { MatchResult result
+        (λ list. reply_of answer.entry.now ≡ bytes list.now)
+        (λ told. IsEndByList (λ list outcome. ⊥) path.entry.now (reply_of answer.entry.now) (report_outcome told)) }
 {
-    let class = match answer {
-        Answer::Bytes(list) => return Ok(list.as_slice()),
-        Answer::Absent => Class::Missing,
-        Answer::TooLong => Class::TooLong,
-    };
-    let line = list_line(alloc, path, class)?;
-    Err(Stop::Reported(refused(alloc, line)))
+    match answer {
+        Answer::Bytes(list) => Ok(list.as_slice()),
+        Answer::Absent => Err(Report::List(path, Class::Missing)),
+        Answer::TooLong => Err(Report::List(path, Class::TooLong)),
+    }
 }
 
-/// A copy of the list of a module, as `list_in` finds it.
-fn list_copy(alloc: Global, path: &ModPath, answer: &Answer) -> Result<Vec<u8>, Stop>
-    ensures list { IfOk result (λ list. reply_of answer.now ≡ bytes list.items) }
-    ensures refused { (all : Bool) (answers : AnswersByName) → IfErr result (StopsWith
-        (IsOutcomeByList path.now all answers (reply_of answer.now))) }
+/// A copy of the list of a module, as `list_in` finds it. It takes memory only if there is one.
+fn list_copy<'p>(alloc: Global, path: &'p ModPath, answer: &Answer) -> Result<Vec<u8>, Report<'p>>
+    ensures { MatchResult result
+        (λ list. reply_of answer.now ≡ bytes list.items)
+        (λ told. IsEndByList (λ list outcome. outcome ≡ out_of_memory) path.now (reply_of answer.now)
+        (report_outcome told)) }
 {
-    let list = list_in(alloc, path, answer)?;
+    let list = list_in(path, answer)?;
     Ok(Vec::from_slice(alloc, list)?)
 }
 
@@ -124,118 +124,64 @@ fn read_answer(alloc: Global, answer: &Answer) -> Result<FileReading, NoMemory>
     }
 }
 
-/// The outcome for listed versions, given the store's answer for the go.mod of the latest one.
-fn shown_outcome(
+/// What listed versions end with, given the store's answer for the go.mod of the latest one.
+fn shown_outcome<'p>(
     alloc: Global,
-    path: &ModPath,
+    path: &'p ModPath,
     versions: &[BorrowedVersion<'_>],
-    latest: &ModVersion,
+    latest: ModVersion,
     answer: &Answer,
-) -> Result<Output, NoMemory>
+) -> Result<String, Report<'p>>
     requires { IsStrictlySortedBy version_cmp versions.now }
-    ensures { IfOk result (λ output. IsWithinLimit (reply_of answer.now)
-        → IsShownOutcome path.now versions.now latest.now (reply_of answer.now) (outcome_view output)) }
+    ensures { IsWithinLimit (reply_of answer.now)
+        → OrNoMemory (IsShownOutcome path.now versions.now latest (reply_of answer.now)) (outcome_view result) }
 {
     match read_answer(alloc, answer)? {
         FileReading::Valid(dependency) => {
             let line = shown_line(alloc, path, versions, dependency.retracts())?;
-            Ok(printed(alloc, line))
+            Ok(line)
         }
-        FileReading::Faulty(class) => {
-            Ok(refused(alloc, fault_report(alloc, path, latest, class)?))
-        }
+        FileReading::Faulty(class) => Err(Report::File(path, latest, class)),
     }
 }
 
-/// Asks for the list of a module, as `ask_for` does.
-fn ask_for_list<F: Files>(
+/// Asks for the go.mod of the latest version, and gives what the listed versions end with.
+fn latest_outcome<'p, F: Files>(
     alloc: Global,
-    path: &ModPath,
-    files: &mut F,
-) -> Result<Option<Output>, NoMemory>
-    requires { answer_in (F.state files.old).asked (list_file path.now) ≡ None }
-    ensures asked { IsAsked (list_file path.now) (F.may_answer files.old)
-        (F.state files.old) (F.state files.new)
-        result }
-    ensures same_store { (name : Name) (reply : Reply)
-        → F.may_answer files.new name reply → F.may_answer files.old name reply }
-    ensures cause { RefusesWithCause (F.state files.old) (F.state files.new) }
-    ensures later { (F.state files.old).faults ≤ (F.state files.new).faults }
-{
-    let list = FileName::List(path.copy(alloc)?);
-    ask_for(alloc, files, &list)
-}
-
-/// Asks for the go.mod of a version, as `ask_for` does.
-fn ask_for_mod<F: Files>(
-    alloc: Global,
-    path: &ModPath,
-    version: &ModVersion,
-    files: &mut F,
-) -> Result<Option<Output>, NoMemory>
-    requires { answer_in (F.state files.old).asked (mod_file path.now version.now) ≡ None }
-    ensures asked { IsAsked (mod_file path.now version.now) (F.may_answer files.old)
-        (F.state files.old) (F.state files.new)
-        result }
-    ensures cause { RefusesWithCause (F.state files.old) (F.state files.new) }
-    ensures later { (F.state files.old).faults ≤ (F.state files.new).faults }
-{
-    let file = FileName::Mod(path.copy(alloc)?, version.copy(alloc)?);
-    ask_for(alloc, files, &file)
-}
-
-/// Asks for the go.mod of the latest version. The result is the outcome for the listed versions, or the report that
-/// the device failed.
-fn latest_outcome<F: Files>(
-    alloc: Global,
-    path: &ModPath,
+    path: &'p ModPath,
     versions: &[BorrowedVersion<'_>],
-    latest: &ModVersion,
+    latest: ModVersion,
     files: &mut F,
-) -> Result<Output, NoMemory>
+) -> Result<String, Report<'p>>
     requires ascending { IsStrictlySortedBy version_cmp versions.now }
-    requires unasked { answer_in (F.state files.old).asked (mod_file path.now latest.now) ≡ None }
-    ensures asked { IsLatestAsked path.now versions.now latest.now (F.may_answer files.old)
+    requires unasked { answer_in (F.state files.old).asked (mod_file path.now latest) ≡ None }
+    ensures asked { IsLatestAsked path.now versions.now latest (F.may_answer files.old)
         (F.state files.old) (F.state files.new)
-        result }
+        (outcome_view result) }
     ensures cause { RefusesWithCause (F.state files.old) (F.state files.new) }
     ensures later { (F.state files.old).faults ≤ (F.state files.new).faults }
 {
-    match ask_for_mod(alloc, path, latest, files)? {
-        Some(output) => Ok(output),
-        None => shown_outcome(alloc, path, versions, latest, last_answer(files)),
-    }
+    ask_for(files, FileName::Mod(path.copy(alloc)?, latest.copy(alloc)?))?;
+    shown_outcome(alloc, path, versions, latest, last_answer(files))
 }
 
-/// Checks the path and asks for the list of the module. `None` where the store answered; otherwise the result is the
-/// output that reports why it did not.
-fn ask_if_fetchable<F: Files>(
+/// Checks the path and asks for the list of the module. If there is no answer, the report says why.
+fn ask_for_list<'p, F: Files>(
     alloc: Global,
-    path: &ModPath,
+    path: &'p ModPath,
     files: &mut F,
-) -> Result<Option<Output>, NoMemory>
+) -> Result<(), Report<'p>>
     requires { (F.state files.old).asked ≡ [] }
-    ensures answered { IfOk result (λ output. IfNone output ((reply : Reply)
-        × IsListAnswered path.now (F.may_answer files.old) (F.state files.old) (F.state files.new) reply)) }
-    ensures comes { (all : Bool) → IfOk result (λ output. IfSome output (λ output. IsRunOutcome
-        (VersionsNeed path.now all) (IsVersionsOutcome path.now all)
-        (F.state files.old) (F.state files.new)
-        (outcome_view output))) }
-    ensures in_turn { (all : Bool) → AskedInTurn (VersionsNeed path.now all) (F.state files.new).asked }
-    ensures fails { (all : Bool)
-        → FailsInTurn (VersionsNeed path.now all)
-        (F.state files.old) (F.state files.new) }
-    ensures answers { (name : Name) (reply : Reply)
-        → Contains (F.state files.new).asked (name, reply) → F.may_answer files.old name reply }
+    ensures asked { IsListAsked path.now (F.may_answer files.old) (F.state files.old) (F.state files.new) result }
     ensures same_store { (name : Name) (reply : Reply)
         → F.may_answer files.new name reply → F.may_answer files.old name reply }
     ensures cause { RefusesWithCause (F.state files.old) (F.state files.new) }
     ensures later { (F.state files.old).faults ≤ (F.state files.new).faults }
 {
     if !path.is_fetchable() {
-        return Ok(Some(refused(alloc, list_line(alloc, path, Class::NotFetchable)?)));
+        return Err(Report::List(path, Class::NotFetchable));
     }
-    ask_for_list(alloc, path, files)
+    ask_for(files, FileName::List(path.copy(alloc)?))
 }
 
 /// The latest of the listed versions, or `None` if there are none.
@@ -251,43 +197,61 @@ fn latest_version(
     }
 }
 
-/// The output that prints all listed versions.
-fn all_outcome(
+/// What the answer for the list ends with if all listed versions are to be printed.
+fn outcome_of_all<'p>(
     alloc: Global,
-    path: &ModPath,
-    versions: &[BorrowedVersion<'_>],
-) -> Result<Output, NoMemory>
-    ensures { IfOk result (λ output. outcome_view output ≡ printed (versions_line path.now versions.now)) }
+    path: &'p ModPath,
+    answer: &Answer,
+) -> Result<String, Report<'p>>
+    ensures { IsEndByList (λ list. OrNoMemory (IsAllOutcome path.now list)) path.now (reply_of answer.now)
+        (outcome_view result) }
 {
-    let line = all_line(alloc, path, versions)?;
-    Ok(printed(alloc, line))
-}
-
-/// The outcome of the answer for the list where all listed versions are to be printed.
-fn outcome_of_all(alloc: Global, path: &ModPath, answer: &Answer) -> Result<Output, NoMemory>
-    ensures { (answers : AnswersByName) → IfOk result (λ output.
-        IsOutcomeByList path.now true answers (reply_of answer.now) (outcome_view output)) }
-{
-    let list = match list_in(alloc, path, answer) {
-        Ok(list) => list,
-        Err(stop) => return stop.into_output(),
-    };
+    let list = list_in(path, answer)?;
     let versions = versions_of(alloc, path, list)?;
-    all_outcome(alloc, path, versions.as_slice())
+    let line = all_line(alloc, path, versions.as_slice())?;
+    Ok(line)
 }
 
-/// The outcome of `versions` over a store that has not been asked yet. With `all`, retracted versions are printed
-/// too. The only refusal is running out of memory.
-pub(crate) fn versions_outcome<F: Files>(
+/// What a list ends with if retracted versions are not to be printed. If it has versions, the go.mod of the latest one
+/// is asked for.
+fn outcome_of_shown<'p, F: Files>(
     alloc: Global,
-    path: &ModPath,
+    path: &'p ModPath,
+    list: &[u8],
+    files: &mut F,
+) -> Result<String, Report<'p>>
+    requires { (latest : List ℕ) → answer_in (F.state files.old).asked (mod_file path.now latest) ≡ None }
+    ensures asked { IsShownAsked path.now list.now (F.may_answer files.old)
+        (F.state files.old) (F.state files.new)
+        (outcome_view result) }
+    ensures cause { RefusesWithCause (F.state files.old) (F.state files.new) }
+    ensures later { (F.state files.old).faults ≤ (F.state files.new).faults }
+{
+    let versions = versions_of(alloc, path, list)?;
+    match latest_version(alloc, versions.as_slice())? {
+        Some(latest) => latest_outcome(alloc, path, versions.as_slice(), latest, files),
+        None => {
+            let line = all_line(alloc, path, versions.as_slice())?;
+            Ok(line)
+        }
+    }
+}
+
+/// What `versions` ends with over a store that has not been asked yet. With `all`, retracted versions are printed too.
+pub(crate) fn versions_outcome<'p, F: Files>(
+    alloc: Global,
+    path: &'p ModPath,
     all: bool,
     files: &mut F,
-) -> Result<Output, NoMemory>
+) -> Result<String, Report<'p>>
     requires { (F.state files.old).asked ≡ [] }
-    ensures comes { IfOk result (λ output. IsRunOutcome (VersionsNeed path.now all) (IsVersionsOutcome path.now all)
-        (F.state files.old) (F.state files.new)
-        (outcome_view output)) }
+    ensures comes { OrNoMemory (IsRunOutcome (VersionsNeed path.now all) (IsVersionsOutcome path.now all)
+        (F.state files.old) (F.state files.new))
+        (outcome_view result) }
+    ensures device { (name : Name) → (F.state files.new).refused ≡ (F.state files.old).refused ++ name ∷ []
+        → outcome_view result ≡ failed (device_line name) }
+    ensures no_list { (outcome : Outcome) → IsRefusedList path.now (answer_in (F.state files.new).asked) outcome
+        → outcome_view result ≡ outcome }
     ensures in_turn { AskedInTurn (VersionsNeed path.now all) (F.state files.new).asked }
     ensures fails { FailsInTurn (VersionsNeed path.now all)
         (F.state files.old) (F.state files.new) }
@@ -296,20 +260,11 @@ pub(crate) fn versions_outcome<F: Files>(
     ensures cause { RefusesWithCause (F.state files.old) (F.state files.new) }
     ensures later { (F.state files.old).faults ≤ (F.state files.new).faults }
 {
-    if let Some(output) = ask_if_fetchable(alloc, path, files)? {
-        return Ok(output);
-    }
+    ask_for_list(alloc, path, files)?;
     if all {
         return outcome_of_all(alloc, path, last_answer(files));
     }
     // The versions borrow their texts, and not from the store, which is asked once more.
-    let list = match list_copy(alloc, path, last_answer(files)) {
-        Ok(list) => list,
-        Err(stop) => return stop.into_output(),
-    };
-    let versions = versions_of(alloc, path, list.as_slice())?;
-    match latest_version(alloc, versions.as_slice())? {
-        Some(latest) => latest_outcome(alloc, path, versions.as_slice(), &latest, files),
-        None => all_outcome(alloc, path, versions.as_slice()),
-    }
+    let list = list_copy(alloc, path, last_answer(files))?;
+    outcome_of_shown(alloc, path, list.as_slice(), files)
 }

@@ -9,6 +9,7 @@ mod loading;
 mod opened_files;
 mod projects;
 mod readers;
+mod reports;
 mod rounds;
 mod sinks;
 mod stores;

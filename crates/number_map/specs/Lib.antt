@@ -1,4 +1,4 @@
 pub mod Buckets
 pub mod NumberMap
-pub mod Places
+pub mod PlaceMap
 pub mod Slots

@@ -2,7 +2,7 @@
 use Rattle.std.specs.Prelude.{◌≡◌, ℕ, Option, Some, cond, length, nat_eq, slice_get}
 use Rattle.std.specs.Option.{option_and_then}
 use Rattle.number_map.specs.declared.number_map.NumberMap.{NumberMap}
-use Rattle.number_map.specs.Places.{place_at}
+use Rattle.number_map.specs.PlaceMap.{place_at}
 
 -- what a map holds at a number: the value at the number's place
 abbrev pub held : {V : Type 0} → NumberMap V → ℕ → Option V

@@ -8,7 +8,6 @@
 
 mod bucket;
 mod number_map;
-mod places;
+mod place_map;
 
 pub use crate::number_map::NumberMap;
-pub use crate::places::Places;

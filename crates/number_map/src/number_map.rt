@@ -1,16 +1,16 @@
 //! The map from numbers to values: a list of the values, and their places.
 
 ghost use Rattle.std.specs.Prelude.{◌≡◌, ◌<◌, ℕ, Some, length};
-ghost use Rattle.number_map.specs.Places.{place_at};
+ghost use Rattle.number_map.specs.PlaceMap.{place_at};
 
-use crate::places::Places;
+use crate::place_map::PlaceMap;
 use std::alloc::{AllocFailed, Global};
 
 /// A map from numbers to values.
 #[derive(Drop)]
 pub struct NumberMap<V> {
     /// The place of each number's value.
-    places: Places,
+    places: PlaceMap,
     /// The values that were put, in this order. One that is replaced stays, which costs its memory alone.
     values: Vec<V>,
     ghost within: { (number : ℕ) (place : ℕ) → place_at places number ≡ Some place → place < length values.items },
@@ -27,7 +27,7 @@ impl<V: Drop> NumberMap<V> {
         ensures count { count_of result ≡ 0 }
     {
         NumberMap {
-            places: Places::new(alloc),
+            places: PlaceMap::new(alloc),
             values: Vec::new(alloc),
         }
     }

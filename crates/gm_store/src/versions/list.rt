@@ -4,12 +4,13 @@
 //! line doesn't hide the other versions.
 
 ghost use Rattle.std.specs.Prelude.{◌≡◌, ◌↔◌, ◌++◌, ◌∷◌, [], ℕ, List, IfOk, IfNone, IfSome, IsTrue, OnOk};
+ghost use Rattle.gm_name.specs.Lines.{first_word};
 ghost use Rattle.gm_name.specs.Version.{IsVersion};
-ghost use Rattle.gm_store.specs.Lines.{first_word};
 ghost use Rattle.gm_store.specs.Listed.{AreListed, HoldsListable, IsListable, IsPseudoVersion};
 
-use crate::blanks::first_word;
-use gm_name::{BorrowedVersion, ModPath, ModVersion, NoMemory, VersionFault, fits, pseudo};
+use gm_name::{
+    BorrowedVersion, ModPath, ModVersion, NoMemory, VersionFault, first_word, fits, pseudo,
+};
 use std::alloc::{AllocError, Global};
 
 /// The version that a text spells, or `None` if it isn't a canonical version. The only refusal is `NoMemory`.

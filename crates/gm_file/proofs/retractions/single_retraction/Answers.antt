@@ -1,7 +1,7 @@
 use Rattle.std.proofs.Common.{[], ◌∷◌, Some, refl, sym, ◌∙◌}
-use Rattle.gm_syntax.specs.Pairs.{bare_word}
+use Rattle.gm_syntax.specs.SimpleLines.{bare_word}
 use Rattle.gm_name.proofs.NameTests.{not_true}
-use Rattle.gm_file.specs.PairLines.{single_item}
+use Rattle.gm_file.specs.SimpleLines.{single_item}
 use Rattle.gm_file.proofs.Retracted.{ends-read, ends-refused, not-false, other-retracts, retract-retracts}
 use Rattle.gm_file.proofs.retractions.single_retraction.Goals as goal
 

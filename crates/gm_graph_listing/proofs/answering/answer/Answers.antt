@@ -1,46 +1,73 @@
+use Rattle.std.proofs.lemmas.Result.{err_from_is_err_and}
 use Rattle.std.specs.Option.{option_copied}
 use Rattle.gm_graph_cache.specs.Main.{main_of}
-use Rattle.gm_graph_listing.specs.Outcomes.{outcome_view}
-use Rattle.gm_graph_listing.proofs.CommandOutcomes.{answered, both_ok, load_counts, load_fails, over_fails, refused_read}
+use Rattle.gm_report.specs.Outcome.{outcome_view}
+use Rattle.gm_graph_listing.proofs.CommandOutcomes.{answered, both_ok, broken, load_counts, load_fails, not_broken, not_loaded, over_fails, refused_read, unasked}
 use Rattle.gm_graph_listing.proofs.answering.answer.Goals as goal
 
-pub returns-in-Err-clause-comes : goal.returns-in-Err-clause-comes
-returns-in-Err-clause-comes g c =
-    refused_read c.args.query c.args.file.now (option_copied c.args.sums) (g.F.Files.state c.args.files.now) c.read_files.result c.in-Err.stop
-    c.into_output.result c.requires c.in-Err.is c.read_files.ensures c.into_output.ensures
+pub returns-in_err-read-clause-comes : goal.returns-in_err-read-clause-comes
+returns-in_err-read-clause-comes g c =
+    let p = err_from_is_err_and c.from_residual.result c.from_residual.ensures.1 in
+    rw (p.1, p.2)
+    (refused_read c.args.query c.args.file.now (option_copied c.args.sums) (g.F.Files.state c.args.files.now) c.read_files.result
+    c.in_err-read.field-0.0 c.requires c.in_err-read.was c.read_files.ensures)
+
+pub returns-in_err-read-clause-device : goal.returns-in_err-read-clause-device
+returns-in_err-read-clause-device g c = λ name grown. unasked (g.F.Files.state c.args.files.now) name grown
+
+pub returns-in_err-loaded-clause-comes : goal.returns-in_err-loaded-clause-comes
+returns-in_err-loaded-clause-comes g c =
+    let load = rw c.as_ref.ensures.value at c.load.ensures in
+    let p = err_from_is_err_and c.from_residual-in_err-loaded.result c.from_residual-in_err-loaded.ensures.1 in
+    rw (p.1, p.2)
+    (not_loaded c.args.query c.args.file.now (option_copied c.args.sums) (main_of c.in_ok-read.read.main) c.in_ok-read.read.table
+    (g.F.Files.state c.args.files.now) (g.F.Files.state c.load.new.files) c.load.result c.in_err-loaded.field-0.0 c.in_err-loaded.was
+    (both_ok c.args.file.now (option_copied c.args.sums) c.read_files.result c.in_ok-read.read c.in_ok-read.was c.read_files.ensures)
+    load.too_many load.device load.refused)
+
+pub returns-in_err-loaded-clause-device : goal.returns-in_err-loaded-clause-device
+returns-in_err-loaded-clause-device g c = λ name grown.
+    let p = err_from_is_err_and c.from_residual-in_err-loaded.result c.from_residual-in_err-loaded.ensures.1 in
+    rw (p.1, p.2)
+    (broken (g.F.Files.state c.args.files.now) (g.F.Files.state c.load.new.files) c.load.result c.in_err-loaded.field-0.0 name
+    c.in_err-loaded.was c.load.ensures.refused grown)
+
+pub returns-in_err-loaded-clause-fails : goal.returns-in_err-loaded-clause-fails
+returns-in_err-loaded-clause-fails g c =
+    let load = rw c.as_ref.ensures.value at c.load.ensures in
+    over_fails c.args.file.now (option_copied c.args.sums) (main_of c.in_ok-read.read.main) c.in_ok-read.read.table
+    (g.F.Files.state c.args.files.now) (g.F.Files.state c.load.new.files)
+    (both_ok c.args.file.now (option_copied c.args.sums) c.read_files.result c.in_ok-read.read c.in_ok-read.was c.read_files.ensures)
+    (load_fails (main_of c.in_ok-read.read.main) c.in_ok-read.read.table (g.F.Files.state c.args.files.now) (g.F.Files.state c.load.new.files)
+    c.load.result load.refused load.device)
+
+pub returns-in_err-loaded-clause-cause : goal.returns-in_err-loaded-clause-cause
+returns-in_err-loaded-clause-cause g c =
+    load_counts (g.F.Files.state c.args.files.now) (g.F.Files.state c.load.new.files) c.load.result c.load.ensures.refused c.load.ensures.cause
 
 pub returns-clause-comes : goal.returns-clause-comes
 returns-clause-comes g c =
-    let load = rw c.as_ref.ensures.value at c.load-loaded.ensures in
-    answered c.args.query c.args.file.now (option_copied c.args.sums) (main_of c.in-Ok.read.main) c.in-Ok.read.table
-    (g.F.Files.state c.args.files.now) (g.F.Files.state c.load-loaded.new.files) c.load-loaded.result (outcome_view c.in_ok-output.output)
-    (both_ok c.args.file.now (option_copied c.args.sums) c.read_files.result c.in-Ok.read c.in-Ok.is c.read_files.ensures)
-    load.loaded load.too_many load.device load.refused c.in_ok-output.ensures
+    let load = rw c.as_ref.ensures.value at c.load.ensures in
+    answered c.args.query c.args.file.now (option_copied c.args.sums) (main_of c.in_ok-read.read.main) c.in_ok-read.read.table
+    (g.F.Files.state c.args.files.now) (g.F.Files.state c.load.new.files) c.load.result c.in_ok-loaded.loaded (outcome_view c.tell.result)
+    c.in_ok-loaded.was
+    (both_ok c.args.file.now (option_copied c.args.sums) c.read_files.result c.in_ok-read.read c.in_ok-read.was c.read_files.ensures)
+    load.loaded load.refused c.tell.ensures
 
-pub returns-in_err-output-clause-fails : goal.returns-in_err-output-clause-fails
-returns-in_err-output-clause-fails g c =
-    let load = rw c.as_ref.ensures.value at c.load-loaded.ensures in
-    over_fails c.args.file.now (option_copied c.args.sums) (main_of c.in-Ok.read.main) c.in-Ok.read.table
-    (g.F.Files.state c.args.files.now) (g.F.Files.state c.load-loaded.new.files)
-    (both_ok c.args.file.now (option_copied c.args.sums) c.read_files.result c.in-Ok.read c.in-Ok.is c.read_files.ensures)
-    (load_fails (main_of c.in-Ok.read.main) c.in-Ok.read.table (g.F.Files.state c.args.files.now) (g.F.Files.state c.load-loaded.new.files)
-    c.load-loaded.result load.refused load.device)
-
-pub returns-in_err-output-clause-cause : goal.returns-in_err-output-clause-cause
-returns-in_err-output-clause-cause g c =
-    load_counts (g.F.Files.state c.args.files.now) (g.F.Files.state c.load-loaded.new.files)
-    c.load-loaded.result c.load-loaded.ensures.refused c.load-loaded.ensures.cause
+pub returns-clause-device : goal.returns-clause-device
+returns-clause-device g c = λ name grown.
+    not_broken (g.F.Files.state c.args.files.now) (g.F.Files.state c.load.new.files) c.load.result c.in_ok-loaded.loaded name
+    c.in_ok-loaded.was c.load.ensures.refused grown
 
 pub returns-clause-fails : goal.returns-clause-fails
 returns-clause-fails g c =
-    let load = rw c.as_ref.ensures.value at c.load-loaded.ensures in
-    over_fails c.args.file.now (option_copied c.args.sums) (main_of c.in-Ok.read.main) c.in-Ok.read.table
-    (g.F.Files.state c.args.files.now) (g.F.Files.state c.load-loaded.new.files)
-    (both_ok c.args.file.now (option_copied c.args.sums) c.read_files.result c.in-Ok.read c.in-Ok.is c.read_files.ensures)
-    (load_fails (main_of c.in-Ok.read.main) c.in-Ok.read.table (g.F.Files.state c.args.files.now) (g.F.Files.state c.load-loaded.new.files)
-    c.load-loaded.result load.refused load.device)
+    let load = rw c.as_ref.ensures.value at c.load.ensures in
+    over_fails c.args.file.now (option_copied c.args.sums) (main_of c.in_ok-read.read.main) c.in_ok-read.read.table
+    (g.F.Files.state c.args.files.now) (g.F.Files.state c.load.new.files)
+    (both_ok c.args.file.now (option_copied c.args.sums) c.read_files.result c.in_ok-read.read c.in_ok-read.was c.read_files.ensures)
+    (load_fails (main_of c.in_ok-read.read.main) c.in_ok-read.read.table (g.F.Files.state c.args.files.now) (g.F.Files.state c.load.new.files)
+    c.load.result load.refused load.device)
 
 pub returns-clause-cause : goal.returns-clause-cause
 returns-clause-cause g c =
-    load_counts (g.F.Files.state c.args.files.now) (g.F.Files.state c.load-loaded.new.files)
-    c.load-loaded.result c.load-loaded.ensures.refused c.load-loaded.ensures.cause
+    load_counts (g.F.Files.state c.args.files.now) (g.F.Files.state c.load.new.files) c.load.result c.load.ensures.refused c.load.ensures.cause

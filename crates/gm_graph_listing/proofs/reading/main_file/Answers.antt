@@ -1,14 +1,13 @@
-use Rattle.std.specs.String.{string_bytes}
-use Rattle.gm_graph_listing.specs.Outcomes.{outcome_view}
+use Rattle.std.proofs.lemmas.Result.{err_from_is_err_and}
 use Rattle.gm_graph_listing.proofs.Misreading.{no_document, no_main_file}
 use Rattle.gm_graph_listing.proofs.reading.main_file.Goals as goal
 
-pub returns-in-Err : goal.returns-in-Err
-returns-in-Err c =
-    no_document c.args.bytes.now c.in-Err.fault (string_bytes c.in_ok-syntax_report-in-Err.field-0) (outcome_view c.refused.result)
-    c.in-Err.ensures.read c.in_ok-syntax_report-in-Err.ensures c.refused.ensures
+pub returns-in_err-doc : goal.returns-in_err-doc
+returns-in_err-doc c =
+    let p = err_from_is_err_and c.from_residual.result c.from_residual.ensures.1 in
+    rw (p.1, p.2) (no_document c.args.bytes.now c.in_err-doc.field-0.0 c.in_err-doc.ensures.read)
 
-pub returns-in_ok-directive_report-in-Err-read : goal.returns-in_ok-directive_report-in-Err-read
-returns-in_ok-directive_report-in-Err-read c =
-    no_main_file c.args.bytes.now c.in-Ok.doc c.in-Err-read.fault (string_bytes c.in_ok-directive_report-in-Err-read.field-0) (outcome_view c.refused-in-Err-read.result)
-    c.in-Ok.ensures.read c.in-Err-read.ensures.fault c.in_ok-directive_report-in-Err-read.ensures c.refused-in-Err-read.ensures
+pub returns-in_err-file : goal.returns-in_err-file
+returns-in_err-file c =
+    let p = err_from_is_err_and c.from_residual-in_err-file.result c.from_residual-in_err-file.ensures.1 in
+    rw (p.1, p.2) (no_main_file c.args.bytes.now c.in_ok-doc.doc c.in_err-file.field-0.0 c.in_ok-doc.ensures.read c.in_err-file.ensures.fault)

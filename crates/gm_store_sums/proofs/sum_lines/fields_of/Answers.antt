@@ -1,7 +1,7 @@
 use Rattle.std.proofs.Common.{◌≡◌, ◌∙◌, ap, sym, ℕ, List, [], ◌∷◌, false}
-use Rattle.gm_store.specs.Lines.{first_word}
+use Rattle.gm_name.specs.Lines.{first_word}
 use Rattle.gm_store_sums.specs.Sums.{are_valid_fields}
-use Rattle.gm_store.proofs.FieldLemmas.{is_none, is_some, put_none, put_some}
+use Rattle.gm_name.proofs.FieldLemmas.{is_none, is_some, put_none, put_some}
 use Rattle.gm_store_sums.proofs.sum_lines.fields_of.Goals as goal
 
 pub returns-then-is_empty : goal.returns-then-is_empty

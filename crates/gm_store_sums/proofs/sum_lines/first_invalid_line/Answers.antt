@@ -5,7 +5,7 @@ use Rattle.std.proofs.lemmas.Iterator.Search.{position_from_yields_List}
 use Rattle.std.proofs.lemmas.Iterator.Splits.{YieldsList-from_slice_split}
 use Rattle.std.specs.Option.{MatchOption}
 use Rattle.std.specs.Prelude.{nat_lt}
-use Rattle.gm_store.specs.Lines.{fields, is_line_end, lines}
+use Rattle.gm_name.specs.Lines.{fields, is_line_end, lines}
 use Rattle.gm_store_sums.specs.Sums.{are_valid_fields, lines_before_invalid}
 use Rattle.gm_store_sums.proofs.sum_lines.first_invalid_line.Goals as goal
 

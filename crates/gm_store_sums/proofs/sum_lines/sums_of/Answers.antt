@@ -3,7 +3,7 @@ use borrow.Author.Tests.{tests}
 use Rattle.std.proofs.lemmas.Iterator.Consumers.{YieldsList-end}
 use Rattle.std.proofs.lemmas.Iterator.Splits.{YieldsList-from_slice_split}
 use Rattle.std.specs.List.{list_any}
-use Rattle.gm_store.specs.Lines.{fields, is_line_end, lines}
+use Rattle.gm_name.specs.Lines.{fields, is_line_end, lines}
 use Rattle.gm_store_sums.specs.Order.{triple}
 use Rattle.gm_store_sums.proofs.Summing.{HoldsGiven, holds_all, is_invalid, line_added, valid_all, valid_more}
 use Rattle.gm_store_sums.proofs.sum_lines.sums_of.Goals as goal

@@ -1,6 +1,6 @@
 use Rattle.std.proofs.Common.{◌≡◌, map, false}
 use Rattle.std.specs.List.{list_any}
-use Rattle.gm_store.specs.Lines.{fields}
+use Rattle.gm_name.specs.Lines.{fields}
 use Rattle.gm_store_sums.specs.Order.{triple}
 use Rattle.gm_store_sums.proofs.Summing.{HoldsGiven, is_invalid}
 use Rattle.gm_store_sums.proofs.sum_lines.sums_of.Given as goal

@@ -5,8 +5,8 @@ use Rattle.gm_syntax.specs.Scan.{bare_len, piece_of}
 use Rattle.gm_syntax.proofs.Steps.{plain_piece}
 use Rattle.gm_syntax.proofs.scan.piece_of.Goals as goal
 
-pub returns-then-b-ne61 : goal.returns-then-b-ne61
-returns-then-b-ne61 c =
+pub returns-then-is_plain : goal.returns-then-is_plain
+returns-then-is_plain c =
     let bytes = c.in-Some.ensures.cases.0 in
     ap (Word Bare) (c.bare_len.ensures ∙ ap bare_len bytes)
-    ∙ sym (ap (piece_of c.args.after_bare) bytes ∙ plain_piece c.args.after_bare c.in-Some.first.now c.in-Some.rest.now (sym c.is_plain.ensures ∙ c.if-is_plain.true) c.if-b-ne61.true)
+    ∙ sym (ap (piece_of c.args.after_bare) bytes ∙ plain_piece c.args.after_bare c.in-Some.first.now c.in-Some.rest.now (sym c.is_plain.ensures ∙ c.if-is_plain.true))

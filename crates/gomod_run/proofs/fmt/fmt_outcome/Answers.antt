@@ -1,9 +1,13 @@
-use Rattle.std.proofs.Common.{string_bytes}
-use Rattle.gm_graph_listing.specs.Outcomes.{outcome_view}
+use Rattle.std.proofs.Common.{inr}
+use Rattle.std.proofs.lemmas.Result.{err_from_is_err_and}
 use Rattle.gomod_run.proofs.Misread.{fmt_misread}
+use Rattle.gomod_run.proofs.Steps.{no_memory}
 use Rattle.gomod_run.proofs.fmt.fmt_outcome.Goals as goal
 
-pub returns-in_ok-syntax_report-in-Err : goal.returns-in_ok-syntax_report-in-Err
-returns-in_ok-syntax_report-in-Err c =
-    fmt_misread c.args.file.now c.in-Err.fault (string_bytes c.in_ok-syntax_report-in-Err.field-0) (outcome_view c.refused.result)
-    c.in-Err.ensures.read c.in_ok-syntax_report-in-Err.ensures c.refused.ensures
+pub returns-in_err-doc : goal.returns-in_err-doc
+returns-in_err-doc c =
+    let p = err_from_is_err_and c.from_residual.result c.from_residual.ensures.1 in
+    rw (p.1, p.2) (fmt_misread c.args.file.now c.in_err-doc.field-0.0 c.in_err-doc.ensures.read)
+
+pub returns-in_err-format : goal.returns-in_err-format
+returns-in_err-format c = inr (no_memory c.from_residual-in_err-format.result c.from_residual-in_err-format.ensures.1)

@@ -1,4 +1,7 @@
+use Rattle.std.proofs.Common.{◌≡◌, ℕ, List, subst}
 use Rattle.std.specs.Option.{option_map}
+use Rattle.gm_store.specs.Asked.{answer_in}
+use Rattle.gomod_run.specs.Versions.{IsRefusedList}
 use Rattle.gomod_run.proofs.InTurn.{fails_in_turn, in_turn}
 use Rattle.gomod_run.proofs.outcome.outcome.Goals as goal
 
@@ -7,6 +10,12 @@ returns-in-Versions-clause-comes g c = rw c.in-Versions.is c.versions_outcome.en
 
 pub returns-in-Versions-clause-in_turn : goal.returns-in-Versions-clause-in_turn
 returns-in-Versions-clause-in_turn g c = rw c.in-Versions.is c.versions_outcome.ensures.in_turn
+
+pub returns-in-Versions-clause-no_list : goal.returns-in-Versions-clause-no_list
+returns-in-Versions-clause-no_list g c = λ path all outcome is refusal.
+    let same : path ≡ c.in-Versions.path = cc (is, c.in-Versions.is) in
+    c.versions_outcome.ensures.no_list outcome
+    (subst (λ (p : List ℕ). IsRefusedList p (answer_in (g.F.Files.state c.versions_outcome.new.files).asked) outcome) same refusal)
 
 pub returns-in-Graph-clause-comes : goal.returns-in-Graph-clause-comes
 returns-in-Graph-clause-comes g c = rw c.in-Graph.is c.answer.ensures.comes

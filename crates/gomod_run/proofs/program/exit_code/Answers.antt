@@ -3,4 +3,4 @@ use Rattle.gomod_run.proofs.Endings.{program_status}
 use Rattle.gomod_run.proofs.program.exit_code.Goals as goal
 
 pub returns : goal.returns
-returns c = rw c.from.ensures (program_status anything _ _ _ _ _ c.status_of.ensures)
+returns c = rw c.from.ensures (rw c.code.ensures (program_status anything _ _ _ _ _ c.ending_of.ensures))

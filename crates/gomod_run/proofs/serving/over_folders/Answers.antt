@@ -1,7 +1,10 @@
 use Rattle.std.proofs.Common.{ℕ, List, Some, inl, option_map, subst}
 use Rattle.std.specs.String.{string_bytes}
 use Rattle.gm_store.specs.Views.{fallback_state}
-use Rattle.gomod_run.specs.Reads.{IsServedUnread, IsStoreFolder, with_proxy}
+use Rattle.gm_report.specs.Outcome.{OrNoMemory, report_outcome}
+use Rattle.gm_report.specs.declared.report.Report.{Report}
+use Rattle.gomod_run.specs.Program.{IsServed}
+use Rattle.gomod_run.specs.Reads.{IsStoreFolder, with_proxy}
 use Rattle.gomod_run.proofs.Endings.{ends_weaken}
 use Rattle.gomod_run.proofs.Served.{folders_served, input_unserved, passed_on, same_run}
 use Rattle.gomod_run.proofs.serving.over_folders.Goals as goal
@@ -9,9 +12,9 @@ use Rattle.gomod_run.proofs.serving.over_folders.Goals as goal
 pub returns-in_err-read-clause-unread : goal.returns-in_err-read-clause-unread
 returns-in_err-read-clause-unread g c =
     let may_open = g.S.FileSystem.may_open c.args.rt.now in
-    let unread = c.in_err-read.field-0.0 in
-    passed_on (IsServedUnread may_open c.args.command.now (with_proxy c.args.places.now (Some c.args.folders))) unread c.from_residual.result
-    c.from_residual.ensures.1 (inl (input_unserved may_open c.args.command.now c.args.places.now (Some c.args.folders) unread c.in_err-read.ensures))
+    let told = c.in_err-read.field-0.0 in
+    passed_on (λ (told : Report). OrNoMemory (IsServed may_open c.args.command.now (with_proxy c.args.places.now (Some c.args.folders))) (report_outcome told)) told c.from_residual.result
+    c.from_residual.ensures.1 (inl (input_unserved may_open c.args.command.now c.args.places.now (Some c.args.folders) (report_outcome told) c.in_err-read.ensures))
 
 pub returns-clause-ends : goal.returns-clause-ends
 returns-clause-ends g c =

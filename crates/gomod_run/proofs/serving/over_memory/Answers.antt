@@ -1,6 +1,9 @@
 use Rattle.std.proofs.Common.{None, inl, option_map}
 use Rattle.gm_store.specs.Memory.{memory_files_state}
-use Rattle.gomod_run.specs.Reads.{IsServedUnread, with_proxy}
+use Rattle.gm_report.specs.Outcome.{OrNoMemory, report_outcome}
+use Rattle.gm_report.specs.declared.report.Report.{Report}
+use Rattle.gomod_run.specs.Program.{IsServed}
+use Rattle.gomod_run.specs.Reads.{with_proxy}
 use Rattle.gomod_run.proofs.Endings.{ends_weaken}
 use Rattle.gomod_run.proofs.Served.{input_unserved, memory_served, passed_on, same_run, store_unserved}
 use Rattle.gomod_run.proofs.serving.over_memory.Goals as goal
@@ -8,16 +11,16 @@ use Rattle.gomod_run.proofs.serving.over_memory.Goals as goal
 pub returns-in_err-read-clause-unread : goal.returns-in_err-read-clause-unread
 returns-in_err-read-clause-unread g c =
     let may_open = g.S.FileSystem.may_open c.args.rt.now in
-    let unread = c.in_err-read.field-0.0 in
-    passed_on (IsServedUnread may_open c.args.command.now (with_proxy c.args.places.now None)) unread c.from_residual.result
-    c.from_residual.ensures.1 (inl (input_unserved may_open c.args.command.now c.args.places.now None unread c.in_err-read.ensures))
+    let told = c.in_err-read.field-0.0 in
+    passed_on (λ (told : Report). OrNoMemory (IsServed may_open c.args.command.now (with_proxy c.args.places.now None)) (report_outcome told)) told c.from_residual.result
+    c.from_residual.ensures.1 (inl (input_unserved may_open c.args.command.now c.args.places.now None (report_outcome told) c.in_err-read.ensures))
 
 pub returns-in_err-files-clause-unread : goal.returns-in_err-files-clause-unread
 returns-in_err-files-clause-unread g c =
     let may_open = g.S.FileSystem.may_open c.args.rt.now in
-    let unread = c.in_err-files.field-0.0 in
-    passed_on (IsServedUnread may_open c.args.command.now (with_proxy c.args.places.now None)) unread c.from_residual-in_err-files.result
-    c.from_residual-in_err-files.ensures.1 (store_unserved may_open c.args.command.now c.args.places.now unread c.in_err-files.ensures.fault)
+    let told = c.in_err-files.field-0.0 in
+    passed_on (λ (told : Report). OrNoMemory (IsServed may_open c.args.command.now (with_proxy c.args.places.now None)) (report_outcome told)) told c.from_residual-in_err-files.result
+    c.from_residual-in_err-files.ensures.1 (inl (store_unserved may_open c.args.command.now c.args.places.now (report_outcome told) c.in_err-files.ensures.unread))
 
 pub returns-clause-ends : goal.returns-clause-ends
 returns-clause-ends g c =

@@ -27,4 +27,5 @@ returns g c =
           (sym w.in-None.is ∙ c.take-proxy.ensures.value) (ap g.O.Sink.state w.out-is) (ap g.R.Sink.state w.report-is) w.served-is
           (record { ends = w.over_memory-served.ensures.ends; unread = w.over_memory-served.ensures.unread; no_text = w.over_memory-served.ensures.no_text; no_report = w.over_memory-served.ensures.no_report })
     ] in
-    stopped_ends may_open c.args.command.now c.args.places c.in-Err.unread _ _ _ _ _ _ c.match-proxy.served _ c.in-Err.is run c.report_unread.ensures
+    stopped_ends may_open c.args.command.now c.args.places c.in-Err.told _ _ _ _ _ _ c.match-proxy.served _ c.in-Err.is run
+    (c.write_report.ensures (g.O.Sink.state c.match-proxy.out))

@@ -1,14 +1,29 @@
-use Rattle.std.proofs.Common.{true}
+use Rattle.std.proofs.Common.{ap, inl, inr}
+use Rattle.std.proofs.lemmas.Result.{err_from_is_err_and}
 use Rattle.gm_store.specs.Asked.{reply_of}
-use Rattle.gomod_run.proofs.Steps.{printed_by_list, stop_by_list}
+use Rattle.gm_report.specs.Outcome.{OrNoMemory, outcome_view, printed}
+use Rattle.gomod_run.specs.Listing.{IsAllOutcome}
+use Rattle.gomod_run.proofs.Steps.{list_ends, no_memory, none_ends}
 use Rattle.gomod_run.proofs.versions.outcome_of_all.Goals as goal
 
-pub returns-in-Err : goal.returns-in-Err
-returns-in-Err c = λ answers.
-    stop_by_list c.args.path.now true answers (reply_of c.args.answer.now) c.list_in.result c.in-Err.stop c.into_output.result
-    (c.list_in.ensures.refused true answers) c.in-Err.is c.into_output.ensures
+pub returns-in_err-list : goal.returns-in_err-list
+returns-in_err-list c =
+    let path = c.args.path.now in
+    let reply = reply_of c.args.answer.now in
+    let p = err_from_is_err_and c.from_residual.result c.from_residual.ensures.1 in
+    rw (p.1, p.2) (none_ends (λ list. OrNoMemory (IsAllOutcome path list)) path reply _ c.in_err-list.ensures)
+
+pub returns-in_err-versions : goal.returns-in_err-versions
+returns-in_err-versions c =
+    list_ends (λ list. OrNoMemory (IsAllOutcome c.args.path.now list)) c.args.path.now (reply_of c.args.answer.now) c.in_ok-list.list.now (outcome_view c.from_residual-in_err-versions.result)
+    c.in_ok-list.ensures (inr (no_memory c.from_residual-in_err-versions.result c.from_residual-in_err-versions.ensures.1))
+
+pub returns-in_err-line : goal.returns-in_err-line
+returns-in_err-line c =
+    list_ends (λ list. OrNoMemory (IsAllOutcome c.args.path.now list)) c.args.path.now (reply_of c.args.answer.now) c.in_ok-list.list.now (outcome_view c.from_residual-in_err-line.result)
+    c.in_ok-list.ensures (inr (no_memory c.from_residual-in_err-line.result c.from_residual-in_err-line.ensures.1))
 
 pub returns : goal.returns
-returns c = λ answers.
-    printed_by_list c.args.path.now answers (reply_of c.args.answer.now) c.in-Ok.list.now c.in_ok-versions.versions.items c.all_outcome.result
-    c.in-Ok.ensures.list c.in_ok-versions.ensures (rw c.as_slice.ensures.value at c.all_outcome.ensures)
+returns c =
+    list_ends (λ list. OrNoMemory (IsAllOutcome c.args.path.now list)) c.args.path.now (reply_of c.args.answer.now) c.in_ok-list.list.now _
+    c.in_ok-list.ensures (inl (c.in_ok-versions.versions.items, c.in_ok-versions.ensures, ap printed (rw c.as_slice.ensures.value at c.in_ok-line.ensures)))

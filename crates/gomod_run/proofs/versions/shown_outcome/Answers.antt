@@ -1,22 +1,27 @@
-use Rattle.std.proofs.Common.{◌∙◌, List, Ok, Err, ap}
+use Rattle.std.proofs.Common.{◌∙◌, List, Ok, Err, ap, inl, inr, refl}
 use Rattle.gm_file.specs.Directives.{Pair}
 use Rattle.gm_file_retract.specs.Shown.{shown_of}
 use Rattle.gm_store.specs.Asked.{mod_file, reply_of}
 use Rattle.gm_graph_cache.specs.Summaries.{reading_of}
-use Rattle.gm_graph_listing.specs.Outcomes.{outcome_view, printed, refused}
+use Rattle.gm_report.specs.Outcome.{printed}
 use Rattle.gomod_run.specs.Versions.{versions_line}
-use Rattle.gomod_run.proofs.Steps.{shown_read}
+use Rattle.gomod_run.proofs.Steps.{no_memory, shown_read}
 use Rattle.gomod_run.proofs.versions.shown_outcome.Goals as goal
 
-pub returns-in_ok-line-in-Valid : goal.returns-in_ok-line-in-Valid
-returns-in_ok-line-in-Valid c = λ within.
-    shown_read c.args.path.now c.args.versions.now c.args.latest.now (reply_of c.args.answer.now) (reading_of c.in_ok-dependency.field-0) (Ok c.in-Valid.dependency) (outcome_view c.printed.result)
-    (c.in_ok-dependency.ensures (mod_file c.args.path.now c.args.latest.now) within) (ap reading_of c.in-Valid.is)
-    (c.printed.ensures ∙ ap printed c.in_ok-line-in-Valid.ensures
-    ∙ ap (λ (rs : List Pair). printed (versions_line c.args.path.now (shown_of rs c.args.versions.now))) c.retracts.ensures)
+pub returns-in_err-dependency : goal.returns-in_err-dependency
+returns-in_err-dependency c = λ within. inr (no_memory c.from_residual.result c.from_residual.ensures.1)
 
-pub returns-in_ok-fault_report-in-Faulty : goal.returns-in_ok-fault_report-in-Faulty
-returns-in_ok-fault_report-in-Faulty c = λ within.
-    shown_read c.args.path.now c.args.versions.now c.args.latest.now (reply_of c.args.answer.now) (reading_of c.in_ok-dependency.field-0) (Err c.in-Faulty.class) (outcome_view c.refused.result)
-    (c.in_ok-dependency.ensures (mod_file c.args.path.now c.args.latest.now) within) (ap reading_of c.in-Faulty.is)
-    (c.refused.ensures ∙ ap refused c.in_ok-fault_report-in-Faulty.ensures)
+pub returns-in_err-line-in-Valid : goal.returns-in_err-line-in-Valid
+returns-in_err-line-in-Valid c = λ within. inr (no_memory c.from_residual-in_err-line-in-Valid.result c.from_residual-in_err-line-in-Valid.ensures.1)
+
+pub returns-in_ok-line-in-Valid : goal.returns-in_ok-line-in-Valid
+returns-in_ok-line-in-Valid c = λ within. inl
+    (shown_read c.args.path.now c.args.versions.now c.args.latest (reply_of c.args.answer.now) (reading_of c.in_ok-dependency.field-0) (Ok c.in-Valid.dependency) _
+    (c.in_ok-dependency.ensures (mod_file c.args.path.now c.args.latest) within) (ap reading_of c.in-Valid.is)
+    (ap printed c.in_ok-line-in-Valid.ensures
+    ∙ ap (λ (rs : List Pair). printed (versions_line c.args.path.now (shown_of rs c.args.versions.now))) c.retracts.ensures))
+
+pub returns-in-Faulty : goal.returns-in-Faulty
+returns-in-Faulty c = λ within. inl
+    (shown_read c.args.path.now c.args.versions.now c.args.latest (reply_of c.args.answer.now) (reading_of c.in_ok-dependency.field-0) (Err c.in-Faulty.class) _
+    (c.in_ok-dependency.ensures (mod_file c.args.path.now c.args.latest) within) (ap reading_of c.in-Faulty.is) refl)

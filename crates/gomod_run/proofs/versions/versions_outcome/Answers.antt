@@ -1,95 +1,265 @@
-use Rattle.std.proofs.Common.{◌∙◌, [], inr, sym}
-use Rattle.gm_store.specs.Asked.{list_file, reply_of}
-use Rattle.gomod_run.proofs.Steps.{all_by_list, all_comes, latest_comes, latest_fails, latest_in_turn, listed_state, stop_comes}
+use Rattle.std.proofs.lemmas.Result.{err_from_is_err_and}
+use Rattle.gm_store.specs.Asked.{reply_of}
+use Rattle.gm_report.specs.Outcome.{outcome_view}
+use Rattle.gomod_run.proofs.Steps.{all_run, copied_run, file_unasked, uncopied_run, unlisted_run}
 use Rattle.gomod_run.proofs.versions.versions_outcome.Goals as goal
 
 -- ---- there is no answer for the list
 
-pub returns-in_err-output-clause-fails : goal.returns-in_err-output-clause-fails
-returns-in_err-output-clause-fails g c = c.in_err-output.ensures.fails c.args.all
+pub returns-in_err-ask_for_list-clause-comes : goal.returns-in_err-ask_for_list-clause-comes
+returns-in_err-ask_for_list-clause-comes g c =
+    let path = c.args.path.now in
+    let all = c.args.all in
+    let may = g.F.Files.may_answer c.args.files.now in
+    let old = g.F.Files.state c.args.files.now in
+    let mid = g.F.Files.state c.ask_for_list.new.files in
+    let p = err_from_is_err_and c.from_residual.result c.from_residual.ensures.1 in
+    rw (p.1, p.2) (unlisted_run path all may old c.requires mid c.in_err-ask_for_list.field-0.0 c.in_err-ask_for_list.ensures.asked).comes
 
-pub returns-in-Some-clause-comes : goal.returns-in-Some-clause-comes
-returns-in-Some-clause-comes g c = rw c.in-Some.is at c.in_ok-output.ensures.comes c.args.all
+pub returns-in_err-ask_for_list-clause-device : goal.returns-in_err-ask_for_list-clause-device
+returns-in_err-ask_for_list-clause-device g c =
+    let path = c.args.path.now in
+    let all = c.args.all in
+    let may = g.F.Files.may_answer c.args.files.now in
+    let old = g.F.Files.state c.args.files.now in
+    let mid = g.F.Files.state c.ask_for_list.new.files in
+    let p = err_from_is_err_and c.from_residual.result c.from_residual.ensures.1 in
+    rw (p.1, p.2) (unlisted_run path all may old c.requires mid c.in_err-ask_for_list.field-0.0 c.in_err-ask_for_list.ensures.asked).device
 
-pub returns-in-Some-clause-fails : goal.returns-in-Some-clause-fails
-returns-in-Some-clause-fails g c = c.in_ok-output.ensures.fails c.args.all
+pub returns-in_err-ask_for_list-clause-no_list : goal.returns-in_err-ask_for_list-clause-no_list
+returns-in_err-ask_for_list-clause-no_list g c =
+    let path = c.args.path.now in
+    let all = c.args.all in
+    let may = g.F.Files.may_answer c.args.files.now in
+    let old = g.F.Files.state c.args.files.now in
+    let mid = g.F.Files.state c.ask_for_list.new.files in
+    let p = err_from_is_err_and c.from_residual.result c.from_residual.ensures.1 in
+    rw (p.1, p.2) (unlisted_run path all may old c.requires mid c.in_err-ask_for_list.field-0.0 c.in_err-ask_for_list.ensures.asked).no_list
+
+pub returns-in_err-ask_for_list-clause-in_turn : goal.returns-in_err-ask_for_list-clause-in_turn
+returns-in_err-ask_for_list-clause-in_turn g c =
+    let path = c.args.path.now in
+    let all = c.args.all in
+    let may = g.F.Files.may_answer c.args.files.now in
+    let old = g.F.Files.state c.args.files.now in
+    let mid = g.F.Files.state c.ask_for_list.new.files in
+    (unlisted_run path all may old c.requires mid c.in_err-ask_for_list.field-0.0 c.in_err-ask_for_list.ensures.asked).in_turn
+
+pub returns-in_err-ask_for_list-clause-fails : goal.returns-in_err-ask_for_list-clause-fails
+returns-in_err-ask_for_list-clause-fails g c =
+    let path = c.args.path.now in
+    let all = c.args.all in
+    let may = g.F.Files.may_answer c.args.files.now in
+    let old = g.F.Files.state c.args.files.now in
+    let mid = g.F.Files.state c.ask_for_list.new.files in
+    (unlisted_run path all may old c.requires mid c.in_err-ask_for_list.field-0.0 c.in_err-ask_for_list.ensures.asked).fails
+
+pub returns-in_err-ask_for_list-clause-answers : goal.returns-in_err-ask_for_list-clause-answers
+returns-in_err-ask_for_list-clause-answers g c =
+    let path = c.args.path.now in
+    let all = c.args.all in
+    let may = g.F.Files.may_answer c.args.files.now in
+    let old = g.F.Files.state c.args.files.now in
+    let mid = g.F.Files.state c.ask_for_list.new.files in
+    (unlisted_run path all may old c.requires mid c.in_err-ask_for_list.field-0.0 c.in_err-ask_for_list.ensures.asked).answers
 
 -- ---- all versions are asked for
 
 pub returns-then-all-clause-comes : goal.returns-then-all-clause-comes
 returns-then-all-clause-comes g c =
+    let path = c.args.path.now in
+    let all = c.args.all in
     let may = g.F.Files.may_answer c.args.files.now in
     let old = g.F.Files.state c.args.files.now in
-    let mid = g.F.Files.state c.ask_if_fetchable.new.files in
-    let answered = rw c.in_default.is at c.in_ok-output.ensures.answered in
-    all_by_list c.args.path.now c.args.all may old mid (reply_of c.last_answer.result.now) answered.0 c.outcome_of_all.result c.if-all.true answered.1
-    (c.last_answer.ensures.value [] (list_file c.args.path.now, answered.0) answered.1.asked) c.outcome_of_all.ensures
+    let mid = g.F.Files.state c.ask_for_list.new.files in
+    (all_run path all may old mid c.requires (reply_of c.last_answer.result.now) c.last_answer.ensures.value (outcome_view c.outcome_of_all.result) _
+    c.in_ok-ask_for_list.ensures.asked c.if-all.true c.outcome_of_all.ensures).comes
+
+pub returns-then-all-clause-device : goal.returns-then-all-clause-device
+returns-then-all-clause-device g c =
+    let path = c.args.path.now in
+    let all = c.args.all in
+    let may = g.F.Files.may_answer c.args.files.now in
+    let old = g.F.Files.state c.args.files.now in
+    let mid = g.F.Files.state c.ask_for_list.new.files in
+    (all_run path all may old mid c.requires (reply_of c.last_answer.result.now) c.last_answer.ensures.value (outcome_view c.outcome_of_all.result) _
+    c.in_ok-ask_for_list.ensures.asked c.if-all.true c.outcome_of_all.ensures).device
+
+pub returns-then-all-clause-no_list : goal.returns-then-all-clause-no_list
+returns-then-all-clause-no_list g c =
+    let path = c.args.path.now in
+    let all = c.args.all in
+    let may = g.F.Files.may_answer c.args.files.now in
+    let old = g.F.Files.state c.args.files.now in
+    let mid = g.F.Files.state c.ask_for_list.new.files in
+    (all_run path all may old mid c.requires (reply_of c.last_answer.result.now) c.last_answer.ensures.value (outcome_view c.outcome_of_all.result) _
+    c.in_ok-ask_for_list.ensures.asked c.if-all.true c.outcome_of_all.ensures).no_list
+
+pub returns-then-all-clause-in_turn : goal.returns-then-all-clause-in_turn
+returns-then-all-clause-in_turn g c =
+    let path = c.args.path.now in
+    let all = c.args.all in
+    let may = g.F.Files.may_answer c.args.files.now in
+    let old = g.F.Files.state c.args.files.now in
+    let mid = g.F.Files.state c.ask_for_list.new.files in
+    (all_run path all may old mid c.requires (reply_of c.last_answer.result.now) c.last_answer.ensures.value (outcome_view c.outcome_of_all.result) _
+    c.in_ok-ask_for_list.ensures.asked c.if-all.true c.outcome_of_all.ensures).in_turn
+
+pub returns-then-all-clause-fails : goal.returns-then-all-clause-fails
+returns-then-all-clause-fails g c =
+    let path = c.args.path.now in
+    let all = c.args.all in
+    let may = g.F.Files.may_answer c.args.files.now in
+    let old = g.F.Files.state c.args.files.now in
+    let mid = g.F.Files.state c.ask_for_list.new.files in
+    (all_run path all may old mid c.requires (reply_of c.last_answer.result.now) c.last_answer.ensures.value (outcome_view c.outcome_of_all.result) _
+    c.in_ok-ask_for_list.ensures.asked c.if-all.true c.outcome_of_all.ensures).fails
+
+pub returns-then-all-clause-answers : goal.returns-then-all-clause-answers
+returns-then-all-clause-answers g c =
+    let path = c.args.path.now in
+    let all = c.args.all in
+    let may = g.F.Files.may_answer c.args.files.now in
+    let old = g.F.Files.state c.args.files.now in
+    let mid = g.F.Files.state c.ask_for_list.new.files in
+    (all_run path all may old mid c.requires (reply_of c.last_answer.result.now) c.last_answer.ensures.value (outcome_view c.outcome_of_all.result) _
+    c.in_ok-ask_for_list.ensures.asked c.if-all.true c.outcome_of_all.ensures).answers
+
+-- ---- there is no list, or it can't be copied
+
+pub returns-in_err-list-clause-comes : goal.returns-in_err-list-clause-comes
+returns-in_err-list-clause-comes g c =
+    let path = c.args.path.now in
+    let all = c.args.all in
+    let may = g.F.Files.may_answer c.args.files.now in
+    let old = g.F.Files.state c.args.files.now in
+    let mid = g.F.Files.state c.ask_for_list.new.files in
+    let p = err_from_is_err_and c.from_residual-in_err-list.result c.from_residual-in_err-list.ensures.1 in
+    rw (p.1, p.2)
+    (uncopied_run path all may old mid c.requires (reply_of c.last_answer-2.result.now) c.last_answer-2.ensures.value _ _ c.in_ok-ask_for_list.ensures.asked c.in_err-list.ensures).comes
+
+pub returns-in_err-list-clause-device : goal.returns-in_err-list-clause-device
+returns-in_err-list-clause-device g c =
+    let path = c.args.path.now in
+    let all = c.args.all in
+    let may = g.F.Files.may_answer c.args.files.now in
+    let old = g.F.Files.state c.args.files.now in
+    let mid = g.F.Files.state c.ask_for_list.new.files in
+    let p = err_from_is_err_and c.from_residual-in_err-list.result c.from_residual-in_err-list.ensures.1 in
+    rw (p.1, p.2)
+    (uncopied_run path all may old mid c.requires (reply_of c.last_answer-2.result.now) c.last_answer-2.ensures.value _ _ c.in_ok-ask_for_list.ensures.asked c.in_err-list.ensures).device
+
+pub returns-in_err-list-clause-no_list : goal.returns-in_err-list-clause-no_list
+returns-in_err-list-clause-no_list g c =
+    let path = c.args.path.now in
+    let all = c.args.all in
+    let may = g.F.Files.may_answer c.args.files.now in
+    let old = g.F.Files.state c.args.files.now in
+    let mid = g.F.Files.state c.ask_for_list.new.files in
+    let p = err_from_is_err_and c.from_residual-in_err-list.result c.from_residual-in_err-list.ensures.1 in
+    rw (p.1, p.2)
+    (uncopied_run path all may old mid c.requires (reply_of c.last_answer-2.result.now) c.last_answer-2.ensures.value _ _ c.in_ok-ask_for_list.ensures.asked c.in_err-list.ensures).no_list
+
+pub returns-in_err-list-clause-in_turn : goal.returns-in_err-list-clause-in_turn
+returns-in_err-list-clause-in_turn g c =
+    let path = c.args.path.now in
+    let all = c.args.all in
+    let may = g.F.Files.may_answer c.args.files.now in
+    let old = g.F.Files.state c.args.files.now in
+    let mid = g.F.Files.state c.ask_for_list.new.files in
+    (uncopied_run path all may old mid c.requires (reply_of c.last_answer-2.result.now) c.last_answer-2.ensures.value _ _ c.in_ok-ask_for_list.ensures.asked c.in_err-list.ensures).in_turn
+
+pub returns-in_err-list-clause-fails : goal.returns-in_err-list-clause-fails
+returns-in_err-list-clause-fails g c =
+    let path = c.args.path.now in
+    let all = c.args.all in
+    let may = g.F.Files.may_answer c.args.files.now in
+    let old = g.F.Files.state c.args.files.now in
+    let mid = g.F.Files.state c.ask_for_list.new.files in
+    (uncopied_run path all may old mid c.requires (reply_of c.last_answer-2.result.now) c.last_answer-2.ensures.value _ _ c.in_ok-ask_for_list.ensures.asked c.in_err-list.ensures).fails
+
+pub returns-in_err-list-clause-answers : goal.returns-in_err-list-clause-answers
+returns-in_err-list-clause-answers g c =
+    let path = c.args.path.now in
+    let all = c.args.all in
+    let may = g.F.Files.may_answer c.args.files.now in
+    let old = g.F.Files.state c.args.files.now in
+    let mid = g.F.Files.state c.ask_for_list.new.files in
+    (uncopied_run path all may old mid c.requires (reply_of c.last_answer-2.result.now) c.last_answer-2.ensures.value _ _ c.in_ok-ask_for_list.ensures.asked c.in_err-list.ensures).answers
 
 -- ---- those that are not retracted
 
-pub returns-in-Err-clause-comes : goal.returns-in-Err-clause-comes
-returns-in-Err-clause-comes g c =
+pub outcome_of_shown-requires : goal.outcome_of_shown-requires
+outcome_of_shown-requires g c =
+    let path = c.args.path.now in
+    let all = c.args.all in
     let may = g.F.Files.may_answer c.args.files.now in
     let old = g.F.Files.state c.args.files.now in
-    let mid = g.F.Files.state c.ask_if_fetchable.new.files in
-    let answered = rw c.in_default.is at c.in_ok-output.ensures.answered in
-    stop_comes c.args.path.now c.args.all may old mid (reply_of c.last_answer-2.result.now) answered.0 c.list_copy.result c.in-Err.stop c.into_output.result answered.1
-    (c.last_answer-2.ensures.value [] (list_file c.args.path.now, answered.0) answered.1.asked) c.list_copy.ensures.refused c.in-Err.is c.into_output.ensures
-
-pub returns-in-Some-2-clause-comes : goal.returns-in-Some-2-clause-comes
-returns-in-Some-2-clause-comes g c =
-    let may = g.F.Files.may_answer c.args.files.now in
-    let old = g.F.Files.state c.args.files.now in
-    let mid = g.F.Files.state c.ask_if_fetchable.new.files in
-    let answered = rw c.in_default.is at c.in_ok-output.ensures.answered in
-    let same = c.last_answer-2.ensures.value [] (list_file c.args.path.now, answered.0) answered.1.asked in
-    let state = listed_state c.args.path.now may old mid answered.0 c.in-Ok.list.items c.in_ok-versions.versions.items answered.1 (sym same ∙ c.in-Ok.ensures.list)
-    (rw c.as_slice.ensures.value at c.in_ok-versions.ensures) in
-    let new = g.F.Files.state c.latest_outcome.new.files in
-    let latest = rw (c.as_slice-2.ensures.value, c.in-Some-2.is) at c.in_ok-latest.ensures in
-    let asked = rw c.as_slice-in-Some-2.ensures.value at c.latest_outcome.ensures.asked in
-    latest_comes c.args.path.now c.args.all may (g.F.Files.may_answer c.ask_if_fetchable.new.files) old mid new c.in_ok-versions.versions.items c.in-Some-2.latest
-    c.latest_outcome.result state c.if-all.false latest asked
-
-pub returns-in-Some-2-clause-in_turn : goal.returns-in-Some-2-clause-in_turn
-returns-in-Some-2-clause-in_turn g c =
-    let may = g.F.Files.may_answer c.args.files.now in
-    let old = g.F.Files.state c.args.files.now in
-    let mid = g.F.Files.state c.ask_if_fetchable.new.files in
-    let answered = rw c.in_default.is at c.in_ok-output.ensures.answered in
-    let same = c.last_answer-2.ensures.value [] (list_file c.args.path.now, answered.0) answered.1.asked in
-    let state = listed_state c.args.path.now may old mid answered.0 c.in-Ok.list.items c.in_ok-versions.versions.items answered.1 (sym same ∙ c.in-Ok.ensures.list)
-    (rw c.as_slice.ensures.value at c.in_ok-versions.ensures) in
-    let new = g.F.Files.state c.latest_outcome.new.files in
-    let latest = rw (c.as_slice-2.ensures.value, c.in-Some-2.is) at c.in_ok-latest.ensures in
-    let asked = rw c.as_slice-in-Some-2.ensures.value at c.latest_outcome.ensures.asked in
-    latest_in_turn c.args.path.now c.args.all may (g.F.Files.may_answer c.ask_if_fetchable.new.files) old mid new c.in_ok-versions.versions.items c.in-Some-2.latest
-    c.latest_outcome.result state c.if-all.false latest asked
-
-pub returns-in-Some-2-clause-fails : goal.returns-in-Some-2-clause-fails
-returns-in-Some-2-clause-fails g c =
-    let may = g.F.Files.may_answer c.args.files.now in
-    let old = g.F.Files.state c.args.files.now in
-    let mid = g.F.Files.state c.ask_if_fetchable.new.files in
-    let answered = rw c.in_default.is at c.in_ok-output.ensures.answered in
-    let same = c.last_answer-2.ensures.value [] (list_file c.args.path.now, answered.0) answered.1.asked in
-    let state = listed_state c.args.path.now may old mid answered.0 c.in-Ok.list.items c.in_ok-versions.versions.items answered.1 (sym same ∙ c.in-Ok.ensures.list)
-    (rw c.as_slice.ensures.value at c.in_ok-versions.ensures) in
-    let new = g.F.Files.state c.latest_outcome.new.files in
-    let latest = rw (c.as_slice-2.ensures.value, c.in-Some-2.is) at c.in_ok-latest.ensures in
-    let asked = rw c.as_slice-in-Some-2.ensures.value at c.latest_outcome.ensures.asked in
-    latest_fails c.args.path.now c.args.all may (g.F.Files.may_answer c.ask_if_fetchable.new.files) old mid new c.in_ok-versions.versions.items c.in-Some-2.latest
-    c.latest_outcome.result state c.if-all.false latest asked
+    let mid = g.F.Files.state c.ask_for_list.new.files in
+    file_unasked path all may old mid c.requires (reply_of c.last_answer-2.result.now) c.last_answer-2.ensures.value _ c.in_ok-ask_for_list.ensures.asked
 
 pub returns-clause-comes : goal.returns-clause-comes
 returns-clause-comes g c =
+    let path = c.args.path.now in
+    let all = c.args.all in
     let may = g.F.Files.may_answer c.args.files.now in
     let old = g.F.Files.state c.args.files.now in
-    let mid = g.F.Files.state c.ask_if_fetchable.new.files in
-    let answered = rw c.in_default.is at c.in_ok-output.ensures.answered in
-    let same = c.last_answer-2.ensures.value [] (list_file c.args.path.now, answered.0) answered.1.asked in
-    let state = listed_state c.args.path.now may old mid answered.0 c.in-Ok.list.items c.in_ok-versions.versions.items answered.1 (sym same ∙ c.in-Ok.ensures.list)
-    (rw c.as_slice.ensures.value at c.in_ok-versions.ensures) in
-    let none = rw (c.as_slice-2.ensures.value, c.in-None.is) at c.in_ok-latest.ensures in
-    let known = rw c.as_slice-in-None.ensures.value at c.all_outcome.ensures in
-    all_comes c.args.path.now c.args.all may old mid c.in_ok-versions.versions.items c.all_outcome.result state (inr none) known
+    let mid = g.F.Files.state c.ask_for_list.new.files in
+    (copied_run path all may old mid c.requires (reply_of c.last_answer-2.result.now) c.last_answer-2.ensures.value (g.F.Files.may_answer c.ask_for_list.new.files)
+    (g.F.Files.state c.outcome_of_shown.new.files) c.in_ok-list.list.items (outcome_view c.outcome_of_shown.result) _ c.in_ok-ask_for_list.ensures.asked c.if-all.false
+    c.in_ok-list.ensures c.ask_for_list.ensures.same_store (rw c.as_slice.ensures.value at c.outcome_of_shown.ensures.asked)).comes
+
+pub returns-clause-device : goal.returns-clause-device
+returns-clause-device g c =
+    let path = c.args.path.now in
+    let all = c.args.all in
+    let may = g.F.Files.may_answer c.args.files.now in
+    let old = g.F.Files.state c.args.files.now in
+    let mid = g.F.Files.state c.ask_for_list.new.files in
+    (copied_run path all may old mid c.requires (reply_of c.last_answer-2.result.now) c.last_answer-2.ensures.value (g.F.Files.may_answer c.ask_for_list.new.files)
+    (g.F.Files.state c.outcome_of_shown.new.files) c.in_ok-list.list.items (outcome_view c.outcome_of_shown.result) _ c.in_ok-ask_for_list.ensures.asked c.if-all.false
+    c.in_ok-list.ensures c.ask_for_list.ensures.same_store (rw c.as_slice.ensures.value at c.outcome_of_shown.ensures.asked)).device
+
+pub returns-clause-no_list : goal.returns-clause-no_list
+returns-clause-no_list g c =
+    let path = c.args.path.now in
+    let all = c.args.all in
+    let may = g.F.Files.may_answer c.args.files.now in
+    let old = g.F.Files.state c.args.files.now in
+    let mid = g.F.Files.state c.ask_for_list.new.files in
+    (copied_run path all may old mid c.requires (reply_of c.last_answer-2.result.now) c.last_answer-2.ensures.value (g.F.Files.may_answer c.ask_for_list.new.files)
+    (g.F.Files.state c.outcome_of_shown.new.files) c.in_ok-list.list.items (outcome_view c.outcome_of_shown.result) _ c.in_ok-ask_for_list.ensures.asked c.if-all.false
+    c.in_ok-list.ensures c.ask_for_list.ensures.same_store (rw c.as_slice.ensures.value at c.outcome_of_shown.ensures.asked)).no_list
+
+pub returns-clause-in_turn : goal.returns-clause-in_turn
+returns-clause-in_turn g c =
+    let path = c.args.path.now in
+    let all = c.args.all in
+    let may = g.F.Files.may_answer c.args.files.now in
+    let old = g.F.Files.state c.args.files.now in
+    let mid = g.F.Files.state c.ask_for_list.new.files in
+    (copied_run path all may old mid c.requires (reply_of c.last_answer-2.result.now) c.last_answer-2.ensures.value (g.F.Files.may_answer c.ask_for_list.new.files)
+    (g.F.Files.state c.outcome_of_shown.new.files) c.in_ok-list.list.items (outcome_view c.outcome_of_shown.result) _ c.in_ok-ask_for_list.ensures.asked c.if-all.false
+    c.in_ok-list.ensures c.ask_for_list.ensures.same_store (rw c.as_slice.ensures.value at c.outcome_of_shown.ensures.asked)).in_turn
+
+pub returns-clause-fails : goal.returns-clause-fails
+returns-clause-fails g c =
+    let path = c.args.path.now in
+    let all = c.args.all in
+    let may = g.F.Files.may_answer c.args.files.now in
+    let old = g.F.Files.state c.args.files.now in
+    let mid = g.F.Files.state c.ask_for_list.new.files in
+    (copied_run path all may old mid c.requires (reply_of c.last_answer-2.result.now) c.last_answer-2.ensures.value (g.F.Files.may_answer c.ask_for_list.new.files)
+    (g.F.Files.state c.outcome_of_shown.new.files) c.in_ok-list.list.items (outcome_view c.outcome_of_shown.result) _ c.in_ok-ask_for_list.ensures.asked c.if-all.false
+    c.in_ok-list.ensures c.ask_for_list.ensures.same_store (rw c.as_slice.ensures.value at c.outcome_of_shown.ensures.asked)).fails
+
+pub returns-clause-answers : goal.returns-clause-answers
+returns-clause-answers g c =
+    let path = c.args.path.now in
+    let all = c.args.all in
+    let may = g.F.Files.may_answer c.args.files.now in
+    let old = g.F.Files.state c.args.files.now in
+    let mid = g.F.Files.state c.ask_for_list.new.files in
+    (copied_run path all may old mid c.requires (reply_of c.last_answer-2.result.now) c.last_answer-2.ensures.value (g.F.Files.may_answer c.ask_for_list.new.files)
+    (g.F.Files.state c.outcome_of_shown.new.files) c.in_ok-list.list.items (outcome_view c.outcome_of_shown.result) _ c.in_ok-ask_for_list.ensures.asked c.if-all.false
+    c.in_ok-list.ensures c.ask_for_list.ensures.same_store (rw c.as_slice.ensures.value at c.outcome_of_shown.ensures.asked)).answers

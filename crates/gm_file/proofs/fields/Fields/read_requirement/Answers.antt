@@ -1,4 +1,4 @@
-use Rattle.gm_file.proofs.PairLines.{require-added}
+use Rattle.gm_file.proofs.SimpleLines.{require-added}
 use Rattle.gm_file.proofs.fields.Fields.read_requirement.Goals as goal
 
 pub returns-clause-added : goal.returns-clause-added

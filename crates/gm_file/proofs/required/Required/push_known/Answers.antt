@@ -1,6 +1,6 @@
 use Rattle.std.proofs.Common.{◌∙◌, Some, ap, sym}
 use Rattle.gm_file.specs.Requirements.{Requirements, items_in}
-use Rattle.gm_file.specs.declared.required.Place.{Place}
+use Rattle.gm_file.specs.declared.required.Destination.{Destination}
 use Rattle.gm_file.proofs.ListEnds.{stays_if_known}
 use Rattle.gm_file.proofs.required.Required.push_known.Goals as goal
 use Rattle.gm_file.proofs.required.Required.push_known.Goals.{in-Own, in-End+in_ok-push_known-in-End}
@@ -27,6 +27,6 @@ returns-clause-before c = elim c.match-self.branch [
       pushed.ensures.pushed pushed.ensures.unknown in
       rw w.self-inside-is
       (ap Some stays.1
-      ∙ sym (ap (λ (place : Place). (items_in place).before) here.is)
+      ∙ sym (ap (λ (place : Destination). (items_in place).before) here.is)
       ∙ ap (λ (r : Requirements). r.before) c.self.view_is)
 ]

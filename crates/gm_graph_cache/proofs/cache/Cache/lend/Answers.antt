@@ -1,6 +1,6 @@
 use Rattle.std.proofs.Common.{◌≡◌, ◌∙◌, ◌++◌, ◌∷◌, [], ap, append-nil, refl, subst, sym}
 use Rattle.gm_name_table.specs.Listed.{listed}
-use Rattle.gm_graph_cache.specs.declared.summary.Span.{Span}
+use Rattle.gm_graph_cache.specs.declared.summary.ListSpan.{ListSpan}
 use Rattle.gm_graph_cache.specs.Cached.{numbered}
 use Rattle.gm_graph_cache.specs.Main.{ModuleVersion}
 use Rattle.gm_graph_cache.specs.Turns.{turn}
@@ -15,7 +15,7 @@ span_of-span-requires c = lender_within c.args.self.now (numbered c.args.self.no
 pub at-requires : goal.at-requires
 at-requires c =
     let cache = c.args.self.now in
-    subst (λ (span : Span). IsWithinList (listed cache.modules) span) (sym c.span_of-span.ensures)
+    subst (λ (span : ListSpan). IsWithinList (listed cache.modules) span) (sym c.span_of-span.ensures)
     (lent_within cache (numbered cache c.args.number) c.args.place c.requires.lends c.requires.lender)
 
 pub returns : goal.returns
@@ -32,7 +32,7 @@ returns c =
         },
       ),
       record {
-        lent = c.at.ensures.modules ∙ ap (λ (span : Span). at_span (listed cache.modules) span) c.span_of-span.ensures
+        lent = c.at.ensures.modules ∙ ap (λ (span : ListSpan). at_span (listed cache.modules) span) c.span_of-span.ensures
             ∙ lent_kept cache (numbered cache c.args.number) c.args.place c.requires.lends c.requires.lender;
         table = c.at.ensures.table;
         after = tt;

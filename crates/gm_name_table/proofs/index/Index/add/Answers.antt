@@ -3,7 +3,7 @@ use Rattle.std.specs.BTreeMap as map
 use Rattle.std.specs.Ordering.{is_eq}
 use Rattle.gm_name.specs.PairOrder.{pair_cmp}
 use Rattle.gm_name_table.specs.Lists.{Pair}
-use Rattle.gm_name_table.specs.Marks.{IsMarked}
+use Rattle.gm_name_table.specs.TagMarks.{IsMarked}
 use Rattle.gm_name_table.specs.Tags.{PutsUnder, number_under}
 use Rattle.gm_name_table.proofs.Indexes.{added-first, added-other, same-first}
 use Rattle.gm_name_table.proofs.index.Index.add.Goals as goal

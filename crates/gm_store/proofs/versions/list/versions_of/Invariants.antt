@@ -1,5 +1,5 @@
 use Rattle.std.proofs.Common.{map}
-use Rattle.gm_store.specs.Lines.{first_word}
+use Rattle.gm_name.specs.Lines.{first_word}
 use Rattle.gm_store.specs.Listed.{HoldsListable}
 use Rattle.gm_store.proofs.versions.list.versions_of.Given as goal
 

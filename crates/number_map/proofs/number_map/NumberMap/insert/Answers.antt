@@ -1,7 +1,7 @@
 use Rattle.std.proofs.Common.{◌≡◌, ◌∙◌, ◌++◌, ◌∷◌, [], ℕ, cond, List, length, nat_eq, Option, Some, ap}
 use Rattle.std.specs.Prelude.{slice_get}
 use Rattle.std.specs.Option.{option_and_then}
-use Rattle.number_map.specs.Places.{place_at}
+use Rattle.number_map.specs.PlaceMap.{place_at}
 use Rattle.number_map.proofs.Values.{put_value}
 use Rattle.number_map.proofs.number_map.NumberMap.insert.Goals as goal
 

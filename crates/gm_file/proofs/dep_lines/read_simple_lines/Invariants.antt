@@ -1,0 +1,17 @@
+use Rattle.std.proofs.Common.{◌≡◌, ◌≤◌, length}
+use Rattle.gm_file.specs.Holding.{AreFound}
+use Rattle.gm_file.specs.SimpleLines.{AreReadSofar, TakesSimple}
+use Rattle.gm_file.proofs.dep_lines.read_simple_lines.Given as goal
+
+abbrev pub invariant-loop-line : goal.invariant-loop-line
+invariant-loop-line l = record {
+  source : l.reader.source ≡ l.initial.reader.source;
+  no_longer : length l.reader.rest ≤ length l.initial.reader.rest;
+  block : TakesSimple l.said;
+  before : l.said.fields.requirements.before ≡ l.initial.said.fields.requirements.before;
+  found : AreFound l.said.fields;
+  read : AreReadSofar l.reader l.said;
+}
+
+abbrev pub decreases-loop-line : goal.decreases-loop-line
+decreases-loop-line l = length l.reader.rest

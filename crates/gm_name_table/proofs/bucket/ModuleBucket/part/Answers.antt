@@ -1,0 +1,13 @@
+use Rattle.std.proofs.Common.{◌∙◌, ap}
+use Rattle.std.proofs.Math.ListN.{set}
+use Rattle.gm_name_table.specs.Buckets.{number_in}
+use Rattle.gm_name_table.specs.declared.bucket.ModuleSlot.{ModuleSlot}
+use Rattle.gm_name_table.proofs.Slots.{kept-one}
+use Rattle.gm_name_table.proofs.bucket.ModuleBucket.part.Goals as goal
+
+pub loop-at-preserved : goal.loop-at-preserved
+loop-at-preserved c = λ tag chosen.
+    let slots = c.loop-at.slots in
+    ap (λ (slot : ModuleSlot). number_in (set slots c.loop-at.at slot) tag) c.kept_in.ensures
+    ∙ kept-one slots c.loop-at.at c.args.bucket c.args.many tag _ chosen
+    ∙ c.loop-at.invariant tag chosen

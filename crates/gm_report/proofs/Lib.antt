@@ -1,0 +1,3 @@
+pub mod Takings
+pub mod Waiting
+pub mod Lines

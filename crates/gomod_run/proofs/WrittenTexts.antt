@@ -1,0 +1,52 @@
+-- How a text, a report or a usage error was written.
+use Rattle.std.proofs.Common.{◌≡◌, ℕ, List, MatchResult, Result, Ok, Err, inl, inr, refl, subst}
+use Rattle.gm_store.specs.Taken.{SinkState}
+use Rattle.gm_store.specs.declared.sinks.WriteFault.{WriteFault}
+use Rattle.gm_report.proofs.Takings.{took_nothing}
+use Rattle.gm_report.specs.Outcome.{Outcome, code_of, printed, report_outcome, report_status, report_text}
+use Rattle.gm_report.specs.Taking.{Took, TookAll, TookPrefix}
+use Rattle.gm_report.specs.declared.report.Report.{Report}
+use Rattle.gomod_run.specs.Program.{usage_error}
+use Rattle.gomod_run.specs.Written.{EndsAsStated, IsWritten}
+
+-- ---- texts and reports
+
+-- a text, if it was written, or a prefix of it
+pub text_written : (out out' report : SinkState) (text : List ℕ) → TookAll out out' text
+    → IsWritten (printed text) out out' report report 0
+text_written out out' report text took = inl ((took, took_nothing report), refl)
+
+pub text_cut : (out out' report : SinkState) (text : List ℕ) → TookPrefix out out' text
+    → IsWritten (printed text) out out' report report 3
+text_cut out out' report text part = inr (inl (part, refl), refl)
+
+-- a report, if it was written, or a prefix of it
+pub report_written : (out report report' : SinkState) (told : Report) (status : ℕ) → status ≡ code_of (report_status told)
+    → TookAll report report' (report_text told) → IsWritten (report_outcome told) out out report report' status
+report_written out report report' told status same took = inl ((took_nothing out, took), same)
+
+pub report_cut : (out report report' : SinkState) (told : Report) → TookPrefix report report' (report_text told)
+    → IsWritten (report_outcome told) out out report report' 3
+report_cut out report report' told part = inr (inr (took_nothing out, part), refl)
+
+-- a usage error, whether it was written or a prefix of it
+pub usage_written : (out report report' : SinkState) (text : List ℕ) (written : Result (Unit {0}) WriteFault) (status : ℕ)
+    → MatchResult written (λ _. status ≡ 2) (λ _. status ≡ 3) → Took report report' text written
+    → IsWritten (usage_error text) out out report report' status
+usage_written out report report' text (Ok u) status same took = inl ((took_nothing out, took), same)
+usage_written out report report' text (Err e) status same part = inr (inr (took_nothing out, part), same)
+
+-- ---- which outcome it was
+
+-- an outcome that equals the one that was written
+pub written_as : (one other : Outcome) (out out' report report' : SinkState) (status : ℕ) → one ≡ other
+    → IsWritten one out out' report report' status → IsWritten other out out' report report' status
+written_as one other out out' report report' status same written =
+    subst (λ (outcome : Outcome). IsWritten outcome out out' report report' status) same written
+
+-- an end with one outcome
+pub ends_with : (one other : Outcome) (out out' report report' : SinkState) (status : ℕ) → one ≡ other
+    → IsWritten one out out' report report' status
+    → EndsAsStated (λ outcome. outcome ≡ other) out out' report report' status
+ends_with one other out out' report report' status same written =
+    record { outcome = one; as_stated = inl same; written = written }
