@@ -171,10 +171,8 @@ pub(crate) fn key_of(line: &Line) -> Key
     ensures { result ≡ key_of (line_of line.now) }
 {
     match line {
-        Line::Blank => key_with(SILENT),
-        Line::Comment(_) => key_with(SILENT),
-        Line::Open(_, _) => key_with(ANY),
-        Line::Close(_) => key_with(ANY),
+        Line::Blank | Line::Comment(_) => key_with(SILENT),
+        Line::Open(_, _) | Line::Close(_) => key_with(ANY),
         Line::Entry(words, _) => words_key(words.as_slice()),
     }
 }

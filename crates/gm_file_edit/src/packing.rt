@@ -40,11 +40,8 @@ fn opened(at: usize, line: &Line) -> Option<OpenBlock>
     ensures { result ≡ opened at (line_of line.now) }
 {
     match line {
-        Line::Blank => None,
-        Line::Comment(_) => None,
         Line::Open(_, _) => Some(OpenBlock { at, lost: false }),
-        Line::Close(_) => None,
-        Line::Entry(_, _) => None,
+        Line::Blank | Line::Comment(_) | Line::Close(_) | Line::Entry(_, _) => None,
     }
 }
 
@@ -53,11 +50,8 @@ fn closing(line: &Line) -> Option<bool>
     ensures { result ≡ closing (line_of line.now) }
 {
     match line {
-        Line::Blank => None,
-        Line::Comment(_) => None,
-        Line::Open(_, _) => None,
         Line::Close(suffix) => Some(suffix.is_some()),
-        Line::Entry(_, _) => None,
+        Line::Blank | Line::Comment(_) | Line::Open(_, _) | Line::Entry(_, _) => None,
     }
 }
 
@@ -65,10 +59,7 @@ fn closing(line: &Line) -> Option<bool>
 fn is_blank(line: &Line) -> bool
     ensures { result ≡ is_blank_source_line (line_of line.now) }
 {
-    match line {
-        Line::Blank => true,
-        _ => false,
-    }
+    matches!(line, Line::Blank)
 }
 
 /// Whether all lines are blank.
@@ -82,13 +73,7 @@ fn are_blank(lines: &[Line]) -> bool
 fn is_uncommented(line: &Line) -> bool
     ensures { result ≡ is_uncommented (line_of line.now) }
 {
-    match line {
-        Line::Blank => false,
-        Line::Comment(_) => false,
-        Line::Open(_, suffix) => suffix.is_none(),
-        Line::Close(_) => false,
-        Line::Entry(_, _) => false,
-    }
+    matches!(line, Line::Open(_, None))
 }
 
 /// Whether the lines are an opening without a comment, and nothing but blank lines.

@@ -30,16 +30,11 @@ fn set_last<'a>(alloc: Global, line: &mut Line<'a>, value: &str) -> Result<(), A
     requires { HasNoLineFeed value.now }
     ensures { (block : Option Placed) → OnOk result (line_of line.new ≡ with_last value.now block (line_of line.old)) }
 {
-    match line {
-        Line::Blank => Ok(()),
-        Line::Comment(_) => Ok(()),
-        Line::Open(_, _) => Ok(()),
-        Line::Close(_) => Ok(()),
-        Line::Entry(words, _) => {
-            words.pop();
-            push_word(alloc, words, value)
-        }
-    }
+    let Line::Entry(words, _) = line else {
+        return Ok(());
+    };
+    words.pop();
+    push_word(alloc, words, value)
 }
 
 /// The number of words before the arguments: none in a block, where the verb is at the opening.
@@ -65,16 +60,11 @@ fn set_arguments<'a>(
         ≡ with_arguments (replace_words (replace_view replace.now)) (option_map (λ t. t.now) block.entry)
         (line_of line.old)) }
 {
-    match line {
-        Line::Blank => Ok(()),
-        Line::Comment(_) => Ok(()),
-        Line::Open(_, _) => Ok(()),
-        Line::Close(_) => Ok(()),
-        Line::Entry(words, _) => {
-            words.truncate(before_arguments(block));
-            push_replace(alloc, words, replace)
-        }
-    }
+    let Line::Entry(words, _) = line else {
+        return Ok(());
+    };
+    words.truncate(before_arguments(block));
+    push_replace(alloc, words, replace)
 }
 
 /// Rewrites a targeted line as a setting does. If memory runs out, some of its words may be missing.

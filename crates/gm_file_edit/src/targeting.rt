@@ -129,11 +129,9 @@ pub(crate) fn scope_after_line(verb: &str, scope: Scope, line: &Line) -> Scope
         → result ≡ scope_of verb.now (block_after_line block (line_of line.now)) }
 {
     match line {
-        Line::Blank => scope,
-        Line::Comment(_) => scope,
         Line::Open(open, _) => scope_of(verb, Some(open)),
         Line::Close(_) => Scope::Outside,
-        Line::Entry(_, _) => scope,
+        Line::Blank | Line::Comment(_) | Line::Entry(_, _) => scope,
     }
 }
 
@@ -152,15 +150,12 @@ fn is_single_of(verb: &str, words: &[Token]) -> bool
 pub(crate) fn is_entry_of(verb: &str, block: Option<&Token>, line: &Line) -> bool
     ensures { result ≡ is_entry_of verb.now (item_of (option_map (λ t. t.now) block.entry) (line_of line.now)) }
 {
-    match line {
-        Line::Blank => false,
-        Line::Comment(_) => false,
-        Line::Open(_, _) => false,
-        Line::Close(_) => false,
-        Line::Entry(words, _) => match block {
-            Some(open) => open.spelling() == verb,
-            None => is_single_of(verb, words.as_slice()),
-        },
+    let Line::Entry(words, _) = line else {
+        return false;
+    };
+    match block {
+        Some(open) => open.spelling() == verb,
+        None => is_single_of(verb, words.as_slice()),
     }
 }
 
@@ -170,16 +165,13 @@ pub(crate) fn is_entry_in(verb: &str, scope: Scope, line: &Line) -> bool
     ensures { (block : Option Placed) → scope ≡ scope_of verb.now block
         → result ≡ is_entry_of verb.now (item_of block (line_of line.now)) }
 {
-    match line {
-        Line::Blank => false,
-        Line::Comment(_) => false,
-        Line::Open(_, _) => false,
-        Line::Close(_) => false,
-        Line::Entry(words, _) => match scope {
-            Scope::Outside => is_single_of(verb, words.as_slice()),
-            Scope::Own => true,
-            Scope::Other => false,
-        },
+    let Line::Entry(words, _) = line else {
+        return false;
+    };
+    match scope {
+        Scope::Outside => is_single_of(verb, words.as_slice()),
+        Scope::Own => true,
+        Scope::Other => false,
     }
 }
 

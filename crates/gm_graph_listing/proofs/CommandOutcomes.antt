@@ -1,5 +1,5 @@
 -- What the commands do with what was found.
-use Rattle.std.proofs.Common.{◌≡◌, ◌⊎◌, ◌∙◌, ◌++◌, ℕ, List, [], ◌∷◌, Option, Some, Result, Ok, Err, IfOk, MatchResult, sym, refl, subst, ap, inl, inr, append-nil}
+use Rattle.std.proofs.Common.{◌≡◌, ◌∙◌, ◌++◌, ℕ, List, [], ◌∷◌, Option, Some, Result, Ok, Err, IfOk, MatchResult, sym, refl, subst, ap, inl, inr, append-nil}
 use Rattle.std.proofs.lemmas.List.{append_cancel_left}
 use Rattle.gm_syntax.specs.Document.{Line}
 use Rattle.gm_syntax.specs.Tokens.{Placed}
@@ -27,7 +27,7 @@ use Rattle.gm_graph_listing.specs.declared.answering.Read.{Read}
 use Rattle.gm_graph_listing.specs.declared.query.Query.{Query}
 use Rattle.gm_graph_listing.specs.declared.query.Query.TheVariants.{Graph, List as Rows, Chain}
 use Rattle.gm_graph_listing.specs.Texts.{limited, list_text}
-use Rattle.gm_graph_listing.specs.Outcomes.{AreKnown, AreInvalidSums, AreSums, FailsInOrder, IsAnswerOver, IsMainFile, IsMainOf, IsOutcomeOver, IsRefusedRead, PrintsFor, PrintsRows, answers, device, faulty, too_many}
+use Rattle.gm_graph_listing.specs.Outcomes.{AreKnown, AreInvalidSums, AreSums, IsAnswerOver, IsMainFile, IsMainOf, IsOutcomeOver, IsRefusedRead, PrintsFor, PrintsRows, answers, device, faulty, too_many}
 use Rattle.gm_graph_listing.specs.Found.{FilesReadAs, IsOutcomeOfFound, PrintsFound, ReportsFaultsOr}
 use Rattle.gm_graph_listing.proofs.Misreading.{IsMalformed}
 
@@ -39,25 +39,10 @@ pub rest_printed : (main : Main) (rows rest : List Entry) (path : List ℕ) (lim
 rest_printed main rows rest path limit outcome is (inl says) = inl (inl (rest, is, says))
 rest_printed main rows rest path limit outcome is (inr none) = inr none
 
--- When both files are valid: the device failed on no file, or on one that was due under the answers.
-abbrev pub FailsOver : Main → Option SumTable → StoreState → StoreState → Type 0
-FailsOver main table old new =
-    (new.refused ≡ old.refused)
-    ⊎ ((name : Name) × IsDue main table new.asked name × (new.refused ≡ old.refused ++ name ∷ []))
-
 -- the outcome when both files are valid, with the names on which the store's device failed
 abbrev pub Answered : Query → Main → Option SumTable → StoreState → StoreState → Outcome → Type 0
 Answered query main table old new outcome =
     (failed : List Name) × (new.refused ≡ old.refused ++ failed) × IsOutcomeOver (PrintsFor query) main table (answers new.asked failed) outcome
-
--- the device failed on the file that loading names
-pub load_fails : {T : Type 0} (main : Main) (table : Option SumTable) (old new : StoreState) (result : Result T LoadFault)
-    → new.refused ≡ old.refused ++ refused_in result → ((name : FileName) → result ≡ Err (load.Device name) → IsDue main table new.asked (name_of name))
-    → FailsOver main table old new
-load_fails main table old new (Ok loaded) grown due = inl (grown ∙ append-nil old.refused)
-load_fails main table old new (Err load.NoMemory) grown due = inl (grown ∙ append-nil old.refused)
-load_fails main table old new (Err load.TooMany) grown due = inl (grown ∙ append-nil old.refused)
-load_fails main table old new (Err (load.Device name)) grown due = inr (name_of name, due name refl, grown)
 
 -- a failure is recorded only where the count of failures rose, or was at its greatest value
 pub load_counts : {T : Type 0} (old new : StoreState) (result : Result T LoadFault)
@@ -67,11 +52,6 @@ load_counts old new (Ok loaded) grown cause = inl (grown ∙ append-nil old.refu
 load_counts old new (Err load.NoMemory) grown cause = inl (grown ∙ append-nil old.refused)
 load_counts old new (Err load.TooMany) grown cause = inl (grown ∙ append-nil old.refused)
 load_counts old new (Err (load.Device name)) grown cause = inr (cause name refl)
-
-pub over_fails : (file : List ℕ) (sums : Option (List ℕ)) (main : Main) (table : Option SumTable) (old new : StoreState)
-    → FilesReadAs file sums main table → FailsOver main table old new → FailsInOrder file sums old new
-over_fails file sums main table old new read (inl none) = inl none
-over_fails file sums main table old new (main_file, sums_are) (inr (name, due, grown)) = inr (main, table, name, main_file, sums_are, due, grown)
 
 -- the files of the opened modules are known
 pub known : (main : Main) (table : Option SumTable) (asked : List (Name × Reply)) (loaded : Loaded) (held : Held) → Tells table asked held
@@ -151,10 +131,10 @@ both_ok file sums r x is match = subst (IsBothRead file sums) is match
 -- ---- the outcome of a whole run
 
 pub refused_read : (query : Query) (file : List ℕ) (sums : Option (List ℕ)) (state : StoreState) (r : Result Read Report) (told : Report) → state.asked ≡ []
-    → r ≡ Err told → IsBothRead file sums r → OrNoMemory (IsAnswerOver query file sums state state) (report_outcome told)
+    → r ≡ Err told → IsBothRead file sums r → OrNoMemory (IsAnswerOver (PrintsFor query) file sums state state) (report_outcome told)
 refused_read query file sums state r told none stops read = refused_run (subst (IsBothRead file sums) stops read)
   where
-    refused_run : OrNoMemory (IsRefusedRead file sums) (report_outcome told) → OrNoMemory (IsAnswerOver query file sums state state) (report_outcome told)
+    refused_run : OrNoMemory (IsRefusedRead file sums) (report_outcome told) → OrNoMemory (IsAnswerOver (PrintsFor query) file sums state state) (report_outcome told)
     refused_run (inl is) = inl ([], sym (append-nil state.refused), inl (is, (none, refl)))
     refused_run (inr ended) = inr ended
 
@@ -162,7 +142,7 @@ refused_read query file sums state r told none stops read = refused_run (subst (
 pub not_loaded : (query : Query) (file : List ℕ) (sums : Option (List ℕ)) (main : Main) (table : Option SumTable) (old new : StoreState) (result : Result Loaded LoadFault) (fault : LoadFault)
     → result ≡ Err fault → FilesReadAs file sums main table → (result ≡ Err load.TooMany → Told main table new.asked (AreTooMany main))
     → ((name : FileName) → result ≡ Err (load.Device name) → IsDue main table new.asked (name_of name))
-    → new.refused ≡ old.refused ++ refused_in result → OrNoMemory (IsAnswerOver query file sums old new) (report_outcome (report_by_load fault))
+    → new.refused ≡ old.refused ++ refused_in result → OrNoMemory (IsAnswerOver (PrintsFor query) file sums old new) (report_outcome (report_by_load fault))
 not_loaded query file sums main table old new result load.NoMemory is read many due grown = inr refl
 not_loaded query file sums main table old new result load.TooMany is (main_file, sums_are) many due grown =
     let none = subst (λ r. new.refused ≡ old.refused ++ refused_in r) is grown in
@@ -174,7 +154,7 @@ not_loaded query file sums main table old new result (load.Device name) is (main
 -- both files are valid, and loading found a graph
 pub answered : (query : Query) (file : List ℕ) (sums : Option (List ℕ)) (main : Main) (table : Option SumTable) (old new : StoreState) (result : Result Loaded LoadFault) (loaded : Loaded)
     (outcome : Outcome) → result ≡ Ok loaded → FilesReadAs file sums main table → IfOk result (λ loaded. Told main table new.asked (IsLoaded main new.asked loaded))
-    → new.refused ≡ old.refused ++ refused_in result → OrNoMemory (IsOutcomeOfFound query main loaded) outcome → OrNoMemory (IsAnswerOver query file sums old new) outcome
+    → new.refused ≡ old.refused ++ refused_in result → OrNoMemory (IsOutcomeOfFound query main loaded) outcome → OrNoMemory (IsAnswerOver (PrintsFor query) file sums old new) outcome
 answered query file sums main table old new result loaded outcome ok (main_file, sums_are) is grown (inl told) =
     let found = subst (λ r. IfOk r (λ loaded. Told main table new.asked (IsLoaded main new.asked loaded))) ok is in
     let none = subst (λ r. new.refused ≡ old.refused ++ refused_in r) ok grown in

@@ -21,7 +21,7 @@ use Rattle.gm_graph_select.specs.BuildList.{Entry, IsBuildList, IsEntryOf, HasEn
 use Rattle.gm_graph_select.specs.Chains.{IsChain}
 use Rattle.gm_graph.specs.declared.fault.Fault.{Fault}
 use Rattle.gm_graph.specs.Graph.{IsEdge, IsOpened}
-use Rattle.gm_graph.specs.Loading.{AreAsked, AreFew, AreTooMany, AsksInTurn, IsAnswered, IsDue, Told}
+use Rattle.gm_graph.specs.Loading.{AreAsked, AreFew, AreTooMany, IsAnswered, IsDue, Told}
 use Rattle.gm_graph.specs.Outcome.{AreEdges, AreFaults}
 use Rattle.gm_graph_listing.specs.declared.query.Query.{Query}
 use Rattle.gm_graph_listing.specs.declared.query.Query.TheVariants.{Graph, List as Rows, Chain}
@@ -212,31 +212,11 @@ PrintsFor Graph = PrintsGraph
 PrintsFor (Rows after limit) = PrintsList (option_copied after) limit
 PrintsFor (Chain path) = PrintsChain path.now
 
--- the outcome of the command for a query
-abbrev pub IsAnswer : Query → Given → Outcome → Type 0
-IsAnswer query run outcome = IsOutcome (PrintsFor query) run outcome
+-- ---- over a store
 
--- the outcome of the command for a query over these files and a store: given the files that the store was asked for,
--- its answers, and the files at which its device failed in the run
-abbrev pub IsAnswerOver : Query → List ℕ → Option (List ℕ) → StoreState → StoreState → Outcome → Type 0
-IsAnswerOver query file sums old new outcome =
+-- the outcome of a run over these files and a store: given the files that the store was asked for, its answers, and the
+-- files at which its device failed in the run
+abbrev pub IsAnswerOver : Prints → List ℕ → Option (List ℕ) → StoreState → StoreState → Outcome → Type 0
+IsAnswerOver prints file sums old new outcome =
     (failed : List Name) × (new.refused ≡ old.refused ++ failed)
-    × IsAnswer query (given file sums (answers new.asked failed)) outcome
-
--- ---- what a run asks for, however it ends
-
--- The store was asked for nothing; or the main module's file and the go.sum are valid, and each file that was
--- asked for was due under the answers before it.
-abbrev pub AsksInOrder : List ℕ → Option (List ℕ) → List (Name × Reply) → Type 0
-AsksInOrder file sums asked =
-    (asked ≡ [])
-    ⊎ ((main : Main) × (table : Option SumTable) × IsMainFile file main × AreSums sums table
-    × AsksInTurn main table asked)
-
--- The device failed on no file; or the main module's file and the go.sum are valid, and it failed on one
--- file, which was due under the answers.
-abbrev pub FailsInOrder : List ℕ → Option (List ℕ) → StoreState → StoreState → Type 0
-FailsInOrder file sums old new =
-    (new.refused ≡ old.refused)
-    ⊎ ((main : Main) × (table : Option SumTable) × (name : Name) × IsMainFile file main × AreSums sums table
-    × IsDue main table new.asked name × (new.refused ≡ old.refused ++ name ∷ []))
+    × IsOutcome prints (given file sums (answers new.asked failed)) outcome

@@ -6,7 +6,8 @@ ghost use Rattle.std.specs.Option.{option_copied};
 ghost use Rattle.gm_store.specs.Asked.{Name, Reply};
 ghost use Rattle.gm_store.specs.States.{RefusesWithCause};
 ghost use Rattle.gm_graph_cache.specs.Main.{main_of};
-ghost use Rattle.gm_graph_listing.specs.Outcomes.{AsksInOrder, FailsInOrder, IsAnswerOver, IsRefusedRead};
+ghost use Rattle.gm_graph_listing.specs.Outcomes.{IsAnswerOver, IsRefusedRead, PrintsFor};
+ghost use Rattle.gm_graph_listing.specs.Needs.{AskedInTurn, FailsInTurn, GraphNeeds};
 ghost use Rattle.gm_graph_listing.specs.Found.{FilesReadAs};
 ghost use Rattle.gm_report.specs.Outcome.{OrNoMemory, failed, outcome_view, report_outcome};
 ghost use Rattle.gm_report.specs.Reports.{device_line};
@@ -74,12 +75,13 @@ pub fn answer<'q, F: Files>(
     files: &mut F,
 ) -> Result<String, Report<'q>>
     requires { (F.state files.old).asked ≡ [] }
-    ensures comes { OrNoMemory (IsAnswerOver query.entry file.now (option_copied sums.entry)
+    ensures comes { OrNoMemory (IsAnswerOver (PrintsFor query.entry) file.now (option_copied sums.entry)
         (F.state files.old) (F.state files.new)) (outcome_view result) }
     ensures device { (name : Name) → (F.state files.new).refused ≡ (F.state files.old).refused ++ name ∷ []
         → outcome_view result ≡ failed (device_line name) }
-    ensures asks { AsksInOrder file.now (option_copied sums.entry) (F.state files.new).asked }
-    ensures fails { FailsInOrder file.now (option_copied sums.entry) (F.state files.old) (F.state files.new) }
+    ensures asks { AskedInTurn (GraphNeeds file.now (option_copied sums.entry)) (F.state files.new).asked }
+    ensures fails { FailsInTurn (GraphNeeds file.now (option_copied sums.entry))
+        (F.state files.old) (F.state files.new) }
     ensures may_answer { (name : Name) (reply : Reply) → Contains (F.state files.new).asked (name, reply)
         → F.may_answer files.old name reply }
     ensures cause { RefusesWithCause (F.state files.old) (F.state files.new) }

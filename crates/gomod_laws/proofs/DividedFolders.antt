@@ -8,13 +8,14 @@ use Rattle.gm_graph_cache.specs.Reading.{Held, Tells, readings_by}
 use Rattle.gm_graph_select.proofs.Ascending.{no_member}
 use Rattle.gm_graph_listing.specs.Laws.{AnswerAlike}
 use Rattle.gm_graph_listing.specs.Outcomes.{AreKnown, Given, GivenFilesReadAs, IsOutcome, IsRefusedRead, Prints as PrintsBy, PrintsChain, PrintsGraph, PrintsList, answers, device, faulty, given, too_many}
+use Rattle.gm_graph_listing.specs.Needs.{AnsweredAll, AskedInTurn}
 use Rattle.gm_report.specs.Outcome.{Outcome, refused}
 use Rattle.gm_report.specs.Reports.{too_many_line}
 use Rattle.gm_graph_listing.proofs.OneRead.{misread_or_main, misread_or_sums, one_finding, one_main, tells_alike}
 use Rattle.gm_graph_listing.proofs.OneStore.{Agrees, alike_back, opened, stores_agree}
 use Rattle.gomod_words.specs.declared.usage.Command.{Command}
 use Rattle.gomod_words.specs.declared.usage.Command.TheVariants.{Fmt, Edit, Versions, Graph, List as Rows, Chain}
-use Rattle.gomod_run.specs.Runs.{AnsweredAll, AskedInTurn, IsRunOutcome, Needs, StatesOutcome}
+use Rattle.gomod_run.specs.Runs.{IsRunOutcome, Needs, StatesOutcome}
 use Rattle.gomod_run.specs.Versions.{VersionsNeed}
 use Rattle.gomod_run.proofs.Answering.{answered_in}
 use Rattle.gomod_laws.specs.FolderLaws.{DividedFoldersChangeNothing}

@@ -16,13 +16,14 @@ use Rattle.gm_graph.specs.declared.fault.Fault.{Fault}
 use Rattle.gm_graph.specs.Loading.{IsNeeded}
 use Rattle.gm_graph_listing.specs.Laws.{AllFilesAreValid, AnswerAlike}
 use Rattle.gm_graph_listing.specs.Outcomes.{Given, answers, given}
+use Rattle.gm_graph_listing.specs.Needs.{AnsweredAll, AnswersByName, AskedAfter, AskedInTurn}
 use Rattle.gm_report.specs.Outcome.{Outcome}
 use Rattle.gm_graph_listing.proofs.OneRead.{one_finding, one_main, tells_alike}
 use Rattle.gm_graph_listing.proofs.OneStore.{Agrees, alike_back, opened, stores_agree}
 use Rattle.gomod_words.specs.declared.usage.Command.{Command}
 use Rattle.gomod_words.specs.declared.usage.Command.TheVariants.{Fmt, Edit, Versions, Graph, List as Rows, Chain}
-use Rattle.gomod_run.specs.Runs.{AnsweredAll, AskedAfter, AskedInTurn, Needs, is_query}
-use Rattle.gomod_run.specs.Versions.{AnswersByName, IsListedOutcome, IsShownOutcome, IsVersionsOutcome, VersionsNeed, shown_by}
+use Rattle.gomod_run.specs.Runs.{Needs, is_query}
+use Rattle.gomod_run.specs.Versions.{IsListedOutcome, IsShownOutcome, IsVersionsOutcome, VersionsNeed, shown_by}
 use Rattle.gomod_run.proofs.AllAsked.{done_answers}
 use Rattle.gomod_run.proofs.Answering.{answered_in}
 use Rattle.gomod_run.proofs.OneStore.{one_for_stores}

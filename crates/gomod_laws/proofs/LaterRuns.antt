@@ -4,12 +4,13 @@ use Rattle.std.specs.Global.{Global, Vec}
 use Rattle.std.specs.Prelude.{String}
 use Rattle.gm_store.specs.Asked.{Name, Reply, absent, answer_in, bytes, list_file, mod_file, too_long}
 use Rattle.gm_graph_listing.specs.Laws.{AnswerAlike}
+use Rattle.gm_graph_listing.specs.Needs.{AnswersByName}
 use Rattle.gm_report.specs.Outcome.{Outcome}
 use Rattle.gm_graph_listing.proofs.OneStore.{alike_back}
 use Rattle.gomod_words.specs.declared.usage.Command.{Command}
 use Rattle.gomod_words.specs.declared.usage.Command.TheVariants.{Fmt, Edit, Versions, Graph, List as Rows, Chain}
 use Rattle.gomod_run.specs.Runs.{StatesOutcome, is_query}
-use Rattle.gomod_run.specs.Versions.{AnswersByName, IsOutcomeByList, IsVersionsOutcome, VersionsNeed}
+use Rattle.gomod_run.specs.Versions.{IsOutcomeByList, IsVersionsOutcome, VersionsNeed}
 use Rattle.gomod_run.proofs.Sameness.{one_outcome}
 use Rattle.gomod_laws.specs.LaterLaws.{LaterAsksTheSame, LaterPrintsTheSame, OnlyAddsFiles}
 use Rattle.gomod_laws.specs.Runs.{HasOutcome, HasPrinted}

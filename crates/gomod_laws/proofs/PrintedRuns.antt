@@ -6,11 +6,11 @@ use Rattle.gm_store.specs.Asked.{Name, Reply}
 use Rattle.gm_graph_cache.specs.Main.{Main}
 use Rattle.gm_graph_cache.specs.Reading.{Held, readings_by}
 use Rattle.gm_graph_listing.specs.Laws.{AllFilesAreValid}
-use Rattle.gm_graph_listing.specs.Outcomes.{Given, IsOutcome, Prints as PrintsBy, PrintsChain, PrintsGraph, PrintsList, answers, device, faulty, given, too_many}
+use Rattle.gm_graph_listing.specs.Outcomes.{Given, IsAnswerOver, IsOutcome, Prints as PrintsBy, PrintsChain, PrintsGraph, PrintsList, answers, device, faulty, given, too_many}
 use Rattle.gm_report.specs.Outcome.{Outcome}
 use Rattle.gomod_words.specs.declared.usage.Command.{Command}
 use Rattle.gomod_words.specs.declared.usage.Command.TheVariants.{Fmt, Edit, Versions, Graph, List as Rows, Chain}
-use Rattle.gomod_run.specs.Queries.{AnswersQuery, IsQueryOutcome, RunsTo}
+use Rattle.gomod_run.specs.Queries.{IsQueryOutcome, RunsTo}
 use Rattle.gomod_run.specs.Runs.{is_query}
 use Rattle.gomod_laws.specs.Runs.{HasOutcome, HasPrinted}
 
@@ -25,19 +25,19 @@ pub query_by_answers : (command : Command) (file : List ℕ) (sums : Option (Lis
     → IsQueryOutcome command (given file sums (answers asked [])) outcome
 query_by_answers command file sums asked outcome is run = by command is run.run
   where
-    over : (c : Command) → AnswersQuery c file sums run.old run.new outcome → IsQueryOutcome c (given file sums (answers asked [])) outcome
-    over c (names, grown, is) =
+    over : (prints : PrintsBy) → IsAnswerOver prints file sums run.old run.new outcome → IsOutcome prints (given file sums (answers asked [])) outcome
+    over prints (names, grown, is) =
         let none = none_more run.old.refused run.new.refused names grown run.none_failed in
-        subst (λ (pairs : Pairs). IsQueryOutcome c (given file sums (answers pairs [])) outcome) run.asked_are
-        (subst (λ (ns : List Name). IsQueryOutcome c (given file sums (answers run.new.asked ns)) outcome) none is)
+        subst (λ (pairs : Pairs). IsOutcome prints (given file sums (answers pairs [])) outcome) run.asked_are
+        (subst (λ (ns : List Name). IsOutcome prints (given file sums (answers run.new.asked ns)) outcome) none is)
 
     by : (c : Command) → is_query c ≡ true → RunsTo c file sums run.old run.new outcome → IsQueryOutcome c (given file sums (answers asked [])) outcome
     by Fmt is runs = absurd (false≢true is)
     by (Edit operations) is runs = absurd (false≢true is)
     by (Versions path all) is runs = absurd (false≢true is)
-    by Graph is runs = over Graph runs
-    by (Rows after limit) is runs = over (Rows after limit) runs
-    by (Chain path) is runs = over (Chain path) runs
+    by Graph is runs = over PrintsGraph runs
+    by (Rows after limit) is runs = over (PrintsList after limit) runs
+    by (Chain path) is runs = over (PrintsChain path) runs
 
 -- what a query that prints is based on
 pub printed_by : (prints : PrintsBy) (run : Given) (outcome : Outcome) → IsOutcome prints run outcome → HasPrinted outcome

@@ -14,6 +14,7 @@ use Rattle.gm_graph_cache.specs.Reading.{Held, IsReadUnless, IsTold, Tells, clas
 use Rattle.gm_graph.specs.Loading.{AreTooMany, IsNeeded}
 use Rattle.gm_graph_listing.specs.Laws.{AnswerAlike}
 use Rattle.gm_graph_listing.specs.Outcomes.{AreKnown, AreSums, IsMainFile, IsOutcome, IsOutcomeOver, Prints as PrintsOver, PrintsChain, PrintsGraph, PrintsList, answers, device, faulty, given, too_many}
+use Rattle.gm_graph_listing.specs.Needs.{GraphNeeds}
 use Rattle.gm_report.specs.Outcome.{Outcome, refused}
 use Rattle.gm_report.specs.Reports.{too_many_line}
 use Rattle.gm_graph_listing.proofs.OneOutcome.{one_outcome}
@@ -21,14 +22,14 @@ use Rattle.gm_graph_listing.proofs.OnePrinted.{PrintsOnce, chain_once, graph_onc
 use Rattle.gm_graph_listing.proofs.OneRead.{misread_or_main, misread_or_sums, one_main}
 use Rattle.gomod_words.specs.declared.usage.Command.{Command}
 use Rattle.gomod_words.specs.declared.usage.Command.TheVariants.{Fmt, Edit, Versions, Graph, List as Rows, Chain}
-use Rattle.gomod_run.specs.Needs.{GraphNeeds}
 use Rattle.gomod_run.specs.Queries.{RunsTo}
 use Rattle.gomod_run.proofs.OneStore.{one_for_stores}
 use Rattle.gomod_laws.specs.Runs.{HasOutcome}
 use Rattle.gomod_laws.specs.SumLaws.{HasNeedlessLines, HasSumLine, HaveSameLines, HaveSameSums, NeedlessLinesChangeNothing, SameSumsChangeNothing, SumLinesInAnyOrder}
 use Rattle.gomod_laws.proofs.Carried.{IsCarried, Known, opened_too, reading_kept, told_kept}
 use Rattle.gomod_laws.proofs.SumsChecked.{answered_name}
-use Rattle.gomod_laws.proofs.SumsGiven.{asked_alike, query_given}
+use Rattle.gomod_laws.proofs.PrintedRuns.{query_by_answers}
+use Rattle.gomod_laws.proofs.SumsGiven.{asked_alike}
 use Rattle.gomod_laws.proofs.SumsOutcomes.{sum_table}
 
 -- ---- what go.sums say
@@ -185,13 +186,14 @@ same_sums_change_nothing (Edit operations) main one other asked others a b alike
 same_sums_change_nothing (Versions path all) main one other asked others a b alike are is be =
     same_unread (Versions path all) main one other asked others a b alike (λ old new run. run) is be
 same_sums_change_nothing Graph main one other asked others a b alike are is be =
-    same_runs PrintsGraph graph_once main one other asked others a b alike are (query_given Graph main (Some one) asked a refl is) (query_given Graph main (Some other) others b refl be)
+    same_runs PrintsGraph graph_once main one other asked others a b alike are
+    (query_by_answers Graph main (Some one) asked a refl is) (query_by_answers Graph main (Some other) others b refl be)
 same_sums_change_nothing (Rows after limit) main one other asked others a b alike are is be =
     same_runs (PrintsList after limit) (list_once after limit) main one other asked others a b alike are
-    (query_given (Rows after limit) main (Some one) asked a refl is) (query_given (Rows after limit) main (Some other) others b refl be)
+    (query_by_answers (Rows after limit) main (Some one) asked a refl is) (query_by_answers (Rows after limit) main (Some other) others b refl be)
 same_sums_change_nothing (Chain path) main one other asked others a b alike are is be =
     same_runs (PrintsChain path) (chain_once path) main one other asked others a b alike are
-    (query_given (Chain path) main (Some one) asked a refl is) (query_given (Chain path) main (Some other) others b refl be)
+    (query_by_answers (Chain path) main (Some one) asked a refl is) (query_by_answers (Chain path) main (Some other) others b refl be)
 
 by_lines : (main one other : List ℕ) (asked : List (Name × Reply)) → HaveSameLines one other → HaveSameSums main one other asked
 by_lines main one other asked are = record {

@@ -8,15 +8,16 @@ use Rattle.gm_graph_cache.specs.Reading.{Held, Tells, readings_by, sum_fault}
 use Rattle.gm_graph.specs.Loading.{AreTooMany, IsNeeded, Told}
 use Rattle.gm_graph_listing.specs.Laws.{AnswerAlike}
 use Rattle.gm_graph_listing.specs.Outcomes.{AreKnown, AreSums, IsMainFile, IsOutcome, IsOutcomeOver, Prints as PrintsOver, PrintsChain, PrintsGraph, PrintsList, answers, device, faulty, given, longest, too_many}
+use Rattle.gm_graph_listing.specs.Needs.{GraphNeeds}
 use Rattle.gm_report.specs.Outcome.{Outcome}
 use Rattle.gm_graph_listing.proofs.OneOutcome.{one_outcome}
 use Rattle.gm_graph_listing.proofs.OnePrinted.{PrintsOnce, chain_once, graph_once, list_once}
 use Rattle.gm_graph_listing.proofs.OneRead.{misread_or_main}
 use Rattle.gm_graph_listing.proofs.PrintedList.{printed_run}
 use Rattle.gomod_words.specs.declared.usage.Command.TheVariants.{Fmt, Edit, Versions, Graph, List as Rows, Chain}
-use Rattle.gomod_run.specs.Needs.{GraphNeeds}
 use Rattle.gomod_laws.specs.SumLaws.{AreRight, OnlyRefuses, RightSumsChangeNothing}
-use Rattle.gomod_laws.proofs.SumsGiven.{query_given, same_unread}
+use Rattle.gomod_laws.proofs.PrintedRuns.{query_by_answers}
+use Rattle.gomod_laws.proofs.SumsGiven.{same_unread}
 use Rattle.gomod_laws.proofs.SumsChecked.{IsRightFor, answered_name, checked_held, checked_told, known_unchecked, no_sum_fault, opened_checked, tells_checked}
 
 -- ---- what is printed with a go.sum is printed without one
@@ -56,15 +57,15 @@ only_refuses (Versions path all) main sums asked others one other alike is be en
     sym (same_unread (Versions path all) main sums asked others one other alike (λ old new run. run) is be)
 only_refuses Graph main sums asked others one other alike is be ends =
     one_unchecked PrintsGraph graph_once main sums asked others one other alike ends
-    (query_given Graph main (Some sums) asked one refl is) (query_given Graph main None others other refl be)
+    (query_by_answers Graph main (Some sums) asked one refl is) (query_by_answers Graph main None others other refl be)
 only_refuses (Rows after limit) main sums asked others one other alike is be ends =
     one_unchecked (PrintsList after limit) (list_once after limit) main sums asked others one other alike ends
-    (query_given (Rows after limit) main (Some sums) asked one refl is)
-    (query_given (Rows after limit) main None others other refl be)
+    (query_by_answers (Rows after limit) main (Some sums) asked one refl is)
+    (query_by_answers (Rows after limit) main None others other refl be)
 only_refuses (Chain path) main sums asked others one other alike is be ends =
     one_unchecked (PrintsChain path) (chain_once path) main sums asked others one other alike ends
-    (query_given (Chain path) main (Some sums) asked one refl is)
-    (query_given (Chain path) main None others other refl be)
+    (query_by_answers (Chain path) main (Some sums) asked one refl is)
+    (query_by_answers (Chain path) main None others other refl be)
 
 -- ---- a go.sum with the right hashes changes nothing
 
@@ -175,12 +176,12 @@ right_sums_change_nothing (Versions path all) main sums asked others one other a
     (λ old new run. run) be is
 right_sums_change_nothing Graph main sums asked others one other alike right is be =
     one_checked PrintsGraph graph_once main sums asked others one other alike right
-    (query_given Graph main None asked one refl is) (query_given Graph main (Some sums) others other refl be)
+    (query_by_answers Graph main None asked one refl is) (query_by_answers Graph main (Some sums) others other refl be)
 right_sums_change_nothing (Rows after limit) main sums asked others one other alike right is be =
     one_checked (PrintsList after limit) (list_once after limit) main sums asked others one other alike right
-    (query_given (Rows after limit) main None asked one refl is)
-    (query_given (Rows after limit) main (Some sums) others other refl be)
+    (query_by_answers (Rows after limit) main None asked one refl is)
+    (query_by_answers (Rows after limit) main (Some sums) others other refl be)
 right_sums_change_nothing (Chain path) main sums asked others one other alike right is be =
     one_checked (PrintsChain path) (chain_once path) main sums asked others one other alike right
-    (query_given (Chain path) main None asked one refl is)
-    (query_given (Chain path) main (Some sums) others other refl be)
+    (query_by_answers (Chain path) main None asked one refl is)
+    (query_by_answers (Chain path) main (Some sums) others other refl be)

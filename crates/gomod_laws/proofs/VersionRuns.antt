@@ -17,9 +17,10 @@ use Rattle.gm_store.specs.Listed.{AreListed, IsListed}
 use Rattle.gm_graph_cache.specs.declared.class.Class.{Class}
 use Rattle.gm_graph_cache.specs.Reading.{IsFileReading}
 use Rattle.gm_report.specs.Outcome.{Outcome, printed, refused}
+use Rattle.gm_graph_listing.specs.Needs.{AnswersByName}
 use Rattle.gomod_words.specs.declared.usage.Command.TheVariants.{Versions}
 use Rattle.gomod_run.specs.Runs.{IsRunOutcome, Needs, StatesOutcome}
-use Rattle.gomod_run.specs.Versions.{AnswersByName, IsListedOutcome, IsOutcomeByList, IsVersionsOutcome, shown_by, versions_line}
+use Rattle.gomod_run.specs.Versions.{IsListedOutcome, IsOutcomeByList, IsVersionsOutcome, shown_by, versions_line}
 use Rattle.gomod_run.proofs.Uniqueness.{listed_once}
 use Rattle.gomod_laws.specs.Runs.{HasOutcome, HasPrinted}
 use Rattle.gomod_laws.specs.VersionLaws.{AreUnretracted, PrintsVersionsOfPath, RetractedAreLeftOut, Retracts}

@@ -9,8 +9,9 @@ use Rattle.gm_store.specs.FoldersInMemory.{result_at}
 use Rattle.gm_store.specs.Steps.{MayStop, Seen, absent}
 use Rattle.gm_report.specs.Outcome.{Outcome, refused}
 use Rattle.gm_report.specs.Reports.{too_many_line}
+use Rattle.gm_graph_listing.specs.Needs.{AskedInTurn}
 use Rattle.gomod_words.specs.declared.usage.Command.{Command}
-use Rattle.gomod_run.specs.Runs.{AskedInTurn, Needs}
+use Rattle.gomod_run.specs.Runs.{Needs}
 use Rattle.gomod_laws.specs.Runs.{HasOutcome, HasPrinted}
 
 -- the answers that folders in memory may give to a name, with these marks between the proxy folders

@@ -2,8 +2,9 @@
 use Rattle.std.specs.Prelude.{◌≡◌, ◌⊎◌, ℕ, List, Option, Some}
 use Rattle.gm_store.specs.Asked.{Name, Reply, absent, answer_in}
 use Rattle.gm_report.specs.Outcome.{Outcome}
+use Rattle.gm_graph_listing.specs.Needs.{AskedInTurn}
 use Rattle.gomod_words.specs.declared.usage.Command.{Command}
-use Rattle.gomod_run.specs.Runs.{AskedInTurn, Needs}
+use Rattle.gomod_run.specs.Runs.{Needs}
 use Rattle.gomod_laws.specs.FolderLaws.{AskForTheSame}
 use Rattle.gomod_laws.specs.Runs.{HasOutcome, HasPrinted}
 

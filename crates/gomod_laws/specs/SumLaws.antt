@@ -8,9 +8,9 @@ use Rattle.gm_store_sums.specs.Sums.{HasValidLines, IsSum, Says}
 use Rattle.gm_store_sums.specs.declared.sum_table.Sum.TheVariants.{Good}
 use Rattle.gm_graph_listing.specs.Laws.{AnswerAlike}
 use Rattle.gm_graph_listing.specs.Outcomes.{longest}
+use Rattle.gm_graph_listing.specs.Needs.{GraphNeeds}
 use Rattle.gm_report.specs.Outcome.{Outcome}
 use Rattle.gomod_words.specs.declared.usage.Command.{Command}
-use Rattle.gomod_run.specs.Needs.{GraphNeeds}
 use Rattle.gomod_laws.specs.Runs.{HasOutcome, HasPrinted}
 
 -- What a command prints with a go.sum, it prints without one.

@@ -11,15 +11,14 @@ use Rattle.gm_graph_cache.specs.Reading.{Held, IsFileReading, IsReadUnless, IsTo
 use Rattle.gm_graph.specs.Graph.{IsOpened}
 use Rattle.gm_graph.specs.Loading.{IsAnswered, IsNeeded}
 use Rattle.gm_graph_listing.specs.Outcomes.{AreSums, IsMainFile, IsOutcome, Prints, PrintsChain, PrintsGraph, PrintsList, answers, device, faulty, given, too_many}
+use Rattle.gm_graph_listing.specs.Needs.{AnsweredAll, AnswersByName, GraphNeeds}
 use Rattle.gm_report.specs.Outcome.{OrNoMemory, Outcome}
 use Rattle.gm_graph_listing.proofs.OneRead.{FindSame, one_finding, one_main}
 use Rattle.gomod_words.specs.declared.usage.Command.{Command}
 use Rattle.gomod_words.specs.declared.usage.Command.TheVariants.{Fmt, Edit, Versions, Graph, List as Rows, Chain}
-use Rattle.gomod_run.specs.Needs.{GraphNeeds}
 use Rattle.gomod_run.specs.Queries.{RunsTo}
 use Rattle.gm_store.specs.States.{StoreState}
-use Rattle.gomod_run.specs.Runs.{AnsweredAll, IsRunOutcome, Needs, StatesOutcome}
-use Rattle.gomod_run.specs.Versions.{AnswersByName}
+use Rattle.gomod_run.specs.Runs.{IsRunOutcome, Needs, StatesOutcome}
 use Rattle.gomod_run.specs.Written.{IsWritten}
 use Rattle.gm_store.specs.Taken.{SinkState}
 

@@ -1,7 +1,6 @@
 pub mod AllAsked
 pub mod Answering
 pub mod Endings
-pub mod InTurn
 pub mod Misread
 pub mod Operations
 pub mod Joining

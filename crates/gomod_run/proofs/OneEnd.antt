@@ -2,17 +2,15 @@
 use Rattle.std.proofs.Common.{◌≡◌, ◌∙◌, ◌++◌, ◌∷◌, ℕ, List, [], Option, Some, None, ap, subst, sym, inl, inr}
 use Rattle.std.proofs.lemmas.List.{append_cancel_left}
 use Rattle.gm_store.specs.Asked.{Name, answer_in}
-use Rattle.gm_graph_listing.specs.Outcomes.{Given, answers, given}
+use Rattle.gm_graph_listing.specs.Outcomes.{Given, IsAnswerOver, IsOutcome, Prints, PrintsChain, PrintsGraph, PrintsList, answers, given}
+use Rattle.gm_graph_listing.specs.Needs.{AnswersByName}
 use Rattle.gm_report.specs.Outcome.{Outcome, failed}
 use Rattle.gm_report.specs.Reports.{device_line}
 use Rattle.gm_graph_listing.proofs.OneOutcome.{one_chain_outcome, one_graph_outcome, one_list_outcome}
-use Rattle.gomod_words.specs.declared.usage.Command.{Command}
 use Rattle.gomod_words.specs.declared.usage.Command.TheVariants.{Fmt, Edit, Versions, Graph, List as Rows, Chain}
 use Rattle.gomod_run.specs.Laws.{OneRun}
-use Rattle.gomod_run.specs.Queries.{AnswersQuery, IsQueryOutcome}
 use Rattle.gm_store.specs.States.{StoreState}
 use Rattle.gomod_run.specs.Runs.{IsRunOutcome, Needs, StatesOutcome}
-use Rattle.gomod_run.specs.Versions.{AnswersByName}
 use Rattle.gomod_run.proofs.Sameness.{one_outcome}
 
 same_failed : (old new one other : List Name) → new ≡ old ++ one → new ≡ old ++ other → one ≡ other
@@ -34,20 +32,13 @@ comes_once needs states once old new a b (inr (name, says, need, unanswered, gro
     says ∙ ap (λ (n : Name). failed (device_line n)) (same_name old.refused new.refused name next grown longer) ∙ sym tells
 
 -- `graph`, `list` and `chain`
-query_once : (command : Command) (run : Given) (a b : Outcome) → IsQueryOutcome command run a → IsQueryOutcome command run b → a ≡ b
-query_once Fmt run a b is be = absurd is
-query_once (Edit operations) run a b is be = absurd is
-query_once (Versions path all) run a b is be = absurd is
-query_once Graph run a b is be = one_graph_outcome run a b is be
-query_once (Rows after limit) run a b is be = one_list_outcome _ _ run a b is be
-query_once (Chain path) run a b is be = one_chain_outcome _ run a b is be
-
-answers_once : (command : Command) (main : List ℕ) (sums : Option (List ℕ)) (old new : StoreState) (a b : Outcome) → AnswersQuery command main sums old new a → AnswersQuery command main sums old new b → a ≡ b
-answers_once command main sums old new a b (names, grown, is) (others, longer, be) =
+answers_once : (prints : Prints) → ((run : Given) (a b : Outcome) → IsOutcome prints run a → IsOutcome prints run b → a ≡ b)
+    → (main : List ℕ) (sums : Option (List ℕ)) (old new : StoreState) (a b : Outcome) → IsAnswerOver prints main sums old new a → IsAnswerOver prints main sums old new b → a ≡ b
+answers_once prints once main sums old new a b (names, grown, is) (others, longer, be) =
     let same : names ≡ others = same_failed old.refused new.refused names others grown longer in
-    let here : IsQueryOutcome command (given main sums (answers new.asked others)) a =
-    subst (λ (ns : List Name). IsQueryOutcome command (given main sums (answers new.asked ns)) a) same is in
-    query_once command (given main sums (answers new.asked others)) a b here be
+    let here : IsOutcome prints (given main sums (answers new.asked others)) a =
+    subst (λ (ns : List Name). IsOutcome prints (given main sums (answers new.asked ns)) a) same is in
+    once (given main sums (answers new.asked others)) a b here be
 
 pub one_run : OneRun
 one_run Fmt main sums old new a b is be = comes_once (Needs Fmt main sums) (StatesOutcome Fmt main sums) (one_outcome Fmt main sums) old new a b is be
@@ -55,6 +46,6 @@ one_run (Edit operations) main sums old new a b is be =
     comes_once (Needs (Edit operations) main sums) (StatesOutcome (Edit operations) main sums) (one_outcome (Edit operations) main sums) old new a b is be
 one_run (Versions path all) main sums old new a b is be =
     comes_once (Needs (Versions path all) main sums) (StatesOutcome (Versions path all) main sums) (one_outcome (Versions path all) main sums) old new a b is be
-one_run Graph main sums old new a b is be = answers_once Graph main sums old new a b is be
-one_run (Rows after limit) main sums old new a b is be = answers_once (Rows after limit) main sums old new a b is be
-one_run (Chain path) main sums old new a b is be = answers_once (Chain path) main sums old new a b is be
+one_run Graph main sums old new a b is be = answers_once PrintsGraph one_graph_outcome main sums old new a b is be
+one_run (Rows after limit) main sums old new a b is be = answers_once (PrintsList after limit) (one_list_outcome after limit) main sums old new a b is be
+one_run (Chain path) main sums old new a b is be = answers_once (PrintsChain path) (one_chain_outcome path) main sums old new a b is be

@@ -3,16 +3,16 @@ use Rattle.std.proofs.Common.{◌≡◌, ◌∙◌, ◌++◌, ◌∷◌, ℕ, Bo
 use Rattle.std.proofs.lemmas.List.{append_cancel_left}
 use Rattle.gm_store.specs.Asked.{Name, Reply, absent, answer_in, bytes, too_long}
 use Rattle.gm_graph_listing.specs.Laws.{AnswerAlike, AreAlike}
-use Rattle.gm_graph_listing.specs.Outcomes.{Given, answers, given}
+use Rattle.gm_graph_listing.specs.Outcomes.{Given, IsAnswerOver, IsOutcome, Prints, PrintsChain, PrintsGraph, PrintsList, answers, given}
+use Rattle.gm_graph_listing.specs.Needs.{AnswersByName}
 use Rattle.gm_report.specs.Outcome.{Outcome}
 use Rattle.gm_graph_listing.proofs.OneOutcome.{alike_chains, alike_graphs, alike_lists}
 use Rattle.gomod_words.specs.declared.usage.Command.{Command}
 use Rattle.gomod_words.specs.declared.usage.Command.TheVariants.{Fmt, Edit, Versions, Graph, List as Rows, Chain}
 use Rattle.gomod_run.specs.Laws.{OneForStores}
-use Rattle.gomod_run.specs.Queries.{AnswersQuery, IsQueryOutcome}
 use Rattle.gm_store.specs.States.{StoreState}
 use Rattle.gomod_run.specs.Runs.{IsRunOutcome, Needs, StatesOutcome}
-use Rattle.gomod_run.specs.Versions.{AnswersByName, IsOutcomeByList, IsListedOutcome, IsVersionsOutcome}
+use Rattle.gomod_run.specs.Versions.{IsOutcomeByList, IsListedOutcome, IsVersionsOutcome}
 use Rattle.gomod_run.proofs.Sameness.{one_outcome}
 
 -- ---- the answers of both stores
@@ -86,24 +86,15 @@ module _ (command : Command) (main : List ℕ) (sums : Option (List ℕ)) (old n
   comes_alike needs (inr (name, says, need, unanswered, grown)) ends = absurd (one_more old.refused new.refused name grown sound)
   comes_alike needs (inl (is, all, none)) (inr (name, says, need, unanswered, grown)) = absurd (one_more before.refused after.refused name grown whole)
 
-  queries_alike : (one other : Given) (found seen : Outcome) → AreAlike one other → IsQueryOutcome command one found → IsQueryOutcome command other seen → found ≡ seen
-  queries_alike = by command
-    where
-      by : (command : Command) (one other : Given) (found seen : Outcome) → AreAlike one other → IsQueryOutcome command one found → IsQueryOutcome command other seen → found ≡ seen
-      by Fmt one other found seen same is be = absurd is
-      by (Edit operations) one other found seen same is be = absurd is
-      by (Versions path all) one other found seen same is be = absurd is
-      by Graph one other found seen same is be = alike_graphs one other found seen same is be
-      by (Rows after limit) one other found seen same is be = alike_lists _ _ one other found seen same is be
-      by (Chain path) one other found seen same is be = alike_chains _ one other found seen same is be
-
-  answers_alike : AnswersQuery command main sums old new a → AnswersQuery command main sums before after b → a ≡ b
-  answers_alike (names, grown, is) (others, longer, be) =
+  answers_alike : (prints : Prints)
+      → ((one other : Given) (found seen : Outcome) → AreAlike one other → IsOutcome prints one found → IsOutcome prints other seen → found ≡ seen)
+      → IsAnswerOver prints main sums old new a → IsAnswerOver prints main sums before after b → a ≡ b
+  answers_alike prints once (names, grown, is) (others, longer, be) =
       let none = none_more old.refused new.refused names grown sound in
       let nothing = none_more before.refused after.refused others longer whole in
       let same : AreAlike (given main sums (answers new.asked names)) (given main sums (answers after.asked others)) =
       record { file = refl; sums = refl; answers = alike; failed = none ∙ sym nothing } in
-      queries_alike (given main sums (answers new.asked names)) (given main sums (answers after.asked others)) a b same is be
+      once (given main sums (answers new.asked names)) (given main sums (answers after.asked others)) a b same is be
 
 pub one_for_stores : OneForStores
 one_for_stores Fmt main sums old new before after a b alike sound whole is be = comes_alike Fmt main sums old new before after a b alike sound whole (Needs Fmt main sums) is be
@@ -111,7 +102,9 @@ one_for_stores (Edit operations) main sums old new before after a b alike sound 
     comes_alike (Edit operations) main sums old new before after a b alike sound whole (Needs (Edit operations) main sums) is be
 one_for_stores (Versions path all) main sums old new before after a b alike sound whole is be =
     comes_alike (Versions path all) main sums old new before after a b alike sound whole (Needs (Versions path all) main sums) is be
-one_for_stores Graph main sums old new before after a b alike sound whole is be = answers_alike Graph main sums old new before after a b alike sound whole is be
+one_for_stores Graph main sums old new before after a b alike sound whole is be =
+    answers_alike Graph main sums old new before after a b alike sound whole PrintsGraph alike_graphs is be
 one_for_stores (Rows path limit) main sums old new before after a b alike sound whole is be =
-    answers_alike (Rows path limit) main sums old new before after a b alike sound whole is be
-one_for_stores (Chain path) main sums old new before after a b alike sound whole is be = answers_alike (Chain path) main sums old new before after a b alike sound whole is be
+    answers_alike (Rows path limit) main sums old new before after a b alike sound whole (PrintsList path limit) (alike_lists path limit) is be
+one_for_stores (Chain path) main sums old new before after a b alike sound whole is be =
+    answers_alike (Chain path) main sums old new before after a b alike sound whole (PrintsChain path) (alike_chains path) is be

@@ -22,8 +22,10 @@ use Rattle.gm_report.specs.Reports.{device_line, list_line}
 use Rattle.gomod_run.specs.Asking.{IsAnsweredAsk, IsAsked, IsLatestAsked, IsRefusedAt, IsUnanswered}
 use Rattle.gomod_run.specs.Listing.{IsAllOutcome, IsListAsked, IsShownAsked}
 use Rattle.gm_store.specs.States.{StoreState}
-use Rattle.gomod_run.specs.Runs.{AnsweredAll, AskedInTurn, IsRunOutcome, FailsInTurn}
-use Rattle.gomod_run.specs.Versions.{AnswersByName, IsEndByList, IsRefusedList, IsShownOutcome, IsUnfetchable, IsVersionsOutcome, NeedsFile, VersionsNeed, shown_by, versions_line}
+use Rattle.gm_graph_listing.specs.Needs.{AnsweredAll, AnswersByName, AskedInTurn, FailsInTurn}
+use Rattle.gm_graph_listing.proofs.InTurn.{IsWanted, none_in_turn}
+use Rattle.gomod_run.specs.Runs.{IsRunOutcome}
+use Rattle.gomod_run.specs.Versions.{IsEndByList, IsRefusedList, IsShownOutcome, IsUnfetchable, IsVersionsOutcome, NeedsFile, VersionsNeed, shown_by, versions_line}
 use Rattle.gomod_run.proofs.Answering.{file_answer, list_answer}
 use Rattle.gomod_run.proofs.Uniqueness.{latest_once, listed_once, none_latest}
 
@@ -31,16 +33,9 @@ use Rattle.gomod_run.proofs.Uniqueness.{latest_once, listed_once, none_latest}
 abbrev pub Pairs : Type 0
 Pairs = List (Name × Reply)
 
--- given these answers the file is needed, and is not among them
-abbrev IsWanted : (AnswersByName → Name → Type 0) → Pairs → Name → Type 0
-IsWanted needs asked name = needs (answer_in asked) name × (answer_in asked name ≡ None)
-
 module _ (path : List ℕ) (all : Bool) where
   Needed : Pairs → Type 0
   Needed asked = AskedInTurn (VersionsNeed path all) asked
-
-  pub none_in_turn : (asked : Pairs) → asked ≡ [] → AskedInTurn (VersionsNeed path all) asked
-  none_in_turn asked none = subst (λ (a : Pairs). AskedInTurn (VersionsNeed path all) a) (sym none) tt
 
   pub list_in_turn : (asked : Pairs) (reply : Reply) → is_fetchable path ≡ true → asked ≡ (list_file path, reply) ∷ [] → AskedInTurn (VersionsNeed path all) asked
   list_in_turn asked reply fetchable is =
@@ -119,7 +114,7 @@ module _ (path : List ℕ) (all : Bool) where
     -- the go.mod of the latest version is needed and not answered
     file_wanted : (list : List ℕ) (versions : List (List ℕ)) (latest : List ℕ) → is_fetchable path ≡ true → all ≡ false
         → AreListed path list versions → IsLatest versions latest → new.asked ≡ (list_file path, bytes list) ∷ []
-        → IsWanted (VersionsNeed path all) new.asked (mod_file path latest)
+        → IsWanted (VersionsNeed path all) (mod_file path latest) new.asked
     file_wanted list versions latest fetchable some listed latest_is asked =
         let needed : VersionsNeed path all (answer_in new.asked) (mod_file path latest) =
         (fetchable, inr (subst (λ (a : Pairs). NeedsFile path all (answer_in a) (mod_file path latest)) (sym asked) (file_needed list versions latest [] some listed latest_is))) in
@@ -130,7 +125,7 @@ module _ (path : List ℕ) (all : Bool) where
         → output ≡ failed (device_line (mod_file path latest)) → new.refused ≡ old.refused ++ mod_file path latest ∷ []
         → IsRunOutcome (VersionsNeed path all) (IsVersionsOutcome path all) old new output
     ends_device_file list versions latest fetchable some listed latest_is asked is grown =
-        let wanted : IsWanted (VersionsNeed path all) new.asked (mod_file path latest) = file_wanted list versions latest fetchable some listed latest_is asked in
+        let wanted : IsWanted (VersionsNeed path all) (mod_file path latest) new.asked = file_wanted list versions latest fetchable some listed latest_is asked in
         inr (mod_file path latest, is, wanted.0, wanted.1, grown)
 
     both_list : (list latest : List ℕ) (reply : Reply) → new.asked ≡ (list_file path, bytes list) ∷ (mod_file path latest, reply) ∷ []
@@ -287,7 +282,7 @@ module _ (path : List ℕ) (all : Bool) (may : Name → Reply → Type 0) (old :
         comes = inl (ends_unfetchable path all old new (report_outcome told) no_path still is);
         device = unrefused old new (report_outcome told) still;
         no_list = λ other refusal. is ∙ sym (refused_first path new.asked other none refusal).1;
-        in_turn = none_in_turn path all new.asked none;
+        in_turn = none_in_turn (VersionsNeed path all) new.asked none;
         fails = inl still;
         answers = none_allowed may new.asked none;
       }
@@ -297,7 +292,7 @@ module _ (path : List ℕ) (all : Bool) (may : Name → Reply → Type 0) (old :
         comes = inl (ends_device_list path all old new (report_outcome told) fetchable none is grown);
         device = refused_on old new (report_outcome told) (list_file path) is grown;
         no_list = none_refused path new.asked (report_outcome told) fetchable none;
-        in_turn = none_in_turn path all new.asked none;
+        in_turn = none_in_turn (VersionsNeed path all) new.asked none;
         fails = inr (list_file path, (fetchable, inl refl), ap (λ (a : Pairs). answer_in a (list_file path)) none, grown);
         answers = none_allowed may new.asked none;
       }
@@ -307,7 +302,7 @@ module _ (path : List ℕ) (all : Bool) (may : Name → Reply → Type 0) (old :
         comes = inr is;
         device = unrefused old new (report_outcome told) still;
         no_list = none_refused path new.asked (report_outcome told) fetchable none;
-        in_turn = none_in_turn path all new.asked none;
+        in_turn = none_in_turn (VersionsNeed path all) new.asked none;
         fails = inl still;
         answers = none_allowed may new.asked none;
       }
@@ -364,7 +359,7 @@ module _ (path : List ℕ) (all : Bool) (may later : Name → Reply → Type 0) 
   latest_run versions latest outcome listed greatest (inr (inl (is, asked, grown))) =
       let alone : new.asked ≡ (list_file path, bytes list) ∷ [] = asked ∙ list_alone in
       let more : new.refused ≡ old.refused ++ mod_file path latest ∷ [] = grown ∙ ap (λ (names : List Name). names ++ mod_file path latest ∷ []) answered.2 in
-      let wanted : IsWanted (VersionsNeed path all) new.asked (mod_file path latest) =
+      let wanted : IsWanted (VersionsNeed path all) (mod_file path latest) new.asked =
       file_wanted path all old new outcome list versions latest fetchable some listed greatest alone in
       record {
         comes = inl (ends_device_file path all old new outcome list versions latest fetchable some listed greatest alone is more);

@@ -1,6 +1,7 @@
 -- Laws of runs, which follow from the definitions alone.
 use Rattle.std.specs.Prelude.{◌≡◌, ◌⊎◌, ◌∷◌, ℕ, List, [], Option, codes}
 use Rattle.gm_graph_listing.specs.Laws.{AnswerAlike}
+use Rattle.gm_graph_listing.specs.Needs.{AnswersByName}
 use Rattle.gm_report.specs.Outcome.{Outcome, printed, out_of_memory}
 use Rattle.gomod_words.specs.Usage.{version_line}
 use Rattle.gomod_words.specs.declared.usage.Command.{Command}
@@ -8,7 +9,6 @@ use Rattle.gomod_run.specs.Program.{IsWordsOutcome, anything}
 use Rattle.gomod_run.specs.Queries.{RunsTo}
 use Rattle.gm_store.specs.States.{StoreState}
 use Rattle.gomod_run.specs.Runs.{StatesOutcome}
-use Rattle.gomod_run.specs.Versions.{AnswersByName}
 
 -- `fmt`, `edit` and `versions`: the outcome is a function of what is read and of what a store answers
 abbrev pub OneStated : Type 0

@@ -3,7 +3,6 @@ pub mod Editing
 pub mod Held
 pub mod Laws
 pub mod Listing
-pub mod Needs
 pub mod Program
 pub mod Queries
 pub mod Reads

@@ -18,13 +18,13 @@ use Rattle.gomod_words.specs.declared.usage.Places.{Places}
 use Rattle.gomod_words.specs.declared.usage.UsageFault.{UsageFault}
 use Rattle.gomod_words.specs.declared.usage.UsageFault.TheVariants as usage
 use Rattle.gm_graph_listing.specs.Outcomes.{Answers as Told, given, longest}
+use Rattle.gm_graph_listing.specs.Needs.{AnswersByName}
 use Rattle.gm_report.specs.Outcome.{Outcome, code_of, failed, out_of_memory, printed}
 use Rattle.gm_report.specs.Reports.{cannot_read_line, device_line}
 use Rattle.gomod_run.specs.declared.ending.Ending.{Ending}
 use Rattle.gomod_run.specs.declared.ending.Ending.TheVariants.{Run, Usage}
 use Rattle.gomod_run.specs.Runs.{Needs, StatesOutcome}
 use Rattle.gomod_run.specs.Queries.{IsQueryOutcome}
-use Rattle.gomod_run.specs.Versions.{AnswersByName}
 
 -- the report of a usage error, which no run ends with
 abbrev pub usage_error : List ℕ → Outcome

@@ -1,7 +1,6 @@
 -- The outcomes of `graph`, `list` and `chain`, and of each command.
-use Rattle.std.specs.Prelude.{◌≡◌, ◌++◌, ℕ, List, Option}
-use Rattle.gm_store.specs.Asked.{Name}
-use Rattle.gm_graph_listing.specs.Outcomes.{Given, IsChainOutcome, IsGraphOutcome, IsListOutcome, answers, given}
+use Rattle.std.specs.Prelude.{ℕ, List, Option}
+use Rattle.gm_graph_listing.specs.Outcomes.{Given, IsAnswerOver, IsChainOutcome, IsGraphOutcome, IsListOutcome, PrintsChain, PrintsGraph, PrintsList}
 use Rattle.gm_report.specs.Outcome.{Outcome}
 use Rattle.gomod_words.specs.declared.usage.Command.{Command}
 use Rattle.gomod_words.specs.declared.usage.Command.TheVariants.{Fmt, Edit, Versions, Graph, List as Rows, Chain}
@@ -17,14 +16,6 @@ IsQueryOutcome Graph run outcome = IsGraphOutcome run outcome
 IsQueryOutcome (Rows after limit) run outcome = IsListOutcome after limit run outcome
 IsQueryOutcome (Chain path) run outcome = IsChainOutcome path run outcome
 
--- a query on a module graph, over the main file's bytes, those of a go.sum where one is given, and a store: given
--- the files that the store was asked for, its answers, and the files at which its device failed in the run
-abbrev pub AnswersQuery : Command → List ℕ → Option (List ℕ) → StoreState → StoreState → Outcome → Type 0
-AnswersQuery command main sums old new outcome =
-    (failed : List Name)
-    × (new.refused ≡ old.refused ++ failed)
-    × IsQueryOutcome command (given main sums (answers new.asked failed)) outcome
-
 -- the outcomes of a run of a command
 abbrev pub RunsTo : Command → List ℕ → Option (List ℕ) → StoreState → StoreState → Outcome → Type 0
 RunsTo Fmt main sums old new outcome = IsRunOutcome (Needs Fmt main sums) (StatesOutcome Fmt main sums) old new outcome
@@ -32,6 +23,6 @@ RunsTo (Edit operations) main sums old new outcome =
     IsRunOutcome (Needs (Edit operations) main sums) (StatesOutcome (Edit operations) main sums) old new outcome
 RunsTo (Versions path all) main sums old new outcome =
     IsRunOutcome (Needs (Versions path all) main sums) (StatesOutcome (Versions path all) main sums) old new outcome
-RunsTo Graph main sums old new outcome = AnswersQuery Graph main sums old new outcome
-RunsTo (Rows after limit) main sums old new outcome = AnswersQuery (Rows after limit) main sums old new outcome
-RunsTo (Chain path) main sums old new outcome = AnswersQuery (Chain path) main sums old new outcome
+RunsTo Graph main sums old new outcome = IsAnswerOver PrintsGraph main sums old new outcome
+RunsTo (Rows after limit) main sums old new outcome = IsAnswerOver (PrintsList after limit) main sums old new outcome
+RunsTo (Chain path) main sums old new outcome = IsAnswerOver (PrintsChain path) main sums old new outcome

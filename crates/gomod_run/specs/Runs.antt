@@ -1,7 +1,7 @@
 -- The outcome of a command, given what was read and answered, and the files that it asks a store for.
 use Rattle.std.specs.Prelude.{◌≡◌, ◌⊎◌, ◌++◌, ◌∷◌, ℕ, Bool, List, [], Option, Some, None, Ok, Err, false, true}
 use Rattle.gm_store.specs.States.{StoreState}
-use Rattle.gm_store.specs.Asked.{Name, Reply, answer_in}
+use Rattle.gm_store.specs.Asked.{Name, answer_in}
 use Rattle.gm_syntax.specs.declared.fault.SyntaxFault.{SyntaxFault}
 use Rattle.gm_syntax.specs.Document.{Line}
 use Rattle.gm_syntax.specs.Layout.{layout}
@@ -10,12 +10,12 @@ use Rattle.gm_syntax.specs.Parsed.{IsParsedAs}
 use Rattle.gm_syntax.specs.Tokens.{Placed}
 use Rattle.gm_report.specs.Outcome.{Outcome, failed, printed, refused}
 use Rattle.gm_report.specs.Reports.{FaultPlace, device_line, main_line, syntax_place}
+use Rattle.gm_graph_listing.specs.Needs.{AnsweredAll, AnswersByName, GraphNeeds}
 use Rattle.gomod_words.specs.Usage.{texts_in}
 use Rattle.gomod_words.specs.declared.usage.Command.{Command}
 use Rattle.gomod_words.specs.declared.usage.Command.TheVariants.{Fmt, Edit, Versions, Graph, List as Rows, Chain}
 use Rattle.gomod_run.specs.Editing.{IsEditOutcome}
-use Rattle.gomod_run.specs.Needs.{GraphNeeds}
-use Rattle.gomod_run.specs.Versions.{AnswersByName, IsVersionsOutcome, VersionsNeed}
+use Rattle.gomod_run.specs.Versions.{IsVersionsOutcome, VersionsNeed}
 
 -- `fmt FILE` over the bytes of the file: the layout of the document, or the report of its syntax fault
 abbrev pub IsFmtOutcome : List ℕ → Outcome → Type 0
@@ -60,31 +60,6 @@ takes_sums Fmt = false
 takes_sums (Edit operations) = false
 takes_sums (Versions path all) = false
 takes_sums _ = true
-
--- ---- what a store was asked in a run
-
--- each of the later files was needed by the answers before it, and had not been asked for before
-abbrev pub AskedAfter : (AnswersByName → Name → Type 0) → List (Name × Reply) → List (Name × Reply) → Type 0
-AskedAfter needs before [] = Unit {0}
-AskedAfter needs before (pair ∷ later) =
-    needs (answer_in before) pair.0 × (answer_in before pair.0 ≡ None) × AskedAfter needs (before ++ pair ∷ []) later
-
--- each file was needed by the answers before it, and asked for once
-abbrev pub AskedInTurn : (AnswersByName → Name → Type 0) → List (Name × Reply) → Type 0
-AskedInTurn needs asked = AskedAfter needs [] asked
-
--- each file that the answers call for is answered
-abbrev pub AnsweredAll : (AnswersByName → Name → Type 0) → AnswersByName → Type 0
-AnsweredAll needs answers = (name : Name) → needs answers name → (reply : Reply) × (answers name ≡ Some reply)
-
--- the device failed at no file, or at one that the answers need and that is not among them
-abbrev pub FailsInTurn : (AnswersByName → Name → Type 0) → StoreState → StoreState → Type 0
-FailsInTurn needs old new =
-    (new.refused ≡ old.refused)
-    ⊎ ((name : Name)
-    × needs (answer_in new.asked) name
-    × (answer_in new.asked name ≡ None)
-    × (new.refused ≡ old.refused ++ name ∷ []))
 
 -- a run over a store that had not been asked before: the outcome that its answers give, if all that is needed was
 -- answered; or the report that the device failed at a file that was needed and not answered

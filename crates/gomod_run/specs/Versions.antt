@@ -1,6 +1,6 @@
 -- The outcome of `versions`: Go Modules Reference, GOPROXY protocol (`$module/@v/list`, `$module/@v/$version.mod`),
 -- and the retract directive.
-use Rattle.std.specs.Prelude.{◌≡◌, ◌⊎◌, ◌++◌, ◌∷◌, ℕ, Bool, List, [], Option, Some, None, Result, Ok, Err, codes, true, false}
+use Rattle.std.specs.Prelude.{◌≡◌, ◌⊎◌, ◌++◌, ◌∷◌, ℕ, Bool, List, [], Some, None, Result, Ok, Err, codes, true, false}
 use Rattle.std.specs.List.{join_with_byte}
 use Rattle.gm_name.specs.Path.{is_fetchable}
 use Rattle.gm_store.specs.Asked.{Name, Reply, absent, bytes, list_file, mod_file, too_long}
@@ -12,10 +12,7 @@ use Rattle.gm_graph_cache.specs.declared.class.Class.{Class}
 use Rattle.gm_graph_cache.specs.Reading.{IsFileReading}
 use Rattle.gm_report.specs.Outcome.{Outcome, printed, refused}
 use Rattle.gm_report.specs.Reports.{fault_line, list_line}
-
--- what a store answered
-abbrev pub AnswersByName : Type 0
-AnswersByName = Name → Option Reply
+use Rattle.gm_graph_listing.specs.Needs.{AnswersByName}
 
 -- the path and the versions, separated by single spaces
 abbrev pub versions_line : List ℕ → List (List ℕ) → List ℕ

@@ -14,9 +14,10 @@ ghost use Rattle.gm_graph_cache.specs.Summaries.{reading_of};
 ghost use Rattle.gm_report.specs.Outcome.{OrNoMemory, Outcome, failed, out_of_memory, outcome_view, report_outcome};
 ghost use Rattle.gm_report.specs.Reports.{device_line};
 ghost use Rattle.gm_store.specs.Latest.{IsLatest};
+ghost use Rattle.gm_graph_listing.specs.Needs.{AskedInTurn, FailsInTurn};
 ghost use Rattle.gomod_run.specs.Asking.{IsLatestAsked};
 ghost use Rattle.gomod_run.specs.Listing.{IsAllOutcome, IsListAsked, IsShownAsked};
-ghost use Rattle.gomod_run.specs.Runs.{AskedInTurn, IsRunOutcome, FailsInTurn};
+ghost use Rattle.gomod_run.specs.Runs.{IsRunOutcome};
 ghost use Rattle.gomod_run.specs.Versions.{IsEndByList, IsRefusedList, IsShownOutcome, IsVersionsOutcome, VersionsNeed, versions_line};
 
 use crate::asking::{ask_for, last_answer};

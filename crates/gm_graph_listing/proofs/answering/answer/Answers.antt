@@ -2,7 +2,9 @@ use Rattle.std.proofs.lemmas.Result.{err_from_is_err_and}
 use Rattle.std.specs.Option.{option_copied}
 use Rattle.gm_graph_cache.specs.Main.{main_of}
 use Rattle.gm_report.specs.Outcome.{outcome_view}
-use Rattle.gm_graph_listing.proofs.CommandOutcomes.{answered, both_ok, broken, load_counts, load_fails, not_broken, not_loaded, over_fails, refused_read, unasked}
+use Rattle.gm_graph_listing.specs.Needs.{GraphNeeds}
+use Rattle.gm_graph_listing.proofs.CommandOutcomes.{answered, both_ok, broken, load_counts, not_broken, not_loaded, refused_read, unasked}
+use Rattle.gm_graph_listing.proofs.InTurn.{due_in_turn, load_fails, none_in_turn}
 use Rattle.gm_graph_listing.proofs.answering.answer.Goals as goal
 
 pub returns-in_err-read-clause-comes : goal.returns-in_err-read-clause-comes
@@ -14,6 +16,10 @@ returns-in_err-read-clause-comes g c =
 
 pub returns-in_err-read-clause-device : goal.returns-in_err-read-clause-device
 returns-in_err-read-clause-device g c = λ name grown. unasked (g.F.Files.state c.args.files.now) name grown
+
+pub returns-in_err-read-clause-asks : goal.returns-in_err-read-clause-asks
+returns-in_err-read-clause-asks g c =
+    none_in_turn (GraphNeeds c.args.file.now (option_copied c.args.sums)) (g.F.Files.state c.args.files.now).asked c.requires
 
 pub returns-in_err-loaded-clause-comes : goal.returns-in_err-loaded-clause-comes
 returns-in_err-loaded-clause-comes g c =
@@ -32,14 +38,19 @@ returns-in_err-loaded-clause-device g c = λ name grown.
     (broken (g.F.Files.state c.args.files.now) (g.F.Files.state c.load.new.files) c.load.result c.in_err-loaded.field-0.0 name
     c.in_err-loaded.was c.load.ensures.refused grown)
 
+pub returns-in_err-loaded-clause-asks : goal.returns-in_err-loaded-clause-asks
+returns-in_err-loaded-clause-asks g c =
+    let load = rw c.as_ref.ensures.value at c.load.ensures in
+    due_in_turn c.args.file.now (option_copied c.args.sums) (main_of c.in_ok-read.read.main) c.in_ok-read.read.table
+    (both_ok c.args.file.now (option_copied c.args.sums) c.read_files.result c.in_ok-read.read c.in_ok-read.was c.read_files.ensures)
+    load.asks
+
 pub returns-in_err-loaded-clause-fails : goal.returns-in_err-loaded-clause-fails
 returns-in_err-loaded-clause-fails g c =
     let load = rw c.as_ref.ensures.value at c.load.ensures in
-    over_fails c.args.file.now (option_copied c.args.sums) (main_of c.in_ok-read.read.main) c.in_ok-read.read.table
-    (g.F.Files.state c.args.files.now) (g.F.Files.state c.load.new.files)
+    load_fails c.args.file.now (option_copied c.args.sums) (main_of c.in_ok-read.read.main) c.in_ok-read.read.table
     (both_ok c.args.file.now (option_copied c.args.sums) c.read_files.result c.in_ok-read.read c.in_ok-read.was c.read_files.ensures)
-    (load_fails (main_of c.in_ok-read.read.main) c.in_ok-read.read.table (g.F.Files.state c.args.files.now) (g.F.Files.state c.load.new.files)
-    c.load.result load.refused load.device)
+    (g.F.Files.state c.args.files.now) (g.F.Files.state c.load.new.files) c.load.result load.refused load.device
 
 pub returns-in_err-loaded-clause-cause : goal.returns-in_err-loaded-clause-cause
 returns-in_err-loaded-clause-cause g c =
@@ -59,14 +70,19 @@ returns-clause-device g c = λ name grown.
     not_broken (g.F.Files.state c.args.files.now) (g.F.Files.state c.load.new.files) c.load.result c.in_ok-loaded.loaded name
     c.in_ok-loaded.was c.load.ensures.refused grown
 
+pub returns-clause-asks : goal.returns-clause-asks
+returns-clause-asks g c =
+    let load = rw c.as_ref.ensures.value at c.load.ensures in
+    due_in_turn c.args.file.now (option_copied c.args.sums) (main_of c.in_ok-read.read.main) c.in_ok-read.read.table
+    (both_ok c.args.file.now (option_copied c.args.sums) c.read_files.result c.in_ok-read.read c.in_ok-read.was c.read_files.ensures)
+    load.asks
+
 pub returns-clause-fails : goal.returns-clause-fails
 returns-clause-fails g c =
     let load = rw c.as_ref.ensures.value at c.load.ensures in
-    over_fails c.args.file.now (option_copied c.args.sums) (main_of c.in_ok-read.read.main) c.in_ok-read.read.table
-    (g.F.Files.state c.args.files.now) (g.F.Files.state c.load.new.files)
+    load_fails c.args.file.now (option_copied c.args.sums) (main_of c.in_ok-read.read.main) c.in_ok-read.read.table
     (both_ok c.args.file.now (option_copied c.args.sums) c.read_files.result c.in_ok-read.read c.in_ok-read.was c.read_files.ensures)
-    (load_fails (main_of c.in_ok-read.read.main) c.in_ok-read.read.table (g.F.Files.state c.args.files.now) (g.F.Files.state c.load.new.files)
-    c.load.result load.refused load.device)
+    (g.F.Files.state c.args.files.now) (g.F.Files.state c.load.new.files) c.load.result load.refused load.device
 
 pub returns-clause-cause : goal.returns-clause-cause
 returns-clause-cause g c =

@@ -1,8 +1,6 @@
 use Rattle.std.proofs.Common.{◌≡◌, ℕ, List, subst}
-use Rattle.std.specs.Option.{option_map}
 use Rattle.gm_store.specs.Asked.{answer_in}
 use Rattle.gomod_run.specs.Versions.{IsRefusedList}
-use Rattle.gomod_run.proofs.InTurn.{fails_in_turn, in_turn}
 use Rattle.gomod_run.proofs.outcome.outcome.Goals as goal
 
 pub returns-in-Versions-clause-comes : goal.returns-in-Versions-clause-comes
@@ -27,22 +25,22 @@ pub returns-in-Chain-clause-comes : goal.returns-in-Chain-clause-comes
 returns-in-Chain-clause-comes g c = rw c.in-Chain.is c.answer-in-Chain.ensures.comes
 
 pub returns-in-Graph-clause-in_turn : goal.returns-in-Graph-clause-in_turn
-returns-in-Graph-clause-in_turn g c = rw c.in-Graph.is (in_turn c.args.main.now (option_map (λ sums. sums.now) c.args.sums) (g.F.Files.state c.answer.new.files).asked c.answer.ensures.asks)
+returns-in-Graph-clause-in_turn g c = rw c.in-Graph.is c.answer.ensures.asks
 
 pub returns-in-List-clause-in_turn : goal.returns-in-List-clause-in_turn
-returns-in-List-clause-in_turn g c = rw c.in-List.is (in_turn c.args.main.now (option_map (λ sums. sums.now) c.args.sums) (g.F.Files.state c.answer-in-List.new.files).asked c.answer-in-List.ensures.asks)
+returns-in-List-clause-in_turn g c = rw c.in-List.is c.answer-in-List.ensures.asks
 
 pub returns-in-Chain-clause-in_turn : goal.returns-in-Chain-clause-in_turn
-returns-in-Chain-clause-in_turn g c = rw c.in-Chain.is (in_turn c.args.main.now (option_map (λ sums. sums.now) c.args.sums) (g.F.Files.state c.answer-in-Chain.new.files).asked c.answer-in-Chain.ensures.asks)
+returns-in-Chain-clause-in_turn g c = rw c.in-Chain.is c.answer-in-Chain.ensures.asks
 
 pub returns-in-Versions-clause-fails : goal.returns-in-Versions-clause-fails
 returns-in-Versions-clause-fails g c = rw c.in-Versions.is c.versions_outcome.ensures.fails
 
 pub returns-in-Graph-clause-fails : goal.returns-in-Graph-clause-fails
-returns-in-Graph-clause-fails g c = rw c.in-Graph.is (fails_in_turn c.args.main.now (option_map (λ sums. sums.now) c.args.sums) (g.F.Files.state c.args.files.now) (g.F.Files.state c.answer.new.files) c.answer.ensures.fails)
+returns-in-Graph-clause-fails g c = rw c.in-Graph.is c.answer.ensures.fails
 
 pub returns-in-List-clause-fails : goal.returns-in-List-clause-fails
-returns-in-List-clause-fails g c = rw c.in-List.is (fails_in_turn c.args.main.now (option_map (λ sums. sums.now) c.args.sums) (g.F.Files.state c.args.files.now) (g.F.Files.state c.answer-in-List.new.files) c.answer-in-List.ensures.fails)
+returns-in-List-clause-fails g c = rw c.in-List.is c.answer-in-List.ensures.fails
 
 pub returns-in-Chain-clause-fails : goal.returns-in-Chain-clause-fails
-returns-in-Chain-clause-fails g c = rw c.in-Chain.is (fails_in_turn c.args.main.now (option_map (λ sums. sums.now) c.args.sums) (g.F.Files.state c.args.files.now) (g.F.Files.state c.answer-in-Chain.new.files) c.answer-in-Chain.ensures.fails)
+returns-in-Chain-clause-fails g c = rw c.in-Chain.is c.answer-in-Chain.ensures.fails
