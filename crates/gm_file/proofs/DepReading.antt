@@ -18,7 +18,7 @@ use Rattle.gm_file.specs.declared.fault.LineFault.TheVariants as line
 use Rattle.gm_file.specs.declared.fields.Fields.{Fields}
 use Rattle.gm_file.specs.declared.replace.Interval.{Interval}
 use Rattle.gm_file.specs.DepLines.{AreAllRead, AreDepLines, HasNextFault, IsDependencyIn, IsMisread}
-use Rattle.gm_file.specs.Directives.{Item, Lax, Pair, block_after_line, item_at}
+use Rattle.gm_file.specs.Directives.{Item, Lax, VersionInterval, block_after_line, item_at}
 use Rattle.gm_file.specs.Faults.{fault_of}
 use Rattle.gm_file.specs.Fields.{Dependency}
 use Rattle.gm_file.specs.Holding.{AreFound, AreReadTo, Holds, IsLineAdded}
@@ -100,4 +100,4 @@ pub level-more : (lines : List (Line Word)) (here : Line Word) (item : Item) (ol
 level-more lines here item old block is none so added after =
     let intervals = interval_views old.retracts.items in
     dep-more lines here (word_of old.block) old (record old { block = block }) so refl so.read.read.found (subst (λ (i : Item). IsLineAdded Lax old.fields old.fields i (Ok tt)) (sym is) added)
-    (sym (ap (λ (o : Option Pair). intervals ++ option_to_list o) (ap retraction_at is ∙ none) ∙ append-nil intervals)) after
+    (sym (ap (λ (o : Option VersionInterval). intervals ++ option_to_list o) (ap retraction_at is ∙ none) ∙ append-nil intervals)) after

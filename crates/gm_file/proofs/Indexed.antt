@@ -7,19 +7,18 @@ use Rattle.std.proofs.lemmas.List.Folds.{find-append, list_any-append}
 use Rattle.std.proofs.lemmas.List.{map-append}
 use Rattle.std.specs.BTreeMap as map
 use Rattle.std.specs.Map.{lookup}
-use Rattle.std.specs.Cmp.Lexicographic.{nat_list_eq_equiv, same_text}
+use Rattle.std.specs.Cmp.Lexicographic.{nat_list_eq_equiv, same_text, slice_cmp}
 use Rattle.std.specs.List.{list_any}
 use Rattle.std.specs.Ordering.{is_eq, nat_cmp}
 use Rattle.std.specs.Str.{bytes_eq}
 use Rattle.std.specs.declared.cmp.Ordering.{Ordering}
 use Rattle.std.proofs.lemmas.Map.Text.{is_eq-slice_cmp}
-use Rattle.std.specs.Cmp.Lexicographic.{slice_cmp}
-use Rattle.gm_name.specs.PairOrder.{pair_cmp, pair_ties}
+use Rattle.gm_name.specs.ModuleVersion.{ModuleVersion, pair_cmp, pair_ties}
 use Rattle.gm_file.specs.declared.fault.LineFault.{LineFault}
 use Rattle.gm_file.specs.declared.fault.LineFault.TheVariants as fault
 use Rattle.gm_file.specs.declared.replace.Replace.{Replace}
 use Rattle.gm_file.specs.declared.replace.Right as declared
-use Rattle.gm_file.specs.Directives.{Pair, pair, Left, Right, Folder, Module, Replacing, replacing, left_with, left_without}
+use Rattle.gm_file.specs.Directives.{pair, Left, Right, Folder, Module, Replacing, replacing, left_with, left_without}
 use Rattle.gm_file.specs.Faults.{is_conflict, is_same_left, is_same_right, is_same_version}
 use Rattle.gm_file.specs.Fields.{right_for}
 use Rattle.gm_file.specs.Indexes.{IndexLines, IsInserted, IsNoted, ReportsConflict, differs, right_at}
@@ -188,7 +187,7 @@ agree-snoc rs x agree none y =
     (λ same r is. not-differs x.1 (right_for rs x.0) none r (ap (right_for rs) (sym (same-left y.0 x.0 same)) ∙ is))
     ∙ ap (differs y.1) (sym (right-for-snoc rs x y.0))
 
-pair-left-ties : (a b : Pair) → is_eq (pair_cmp a b) ≡ is_same_left (left_with a.0 a.1) (left_with b.0 b.1)
+pair-left-ties : (a b : ModuleVersion) → is_eq (pair_cmp a b) ≡ is_same_left (left_with a.0 a.1) (left_with b.0 b.1)
 pair-left-ties a b = sym (pair_ties a b)
 
 and-true : (a : Bool) → (a && true) ≡ a
@@ -205,7 +204,7 @@ path-left-ties a b = is_eq-slice_cmp a b ∙ sym (and-true (bytes_eq a b))
 seen-snoc : (old : List Replace) (replace : Replace) → replace_views (old ++ replace ∷ []) ≡ replace_views old ++ replace_view replace ∷ []
 seen-snoc old replace = map-append replace_view old (replace ∷ [])
 
-version-lines : (rs : List Replacing) (ov nv : map.BTreeMap Pair declared.Right) (op : map.BTreeMap (List ℕ) declared.Right) (key : Pair) (right : Right)
+version-lines : (rs : List Replacing) (ov nv : map.BTreeMap ModuleVersion declared.Right) (op : map.BTreeMap (List ℕ) declared.Right) (key : ModuleVersion) (right : Right)
     → IndexLines rs ov op → IsNoted pair_cmp ov nv key right (Ok tt) → IndexLines (rs ++ (left_with key.0 key.1, right) ∷ []) nv op
 version-lines rs ov nv op key right index told = record {
   versions = noted pair_cmp (λ q. left_with q.0 q.1) pair-left-ties ov nv rs key right index.versions told;
@@ -213,7 +212,7 @@ version-lines rs ov nv op key right index told = record {
   agree = agree-snoc rs (left_with key.0 key.1, right) index.agree (noted-agrees pair_cmp (λ q. left_with q.0 q.1) pair-left-ties ov nv rs key right index.versions told);
 }
 
-path-lines : (rs : List Replacing) (ov : map.BTreeMap Pair declared.Right) (op np : map.BTreeMap (List ℕ) declared.Right) (key : List ℕ) (right : Right)
+path-lines : (rs : List Replacing) (ov : map.BTreeMap ModuleVersion declared.Right) (op np : map.BTreeMap (List ℕ) declared.Right) (key : List ℕ) (right : Right)
     → IndexLines rs ov op → IsNoted (slice_cmp nat_cmp) op np key right (Ok tt) → IndexLines (rs ++ (left_without key, right) ∷ []) ov np
 path-lines rs ov op np key right index told = record {
   versions = λ q. index.versions q ∙ sym (others-stay rs (left_without key, right) (left_with q.0 q.1) (and-false (bytes_eq q.0 key)));
@@ -222,11 +221,11 @@ path-lines rs ov op np key right index told = record {
 }
 
 -- the line that replaces one version
-version-line : (replace : Replace) (version : List ℕ) (key : Pair) → replace.version ≡ Some version → key ≡ pair replace.left version
+version-line : (replace : Replace) (version : List ℕ) (key : ModuleVersion) → replace.version ≡ Some version → key ≡ pair replace.left version
     → replacing (left_with key.0 key.1) (right_view replace.right) ≡ replace_view replace
 version-line replace version key is-version is-key =
     let right = right_view replace.right in
-    ap (λ (k : Pair). replacing (left_with k.0 k.1) right) is-key ∙ ap (λ (v : Option (List ℕ)). replacing (left_by replace.left v) right) (sym is-version)
+    ap (λ (k : ModuleVersion). replacing (left_with k.0 k.1) right) is-key ∙ ap (λ (v : Option (List ℕ)). replacing (left_by replace.left v) right) (sym is-version)
 
 -- the line that replaces a whole path
 path-line : (replace : Replace) (key : List ℕ) → replace.version ≡ None → key ≡ replace.left → replacing (left_without key) (right_view replace.right) ≡ replace_view replace
@@ -235,7 +234,7 @@ path-line replace key is-version is-key =
     ap (λ (k : List ℕ). replacing (left_without k) right) is-key ∙ ap (λ (v : Option (List ℕ)). replacing (left_by replace.left v) right) (sym is-version)
 
 -- one more line, which replaces one version
-pub version-indexed : (old : List Replace) (replace : Replace) (version : List ℕ) (ov nv : map.BTreeMap Pair declared.Right) (op : map.BTreeMap (List ℕ) declared.Right) (key : Pair) (r : Result (Unit {0}) LineFault)
+pub version-indexed : (old : List Replace) (replace : Replace) (version : List ℕ) (ov nv : map.BTreeMap ModuleVersion declared.Right) (op : map.BTreeMap (List ℕ) declared.Right) (key : ModuleVersion) (r : Result (Unit {0}) LineFault)
     → replace.version ≡ Some version → key ≡ pair replace.left version → IndexLines (replace_views old) ov op
     → IsNoted pair_cmp ov nv key (right_view replace.right) r → OnOk r (IndexLines (replace_views old ++ replace_view replace ∷ []) nv op)
 version-indexed old replace version ov nv op key (Err f) is-version is-key index told = tt
@@ -243,7 +242,7 @@ version-indexed old replace version ov nv op key (Ok u) is-version is-key index 
     subst (λ (x : Replacing). IndexLines (replace_views old ++ x ∷ []) nv op) (version-line replace version key is-version is-key)
     (version-lines (replace_views old) ov nv op key (right_view replace.right) index told)
 
-pub version-conflict : (old : List Replace) (replace : Replace) (version : List ℕ) (ov nv : map.BTreeMap Pair declared.Right) (op : map.BTreeMap (List ℕ) declared.Right) (key : Pair) (r : Result (Unit {0}) LineFault)
+pub version-conflict : (old : List Replace) (replace : Replace) (version : List ℕ) (ov nv : map.BTreeMap ModuleVersion declared.Right) (op : map.BTreeMap (List ℕ) declared.Right) (key : ModuleVersion) (r : Result (Unit {0}) LineFault)
     → replace.version ≡ Some version → key ≡ pair replace.left version → IndexLines (replace_views old) ov op
     → IsNoted pair_cmp ov nv key (right_view replace.right) r → ReportsConflict (replace_view replace) (replace_views old) r
 version-conflict old replace version ov nv op key r is-version is-key index told =
@@ -251,7 +250,7 @@ version-conflict old replace version ov nv op key r is-version is-key index told
     (noted-conflict pair_cmp (λ q. left_with q.0 q.1) pair-left-ties ov nv (replace_views old) key (right_view replace.right) index.versions index.agree r told)
 
 -- one more line, which replaces a whole path
-pub path-indexed : (old : List Replace) (replace : Replace) (ov : map.BTreeMap Pair declared.Right) (op np : map.BTreeMap (List ℕ) declared.Right) (key : List ℕ) (r : Result (Unit {0}) LineFault)
+pub path-indexed : (old : List Replace) (replace : Replace) (ov : map.BTreeMap ModuleVersion declared.Right) (op np : map.BTreeMap (List ℕ) declared.Right) (key : List ℕ) (r : Result (Unit {0}) LineFault)
     → replace.version ≡ None → key ≡ replace.left → IndexLines (replace_views old) ov op
     → IsNoted (slice_cmp nat_cmp) op np key (right_view replace.right) r → OnOk r (IndexLines (replace_views old ++ replace_view replace ∷ []) ov np)
 path-indexed old replace ov op np key (Err f) is-version is-key index told = tt
@@ -259,7 +258,7 @@ path-indexed old replace ov op np key (Ok u) is-version is-key index told =
     subst (λ (x : Replacing). IndexLines (replace_views old ++ x ∷ []) ov np) (path-line replace key is-version is-key)
     (path-lines (replace_views old) ov op np key (right_view replace.right) index told)
 
-pub path-conflict : (old : List Replace) (replace : Replace) (ov : map.BTreeMap Pair declared.Right) (op np : map.BTreeMap (List ℕ) declared.Right) (key : List ℕ) (r : Result (Unit {0}) LineFault)
+pub path-conflict : (old : List Replace) (replace : Replace) (ov : map.BTreeMap ModuleVersion declared.Right) (op np : map.BTreeMap (List ℕ) declared.Right) (key : List ℕ) (r : Result (Unit {0}) LineFault)
     → replace.version ≡ None → key ≡ replace.left → IndexLines (replace_views old) ov op
     → IsNoted (slice_cmp nat_cmp) op np key (right_view replace.right) r → ReportsConflict (replace_view replace) (replace_views old) r
 path-conflict old replace ov op np key r is-version is-key index told =

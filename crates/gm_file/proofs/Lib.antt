@@ -7,7 +7,7 @@ pub mod Entries
 pub mod First
 pub mod Snoc
 pub mod Told
-pub mod SamePairs
+pub mod Members
 pub mod Sets
 pub mod Indexed
 pub mod Saying

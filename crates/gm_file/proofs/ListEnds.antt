@@ -2,9 +2,9 @@
 use Rattle.std.proofs.Common.{◌≡◌, ◌∙◌, ◌≤◌, ℕ, Bool, true, false, List, [], ◌∷◌, ◌++◌, Some, append-nil, ap, arith, drop, length, length-append, refl, subst, sym, take}
 use Rattle.std.proofs.lemmas.List.{take-append-drop, take-append-le, take-map, take_all}
 use Rattle.std.proofs.lemmas.Option.{same_Some}
-use Rattle.gm_name_table.specs.Listed.{Appends, AreModuleNumbers, BeginsWith, NumberedList, listed, module_at, modules_at}
+use Rattle.gm_name.specs.ModuleVersion.{ModuleVersion, module_at}
+use Rattle.gm_name_table.specs.Listed.{Appends, AreModuleNumbers, BeginsWith, NumberedList, listed, modules_at}
 use Rattle.gm_name_table.proofs.Listed.{same_modules}
-use Rattle.gm_file.specs.Directives.{Pair}
 use Rattle.gm_file.specs.Requirements.{IsLonger, Requirements, items_in, list_before}
 use Rattle.gm_file.specs.declared.required.Destination.TheVariants as place
 
@@ -18,15 +18,15 @@ no_shorter {T} old new begins =
     let is = ap (λ (list : List T). length list) begins.1 in omega (arith, is, length-append old begins.0)
 
 -- What the list was before stays, if modules are put to its end.
-same_before : (old new : NumberedList) (start known : ℕ) (more : List Pair) → IsLonger old start known
+same_before : (old new : NumberedList) (start known : ℕ) (more : List ModuleVersion) → IsLonger old start known
     → Appends old new more → list_before new start known ≡ list_before old start known
 same_before old new start known more longer appends =
-    ap (λ (modules : List Pair). record { modules = modules; numbers = take start new.numbers })
+    ap (λ (modules : List ModuleVersion). record { modules = modules; numbers = take start new.numbers })
     (begun_as old.modules new.modules known longer.modules appends.numbered)
     ∙ ap (λ (numbers : List ℕ). record { modules = take known old.modules; numbers = numbers })
     (begun_as old.numbers new.numbers start longer.numbers appends.kept)
 
-still_longer : (old new : NumberedList) (start known : ℕ) (more : List Pair) → IsLonger old start known
+still_longer : (old new : NumberedList) (start known : ℕ) (more : List ModuleVersion) → IsLonger old start known
     → Appends old new more → IsLonger new start known
 still_longer old new start known more longer appends = record {
   numbers = omega (arith, longer.numbers, no_shorter old.numbers new.numbers appends.kept);
@@ -45,7 +45,7 @@ end_appends list start known longer =
       numbered = begins;
       kept = (drop start list.numbers, sym (take-append-drop start list.numbers));
       listed = sym (take-append-drop start (listed list))
-          ∙ ap (λ (before : List Pair). before ++ drop start (listed list))
+          ∙ ap (λ (before : List ModuleVersion). before ++ drop start (listed list))
           (take-map (module_at list.modules) start list.numbers
           ∙ same_modules (take known list.modules) list.modules (take start list.numbers) begins longer.below);
     }
@@ -72,15 +72,15 @@ nothing_appends list = record {
 }
 
 -- Either this module was put to the end of a list, or nothing was.
-appends_if_known : (old new : NumberedList) (pair : Pair) (is_known : Bool)
+appends_if_known : (old new : NumberedList) (pair : ModuleVersion) (is_known : Bool)
     → (is_known ≡ true → Appends old new (pair ∷ [])) → (is_known ≡ false → new ≡ old)
-    → (more : List Pair) × Appends old new more
+    → (more : List ModuleVersion) × Appends old new more
 appends_if_known old new pair true known unknown = (pair ∷ [], known refl)
 appends_if_known old new pair false known unknown =
     ([], subst (λ (list : NumberedList). Appends old list []) (sym (unknown refl)) (nothing_appends old))
 
 -- So the list is no shorter, and what it was before stays.
-pub stays_if_known : (old new : NumberedList) (start known : ℕ) (pair : Pair) (is_known : Bool) → IsLonger old start known
+pub stays_if_known : (old new : NumberedList) (start known : ℕ) (pair : ModuleVersion) (is_known : Bool) → IsLonger old start known
     → (is_known ≡ true → Appends old new (pair ∷ [])) → (is_known ≡ false → new ≡ old)
     → IsLonger new start known × (list_before new start known ≡ list_before old start known)
 stays_if_known old new start known pair is_known longer pushed unknown =
@@ -90,7 +90,7 @@ stays_if_known old new start known pair is_known longer pushed unknown =
     )
 
 -- Nothing was put to the end of a list that was cut to its old length.
-pub cut_appends : (old new cut : NumberedList) (more : List Pair) → Appends old new more
+pub cut_appends : (old new cut : NumberedList) (more : List ModuleVersion) → Appends old new more
     → AreModuleNumbers old.modules old.numbers → cut.modules ≡ new.modules
     → cut.numbers ≡ take (length old.numbers) new.numbers → Appends old cut []
 cut_appends old new cut more appends below same cut_numbers =

@@ -2,7 +2,8 @@
 use Rattle.std.proofs.Common.{◌≡◌, ◌↔◌, ℕ, Bool, true, false, List, [], ◌∷◌, Some, refl, ap}
 use Rattle.gm_file.specs.declared.fault.DirectiveKind.TheVariants.{BadPath, BadVersion, Misfit}
 use Rattle.gm_file.specs.Faults.{pair_kinds, path_kinds, unless, version_kinds}
-use Rattle.gm_file.specs.Directives.{Pair, pair}
+use Rattle.gm_file.specs.Directives.{pair}
+use Rattle.gm_name.specs.ModuleVersion.{ModuleVersion}
 use Rattle.gm_file.specs.Fields.{first}
 use Rattle.gm_name.proofs.NameTests.{fit-tested, path-tested, version-tested}
 use Rattle.gm_name.specs.Fit.{Fits}
@@ -39,7 +40,7 @@ pub pair-misfit : (path version : List ℕ) → path_kinds path ≡ [] → versi
 pair-misfit path version p v none = rw (p, v, fit-bad path version none) refl
 
 -- a valid path and a valid version, which fit or don't
-pub pair-read : (path version p v : List ℕ) (q : Pair) → Some path ≡ Some p → path_kinds p ≡ [] → Some version ≡ Some v → version_kinds v ≡ [] → q ≡ (p, v) → Fits p v
+pub pair-read : (path version p v : List ℕ) (q : ModuleVersion) → Some path ≡ Some p → path_kinds p ≡ [] → Some version ≡ Some v → version_kinds v ≡ [] → q ≡ (p, v) → Fits p v
     → (Some (pair path version) ≡ Some q) × (pair_kinds q ≡ [])
 pair-read path version p v q is-p sound-p is-v sound-v is-q fit =
     let e : path ≡ p = cc in

@@ -10,7 +10,7 @@ use Rattle.std.specs.List.{cons_option, filter_map}
 use Rattle.std.specs.Str.{bytes_eq}
 use Rattle.gm_syntax.specs.Words.{Word}
 use Rattle.gm_syntax.specs.Document.{Line}
-use Rattle.gm_file.specs.Directives.{Strict, Verb, ForModule, ForGo, ForRequire, ForExclude, ForReplace, ForRetract, ForNothing, Unknown, Pair, Directive, DeclaresModule, DeclaresGo, Requires, Excludes, Replaces, Retracts, Item, Saying, block_after_lines, block_after_line, directive_in, directive_of, directives, ends_of, item_at, main_verb, one_of, pair_of, replacing_of}
+use Rattle.gm_file.specs.Directives.{Strict, Verb, ForModule, ForGo, ForRequire, ForExclude, ForReplace, ForRetract, ForNothing, Unknown, VersionInterval, Directive, DeclaresModule, DeclaresGo, Requires, Excludes, Replaces, Retracts, Item, Saying, block_after_lines, block_after_line, directive_in, directive_of, directives, ends_of, item_at, main_verb, one_of, pair_of, replacing_of}
 use Rattle.gm_file.specs.declared.fault.DirectiveKind.{DirectiveKind}
 use Rattle.gm_file.specs.declared.fault.DirectiveKind.TheVariants.{WrongArguments}
 use Rattle.gm_file.specs.declared.fault.LineFault.TheVariants as line
@@ -60,7 +60,7 @@ not-retract text e =
 pub other-retracts : (item : Item) (verb : List ℕ) (words : List Word) → item ≡ Saying verb words → bytes_eq verb (codes "retract") ≡ false → None ≡ retraction_at item
 other-retracts item verb words is other = sym (ap retraction_at is ∙ other-verb (main_verb verb) words (not-retract verb other))
 
-and-map : (o : Option Pair) → option_and_then valid_interval (option_map Retracts o) ≡ option_and_then valid_ends o
+and-map : (o : Option VersionInterval) → option_and_then valid_interval (option_map Retracts o) ≡ option_and_then valid_ends o
 and-map None = refl
 and-map (Some ends) = refl
 
@@ -75,7 +75,7 @@ to-list : (o : Option Directive) → filter_map valid_interval (option_to_list o
 to-list None = refl
 to-list (Some d) = by (valid_interval d)
   where
-    by : (o : Option Pair) → cons_option o [] ≡ option_to_list o
+    by : (o : Option VersionInterval) → cons_option o [] ≡ option_to_list o
     by None = refl
     by (Some p) = refl
 
@@ -84,34 +84,34 @@ retracts-snoc : (lines : List (Line Word)) (line : Line Word) → lax_retracts_o
 retracts-snoc lines line =
     ap (filter_map valid_interval) (said-once Strict lines line)
     ∙ filter_map-append valid_interval (directives Strict lines) (option_to_list (directive_in Strict (item_at (block_after_lines None lines, line))))
-    ∙ ap (λ (ps : List Pair). lax_retracts_of lines ++ ps) (to-list (directive_in Strict (item_at (block_after_lines None lines, line))))
+    ∙ ap (λ (ps : List VersionInterval). lax_retracts_of lines ++ ps) (to-list (directive_in Strict (item_at (block_after_lines None lines, line))))
 
 pub not-false : (a : Bool) → not a ≡ false → a ≡ true
 not-false true e = refl
 not-false false e = cc e
 
 -- the intervals that the lines so far retract, with the verb of the block that is open after them
-pub record AreRetracted (lines : List (Line Word)) (block : Option Word) (intervals : List Pair) : Type 0 where
+pub record AreRetracted (lines : List (Line Word)) (block : Option Word) (intervals : List VersionInterval) : Type 0 where
   pub open_is : block ≡ block_after_lines None lines
   pub are : intervals ≡ lax_retracts_of lines
 
 -- after one more line
-pub retracted-more : (lines : List (Line Word)) (block : Option Word) (line : Line Word) (intervals more : List Pair) → AreRetracted lines block intervals
+pub retracted-more : (lines : List (Line Word)) (block : Option Word) (line : Line Word) (intervals more : List VersionInterval) → AreRetracted lines block intervals
     → more ≡ intervals ++ option_to_list (retraction_at (item_at (block, line))) → AreRetracted (lines ++ line ∷ []) (block_after_line block line) more
 retracted-more lines block line intervals more so is = record {
   open_is = ap (λ (b : Option Word). block_after_line b line) so.open_is ∙ sym (block-snoc None lines line);
-  are = is ∙ ap (λ (ps : List Pair). ps ++ option_to_list (retraction_at (item_at (block, line)))) so.are
+  are = is ∙ ap (λ (ps : List VersionInterval). ps ++ option_to_list (retraction_at (item_at (block, line)))) so.are
       ∙ ap (λ (b : Option Word). lax_retracts_of lines ++ option_to_list (retraction_at (item_at (b, line)))) so.open_is
       ∙ sym (retracts-snoc lines line);
 }
 
 -- an interval that was read
-pub ends-read : (part : Option Pair) (interval : Interval) → IsRead interval_view WrongArguments ends_kinds part (Ok interval) → Some (interval_view interval) ≡ option_and_then valid_ends part
+pub ends-read : (part : Option VersionInterval) (interval : Interval) → IsRead interval_view WrongArguments ends_kinds part (Ok interval) → Some (interval_view interval) ≡ option_and_then valid_ends part
 ends-read part interval read =
     sym (ap (option_and_then valid_ends) read.0 ∙ ap (λ (ks : List DirectiveKind). if length ks == 0 then Some (interval_view interval) else None) read.1)
 
 -- an interval that was refused
-pub ends-refused : (part : Option Pair) (kind : DirectiveKind) → IsRead {Y = Interval} interval_view WrongArguments ends_kinds part (Err (line.Kind kind)) → None ≡ option_and_then valid_ends part
+pub ends-refused : (part : Option VersionInterval) (kind : DirectiveKind) → IsRead {Y = Interval} interval_view WrongArguments ends_kinds part (Err (line.Kind kind)) → None ≡ option_and_then valid_ends part
 ends-refused None kind read = refl
 ends-refused (Some ends) kind read = by (ends_kinds ends) read
   where

@@ -4,12 +4,13 @@ use Rattle.std.specs.Prelude.{is_some, option_and_then}
 use Rattle.std.proofs.lemmas.List.Elements.{filter_map-append}
 use Rattle.std.proofs.lemmas.List.Folds.{list_any-append}
 use Rattle.std.specs.List.{cons_option, filter_map, list_any}
+use Rattle.gm_name.specs.ModuleVersion.{ModuleVersion}
 use Rattle.gm_file.specs.declared.fault.DirectiveKind.{DirectiveKind}
 use Rattle.gm_file.specs.declared.fault.DirectiveKind.TheVariants.{BadGo, ConflictingReplace, Repeated}
 use Rattle.gm_file.specs.declared.fault.LineFault.{LineFault}
 use Rattle.gm_file.specs.declared.fault.LineFault.TheVariants as line
 use Rattle.gm_file.specs.declared.fields.Fields.{Fields}
-use Rattle.gm_file.specs.Directives.{Mode, Pair, Replacing, Directive, DeclaresModule, DeclaresGo, Requires, Excludes, Replaces, Retracts, Kept}
+use Rattle.gm_file.specs.Directives.{Mode, VersionInterval, Replacing, Directive, DeclaresModule, DeclaresGo, Requires, Excludes, Replaces, Retracts, Kept}
 use Rattle.gm_file.specs.Faults.{conflicts, directive_kinds, go_in, is_conflict, is_go, is_module, path_kinds, unless}
 use Rattle.gm_file.specs.Fields.{as_exclusion, as_go, as_interval, as_module, as_replacing, as_requirement, first}
 use Rattle.gm_file.specs.Holding.{Holds, IsAdded, HaveFields}
@@ -73,7 +74,7 @@ is_module-given (Replaces r) = refl
 is_module-given (Retracts ends) = refl
 is_module-given Kept = refl
 
-module _ {mode : Mode} {ds : List Directive} {declared : Option (List ℕ)} {go : Option (ℕ × ℕ)} {requirements excludes : List Pair} {replaces : List Replacing} {retracts : List Pair} (say : HaveFields mode ds declared go requirements excludes replaces retracts) where
+module _ {mode : Mode} {ds : List Directive} {declared : Option (List ℕ)} {go : Option (ℕ × ℕ)} {requirements excludes : List ModuleVersion} {replaces : List Replacing} {retracts : List VersionInterval} (say : HaveFields mode ds declared go requirements excludes replaces retracts) where
   -- a directive that gives nothing to any field leaves all of them unchanged
   pub say-kept : HaveFields mode (ds ++ Kept ∷ []) declared go requirements excludes replaces retracts
   say-kept = record {
@@ -87,26 +88,26 @@ module _ {mode : Mode} {ds : List Directive} {declared : Option (List ℕ)} {go 
     retracts_are = skip as_interval ds Kept refl ∙ say.retracts_are;
   }
 
-  pub say-requirement : (p : Pair) → HaveFields mode (ds ++ Requires p ∷ []) declared go (requirements ++ p ∷ []) excludes replaces retracts
+  pub say-requirement : (p : ModuleVersion) → HaveFields mode (ds ++ Requires p ∷ []) declared go (requirements ++ p ∷ []) excludes replaces retracts
   say-requirement p = let d = Requires p in record {
     declared_is = ap first (skip as_module ds d refl) ∙ say.declared_is;
     is_declared = pass is_module ds d refl ∙ say.is_declared;
     go_is = ap (λ (ts : List (List ℕ)). option_and_then (go_in mode) (first ts)) (skip as_go ds d refl) ∙ say.go_is;
     is_given = pass is_go ds d refl ∙ say.is_given;
-    requirements_are = put as_requirement ds d p refl ∙ ap (λ (ps : List Pair). ps ++ p ∷ []) say.requirements_are;
+    requirements_are = put as_requirement ds d p refl ∙ ap (λ (ps : List ModuleVersion). ps ++ p ∷ []) say.requirements_are;
     excludes_are = skip as_exclusion ds d refl ∙ say.excludes_are;
     replaces_are = skip as_replacing ds d refl ∙ say.replaces_are;
     retracts_are = skip as_interval ds d refl ∙ say.retracts_are;
   }
 
-  pub say-exclusion : (p : Pair) → HaveFields mode (ds ++ Excludes p ∷ []) declared go requirements (excludes ++ p ∷ []) replaces retracts
+  pub say-exclusion : (p : ModuleVersion) → HaveFields mode (ds ++ Excludes p ∷ []) declared go requirements (excludes ++ p ∷ []) replaces retracts
   say-exclusion p = let d = Excludes p in record {
     declared_is = ap first (skip as_module ds d refl) ∙ say.declared_is;
     is_declared = pass is_module ds d refl ∙ say.is_declared;
     go_is = ap (λ (ts : List (List ℕ)). option_and_then (go_in mode) (first ts)) (skip as_go ds d refl) ∙ say.go_is;
     is_given = pass is_go ds d refl ∙ say.is_given;
     requirements_are = skip as_requirement ds d refl ∙ say.requirements_are;
-    excludes_are = put as_exclusion ds d p refl ∙ ap (λ (ps : List Pair). ps ++ p ∷ []) say.excludes_are;
+    excludes_are = put as_exclusion ds d p refl ∙ ap (λ (ps : List ModuleVersion). ps ++ p ∷ []) say.excludes_are;
     replaces_are = skip as_replacing ds d refl ∙ say.replaces_are;
     retracts_are = skip as_interval ds d refl ∙ say.retracts_are;
   }
@@ -123,7 +124,7 @@ module _ {mode : Mode} {ds : List Directive} {declared : Option (List ℕ)} {go 
     retracts_are = skip as_interval ds d refl ∙ say.retracts_are;
   }
 
-  pub say-interval : (ends : Pair) → HaveFields mode (ds ++ Retracts ends ∷ []) declared go requirements excludes replaces (retracts ++ ends ∷ [])
+  pub say-interval : (ends : VersionInterval) → HaveFields mode (ds ++ Retracts ends ∷ []) declared go requirements excludes replaces (retracts ++ ends ∷ [])
   say-interval ends = let d = Retracts ends in record {
     declared_is = ap first (skip as_module ds d refl) ∙ say.declared_is;
     is_declared = pass is_module ds d refl ∙ say.is_declared;
@@ -132,7 +133,7 @@ module _ {mode : Mode} {ds : List Directive} {declared : Option (List ℕ)} {go 
     requirements_are = skip as_requirement ds d refl ∙ say.requirements_are;
     excludes_are = skip as_exclusion ds d refl ∙ say.excludes_are;
     replaces_are = skip as_replacing ds d refl ∙ say.replaces_are;
-    retracts_are = put as_interval ds d ends refl ∙ ap (λ (ps : List Pair). ps ++ ends ∷ []) say.retracts_are;
+    retracts_are = put as_interval ds d ends refl ∙ ap (λ (ps : List VersionInterval). ps ++ ends ∷ []) say.retracts_are;
   }
 
   pub say-module : (path : List ℕ) → is_some declared ≡ false → HaveFields mode (ds ++ DeclaresModule path ∷ []) (Some path) go requirements excludes replaces retracts

@@ -4,8 +4,7 @@ use Rattle.std.proofs.lemmas.List.Folds.{list_any-append}
 use Rattle.std.specs.BTreeSet as set
 use Rattle.std.specs.List.{list_any}
 use Rattle.std.specs.Ordering.{is_eq}
-use Rattle.gm_name.specs.PairOrder.{pair_cmp, pair_eq, pair_ties}
-use Rattle.gm_file.specs.Directives.{Pair}
+use Rattle.gm_name.specs.ModuleVersion.{ModuleVersion, pair_cmp, pair_eq, pair_ties}
 
 or-by : (b c d : Bool) → b ≡ d → cond b true c ≡ (c || (d || false))
 or-by true true d e = refl
@@ -16,8 +15,8 @@ or-by false false true e = cc e
 or-by false false false e = refl
 
 -- the set after one more line
-pub set-with : (old new : set.BTreeSet Pair) (lines : List Pair) (p : Pair) → ((q : Pair) → set.contains pair_cmp old q ≡ list_any (λ y. pair_eq y q) lines) → set.Updates pair_cmp old new p true
-    → (q : Pair) → set.contains pair_cmp new q ≡ list_any (λ y. pair_eq y q) (lines ++ p ∷ [])
+pub set-with : (old new : set.BTreeSet ModuleVersion) (lines : List ModuleVersion) (p : ModuleVersion) → ((q : ModuleVersion) → set.contains pair_cmp old q ≡ list_any (λ y. pair_eq y q) lines) → set.Updates pair_cmp old new p true
+    → (q : ModuleVersion) → set.contains pair_cmp new q ≡ list_any (λ y. pair_eq y q) (lines ++ p ∷ [])
 set-with old new lines p same updates q =
     updates.0 q ∙ ap (λ (c : Bool). cond (is_eq (pair_cmp p q)) true c) (same q)
     ∙ or-by (is_eq (pair_cmp p q)) (list_any (λ y. pair_eq y q) lines) (pair_eq p q) (sym (pair_ties p q))

@@ -16,7 +16,7 @@ use Rattle.gm_file.specs.declared.fault.LineFault.{LineFault}
 use Rattle.gm_file.specs.declared.fault.LineFault.TheVariants as line
 use Rattle.gm_file.specs.declared.fields.Fields.{Fields}
 use Rattle.gm_file.specs.DepLines.{AreDepLines, HasNextFault, IsNextLineOf}
-use Rattle.gm_file.specs.Directives.{Directive, DeclaresGo, DeclaresModule, Item, Kept, Silent, Opening, Saying, Pair, Lax, directive_in, directive_of, item_at, verb_in}
+use Rattle.gm_file.specs.Directives.{Directive, DeclaresGo, DeclaresModule, Item, Kept, Silent, Opening, Saying, VersionInterval, Lax, directive_in, directive_of, item_at, verb_in}
 use Rattle.gm_file.specs.Faults.{directive_kinds, item_kinds, opening_kinds, pair_kinds, path_kinds}
 use Rattle.gm_file.specs.Fields.{first}
 use Rattle.gm_file.specs.Holding.{AreFound, Holds, IsLineAdded}
@@ -94,7 +94,7 @@ module _ (lines : List (Line Word)) (path version : List ℕ) (words : List Word
       let none : option_to_list (retraction_at (item_at (word_of old.block, here))) ≡ [] = ap (λ (i : Item). option_to_list (retraction_at i)) item ∙ ap option_to_list (no-retraction path version) in
       dep-more lines here (word_of old.block) old (record old { fields = fields }) so refl found
       (subst (λ (i : Item). IsLineAdded Lax old.fields fields i (Ok tt)) (sym item) added)
-      (sym (ap (λ (l : List Pair). interval_views old.retracts.items ++ l) none ∙ append-nil (interval_views old.retracts.items))) refl
+      (sym (ap (λ (l : List VersionInterval). interval_views old.retracts.items ++ l) none ∙ append-nil (interval_views old.retracts.items))) refl
 
   requires-fault : (new : Fields) (fault : LineFault) → IsLineAdded Lax old.fields new (require_item path version) (Err fault) → HasNextFault lines (Entry words suffix) fault
   requires-fault new fault told =

@@ -3,6 +3,7 @@ use Rattle.std.specs.Prelude.{ℕ, ◌&&◌, ◌||◌, if◌then◌else◌, Bool
 use Rattle.std.specs.Option.{option_map}
 use Rattle.std.specs.List.{after_first, before_first, filter_map}
 use Rattle.std.specs.Str.{bytes_eq}
+use Rattle.gm_name.specs.ModuleVersion.{ModuleVersion}
 use Rattle.gm_syntax.specs.Words.{Word}
 use Rattle.gm_syntax.specs.Document.{Line, Blank, Comment, Open, Close, Entry, is_mark}
 use Rattle.gm_syntax.specs.declared.word.Kind.{Kind}
@@ -56,11 +57,11 @@ verb_in Lax text = dependency_verb text
 
 -- ---- directives, by the texts of their parts
 
--- a path and a version, or the two ends of an interval
-abbrev pub Pair : Type 0
-Pair = List ℕ × List ℕ
+-- the texts of both ends of an interval of versions; the ends belong to it (Go Modules Reference, "retract directive")
+abbrev pub VersionInterval : Type 0
+VersionInterval = List ℕ × List ℕ
 
-abbrev pub pair : List ℕ → List ℕ → Pair
+abbrev pub pair : List ℕ → List ℕ → List ℕ × List ℕ
 pair a b = (a, b)
 
 -- the left side of a replace: a path, and optionally one version of it
@@ -84,10 +85,10 @@ replacing left right = (left, right)
 pub data Directive : Type 0 where
   DeclaresModule : List ℕ → Directive
   DeclaresGo : List ℕ → Directive
-  Requires : Pair → Directive
-  Excludes : Pair → Directive
+  Requires : ModuleVersion → Directive
+  Excludes : ModuleVersion → Directive
   Replaces : Replacing → Directive
-  Retracts : Pair → Directive
+  Retracts : VersionInterval → Directive
   Kept : Directive
 
 -- ---- the arguments of an entry; None if their number or kind is wrong
@@ -98,7 +99,7 @@ one_of (v ∷ []) = argument v
 one_of _ = None
 
 -- two values
-abbrev pub pair_of : List Word → Option Pair
+abbrev pub pair_of : List Word → Option ModuleVersion
 pair_of (p ∷ v ∷ []) = both pair (argument p) (argument v)
 pair_of _ = None
 
@@ -141,7 +142,7 @@ abbrev pub replacing_of : List Word → Option Replacing
 replacing_of words = both replacing (left_of (before_first is_arrow words)) (right_of (after_first is_arrow words))
 
 -- one version, which is both ends, or two in brackets: `[`, `,` and `]` are the bytes 91, 44 and 93
-abbrev pub ends_of : List Word → Option Pair
+abbrev pub ends_of : List Word → Option VersionInterval
 ends_of (v ∷ []) = option_map (λ w. pair w w) (argument v)
 ends_of (a ∷ v ∷ b ∷ w ∷ c ∷ []) =
     if is_mark 91 a && is_mark 44 b && is_mark 93 c then both pair (argument v) (argument w) else None

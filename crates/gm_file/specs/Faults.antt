@@ -8,8 +8,9 @@ use Rattle.gm_syntax.specs.Document.{Line}
 use Rattle.gm_file.specs.declared.fault.DirectiveKind.{DirectiveKind}
 use Rattle.gm_file.specs.declared.fault.DirectiveKind.TheVariants.{UnknownVerb, WrongArguments, BadPath, BadVersion, Misfit, Repeated, NoModule, ConflictingReplace, BadGo}
 use Rattle.gm_name.specs.Names.{does_fit, is_path, is_version}
+use Rattle.gm_name.specs.ModuleVersion.{ModuleVersion}
 use Rattle.gm_file.specs.GoVersions.{lax_go, strict_go}
-use Rattle.gm_file.specs.Directives.{Verb, ForGo, Unknown, Mode, Strict, Lax, verb_in, Pair, Left, Right, Folder, Module, Replacing, Directive, DeclaresModule, DeclaresGo, Requires, Excludes, Replaces, Retracts, Kept, directive_of, LineInBlock, with_blocks, Item, Silent, Opening, Saying, item_at, said, directives}
+use Rattle.gm_file.specs.Directives.{Verb, ForGo, Unknown, Mode, Strict, Lax, verb_in, VersionInterval, Left, Right, Folder, Module, Replacing, Directive, DeclaresModule, DeclaresGo, Requires, Excludes, Replaces, Retracts, Kept, directive_of, LineInBlock, with_blocks, Item, Silent, Opening, Saying, item_at, said, directives}
 
 -- this kind alone, or no kind if the test passes
 abbrev pub unless : Bool → DirectiveKind → List DirectiveKind
@@ -29,10 +30,10 @@ path_kinds path = unless (is_path path) BadPath
 abbrev pub version_kinds : List ℕ → List DirectiveKind
 version_kinds version = unless (is_version version) BadVersion
 
-abbrev pub pair_kinds : Pair → List DirectiveKind
+abbrev pub pair_kinds : ModuleVersion → List DirectiveKind
 pair_kinds p = path_kinds p.0 ++ version_kinds p.1 ++ unless (does_fit p.0 p.1) Misfit
 
-abbrev pub ends_kinds : Pair → List DirectiveKind
+abbrev pub ends_kinds : VersionInterval → List DirectiveKind
 ends_kinds ends = version_kinds ends.0 ++ version_kinds ends.1
 
 -- a left side need not have a version

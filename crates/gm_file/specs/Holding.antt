@@ -2,12 +2,13 @@
 use Rattle.std.specs.Prelude.{◌≡◌, ℕ, List, [], ◌∷◌, ◌++◌, Option, Some, None, Result, Ok, Err, is_some, option_and_then, ⊤}
 use Rattle.std.specs.Option.{option_to_list}
 use Rattle.std.specs.List.{filter_map, list_any}
+use Rattle.gm_name.specs.ModuleVersion.{ModuleVersion}
 use Rattle.gm_syntax.specs.Words.{Word}
 use Rattle.gm_syntax.specs.Document.{Line}
 use Rattle.gm_file.specs.declared.fault.LineFault.{LineFault}
 use Rattle.gm_file.specs.declared.fault.LineFault.TheVariants as line
 use Rattle.gm_file.specs.declared.fields.Fields.{Fields}
-use Rattle.gm_file.specs.Directives.{Mode, Pair, Replacing, Directive, Item, block_after_lines, directive_in, directives}
+use Rattle.gm_file.specs.Directives.{Mode, VersionInterval, Replacing, Directive, Item, block_after_lines, directive_in, directives}
 use Rattle.gm_file.specs.Faults.{directive_kinds, faults, go_in, is_go, is_module, item_kinds}
 use Rattle.gm_file.specs.Fields.{as_exclusion, as_go, as_interval, as_module, as_replacing, as_requirement, first}
 use Rattle.gm_file.specs.Indexes.{AreIndexed, IsSetOfLines}
@@ -15,7 +16,8 @@ use Rattle.gm_file.specs.Views.{interval_views, replace_views}
 
 -- these are the fields of the directives
 pub record HaveFields (mode : Mode) (ds : List Directive) (declared : Option (List ℕ)) (go : Option (ℕ × ℕ))
-    (requirements excludes : List Pair) (replaces : List Replacing) (retracts : List Pair) : Type 0 where
+    (requirements excludes : List ModuleVersion) (replaces : List Replacing)
+    (retracts : List VersionInterval) : Type 0 where
   pub declared_is : first (filter_map as_module ds) ≡ declared
   pub is_declared : list_any is_module ds ≡ is_some declared
   pub go_is : option_and_then (go_in mode) (first (filter_map as_go ds)) ≡ go

@@ -1,14 +1,14 @@
 -- The requirements of a file while it is read.
 use Rattle.std.specs.Prelude.{◌≤◌, ℕ, List, Option, Some, None, drop, length, take, ⊤}
+use Rattle.gm_name.specs.ModuleVersion.{ModuleVersion}
 use Rattle.gm_name_table.specs.Listed.{AreModuleNumbers, NumberedList, listed}
 use Rattle.gm_file.specs.declared.required.Destination.{Destination}
 use Rattle.gm_file.specs.declared.required.Destination.TheVariants as place
-use Rattle.gm_file.specs.Directives.{Pair}
 
 -- the requirements; and if they go to the end of a list of modules, that list as it was before
 pub record Requirements : Type 0 where
   pub before : Option NumberedList
-  pub items : List Pair
+  pub items : List ModuleVersion
 
 -- the list as it was when it had so many modules, and so many of them were distinct
 abbrev pub list_before : NumberedList → ℕ → ℕ → NumberedList

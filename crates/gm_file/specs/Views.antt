@@ -14,7 +14,7 @@ use Rattle.gm_file.specs.declared.fault.LineFault.{LineFault}
 use Rattle.gm_file.specs.declared.fault.LineFault.TheVariants as line
 use Rattle.gm_file.specs.declared.fault.FileFault.{FileFault}
 use Rattle.gm_file.specs.declared.fault.FileFault.TheVariants as fault
-use Rattle.gm_file.specs.Directives.{Mode, Pair, Left, Replacing, Right, Folder, Module}
+use Rattle.gm_file.specs.Directives.{Mode, VersionInterval, Left, Replacing, Right, Folder, Module}
 use Rattle.gm_file.specs.Faults.{fault_of}
 
 -- the texts of the sides of a replace
@@ -35,10 +35,10 @@ replace_view r = (record { path = r.left; version = r.version }, right_view r.ri
 abbrev pub replace_views : List Replace → List Replacing
 replace_views rs = map replace_view rs
 
-abbrev pub interval_view : Interval → Pair
+abbrev pub interval_view : Interval → VersionInterval
 interval_view i = (i.low, i.high)
 
-abbrev pub interval_views : List Interval → List Pair
+abbrev pub interval_views : List Interval → List VersionInterval
 interval_views is = map interval_view is
 
 -- the fault is the one that the definitions give for the lines; NoMemory says nothing about them

@@ -3,31 +3,9 @@
 
 ghost use Rattle.std.specs.Prelude.{◌≡◌, drop, length, take_while};
 ghost use Rattle.std.specs.Char.{is_ascii_digit, is_ascii_lowercase};
-ghost use Rattle.std.specs.List.{list_all};
-ghost use Rattle.gm_name.specs.Names.{is_decimal};
-ghost use Rattle.gm_name.specs.Number.{starts_as_no_number};
 ghost use Rattle.gm_file.specs.GoVersions.{first_number, is_go_suffix, last_number, lax_go, lax_go_text, second_number, small_number, strict_go};
 
-/// Whether a text is empty, or begins with `+` or a leading zero, both of which `parse` would accept.
-fn starts_as_no_number(text: &[u8]) -> bool
-    ensures { result ≡ starts_as_no_number text.now }
-{
-    text.is_empty() || text[0] == b'+' || (text[0] == b'0' && text.len() > 1)
-}
-
-/// Whether each byte is an ASCII digit.
-fn has_only_digits(text: &[u8]) -> bool
-    ensures { result ≡ list_all is_ascii_digit text.now }
-{
-    text.iter().all(|b| b.is_ascii_digit())
-}
-
-/// Whether a text is a decimal number without leading zeros.
-fn is_decimal(text: &[u8]) -> bool
-    ensures { result ≡ is_decimal text.now }
-{
-    !starts_as_no_number(text) && has_only_digits(text)
-}
+use gm_name::{has_only_digits, is_decimal};
 
 /// The number that a text of one to nine digits without leading zeros spells, or `None` for another text. Nine digits
 /// always fit a `u32`.

@@ -17,7 +17,8 @@ use Rattle.gm_syntax.specs.LineViews.{plain, plain_lines}
 use Rattle.gm_syntax.proofs.NewWords.{mark_stands}
 use Rattle.gm_syntax.proofs.Changes.{entry_stands}
 use Rattle.gm_name.specs.Names.{does_fit}
-use Rattle.gm_file.specs.Directives.{Strict, Pair, Left, Replacing, Directive, DeclaresModule, DeclaresGo, Requires, Excludes, Replaces, Retracts, Kept, ForGo, ForRequire, ForExclude, ForRetract, block_after_line, directive_of, directives, verb_in}
+use Rattle.gm_name.specs.ModuleVersion.{ModuleVersion}
+use Rattle.gm_file.specs.Directives.{Strict, VersionInterval, Left, Replacing, Directive, DeclaresModule, DeclaresGo, Requires, Excludes, Replaces, Retracts, Kept, ForGo, ForRequire, ForExclude, ForRetract, block_after_line, directive_of, directives, verb_in}
 use Rattle.gm_file.specs.Faults.{conflicts, directive_kinds, fault_of, is_go, is_module}
 use Rattle.gm_file_edit.specs.declared.adding.AddedVerb.{AddedVerb}
 use Rattle.gm_file_edit.specs.declared.adding.AddedVerb.TheVariants as verb
@@ -100,7 +101,7 @@ verb-feed verb.Retract = no-feed (λ b. not (b == 10)) refl (codes "retract") re
 pub addition : (v : AddedVerb) (arguments : List Placed) (new : Directive) → AreArguments arguments → directive_of (verb_of v) (words_of arguments) ≡ Some new → IsAddition v arguments new
 addition v arguments new are says = record { inside = entry-inside arguments are; alone = entry-alone (verb_text v) arguments (verb-feed v) are; filled = are.no_block; says = says }
 
-pub pair-are : (p : Pair) → IsPairOfNames p → AreArguments (pair_words p)
+pub pair-are : (p : ModuleVersion) → IsPairOfNames p → AreArguments (pair_words p)
 pair-are p names = record {
   words = (made-stands p.0 (path-feed p.0 names.0), (made-stands p.1 (version-feed p.1 names.1), tt));
   filled = omega arith;
@@ -109,27 +110,27 @@ pair-are p names = record {
   no_block = rw (made-no-mark 40 p.0) refl;
 }
 
-pub require-says : (p : Pair) → IsPairOfNames p → directive_of ForRequire (words_of (pair_words p)) ≡ Some (Requires p)
+pub require-says : (p : ModuleVersion) → IsPairOfNames p → directive_of ForRequire (words_of (pair_words p)) ≡ Some (Requires p)
 unfolding directive_of
 require-says p names = rw (made-value p.0 (path-feed p.0 names.0), made-value p.1 (version-feed p.1 names.1)) refl
 
-pub exclude-says : (p : Pair) → IsPairOfNames p → directive_of ForExclude (words_of (pair_words p)) ≡ Some (Excludes p)
+pub exclude-says : (p : ModuleVersion) → IsPairOfNames p → directive_of ForExclude (words_of (pair_words p)) ≡ Some (Excludes p)
 unfolding directive_of
 exclude-says p names = rw (made-value p.0 (path-feed p.0 names.0), made-value p.1 (version-feed p.1 names.1)) refl
 
-require-kinds : (p : Pair) (earlier : List Directive) → IsPairOfNames p → does_fit p.0 p.1 ≡ true → directive_kinds Strict earlier (Requires p) ≡ []
+require-kinds : (p : ModuleVersion) (earlier : List Directive) → IsPairOfNames p → does_fit p.0 p.1 ≡ true → directive_kinds Strict earlier (Requires p) ≡ []
 unfolding directive_kinds
 require-kinds p earlier names fit = pair-kinds p names fit
 
-exclude-kinds : (p : Pair) (earlier : List Directive) → IsPairOfNames p → does_fit p.0 p.1 ≡ true → directive_kinds Strict earlier (Excludes p) ≡ []
+exclude-kinds : (p : ModuleVersion) (earlier : List Directive) → IsPairOfNames p → does_fit p.0 p.1 ≡ true → directive_kinds Strict earlier (Excludes p) ≡ []
 unfolding directive_kinds
 exclude-kinds p earlier names fit = pair-kinds p names fit
 
-ends-kinds : (ends : Pair) (earlier : List Directive) → AreVersions ends → directive_kinds Strict earlier (Retracts ends) ≡ []
+ends-kinds : (ends : VersionInterval) (earlier : List Directive) → AreVersions ends → directive_kinds Strict earlier (Retracts ends) ≡ []
 unfolding directive_kinds
 ends-kinds ends earlier are = rw (are.0, are.1) refl
 
-pub ends-are : (ends : Pair) → AreVersions ends → AreArguments (interval_words ends)
+pub ends-are : (ends : VersionInterval) → AreVersions ends → AreArguments (interval_words ends)
 ends-are ends are =
     let low = version-feed ends.0 are.0 in
     let high = version-feed ends.1 are.1 in
@@ -144,7 +145,7 @@ ends-are ends are =
       })
     ]
 
-pub ends-says : (ends : Pair) → AreVersions ends → directive_of ForRetract (words_of (interval_words ends)) ≡ Some (Retracts ends)
+pub ends-says : (ends : VersionInterval) → AreVersions ends → directive_of ForRetract (words_of (interval_words ends)) ≡ Some (Retracts ends)
 unfolding directive_of
 ends-says ends are =
     let low = made-value ends.0 (version-feed ends.0 are.0) in
@@ -169,7 +170,7 @@ path-other path (Replaces r) e = refl
 path-other path (Retracts ends) e = refl
 path-other path Kept e = refl
 
-pair-other : (x : Pair) (d : Directive) → excludes_pair x d ≡ true → is_module d ≡ false
+pair-other : (x : ModuleVersion) (d : Directive) → excludes_pair x d ≡ true → is_module d ≡ false
 pair-other x (DeclaresModule p) e = absurd cc
 pair-other x (DeclaresGo t) e = refl
 pair-other x (Requires q) e = refl
@@ -187,7 +188,7 @@ left-other x (Replaces r) e = refl
 left-other x (Retracts ends) e = refl
 left-other x Kept e = refl
 
-ends-other : (x : Pair) (d : Directive) → retracts_ends x d ≡ true → is_module d ≡ false
+ends-other : (x : VersionInterval) (d : Directive) → retracts_ends x d ≡ true → is_module d ≡ false
 ends-other x (DeclaresModule p) e = absurd cc
 ends-other x (DeclaresGo t) e = refl
 ends-other x (Requires q) e = refl
@@ -204,7 +205,7 @@ pub go-changed : (text : List ℕ) (lines : List (Line Placed)) → changed (Set
 unfolding changed
 go-changed text lines = refl
 
-pub require-changed : (p : Pair) (lines : List (Line Placed)) → changed (Set (RequireAt p)) lines ≡ renewed (about (Set (RequireAt p))) (made_new (Set (RequireAt p))) lines
+pub require-changed : (p : ModuleVersion) (lines : List (Line Placed)) → changed (Set (RequireAt p)) lines ≡ renewed (about (Set (RequireAt p))) (made_new (Set (RequireAt p))) lines
 unfolding changed
 require-changed p lines = refl
 

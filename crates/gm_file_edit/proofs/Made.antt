@@ -2,6 +2,7 @@
 use Rattle.std.proofs.Common.{◌≡◌, ℕ, ◌<◌, true, false, List, [], ◌∷◌, ◌++◌, length, Option, Some, None, is_some, refl, sym, ap, subst, ◌∙◌, arith, inl, inr}
 use Rattle.std.specs.List.{AllByRecursion, list_any}
 use Rattle.std.proofs.lemmas.Bool.{cases_Bool}
+use Rattle.gm_name.specs.ModuleVersion.{ModuleVersion}
 use Rattle.gm_syntax.specs.declared.word.Kind.{Kind}
 use Rattle.gm_syntax.specs.declared.word.Kind.TheVariants.{Bare, Text, Mark}
 use Rattle.gm_syntax.specs.Lines.{HasNoLineFeed}
@@ -16,7 +17,7 @@ use Rattle.gm_syntax.proofs.Spelled.{is_bare_word, bare_word_is}
 use Rattle.gm_syntax.proofs.NewWords.{new_word_no_mark, new_word_stands, value_is}
 use Rattle.gm_syntax.proofs.Changes.{entry_stands, standing_entry}
 use Rattle.gm_file.specs.Values.{argument, argument_of_kind}
-use Rattle.gm_file.specs.Directives.{Strict, Pair, pair, Directive, DeclaresModule, DeclaresGo, Requires, Excludes, Replaces, Retracts, Kept, Saying, Verb, ForModule, ForGo, ForRequire, ForExclude, ForReplace, ForRetract, ForNothing, Unknown, directive_in, directive_of, ends_of, is_empty_block, item_at, main_verb, one_of, pair_of, replacing_of}
+use Rattle.gm_file.specs.Directives.{Strict, pair, Directive, DeclaresModule, DeclaresGo, Requires, Excludes, Replaces, Retracts, Kept, Saying, Verb, ForModule, ForGo, ForRequire, ForExclude, ForReplace, ForRetract, ForNothing, Unknown, directive_in, directive_of, ends_of, is_empty_block, item_at, main_verb, one_of, pair_of, replacing_of}
 use Rattle.gm_file.specs.Faults.{directive_kinds, is_module, item_kinds, entry_kinds}
 use Rattle.gm_file_edit.specs.Holding.{directive_at, item_of}
 use Rattle.gm_file_edit.specs.NewWords.{made_word}
@@ -194,12 +195,12 @@ one-argument [] v e = absurd cc
 one-argument (a ∷ []) v e = (a, refl)
 one-argument (a ∷ b ∷ words) v e = absurd cc
 
-pub two-arguments : (words : List Placed) (p : Pair) → pair_of (words_of words) ≡ Some p → (a b : Placed) × (words ≡ a ∷ b ∷ []) × (argument a.word ≡ Some p.0)
+pub two-arguments : (words : List Placed) (p : ModuleVersion) → pair_of (words_of words) ≡ Some p → (a b : Placed) × (words ≡ a ∷ b ∷ []) × (argument a.word ≡ Some p.0)
 two-arguments [] p e = absurd cc
 two-arguments (a ∷ []) p e = absurd cc
 two-arguments (a ∷ b ∷ []) p e =
     let parts = both-are pair (argument a.word) (argument b.word) p e in
-    (a, b, refl, parts.2 ∙ ap (λ (q : Pair). Some q.0) parts.4)
+    (a, b, refl, parts.2 ∙ ap (λ (q : ModuleVersion). Some q.0) parts.4)
 two-arguments (a ∷ b ∷ c ∷ words) p e = absurd cc
 
 pub one-are : (value : List ℕ) → HasNoLineFeed value → AreArguments (made_word value ∷ [])

@@ -7,12 +7,13 @@ use Rattle.std.specs.Str.{bytes_eq}
 use Rattle.std.proofs.lemmas.Bool.{cases_Bool}
 use Rattle.std.proofs.lemmas.Bool.Decides.{Decides-eqb}
 use Rattle.std.proofs.lemmas.Slice.Eq.{bytes_eq-Decides}
+use Rattle.gm_name.specs.ModuleVersion.{ModuleVersion}
 use Rattle.gm_syntax.specs.declared.word.Kind.{Kind}
 use Rattle.gm_syntax.specs.declared.word.Kind.TheVariants as kind
 use Rattle.gm_syntax.specs.Words.{Word}
 use Rattle.gm_syntax.specs.Tokens.{Placed, words_of}
 use Rattle.gm_syntax.specs.Document.{Line, Blank, Comment, Open, Close, Entry, is_mark, is_mark_byte}
-use Rattle.gm_file.specs.Directives.{Directive, Excludes, Left, Pair, Replaces, Retracts, Right, Verb, block_after_line, directive_of, ends_of, is_arrow, is_of_arrow, left_of, left_with, left_without, main_verb, pair, pair_of, replacing, replacing_of, right_of}
+use Rattle.gm_file.specs.Directives.{Directive, Excludes, Left, VersionInterval, Replaces, Retracts, Right, Verb, block_after_line, directive_of, ends_of, is_arrow, is_of_arrow, left_of, left_with, left_without, main_verb, pair, pair_of, replacing, replacing_of, right_of}
 use Rattle.gm_file.specs.Faults.{is_same_left, is_same_version}
 use Rattle.gm_file.specs.Values.{argument, argument_of_kind, both}
 use Rattle.gm_file_edit.specs.About.{about, excludes_pair, is_covered_by, is_replaced_by, replaces_left, retracts_ends}
@@ -96,7 +97,7 @@ first-other path (word ∷ words) off = text-other path word.word.kind word.word
 abbrev target_of : List Placed → ℕ
 target_of words = target_number (slice_get words 0) (slice_get words 1) (slice_get words 3)
 
-two-other : (p : Pair) (k l : Kind) (text version : List ℕ) → may_equal (pair_number p) (target_by_kind k (number_by_kind k text) (number_by_kind l version) 1) ≡ false
+two-other : (p : ModuleVersion) (k l : Kind) (text version : List ℕ) → may_equal (pair_number p) (target_by_kind k (number_by_kind k text) (number_by_kind l version) 1) ≡ false
     → passes (excludes_pair p) (option_map Excludes (both pair (argument_of_kind k text) (argument_of_kind l version))) ≡ false
 two-other p kind.Mark l text version off = refl
 two-other p kind.Text l text version off = absurd cc
@@ -107,7 +108,7 @@ two-other p kind.Bare kind.Bare text version off =
     differs (pair_number p) (joined (text_number text) (text_number version)) off
     (ap (λ (t : List ℕ). joined (text_number t) (text_number version)) (same-text text p.0 one) ∙ ap (λ (t : List ℕ). joined (text_number p.0) (text_number t)) (same-text version p.1 other)))
 
-pair-other : (p : Pair) (words : List Placed) → may_equal (pair_number p) (target_of words) ≡ false → passes (excludes_pair p) (option_map Excludes (pair_of (words_of words))) ≡ false
+pair-other : (p : ModuleVersion) (words : List Placed) → may_equal (pair_number p) (target_of words) ≡ false → passes (excludes_pair p) (option_map Excludes (pair_of (words_of words))) ≡ false
 pair-other p [] off = refl
 pair-other p (a ∷ []) off = refl
 pair-other p (a ∷ b ∷ []) off = two-other p a.word.kind b.word.kind a.word.spelling b.word.spelling off
@@ -222,7 +223,7 @@ covered-other left (Some version) is words off =
 
 -- ---- an interval
 
-single-other : (ends : Pair) (k : Kind) (text : List ℕ) → may_equal (ends_number (text_number ends.0) (text_number ends.1)) (target_by_kind k (number_by_kind k text) 1 1) ≡ false
+single-other : (ends : VersionInterval) (k : Kind) (text : List ℕ) → may_equal (ends_number (text_number ends.0) (text_number ends.1)) (target_by_kind k (number_by_kind k text) 1 1) ≡ false
     → passes (retracts_ends ends) (option_map Retracts (option_map (λ w. pair w w) (argument_of_kind k text))) ≡ false
 single-other ends kind.Mark text off = refl
 single-other ends kind.Text text off = absurd cc
@@ -232,7 +233,7 @@ single-other ends kind.Bare text off =
     (sym (ends-same (text_number text)) ∙ ap (λ (t : List ℕ). ends_number (text_number t) (text_number text)) (same-text text ends.0 low)
     ∙ ap (λ (t : List ℕ). ends_number (text_number ends.0) (text_number t)) (same-text text ends.1 high)))
 
-both-ends-other : (ends : Pair) (k l : Kind) (low high : List ℕ) → may_equal (ends_number (text_number ends.0) (text_number ends.1)) (ends_number (number_by_kind k low) (number_by_kind l high)) ≡ false
+both-ends-other : (ends : VersionInterval) (k l : Kind) (low high : List ℕ) → may_equal (ends_number (text_number ends.0) (text_number ends.1)) (ends_number (number_by_kind k low) (number_by_kind l high)) ≡ false
     → passes (retracts_ends ends) (option_map Retracts (both pair (argument_of_kind k low) (argument_of_kind l high))) ≡ false
 both-ends-other ends kind.Mark l low high off = refl
 both-ends-other ends kind.Text l low high off = absurd (is-none (ends_number (text_number ends.0) (text_number ends.1)) (ends_number 0 (number_by_kind l high)) off (no-ends (number_by_kind l high)))
@@ -245,7 +246,7 @@ both-ends-other ends kind.Bare kind.Bare low high off =
     ∙ ap (λ (t : List ℕ). ends_number (text_number ends.0) (text_number t)) (same-text high ends.1 other)))
 
 -- only what begins with a mark is in brackets
-brackets-other : (ends : Pair) (k : Kind) (text : List ℕ) (v w : Placed) (comma close : Bool)
+brackets-other : (ends : VersionInterval) (k : Kind) (text : List ℕ) (v w : Placed) (comma close : Bool)
     → may_equal (ends_number (text_number ends.0) (text_number ends.1)) (target_by_kind k (number_by_kind k text) (number_at (Some v)) (number_at (Some w))) ≡ false
     → passes (retracts_ends ends) (option_map Retracts (if is_mark_byte 91 k text && comma && close then both pair (argument v.word) (argument w.word) else None)) ≡ false
 brackets-other ends kind.Bare text v w comma close off = refl
@@ -255,7 +256,7 @@ brackets-other ends kind.Mark text v w comma close off = elim (cases_Bool (is_ma
   | inr none ↦ rw none refl
 ]
 
-ends-other : (ends : Pair) (words : List Placed) → may_equal (ends_number (text_number ends.0) (text_number ends.1)) (target_of words) ≡ false → passes (retracts_ends ends) (option_map Retracts (ends_of (words_of words))) ≡ false
+ends-other : (ends : VersionInterval) (words : List Placed) → may_equal (ends_number (text_number ends.0) (text_number ends.1)) (target_of words) ≡ false → passes (retracts_ends ends) (option_map Retracts (ends_of (words_of words))) ≡ false
 ends-other ends [] off = refl
 ends-other ends (v ∷ []) off = single-other ends v.word.kind v.word.spelling off
 ends-other ends (a ∷ v ∷ []) off = refl

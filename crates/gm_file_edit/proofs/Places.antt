@@ -11,7 +11,7 @@ use Rattle.gm_syntax.specs.Tokens.{Placed}
 use Rattle.gm_syntax.specs.Document.{Line, Blank, Comment, Open, Close, Entry, map_line}
 use Rattle.gm_syntax.specs.LineViews.{plain, plain_lines}
 use Rattle.gm_syntax.proofs.Edits.{map-insert}
-use Rattle.gm_file.specs.Directives.{Strict, Directive, Pair, Right, Folder, Module, Replacing, block_after_line, directive_in, item_at}
+use Rattle.gm_file.specs.Directives.{Strict, Directive, VersionInterval, Right, Folder, Module, Replacing, block_after_line, directive_in, item_at}
 use Rattle.gm_file.specs.Faults.{is_go, is_module}
 use Rattle.gm_file_edit.specs.Edits.{Edit, Set, ModuleIs, GoIs, RequireAt, Drop, Add, Exclude, ReplaceWith, Retract}
 use Rattle.gm_file_edit.specs.NewWords.{entry_at, interval_words, left_words, left_words_of, made_mark, made_word, pair_words, replace_words, right_words, single, unplaced}
@@ -274,7 +274,7 @@ either-are : (c : Bool) (x y : List Placed) → AreLoose x → AreLoose y → Ar
 either-are true x y e f = e
 either-are false x y e f = f
 
-interval-are : (ends : Pair) → AreLoose (interval_words ends)
+interval-are : (ends : VersionInterval) → AreLoose (interval_words ends)
 interval-are ends = either-are (bytes_eq ends.0 ends.1) _ _ refl refl
 
 -- ---- added entries

@@ -18,9 +18,10 @@ use Rattle.gm_syntax.proofs.NewWords.{mark_stands}
 use Rattle.gm_syntax.proofs.Changes.{standing_entry}
 use Rattle.gm_name.proofs.NameTests.{and_both}
 use Rattle.gm_name.specs.Names.{does_fit, is_path}
+use Rattle.gm_name.specs.ModuleVersion.{ModuleVersion}
 use Rattle.gm_file.specs.Values.{argument, both}
 use Rattle.gm_file.specs.GoVersions.{strict_go}
-use Rattle.gm_file.specs.Directives.{Strict, Pair, Left, Right, Folder, Module, Replacing, Directive, DeclaresModule, DeclaresGo, Requires, Excludes, Replaces, Retracts, Kept, Verb, ForModule, ForGo, ForRequire, ForReplace, directive_of, is_arrow, left_of, main_verb, one_of, pair_of, replacing, right_of}
+use Rattle.gm_file.specs.Directives.{Strict, Left, Right, Folder, Module, Replacing, Directive, DeclaresModule, DeclaresGo, Requires, Excludes, Replaces, Retracts, Kept, Verb, ForModule, ForGo, ForRequire, ForReplace, directive_of, is_arrow, left_of, main_verb, one_of, pair_of, replacing, right_of}
 use Rattle.gm_file.specs.Faults.{conflicts, directive_kinds, does_left_fit, is_go, is_module, is_same_left, is_same_right, is_same_version, left_version_kinds, path_kinds, pair_kinds, right_path_kinds, right_version_kinds, sides_kinds, unless}
 use Rattle.gm_file_edit.specs.About.{is_covered_by, is_replaced_by, requires_path}
 use Rattle.gm_file_edit.specs.Holding.{directive_at}
@@ -134,7 +135,7 @@ go-renewal text h = record { mild = go-mild text; made = go-made text h; later =
 
 -- ---- a requirement
 
-require-mild : (p : Pair) (d : Directive) → AreMild (Requires p) (Some d)
+require-mild : (p : ModuleVersion) (d : Directive) → AreMild (Requires p) (Some d)
 require-mild p (DeclaresModule q) = (refl, refl)
 require-mild p (DeclaresGo t) = (refl, refl)
 require-mild p (Requires q) = (refl, refl)
@@ -152,18 +153,18 @@ require-other path (Replaces r) e = refl
 require-other path (Retracts ends) e = refl
 require-other path Kept e = refl
 
-pub pair-kinds : (p : Pair) → IsPairOfNames p → does_fit p.0 p.1 ≡ true → pair_kinds p ≡ []
+pub pair-kinds : (p : ModuleVersion) → IsPairOfNames p → does_fit p.0 p.1 ≡ true → pair_kinds p ≡ []
 pair-kinds p names fit = rw (names.0, names.1, fit) refl
 
-require-kinds : (p : Pair) → IsPairOfNames p → does_fit p.0 p.1 ≡ true → (earlier : List Directive) → directive_kinds Strict earlier (Requires p) ≡ []
+require-kinds : (p : ModuleVersion) → IsPairOfNames p → does_fit p.0 p.1 ≡ true → (earlier : List Directive) → directive_kinds Strict earlier (Requires p) ≡ []
 unfolding directive_kinds
 require-kinds p names fit earlier = pair-kinds p names fit
 
-require-says : (a : Placed) (p : Pair) → argument a.word ≡ Some p.0 → HasNoLineFeed p.1 → directive_of ForRequire (words_of (a ∷ made_word p.1 ∷ [])) ≡ Some (Requires p)
+require-says : (a : Placed) (p : ModuleVersion) → argument a.word ≡ Some p.0 → HasNoLineFeed p.1 → directive_of ForRequire (words_of (a ∷ made_word p.1 ∷ [])) ≡ Some (Requires p)
 unfolding directive_of
 require-says a p is plain = rw (is, made-value p.1 plain) refl
 
-held-pair : (words : List Word) (p : Pair) → directive_of ForRequire words ≡ Some (Requires p) → pair_of words ≡ Some p
+held-pair : (words : List Word) (p : ModuleVersion) → directive_of ForRequire words ≡ Some (Requires p) → pair_of words ≡ Some p
 unfolding directive_of
 held-pair words p e = let m = map-some Requires (pair_of words) (Requires p) e in let same : m.0 ≡ p = cc in m.1 ∙ ap Some same
 
@@ -178,7 +179,7 @@ kept-word (Some v) verb front others suffix a line at is stands =
     let entry = standing_entry true (words_of (a ∷ others)) suffix (subst (λ (l : Line Placed). IsValidLine true (plain l)) whole stands) in
     entry.are_words.0
 
-require-made : (p : Pair) → IsPairOfNames p → does_fit p.0 p.1 ≡ true → (block : Option Placed) (line : Line Placed) (d : Directive) → directive_at block line ≡ Some d → requires_path p.0 d ≡ true → IsValidLine (is_some block) (plain line)
+require-made : (p : ModuleVersion) → IsPairOfNames p → does_fit p.0 p.1 ≡ true → (block : Option Placed) (line : Line Placed) (d : Directive) → directive_at block line ≡ Some d → requires_path p.0 d ≡ true → IsValidLine (is_some block) (plain line)
     → IsMadeNew (Requires p) block line (with_last p.1 block line)
 require-made p names fit block line (Requires q) held e stands =
     let plain_version = version-feed p.1 names.1 in
@@ -198,7 +199,7 @@ require-made p names fit block line (Replaces r) held e stands = absurd cc
 require-made p names fit block line (Retracts ends) held e stands = absurd cc
 require-made p names fit block line Kept held e stands = absurd cc
 
-pub require-renewal : (p : Pair) → IsPairOfNames p → does_fit p.0 p.1 ≡ true → IsRenewal (requires_path p.0) (Requires p) (with_last p.1)
+pub require-renewal : (p : ModuleVersion) → IsPairOfNames p → does_fit p.0 p.1 ≡ true → IsRenewal (requires_path p.0) (Requires p) (with_last p.1)
 require-renewal p names fit = record {
   mild = λ d e. require-mild p d;
   made = require-made p names fit;

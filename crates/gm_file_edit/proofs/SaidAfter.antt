@@ -7,13 +7,14 @@ use Rattle.std.specs.Str.{bytes_eq}
 use Rattle.std.proofs.lemmas.Bool.{cases_Bool, true≢false}
 use Rattle.std.proofs.lemmas.List.Folds.{list_any-append}
 use Rattle.std.proofs.lemmas.Slice.Eq.{bytes_eq-Decides}
+use Rattle.gm_name.specs.ModuleVersion.{ModuleVersion}
 use Rattle.gm_syntax.specs.Tokens.{Placed}
 use Rattle.gm_syntax.specs.Document.{Line}
-use Rattle.gm_file.specs.Directives.{Pair, Left, Replacing, Directive, DeclaresModule, DeclaresGo, Requires, Excludes, Replaces, Retracts, ForGo, block_after_line}
+use Rattle.gm_file.specs.Directives.{VersionInterval, Left, Replacing, Directive, DeclaresModule, DeclaresGo, Requires, Excludes, Replaces, Retracts, ForGo, block_after_line}
 use Rattle.gm_file.specs.Faults.{is_go, is_module}
 use Rattle.gm_file_edit.specs.declared.adding.AddedVerb.TheVariants as verb
 use Rattle.gm_file_edit.specs.Edits.{Edit, Set, ModuleIs, GoIs, RequireAt, Drop, Add, Exclude, ReplaceWith, Retract}
-use Rattle.gm_file_edit.specs.About.{about, excludes_pair, is_covered_by, is_replaced_by, is_same_pair, requires_path, retracts_ends}
+use Rattle.gm_file_edit.specs.About.{about, excludes_pair, is_covered_by, is_replaced_by, requires_path, retracts_ends}
 use Rattle.gm_file_edit.specs.Pass.{changed, edited_by_pass, put_in}
 use Rattle.gm_file_edit.specs.Kinds.{added_by, is_drop, is_fit, set_by}
 use Rattle.gm_file_edit.specs.Holding.{directive_at, passes}
@@ -40,7 +41,7 @@ text-itself text = (bytes_eq-Decides text text).1 refl
 pub and-both : (a b : Bool) → a ≡ true → b ≡ true → (a && b) ≡ true
 and-both a b e f = rw (e, f) refl
 
-pub pair-itself : (p : Pair) → is_same_pair p p ≡ true
+pub pair-itself : (p : List ℕ × List ℕ) → (bytes_eq p.0 p.0 && bytes_eq p.1 p.1) ≡ true
 pair-itself p = and-both (bytes_eq p.0 p.0) (bytes_eq p.1 p.1) (text-itself p.0) (text-itself p.1)
 
 left-covered : (left : Left) (version : Option (List ℕ)) → is_covered_by left version left ≡ true
@@ -85,11 +86,11 @@ go-put text lines good sound =
     let alone = entry-alone (codes "go") arguments (no-feed (λ b. not (b == 10)) refl (codes "go") refl) are in
     after-first-put is_module (DeclaresGo text) (single (codes "go") arguments) lines (single-fits (codes "go") ForGo arguments (DeclaresGo text) go-named refl (go-says text plain_text) alone) sound
 
-require-put : (p : Pair) (lines : List (Line Placed)) → IsPairOfNames p → SoundFrom [] None lines → IsPutIn (Requires p) (held_from None lines) (held_from None (put_in (Set (RequireAt p)) lines))
+require-put : (p : ModuleVersion) (lines : List (Line Placed)) → IsPairOfNames p → SoundFrom [] None lines → IsPutIn (Requires p) (held_from None lines) (held_from None (put_in (Set (RequireAt p)) lines))
 unfolding put_in
 require-put p lines good sound = added-put verb.Require (pair_words p) (Requires p) lines (addition verb.Require (pair_words p) (Requires p) (pair-are p good) (require-says p good)) sound
 
-exclude-put : (p : Pair) (lines : List (Line Placed)) → IsPairOfNames p → SoundFrom [] None lines → IsPutIn (Excludes p) (held_from None lines) (held_from None (put_in (Add (Exclude p)) lines))
+exclude-put : (p : ModuleVersion) (lines : List (Line Placed)) → IsPairOfNames p → SoundFrom [] None lines → IsPutIn (Excludes p) (held_from None lines) (held_from None (put_in (Add (Exclude p)) lines))
 unfolding put_in
 exclude-put p lines good sound = added-put verb.Exclude (pair_words p) (Excludes p) lines (addition verb.Exclude (pair_words p) (Excludes p) (pair-are p good) (exclude-says p good)) sound
 
@@ -98,7 +99,7 @@ unfolding put_in
 replace-put r lines left right sound =
     added-put verb.Replace (replace_words r) (Replaces r) lines (addition verb.Replace (replace_words r) (Replaces r) (replace-are r left right) (replace-says r left right)) sound
 
-retract-put : (ends : Pair) (lines : List (Line Placed)) → AreVersions ends → SoundFrom [] None lines → IsPutIn (Retracts ends) (held_from None lines) (held_from None (put_in (Add (Retract ends)) lines))
+retract-put : (ends : VersionInterval) (lines : List (Line Placed)) → AreVersions ends → SoundFrom [] None lines → IsPutIn (Retracts ends) (held_from None lines) (held_from None (put_in (Add (Retract ends)) lines))
 unfolding put_in
 retract-put ends lines good sound =
     added-put verb.Retract (interval_words ends) (Retracts ends) lines (addition verb.Retract (interval_words ends) (Retracts ends) (ends-are ends good) (ends-says ends good)) sound

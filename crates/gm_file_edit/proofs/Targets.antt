@@ -8,10 +8,11 @@ use Rattle.std.proofs.lemmas.Bool.{cases_Bool}
 use Rattle.std.proofs.lemmas.Slice.Eq.{bytes_eq-Decides}
 use Rattle.gm_syntax.specs.Words.{Word}
 use Rattle.std.proofs.lemmas.List.{take_rest}
+use Rattle.gm_name.specs.ModuleVersion.{ModuleVersion}
 use Rattle.gm_syntax.specs.Tokens.{Placed, words_of}
 use Rattle.gm_syntax.specs.Document.{Line, Entry}
 use Rattle.gm_file.specs.Values.{argument, both}
-use Rattle.gm_file.specs.Directives.{Verb, ForModule, ForGo, ForRequire, ForExclude, ForReplace, ForRetract, ForNothing, Unknown, Strict, Pair, pair, Left, Right, replacing, Directive, DeclaresModule, DeclaresGo, Requires, Excludes, Replaces, Retracts, Kept, Item, Silent, Opening, Saying, directive_in, directive_of, ends_of, is_arrow, is_empty_block, item_at, left_of, left_with, left_without, main_verb, one_of, pair_of, replacing_of, right_of}
+use Rattle.gm_file.specs.Directives.{Verb, ForModule, ForGo, ForRequire, ForExclude, ForReplace, ForRetract, ForNothing, Unknown, Strict, VersionInterval, pair, Left, Right, replacing, Directive, DeclaresModule, DeclaresGo, Requires, Excludes, Replaces, Retracts, Kept, Item, Silent, Opening, Saying, directive_in, directive_of, ends_of, is_arrow, is_empty_block, item_at, left_of, left_with, left_without, main_verb, one_of, pair_of, replacing_of, right_of}
 use Rattle.gm_file_edit.specs.About.{about, excludes_pair, is_replaced_by, replaces_left, requires_path, retracts_ends}
 use Rattle.gm_file.specs.Faults.{entry_kinds, is_go, is_module, item_kinds}
 use Rattle.gm_file_edit.specs.Edits.{Edit, Set, ModuleIs, GoIs, RequireAt, Drop, AnyRequire, Add, Exclude, AnyExclude, ReplaceWith, AnyReplace, Retract, AnyRetract}
@@ -75,7 +76,7 @@ requires-path-verb path (Replaces r) holds = absurd cc
 requires-path-verb path (Retracts e) holds = absurd cc
 requires-path-verb path Kept holds = absurd cc
 
-excludes-pair-verb : (p : Pair) (d : Directive) → excludes_pair p d ≡ true → verb_said d ≡ ForExclude
+excludes-pair-verb : (p : ModuleVersion) (d : Directive) → excludes_pair p d ≡ true → verb_said d ≡ ForExclude
 excludes-pair-verb p (DeclaresModule m) holds = absurd cc
 excludes-pair-verb p (DeclaresGo t) holds = absurd cc
 excludes-pair-verb p (Requires q) holds = absurd cc
@@ -102,7 +103,7 @@ replaces-left-verb left (Replaces r) holds = refl
 replaces-left-verb left (Retracts e) holds = absurd cc
 replaces-left-verb left Kept holds = absurd cc
 
-retracts-ends-verb : (ends : Pair) (d : Directive) → retracts_ends ends d ≡ true → verb_said d ≡ ForRetract
+retracts-ends-verb : (ends : VersionInterval) (d : Directive) → retracts_ends ends d ≡ true → verb_said d ≡ ForRetract
 retracts-ends-verb ends (DeclaresModule m) holds = absurd cc
 retracts-ends-verb ends (DeclaresGo t) holds = absurd cc
 retracts-ends-verb ends (Requires q) holds = absurd cc

@@ -4,9 +4,10 @@ use Rattle.std.specs.Prelude.{codes}
 use Rattle.std.specs.Str.{bytes_eq}
 use Rattle.std.proofs.lemmas.Bool.{cases_Bool}
 use Rattle.gm_name.specs.Names.{is_path, is_version}
+use Rattle.gm_name.specs.ModuleVersion.{ModuleVersion}
 use Rattle.gm_file.specs.Values.{is_folder_path}
 use Rattle.gm_file.specs.GoVersions.{strict_go}
-use Rattle.gm_file.specs.Directives.{Pair, pair, Left, left_without, Right, Folder, Replacing, replacing}
+use Rattle.gm_file.specs.Directives.{VersionInterval, pair, Left, left_without, Right, Folder, Replacing, replacing}
 use Rattle.gm_file_edit.specs.Edits.{Edit, Set, ModuleIs, GoIs, RequireAt, Drop, AnyRequire, Add, Exclude, AnyExclude, ReplaceWith, AnyReplace, Retract, AnyRetract, both_versions_in, split_at_byte, edit_in, go_text_in, has_byte, inside_brackets, interval_in, is_bracketed, left_in, left_of_pair, module_of_pair, named, named_in, pair_in, path_and_version_in, path_in, replacing_in, right_in, sides_in, trimmed, two_versions_in, version_in}
 use Rattle.gm_file_edit.specs.Sound.{AreVersions, IsPairOfNames, IsSoundEdit, IsSoundLeft, IsSoundRight}
 use Rattle.gm_file_edit.proofs.Feeds.{if-some, if-other}
@@ -30,7 +31,7 @@ go-sound text go e =
     let same : text ≡ go = cc in
     subst (λ (g : List ℕ). is_some (strict_go g) ≡ true) same t.0
 
-pair-sound : (text : List ℕ) (p : Pair) → pair_in text ≡ Some p → IsPairOfNames p
+pair-sound : (text : List ℕ) (p : ModuleVersion) → pair_in text ≡ Some p → IsPairOfNames p
 unfolding pair_in
 pair-sound text p e =
     let cut = then-some path_and_version_in (split_at_byte 64 text) p e in
@@ -67,7 +68,7 @@ replacing-sound text r e =
     let parts = both-are replacing (left_in cut.0.0) (right_in cut.0.1) r cut.2 in
     subst (λ (x : Replacing). IsSoundLeft x.0 × IsSoundRight x.1) parts.4 (left-sound cut.0.0 parts.0 parts.2, right-sound cut.0.1 parts.1 parts.3)
 
-ends-sound : (text : List ℕ) (ends : Pair) → interval_in text ≡ Some ends → AreVersions ends
+ends-sound : (text : List ℕ) (ends : VersionInterval) → interval_in text ≡ Some ends → AreVersions ends
 unfolding interval_in two_versions_in
 ends-sound text ends e = elim (cases_Bool (is_bracketed text)) [
   | inl two ↦
@@ -84,14 +85,14 @@ ends-sound text ends e = elim (cases_Bool (is_bracketed text)) [
 pub record HoldsOfEach (P : Edit → Type 0) (text : List ℕ) : Type 0 where
   pub of_module : (x : List ℕ) → path_in text ≡ Some x → P (Set (ModuleIs x))
   pub of_go : (x : List ℕ) → go_text_in text ≡ Some x → P (Set (GoIs x))
-  pub of_require : (x : Pair) → pair_in text ≡ Some x → P (Set (RequireAt x))
+  pub of_require : (x : ModuleVersion) → pair_in text ≡ Some x → P (Set (RequireAt x))
   pub of_droprequire : (x : List ℕ) → path_in text ≡ Some x → P (Drop (AnyRequire x))
-  pub of_exclude : (x : Pair) → pair_in text ≡ Some x → P (Add (Exclude x))
-  pub of_dropexclude : (x : Pair) → pair_in text ≡ Some x → P (Drop (AnyExclude x))
+  pub of_exclude : (x : ModuleVersion) → pair_in text ≡ Some x → P (Add (Exclude x))
+  pub of_dropexclude : (x : ModuleVersion) → pair_in text ≡ Some x → P (Drop (AnyExclude x))
   pub of_replace : (x : Replacing) → replacing_in text ≡ Some x → P (Set (ReplaceWith x))
   pub of_dropreplace : (x : Left) → left_in text ≡ Some x → P (Drop (AnyReplace x))
-  pub of_retract : (x : Pair) → interval_in text ≡ Some x → P (Add (Retract x))
-  pub of_dropretract : (x : Pair) → interval_in text ≡ Some x → P (Drop (AnyRetract x))
+  pub of_retract : (x : VersionInterval) → interval_in text ≡ Some x → P (Add (Retract x))
+  pub of_dropretract : (x : VersionInterval) → interval_in text ≡ Some x → P (Drop (AnyRetract x))
 
 pub named-by : (P : Edit → Type 0) (name text : List ℕ) (edit : Edit) → HoldsOfEach P text → named name text ≡ Some edit → P edit
 unfolding named

@@ -1,13 +1,10 @@
 -- Which directives an operation targets.
 use Rattle.std.specs.Prelude.{ℕ, ◌&&◌, Bool, false, List, Option, Some, None}
 use Rattle.std.specs.Str.{bytes_eq}
-use Rattle.gm_file.specs.Directives.{Pair, Left, Directive, Requires, Excludes, Replaces, Retracts}
+use Rattle.gm_name.specs.ModuleVersion.{ModuleVersion, pair_eq}
+use Rattle.gm_file.specs.Directives.{VersionInterval, Left, Directive, Requires, Excludes, Replaces, Retracts}
 use Rattle.gm_file.specs.Faults.{is_go, is_module, is_same_left}
 use Rattle.gm_file_edit.specs.Edits.{Edit, Set, ModuleIs, GoIs, RequireAt, Drop, AnyRequire, Add, Exclude, AnyExclude, ReplaceWith, AnyReplace, Retract, AnyRetract}
-
--- the same path and version, or the same ends of an interval
-abbrev pub is_same_pair : Pair → Pair → Bool
-is_same_pair a b = bytes_eq a.0 b.0 && bytes_eq a.1 b.1
 
 -- a requirement of this path
 abbrev pub requires_path : List ℕ → Directive → Bool
@@ -15,8 +12,8 @@ requires_path path (Requires p) = bytes_eq p.0 path
 requires_path path _ = false
 
 -- an exclusion of this pair
-abbrev pub excludes_pair : Pair → Directive → Bool
-excludes_pair pair (Excludes p) = is_same_pair p pair
+abbrev pub excludes_pair : ModuleVersion → Directive → Bool
+excludes_pair pair (Excludes p) = pair_eq p pair
 excludes_pair pair _ = false
 
 -- a replace with exactly this left side
@@ -36,8 +33,8 @@ is_replaced_by left (Replaces r) = is_covered_by left left.version r.0
 is_replaced_by left _ = false
 
 -- a retraction of exactly this interval
-abbrev pub retracts_ends : Pair → Directive → Bool
-retracts_ends ends (Retracts e) = is_same_pair e ends
+abbrev pub retracts_ends : VersionInterval → Directive → Bool
+retracts_ends ends (Retracts e) = bytes_eq e.0 ends.0 && bytes_eq e.1 ends.1
 retracts_ends ends _ = false
 
 -- Whether an operation targets a directive. It changes or drops such directives, or does nothing if there is one

@@ -6,7 +6,7 @@ use Rattle.gm_syntax.specs.Document.{Line, Blank, Open, Close}
 use Rattle.gm_file.specs.Directives.{Directive, LineInBlock, with_blocks, with_blocks_from}
 use Rattle.gm_file.specs.Faults.{is_module}
 use Rattle.gm_file_edit.specs.About.{about}
-use Rattle.gm_file_edit.specs.Edits.{Edit, Set, Add, Drop, ModuleIs, GoIs, RequireAt, ReplaceWith, Exclude, Retract}
+use Rattle.gm_file_edit.specs.Edits.{Edit, Set, Add, Drop, GoIs, RequireAt, ReplaceWith, Exclude, Retract}
 use Rattle.gm_file_edit.specs.Holding.{directive_at, is_blank_source_line, passes}
 use Rattle.gm_file_edit.specs.NewWords.{entry_at, interval_words, made_word, pair_words, replace_words, single}
 use Rattle.gm_file_edit.specs.Renewing.{made_new}
@@ -182,13 +182,12 @@ sections_changed (Drop t) sections = sections_without (about (Drop t)) sections
 -- The lines after an operation that targets none: a directive is put in, after the last one of its verb, but a go
 -- directive after the module directive or its block. No module directive is put in.
 abbrev pub with_new : Edit → List (Line Placed) → List (Line Placed)
-with_new (Set (ModuleIs path)) lines = lines
 with_new (Set (GoIs text)) lines = after_first_section is_module (new_go text) (sections_of lines)
 with_new (Set (RequireAt p)) lines = with_entry is_require (codes "require") (pair_words p) lines
 with_new (Set (ReplaceWith r)) lines = with_entry is_replace (codes "replace") (replace_words r) lines
 with_new (Add (Exclude p)) lines = with_entry is_exclude (codes "exclude") (pair_words p) lines
 with_new (Add (Retract ends)) lines = with_entry is_retract (codes "retract") (interval_words ends) lines
-with_new (Drop t) lines = lines
+with_new _ lines = lines
 
 -- the lines after the operation
 unfoldable pub edited : Edit → List (Line Placed) → List (Line Placed)

@@ -4,28 +4,29 @@ use Rattle.std.specs.Option.{option_map}
 use Rattle.std.specs.List.{after_first, before_first, list_any, suffix_len}
 use Rattle.std.specs.Str.{bytes_eq}
 use Rattle.gm_name.specs.Names.{is_path, is_version}
+use Rattle.gm_name.specs.ModuleVersion.{ModuleVersion}
 use Rattle.gm_file.specs.Values.{both, is_folder_path}
 use Rattle.gm_file.specs.GoVersions.{strict_go}
-use Rattle.gm_file.specs.Directives.{Pair, pair, Left, left_with, left_without, Right, Folder, Module, Replacing, replacing}
+use Rattle.gm_file.specs.Directives.{VersionInterval, pair, Left, left_with, left_without, Right, Folder, Module, Replacing, replacing}
 
 -- a directive that an operation sets: there is then one of its kind, and it says this
 pub data Setting : Type 0 where
   ModuleIs : List ℕ → Setting
   GoIs : List ℕ → Setting
-  RequireAt : Pair → Setting
+  RequireAt : ModuleVersion → Setting
   ReplaceWith : Replacing → Setting
 
 -- a directive that an operation adds if it isn't there
 pub data Addition : Type 0 where
-  Exclude : Pair → Addition
-  Retract : Pair → Addition
+  Exclude : ModuleVersion → Addition
+  Retract : VersionInterval → Addition
 
 -- the directives that an operation drops: those of a path, of a pair, of a left side, of an interval
 pub data Target : Type 0 where
   AnyRequire : List ℕ → Target
-  AnyExclude : Pair → Target
+  AnyExclude : ModuleVersion → Target
   AnyReplace : Left → Target
-  AnyRetract : Pair → Target
+  AnyRetract : VersionInterval → Target
 
 -- an operation with its arguments
 pub data Edit : Type 0 where
@@ -40,7 +41,7 @@ abbrev pub has_byte : ℕ → List ℕ → Bool
 has_byte b text = list_any (λ c. c == b) text
 
 -- the text before the first such byte, and the text after it
-abbrev pub split_at_byte : ℕ → List ℕ → Option Pair
+abbrev pub split_at_byte : ℕ → List ℕ → Option (List ℕ × List ℕ)
 split_at_byte b text =
     if has_byte b text then Some (before_first (λ c. c == b) text, after_first (λ c. c == b) text)
     else None
@@ -58,14 +59,14 @@ abbrev pub go_text_in : List ℕ → Option (List ℕ)
 go_text_in text = if is_some (strict_go text) then Some text else None
 
 -- both parts of a split text, as a path and a version
-abbrev pub path_and_version_in : Pair → Option Pair
+abbrev pub path_and_version_in : List ℕ × List ℕ → Option ModuleVersion
 path_and_version_in parts = both pair (path_in parts.0) (version_in parts.1)
 
 -- a path, `@` and a version
-unfoldable pub pair_in : List ℕ → Option Pair
+unfoldable pub pair_in : List ℕ → Option ModuleVersion
 pair_in text = option_and_then path_and_version_in (split_at_byte 64 text)
 
-abbrev pub left_of_pair : Pair → Left
+abbrev pub left_of_pair : ModuleVersion → Left
 left_of_pair p = left_with p.0 p.1
 
 -- a path, optionally with `@` and a version
@@ -74,7 +75,7 @@ left_in text =
     if has_byte 64 text then option_map left_of_pair (pair_in text)
     else option_map left_without (path_in text)
 
-abbrev pub module_of_pair : Pair → Right
+abbrev pub module_of_pair : ModuleVersion → Right
 module_of_pair p = Module p.0 p.1
 
 -- a folder, taken verbatim, without a line feed
@@ -86,7 +87,7 @@ unfoldable pub right_in : List ℕ → Option Right
 right_in text = if is_folder_path text then folder_in text else option_map module_of_pair (pair_in text)
 
 -- both parts of a split text, as a left side and a right side
-abbrev pub sides_in : Pair → Option Replacing
+abbrev pub sides_in : List ℕ × List ℕ → Option Replacing
 sides_in parts = both replacing (left_in parts.0) (right_in parts.1)
 
 -- a left side, `=` and a right side; the left side ends at the first `=`
@@ -109,7 +110,7 @@ unfoldable pub trimmed : List ℕ → List ℕ
 trimmed text = without_trailing (without_leading text)
 
 -- both parts of a split text, trimmed, as versions
-abbrev pub both_versions_in : Pair → Option Pair
+abbrev pub both_versions_in : List ℕ × List ℕ → Option VersionInterval
 both_versions_in parts = both pair (version_in (trimmed parts.0)) (version_in (trimmed parts.1))
 
 -- whether the text starts with `[` and ends with another byte, `]`
@@ -121,15 +122,15 @@ abbrev pub inside_brackets : List ℕ → List ℕ
 inside_brackets text = take (length text - 2) (drop 1 text)
 
 -- a version as both ends of an interval
-abbrev pub one_version_in : List ℕ → Option Pair
+abbrev pub one_version_in : List ℕ → Option VersionInterval
 one_version_in text = option_map (λ v. pair v v) (version_in text)
 
 -- two versions separated by a comma; spaces and tabs are allowed around each
-abbrev pub two_versions_in : List ℕ → Option Pair
+abbrev pub two_versions_in : List ℕ → Option VersionInterval
 two_versions_in text = option_and_then both_versions_in (split_at_byte 44 text)
 
 -- a version, which is both ends, or two in brackets
-unfoldable pub interval_in : List ℕ → Option Pair
+unfoldable pub interval_in : List ℕ → Option VersionInterval
 interval_in text = if is_bracketed text then two_versions_in (inside_brackets text) else one_version_in text
 
 -- the operation with this name and this argument
@@ -148,7 +149,7 @@ named name text =
     else None)))))))))
 
 -- both parts of a split text, as a name and its argument
-abbrev pub named_in : Pair → Option Edit
+abbrev pub named_in : List ℕ × List ℕ → Option Edit
 named_in parts = named parts.0 parts.1
 
 -- the operation that a text spells

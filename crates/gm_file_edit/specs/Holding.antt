@@ -3,7 +3,7 @@ use Rattle.std.specs.Prelude.{Bool, true, false, Option, Some, None}
 use Rattle.std.specs.Option.{option_map}
 use Rattle.gm_syntax.specs.Words.{Word}
 use Rattle.gm_syntax.specs.Tokens.{Placed}
-use Rattle.gm_syntax.specs.Document.{Line, Blank, Comment, Open, Close, Entry}
+use Rattle.gm_syntax.specs.Document.{Line, Blank}
 use Rattle.gm_syntax.specs.LineViews.{plain}
 use Rattle.gm_file.specs.Directives.{Strict, Directive, Item, item_at, directive_in}
 
@@ -25,7 +25,4 @@ passes test (Some d) = test d
 
 abbrev pub is_blank_source_line : Line Placed → Bool
 is_blank_source_line Blank = true
-is_blank_source_line (Comment text) = false
-is_blank_source_line (Open verb suffix) = false
-is_blank_source_line (Close suffix) = false
-is_blank_source_line (Entry words suffix) = false
+is_blank_source_line _ = false

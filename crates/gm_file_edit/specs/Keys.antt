@@ -2,12 +2,13 @@
 use Rattle.std.specs.Prelude.{◌+◌, ◌*◌, ◌%◌, ◌^◌, ◌||◌, ◌&&◌, ◌==◌, if◌then◌else◌, ℕ, Bool, true, List, Option, Some, None, slice_get}
 use Rattle.std.specs.Str.{bytes_eq}
 use Rattle.gm_name.specs.Fingerprint.{fingerprint}
+use Rattle.gm_name.specs.ModuleVersion.{ModuleVersion}
 use Rattle.gm_syntax.specs.declared.word.Kind.{Kind}
 use Rattle.gm_syntax.specs.declared.word.Kind.TheVariants as kind
 use Rattle.gm_syntax.specs.Words.{Word}
 use Rattle.gm_syntax.specs.Tokens.{Placed}
 use Rattle.gm_syntax.specs.Document.{Line, Blank, Comment, Open, Close, Entry}
-use Rattle.gm_file.specs.Directives.{Pair, Left}
+use Rattle.gm_file.specs.Directives.{Left}
 use Rattle.gm_file_edit.specs.declared.keys.Key.{Key}
 use Rattle.gm_file_edit.specs.declared.keys.Scope.{Scope}
 use Rattle.gm_file_edit.specs.declared.keys.Scope.TheVariants as scope
@@ -86,7 +87,7 @@ key_of (Entry words suffix) = words_key words
 -- ---- what an operation looks for
 
 -- the number of a path and a version
-abbrev pub pair_number : Pair → ℕ
+abbrev pub pair_number : ModuleVersion → ℕ
 pair_number p = joined (text_number p.0) (text_number p.1)
 
 -- the number of a path, and of a version if there is one

@@ -36,10 +36,7 @@ added_by (Drop t) = None
 -- Whether the versions of an operation fit their paths: those that it requires or excludes, and the one in the left
 -- side of its replace. The right side of a replace isn't checked.
 abbrev pub is_fit : Edit → Bool
-is_fit (Set (ModuleIs path)) = true
-is_fit (Set (GoIs text)) = true
 is_fit (Set (RequireAt p)) = does_fit p.0 p.1
 is_fit (Set (ReplaceWith r)) = does_left_fit r.0.path r.0.version
 is_fit (Add (Exclude p)) = does_fit p.0 p.1
-is_fit (Add (Retract ends)) = true
-is_fit (Drop t) = true
+is_fit _ = true

@@ -1,6 +1,7 @@
 -- New entries and their words.
 use Rattle.std.specs.Prelude.{ℕ, if◌then◌else◌, Bool, true, false, List, [], ◌∷◌, ◌++◌, Option, Some, None}
 use Rattle.std.specs.Str.{bytes_eq}
+use Rattle.gm_name.specs.ModuleVersion.{ModuleVersion}
 use Rattle.gm_syntax.specs.declared.word.Kind.TheVariants.{Mark}
 use Rattle.gm_syntax.specs.declared.word.Punct.{Punct}
 use Rattle.gm_syntax.specs.declared.word.Punct.TheVariants.{LeftBracket, RightBracket, Comma, Arrow}
@@ -8,7 +9,7 @@ use Rattle.gm_syntax.specs.Words.{Word, mark_text}
 use Rattle.gm_syntax.specs.Bare.{new_word}
 use Rattle.gm_syntax.specs.Tokens.{Placed}
 use Rattle.gm_syntax.specs.Document.{Line, Entry}
-use Rattle.gm_file.specs.Directives.{Pair, Left, Right, Folder, Module, Replacing}
+use Rattle.gm_file.specs.Directives.{VersionInterval, Left, Right, Folder, Module, Replacing}
 
 -- a word with no source position
 abbrev pub unplaced : Word → Placed
@@ -23,7 +24,7 @@ abbrev pub made_mark : Punct → Placed
 made_mark punct = unplaced (record { kind = Mark; spelling = mark_text punct })
 
 -- a path and a version
-abbrev pub pair_words : Pair → List Placed
+abbrev pub pair_words : ModuleVersion → List Placed
 pair_words p = made_word p.0 ∷ made_word p.1 ∷ []
 
 abbrev pub left_words_of : List ℕ → Option (List ℕ) → List Placed
@@ -44,7 +45,7 @@ abbrev pub replace_words : Replacing → List Placed
 replace_words r = left_words r.0 ++ made_mark Arrow ∷ right_words r.1
 
 -- one version if both ends are equal, and both in brackets otherwise
-abbrev pub interval_words : Pair → List Placed
+abbrev pub interval_words : VersionInterval → List Placed
 interval_words ends =
     if bytes_eq ends.0 ends.1 then made_word ends.0 ∷ []
     else made_mark LeftBracket ∷ made_word ends.0 ∷ made_mark Comma ∷ made_word ends.1 ∷ made_mark RightBracket ∷ []

@@ -1,17 +1,14 @@
 -- Entries that an operation rewrites.
 use Rattle.std.specs.Prelude.{ℕ, ◌-◌, List, [], ◌∷◌, ◌++◌, length, take, Option, Some, None}
 use Rattle.gm_syntax.specs.Tokens.{Placed}
-use Rattle.gm_syntax.specs.Document.{Line, Blank, Comment, Open, Close, Entry}
-use Rattle.gm_file_edit.specs.Edits.{Edit, Set, Add, Drop, ModuleIs, GoIs, RequireAt, ReplaceWith}
+use Rattle.gm_syntax.specs.Document.{Line, Entry}
+use Rattle.gm_file_edit.specs.Edits.{Edit, Set, ModuleIs, GoIs, RequireAt, ReplaceWith}
 use Rattle.gm_file_edit.specs.NewWords.{made_word, replace_words}
 
 -- an entry with its last word replaced
 abbrev pub with_last : List ℕ → Option Placed → Line Placed → Line Placed
-with_last value block Blank = Blank
-with_last value block (Comment text) = Comment text
-with_last value block (Open verb suffix) = Open verb suffix
-with_last value block (Close suffix) = Close suffix
 with_last value block (Entry words suffix) = Entry (take (length words - 1) words ++ made_word value ∷ []) suffix
+with_last value block line = line
 
 -- the number of words before the arguments: the verb, unless it is at the opening of the block
 abbrev pub before_arguments : Option Placed → ℕ
@@ -20,11 +17,8 @@ before_arguments (Some verb) = 0
 
 -- an entry with its arguments replaced; its comment stays
 abbrev pub with_arguments : List Placed → Option Placed → Line Placed → Line Placed
-with_arguments arguments block Blank = Blank
-with_arguments arguments block (Comment text) = Comment text
-with_arguments arguments block (Open verb suffix) = Open verb suffix
-with_arguments arguments block (Close suffix) = Close suffix
 with_arguments arguments block (Entry words suffix) = Entry (take (before_arguments block) words ++ arguments) suffix
+with_arguments arguments block line = line
 
 -- the first targeted entry as the operation rewrites it
 abbrev pub made_new : Edit → Option Placed → Line Placed → Line Placed
@@ -32,5 +26,4 @@ made_new (Set (ModuleIs path)) block line = with_last path block line
 made_new (Set (GoIs text)) block line = with_last text block line
 made_new (Set (RequireAt p)) block line = with_last p.1 block line
 made_new (Set (ReplaceWith r)) block line = with_arguments (replace_words r) block line
-made_new (Add a) block line = line
-made_new (Drop t) block line = line
+made_new _ block line = line

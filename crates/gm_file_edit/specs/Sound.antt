@@ -1,17 +1,18 @@
 -- What is known of the arguments of a parsed operation. No public contract cites it.
 use Rattle.std.specs.Prelude.{◌≡◌, ℕ, true, false, List, Option, Some, None, is_some, ⊤}
 use Rattle.gm_name.specs.Names.{is_path, is_version}
+use Rattle.gm_name.specs.ModuleVersion.{ModuleVersion}
 use Rattle.gm_file.specs.Values.{is_folder_path}
 use Rattle.gm_file.specs.GoVersions.{strict_go}
-use Rattle.gm_file.specs.Directives.{Pair, Left, Right, Folder, Module}
+use Rattle.gm_file.specs.Directives.{VersionInterval, Left, Right, Folder, Module}
 use Rattle.gm_file_edit.specs.Edits.{Edit, Set, ModuleIs, GoIs, RequireAt, Drop, Add, Exclude, ReplaceWith, Retract, edit_in, has_byte}
 
 -- a path and a version
-abbrev pub IsPairOfNames : Pair → Type 0
+abbrev pub IsPairOfNames : ModuleVersion → Type 0
 IsPairOfNames p = (is_path p.0 ≡ true) × (is_version p.1 ≡ true)
 
 -- two versions
-abbrev pub AreVersions : Pair → Type 0
+abbrev pub AreVersions : VersionInterval → Type 0
 AreVersions ends = (is_version ends.0 ≡ true) × (is_version ends.1 ≡ true)
 
 -- a version, or none

@@ -2,7 +2,7 @@
 use Rattle.std.specs.Prelude.{◌≡◌, ℕ, List, Option, Some, None, Result, Ok, Err, string_bytes, ⊤}
 use Rattle.std.specs.Option.{option_map}
 use Rattle.std.specs.Borrow.{Bor}
-use Rattle.gm_file.specs.Directives.{Pair, Left}
+use Rattle.gm_file.specs.Directives.{Left}
 use Rattle.gm_file_edit.specs.declared.part.LeftSide.{LeftSide}
 use Rattle.gm_file.specs.Views.{interval_view, replace_view}
 use Rattle.gm_file_edit.specs.declared.fault.OpFault.{OpFault}
@@ -22,7 +22,7 @@ abbrev pub left_seen : LeftSide → Left
 left_seen side = record { path = side.path; version = side.version }
 
 -- the two parts of a split text
-abbrev pub split_seen : Option (Bor (List ℕ) × Bor (List ℕ)) → Option Pair
+abbrev pub split_seen : Option (Bor (List ℕ) × Bor (List ℕ)) → Option (List ℕ × List ℕ)
 split_seen cut = option_map (λ parts. (parts.0.now, parts.1.now)) cut
 
 -- the directive that is set

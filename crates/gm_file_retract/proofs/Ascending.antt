@@ -1,5 +1,5 @@
 -- Precedence as a test, and intervals that are sorted by their low ends.
-use Rattle.std.proofs.Common.{◌≡◌, ◌∙◌, ◌+◌, ◌<◌, ◌≤◌, ◌||◌, zero, suc, ℕ, Bool, true, false, not, List, [], ◌∷◌, ◌++◌, map, take, length, slice_index_or, Option, Some, None, ap, sym, subst, refl, arith, add-one}
+use Rattle.std.proofs.Common.{◌≡◌, ◌<◌, ◌≤◌, ◌||◌, suc, ℕ, Bool, true, false, not, List, [], ◌∷◌, map, length, slice_index_or, ap, sym, subst, refl, arith}
 use Rattle.std.specs.Cmp.{IsTotalOrder, on_total, then_total}
 use Rattle.std.specs.List.{AllByRecursion, list_any}
 use Rattle.std.specs.List.Sorted.{IsPermutation, IsSorted}
@@ -10,9 +10,9 @@ use Rattle.std.proofs.lemmas.Cmp.{upto}
 use Rattle.std.proofs.lemmas.List.Sorted.{IsPermutation-map, list_any-IsPermutation, ranks_by, sorted_far}
 use Rattle.gm_name.specs.Version.{parts_in, precedence, version_cmp}
 use Rattle.gm_name.specs.VersionOrder.{precedence_total, version_total}
-use Rattle.gm_file.specs.Directives.{Pair}
-use Rattle.gm_file_retract.specs.Shown.{holds_version, is_retracted, is_at_most}
-use Rattle.gm_file_retract.specs.Swept.{AreSorted, Ascend, is_reached, ends_view, ends_views}
+use Rattle.gm_file.specs.Directives.{VersionInterval}
+use Rattle.gm_file_retract.specs.Shown.{holds_version, is_at_most}
+use Rattle.gm_file_retract.specs.Swept.{AreSorted, Ascend, ends_view, ends_views}
 use Rattle.gm_file_retract.specs.declared.sweep.Ends.{Ends}
 
 by_parts : IsTotalOrder (on parts_in precedence)
@@ -77,7 +77,7 @@ ascend_from (x ∷ xs) above = (
 )
 
 -- the result of sorting ends
-pub sorted_from : (intervals : List Pair) (found sorted : List Ends) → ends_views found ≡ intervals → IsPermutation found sorted
+pub sorted_from : (intervals : List VersionInterval) (found sorted : List Ends) → ends_views found ≡ intervals → IsPermutation found sorted
     → IsSorted ends_cmp sorted → AreSorted (ends_views sorted) intervals
 sorted_from intervals found sorted same moved ordered = record {
   ascend = ascend_from sorted (λ i j d order within. not_below (slice_index_or sorted i d) (slice_index_or sorted j d)

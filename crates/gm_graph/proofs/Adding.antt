@@ -4,13 +4,12 @@ use Rattle.std.specs.List.{list_any, IsDistinct}
 use Rattle.std.proofs.lemmas.Map.Keys.{IsDistinct-push}
 use Rattle.std.proofs.lemmas.Map.Views.{Contains-from_any}
 use Rattle.std.proofs.lemmas.List.Elements.{Contains-append_left, Contains-push, Contains-push_cases}
-use Rattle.gm_graph_cache.specs.Main.{ModuleVersion}
-use Rattle.gm_name.specs.PairOrder.{pair_eq}
+use Rattle.gm_name.specs.ModuleVersion.{ModuleVersion, pair-same, pair_eq, pairs-equivalence}
 use Rattle.gm_graph_cache.specs.declared.depth.Turn.{Turn}
 use Rattle.gm_graph_cache.specs.declared.depth.Depth.{Depth}
 use Rattle.gm_graph.specs.Turns.{same_turn, AreTurnsOf, AddsAll, OverflowsWith}
 use Rattle.gm_graph_cache.specs.Turns.{turn}
-use Rattle.gm_graph.proofs.Sameness.{exact_vertex, vertices_equivalence, turns_equivalence}
+use Rattle.gm_graph.proofs.Sameness.{turns_equivalence}
 
 pub no_turns : AreTurnsOf [] []
 unfolding IsDistinct
@@ -35,7 +34,7 @@ module _ (vertices : List ModuleVersion) (turns : List Turn) (x : ModuleVersion)
         (one.0, Contains-append_left turns (turn x d ∷ []) (turn y one.0) one.1);
     has_vertex = λ one h. elim (Contains-push_cases turns (turn x d) one h) [
       | inl there ↦ old.has_vertex one there
-      | inr e ↦ subst (λ (o : Turn). Contains vertices o.vertex) e (Contains-from_any exact_vertex x vertices known)
+      | inr e ↦ subst (λ (o : Turn). Contains vertices o.vertex) e (Contains-from_any pair-same x vertices known)
     ];
   }
 
@@ -44,7 +43,7 @@ module _ (vertices : List ModuleVersion) (turns : List Turn) (x : ModuleVersion)
       → AreTurnsOf (vertices ++ x ∷ []) (turns ++ turn x d ∷ [])
   new_turn unknown room = record {
     few = rw length-append (omega arith);
-    vertices_once = IsDistinct-push vertices_equivalence vertices x old.vertices_once unknown;
+    vertices_once = IsDistinct-push pairs-equivalence vertices x old.vertices_once unknown;
     turns_once = IsDistinct-push turns_equivalence turns (turn x d) old.turns_once fresh;
     has_turn = λ y h. elim (Contains-push_cases vertices x y h) [
       | inl there ↦ (
@@ -68,7 +67,7 @@ pub overflow_one : (vertices : List ModuleVersion) (turns : List Turn) (x : Modu
 overflow_one vertices turns x are full unknown = (
   vertices ++ x ∷ [],
   omega (arith, length-append vertices (x ∷ [])),
-  IsDistinct-push vertices_equivalence vertices x are.vertices_once unknown,
+  IsDistinct-push pairs-equivalence vertices x are.vertices_once unknown,
   (λ y h. elim (Contains-push_cases vertices x y h) [
     | inl there ↦ inl (are.has_turn y there)
     | inr e ↦ inr (0, omega arith, e)

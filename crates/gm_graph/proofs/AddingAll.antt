@@ -1,12 +1,10 @@
 -- Adding several turns.
-use Rattle.std.proofs.Common.{◌≡◌, ◌+◌, ◌≤◌, ◌<◌, ℕ, List, [], ◌∷◌, ◌++◌, length, map, take, get_or, Contains, ap, ◌∙◌, sym, refl, subst, inl, inr, arith, length-append, append_assoc, append-nil, zero, suc}
-use Rattle.std.proofs.Common.{drop}
+use Rattle.std.proofs.Common.{◌≡◌, ◌+◌, ◌≤◌, ◌<◌, ℕ, List, [], ◌∷◌, ◌++◌, length, map, take, get_or, Contains, ap, ◌∙◌, sym, refl, subst, inl, inr, arith, length-append, append_assoc, append-nil, zero, suc, drop}
 use Rattle.std.proofs.lemmas.List.{get_or_default, map_more, take-append-drop}
 use Rattle.std.proofs.lemmas.List.Elements.{Contains-append_left, Contains-append_right, Contains-push, Contains-push_cases, Contains-append_cases}
-use Rattle.gm_graph_cache.specs.Main.{ModuleVersion}
+use Rattle.gm_name.specs.ModuleVersion.{ModuleVersion, module_at}
 use Rattle.gm_graph_cache.specs.declared.depth.Turn.{Turn}
 use Rattle.gm_graph_cache.specs.declared.depth.Depth.{Depth}
-use Rattle.gm_graph_select.specs.Adjacency.{vertex_at}
 use Rattle.gm_graph.specs.declared.graph_builder.GraphBuilder.{GraphBuilder}
 use Rattle.gm_graph.specs.Builder.{KeepsGraph}
 use Rattle.gm_graph.proofs.Adding.{overflow_later}
@@ -65,13 +63,13 @@ adds_turn old new y d (inl more) = record {
 
 -- one more turn of a list of numbers
 pub adds_number : (modules : List ModuleVersion) (old mid new : List Turn) (numbers : List ℕ) (i : ℕ) (d : Depth)
-    → i < length numbers → AddsAll old mid (map (vertex_at modules) (take i numbers)) d
-    → AppendsTurnIfNew mid new (turn (vertex_at modules (get_or numbers i 0)) d)
-    → AddsAll old new (map (vertex_at modules) (take (i + 1) numbers)) d
+    → i < length numbers → AddsAll old mid (map (module_at modules) (take i numbers)) d
+    → AppendsTurnIfNew mid new (turn (module_at modules (get_or numbers i 0)) d)
+    → AddsAll old new (map (module_at modules) (take (i + 1) numbers)) d
 adds_number modules old mid new numbers i d below before one =
-    let x = vertex_at modules (get_or numbers i 0) in
-    subst (λ (xs : List ModuleVersion). AddsAll old new xs d) (sym (map_more (vertex_at modules) numbers i 0 below))
-    (adds_both old mid new (map (vertex_at modules) (take i numbers)) (x ∷ []) d before (adds_turn mid new x d one))
+    let x = module_at modules (get_or numbers i 0) in
+    subst (λ (xs : List ModuleVersion). AddsAll old new xs d) (sym (map_more (module_at modules) numbers i 0 below))
+    (adds_both old mid new (map (module_at modules) (take i numbers)) (x ∷ []) d before (adds_turn mid new x d one))
 
 pub keeps_both : (old mid new : GraphBuilder) → KeepsGraph old mid → KeepsGraph mid new → KeepsGraph old new
 keeps_both old mid new first then' = record {
@@ -85,18 +83,18 @@ front_of numbers i number h = subst (λ (l : List ℕ). Contains l number) (take
 
 -- One of them is too many.
 pub overflow_at : (modules : List ModuleVersion) (old mid : List Turn) (numbers : List ℕ) (i : ℕ) (d : Depth)
-    → i < length numbers → AddsAll old mid (map (vertex_at modules) (take i numbers)) d
-    → OverflowsWith mid (vertex_at modules (get_or numbers i 0) ∷ [])
-    → OverflowsWith old (map (vertex_at modules) numbers)
+    → i < length numbers → AddsAll old mid (map (module_at modules) (take i numbers)) d
+    → OverflowsWith mid (module_at modules (get_or numbers i 0) ∷ [])
+    → OverflowsWith old (map (module_at modules) numbers)
 overflow_at modules old mid numbers i d below adds over =
-    let x = vertex_at modules (get_or numbers i 0) in
-    overflow_later old mid d (map (vertex_at modules) (take i numbers)) (x ∷ [])
-    (map (vertex_at modules) numbers) adds
+    let x = module_at modules (get_or numbers i 0) in
+    overflow_later old mid d (map (module_at modules) (take i numbers)) (x ∷ [])
+    (map (module_at modules) numbers) adds
     (λ y h.
-    let (number, there, e) = from_mapped (vertex_at modules) (take i numbers) y h in
-    subst (λ (z : ModuleVersion). Contains (map (vertex_at modules) numbers) z) e
-    (in_mapped (vertex_at modules) numbers number (front_of numbers i number there)))
-    (λ y h. subst (λ (z : ModuleVersion). Contains (map (vertex_at modules) numbers) z) (only_one x y h)
-    (in_mapped (vertex_at modules) numbers (get_or numbers i 0)
+    let (number, there, e) = from_mapped (module_at modules) (take i numbers) y h in
+    subst (λ (z : ModuleVersion). Contains (map (module_at modules) numbers) z) e
+    (in_mapped (module_at modules) numbers number (front_of numbers i number there)))
+    (λ y h. subst (λ (z : ModuleVersion). Contains (map (module_at modules) numbers) z) (only_one x y h)
+    (in_mapped (module_at modules) numbers (get_or numbers i 0)
     (i, below, get_or_default numbers i (get_or numbers i 0) 0 below)))
     over

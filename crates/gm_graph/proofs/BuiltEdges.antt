@@ -7,13 +7,14 @@ use Rattle.std.proofs.lemmas.List.{get_or_default}
 use Rattle.std.proofs.lemmas.List.Elements.{Contains-append_left}
 use Rattle.std.proofs.lemmas.List.Folds.{list_any-append}
 use Rattle.std.proofs.lemmas.Map.Views.{Contains-from_any}
+use Rattle.gm_name.specs.ModuleVersion.{ModuleVersion, pair-same, pair_eq, pairs-equivalence}
 use Rattle.gm_file.specs.Fields.{Dependency}
 use Rattle.gm_graph_cache.specs.declared.class.Class.{Class}
 use Rattle.gm_graph_cache.specs.declared.depth.Depth.{Depth}
 use Rattle.gm_graph_cache.specs.declared.depth.Depth.TheVariants.{Top, Deep}
 use Rattle.gm_graph_cache.specs.declared.depth.Turn.{Turn}
 use Rattle.gm_graph_cache.specs.Turns.{turn}
-use Rattle.gm_graph_cache.specs.Main.{Main, ModuleVersion}
+use Rattle.gm_graph_cache.specs.Main.{Main}
 use Rattle.gm_graph_cache.specs.Reading.{Keeps, Readings, fault_in, vertex_fault, requirements_in, vertex_requirements, said_in}
 use Rattle.gm_graph_select.specs.declared.step.Edge.{Edge}
 use Rattle.gm_graph_select.specs.declared.step.Step.{Step}
@@ -21,9 +22,9 @@ use Rattle.gm_graph_select.specs.declared.step.Step.TheVariants.{Main as FromMai
 use Rattle.gm_graph_select.specs.Graph.{edge}
 use Rattle.gm_graph.specs.Building.{AreGathered, Faults, Gathers, IsGathered, gathers, noted}
 use Rattle.gm_graph.specs.Graph.{IsEdge, IsOpened, TakesTurn}
-use Rattle.gm_name.specs.PairOrder.{pair_eq}
-use Rattle.gm_graph.specs.Turns.{Extends, same_turn}
-use Rattle.gm_graph.proofs.Sameness.{exact_turn, exact_vertex, vertices_equivalence}
+use Rattle.gm_graph.specs.Turns.{same_turn}
+use Rattle.gm_name_table.specs.Listed.{BeginsWith}
+use Rattle.gm_graph.proofs.Sameness.{exact_turn}
 use Rattle.gm_graph.proofs.Deepening.{IsDeep-kept, known-same, requirement-kept}
 use Rattle.gm_graph.proofs.Rounds.{AreVisited, opened_from, has_turn_of}
 use Rattle.gm_graph.proofs.Queueing.{get_or-along}
@@ -42,13 +43,13 @@ noted_some false c class old e = inr e
 noted_from : (o : Option Class) (x z : ModuleVersion) (before : Faults) (class : Class) → noted o x before z ≡ Some class → (before z ≡ Some class) ⊎ ((o ≡ Some class) × (x ≡ z))
 noted_from None x z before class e = inl e
 noted_from (Some c) x z before class e = elim (noted_some (pair_eq x z) c class (before z) e) [
-  | inl here ↦ inr (here.1, exact_vertex x z here.0)
+  | inl here ↦ inr (here.1, pair-same x z here.0)
   | inr there ↦ inl there
 ]
 
 noted_here : (o : Option Class) (x : ModuleVersion) (before : Faults) (class : Class) → o ≡ Some class → noted o x before x ≡ Some class
 noted_here None x before class e = cc
-noted_here (Some c) x before class e = ap (λ (b : Bool). if b then Some c else before x) (vertices_equivalence.refl x) ∙ e
+noted_here (Some c) x before class e = ap (λ (b : Bool). if b then Some c else before x) (pairs-equivalence.refl x) ∙ e
 
 noted_if : (b : Bool) (c class : Class) (old : Option Class) → old ≡ Some class → (b ≡ true → Some c ≡ Some class) → (if b then Some c else old) ≡ Some class
 noted_if true c class old e f = f refl
@@ -56,7 +57,7 @@ noted_if false c class old e f = e
 
 noted_stays : (o : Option Class) (x z : ModuleVersion) (before : Faults) (class : Class) → before z ≡ Some class → (x ≡ z → o ≡ Some class) → noted o x before z ≡ Some class
 noted_stays None x z before class e f = e
-noted_stays (Some c) x z before class e f = noted_if (pair_eq x z) c class (before z) e (λ is. f (exact_vertex x z is))
+noted_stays (Some c) x z before class e f = noted_if (pair_eq x z) c class (before z) e (λ is. f (pair-same x z is))
 
 -- A fault is the one of the reading.
 pub fault_reading : (o : Option (Result Dependency Class)) (class : Class) → fault_in o ≡ Some class → o ≡ Some (Err class)
@@ -74,7 +75,7 @@ not_or : (a b : Bool) → not (a || b) ≡ true → not a ≡ true
 not_or true b e = e
 not_or false b e = refl
 
-pub gathers_before : (old new : List Turn) (x : ModuleVersion) (d : Depth) → Extends old new → gathers new (turn x d) ≡ true → gathers old (turn x d) ≡ true
+pub gathers_before : (old new : List Turn) (x : ModuleVersion) (d : Depth) → BeginsWith old new → gathers new (turn x d) ≡ true → gathers old (turn x d) ≡ true
 gathers_before old new x Top extends e = refl
 gathers_before old new x Deep (rest, is) e =
     not_or (list_any (same_turn (turn x Top)) old) (list_any (same_turn (turn x Top)) rest)
@@ -89,7 +90,7 @@ edge_kept : (main : Main) (a b : Readings) → Keeps a b → (s : Step) (y : Mod
 edge_kept main a b keeps FromMain y t = t
 edge_kept main a b keeps (Of x) y (opened, r) = (opened_kept main a b keeps x opened, requirement-kept main a b keeps x y r)
 
-module _ (main : Main) (a b : Readings) (keeps : Keeps a b) (old new : List Turn) (extends : Extends old new) (edges more : List Edge) (before after : Faults) (x : ModuleVersion) (depth : Depth)
+module _ (main : Main) (a b : Readings) (keeps : Keeps a b) (old new : List Turn) (extends : BeginsWith old new) (edges more : List Edge) (before after : Faults) (x : ModuleVersion) (depth : Depth)
     (opened : TakesTurn main b x depth) (g : Gathers main b old edges more before after (turn x depth)) where
   still_there : (e : Edge) → Contains edges e → Contains more e
   still_there e h = subst (λ (es : List Edge). Contains es e) (sym g.extends.1) (Contains-append_left edges g.extends.0 e h)
@@ -124,7 +125,7 @@ module _ (main : Main) (a b : Readings) (keeps : Keeps a b) (old new : List Turn
       }
 
 pub gathered_more : (main : Main) (a b : Readings) (old new : List Turn) (edges more : List Edge) (before after : Faults) (at : ℕ) (x : ModuleVersion) (depth : Depth)
-    → Keeps a b → Extends old new → TakesTurn main b x depth → at < length old → get_or old at (turn x depth) ≡ turn x depth → ((k : ℕ) (d : Turn) → k < at → IsSome (a (get_or old k d).vertex))
+    → Keeps a b → BeginsWith old new → TakesTurn main b x depth → at < length old → get_or old at (turn x depth) ≡ turn x depth → ((k : ℕ) (d : Turn) → k < at → IsSome (a (get_or old k d).vertex))
     → IsGatheredTo main a old edges before at → Gathers main b old edges more before after (turn x depth) → IsGatheredTo main b new more after (at + 1)
 gathered_more main a b old new edges more before after at x depth keeps extends opened below here known is g = record {
   are = are_more main a b keeps old new extends edges more before after x depth opened g is.are;

@@ -1,16 +1,16 @@
 -- A cache after requirements were requested, and one that knows more.
 use Rattle.std.proofs.Common.{◌≡◌, ◌<◌, List, Option, Result, Ok, Err, ap, length, ◌∙◌, sym, subst}
 use Rattle.std.specs.Result.{OnOk}
+use Rattle.gm_name.specs.ModuleVersion.{ModuleVersion, module_at}
 use Rattle.gm_name_table.specs.Listed.{BeginsWith}
 use Rattle.gm_store.specs.Asked.{Name, Reply}
 use Rattle.gm_store_sums.specs.declared.sum_table.SumTable.{SumTable}
 use Rattle.gm_graph_cache.specs.declared.cache.Cache.{Cache}
 use Rattle.gm_graph_cache.specs.declared.depth.Turn.{Turn}
 use Rattle.gm_graph_cache.specs.Cached.{AddsTurn, Knows, LentSame, held_of, main_in, modules_in, numbered}
-use Rattle.gm_graph_cache.specs.Main.{Main, ModuleVersion, main_of}
+use Rattle.gm_graph_cache.specs.Main.{Main, main_of}
 use Rattle.gm_graph_cache.specs.Reading.{Held, KeepsHeld, Readings, Tells, readings_by}
 use Rattle.gm_graph_cache.proofs.Keeping.{held_same, main_same}
-use Rattle.gm_graph_select.specs.Adjacency.{vertex_at}
 use Rattle.gm_graph.specs.declared.graph_builder.GraphBuilder.{GraphBuilder}
 use Rattle.gm_graph.specs.declared.graph_builder.NumberedTurn.{NumberedTurn}
 use Rattle.gm_graph.specs.Builder.{Built, IsBuilder, built, turn_of, turns_of}
@@ -40,7 +40,7 @@ on_ok_two (Err e) f p q = tt
 -- A visit according to a cache that knows the vertex's file. The modules that it adds have numbers that the builder doesn't use.
 module _ (old mid : Cache) (builder : GraphBuilder) (one : NumberedTurn) (numbered_by : BeginsWith (modules_in old) (modules_in mid)) (is : IsBuilder (modules_in old) builder) (below : one.number < length (modules_in old)) where
   same_module : numbered mid one.number ≡ numbered old one.number
-  same_module = ap (λ (ms : List ModuleVersion). vertex_at ms one.number) numbered_by.1 ∙ vertex_stays (modules_in old) numbered_by.0 one.number below
+  same_module = ap (λ (ms : List ModuleVersion). module_at ms one.number) numbered_by.1 ∙ vertex_stays (modules_in old) numbered_by.0 one.number below
 
   -- what it did
   pub visited_by : (new : Cache) (after : GraphBuilder) → AddsTurn mid new (turn_of (modules_in mid) one)

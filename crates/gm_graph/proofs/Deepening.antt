@@ -1,8 +1,9 @@
 -- Opened vertices as the answers grow, and turns that are all done.
 use Rattle.std.proofs.Common.{◌≡◌, true, false, List, [], Option, Some, None, IsSome, Result, Contains, ap, ◌∙◌, sym, refl, subst, inl, inr, arith, append-nil}
 use Rattle.std.proofs.lemmas.Bool.{cases_Bool, false≢true}
+use Rattle.gm_name.specs.ModuleVersion.{ModuleVersion}
 use Rattle.gm_file.specs.Fields.{Dependency}
-use Rattle.gm_graph_cache.specs.Main.{Main, ModuleVersion, is_pruned_by}
+use Rattle.gm_graph_cache.specs.Main.{Main, is_pruned_by}
 use Rattle.gm_graph_cache.specs.Reading.{Keeps, Readings, is_unpruned_in, requirements_in, vertex_requirements, said_in}
 use Rattle.gm_graph_cache.specs.declared.depth.Turn.{Turn}
 use Rattle.gm_graph_cache.specs.declared.depth.Depth.{Depth}

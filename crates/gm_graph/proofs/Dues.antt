@@ -1,18 +1,17 @@
 -- Which names are due while a worklist is visited.
-use Rattle.std.proofs.Common.{◌≡◌, ◌⊎◌, ◌+◌, ◌<◌, ℕ, true, List, [], ◌∷◌, ◌++◌, length, take, get_or, Option, None, Result, Ok, Err, Contains, ap, ◌∙◌, sym, refl, subst, inl, inr, arith}
+use Rattle.std.proofs.Common.{◌≡◌, ◌⊎◌, ◌+◌, ◌<◌, ℕ, true, List, [], ◌∷◌, ◌++◌, length, take, get_or, Option, None, Result, Ok, Err, ap, ◌∙◌, sym, refl, subst, inl, inr, arith}
 use Rattle.std.specs.Result.{IsErr}
 use Rattle.std.proofs.lemmas.List.{take_more, take-append-le}
+use Rattle.gm_name.specs.ModuleVersion.{ModuleVersion}
 use Rattle.gm_store.specs.Asked.{Name, Reply, answer_in}
-use Rattle.gm_store.specs.States.{StoreState}
 use Rattle.gm_store_sums.specs.declared.sum_table.SumTable.{SumTable}
-use Rattle.gm_graph_cache.specs.Asking.{MayGrow}
 use Rattle.gm_graph_cache.specs.declared.cache.Cache.{Cache}
 use Rattle.gm_graph_cache.specs.declared.depth.Depth.{Depth}
 use Rattle.gm_graph_cache.specs.declared.depth.Turn.{Turn}
 use Rattle.gm_graph_cache.specs.declared.load_fault.LoadFault.{LoadFault}
 use Rattle.gm_graph_cache.specs.Cached.{Knows, held_of, main_in, sums_in}
 use Rattle.gm_graph_cache.specs.Turns.{turn}
-use Rattle.gm_graph_cache.specs.Main.{Main, ModuleVersion}
+use Rattle.gm_graph_cache.specs.Main.{Main}
 use Rattle.gm_graph_cache.specs.Reading.{Tells, file_of, is_askable, readings_by}
 use Rattle.gm_graph_cache.specs.Refusals.{refused_names, refused_in}
 use Rattle.gm_graph_cache.proofs.Keeping.{readings_stay}
@@ -62,18 +61,6 @@ module _ (main : Main) (sums : Option SumTable) (cache : Cache) (main_is : main_
         many_followed main (readings_by main (held_of cache)) (readings_by main held) turns at x depth sound (readings_stay main (held_of cache) held over.2) below here
             (subst (λ (m : Main). VisitOverflows m (readings_by m held) turns x depth) main_is over.3),
       )
-
--- ---- the answers of a store, and which of them may be given
-
-none_there : (p : Name × Reply) → Contains [] p → ⊥
-none_there p h = absurd (omega (arith, h.1))
-
--- If there were no answers before, all of them may be given.
-pub may_all : (may : Name → Reply → Type 0) (old new : StoreState) → old.asked ≡ [] → MayGrow may old new → (n : Name) (r : Reply) → Contains new.asked (n, r) → may n r
-may_all may old new e grow n r h = elim (grow n r h) [
-  | inl there ↦ absurd (none_there (n, r) (subst (λ (ps : List (Name × Reply)). Contains ps (n, r)) e there))
-  | inr is ↦ is
-]
 
 -- ---- the refused names of a refusal that is passed on
 

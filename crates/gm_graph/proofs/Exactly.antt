@@ -1,6 +1,5 @@
 -- Exactly the needed names were asked for, at most 65,536 vertices are opened, and each opened vertex was answered.
 use Rattle.std.proofs.Common.{◌≡◌, ◌≤◌, ◌↔◌, ◌||◌, Bool, true, false, cond, List, [], ◌∷◌, ◌++◌, length, Option, Some, None, IsSome, Contains, ap, ap₂, sym, refl, subst, inl, inr, arith, suc, Result}
-use Rattle.std.specs.Bool.{Decides}
 use Rattle.std.specs.List.{IsDistinct, list_any}
 use Rattle.std.specs.Cmp.{IsEquivalence}
 use Rattle.std.specs.Cmp.Derive.{both_true}
@@ -10,6 +9,7 @@ use Rattle.std.proofs.lemmas.Cmp.{nat_list_eq_equiv}
 use Rattle.std.proofs.lemmas.Map.Keys.{IsDistinct-push}
 use Rattle.std.proofs.lemmas.Map.Made.{length-le_from_is_member, is_member-Decides}
 use Rattle.std.proofs.lemmas.List.Elements.{Contains-push_cases}
+use Rattle.gm_name.specs.ModuleVersion.{ModuleVersion, pair_eq-Decides, pairs-equivalence}
 use Rattle.gm_file.specs.Fields.{Dependency}
 use Rattle.gm_store.specs.Asked.{Name, Reply, answer_in, names_in, same_name, mod_file, folder_file, list_file}
 use Rattle.gm_store_sums.specs.declared.sum_table.SumTable.{SumTable}
@@ -17,17 +17,16 @@ use Rattle.gm_graph_cache.specs.declared.class.Class.{Class}
 use Rattle.gm_graph_cache.specs.declared.depth.Turn.{Turn}
 use Rattle.gm_graph_cache.specs.declared.depth.Depth.{Depth}
 use Rattle.gm_graph_cache.specs.declared.depth.Depth.TheVariants.{Top, Deep}
-use Rattle.gm_graph_cache.specs.Main.{Main, ModuleVersion, is_pruned_by}
+use Rattle.gm_graph_cache.specs.Main.{Main, is_pruned_by}
 use Rattle.gm_graph_cache.specs.Reading.{Held, IsTold, Keeps, Readings, Tells, file_of, is_askable, reading_if, readings_by}
 use Rattle.gm_graph_cache.specs.Turns.{turn}
 use Rattle.gm_graph_cache.proofs.Keeping.{readings_stay, earlier_readings_stay}
 use Rattle.gm_graph.specs.Graph.{IsOpened, from_main}
-use Rattle.gm_name.specs.PairOrder.{pair_eq}
 use Rattle.gm_graph.specs.Loading.{AreAsked, AreFew, AreTurns, AsksInTurn, IsAnswered, IsNeeded, nothing, more}
 use Rattle.gm_graph.specs.Turns.{AreTurnsOf}
 use Rattle.gm_graph.proofs.BuiltEdges.{opened_kept}
 use Rattle.gm_graph.proofs.Rounds.{opened_from}
-use Rattle.gm_graph.proofs.Sameness.{exact_vertex, same_bytes, first_true, second_true, vertices_equivalence, equivalence_from_exact}
+use Rattle.gm_graph.proofs.Sameness.{same_bytes, first_true, second_true, equivalence_from_exact}
 
 same_name-refl : (n : Name) → same_name n n ≡ true
 same_name-refl (mod_file p v) = both_true (nat_list_eq_equiv.refl p) (nat_list_eq_equiv.refl v)
@@ -116,9 +115,6 @@ asked_exactly main sums pairs held tells asks known = record {
   );
 }
 
-pair_eq-Decides : (a b : ModuleVersion) → Decides (pair_eq a b) (a ≡ b)
-pair_eq-Decides a b = (exact_vertex a b, λ e. subst (λ (t : ModuleVersion). pair_eq a t ≡ true) e (vertices_equivalence.refl a))
-
 module _ (main : Main) (readings : Readings) (vertices : List ModuleVersion) (turns : List Turn) (are : AreTurnsOf vertices turns) (exact : AreTurns main readings turns) where
   opened_turn : (x : ModuleVersion) → IsOpened main readings x → (d : Depth) × Contains turns (turn x d)
   opened_turn x (inl top) = elim (cases_Bool (is_pruned_by main.go)) [
@@ -135,7 +131,7 @@ module _ (main : Main) (readings : Readings) (vertices : List ModuleVersion) (tu
 
   pub few_opened : AreFew main readings
   few_opened all once each =
-      let fewer : length all ≤ length vertices = length-le_from_is_member vertices_equivalence all vertices once
+      let fewer : length all ≤ length vertices = length-le_from_is_member pairs-equivalence all vertices once
       (λ q h. let there = (is_member-Decides pair_eq-Decides all q).0 h in (is_member-Decides pair_eq-Decides vertices q).1 ((opened_exactly q).1 (each q there))) in
       let few = are.few in
       omega arith

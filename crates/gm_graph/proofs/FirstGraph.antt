@@ -2,15 +2,15 @@
 use Rattle.std.proofs.Common.{◌≡◌, ◌++◌, ◌∷◌, ◌∙◌, [], List, None, ap, map, subst, sym}
 use Rattle.std.specs.BTreeMap.{is_at}
 use Rattle.std.specs.Map.{lookup}
+use Rattle.gm_name.specs.ModuleVersion.{ModuleVersion, pair_cmp}
 use Rattle.gm_graph_cache.specs.declared.class.Class.{Class}
 use Rattle.gm_graph_cache.specs.declared.depth.Depth.{Depth}
 use Rattle.gm_graph_cache.specs.declared.depth.Turn.{Turn}
-use Rattle.gm_graph_cache.specs.Main.{Main, ModuleVersion, is_pruned_by, without_excluded}
+use Rattle.gm_graph_cache.specs.Main.{Main, is_pruned_by, without_excluded}
 use Rattle.gm_graph_select.specs.declared.adjacency.Adjacency.{Adjacency}
 use Rattle.gm_graph_select.specs.declared.step.Step.TheVariants.{Main as FromMain}
 use Rattle.gm_graph_select.specs.Adjacency.{edges_of, sources_of}
 use Rattle.gm_graph_select.specs.Graph.{edge}
-use Rattle.gm_name.specs.PairOrder.{pair_cmp}
 use Rattle.gm_graph.specs.declared.graph_builder.GraphBuilder.{GraphBuilder}
 use Rattle.gm_graph.specs.declared.graph_builder.NumberedTurn.{NumberedTurn}
 use Rattle.gm_graph.specs.Builder.{IsBuilder, KeepsGraph, KeepsTurns, edges_in, faults_by_vertex, sources_in, turn_of, turns_of}

@@ -6,26 +6,24 @@ use Rattle.std.proofs.lemmas.List.{get_or_append_left, get_or_past}
 use Rattle.std.proofs.lemmas.List.Elements.{All-head, All-map, All-tail, All-weaker}
 use Rattle.std.proofs.lemmas.List.Folds.{list_any_none}
 use Rattle.std.proofs.lemmas.Map.Keys.{apart_from_distinct}
+use Rattle.gm_name.specs.ModuleVersion.{ModuleVersion, module_at, pair_eq, pairs-equivalence}
 use Rattle.gm_name_table.specs.Listed.{BeginsWith}
 use Rattle.gm_graph_cache.specs.declared.depth.Depth.{Depth}
 use Rattle.gm_graph_cache.specs.declared.depth.Depth.TheVariants.{Deep, Top}
 use Rattle.gm_graph_cache.specs.declared.depth.Turn.{Turn}
-use Rattle.gm_graph_cache.specs.Main.{ModuleVersion}
 use Rattle.gm_graph_cache.specs.Turns.{turn}
 use Rattle.gm_graph_select.specs.declared.adjacency.Adjacency.{Adjacency}
 use Rattle.gm_graph_select.specs.declared.step.Edge.{Edge}
 use Rattle.gm_graph_select.specs.declared.step.Step.{Step}
 use Rattle.gm_graph_select.specs.declared.step.Step.TheVariants.{Of}
-use Rattle.gm_graph_select.specs.Adjacency.{HaveNumbers, IsBelow, IsNumbered, edges_from, edges_of, left_by, sources_of, step_with, vertex_at}
+use Rattle.gm_graph_select.specs.Adjacency.{HaveNumbers, IsBelow, IsNumbered, edges_from, edges_of, left_by, sources_of, step_with}
 use Rattle.gm_graph_select.specs.Graph.{edge}
 use Rattle.gm_graph.specs.declared.graph_builder.GraphBuilder.{GraphBuilder}
 use Rattle.gm_graph.specs.declared.graph_builder.NumberedTurn.{NumberedTurn}
 use Rattle.gm_graph.specs.declared.marks.Marks.{Marks}
 use Rattle.gm_graph.specs.Builder.{marks_at, AreMarks, Built, IsBuilder, built, edges_in, faults_by_vertex, sources_in, turn_of, turns_of}
-use Rattle.gm_name.specs.PairOrder.{pair_eq}
 use Rattle.gm_graph.specs.Marks.{is_marked}
 use Rattle.gm_graph.specs.Turns.{AreTurnsOf, same_depth, same_turn}
-use Rattle.gm_graph.proofs.Sameness.{vertices_equivalence}
 
 abbrev IsOneBelow : ℕ → NumberedTurn → Type 0
 IsOneBelow count one = one.number < count
@@ -35,7 +33,7 @@ IsUnder count number = number < count
 
 module _ (modules more : List ModuleVersion) where
   pub vertex_stays : (number : ℕ) → number < length modules
-      → vertex_at (modules ++ more) number ≡ vertex_at modules number
+      → module_at (modules ++ more) number ≡ module_at modules number
   vertex_stays number below = get_or_append_left modules more ([], []) number below
 
   turns_stay : (turns : List NumberedTurn) → All (IsOneBelow (length modules)) turns
@@ -52,8 +50,8 @@ module _ (modules more : List ModuleVersion) where
   step_stays (Some number) h = ap Of (vertex_stays number h)
 
   ends_stay : (step : Step) (numbers : List ℕ) → All (IsUnder (length modules)) numbers
-      → map (λ number. edge step (vertex_at (modules ++ more) number)) numbers
-      ≡ map (λ number. edge step (vertex_at modules number)) numbers
+      → map (λ number. edge step (module_at (modules ++ more) number)) numbers
+      ≡ map (λ number. edge step (module_at modules number)) numbers
   ends_stay step [] h = refl
   ends_stay step (number ∷ numbers) h = ap₂ (λ (e : Edge) (es : List Edge). e ∷ es)
       (ap (edge step) (vertex_stays number (All-head (IsUnder (length modules)) number numbers h)))
@@ -62,7 +60,7 @@ module _ (modules more : List ModuleVersion) where
   edges_from_stay : (one : Adjacency) → IsNumbered (length modules) one
       → edges_from (modules ++ more) one ≡ edges_from modules one
   edges_from_stay one is =
-      ap (λ (s : Step). map (λ number. edge s (vertex_at (modules ++ more) number)) one.to.items)
+      ap (λ (s : Step). map (λ number. edge s (module_at (modules ++ more) number)) one.to.items)
       (step_stays one.from is.from)
       ∙ ends_stay (left_by modules one) one.to.items is.to
 
@@ -109,23 +107,23 @@ both_false a b e = ap (λ (x : Bool). x && b) e
 module _ (modules more : List ModuleVersion) (distinct : IsDistinct pair_eq (modules ++ more)) where
   -- A new one is none of those that had a number.
   another : (new old : ℕ) → length modules ≤ new → new < length (modules ++ more) → old < length modules
-      → pair_eq (vertex_at (modules ++ more) new) (vertex_at modules old) ≡ false
+      → pair_eq (module_at (modules ++ more) new) (module_at modules old) ≡ false
   another new old past within below =
-      vertices_equivalence.symm (vertex_at (modules ++ more) new) (vertex_at modules old)
-      ∙ ap (λ (v : ModuleVersion). pair_eq v (vertex_at (modules ++ more) new))
+      pairs-equivalence.symm (module_at (modules ++ more) new) (module_at modules old)
+      ∙ ap (λ (v : ModuleVersion). pair_eq v (module_at (modules ++ more) new))
       (sym (vertex_stays modules more old below))
       ∙ apart_from_distinct pair_eq (modules ++ more) old new ([], []) distinct (omega (arith, past, below)) within
 
   -- It has no turn.
   no_turn : (turns : List NumberedTurn) (new : ℕ) (d : Depth) → All (IsOneBelow (length modules)) turns
       → length modules ≤ new → new < length (modules ++ more)
-      → list_any (same_turn (turn (vertex_at (modules ++ more) new) d)) (map (turn_of modules) turns) ≡ false
+      → list_any (same_turn (turn (module_at (modules ++ more) new) d)) (map (turn_of modules) turns) ≡ false
   no_turn turns new d below past within =
-      let x = vertex_at (modules ++ more) new in
+      let x = module_at (modules ++ more) new in
       list_any_none (same_turn (turn x d)) (map (turn_of modules) turns)
       (All-map (λ (one : Turn). same_turn (turn x d) one ≡ false) (turn_of modules) turns
       (All-weaker (IsOneBelow (length modules)) (λ one. same_turn (turn x d) (turn_of modules one) ≡ false)
-      (λ one under. both_false (pair_eq x (vertex_at modules one.number)) (same_depth d one.depth)
+      (λ one under. both_false (pair_eq x (module_at modules one.number)) (same_depth d one.depth)
       (another new one.number past within under)) turns below))
 
 -- ---- marks past the end

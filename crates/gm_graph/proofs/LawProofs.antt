@@ -2,16 +2,16 @@
 use Rattle.std.proofs.Common.{◌≡◌, ◌↔◌, false, sym, subst, inl, inr}
 use mathlib.Core.Path.{fun_ext}
 use Rattle.std.specs.Cmp.{IsTotalOrder, on_total}
+use Rattle.gm_name.specs.ModuleVersion.{ModuleVersion, pair_cmp, pair_total}
 use Rattle.gm_store.specs.Asked.{Name}
-use Rattle.gm_graph_cache.specs.Main.{Main, ModuleVersion, is_pruned_by}
+use Rattle.gm_graph_cache.specs.Main.{Main, is_pruned_by}
 use Rattle.gm_graph_cache.specs.Reading.{Held, Readings, readings_by}
 use Rattle.gm_graph_cache.proofs.Keeping.{one_told}
 use Rattle.gm_graph_select.specs.declared.step.Step.{Step}
 use Rattle.gm_graph_select.specs.declared.step.Step.TheVariants.{Main as FromMain, Of}
 use Rattle.gm_graph_select.specs.BuildList.{IsBuildList}
 use Rattle.gm_graph_select.specs.Graph.{among}
-use Rattle.gm_name.specs.PairOrder.{pair_cmp}
-use Rattle.gm_graph_select.specs.StepOrder.{edge_total, vertex_total}
+use Rattle.gm_graph_select.specs.StepOrder.{edge_total}
 use Rattle.gm_graph_select.proofs.Ascending as ascending
 use Rattle.gm_graph_select.proofs.Lawful as lawful
 use Rattle.gm_graph_select.proofs.Same.{same_back, same_build_list}
@@ -63,7 +63,7 @@ both : {A B C : Type 0} → A ↔ B → C ↔ B → A ↔ C
 both f g = ((λ a. g.1 (f.0 a)), (λ c. f.1 (g.0 c)))
 
 faults_total : IsTotalOrder (λ (a b : Fault). pair_cmp a.vertex b.vertex)
-faults_total = on_total (λ (f : Fault). f.vertex) vertex_total
+faults_total = on_total (λ (f : Fault). f.vertex) pair_total
 
 pub one_answer : OneAnswer
 one_answer main pairs a b readings is other = (

@@ -1,19 +1,19 @@
 -- The assembled graph is the specified result of loading.
 use Rattle.std.proofs.Common.{◌≡◌, ◌↔◌, List, [], None, map, Option, Contains, ap, ◌∙◌, sym, subst}
+use Rattle.gm_name.specs.ModuleVersion.{ModuleVersion, pair_cmp}
 use Rattle.std.specs.BTreeMap as tree
 use Rattle.gm_store.specs.Asked.{Name, Reply}
 use Rattle.gm_store_sums.specs.declared.sum_table.SumTable.{SumTable}
 use Rattle.gm_graph_cache.specs.declared.cache.Cache.{Cache}
 use Rattle.gm_graph_cache.specs.declared.depth.Turn.{Turn}
 use Rattle.gm_graph_cache.specs.Cached.{held_of, main_in, modules_in, sums_in, turns_in}
-use Rattle.gm_graph_cache.specs.Main.{Main, ModuleVersion, without_excluded}
+use Rattle.gm_graph_cache.specs.Main.{Main, without_excluded}
 use Rattle.gm_graph_cache.specs.Reading.{Readings, readings_by}
 use Rattle.gm_graph_select.specs.declared.step.Edge.{Edge}
 use Rattle.gm_graph_select.specs.BuildList.{IsBuildList}
 use Rattle.gm_graph_select.specs.Chains.{IsRooted}
 use Rattle.gm_graph_select.specs.declared.step.Step.TheVariants.{Of}
 use Rattle.gm_graph_select.specs.Graph.{IsEdgeEnd, among, edge_cmp}
-use Rattle.gm_name.specs.PairOrder.{pair_cmp}
 use Rattle.gm_graph_select.specs.Order.{HaveSame, IsAscending}
 use Rattle.gm_graph_select.proofs.Same.{same_build_list}
 use Rattle.gm_graph.specs.declared.fault.Fault.{Fault}

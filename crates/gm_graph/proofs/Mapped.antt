@@ -6,10 +6,8 @@ use Rattle.std.specs.declared.cmp.Ordering.TheVariants.{Less}
 use Rattle.std.proofs.lemmas.List.{length-map, get_or-map}
 use Rattle.std.proofs.lemmas.Map.Keys.{Less-from_sorted}
 use Rattle.std.proofs.lemmas.Map.Views.{btree_map_get_iff}
+use Rattle.gm_name.specs.ModuleVersion.{ModuleVersion, pair-anti, pair_cmp, pair_total}
 use Rattle.gm_graph_cache.specs.declared.class.Class.{Class}
-use Rattle.gm_graph_cache.specs.Main.{ModuleVersion}
-use Rattle.gm_name.specs.PairOrder.{pair_cmp}
-use Rattle.gm_graph_select.specs.StepOrder.{vertex_total, vertex-anti}
 use Rattle.gm_graph.specs.declared.fault.Fault.{Fault}
 use Rattle.gm_graph.specs.Building.{fault}
 
@@ -32,13 +30,13 @@ module _ (faults : tree.BTreeMap ModuleVersion Class) (ordered : tree.IsOrdered 
   pub fault_listed : (one : Fault) → Contains (map (λ e. fault e.0 e.1) faults.entries) one ↔ (tree.get pair_cmp faults one.vertex ≡ Some one.class)
   fault_listed one = (
     (λ h. let found = from_mapped entry_fault faults.entries one h in
-        let there = (btree_map_get_iff vertex_total vertex-anti faults ordered found.0.0 found.0.1).1 found.1 in
+        let there = (btree_map_get_iff pair_total pair-anti faults ordered found.0.0 found.0.1).1 found.1 in
         ap (λ (f : Fault). tree.get pair_cmp faults f.vertex) (sym found.2) ∙ there ∙ ap (λ (f : Fault). Some f.class) found.2),
-    (λ h. in_mapped entry_fault faults.entries (one.vertex, one.class) ((btree_map_get_iff vertex_total vertex-anti faults ordered one.vertex one.class).0 h)),
+    (λ h. in_mapped entry_fault faults.entries (one.vertex, one.class) ((btree_map_get_iff pair_total pair-anti faults ordered one.vertex one.class).0 h)),
   )
 
-  vertex_at : (i : ℕ) (d : Fault) → i < length faults.entries → (get_or (map (λ e. fault e.0 e.1) faults.entries) i d).vertex ≡ get_or (map (λ (e : ModuleVersion × Class). e.0) faults.entries) i d.vertex
-  vertex_at i d inside =
+  module_at : (i : ℕ) (d : Fault) → i < length faults.entries → (get_or (map (λ e. fault e.0 e.1) faults.entries) i d).vertex ≡ get_or (map (λ (e : ModuleVersion × Class). e.0) faults.entries) i d.vertex
+  module_at i d inside =
       ap (λ (f : Fault). f.vertex) (get_or-map entry_fault faults.entries i (entry_of_fault d) d inside)
       ∙ sym (get_or-map (λ (e : ModuleVersion × Class). e.0) faults.entries i (entry_of_fault d) d.vertex inside)
 
@@ -47,4 +45,4 @@ module _ (faults : tree.BTreeMap ModuleVersion Class) (ordered : tree.IsOrdered 
       let inside : j < length faults.entries = rw length-map at below in
       let in_keys : j < length (map (λ (e : ModuleVersion × Class). e.0) faults.entries) = rw length-map inside in
       let less = Less-from_sorted pair_cmp (map (λ (e : ModuleVersion × Class). e.0) faults.entries) i j d.vertex ordered lt in_keys in
-      ap₂ pair_cmp (vertex_at i d (omega arith)) (vertex_at j d inside) ∙ less
+      ap₂ pair_cmp (module_at i d (omega arith)) (module_at j d inside) ∙ less

@@ -8,23 +8,22 @@ use Rattle.std.proofs.lemmas.List.Folds.{list_any-append}
 use Rattle.std.proofs.lemmas.List.{get_or-replicate, get_or-set_other, get_or-set_same, get_or_past, get_or_read, length-replicate, length-set, map-append, take_all}
 use Rattle.std.proofs.lemmas.Map.Keys.{apart_from_distinct}
 use Rattle.std.proofs.lemmas.Map.Views.{Contains-from_any, list_any-from_Contains}
+use Rattle.gm_name.specs.ModuleVersion.{ModuleVersion, module_at, pair-same, pair_eq, pairs-equivalence}
 use Rattle.gm_graph_cache.specs.declared.depth.Depth.{Depth}
 use Rattle.gm_graph_cache.specs.declared.depth.Depth.TheVariants.{Deep, Top}
 use Rattle.gm_graph_cache.specs.declared.depth.Turn.{Turn}
-use Rattle.gm_graph_cache.specs.Main.{ModuleVersion}
 use Rattle.gm_graph_cache.specs.Turns.{turn}
 use Rattle.gm_graph_select.specs.declared.adjacency.Adjacency.{Adjacency}
-use Rattle.gm_graph_select.specs.Adjacency.{HaveNumbers, IsNumbered, vertex_at}
+use Rattle.gm_graph_select.specs.Adjacency.{HaveNumbers, IsNumbered}
 use Rattle.gm_graph.specs.declared.graph_builder.GraphBuilder.{GraphBuilder}
 use Rattle.gm_graph.specs.declared.graph_builder.NumberedTurn.{NumberedTurn}
 use Rattle.gm_graph.specs.declared.marks.Marks.{Marks}
 use Rattle.gm_graph.specs.Builder.{AreMarks, IsBuilder, marks_at, turn_of, turns_of}
-use Rattle.gm_name.specs.PairOrder.{pair_eq}
 use Rattle.gm_graph.specs.Marks.{is_marked}
 use Rattle.gm_graph.specs.Turns.{AreTurnsOf, OverflowsWith, same_depth, same_turn}
 use Rattle.gm_graph.proofs.Adding.{more_turn, new_turn, no_turns, overflow_one}
 use Rattle.gm_graph.proofs.Growing.{unmarked}
-use Rattle.gm_graph.proofs.Sameness.{exact_turn, exact_vertex, turns_equivalence, vertices_equivalence}
+use Rattle.gm_graph.proofs.Sameness.{exact_turn, turns_equivalence}
 
 -- the empty builder
 pub no_builder : (modules : List ModuleVersion) (made : GraphBuilder) → IsDistinct pair_eq modules
@@ -39,7 +38,7 @@ no_builder modules made distinct marks turns opened leaving = record {
   marks = λ number d below.
       unmarked made.marks.items number d (omega (arith, ap length marks))
       ∙ ap (λ (ts : List NumberedTurn).
-      list_any (same_turn (turn (vertex_at modules number) d)) (map (turn_of modules) ts)) (sym turns);
+      list_any (same_turn (turn (module_at modules number) d)) (map (turn_of modules) ts)) (sym turns);
   opened = [];
   turns = subst (λ (ts : List Turn). AreTurnsOf [] ts) (sym (ap (map (turn_of modules)) turns)) no_turns;
   counted = opened;
@@ -92,7 +91,7 @@ builder_filled modules old new none count more is has_none fewer fits marks turn
           ap (λ (ms : List Marks). is_marked (marks_at ms number) d) filled
           ∙ ap (λ (m : Marks). is_marked m d) (same_marks old.marks.items more number)
           ∙ is.marks number d below
-          ∙ ap (list_any (same_turn (turn (vertex_at modules number) d))) (sym same);
+          ∙ ap (list_any (same_turn (turn (module_at modules number) d))) (sym same);
       opened = is.opened;
       turns = subst (λ (ts : List Turn). AreTurnsOf is.opened ts) (sym same) is.turns;
       counted = opened ∙ is.counted;
@@ -105,7 +104,7 @@ found_turn turns one h = list_any-from_Contains turns_equivalence one turns h
 
 found_vertex : (vertices : List ModuleVersion) (x : ModuleVersion) → Contains vertices x
     → list_any (pair_eq x) vertices ≡ true
-found_vertex vertices x h = list_any-from_Contains vertices_equivalence x vertices h
+found_vertex vertices x h = list_any-from_Contains pairs-equivalence x vertices h
 
 either_true : (a b : Bool) → (a || b) ≡ true → (a ≡ true) ⊎ (b ≡ true)
 either_true true b h = inl refl
@@ -134,7 +133,7 @@ module _ (vertices : List ModuleVersion) (turns : List Turn) (x : ModuleVersion)
         | inr deep ↦ turn_vertex Deep deep
       ])
       (λ h.
-      let one = are.has_turn x (Contains-from_any exact_vertex x vertices h) in
+      let one = are.has_turn x (Contains-from_any pair-same x vertices h) in
       any_true marks one.0 (marked one.0 ∙ found_turn turns (turn x one.0) one.1))
 
 -- ---- one more turn
@@ -153,11 +152,11 @@ other_or false a false e = refl
 
 apart : (modules : List ModuleVersion) (q number : ℕ) → IsDistinct pair_eq modules → q < length modules
     → number < length modules → (q ≡ number → ⊥)
-    → pair_eq (vertex_at modules q) (vertex_at modules number) ≡ false
+    → pair_eq (module_at modules q) (module_at modules number) ≡ false
 apart modules q number distinct under below other = elim (cases_lt q number) [
   | inl lt ↦ apart_from_distinct pair_eq modules q number ([], []) distinct lt below
   | inr ge ↦ elim (cases_lt number q) [
-    | inl lt ↦ vertices_equivalence.symm (vertex_at modules q) (vertex_at modules number)
+    | inl lt ↦ pairs-equivalence.symm (module_at modules q) (module_at modules number)
         ∙ apart_from_distinct pair_eq modules number q ([], []) distinct lt under
     | inr le ↦ absurd (other (omega (arith, ge, le)))
   ]
@@ -168,7 +167,7 @@ module _ (modules : List ModuleVersion) (old : GraphBuilder) (number : ℕ) (dep
     (is : IsBuilder modules old) (in_marks : number < length old.marks.items)
     (at : marks ≡ get_or old.marks.items number marks) where
   abbrev its_vertex : ModuleVersion
-  its_vertex = vertex_at modules number
+  its_vertex = module_at modules number
 
   abbrev turns_with : List Turn
   turns_with = turns_of modules old ++ turn its_vertex depth ∷ []
@@ -225,22 +224,22 @@ module _ (modules : List ModuleVersion) (old : GraphBuilder) (number : ℕ) (dep
   marks_with new with' q d under = elim (cases_eq q number) [
     | inl same ↦
         subst (λ (n : ℕ). is_marked (marks_at (set old.marks.items number new) n) d
-        ≡ list_any (same_turn (turn (vertex_at modules n) d)) turns_with) (sym same)
+        ≡ list_any (same_turn (turn (module_at modules n) d)) turns_with) (sym same)
         (ap (λ (m : Marks). is_marked m d)
         (get_or-set_same old.marks.items number new (record { top = false; deep = false }) in_marks)
         ∙ with' d
         ∙ ap (λ (b : Bool). same_depth d depth || b) (marked d)
         ∙ equal_or (pair_eq its_vertex its_vertex) (same_depth d depth)
-        (list_any (same_turn (turn its_vertex d)) (turns_of modules old)) (vertices_equivalence.refl its_vertex)
+        (list_any (same_turn (turn its_vertex d)) (turns_of modules old)) (pairs-equivalence.refl its_vertex)
         ∙ sym (list_any-append (same_turn (turn its_vertex d)) (turns_of modules old) (turn its_vertex depth ∷ [])))
     | inr other ↦
         ap (λ (m : Marks). is_marked m d)
         (get_or-set_other old.marks.items number q new (record { top = false; deep = false }) other)
         ∙ is.marks q d under
-        ∙ other_or (pair_eq (vertex_at modules q) its_vertex) (same_depth d depth)
-        (list_any (same_turn (turn (vertex_at modules q) d)) (turns_of modules old))
+        ∙ other_or (pair_eq (module_at modules q) its_vertex) (same_depth d depth)
+        (list_any (same_turn (turn (module_at modules q) d)) (turns_of modules old))
         (apart modules q number is.distinct under below other)
-        ∙ sym (list_any-append (same_turn (turn (vertex_at modules q) d)) (turns_of modules old)
+        ∙ sym (list_any-append (same_turn (turn (module_at modules q) d)) (turns_of modules old)
         (turn its_vertex depth ∷ []))
   ]
 

@@ -1,7 +1,8 @@
 -- Edges lead from the main module to each step that has an edge, and so to each entry of the build list.
 use Rattle.std.proofs.Common.{◌↔◌, ℕ, zero, suc, List, ◌∷◌, map, Contains, subst, inl, inr, arith}
+use Rattle.gm_name.specs.ModuleVersion.{ModuleVersion}
 use Rattle.gm_file.specs.Directives.{Replacing}
-use Rattle.gm_graph_cache.specs.Main.{Main, ModuleVersion}
+use Rattle.gm_graph_cache.specs.Main.{Main}
 use Rattle.gm_graph_cache.specs.Reading.{Readings}
 use Rattle.gm_graph_select.specs.declared.step.Edge.{Edge}
 use Rattle.gm_graph_select.specs.declared.step.Step.TheVariants.{Main as FromMain, Of}

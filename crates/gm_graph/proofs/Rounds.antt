@@ -1,19 +1,20 @@
 -- Turns that are all done.
-use Rattle.std.proofs.Common.{◌≡◌, ◌+◌, ◌≤◌, Bool, true, false, List, [], ◌++◌, length, Contains, map, ap, ◌∙◌, sym, refl, subst, inl, inr, arith, length-append, ◌↔◌}
+use Rattle.std.proofs.Common.{◌≡◌, ◌+◌, ◌≤◌, Bool, true, false, List, [], ◌++◌, length, Contains, map, ap, ◌∙◌, sym, refl, subst, inl, inr, arith, length-append, ◌↔◌, IsSome}
 use Rattle.std.proofs.lemmas.List.{length-map, get_or-map}
 use Rattle.std.proofs.lemmas.Bool.{cases_Bool, false≢true}
 use Rattle.std.specs.Bool.{Decides}
 use Rattle.std.proofs.lemmas.Map.Made.{length-le_from_is_member, is_member-Decides}
 use Rattle.std.proofs.lemmas.List.Elements.{Contains-append_left, Contains-append_right}
-use Rattle.gm_graph_cache.specs.Main.{Main, ModuleVersion, is_pruned_by, without_excluded}
+use Rattle.gm_name.specs.ModuleVersion.{ModuleVersion}
+use Rattle.gm_graph_cache.specs.Main.{Main, is_pruned_by, without_excluded}
 use Rattle.gm_graph_cache.specs.Reading.{Readings}
 use Rattle.gm_graph_cache.specs.declared.depth.Turn.{Turn}
 use Rattle.gm_graph_cache.specs.declared.depth.Depth.{Depth}
 use Rattle.gm_graph_cache.specs.declared.depth.Depth.TheVariants.{Top, Deep}
 use Rattle.gm_graph.specs.Graph.{IsTop, from_main, IsOpened, TakesTurn}
-use Rattle.std.proofs.Common.{IsSome}
 use Rattle.gm_graph.specs.Loading.{AreTurns}
-use Rattle.gm_graph.specs.Turns.{same_turn, IsDone, Extends, AreTurnsOf, AddsAll, IsValidTurn, AllValidTurns, AreFirstTurns, depth_by}
+use Rattle.gm_graph.specs.Turns.{same_turn, IsDone, AreTurnsOf, AddsAll, IsValidTurn, AllValidTurns, AreFirstTurns, depth_by}
+use Rattle.gm_name_table.specs.Listed.{BeginsWith}
 use Rattle.gm_graph_cache.specs.Turns.{turn}
 use Rattle.gm_graph.proofs.Sameness.{turns_equivalence, exact_turn}
 use Rattle.gm_graph.proofs.Deepening.{IsDeep-among}
@@ -53,7 +54,7 @@ few_turns vertices turns are =
     let twice = length-both_turns vertices in
     omega arith
 
-pub along : (old new : List Turn) (one : Turn) → Extends old new → Contains old one → Contains new one
+pub along : (old new : List Turn) (one : Turn) → BeginsWith old new → Contains old one → Contains new one
 along old new one (more, e) h = subst (λ (t : List Turn). Contains t one) (sym e) (Contains-append_left old more one h)
 
 pub opened_from : (main : Main) (answers : Readings) (x : ModuleVersion) (d : Depth) → TakesTurn main answers x d → IsOpened main answers x

@@ -2,12 +2,13 @@
 use Rattle.std.proofs.Common.{◌≡◌, ◌++◌, ◌∷◌, Bool, true, false, List, [], IsSome, map, ap, ◌∙◌, sym, subst, inl, inr}
 use Rattle.std.specs.BTreeMap as tree
 use Rattle.std.proofs.lemmas.Bool.{cases_Bool, false≢true}
+use Rattle.gm_name.specs.ModuleVersion.{ModuleVersion, pair_cmp}
 use Rattle.gm_graph_cache.specs.declared.class.Class.{Class}
 use Rattle.gm_graph_cache.specs.declared.depth.Depth.{Depth}
 use Rattle.gm_graph_cache.specs.declared.depth.Depth.TheVariants.{Deep}
 use Rattle.gm_graph_cache.specs.declared.depth.Turn.{Turn}
 use Rattle.gm_graph_cache.specs.declared.finding.Finding.{Finding}
-use Rattle.gm_graph_cache.specs.Main.{Main, ModuleVersion}
+use Rattle.gm_graph_cache.specs.Main.{Main}
 use Rattle.gm_graph_cache.specs.Reading.{Readings, vertex_fault, vertex_requirements}
 use Rattle.gm_graph_cache.specs.Turns.{turn}
 use Rattle.gm_graph_select.specs.declared.step.Edge.{Edge}
@@ -15,7 +16,6 @@ use Rattle.gm_graph_select.specs.declared.step.Step.{Step}
 use Rattle.gm_graph_select.specs.declared.step.Step.TheVariants.{Of}
 use Rattle.gm_graph_select.specs.Adjacency.{edges_of, sources_of}
 use Rattle.gm_graph_select.specs.Graph.{edge}
-use Rattle.gm_name.specs.PairOrder.{pair_cmp}
 use Rattle.gm_graph.specs.declared.graph_builder.GraphBuilder.{GraphBuilder}
 use Rattle.gm_graph.specs.declared.graph_builder.NumberedTurn.{NumberedTurn}
 use Rattle.gm_graph.specs.Builder.{Built, KeepsGraph, KeepsTurns, built, turn_of, turns_of}

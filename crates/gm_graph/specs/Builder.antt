@@ -2,14 +2,13 @@
 use Rattle.std.specs.Prelude.{◌≡◌, ◌<◌, ◌≤◌, ℕ, false, All, List, get_or, length, map}
 use Rattle.std.specs.BTreeMap as tree
 use Rattle.std.specs.List.{IsDistinct, list_any}
+use Rattle.gm_name.specs.ModuleVersion.{ModuleVersion, module_at, pair_cmp, pair_eq}
 use Rattle.gm_graph_cache.specs.declared.depth.Depth.{Depth}
 use Rattle.gm_graph_cache.specs.declared.depth.Turn.{Turn}
-use Rattle.gm_graph_cache.specs.Main.{ModuleVersion}
 use Rattle.gm_graph_cache.specs.Turns.{turn}
 use Rattle.gm_graph_select.specs.declared.step.Edge.{Edge}
 use Rattle.gm_graph_select.specs.declared.step.Step.{Step}
-use Rattle.gm_graph_select.specs.Adjacency.{HaveNumbers, edges_of, sources_of, vertex_at}
-use Rattle.gm_name.specs.PairOrder.{pair_cmp, pair_eq}
+use Rattle.gm_graph_select.specs.Adjacency.{HaveNumbers, edges_of, sources_of}
 use Rattle.gm_graph.specs.Building.{Faults}
 use Rattle.gm_graph.specs.Marks.{is_marked}
 use Rattle.gm_graph.specs.Turns.{AreTurnsOf, same_turn}
@@ -21,7 +20,7 @@ use Rattle.gm_graph.specs.declared.marks.Marks.{Marks}
 
 -- the turn of the vertex with a number
 abbrev pub turn_of : List ModuleVersion → NumberedTurn → Turn
-turn_of modules one = turn (vertex_at modules one.number) one.depth
+turn_of modules one = turn (module_at modules one.number) one.depth
 
 -- the turns of the worklist
 abbrev pub turns_of : List ModuleVersion → GraphBuilder → List Turn
@@ -63,7 +62,7 @@ marks_at marks number = get_or marks number (record { top = false; deep = false 
 -- Each vertex has the marks of its turns.
 abbrev pub AreMarks : List ModuleVersion → List Marks → List Turn → Type 0
 AreMarks modules marks turns = (number : ℕ) (d : Depth) → number < length modules
-    → is_marked (marks_at marks number) d ≡ list_any (same_turn (turn (vertex_at modules number) d)) turns
+    → is_marked (marks_at marks number) d ≡ list_any (same_turn (turn (module_at modules number) d)) turns
 
 -- The numbers are those of modules, the modules are distinct, and turns, marks and the count of the vertices with turns
 -- are consistent.

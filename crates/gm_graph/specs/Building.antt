@@ -1,6 +1,7 @@
 -- What the graph builder collects during visits: edges, and the faults of vertices.
 use Rattle.std.specs.Prelude.{◌≡◌, ◌⊎◌, ◌++◌, ◌∷◌, [], Bool, true, false, not, List, Option, None, Some, Err, Contains, if◌then◌else◌}
 use Rattle.std.specs.List.{list_any}
+use Rattle.gm_name.specs.ModuleVersion.{ModuleVersion, pair_eq}
 use Rattle.gm_graph_cache.specs.declared.class.Class.{Class}
 use Rattle.gm_graph_cache.specs.declared.depth.Depth.{Depth}
 use Rattle.gm_graph_cache.specs.declared.depth.Depth.TheVariants.{Top, Deep}
@@ -8,7 +9,7 @@ use Rattle.gm_graph_cache.specs.declared.depth.Turn.{Turn}
 use Rattle.gm_graph_cache.specs.declared.finding.Finding.{Finding}
 use Rattle.gm_graph_cache.specs.declared.finding.Finding.TheVariants.{Fault, Sound}
 use Rattle.gm_graph_cache.specs.Turns.{turn}
-use Rattle.gm_graph_cache.specs.Main.{Main, ModuleVersion}
+use Rattle.gm_graph_cache.specs.Main.{Main}
 use Rattle.gm_graph_cache.specs.Reading.{Readings, vertex_fault, vertex_requirements}
 use Rattle.gm_graph_select.specs.declared.step.Edge.{Edge}
 use Rattle.gm_graph_select.specs.declared.step.Step.{Step}
@@ -16,8 +17,8 @@ use Rattle.gm_graph_select.specs.declared.step.Step.TheVariants.{Main as FromMai
 use Rattle.gm_graph_select.specs.Graph.{edge}
 use Rattle.gm_graph.specs.declared.fault.Fault.{Fault as HeldFault}
 use Rattle.gm_graph.specs.Graph.{IsEdge, IsOpened, IsTop}
-use Rattle.gm_name.specs.PairOrder.{pair_eq}
-use Rattle.gm_graph.specs.Turns.{Extends, same_turn}
+use Rattle.gm_graph.specs.Turns.{same_turn}
+use Rattle.gm_name_table.specs.Listed.{BeginsWith}
 
 -- a vertex and its fault
 abbrev pub fault : ModuleVersion → Class → HeldFault
@@ -48,7 +49,7 @@ gathers turns one = gathers_at one.depth (list_any (same_turn (turn one.vertex T
 -- The edges and the fault of a turn were added, and nothing else.
 pub record Gathers (main : Main) (readings : Readings) (turns : List Turn) (old new : List Edge) (before after : Faults)
     (one : Turn) : Type 0 where
-  pub extends : Extends old new
+  pub extends : BeginsWith old new
   pub each : gathers turns one ≡ true → (y : ModuleVersion)
       → Contains (vertex_requirements main readings one.vertex) y → Contains new (edge (Of one.vertex) y)
   pub only : (e : Edge) → Contains new e

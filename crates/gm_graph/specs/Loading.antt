@@ -1,14 +1,13 @@
 -- What is asked for and read, and when too many vertices are opened.
 use Rattle.std.specs.Prelude.{◌≡◌, ◌↔◌, ◌≤◌, ◌<◌, true, List, [], ◌∷◌, ◌++◌, length, Option, None, IsSome, Contains}
 use Rattle.std.specs.List.{IsDistinct}
+use Rattle.gm_name.specs.ModuleVersion.{ModuleVersion, pair_eq}
 use Rattle.gm_store.specs.Asked.{Name, Reply, answer_in, same_name}
 use Rattle.gm_store_sums.specs.declared.sum_table.SumTable.{SumTable}
 use Rattle.gm_graph_cache.specs.declared.depth.Depth.{Depth}
 use Rattle.gm_graph_cache.specs.declared.depth.Turn.{Turn}
-use Rattle.gm_graph_cache.specs.Main.{Main, ModuleVersion}
-use Rattle.gm_graph_cache.specs.Reading.{Held, Readings, file_of, is_askable, readings_by}
-use Rattle.gm_name.specs.PairOrder.{pair_eq}
-use Rattle.gm_graph_cache.specs.Reading.{Tells}
+use Rattle.gm_graph_cache.specs.Main.{Main}
+use Rattle.gm_graph_cache.specs.Reading.{Held, Readings, file_of, is_askable, readings_by, Tells}
 use Rattle.gm_graph.specs.Graph.{IsOpened, TakesTurn}
 use Rattle.gm_graph.specs.Turns.{same_turn}
 use Rattle.gm_graph_cache.specs.Turns.{turn}

@@ -1,13 +1,14 @@
 -- The turns of a worklist, which are visited one after another.
 use Rattle.std.specs.Prelude.{◌≡◌, ◌<◌, Bool, true, false, List, [], ◌++◌, length, Contains, ◌⊎◌, Option, IsSome, ◌∷◌, ◌≤◌, ◌&&◌}
 use Rattle.std.specs.List.{IsDistinct}
+use Rattle.gm_name.specs.ModuleVersion.{ModuleVersion, pair_eq}
 use Rattle.gm_file.specs.Fields.{Dependency}
 use Rattle.gm_graph_cache.specs.declared.depth.Turn.{Turn}
 use Rattle.gm_graph_cache.specs.declared.depth.Depth.{Depth}
 use Rattle.gm_graph_cache.specs.declared.depth.Depth.TheVariants.{Top, Deep}
-use Rattle.gm_graph_cache.specs.Main.{Main, ModuleVersion, is_pruned_by}
+use Rattle.gm_graph_cache.specs.Main.{Main, is_pruned_by}
 use Rattle.gm_graph_cache.specs.Reading.{Readings, is_unpruned_in, vertex_requirements, said_in}
-use Rattle.gm_name.specs.PairOrder.{pair_eq}
+use Rattle.gm_name_table.specs.Listed.{BeginsWith}
 use Rattle.gm_graph_cache.specs.Turns.{turn}
 use Rattle.gm_graph.specs.Graph.{IsTop, TakesTurn}
 
@@ -28,10 +29,6 @@ pub record IsDone (main : Main) (readings : Readings) (turns : List Turn) (one :
   pub answered : IsSome (readings one.vertex)
   pub followed : leads_on readings one.vertex one.depth ≡ true → (y : ModuleVersion)
       → Contains (vertex_requirements main readings one.vertex) y → Contains turns (turn y Deep)
-
--- The new list begins with the old one.
-abbrev pub Extends : {X : Type 0} → List X → List X → Type 0
-Extends {X} old new = (more : List X) × (new ≡ old ++ more)
 
 -- the same turn
 abbrev pub same_depth : Depth → Depth → Bool
@@ -57,14 +54,14 @@ AppendsTurnIfNew old new one = (new ≡ old ++ one ∷ []) ⊎ ((new ≡ old) ×
 
 -- Turns of these vertices at this depth were added, and no others.
 pub record AddsAll (old new : List Turn) (xs : List ModuleVersion) (d : Depth) : Type 0 where
-  pub extends : Extends old new
+  pub extends : BeginsWith old new
   pub each : (y : ModuleVersion) → Contains xs y → Contains new (turn y d)
   pub only : (one : Turn) → Contains new one
       → Contains old one ⊎ ((y : ModuleVersion) × Contains xs y × (one ≡ turn y d))
 
 -- What a turn leads to was added, and nothing else.
 pub record Visits (main : Main) (readings : Readings) (old new : List Turn) (one : Turn) : Type 0 where
-  pub extends : Extends old new
+  pub extends : BeginsWith old new
   pub done : IsDone main readings new one
   pub only : (next : Turn) → Contains new next
       → Contains old next ⊎ ((leads_on readings one.vertex one.depth ≡ true)

@@ -1,6 +1,7 @@
 -- What one visit changes in the cache and the graph builder.
 use Rattle.std.specs.Prelude.{◌≡◌, ◌↔◌, ◌∷◌, [], ℕ, List, Option, None, Some, IsSome, Contains}
 use Rattle.std.specs.List.{IsDistinct}
+use Rattle.gm_name.specs.ModuleVersion.{ModuleVersion}
 use Rattle.gm_name_table.specs.Listed.{BeginsWith}
 use Rattle.gm_store.specs.Asked.{Name, Reply}
 use Rattle.gm_graph_cache.specs.declared.cache.Cache.{Cache}
@@ -10,7 +11,7 @@ use Rattle.gm_graph_cache.specs.declared.finding.Finding.{Finding}
 use Rattle.gm_graph_cache.specs.declared.finding.Finding.TheVariants.{Fault, Sound}
 use Rattle.gm_graph_cache.specs.Cached.{held_of, main_in, modules_in, sums_in, turns_in}
 use Rattle.gm_graph_cache.specs.Turns.{turn}
-use Rattle.gm_graph_cache.specs.Main.{Main, ModuleVersion}
+use Rattle.gm_graph_cache.specs.Main.{Main}
 use Rattle.gm_graph_cache.specs.Reading.{Held, KeepsHeld, Readings, Tells, vertex_fault, readings_by}
 use Rattle.gm_graph_cache.specs.declared.class.Class.{Class}
 use Rattle.gm_graph_select.specs.declared.step.Edge.{Edge}

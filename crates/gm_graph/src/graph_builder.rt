@@ -8,11 +8,10 @@
 ghost use Rattle.std.specs.Prelude.{◌≡◌, ◌≤◌, ◌++◌, ◌∷◌, [], IfOk, List, OnOk, length, map};
 ghost use Rattle.std.specs.BTreeMap as tree;
 ghost use Rattle.std.specs.List.{IsDistinct};
+ghost use Rattle.gm_name.specs.ModuleVersion.{ModuleVersion, pair_cmp, pair_eq};
 ghost use Rattle.gm_graph_cache.specs.Lent.{lent_modules, lent_table};
-ghost use Rattle.gm_graph_cache.specs.Main.{ModuleVersion};
 ghost use Rattle.gm_graph_select.specs.Adjacency.{IsBelow, step_with};
 ghost use Rattle.gm_graph_select.specs.Graph.{edge};
-ghost use Rattle.gm_name.specs.PairOrder.{pair_cmp, pair_eq};
 ghost use Rattle.gm_graph.specs.Building.{fault, found_fault, noted};
 
 use crate::fault::Fault;

@@ -2,17 +2,16 @@
 
 ghost use Rattle.std.specs.Prelude.{◌≡◌, ◌≤◌, ◌++◌, [], Contains, IfOk, OnOk, Err, length, map};
 ghost use Rattle.std.specs.Option.{option_copied};
-ghost use Rattle.gm_store.specs.Asked.{Name, Reply, name_of};
-ghost use Rattle.gm_store.specs.States.{CountsFailure};
+ghost use Rattle.gm_store.specs.Asked.{name_of};
+ghost use Rattle.gm_store.specs.States.{HasServed};
 ghost use Rattle.gm_store.specs.declared.files.FileName.{FileName};
-ghost use Rattle.gm_graph_cache.specs.Asking.{MayGrow};
 ghost use Rattle.gm_graph_cache.specs.Cached.{Knows, main_in, modules_in, sums_in, turns_in};
 ghost use Rattle.gm_graph_cache.specs.Refusals.{refused_in};
-ghost use Rattle.gm_graph_cache.specs.Main.{ModuleVersion, main_of};
+ghost use Rattle.gm_graph_cache.specs.Main.{main_of};
 ghost use Rattle.gm_graph_select.specs.BuildList.{IsBuildList};
 ghost use Rattle.gm_graph_select.specs.Chains.{IsRooted};
 ghost use Rattle.gm_graph_select.specs.Graph.{IsEdgeEnd, among, edge_cmp};
-ghost use Rattle.gm_name.specs.PairOrder.{pair_cmp};
+ghost use Rattle.gm_name.specs.ModuleVersion.{ModuleVersion, pair_cmp};
 ghost use Rattle.gm_graph_select.specs.declared.step.Step.TheVariants.{Of};
 ghost use Rattle.gm_graph_select.specs.Order.{HaveSame, IsAscending};
 ghost use Rattle.gm_graph_select.specs.StepOrder.{step_eq};
@@ -54,10 +53,8 @@ fn visit_all<F: Files>(
     ensures device { (name : FileName) → result ≡ Err (LoadFault.Device name)
         → IsDue (main_in cache.old) (sums_in cache.old) (F.state files.new).asked (name_of name) }
     ensures refused { (F.state files.new).refused ≡ (F.state files.old).refused ++ refused_in result }
-    ensures may { MayGrow (F.may_answer files.old) (F.state files.old) (F.state files.new) }
-    ensures cause { (name : FileName) → result ≡ Err (LoadFault.Device name)
-        → CountsFailure (F.state files.old) (F.state files.new) }
-    ensures later { (F.state files.old).faults ≤ (F.state files.new).faults }
+    ensures served { HasServed (F.may_answer files.old) (F.may_answer files.new)
+        (F.state files.old) (F.state files.new) }
 {
     let mut at = 0;
     'turns: while at < builder.turns.len() {
@@ -131,11 +128,8 @@ pub fn load<F: Files>(
     ensures device { (name : FileName) → result ≡ Err (LoadFault.Device name)
         → IsDue (main_of main.now) (option_copied sums.entry) (F.state files.new).asked (name_of name) }
     ensures refused { (F.state files.new).refused ≡ (F.state files.old).refused ++ refused_in result }
-    ensures may_answer { (name : Name) (reply : Reply) → Contains (F.state files.new).asked (name, reply)
-        → F.may_answer files.old name reply }
-    ensures cause { (name : FileName) → result ≡ Err (LoadFault.Device name)
-        → CountsFailure (F.state files.old) (F.state files.new) }
-    ensures later { (F.state files.old).faults ≤ (F.state files.new).faults }
+    ensures served { HasServed (F.may_answer files.old) (F.may_answer files.new)
+        (F.state files.old) (F.state files.new) }
 {
     let mut cache = Cache::new(alloc, main, sums)?;
     let mut builder = first_graph(alloc, main, &cache)?;

@@ -1,12 +1,12 @@
 //! One visit of the worklist: what reading one vertex adds to the worklist and to the graph.
 
-ghost use Rattle.std.specs.Prelude.{◌≡◌, ◌≤◌, ◌<◌, ◌++◌, ◌∷◌, [], OnOk, Ok, Err, length};
+ghost use Rattle.std.specs.Prelude.{◌≡◌, ◌<◌, ◌++◌, ◌∷◌, [], OnOk, Ok, Err, length};
+ghost use Rattle.gm_name.specs.ModuleVersion.{ModuleVersion};
 ghost use Rattle.gm_store.specs.Asked.{name_of};
-ghost use Rattle.gm_store.specs.States.{CountsFailure};
+ghost use Rattle.gm_store.specs.States.{HasServed};
 ghost use Rattle.gm_store.specs.declared.files.FileName.{FileName};
-ghost use Rattle.gm_graph_cache.specs.Asking.{AsksFor, MayGrow, MayLess, StillLacks};
+ghost use Rattle.gm_graph_cache.specs.Asking.{AsksFor, StillLacks};
 ghost use Rattle.gm_graph_cache.specs.Cached.{AddsTurn, IsFinding, Knows, LendsKept, main_in, modules_in, numbered, turns_in};
-ghost use Rattle.gm_graph_cache.specs.Main.{ModuleVersion};
 ghost use Rattle.gm_graph_cache.specs.Refusals.{refused_in};
 ghost use Rattle.gm_graph.specs.Builder.{IsBuilder, built, turn_of, turns_of};
 ghost use Rattle.gm_graph.specs.Turns.{VisitOverflows, leads_on};
@@ -106,11 +106,8 @@ pub(crate) fn visit<F: Files>(
         → StillLacks (main_in cache.old) (F.state files.old) (F.state files.new)
         (numbered cache.old one.number) (name_of name) }
     ensures refused { (F.state files.new).refused ≡ (F.state files.old).refused ++ refused_in result }
-    ensures may { MayGrow (F.may_answer files.old) (F.state files.old) (F.state files.new) }
-    ensures same_store { MayLess (F.may_answer files.new) (F.may_answer files.old) }
-    ensures cause { (name : FileName) → result ≡ Err (LoadFault.Device name)
-        → CountsFailure (F.state files.old) (F.state files.new) }
-    ensures later { (F.state files.old).faults ≤ (F.state files.new).faults }
+    ensures served { HasServed (F.may_answer files.old) (F.may_answer files.new)
+        (F.state files.old) (F.state files.new) }
 {
     let finding = cache.known(files, one.number)?;
     add_requirements(cache, builder, one, &finding)

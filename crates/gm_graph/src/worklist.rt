@@ -1,10 +1,9 @@
 //! Adding turns to the worklist.
 
 ghost use Rattle.std.specs.Prelude.{◌≡◌, ◌<◌, ◌≤◌, ◌+◌, ◌||◌, ◌++◌, ◌∷◌, [], Err, List, OnOk, if◌then◌else◌, length};
+ghost use Rattle.gm_name.specs.ModuleVersion.{ModuleVersion, module_at};
 ghost use Rattle.gm_graph_cache.specs.Lent.{lent_modules, lent_table};
-ghost use Rattle.gm_graph_cache.specs.Main.{ModuleVersion};
 ghost use Rattle.gm_graph_cache.specs.Turns.{turn};
-ghost use Rattle.gm_graph_select.specs.Adjacency.{vertex_at};
 ghost use Rattle.gm_graph.specs.Building.{gathers};
 ghost use Rattle.gm_graph.specs.Builder.{IsBuilder, KeepsGraph, KeepsTurns, marks_at, turn_of, turns_of};
 ghost use Rattle.gm_graph.specs.Turns.{AddsAll, AppendsTurnIfNew, OverflowsWith};
@@ -113,11 +112,11 @@ impl GraphBuilder {
             → OnOk result (IsBuilder modules self.new) }
         ensures adds { (modules : List ModuleVersion) → IsBuilder modules self.old → OnOk result
             (AppendsTurnIfNew (turns_of modules self.old) (turns_of modules self.new)
-            (turn (vertex_at modules number) depth)) }
+            (turn (module_at modules number) depth)) }
         ensures graph { OnOk result (KeepsGraph self.old self.new) }
         ensures marks { length self.new.marks.items ≡ length self.old.marks.items }
         ensures too_many { result ≡ Err AddFault.TooMany → (modules : List ModuleVersion) → IsBuilder modules self.old
-            → OverflowsWith (turns_of modules self.old) (vertex_at modules number ∷ []) }
+            → OverflowsWith (turns_of modules self.old) (module_at modules number ∷ []) }
     {
         let marks = self.marks[number as usize];
         if marks.has(depth) {

@@ -1,9 +1,8 @@
 -- Whether a list of excluded modules has one.
 use Rattle.std.proofs.Common.{◌≡◌, ◌↔◌, ◌||◌, not, Bool, true, false, cond, IsTrue, List, [], ◌∷◌, refl, sym, ap, ◌∙◌}
 use Rattle.std.specs.List.{Contains, filter, list_any}
-use Rattle.gm_name.specs.PairOrder.{pair_eq}
-use Rattle.gm_file.proofs.SamePairs.{contains-tells}
-use Rattle.gm_graph_cache.specs.Main.{ModuleVersion}
+use Rattle.gm_name.specs.ModuleVersion.{ModuleVersion, pair_eq}
+use Rattle.gm_file.proofs.Members.{contains-tells}
 
 same_when : (a b : Bool) → (a ≡ true → b ≡ true) → (b ≡ true → a ≡ true) → a ≡ b
 same_when true b to from = sym (to refl)

@@ -7,13 +7,10 @@ use Rattle.std.specs.Prelude.{slice_get}
 use Rattle.std.proofs.lemmas.List.Elements.{All-head, All-tail}
 use Rattle.std.proofs.lemmas.Map.Keys.{IsDistinct-tail, apart_from_distinct}
 use Rattle.std.proofs.lemmas.Option.{slice_get_past}
-use Rattle.gm_name.specs.PairOrder.{pair_eq}
-use Rattle.gm_name_table.proofs.Pairs.{pair-eq}
-use Rattle.gm_name_table.specs.Listed.{module_at}
+use Rattle.gm_name.specs.ModuleVersion.{ModuleVersion, module_at, pair_eq, pair_eq-Decides}
 use Rattle.gm_store.specs.Asked.{Name, mod_file, folder_file, list_file, name_of, same_name}
 use Rattle.gm_graph_cache.specs.declared.file_table.FileTable.{FileTable}
 use Rattle.gm_graph_cache.specs.FileTable.{IsFileOf, IsPlaceOf, kept_at, own_place, place_beside, place_of, replacing_place}
-use Rattle.gm_graph_cache.specs.Main.{ModuleVersion}
 use Rattle.gm_graph_cache.specs.Places.{IsPlace, no_place}
 
 -- ---- a list with a place for each number, and the places beside modules
@@ -40,7 +37,7 @@ at_by : (modules : List ModuleVersion) (places : ℕ → ℕ) (number : ℕ) →
     → beside_by modules places (module_at modules number) ≡ places number
 at_by [] places number distinct within = absurd (omega arith)
 at_by (y ∷ modules) places zero distinct within =
-    ap (λ (b : Bool). cond b (places 0) (beside_by modules (λ k. places (suc k)) y)) ((pair-eq y y).1 refl)
+    ap (λ (b : Bool). cond b (places 0) (beside_by modules (λ k. places (suc k)) y)) ((pair_eq-Decides y y).1 refl)
 at_by (y ∷ modules) places (suc number) distinct within =
     ap (λ (b : Bool). cond b (places 0) (beside_by modules (λ k. places (suc k)) (module_at modules number)))
     (apart_from_distinct pair_eq (y ∷ modules) 0 (suc number) ([], []) distinct (omega arith) within)

@@ -7,11 +7,12 @@ use Rattle.gm_store.specs.Asked.{Name, Reply, answer_in, same_name}
 use Rattle.gm_store_sums.specs.declared.sum_table.SumTable.{SumTable}
 use Rattle.gm_graph_cache.specs.declared.class.Class.{Class}
 use Rattle.std.proofs.Math.Path.{fun_ext}
+use Rattle.gm_name.specs.ModuleVersion.{ModuleVersion}
 use Rattle.gm_name_table.specs.Listed.{BeginsWith, NumberedList, listed}
 use Rattle.gm_graph_cache.specs.declared.cache.Cache.{Cache}
 use Rattle.gm_graph_cache.specs.declared.file_table.FileTable.{FileTable}
 use Rattle.gm_graph_cache.specs.declared.summary.Kept.{Kept}
-use Rattle.gm_graph_cache.specs.Main.{Main, ModuleVersion, main_of, replacement_in}
+use Rattle.gm_graph_cache.specs.Main.{Main, main_of, replacement_in}
 use Rattle.gm_graph_cache.specs.Reading.{Held, IsTold, Keeps, KeepsHeld, Tells, file_of, is_askable, reading_if, readings_by, with_right_path}
 use Rattle.gm_graph_cache.specs.FileTable.{KeepsFiles, kept_at}
 use Rattle.gm_graph_cache.specs.Summaries.{Grows, IsKept, summary_reading}

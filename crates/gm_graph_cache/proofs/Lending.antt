@@ -2,6 +2,7 @@
 use Rattle.std.proofs.Common.{◌≡◌, ◌<◌, ◌∙◌, ℕ, Bool, true, List, Option, Some, None, Result, Ok, Err, sym, ap, refl, cond}
 use Rattle.std.specs.Prelude.{IfSome, slice_get}
 use Rattle.std.specs.Option.{option_and_then, option_map}
+use Rattle.gm_name.specs.ModuleVersion.{ModuleVersion}
 use Rattle.gm_name_table.specs.Listed.{listed}
 use Rattle.gm_file.specs.Fields.{Dependency}
 use Rattle.gm_file.specs.Listed.{with_requirements}
@@ -11,7 +12,7 @@ use Rattle.gm_graph_cache.specs.declared.summary.Kept.{Kept}
 use Rattle.gm_graph_cache.specs.declared.summary.Kept.TheVariants.{Valid, Faulty}
 use Rattle.gm_graph_cache.specs.declared.summary.ListSpan.{ListSpan}
 use Rattle.gm_graph_cache.specs.declared.cache.Cache.{Cache}
-use Rattle.gm_graph_cache.specs.Main.{Main, ModuleVersion, without_excluded, replacement_in}
+use Rattle.gm_graph_cache.specs.Main.{Main, without_excluded, replacement_in}
 use Rattle.gm_graph_cache.specs.Reading.{Held, file_of, is_askable, is_right_path, is_unpruned, is_unpruned_in, reading_if, readings_by, requirements_in, vertex_requirements, said_in, with_right_path}
 use Rattle.gm_graph_cache.specs.Summaries.{IsKept, IsWithinList, at_span, span_found, summary_reading}
 use Rattle.gm_graph_cache.specs.Cached.{IsLender, IsSound, LendsKept, kept_file, file_count, held_of, main_in}

@@ -2,16 +2,16 @@
 use Rattle.std.proofs.Common.{◌≡◌, ◌∙◌, ◌<◌, ℕ, Bool, cond, List, Option, None, Some, ap, length, refl, subst, sym}
 use Rattle.std.specs.Prelude.{IsSome}
 use Rattle.std.specs.List.{IsDistinct}
+use Rattle.gm_name.specs.ModuleVersion.{ModuleVersion, pair_eq}
 use Rattle.gm_file.specs.Directives.{Right}
 use Rattle.gm_store.proofs.NameOrder.{name_itself}
-use Rattle.gm_name.specs.PairOrder.{pair_eq}
 use Rattle.gm_store.specs.Asked.{Name, mod_file}
 use Rattle.gm_graph_cache.specs.declared.file_table.FileTable.{FileTable}
 use Rattle.gm_graph_cache.specs.declared.summary.Kept.{Kept}
 use Rattle.gm_graph_cache.specs.declared.cache.Cache.{Cache}
 use Rattle.gm_graph_cache.specs.Cached.{main_in, modules_in, numbered}
 use Rattle.gm_graph_cache.specs.FileTable.{PutsFile, IsFileOf, kept_at, replacing_place}
-use Rattle.gm_graph_cache.specs.Main.{ModuleVersion, replacement_in}
+use Rattle.gm_graph_cache.specs.Main.{replacement_in}
 use Rattle.gm_graph_cache.specs.Reading.{file_named, file_of}
 
 -- The file of a module is that of a replacement, or its own.

@@ -11,9 +11,7 @@ use Rattle.std.proofs.lemmas.Bool.Decides.{Decides-eqb, eqb_tells, same_from_dec
 use Rattle.std.proofs.lemmas.List.{length-append}
 use Rattle.std.proofs.lemmas.Map.Keys.{IsDistinct-tail, apart_from_distinct}
 use Rattle.std.proofs.lemmas.Option.{slice_get_past}
-use Rattle.gm_name.specs.PairOrder.{pair_eq}
-use Rattle.gm_name_table.proofs.Pairs.{pair-eq}
-use Rattle.gm_name_table.specs.Listed.{module_at}
+use Rattle.gm_name.specs.ModuleVersion.{ModuleVersion, module_at, pair_eq, pair_eq-Decides}
 use Rattle.gm_store.proofs.NameOrder.{names_equal, same_from_equal, same_name_from_cmp}
 use Rattle.gm_store.specs.Asked.{Name, mod_file, folder_file, list_file, name_of, same_name}
 use Rattle.gm_store.specs.contracts.files.FileNameOrd.TheImpl.{cmp-value}
@@ -23,7 +21,7 @@ use Rattle.gm_graph_cache.proofs.Replacements.{some_still}
 use Rattle.gm_graph_cache.specs.declared.file_table.FileTable.{FileTable}
 use Rattle.gm_graph_cache.specs.declared.summary.Kept.{Kept}
 use Rattle.gm_graph_cache.specs.FileTable.{PutsFile, HasReplacing, IsFileOf, KeepsFiles, KeepsOwn, KeepsPlaces, KeepsReplacing, PutsOwn, NotesPlace, PutsReplacing, own_place, place_beside, place_of, replacing_place}
-use Rattle.gm_graph_cache.specs.Main.{Main, ModuleVersion}
+use Rattle.gm_graph_cache.specs.Main.{Main}
 use Rattle.gm_graph_cache.specs.Places.{IsPlace, no_place}
 use Rattle.gm_graph_cache.specs.Reading.{file_of}
 
@@ -42,7 +40,7 @@ exchanged false false p q r never = refl
 -- Two modules that differ are not both the same as a third.
 not_both : (y m x : ModuleVersion) → pair_eq y m ≡ false → pair_eq y x ≡ true → pair_eq m x ≡ true → ⊥
 not_both y m x apart one two =
-    let same : pair_eq y m ≡ true = (pair-eq y m).1 ((pair-eq y x).0 one ∙ sym ((pair-eq m x).0 two)) in
+    let same : pair_eq y m ≡ true = (pair_eq-Decides y m).1 ((pair_eq-Decides y x).0 one ∙ sym ((pair_eq-Decides m x).0 two)) in
     let never : true ≡ false = sym same ∙ apart in cc never
 
 next_same : (n k : ℕ) → nat_eq (suc n) (suc k) ≡ nat_eq n k
@@ -78,7 +76,7 @@ beside_put modules old new number place distinct within puts x =
 -- A module is the same as another if their own files have the same name.
 same_file : (m : ModuleVersion) (path version : List ℕ) → pair_eq m (path, version) ≡ same_name (mod_file path version) (mod_file m.0 m.1)
 same_file m path version =
-    same_from_decides (pair_eq m (path, version)) (same_name (mod_file path version) (mod_file m.0 m.1)) (pair-eq m (path, version)) (
+    same_from_decides (pair_eq m (path, version)) (same_name (mod_file path version) (mod_file m.0 m.1)) (pair_eq-Decides m (path, version)) (
       λ e. parts (names_equal (mod_file path version) (mod_file m.0 m.1) e),
       λ same. same_from_equal (mod_file path version) (mod_file m.0 m.1) (ap (λ (x : ModuleVersion). mod_file x.0 x.1) (sym same)),
     )

@@ -5,6 +5,7 @@ use Rattle.std.specs.List.{All, find}
 use Rattle.std.specs.Map.{lookup}
 use Rattle.std.specs.Option.{IfSome, IsSome, option_map, option_or}
 use Rattle.std.proofs.lemmas.List.Elements.{All-head, All-more, All-tail, All-weaker}
+use Rattle.gm_name.specs.ModuleVersion.{ModuleVersion}
 use Rattle.gm_file.specs.Directives.{Left, Replacing, Right, left_with, left_without}
 use Rattle.gm_file.specs.Faults.{is_same_left}
 use Rattle.gm_file.specs.Fields.{replacement_of, right_for}
@@ -14,7 +15,7 @@ use Rattle.gm_store.proofs.NameOrder.{held_inserted, same_from_equal}
 use Rattle.gm_store.specs.Asked.{Name, name_of, same_name}
 use Rattle.gm_store.specs.contracts.files.FileNameOrd.TheImpl.{cmp-value}
 use Rattle.gm_store.specs.declared.files.FileName.{FileName}
-use Rattle.gm_graph_cache.specs.Main.{Main, ModuleVersion, replacement_in}
+use Rattle.gm_graph_cache.specs.Main.{Main, replacement_in}
 use Rattle.gm_graph_cache.specs.Reading.{file_named, file_of}
 
 -- A place is noted for the file of a name.

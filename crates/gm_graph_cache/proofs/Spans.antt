@@ -3,12 +3,13 @@ use Rattle.std.proofs.Common.{◌≡◌, ◌∙◌, ◌≤◌, ◌-◌, ℕ, Lis
 use Rattle.std.proofs.lemmas.List.{drop-append-le, length-drop, take-append-le}
 use Rattle.std.specs.List.{list_any}
 use Rattle.std.specs.Option.{option_map}
+use Rattle.gm_name.specs.ModuleVersion.{ModuleVersion}
 use Rattle.gm_name_table.specs.Listed.{BeginsWith, part}
 use Rattle.gm_file.specs.Listed.{Head, with_requirements}
 use Rattle.gm_graph_cache.specs.declared.summary.Kept.{Kept}
 use Rattle.gm_graph_cache.specs.declared.summary.Kept.TheVariants.{Valid, Faulty}
 use Rattle.gm_graph_cache.specs.declared.summary.ListSpan.{ListSpan}
-use Rattle.gm_graph_cache.specs.Main.{Main, ModuleVersion, is_excluded, without_excluded}
+use Rattle.gm_graph_cache.specs.Main.{Main, is_excluded, without_excluded}
 use Rattle.gm_graph_cache.specs.Summaries.{IsKept, IsSummary, IsWithinList, at_span, span_found, summary_reading}
 use Rattle.gm_graph_cache.proofs.Excluding.{all_others}
 

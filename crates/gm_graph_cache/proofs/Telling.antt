@@ -1,15 +1,16 @@
 -- The readings of the answers so far, and of one more answer.
-use Rattle.std.proofs.Common.{◌≡◌, ◌∙◌, ◌-◌, ℕ, Bool, true, false, cond, List, [], ◌∷◌, ◌++◌, length, Option, Some, None, Result, slice_get, sym, ap, subst, refl, arith, length-append}
+use Rattle.std.proofs.Common.{◌≡◌, ◌∙◌, Bool, true, false, cond, List, [], ◌∷◌, ◌++◌, Option, Some, None, Result, sym, ap, subst, refl}
 use Rattle.std.specs.Option.{option_map}
+use Rattle.gm_name.specs.ModuleVersion.{ModuleVersion}
 use Rattle.gm_file.specs.Fields.{Dependency}
-use Rattle.gm_store.specs.Asked.{Name, Reply, answer_in, replies_in, same_name}
+use Rattle.gm_store.specs.Asked.{Name, Reply, answer_in, same_name}
 use Rattle.gm_store_sums.specs.declared.sum_table.SumTable.{SumTable}
 use Rattle.gm_store.proofs.NameOrder.{names_equal, name_itself}
 use Rattle.gm_name_table.specs.Listed.{BeginsWith, NumberedList, listed}
 use Rattle.gm_graph_cache.specs.declared.class.Class.{Class}
 use Rattle.gm_graph_cache.specs.declared.summary.Kept.{Kept}
 use Rattle.gm_graph_cache.specs.declared.cache.Cache.{Cache}
-use Rattle.gm_graph_cache.specs.Main.{Main, ModuleVersion, main_of}
+use Rattle.gm_graph_cache.specs.Main.{Main, main_of}
 use Rattle.gm_graph_cache.specs.Reading.{Held, IsFileReading, IsTold, KeepsHeld, Tells}
 use Rattle.gm_graph_cache.specs.FileTable.{PutsFile, kept_at}
 use Rattle.gm_graph_cache.proofs.Keeping.{keeps_same, knows_still, main_same, sound_still}
@@ -106,18 +107,6 @@ knows_read old mid new pairs all name reply one knows same lent modules none add
     (knows_more mid new pairs name reply one (knows_still old mid pairs same knows) (not_asked old pairs name knows none) lent.main lent.sums modules adds
     (subst (λ (s : Option SumTable). IsFileReading s name reply (summary_reading (listed mid.modules) one)) (sym same.sums) reads)
     (subst (λ (m : Main). IsKept m (listed mid.modules) one) (sym (main_same old mid same)) is))
-
--- ---- the last answer
-
-last_reply : (pairs : List (Name × Reply)) (pair : Name × Reply) → slice_get (replies_in (pairs ++ pair ∷ [])) (length pairs) ≡ Some pair.1
-last_reply [] pair = refl
-last_reply (first ∷ pairs) pair = last_reply pairs pair
-
-pub last_answered : (all pairs : List (Name × Reply)) (name : Name) (reply found : Reply) (count : ℕ) → all ≡ pairs ++ (name, reply) ∷ [] → count ≡ length all → slice_get (replies_in all) (count - 1) ≡ Some found → found ≡ reply
-last_answered all pairs name reply found count e c at =
-    let place : count - 1 ≡ length pairs = omega (arith, ap length e, length-append pairs ((name, reply) ∷ [])) in
-    let here : Some found ≡ Some reply = sym at ∙ ap (λ (i : ℕ). slice_get (replies_in all) i) place ∙ ap (λ (ps : List (Name × Reply)). slice_get (replies_in ps) (length pairs)) e ∙ last_reply pairs (name, reply) in
-    cc
 
 stays : {R : Type 0} (b : Bool) (v r : R) (old new : Option R) → new ≡ cond b (Some v) old → (b ≡ true → old ≡ None) → old ≡ Some r → new ≡ Some r
 stays true v r old new is none e = let never = sym (none refl) ∙ e in absurd (cc never)

@@ -1,8 +1,9 @@
 -- What a store is asked for.
-use Rattle.std.specs.Prelude.{◌≡◌, ◌⊎◌, true, None, Contains}
+use Rattle.std.specs.Prelude.{◌≡◌, ◌⊎◌, true, None}
+use Rattle.gm_name.specs.ModuleVersion.{ModuleVersion}
 use Rattle.gm_store.specs.Asked.{Name, Reply, answer_in}
 use Rattle.gm_store.specs.States.{AddsAnswer, StoreState}
-use Rattle.gm_graph_cache.specs.Main.{Main, ModuleVersion}
+use Rattle.gm_graph_cache.specs.Main.{Main}
 use Rattle.gm_graph_cache.specs.Reading.{file_of, is_askable}
 
 -- Nothing was asked for, or only this name, which was not asked for before.
@@ -20,12 +21,3 @@ AsksFor main old new x = (new.asked ≡ old.asked)
 abbrev pub StillLacks : Main → StoreState → StoreState → ModuleVersion → Name → Type 0
 StillLacks main old new x name = (new.asked ≡ old.asked) × (name ≡ file_of main x) × (is_askable name ≡ true)
     × (answer_in old.asked name ≡ None)
-
--- Each new answer is one that the store may give.
-abbrev pub MayGrow : (Name → Reply → Type 0) → StoreState → StoreState → Type 0
-MayGrow may old new = (name : Name) (reply : Reply) → Contains new.asked (name, reply)
-    → Contains old.asked (name, reply) ⊎ may name reply
-
--- Every answer that is possible after is possible before, too.
-abbrev pub MayLess : (Name → Reply → Type 0) → (Name → Reply → Type 0) → Type 0
-MayLess new old = (name : Name) (reply : Reply) → new name reply → old name reply

@@ -3,7 +3,8 @@ use Rattle.std.specs.Prelude.{◌≡◌, ◌<◌, ℕ, List, [], ◌∷◌, ◌+
 use Rattle.std.specs.Option.{option_copied, option_map}
 use Rattle.std.specs.Borrow.{Fml, MutBor}
 use Rattle.std.specs.Io.BufRead.{Rests}
-use Rattle.gm_name_table.specs.Listed.{BeginsWith, listed, module_at}
+use Rattle.gm_name.specs.ModuleVersion.{ModuleVersion, module_at}
+use Rattle.gm_name_table.specs.Listed.{BeginsWith, listed}
 use Rattle.gm_file.specs.Fields.{Dependency}
 use Rattle.gm_store.specs.Asked.{Name, Reply}
 use Rattle.gm_store_sums.specs.declared.sum_table.SumTable.{SumTable}
@@ -13,7 +14,7 @@ use Rattle.gm_graph_cache.specs.declared.finding.Finding.{Finding}
 use Rattle.gm_graph_cache.specs.declared.finding.Finding.TheVariants.{Fault, Sound}
 use Rattle.gm_graph_cache.specs.declared.summary.Kept.{Kept}
 use Rattle.gm_graph_cache.specs.declared.cache.Cache.{Cache}
-use Rattle.gm_graph_cache.specs.Main.{Main, ModuleVersion, main_of}
+use Rattle.gm_graph_cache.specs.Main.{Main, main_of}
 use Rattle.gm_graph_cache.specs.FileTable.{kept_at}
 use Rattle.gm_graph_cache.specs.Summaries.{IsKept, summary_reading}
 use Rattle.gm_graph_cache.specs.Reading.{Held, Tells, readings_by, file_of}

@@ -2,12 +2,11 @@
 use Rattle.std.specs.Prelude.{◌≡◌, ◌==◌, ◌<◌, ◌≤◌, if◌then◌else◌, ℕ, List, [], ◌∷◌, Option, Some, None, IsSome, length, slice_get, slice_index_or, unwrap_or}
 use Rattle.std.specs.List.{IsDistinct}
 use Rattle.std.specs.Map.{lookup}
-use Rattle.gm_name.specs.PairOrder.{pair_eq}
-use Rattle.gm_name_table.specs.Listed.{module_at}
+use Rattle.gm_name.specs.ModuleVersion.{ModuleVersion, module_at, pair_eq}
 use Rattle.gm_store.specs.Asked.{Name, mod_file, folder_file, list_file, name_of, same_name}
 use Rattle.gm_graph_cache.specs.declared.file_table.FileTable.{FileTable}
 use Rattle.gm_graph_cache.specs.declared.summary.Kept.{Kept}
-use Rattle.gm_graph_cache.specs.Main.{Main, ModuleVersion, replacement_in}
+use Rattle.gm_graph_cache.specs.Main.{Main, replacement_in}
 use Rattle.gm_graph_cache.specs.Places.{no_place}
 use Rattle.gm_graph_cache.specs.Reading.{file_of}
 

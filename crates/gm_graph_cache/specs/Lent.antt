@@ -1,8 +1,8 @@
 -- The requirements that a cache returns.
 use Rattle.std.specs.Prelude.{List}
+use Rattle.gm_name.specs.ModuleVersion.{ModuleVersion}
 use Rattle.gm_name_table.specs.Listed.{listed}
 use Rattle.gm_graph_cache.specs.declared.lent.Lent.{Lent}
-use Rattle.gm_graph_cache.specs.Main.{ModuleVersion}
 use Rattle.gm_graph_cache.specs.Summaries.{at_span}
 
 -- the requirements, in order

@@ -1,16 +1,12 @@
 -- What the main module's file says, and what that means for a module at a version.
 use Rattle.std.specs.Prelude.{ℕ, ◌==◌, ◌&&◌, ◌||◌, not, nat_lt, nat_le, Bool, List, [], filter, Option, unwrap_or}
 use Rattle.std.specs.List.{list_any}
+use Rattle.gm_name.specs.ModuleVersion.{ModuleVersion, pair_eq}
 use Rattle.gm_syntax.specs.Tokens.{Placed}
 use Rattle.gm_syntax.specs.Document.{Line}
 use Rattle.gm_syntax.specs.LineViews.{plain_lines}
 use Rattle.gm_file.specs.Directives.{Strict, Replacing, Right}
 use Rattle.gm_file.specs.Fields.{module_of, go_of, requirements_of, excludes_of, replaces_of, replacement_of as right_among}
-use Rattle.gm_name.specs.PairOrder.{pair_eq}
-
--- a module at a version: its path and its version. The vertices of the module graph are of this type.
-abbrev pub ModuleVersion : Type 0
-ModuleVersion = List ℕ × List ℕ
 
 -- what the main module's file says (Go Modules Reference, "go.mod files")
 pub record Main : Type 0 where

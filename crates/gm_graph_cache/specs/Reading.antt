@@ -3,6 +3,7 @@ use Rattle.std.specs.Prelude.{◌≡◌, ◌||◌, ℕ, Bool, true, false, not, 
 use Rattle.std.specs.Option.{option_map}
 use Rattle.std.specs.Str.{bytes_eq}
 use Rattle.gm_name.specs.Path.{is_fetchable}
+use Rattle.gm_name.specs.ModuleVersion.{ModuleVersion}
 use Rattle.gm_syntax.specs.Tokens.{Placed}
 use Rattle.gm_syntax.specs.Document.{Line}
 use Rattle.gm_syntax.specs.LineViews.{plain_lines}
@@ -21,7 +22,7 @@ use Rattle.gm_graph_cache.specs.declared.class.Class.{Class}
 use Rattle.gm_graph_cache.specs.declared.class.Class.TheVariants.{NotFetchable, Missing, TooLong, NoSum, SumDiffers, Malformed, WrongPath}
 use Rattle.gm_graph_cache.specs.declared.class.Misreading.{Misreading}
 use Rattle.gm_graph_cache.specs.declared.class.Misreading.TheVariants as misreading
-use Rattle.gm_graph_cache.specs.Main.{Main, ModuleVersion, without_excluded, is_pruned_by, replacement_in}
+use Rattle.gm_graph_cache.specs.Main.{Main, without_excluded, is_pruned_by, replacement_in}
 
 -- ---- which file is read
 
@@ -37,8 +38,7 @@ file_of main x = file_named x (replacement_in main x)
 -- A file is asked for, unless it comes from a proxy and its path is not fetchable.
 abbrev pub is_askable : Name → Bool
 is_askable (mod_file path version) = is_fetchable path
-is_askable (folder_file text) = true
-is_askable (list_file path) = true
+is_askable _ = true
 
 -- ---- what a file says, or what is wrong with it
 
@@ -96,9 +96,8 @@ Held = Name → Option (Result Dependency Class)
 
 abbrev pub IsTold : Option SumTable → Name → Option Reply → Option (Result Dependency Class) → Type 0
 IsTold sums name None None = ⊤
-IsTold sums name None (Some reading) = ⊥
-IsTold sums name (Some reply) None = ⊥
 IsTold sums name (Some reply) (Some reading) = IsFileReading sums name reply reading
+IsTold sums name _ _ = ⊥
 
 -- What is held is what the replies to the requested names say, and nothing about any other name.
 abbrev pub Tells : Option SumTable → List (Name × Reply) → Held → Type 0
@@ -143,14 +142,12 @@ readings_by main held x = reading_if (is_askable (file_of main x)) main x (held 
 -- ---- fault, requirements, pruning
 
 abbrev pub fault_in : Option (Result Dependency Class) → Option Class
-fault_in None = None
-fault_in (Some (Ok file)) = None
 fault_in (Some (Err class)) = Some class
+fault_in _ = None
 
 abbrev pub said_in : Option (Result Dependency Class) → Option Dependency
-said_in None = None
 said_in (Some (Ok file)) = Some file
-said_in (Some (Err class)) = None
+said_in _ = None
 
 -- the fault of a vertex
 abbrev pub vertex_fault : Readings → ModuleVersion → Option Class

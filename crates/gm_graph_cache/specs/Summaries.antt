@@ -1,5 +1,6 @@
 -- What is kept of the files that were read.
 use Rattle.std.specs.Prelude.{◌≡◌, ◌≤◌, List, ⊤, Option, Some, None, Result, Ok, Err, length}
+use Rattle.gm_name.specs.ModuleVersion.{ModuleVersion}
 use Rattle.gm_name_table.specs.Listed.{Appends, NumberedList, part}
 use Rattle.gm_file.specs.Fields.{Dependency}
 use Rattle.gm_file.specs.Listed.{with_requirements}
@@ -12,7 +13,7 @@ use Rattle.gm_graph_cache.specs.declared.summary.Kept.{Kept}
 use Rattle.gm_graph_cache.specs.declared.summary.Kept.TheVariants.{Valid, Faulty}
 use Rattle.gm_graph_cache.specs.declared.summary.ListSpan.{ListSpan}
 use Rattle.gm_graph_cache.specs.declared.summary.Summary.{Summary}
-use Rattle.gm_graph_cache.specs.Main.{Main, ModuleVersion, without_excluded}
+use Rattle.gm_graph_cache.specs.Main.{Main, without_excluded}
 
 -- what an answer says, as a reading
 abbrev pub reading_of : FileReading → Result Dependency Class

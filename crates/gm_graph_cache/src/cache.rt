@@ -5,12 +5,14 @@
 
 ghost use Rattle.std.specs.Prelude.{◌≡◌, ◌≤◌, ◌<◌, ◌++◌, ◌∷◌, [], List, IfOk, OnOk, OnErr, MatchOption, None, Some, Ok, Err, length, take, true};
 ghost use Rattle.std.specs.Option.{option_copied};
+ghost use Rattle.gm_name.specs.ModuleVersion.{ModuleVersion};
 ghost use Rattle.gm_name_table.specs.Listed.{listed};
-ghost use Rattle.gm_store.specs.Asked.{IsWithinLimit, Name, Reply, answer_in, name_of, reply_of};
-ghost use Rattle.gm_store.specs.States.{AddsAnswer, CountsFailure};
+ghost use Rattle.gm_store.specs.Asked.{IsWithinLimit, Reply, answer_in, name_of, reply_of};
+ghost use Rattle.gm_store.specs.Requests.{refused_for};
+ghost use Rattle.gm_store.specs.States.{AddsAnswer, HasServed};
 ghost use Rattle.gm_store.specs.declared.files.FileName.{FileName};
-ghost use Rattle.gm_graph_cache.specs.Main.{ModuleVersion, main_of, without_excluded};
-ghost use Rattle.gm_graph_cache.specs.Asking.{AsksAtMost, AsksFor, MayGrow, MayLess, StillLacks};
+ghost use Rattle.gm_graph_cache.specs.Main.{main_of, without_excluded};
+ghost use Rattle.gm_graph_cache.specs.Asking.{AsksAtMost, AsksFor, StillLacks};
 ghost use Rattle.gm_graph_cache.specs.Reading.{IsFileReading, KeepsHeld, file_of, is_askable as may_be_asked, is_unpruned, is_unpruned_in, readings_by, said_in, vertex_requirements};
 ghost use Rattle.gm_graph_cache.specs.Refusals.{refused_in};
 ghost use Rattle.gm_graph_cache.specs.FileTable.{PutsFile, HasReplacing};
@@ -32,7 +34,7 @@ use crate::summary::{Kept, ListSpan, summary_of};
 use gm_file::MainFile;
 use gm_name::{KnownNames, ModVer, NoMemory};
 use gm_name_table::ModuleList;
-use gm_store::{Answer, AskFault, FileName, Files};
+use gm_store::{Answer, AskFault, FileName, Files, last_answer};
 use gm_store_sums::SumTable;
 use std::alloc::Global;
 
@@ -85,17 +87,6 @@ fn first_modules(alloc: Global, main: &MainFile) -> Result<ModuleList, NoMemory>
         }
     }
     Ok(modules)
-}
-
-/// The answer to the last request.
-fn last_answer<F: Files>(files: &F) -> &Answer
-    requires { (pairs : List (Name × Reply)) × (name : Name) × (reply : Reply)
-        × ((F.state files.now).asked ≡ pairs ++ (name, reply) ∷ []) }
-    ensures value { (pairs : List (Name × Reply)) (name : Name) (reply : Reply)
-        → (F.state files.now).asked ≡ pairs ++ (name, reply) ∷ [] → reply_of result.now ≡ reply }
-    ensures within_limit { IsWithinLimit (reply_of result.now) }
-{
-    files.answer(files.count() - 1)
 }
 
 /// Expects the path of the module whose file has this name, since nearly all files declare it.
@@ -154,7 +145,7 @@ fn push_turn(
 impl<'a> Cache<'a> {
     ghost use Rattle.std.specs.Borrow.{sem};
     ghost use Rattle.std.specs.List.{IsDistinct};
-    ghost use Rattle.gm_name.specs.PairOrder.{pair_eq};
+    ghost use Rattle.gm_name.specs.ModuleVersion.{pair_eq};
     ghost use Rattle.gm_name_table.specs.Listed.{BeginsWith};
     ghost use Rattle.gm_graph_cache.specs.Cached.{HoldsSame, IsFinding, IsLender, IsSound, KeepsSound, Knows, LendsKept, LentSame, Lends, kept_file, file_count, held_of, main_in, modules_in, numbered, read_at, summary_at, sums_in, turns_in};
     ghost use Rattle.gm_graph_cache.specs.Lent.{lent_table};
@@ -203,15 +194,11 @@ impl<'a> Cache<'a> {
         ensures files { self.new.files ≡ self.old.files }
         ensures asks { AsksAtMost (F.state files.old) (F.state files.new) (name_of name.now) }
         ensures device { result ≡ Err AskFault.Device
-            → ((F.state files.new).asked ≡ (F.state files.old).asked)
-            × ((F.state files.new).refused ≡ (F.state files.old).refused ++ name_of name.now ∷ []) }
-        ensures not_refused { (result ≡ Err AskFault.Device → ⊥)
-            → (F.state files.new).refused ≡ (F.state files.old).refused }
-        ensures cause { result ≡ Err AskFault.Device
-            → CountsFailure (F.state files.old) (F.state files.new) }
-        ensures may { MayGrow (F.may_answer files.old) (F.state files.old) (F.state files.new) }
-        ensures same_store { MayLess (F.may_answer files.new) (F.may_answer files.old) }
-        ensures later { (F.state files.old).faults ≤ (F.state files.new).faults }
+            → (F.state files.new).asked ≡ (F.state files.old).asked }
+        ensures refused { (F.state files.new).refused
+            ≡ (F.state files.old).refused ++ refused_for (name_of name.now) result }
+        ensures served { HasServed (F.may_answer files.old) (F.may_answer files.new)
+            (F.state files.old) (F.state files.new) }
     {
         files.ask(name)?;
         let kept = summarize(
@@ -322,11 +309,8 @@ impl<'a> Cache<'a> {
             → StillLacks (main_in self.old) (F.state files.old) (F.state files.new)
             (numbered self.old number) (name_of name) }
         ensures refused { (F.state files.new).refused ≡ (F.state files.old).refused ++ refused_in result }
-        ensures cause { (name : FileName) → result ≡ Err (LoadFault.Device name)
-            → CountsFailure (F.state files.old) (F.state files.new) }
-        ensures may { MayGrow (F.may_answer files.old) (F.state files.old) (F.state files.new) }
-        ensures same_store { MayLess (F.may_answer files.new) (F.may_answer files.old) }
-        ensures later { (F.state files.old).faults ≤ (F.state files.new).faults }
+        ensures served { HasServed (F.may_answer files.old) (F.may_answer files.new)
+            (F.state files.old) (F.state files.new) }
     {
         let name = file_name(self.alloc, self.main, self.modules.module(number))?;
         if !is_askable(&name) {

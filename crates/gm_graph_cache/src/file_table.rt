@@ -40,7 +40,8 @@ impl FileTable {
     ghost use Rattle.gm_name_table.specs.Listed.{BeginsWith};
     ghost use Rattle.gm_store.specs.Asked.{Name, name_of};
     ghost use Rattle.gm_graph_cache.specs.FileTable.{PutsFile, HasReplacing, IsFileOf, IsOwnWithin, IsPlaceOf, KeepsFiles, KeepsOthers, KeepsOwn, KeepsPlaces, KeepsReplacing, PutsOwn, NotesPlace, PutsReplacing, kept_at, replacing_place};
-    ghost use Rattle.gm_graph_cache.specs.Main.{Main, ModuleVersion, main_of};
+    ghost use Rattle.gm_graph_cache.specs.Main.{Main, main_of};
+    ghost use Rattle.gm_name.specs.ModuleVersion.{ModuleVersion};
     ghost use Rattle.gm_graph_cache.specs.Places.{no_place};
     ghost use Rattle.gm_graph_cache.specs.Summaries.{span_found};
 

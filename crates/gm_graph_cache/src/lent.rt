@@ -19,7 +19,7 @@ pub struct Lent<'a> {
 impl<'a> Lent<'a> {
     ghost use Rattle.std.specs.Prelude.{◌≡◌, length, map};
     ghost use Rattle.std.specs.List.{IsDistinct};
-    ghost use Rattle.gm_name.specs.PairOrder.{pair_eq};
+    ghost use Rattle.gm_name.specs.ModuleVersion.{pair_eq};
     ghost use Rattle.gm_name_table.specs.Listed.{AreModuleNumbers, modules_at};
     ghost use Rattle.gm_graph_cache.specs.Lent.{lent_modules, lent_table};
     ghost use Rattle.gm_graph_cache.specs.Summaries.{at_span};

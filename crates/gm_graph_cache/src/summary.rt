@@ -5,8 +5,9 @@
 
 ghost use Rattle.std.specs.Prelude.{◌≡◌, ◌≤◌, List, IfOk, OnOk, Some, drop, length};
 ghost use Rattle.std.specs.List.{list_any};
+ghost use Rattle.gm_name.specs.ModuleVersion.{ModuleVersion};
 ghost use Rattle.gm_name_table.specs.Listed.{Appends, listed};
-ghost use Rattle.gm_graph_cache.specs.Main.{ModuleVersion, is_excluded, without_excluded, main_of};
+ghost use Rattle.gm_graph_cache.specs.Main.{is_excluded, without_excluded, main_of};
 ghost use Rattle.gm_graph_cache.specs.Reading.{is_unpruned_in, said_in};
 ghost use Rattle.gm_graph_cache.specs.Summaries.{Grows, IsSummary, at_span, nowhere, span_found, summary_reading};
 

@@ -4,7 +4,7 @@ use Rattle.std.proofs.lemmas.List.{append_cancel_left}
 use Rattle.gm_syntax.specs.Document.{Line}
 use Rattle.gm_syntax.specs.Tokens.{Placed}
 use Rattle.gm_store.specs.Asked.{Name, Reply, name_of}
-use Rattle.gm_store.specs.States.{CountsFailure, RefusesWithCause, StoreState}
+use Rattle.gm_store.specs.States.{StoreState}
 use Rattle.gm_store.specs.declared.files.FileName.{FileName}
 use Rattle.gm_store_sums.specs.declared.sum_table.SumTable.{SumTable}
 use Rattle.gm_graph_cache.specs.Main.{Main, main_of}
@@ -43,15 +43,6 @@ rest_printed main rows rest path limit outcome is (inr none) = inr none
 abbrev pub Answered : Query → Main → Option SumTable → StoreState → StoreState → Outcome → Type 0
 Answered query main table old new outcome =
     (failed : List Name) × (new.refused ≡ old.refused ++ failed) × IsOutcomeOver (PrintsFor query) main table (answers new.asked failed) outcome
-
--- a failure is recorded only where the count of failures rose, or was at its greatest value
-pub load_counts : {T : Type 0} (old new : StoreState) (result : Result T LoadFault)
-    → new.refused ≡ old.refused ++ refused_in result → ((name : FileName) → result ≡ Err (load.Device name) → CountsFailure old new)
-    → RefusesWithCause old new
-load_counts old new (Ok loaded) grown cause = inl (grown ∙ append-nil old.refused)
-load_counts old new (Err load.NoMemory) grown cause = inl (grown ∙ append-nil old.refused)
-load_counts old new (Err load.TooMany) grown cause = inl (grown ∙ append-nil old.refused)
-load_counts old new (Err (load.Device name)) grown cause = inr (cause name refl)
 
 -- the files of the opened modules are known
 pub known : (main : Main) (table : Option SumTable) (asked : List (Name × Reply)) (loaded : Loaded) (held : Held) → Tells table asked held

@@ -2,10 +2,10 @@
 use Rattle.std.proofs.Common.{◌≡◌, ◌≢◌, ◌∙◌, ℕ, List, ◌∷◌, ◌++◌, Contains, codes, ap, append_assoc, arith, refl, sym, subst}
 use Rattle.gm_name.specs.Path.{IsPath, is_byte_of_path}
 use Rattle.gm_name.specs.Version.{IsVersion, is_byte_of_version}
+use Rattle.gm_name.specs.ModuleVersion.{ModuleVersion}
 use Rattle.gm_name.proofs.Bytes.{path-bytes, version-bytes}
 use Rattle.gm_syntax.specs.Lines.{HasNoLineFeed, lines_of}
 use Rattle.gm_graph_cache.specs.declared.class.Class.{Class}
-use Rattle.gm_graph_cache.specs.Main.{ModuleVersion}
 use Rattle.gm_graph.specs.declared.fault.Fault.{Fault}
 use Rattle.gm_graph.specs.Building.{fault}
 use Rattle.gm_graph_listing.specs.PrintedLines.{IsProperFault, LineIsOfAFault, LineSaysFault, ReportHasLines, TextSaysFaults, fault_text}

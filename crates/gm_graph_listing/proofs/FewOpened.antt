@@ -3,7 +3,8 @@ use Rattle.std.proofs.Common.{◌≡◌, ◌∙◌, ◌⊎◌, ◌≤◌, ◌+�
 use Rattle.std.specs.List.{IsDistinct, flat_map, list_any}
 use Rattle.std.proofs.lemmas.List.Elements.{Contains-append_cases, Contains-append_left, Contains-append_right, Contains-push_cases}
 use Rattle.std.proofs.lemmas.Map.Keys.{IsDistinct-push}
-use Rattle.gm_graph_cache.specs.Main.{Main, ModuleVersion, without_excluded}
+use Rattle.gm_name.specs.ModuleVersion.{ModuleVersion, pair-same, pair_eq, pairs-equivalence}
+use Rattle.gm_graph_cache.specs.Main.{Main, without_excluded}
 use Rattle.gm_graph_cache.specs.Reading.{Readings, vertex_requirements}
 use Rattle.gm_graph_select.specs.declared.step.Edge.{Edge}
 use Rattle.gm_graph_select.specs.declared.step.Step.{Step}
@@ -12,10 +13,8 @@ use Rattle.gm_graph_select.specs.Graph.{among, edge}
 use Rattle.gm_graph_select.proofs.Ascending.{member_cases, member_head, member_tail, no_member}
 use Rattle.gm_graph_select.proofs.Same.{AreSame}
 use Rattle.gm_graph.specs.Graph.{IsEdge, IsOpened}
-use Rattle.gm_name.specs.PairOrder.{pair_eq}
 use Rattle.gm_graph.specs.Loading.{AreFew}
 use Rattle.gm_graph.proofs.Mapped.{from_mapped, in_mapped}
-use Rattle.gm_graph.proofs.Sameness.{exact_vertex, vertices_equivalence}
 
 -- ---- lists mapped to lists and concatenated
 
@@ -40,7 +39,7 @@ in_or_out x [] = inr refl
 in_or_out x (first ∷ all) = by_test (pair_eq x first) refl (in_or_out x all)
   where
     by_test : (b : Bool) → pair_eq x first ≡ b → Contains all x ⊎ (list_any (pair_eq x) all ≡ false) → Contains (first ∷ all) x ⊎ (list_any (pair_eq x) (first ∷ all) ≡ false)
-    by_test true e rest = inl (subst (λ (z : ModuleVersion). Contains (z ∷ all) x) (exact_vertex x first e) (member_head x all))
+    by_test true e rest = inl (subst (λ (z : ModuleVersion). Contains (z ∷ all) x) (pair-same x first e) (member_head x all))
     by_test false e (inl there) = inl (member_tail first x all there)
     by_test false e (inr out) = inr (ap (λ (b : Bool). b || list_any (pair_eq x) all) e ∙ out)
 
@@ -64,7 +63,7 @@ module _ (main : Main) (readings : Readings) (few : AreFew main readings) where
   are_opened all each full x = ((λ is. in_full all x (full x is) (in_or_out x all)), each x)
 
   pushed : (all : List ModuleVersion) (x : ModuleVersion) → IsDistinct pair_eq all → list_any (pair_eq x) all ≡ false → IsDistinct pair_eq (all ++ x ∷ [])
-  pushed all x distinct out = IsDistinct-push vertices_equivalence all x distinct out
+  pushed all x distinct out = IsDistinct-push pairs-equivalence all x distinct out
 
   -- Starting from a list of opened vertices with room for `n` more: it can't be refuted that some list has exactly
   -- the opened vertices.

@@ -2,6 +2,7 @@
 use Rattle.std.proofs.Common.{◌≡◌, ◌≢◌, ◌∙◌, ◌↔◌, ℕ, Bool, true, false, List, Option, Some, None, sym, ap, refl, subst, inl, inr}
 use Rattle.std.specs.Cmp.{IsTotalOrder, on_total}
 use Rattle.std.specs.Str.{bytes_eq}
+use Rattle.gm_name.specs.ModuleVersion.{pair_cmp, pair_total}
 use Rattle.gm_graph_cache.specs.Main.{Main}
 use Rattle.gm_graph_cache.specs.Reading.{Readings}
 use Rattle.gm_graph_select.specs.declared.step.Step.{Step}
@@ -9,8 +10,7 @@ use Rattle.gm_graph_select.specs.declared.step.Edge.{Edge}
 use Rattle.gm_graph_select.specs.BuildList.{Entry}
 use Rattle.gm_graph_select.specs.Chains.{IsChain}
 use Rattle.gm_graph_select.specs.Graph.{Edges, among}
-use Rattle.gm_name.specs.PairOrder.{pair_cmp}
-use Rattle.gm_graph_select.specs.StepOrder.{edge_total, vertex_total}
+use Rattle.gm_graph_select.specs.StepOrder.{edge_total}
 use Rattle.gm_graph_select.proofs.Ascending.{same_lists}
 use Rattle.gm_graph_select.proofs.Lawful.{one_chain, same_build_lists}
 use Rattle.gm_graph_select.proofs.RestRows.{entry_listed, one_at, one_entry, texts_differ, texts_same}
@@ -32,7 +32,7 @@ both f g h = ((λ a. g.1 (h.0 (f.0 a))), (λ c. f.1 (h.1 (g.0 c))))
 -- ---- faults and edges
 
 faults_total : IsTotalOrder (λ (a b : Fault). pair_cmp a.vertex b.vertex)
-faults_total = on_total (λ (f : Fault). f.vertex) vertex_total
+faults_total = on_total (λ (f : Fault). f.vertex) pair_total
 
 pub one_faults : (main : Main) (a b : Readings) (faults others : List Fault) → Agrees main a b → Agrees main b a → AreFaults main a faults → AreFaults main b others → faults ≡ others
 one_faults main a b faults others into back is other =

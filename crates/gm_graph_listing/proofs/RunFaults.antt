@@ -2,6 +2,7 @@
 use Rattle.std.proofs.Common.{◌≡◌, ℕ, Bool, true, false, cond, List, Option, Some, None, Result, Ok, Err, refl, sym, subst}
 use Rattle.std.specs.Prelude.{⊤}
 use Rattle.std.specs.Option.{option_map}
+use Rattle.gm_name.specs.ModuleVersion.{ModuleVersion}
 use Rattle.gm_file.specs.Directives.{Right}
 use Rattle.gm_file.specs.Fields.{Dependency}
 use Rattle.gm_store.specs.Asked.{Name, Reply, absent, answer_in, bytes, folder_file, list_file, mod_file, too_long}
@@ -13,7 +14,7 @@ use Rattle.gm_store_sums.specs.declared.sum_table.SumTable.{SumTable}
 use Rattle.gm_graph_cache.specs.declared.class.Class.{Class}
 use Rattle.gm_graph_cache.specs.declared.class.Class.TheVariants.{NotFetchable, Missing, TooLong, NoSum, SumDiffers, Malformed, WrongPath}
 use Rattle.gm_graph_cache.specs.declared.class.Misreading.TheVariants as misreading
-use Rattle.gm_graph_cache.specs.Main.{Main, ModuleVersion, replacement_in}
+use Rattle.gm_graph_cache.specs.Main.{Main, replacement_in}
 use Rattle.gm_graph_cache.specs.Reading.{IsContentReading, IsFileReading, IsReadUnless, IsTold, class_of_sum, fault_in, file_of, is_askable, is_right_path, reading_if, readings_by, sum_fault, with_right_path}
 use Rattle.gm_graph_listing.specs.PrintedLines.{IsProperClass, RunHasProperFaults}
 use Rattle.gm_graph_listing.proofs.LineNumbers.{misread_few}

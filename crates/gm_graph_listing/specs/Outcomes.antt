@@ -12,7 +12,8 @@ use Rattle.gm_store.specs.Asked.{Name, Reply, names_in}
 use Rattle.gm_store.specs.States.{StoreState}
 use Rattle.gm_store_sums.specs.Sums.{HasValidLines, IsFirstInvalid, ReadsAs}
 use Rattle.gm_store_sums.specs.declared.sum_table.SumTable.{SumTable}
-use Rattle.gm_graph_cache.specs.Main.{Main, ModuleVersion, main_of}
+use Rattle.gm_graph_cache.specs.Main.{Main, main_of}
+use Rattle.gm_name.specs.ModuleVersion.{ModuleVersion}
 use Rattle.gm_graph_cache.specs.Reading.{Held, IsMisreadAt, Readings, Tells, readings_by}
 use Rattle.gm_graph_cache.specs.declared.class.Misreading.TheVariants as misreading
 use Rattle.gm_graph_select.specs.declared.step.Step.{Step}

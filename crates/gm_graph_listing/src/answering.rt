@@ -1,10 +1,10 @@
 //! Runs a command over a module graph: reads the two files, loads what the main module's file leads to, and
 //! answers.
 
-ghost use Rattle.std.specs.Prelude.{◌≡◌, ◌≤◌, ◌++◌, ◌∷◌, [], Contains, MatchResult};
+ghost use Rattle.std.specs.Prelude.{◌≡◌, ◌++◌, ◌∷◌, [], MatchResult};
 ghost use Rattle.std.specs.Option.{option_copied};
-ghost use Rattle.gm_store.specs.Asked.{Name, Reply};
-ghost use Rattle.gm_store.specs.States.{RefusesWithCause};
+ghost use Rattle.gm_store.specs.Asked.{Name};
+ghost use Rattle.gm_store.specs.States.{HasServed};
 ghost use Rattle.gm_graph_cache.specs.Main.{main_of};
 ghost use Rattle.gm_graph_listing.specs.Outcomes.{IsAnswerOver, IsRefusedRead, PrintsFor};
 ghost use Rattle.gm_graph_listing.specs.Needs.{AskedInTurn, FailsInTurn, GraphNeeds};
@@ -82,10 +82,8 @@ pub fn answer<'q, F: Files>(
     ensures asks { AskedInTurn (GraphNeeds file.now (option_copied sums.entry)) (F.state files.new).asked }
     ensures fails { FailsInTurn (GraphNeeds file.now (option_copied sums.entry))
         (F.state files.old) (F.state files.new) }
-    ensures may_answer { (name : Name) (reply : Reply) → Contains (F.state files.new).asked (name, reply)
-        → F.may_answer files.old name reply }
-    ensures cause { RefusesWithCause (F.state files.old) (F.state files.new) }
-    ensures later { (F.state files.old).faults ≤ (F.state files.new).faults }
+    ensures served { HasServed (F.may_answer files.old) (F.may_answer files.new)
+        (F.state files.old) (F.state files.new) }
 {
     let read = read_files(alloc, file, sums)?;
     let loaded = load(alloc, &read.main, files, read.table.as_ref())?;

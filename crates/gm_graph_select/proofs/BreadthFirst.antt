@@ -9,12 +9,13 @@ use Rattle.std.proofs.lemmas.Bool.{cases_eq, cases_lt, eqb-false, eqb-true, fals
 use Rattle.std.proofs.lemmas.List.{get_or_append_left, get_or_default, get_or-replicate, get_or-set_other, get_or-set_same, get_or-take, length-replicate, length-set, length-take-le, map_more, reverse-append}
 use Rattle.std.proofs.lemmas.List.Elements.{Contains-append_left, Contains-append_right, Contains-get_or, Contains-push, Contains-push_cases}
 use Rattle.std.proofs.lemmas.List.Sums.{sum_by-set}
+use Rattle.gm_name.specs.ModuleVersion.{ModuleVersion}
 use Rattle.gm_graph_select.specs.declared.step.Step.{Step}
 use Rattle.gm_graph_select.specs.declared.step.Step.TheVariants.{Main, Of}
 use Rattle.gm_graph_select.specs.declared.step.Edge.{Edge}
 use Rattle.gm_graph_select.specs.declared.searching.Visit.{Visit}
 use Rattle.gm_graph_select.specs.Adjacency.{GraphView}
-use Rattle.gm_graph_select.specs.Graph.{Vertex, Edges, edge, step_cmp}
+use Rattle.gm_graph_select.specs.Graph.{Edges, edge, step_cmp}
 use Rattle.gm_graph_select.specs.Chains.{IsChain, IsLevel, IsPredecessor, IsReached, Leads, along, at_main, begins, goes_on}
 use Rattle.gm_graph_select.specs.Numbering.{IsGraph, edge_leaving, edges_leaving, graph_edges, step_at, steps_of}
 use Rattle.gm_graph_select.specs.Order.{IsAscending}
@@ -31,7 +32,7 @@ by_true : (b : Bool) → (b ≡ false → ⊥) → b ≡ true
 by_true true h = refl
 by_true false h = absurd (h refl)
 
-module _ (E : Edges) (n : ℕ) (y : Vertex) (far : IsWithin E n (Of y) → ⊥) where
+module _ (E : Edges) (n : ℕ) (y : ModuleVersion) (far : IsWithin E n (Of y) → ⊥) where
   at_least : (s : Step) → E s y → (m : ℕ) → Leads E s m → n ≤ m
   at_least s e m h = elim (cases_lt m n) [
     | inl lt ↦ absurd (far (suc m, omega (arith, lt), along h e))
@@ -127,7 +128,7 @@ count_set found i below none =
     let one : cond (is_found_at found i) 0 1 ≡ 1 = ap {B = ℕ} (λ (b : Bool). cond b 0 1) none in
     omega (arith, sums, one)
 
-module _ (G : GraphView) (goal : Vertex) (level : ℕ) (before : List Bool) (tried : List Edge) where
+module _ (G : GraphView) (goal : ModuleVersion) (level : ℕ) (before : List Bool) (tried : List Edge) where
   -- An edge whose end was found, if it has a number.
   pub with_edge : (state : State) (e : Edge) → e.to ≢ goal → ((i : ℕ) → i < length (steps_of G) → step_at (steps_of G) i ≡ Of e.to → is_found_at state.found i ≡ true) → IsFollowed G goal level before tried state → IsFollowed G goal level before (tried ++ e ∷ []) state
   with_edge state e miss end f = record {
@@ -263,7 +264,7 @@ module _ (G : GraphView) (goal : Vertex) (level : ℕ) (before : List Bool) (tri
   }
     where
       here : graph_edges G (step_at (steps_of G) v.number) goal
-      here = subst (λ (s : Step). graph_edges G s goal) from (subst (λ (y : Vertex). graph_edges G e.from y) to there)
+      here = subst (λ (s : Step). graph_edges G s goal) from (subst (λ (y : ModuleVersion). graph_edges G e.from y) to there)
 
       place : length state.visits - 1 ≡ length old
       place = let long = ap length visits in omega (arith, long, length-append old (v ∷ []))
@@ -285,7 +286,7 @@ last_visit steps visits v all p is at = (
 
 -- ---- one more visit of a level
 
-pub one_tried : (G : GraphView) (v : Visit) (more : List Edge) → ((y : Vertex) → graph_edges G (step_at (steps_of G) v.number) y → Contains more (edge (step_at (steps_of G) v.number) y)) → AreTried G (v ∷ []) more
+pub one_tried : (G : GraphView) (v : Visit) (more : List Edge) → ((y : ModuleVersion) → graph_edges G (step_at (steps_of G) v.number) y → Contains more (edge (step_at (steps_of G) v.number) y)) → AreTried G (v ∷ []) more
 one_tried G v more all w (k, inside, at) y e = elim (cases_eq k 0) [
   | inl nil ↦
       let same : v ≡ w = subst (λ (n : ℕ). get_or (v ∷ []) n w ≡ w) nil at in
@@ -306,7 +307,7 @@ tried_more G due i v tried more below is old new w (k, inside, at) y e = elim (c
 ]
 
 -- No edge was followed yet.
-pub level_begins : (G : GraphView) (goal : Vertex) (level : ℕ) (start : State) (due : List Visit) → IsSearchedTo G goal level start due → IsFollowed G goal level start.found [] start
+pub level_begins : (G : GraphView) (goal : ModuleVersion) (level : ℕ) (start : State) (due : List Visit) → IsSearchedTo G goal level start due → IsFollowed G goal level start.found [] start
 level_begins G goal level start due h = record {
   size = h.size;
   keeps = λ i g. g;
@@ -328,7 +329,7 @@ level_begins G goal level start due h = record {
         omega (arith, below)
 
 -- A visit of the level is due after those before it.
-pub due_next : (G : GraphView) (goal : Vertex) (level : ℕ) (start state : State) (due : List Visit) (tried : List Edge) (i : ℕ) (v : Visit) → IsGraph G → IsSearchedTo G goal level start due → i < length due → v ≡ get_or due i v → AreTried G (take i due) tried
+pub due_next : (G : GraphView) (goal : ModuleVersion) (level : ℕ) (start state : State) (due : List Visit) (tried : List Edge) (i : ℕ) (v : Visit) → IsGraph G → IsSearchedTo G goal level start due → i < length due → v ≡ get_or due i v → AreTried G (take i due) tried
     → IsTraced (graph_edges G) (steps_of G) state.visits (length state.visits) v → IsFollowed G goal level start.found tried state → IsVisitedNext G goal level start.found tried state v
 due_next G goal level start state due tried i v are h below is all traced f = record {
   turn = record { on_level = h.on_level v member; lower = lower; full = λ j inside w. (h.found j inside).1 w };
@@ -340,7 +341,7 @@ due_next G goal level start state due tried i v are h below is all traced f = re
     member : Contains due v
     member = (i, below, sym is)
 
-    lower : (t : Step) (y : Vertex) → graph_edges G t y → IsLevel (graph_edges G) t level → is_lt (step_cmp t (step_at (steps_of G) v.number)) ≡ true → Contains tried (edge t y)
+    lower : (t : Step) (y : ModuleVersion) → graph_edges G t y → IsLevel (graph_edges G) t level → is_lt (step_cmp t (step_at (steps_of G) v.number)) ≡ true → Contains tried (edge t y)
     lower t y e l low =
         let (j, inside, at) = step_number G are t y e in
         let (w, (p, room, found), number) = h.listed j inside (subst (λ (s : Step). IsLevel (graph_edges G) s level) (sym at) l) in
@@ -362,11 +363,11 @@ due_next G goal level start state due tried i v are h below is all traced f = re
 
 -- ---- one more level
 
-module _ (G : GraphView) (goal : Vertex) (level : ℕ) (start : State) (due : List Visit) (tried : List Edge) (state : State) (are : IsGraph G) (h : IsSearchedTo G goal level start due) (all : AreTried G due tried) (f : IsFollowed G goal level start.found tried state) where
+module _ (G : GraphView) (goal : ModuleVersion) (level : ℕ) (start : State) (due : List Visit) (tried : List Edge) (state : State) (are : IsGraph G) (h : IsSearchedTo G goal level start due) (all : AreTried G due tried) (f : IsFollowed G goal level start.found tried state) where
   E : Edges
   E = graph_edges G
 
-  tried_edge : (s : Step) (y : Vertex) → IsLevel (graph_edges G) s level → graph_edges G s y → Contains tried (edge s y)
+  tried_edge : (s : Step) (y : ModuleVersion) → IsLevel (graph_edges G) s level → graph_edges G s y → Contains tried (edge s y)
   tried_edge s y l e =
       let (i, inside, at) = step_number G are s y e in
       let (v, there, number) = h.listed i inside (subst (λ (t : Step). IsLevel (graph_edges G) t level) (sym at) l) in
@@ -413,7 +414,7 @@ module _ (G : GraphView) (goal : Vertex) (level : ℕ) (start : State) (due : Li
         | inr (v, there, number) ↦ (v, (same v).0 there, number)
       ]
 
-pub level_taken : (G : GraphView) (goal : Vertex) (level : ℕ) (found new_found : List Bool) (visits new_visits next due : List Visit) → new_found ≡ found → new_visits ≡ visits → next ≡ []
+pub level_taken : (G : GraphView) (goal : ModuleVersion) (level : ℕ) (found new_found : List Bool) (visits new_visits next due : List Visit) → new_found ≡ found → new_visits ≡ visits → next ≡ []
     → IsSearchedTo G goal level (record { found = found; visits = visits; next = [] }) due → IsSearchedTo G goal level (record { found = new_found; visits = new_visits; next = next }) due
 level_taken G goal level found new_found visits new_visits next due same alike none h =
     subst (λ (bs : List Bool). IsSearchedTo G goal level (record { found = bs; visits = new_visits; next = next }) due) (sym same)
@@ -421,17 +422,17 @@ level_taken G goal level found new_found visits new_visits next due same alike n
     (subst (λ (vs : List Visit). IsSearchedTo G goal level (record { found = found; visits = visits; next = vs }) due) (sym none) h))
 
 -- Where a level has no steps, nothing more is found.
-pub not_reached : (G : GraphView) (goal : Vertex) (level : ℕ) (state : State) (due : List Visit) → IsGraph G → IsSearchedTo G goal level state due → due ≡ [] → IsReached (graph_edges G) (Of goal) → ⊥
+pub not_reached : (G : GraphView) (goal : ModuleVersion) (level : ℕ) (state : State) (due : List Visit) → IsGraph G → IsSearchedTo G goal level state due → due ≡ [] → IsReached (graph_edges G) (Of goal) → ⊥
 not_reached G goal level state due are h empty (n, leads) = last n leads
   where
-    no_level : (s : Step) (y : Vertex) → IsLevel (graph_edges G) s level → graph_edges G s y → ⊥
+    no_level : (s : Step) (y : ModuleVersion) → IsLevel (graph_edges G) s level → graph_edges G s y → ⊥
     no_level s y l e =
         let (i, inside, at) = step_number G are s y e in
         let (v, there, number) = h.listed i inside (subst (λ (t : Step). IsLevel (graph_edges G) t level) (sym at) l) in
         let (k, below, is) = subst (λ (vs : List Visit). Contains vs v) empty there in
         omega (arith, below)
 
-    all_found : (s : Step) (k : ℕ) → Leads (graph_edges G) s k → (y : Vertex) → graph_edges G s y → IsWithin (graph_edges G) level s
+    all_found : (s : Step) (k : ℕ) → Leads (graph_edges G) s k → (y : ModuleVersion) → graph_edges G s y → IsWithin (graph_edges G) level s
     all_found _ _ at_main y e = (0, omega arith, at_main)
     all_found _ _ (along {s} {y = z} {n = k} l a) y e =
         let (m, low, near) = all_found s k l z a in
@@ -448,7 +449,7 @@ not_reached G goal level state due are h empty (n, leads) = last n leads
 
 -- ---- the first level
 
-pub first_level : (G : GraphView) (goal : Vertex) (due : List Visit) → IsGraph G → 0 < length (steps_of G) → step_at (steps_of G) 0 ≡ Main → due ≡ record { number = 0; before = 0 } ∷ [] → IsSearchedTo G goal 0 (first_state (length (steps_of G))) due
+pub first_level : (G : GraphView) (goal : ModuleVersion) (due : List Visit) → IsGraph G → 0 < length (steps_of G) → step_at (steps_of G) 0 ≡ Main → due ≡ record { number = 0; before = 0 } ∷ [] → IsSearchedTo G goal 0 (first_state (length (steps_of G))) due
 first_level G goal due are some main is = subst (λ (d : List Visit). IsSearchedTo G goal 0 (first_state (length (steps_of G))) d) (sym is) (record {
   size = length-set none 0 true ∙ length-replicate (length (steps_of G)) false;
   found = λ i inside. (from i inside, to i inside);
@@ -490,7 +491,7 @@ first_level G goal due are some main is = subst (λ (d : List Visit). IsSearched
     to i inside w = subst (λ (n : ℕ). is_found_at (set none 0 true) n ≡ true) (sym (only i inside (within_none (graph_edges G) (step_at (steps_of G) i) w))) (get_or-set_same none 0 true false below)
 
 -- Nothing leads to a vertex that the graph has not.
-pub no_vertex : (G : GraphView) (goal : Vertex) → IsGraph G → (Contains G.vertices goal → ⊥) → IsReached (graph_edges G) (Of goal) → ⊥
+pub no_vertex : (G : GraphView) (goal : ModuleVersion) → IsGraph G → (Contains G.vertices goal → ⊥) → IsReached (graph_edges G) (Of goal) → ⊥
 no_vertex G goal are none (n, leads) = last n leads
   where
     last : (n : ℕ) → Leads (graph_edges G) (Of goal) n → ⊥
@@ -553,24 +554,24 @@ some_due (v ∷ due) n is h = refl
 -- ---- the way back
 
 module _ (E : Edges) (steps : List Step) (visits : List Visit) where
-  pub back_begins : (goal : Vertex) (p : ℕ) (items : List Step) → items ≡ Of goal ∷ [] → IsPredecessor E (visited steps visits p) goal → (c : List Step) → IsChain E (visited steps visits p) c → IsChain E (Of goal) (c ++ reverse items)
+  pub back_begins : (goal : ModuleVersion) (p : ℕ) (items : List Step) → items ≡ Of goal ∷ [] → IsPredecessor E (visited steps visits p) goal → (c : List Step) → IsChain E (visited steps visits p) c → IsChain E (Of goal) (c ++ reverse items)
   back_begins goal p items is before c h = subst (λ (l : List Step). IsChain E (Of goal) (c ++ reverse l)) (sym is) (goes_on h before)
 
   -- one step back
-  pub back_more : (k : ℕ) (x : Vertex) → IsTraced E steps visits k (visit_at visits k) → visited steps visits k ≡ Of x → ((visit_at visits k).before < k) × ((c : List Step) → IsChain E (visited steps visits (visit_at visits k).before) c → IsChain E (visited steps visits k) (c ++ Of x ∷ []))
+  pub back_more : (k : ℕ) (x : ModuleVersion) → IsTraced E steps visits k (visit_at visits k) → visited steps visits k ≡ Of x → ((visit_at visits k).before < k) × ((c : List Step) → IsChain E (visited steps visits (visit_at visits k).before) c → IsChain E (visited steps visits k) (c ++ Of x ∷ []))
   back_more k x (inl main) at = absurd (let wrong : Main ≡ Of x = sym main ∙ at in cc wrong)
   back_more k x (inr (y, is, below, before)) at = (
     below,
     λ c h.
         let same : y ≡ x = (let e : Of y ≡ Of x = sym is ∙ at in cc e) in
-        subst (λ (s : Step). IsChain E s (c ++ Of x ∷ [])) (sym at) (goes_on h (subst (λ (z : Vertex). IsPredecessor E (visited steps visits (visit_at visits k).before) z) same before)),
+        subst (λ (s : Step). IsChain E s (c ++ Of x ∷ [])) (sym at) (goes_on h (subst (λ (z : ModuleVersion). IsPredecessor E (visited steps visits (visit_at visits k).before) z) same before)),
   )
 
-  pub back_longer : (goal : Vertex) (at s : Step) (items more : List Step) → more ≡ items ++ s ∷ [] → (c : List Step) → IsChain E (Of goal) ((c ++ s ∷ []) ++ reverse items) → IsChain E (Of goal) (c ++ reverse more)
+  pub back_longer : (goal : ModuleVersion) (at s : Step) (items more : List Step) → more ≡ items ++ s ∷ [] → (c : List Step) → IsChain E (Of goal) ((c ++ s ∷ []) ++ reverse items) → IsChain E (Of goal) (c ++ reverse more)
   back_longer goal at s items more is c h = subst (λ (l : List Step). IsChain E (Of goal) l)
       (append_assoc c (s ∷ []) (reverse items) ∙ ap (λ (l : List Step). c ++ l) (sym (ap reverse is ∙ reverse-append items (s ∷ [])))) h
 
   -- The main module was reached.
-  pub back_done : (goal : Vertex) (at : Step) (items all : List Step) → at ≡ Main → all ≡ reverse (items ++ Main ∷ []) → ((c : List Step) → IsChain E at c → IsChain E (Of goal) (c ++ reverse items)) → IsChain E (Of goal) all
+  pub back_done : (goal : ModuleVersion) (at : Step) (items all : List Step) → at ≡ Main → all ≡ reverse (items ++ Main ∷ []) → ((c : List Step) → IsChain E at c → IsChain E (Of goal) (c ++ reverse items)) → IsChain E (Of goal) all
   back_done goal at items all main is chain = subst (λ (l : List Step). IsChain E (Of goal) l) (sym (is ∙ reverse-append items (Main ∷ [])))
       (chain (Main ∷ []) (subst (λ (s : Step). IsChain E s (Main ∷ [])) (sym main) begins))

@@ -5,18 +5,18 @@ use Rattle.gm_graph_select.specs.declared.adjacency.Adjacency.{Adjacency}
 use Rattle.gm_graph_select.specs.declared.step.Edge.{Edge}
 use Rattle.gm_graph_select.specs.Adjacency.{HaveNumbers, IsBelow, IsNumbered, edges_from, edges_of}
 use Rattle.gm_graph_select.specs.EdgeList.{AreEndsBelow, NumberedEdge, edge_with, numbered_from, numbered_edges}
-use Rattle.gm_graph_select.specs.Graph.{Vertex}
+use Rattle.gm_name.specs.ModuleVersion.{ModuleVersion}
 use Rattle.std.proofs.lemmas.List.{map-append}
 use Rattle.std.proofs.lemmas.List.Elements.{All-append, All-head, All-map, All-nil, All-tail}
 
-edges_with : (vertices : List Vertex) (one : Adjacency) → edges_from vertices one ≡ map (edge_with vertices) (numbered_from one.from one.to.items)
+edges_with : (vertices : List ModuleVersion) (one : Adjacency) → edges_from vertices one ≡ map (edge_with vertices) (numbered_from one.from one.to.items)
 edges_with vertices one = along one.to.items
   where
     along : (to : List ℕ) → map (λ number. edge_with vertices (one.from, number)) to ≡ map (edge_with vertices) (numbered_from one.from to)
     along [] = refl
     along (number ∷ to) = ap (λ (edges : List Edge). edge_with vertices (one.from, number) ∷ edges) (along to)
 
-pub edges_are : (vertices : List Vertex) (all : List Adjacency) → map (edge_with vertices) (numbered_edges all) ≡ edges_of vertices all
+pub edges_are : (vertices : List ModuleVersion) (all : List Adjacency) → map (edge_with vertices) (numbered_edges all) ≡ edges_of vertices all
 edges_are vertices [] = refl
 edges_are vertices (one ∷ all) =
     map-append (edge_with vertices) (numbered_from one.from one.to.items) (numbered_edges all) ∙ ap₂ (λ (xs ys : List Edge). xs ++ ys) (sym (edges_with vertices one)) (edges_are vertices all)

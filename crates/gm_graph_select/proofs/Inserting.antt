@@ -7,95 +7,94 @@ use Rattle.std.specs.BTreeSet.{insert_key}
 use Rattle.std.specs.Ordering.{match_ordering, ordering_reverse}
 use Rattle.std.proofs.lemmas.List.Elements.{Contains-get_or}
 use Rattle.std.proofs.lemmas.List.Kept.{AllPairs-cons}
+use Rattle.gm_name.specs.ModuleVersion.{ModuleVersion, pair-anti, pair_cmp, pair_total}
 use Rattle.gm_file.specs.Directives.{Replacing}
 use Rattle.gm_graph_select.specs.declared.step.Edge.{Edge}
 use Rattle.gm_graph_select.specs.BuildList.{Entry, IsBuildList, entry_of, main_entry}
-use Rattle.gm_graph_select.specs.Graph.{Vertex, among}
-use Rattle.gm_name.specs.PairOrder.{pair_cmp}
+use Rattle.gm_graph_select.specs.Graph.{among}
 use Rattle.gm_graph_select.specs.Greatest.{greatest_of}
 use Rattle.gm_graph_select.specs.Order.{HaveSame, IsAscending, in_order}
-use Rattle.gm_graph_select.specs.StepOrder.{vertex-anti, vertex_total}
 use Rattle.gm_graph_select.proofs.Ascending.{member_cases, member_head, member_tail, no_member, pairs_head, pairs_tail, same_lists}
 use Rattle.gm_graph_select.proofs.LastVersions.{are_selected, listed}
 use Rattle.gm_graph_select.proofs.Same.{ends_of, ends_same}
 
-abbrev Below : Vertex → Vertex → Type 0
+abbrev Below : ModuleVersion → ModuleVersion → Type 0
 Below x y = pair_cmp x y ≡ Less
 
-above_first : (x : Vertex) (ys : List Vertex) → ((y : Vertex) → Contains ys y → Below x y) → IsAscending pair_cmp ys → IsAscending pair_cmp (x ∷ ys)
+above_first : (x : ModuleVersion) (ys : List ModuleVersion) → ((y : ModuleVersion) → Contains ys y → Below x y) → IsAscending pair_cmp ys → IsAscending pair_cmp (x ∷ ys)
 above_first x ys low up = AllPairs-cons Below x ys firsts up
   where
     firsts : All (Below x) ys
     firsts k d below = low (get_or ys k d) (Contains-get_or ys k d below)
 
 -- The list has the vertex and the members of the other, and no others.
-record IsInserted (e : Vertex) (ys zs : List Vertex) : Type 0 where
+record IsInserted (e : ModuleVersion) (ys zs : List ModuleVersion) : Type 0 where
   pub ascending : IsAscending pair_cmp zs
-  pub kept : (x : Vertex) → (e ≡ x) ⊎ Contains ys x → Contains zs x
-  pub only : (x : Vertex) → Contains zs x → (e ≡ x) ⊎ Contains ys x
+  pub kept : (x : ModuleVersion) → (e ≡ x) ⊎ Contains ys x → Contains zs x
+  pub only : (x : ModuleVersion) → Contains zs x → (e ≡ x) ⊎ Contains ys x
 
-inserted : (e : Vertex) (ys : List Vertex) → IsAscending pair_cmp ys → IsInserted e ys (insert_key pair_cmp ys e)
+inserted : (e : ModuleVersion) (ys : List ModuleVersion) → IsAscending pair_cmp ys → IsInserted e ys (insert_key pair_cmp ys e)
 inserted e [] up = record {
   ascending = above_first e [] (λ y h. absurd (no_member y h)) up;
-  kept = λ x h. elim h [ inl same ↦ subst (λ (v : Vertex). Contains (e ∷ []) v) same (member_head e []) | inr there ↦ absurd (no_member x there) ];
+  kept = λ x h. elim h [ inl same ↦ subst (λ (v : ModuleVersion). Contains (e ∷ []) v) same (member_head e []) | inr there ↦ absurd (no_member x there) ];
   only = λ x h. member_cases e x [] h;
 }
 inserted e (y ∷ ys) up = by_order (pair_cmp e y) refl (inserted e ys (pairs_tail Below y ys up))
   where
-    zs : List Vertex
+    zs : List ModuleVersion
     zs = insert_key pair_cmp ys e
 
     by_order : (r : Ordering) → pair_cmp e y ≡ r → IsInserted e ys zs → IsInserted e (y ∷ ys) (match_ordering r (e ∷ y ∷ ys) (y ∷ ys) (y ∷ zs))
     by_order Less is rest = record {
       ascending = above_first e (y ∷ ys) (λ x h. elim (member_cases y x ys h) [
-        | inl same ↦ subst (λ (v : Vertex). Below e v) same is
-        | inr later ↦ vertex_total.trans e y x is (pairs_head Below y x ys up later)
+        | inl same ↦ subst (λ (v : ModuleVersion). Below e v) same is
+        | inr later ↦ pair_total.trans e y x is (pairs_head Below y x ys up later)
       ]) up;
-      kept = λ x h. elim h [ inl same ↦ subst (λ (v : Vertex). Contains (e ∷ y ∷ ys) v) same (member_head e (y ∷ ys)) | inr there ↦ member_tail e x (y ∷ ys) there ];
+      kept = λ x h. elim h [ inl same ↦ subst (λ (v : ModuleVersion). Contains (e ∷ y ∷ ys) v) same (member_head e (y ∷ ys)) | inr there ↦ member_tail e x (y ∷ ys) there ];
       only = λ x h. member_cases e x (y ∷ ys) h;
     }
     by_order Equal is rest = record {
       ascending = up;
-      kept = λ x h. elim h [ inl same ↦ subst (λ (v : Vertex). Contains (y ∷ ys) v) (sym (vertex-anti e y is) ∙ same) (member_head y ys) | inr there ↦ there ];
+      kept = λ x h. elim h [ inl same ↦ subst (λ (v : ModuleVersion). Contains (y ∷ ys) v) (sym (pair-anti e y is) ∙ same) (member_head y ys) | inr there ↦ there ];
       only = λ x h. inr h;
     }
     by_order Greater is in_rest =
-        let low : Below y e = vertex_total.antisymm y e ∙ ap ordering_reverse is in
+        let low : Below y e = pair_total.antisymm y e ∙ ap ordering_reverse is in
         record {
           ascending = above_first y zs (λ x h. elim (in_rest.only x h) [
-            | inl same ↦ subst (λ (v : Vertex). Below y v) same low
+            | inl same ↦ subst (λ (v : ModuleVersion). Below y v) same low
             | inr there ↦ pairs_head Below y x ys up there
           ]) in_rest.ascending;
           kept = λ x h. elim h [
             | inl same ↦ member_tail y x zs (in_rest.kept x (inl same))
             | inr there ↦ elim (member_cases y x ys there) [
-              | inl first ↦ subst (λ (v : Vertex). Contains (y ∷ zs) v) first (member_head y zs)
+              | inl first ↦ subst (λ (v : ModuleVersion). Contains (y ∷ zs) v) first (member_head y zs)
               | inr later ↦ member_tail y x zs (in_rest.kept x (inr later))
             ]
           ];
           only = λ x h. elim (member_cases y x zs h) [
-            | inl first ↦ inr (subst (λ (v : Vertex). Contains (y ∷ ys) v) first (member_head y ys))
+            | inl first ↦ inr (subst (λ (v : ModuleVersion). Contains (y ∷ ys) v) first (member_head y ys))
             | inr later ↦ elim (in_rest.only x later) [ inl same ↦ inl same | inr there ↦ inr (member_tail y x ys there) ]
           ];
         }
 
-pub in_order_ascends : (xs : List Vertex) → IsAscending pair_cmp (in_order pair_cmp xs)
+pub in_order_ascends : (xs : List ModuleVersion) → IsAscending pair_cmp (in_order pair_cmp xs)
 in_order_ascends [] = λ i j d lt below. absurd (omega (arith, below))
 in_order_ascends (e ∷ xs) = (inserted e (in_order pair_cmp xs) (in_order_ascends xs)).ascending
 
-pub in_order_same : (xs : List Vertex) → HaveSame xs (in_order pair_cmp xs)
+pub in_order_same : (xs : List ModuleVersion) → HaveSame xs (in_order pair_cmp xs)
 in_order_same [] x = ((λ h. h), (λ h. h))
 in_order_same (e ∷ xs) x =
     let is = inserted e (in_order pair_cmp xs) (in_order_ascends xs) in
     let same = in_order_same xs x in (
       (λ h. is.kept x (elim (member_cases e x xs h) [ inl first ↦ inl first | inr later ↦ inr (same.0 later) ])),
-      (λ h. elim (is.only x h) [ inl first ↦ subst (λ (v : Vertex). Contains (e ∷ xs) v) first (member_head e xs) | inr there ↦ member_tail e x xs (same.1 there) ]),
+      (λ h. elim (is.only x h) [ inl first ↦ subst (λ (v : ModuleVersion). Contains (e ∷ xs) v) first (member_head e xs) | inr there ↦ member_tail e x xs (same.1 there) ]),
     )
 
 -- An ascending list with the members of another is the other in order.
-pub in_order_only : (xs ys : List Vertex) → IsAscending pair_cmp ys → HaveSame xs ys → ys ≡ in_order pair_cmp xs
+pub in_order_only : (xs ys : List ModuleVersion) → IsAscending pair_cmp ys → HaveSame xs ys → ys ≡ in_order pair_cmp xs
 in_order_only xs ys up same =
-    same_lists vertex_total ys (in_order pair_cmp xs) up (in_order_ascends xs)
+    same_lists pair_total ys (in_order pair_cmp xs) up (in_order_ascends xs)
     (λ x. ((λ h. (in_order_same xs x).0 ((same x).1 h)), (λ h. (same x).0 ((in_order_same xs x).1 h))))
 
 pub some_build_list : (main : List ℕ) (replaces : List Replacing) (edges : List Edge) → (entries : List Entry) × IsBuildList main replaces (among edges) entries

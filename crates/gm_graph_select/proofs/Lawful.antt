@@ -11,12 +11,13 @@ use Rattle.std.proofs.lemmas.List.{get_or-map, length-map, length-take, take-app
 use Rattle.std.proofs.lemmas.List.Kept.{AllPairs-cons}
 use Rattle.std.proofs.lemmas.List.Elements.{Contains-append_right, Contains-get_or}
 use Rattle.gm_name.specs.Version.{version_cmp}
+use Rattle.gm_name.specs.ModuleVersion.{ModuleVersion}
 use Rattle.gm_file.specs.Directives.{Replacing, Right}
 use Rattle.gm_file.specs.Fields.{replacement_of}
 use Rattle.gm_graph_select.specs.declared.step.Edge.{Edge}
 use Rattle.gm_graph_select.specs.declared.step.Step.{Step}
 use Rattle.gm_graph_select.specs.declared.step.Step.TheVariants.{Main, Of}
-use Rattle.gm_graph_select.specs.Graph.{Vertex, Edges, among, step_cmp}
+use Rattle.gm_graph_select.specs.Graph.{Edges, among, step_cmp}
 use Rattle.gm_graph_select.specs.StepOrder.{step-anti, step_total}
 use Rattle.gm_graph_select.specs.BuildList.{Entry, IsAt, IsBuildList, IsEntryOf, IsSelected, entry_of, main_entry, path_cmp, path_of}
 use Rattle.gm_graph_select.specs.Chains.{at_main, along, IsPredecessor, IsChain, begins, goes_on, IsLevel, IsReached, IsRooted}
@@ -27,19 +28,19 @@ use Rattle.gm_graph_select.proofs.Same.{EndAlike, alike_selected, ending_ends, e
 use Rattle.gm_graph_select.proofs.RestRows.{one_at, one_entry}
 
 path_total : IsTotalOrder path_cmp
-path_total = on_total (λ (x : Vertex). x.0) nat_list_cmp_total
+path_total = on_total (λ (x : ModuleVersion). x.0) nat_list_cmp_total
 
-nowhere : Vertex
+nowhere : ModuleVersion
 nowhere = ([], [])
 
 -- ---- the build list of any relation
 
 module _ (main : List ℕ) (replaces : List Replacing) (E : Edges) (entries : List Entry) (list : IsBuildList main replaces E entries) where
   -- The vertex of a row is selected.
-  pub row_selected : (x : Vertex) (right : Option Right) → Contains entries (Of x, right) → IsSelected main E x
+  pub row_selected : (x : ModuleVersion) (right : Option Right) → Contains entries (Of x, right) → IsSelected main E x
   row_selected x right there = (list.each x).0 (cases (member_cases main_entry (Of x, right) (map (entry_of replaces) list.selected) (subst (λ (es : List Entry). Contains es (Of x, right)) list.entries_are there)))
     where
-      same_vertex : (v : Vertex) → Of v ≡ Of x → v ≡ x
+      same_vertex : (v : ModuleVersion) → Of v ≡ Of x → v ≡ x
       same_vertex v e = cc e
 
       cases : (main_entry ≡ (Of x, right)) ⊎ Contains (map (entry_of replaces) list.selected) (Of x, right) → Contains list.selected x
@@ -49,7 +50,7 @@ module _ (main : List ℕ) (replaces : List Replacing) (E : Edges) (entries : Li
           (k, inside, same_vertex (get_or list.selected k x) (ap (λ (e : Entry). e.0) (sym (get_or-map (entry_of replaces) list.selected k x (Of x, right) inside) ∙ at)))
 
   -- Each selected vertex has a row.
-  pub selected_row : (x : Vertex) → IsSelected main E x → Contains entries (entry_of replaces x)
+  pub selected_row : (x : ModuleVersion) → IsSelected main E x → Contains entries (entry_of replaces x)
   selected_row x is =
       let (k, below, at) = (list.each x).1 is in
       let there : Contains (map (entry_of replaces) list.selected) (entry_of replaces x) = (k, rw length-map below, get_or-map (entry_of replaces) list.selected k x (entry_of replaces x) below ∙ ap (entry_of replaces) at) in
@@ -97,20 +98,20 @@ rows_are_ends main replaces edges entries list x right there = (row_selected mai
 pub rows_satisfy : RowsSatisfy
 rows_satisfy main replaces edges entries list y end apart = go ((bests main ends).0 y.0) ((bests main ends).1 y.0)
   where
-    ends : List Vertex
+    ends : List ModuleVersion
     ends = map (λ (e : Edge). e.to) edges
 
     alike : EndAlike (ending ends) (among edges)
     alike = ends_alike ends (ending ends) (among edges) (ending_ends ends) (ends_of edges)
 
-    go : (o : Option Vertex) → IsGreatest main (ending ends) y.0 o → (x : Vertex) × (right : Option Right) × Contains entries (Of x, right) × (x.0 ≡ y.0) × (is_gt (version_cmp y.1 x.1) ≡ false)
+    go : (o : Option ModuleVersion) → IsGreatest main (ending ends) y.0 o → (x : ModuleVersion) × (right : Option Right) × Contains entries (Of x, right) × (x.0 ≡ y.0) × (is_gt (version_cmp y.1 x.1) ≡ false)
     go None g = absurd (apart (g y ((alike y).1 end) refl))
     go (Some x) (is, selected) = (x, replacement_of replaces x, selected_row main replaces (among edges) entries list x (alike_selected main (ending ends) (among edges) alike x selected), is, selected.greatest y ((alike y).1 end) (sym is))
 
 pub same_build_lists : (main : List ℕ) (replaces : List Replacing) (E : Edges) (a b : List Entry) → IsBuildList main replaces E a → IsBuildList main replaces E b → a ≡ b
 same_build_lists main replaces E a b x y =
     let same : x.selected ≡ y.selected = same_lists path_total x.selected y.selected x.ascending y.ascending (λ z. ((λ h. (y.each z).1 ((x.each z).0 h)), (λ h. (x.each z).1 ((y.each z).0 h)))) in
-    x.entries_are ∙ ap (λ (xs : List Vertex). main_entry ∷ map (entry_of replaces) xs) same ∙ sym y.entries_are
+    x.entries_are ∙ ap (λ (xs : List ModuleVersion). main_entry ∷ map (entry_of replaces) xs) same ∙ sym y.entries_are
 
 pub one_build_list : OneBuildList
 one_build_list main replaces edges = same_build_lists main replaces (among edges)
@@ -147,7 +148,7 @@ not_either s t h g = go (step_cmp s t) refl
     go Equal e = step-anti s t e
     go Greater e = absurd (false≢true (sym g ∙ ap is_lt (step_total.antisymm t s ∙ ap ordering_reverse e)))
 
-one_before : (E : Edges) (s t : Step) (y : Vertex) → IsPredecessor E s y → IsPredecessor E t y → s ≡ t
+one_before : (E : Edges) (s t : Step) (y : ModuleVersion) → IsPredecessor E s y → IsPredecessor E t y → s ≡ t
 one_before E s t y a b =
     let low = a.further.least (suc b.level) b.further.leads in
     let high = b.further.least (suc a.level) a.further.leads in
@@ -160,11 +161,11 @@ of_main : (E : Edges) {s : Step} {b : List Step} → IsChain E s b → s ≡ Mai
 of_main E begins e = refl
 of_main E (goes_on {s} {y} c before) e = absurd (let same : Of y ≡ Main = e in cc same)
 
-of_vertex : (E : Edges) {s : Step} {b : List Step} → IsChain E s b → (y : Vertex) → s ≡ Of y → (t : Step) × (steps : List Step) × IsChain E t steps × IsPredecessor E t y × (b ≡ steps ++ Of y ∷ [])
+of_vertex : (E : Edges) {s : Step} {b : List Step} → IsChain E s b → (y : ModuleVersion) → s ≡ Of y → (t : Step) × (steps : List Step) × IsChain E t steps × IsPredecessor E t y × (b ≡ steps ++ Of y ∷ [])
 of_vertex E begins y e = absurd (let same : Main ≡ Of y = e in cc same)
 of_vertex E (goes_on {s} {y = z} {steps} c before) y e =
     let same : z ≡ y = cc e in
-    (s, steps, c, subst (λ (w : Vertex). IsPredecessor E s w) same before, ap (λ (w : Vertex). steps ++ Of w ∷ []) same)
+    (s, steps, c, subst (λ (w : ModuleVersion). IsPredecessor E s w) same before, ap (λ (w : ModuleVersion). steps ++ Of w ∷ []) same)
 
 same_chains : (E : Edges) {s : Step} {a : List Step} → IsChain E s a → (b : List Step) → IsChain E s b → a ≡ b
 same_chains E begins b h = sym (of_main E h refl)

@@ -14,16 +14,16 @@ use Rattle.std.proofs.lemmas.List.{get_or_default, get_or-map, length-map}
 use Rattle.std.proofs.lemmas.List.Elements.{All-contains, Contains-get_or}
 use Rattle.std.proofs.lemmas.List.Kept.{AllPairs-cons}
 use Rattle.std.proofs.lemmas.List.Sorted.{searchable_from_sorted}
+use Rattle.gm_name.specs.ModuleVersion.{ModuleVersion, module_at, pair_cmp, pair_total}
 use Rattle.gm_graph_select.specs.declared.adjacency.Adjacency.{Adjacency}
 use Rattle.gm_graph_select.specs.declared.step.Edge.{Edge}
 use Rattle.gm_graph_select.specs.declared.step.Step.{Step}
 use Rattle.gm_graph_select.specs.declared.step.Step.TheVariants.{Main, Of}
-use Rattle.gm_graph_select.specs.Adjacency.{AreRanked, GraphView, IsBelow, IsNumbered, edges_from, edges_of, left_by, step_with, vertex_at}
-use Rattle.gm_graph_select.specs.Graph.{Vertex, edge, step_cmp}
-use Rattle.gm_name.specs.PairOrder.{pair_cmp}
+use Rattle.gm_graph_select.specs.Adjacency.{AreRanked, GraphView, IsBelow, IsNumbered, edges_from, edges_of, left_by, step_with}
+use Rattle.gm_graph_select.specs.Graph.{edge, step_cmp}
 use Rattle.gm_graph_select.specs.Numbering.{AreLeaving, IsGraph, number_left, number_with, step_at, steps_of}
 use Rattle.gm_graph_select.specs.Order.{IsAscending}
-use Rattle.gm_graph_select.specs.StepOrder.{step_total, vertex_total}
+use Rattle.gm_graph_select.specs.StepOrder.{step_total}
 use Rattle.gm_graph_select.proofs.Ascending.{less_itself}
 use Rattle.gm_graph_select.proofs.Ranges.{lt_less}
 use Rattle.gm_graph_select.proofs.RankedLists.{edges_each, edges_only, from_mapped, in_mapped, lower_number}
@@ -54,14 +54,14 @@ module _ (steps : List Step) (up : IsAscending step_cmp steps) where
 
 -- ---- the steps of a graph
 
-vertex_steps_ascend : (vertices : List Vertex) → IsAscending pair_cmp vertices → IsAscending step_cmp (map Of vertices)
+vertex_steps_ascend : (vertices : List ModuleVersion) → IsAscending pair_cmp vertices → IsAscending step_cmp (map Of vertices)
 vertex_steps_ascend vertices up i j d lt below =
     let inside : j < length vertices = rw length-map at below in
     let left = get_or-map Of vertices i ([], []) d (omega arith) in
     let right = get_or-map Of vertices j ([], []) d inside in
     ap₂ step_cmp left right ∙ up i j ([], []) lt inside
 
-all_steps_ascend : (vertices : List Vertex) → IsAscending pair_cmp vertices → IsAscending step_cmp (Main ∷ map Of vertices)
+all_steps_ascend : (vertices : List ModuleVersion) → IsAscending pair_cmp vertices → IsAscending step_cmp (Main ∷ map Of vertices)
 all_steps_ascend vertices up = AllPairs-cons (λ (s t : Step). step_cmp s t ≡ Less) Main (map Of vertices) main (vertex_steps_ascend vertices up)
   where
     main : All (λ (s : Step). step_cmp Main s ≡ Less) (map Of vertices)
@@ -69,11 +69,11 @@ all_steps_ascend vertices up = AllPairs-cons (λ (s t : Step). step_cmp s t ≡ 
         let inside : k < length vertices = rw length-map at below in
         ap (step_cmp Main) (get_or-map Of vertices k ([], []) d inside)
 
-pub step_of_rank : (vertices : List Vertex) (rank : ℕ) → rank < length vertices → step_at (Main ∷ map Of vertices) (rank + 1) ≡ Of (vertex_at vertices rank)
+pub step_of_rank : (vertices : List ModuleVersion) (rank : ℕ) → rank < length vertices → step_at (Main ∷ map Of vertices) (rank + 1) ≡ Of (module_at vertices rank)
 step_of_rank vertices rank below = rw add-one (get_or-map Of vertices rank ([], []) Main below)
 
 -- Two ranks of a vertex are the same.
-pub same_rank : (vertices : List Vertex) → IsAscending pair_cmp vertices → (i j : ℕ) → i < length vertices → j < length vertices → vertex_at vertices i ≡ vertex_at vertices j → i ≡ j
+pub same_rank : (vertices : List ModuleVersion) → IsAscending pair_cmp vertices → (i j : ℕ) → i < length vertices → j < length vertices → module_at vertices i ≡ module_at vertices j → i ≡ j
 same_rank vertices up i j below inside same =
     let steps = map Of vertices in
     let count : length steps ≡ length vertices = length-map vertices Of in
@@ -85,7 +85,7 @@ module _ (graph : GraphView) (are : IsGraph graph) where
   steps_ascend = all_steps_ascend graph.vertices are.ascending
 
   -- A step that an edge leaves has a number.
-  pub step_number : (s : Step) (y : Vertex) → Contains graph.edges (edge s y) → (i : ℕ) × (i < length (steps_of graph)) × (step_at (steps_of graph) i ≡ s)
+  pub step_number : (s : Step) (y : ModuleVersion) → Contains graph.edges (edge s y) → (i : ℕ) × (i < length (steps_of graph)) × (step_at (steps_of graph) i ≡ s)
   step_number s y h = number_in (steps_of graph) s (are.left (edge s y) h)
 
 -- ---- binary searches
@@ -107,7 +107,7 @@ module _ {X K : Type 0} {cmp : K → K → Ordering} (total : IsTotalOrder cmp) 
 
 -- ---- a graph by ranks
 
-module _ (vertices : List Vertex) (all : List Adjacency) (are : AreRanked vertices all) where
+module _ (vertices : List ModuleVersion) (all : List Adjacency) (are : AreRanked vertices all) where
   -- the step that a list leaves has the list's number
   its_number : (from : Option ℕ) → IsBelow (length vertices) from → (number_with from < length (Main ∷ map Of vertices)) × (step_at (Main ∷ map Of vertices) (number_with from) ≡ step_with vertices from)
   its_number None within = (omega arith, refl)
@@ -121,13 +121,13 @@ module _ (vertices : List Vertex) (all : List Adjacency) (are : AreRanked vertic
     ascending = are.vertices_ascend;
     left = λ e h.
         let (one, there, at) = edges_only vertices all e h in
-        let (rank, held, is) = from_mapped (λ (n : ℕ). edge (left_by vertices one) (vertex_at vertices n)) one.to.items e at in
+        let (rank, held, is) = from_mapped (λ (n : ℕ). edge (left_by vertices one) (module_at vertices n)) one.to.items e at in
         let (inside, same) = its_number one.from (numbered_list one there).from in
         subst (λ (s : Step). Contains (Main ∷ map Of vertices) s) (same ∙ ap (λ (f : Edge). f.from) is) (Contains-at (Main ∷ map Of vertices) (number_left one) inside);
     ends = λ e h.
         let (one, there, at) = edges_only vertices all e h in
-        let (rank, held, is) = from_mapped (λ (n : ℕ). edge (left_by vertices one) (vertex_at vertices n)) one.to.items e at in
-        subst (λ (y : Vertex). Contains vertices y) (ap (λ (f : Edge). f.to) is) (Contains-get_or vertices rank ([], []) (All-contains (λ (n : ℕ). n < length vertices) one.to.items rank (numbered_list one there).to held));
+        let (rank, held, is) = from_mapped (λ (n : ℕ). edge (left_by vertices one) (module_at vertices n)) one.to.items e at in
+        subst (λ (y : ModuleVersion). Contains vertices y) (ap (λ (f : Edge). f.to) is) (Contains-get_or vertices rank ([], []) (All-contains (λ (n : ℕ). n < length vertices) one.to.items rank (numbered_list one there).to held));
   }
     where
       Contains-at : (steps : List Step) (i : ℕ) → i < length steps → Contains steps (step_at steps i)
@@ -156,12 +156,12 @@ module _ (vertices : List Vertex) (all : List Adjacency) (are : AreRanked vertic
   ]
 
   -- An edge from the step with a number is in the list with that number.
-  list_with : (number : ℕ) → number < length (Main ∷ map Of vertices) → (y : Vertex) → Contains (edges_of vertices all) (edge (step_at (Main ∷ map Of vertices) number) y)
+  list_with : (number : ℕ) → number < length (Main ∷ map Of vertices) → (y : ModuleVersion) → Contains (edges_of vertices all) (edge (step_at (Main ∷ map Of vertices) number) y)
       → (one : Adjacency) × Contains all one × (number_left one ≡ number) × Contains (edges_from vertices one) (edge (step_at (Main ∷ map Of vertices) number) y)
   list_with number below y h =
       let steps = Main ∷ map Of vertices in
       let (one, there, at) = edges_only vertices all (edge (step_at steps number) y) h in
-      let (rank, held, is) = from_mapped (λ (n : ℕ). edge (left_by vertices one) (vertex_at vertices n)) one.to.items (edge (step_at steps number) y) at in
+      let (rank, held, is) = from_mapped (λ (n : ℕ). edge (left_by vertices one) (module_at vertices n)) one.to.items (edge (step_at steps number) y) at in
       let (inside, same) = its_number one.from (numbered_list one there).from in
       let alike : step_at steps (number_left one) ≡ step_at steps number = same ∙ ap (λ (f : Edge). f.from) is in
       (one, there, same_number steps (all_steps_ascend vertices are.vertices_ascend) (number_left one) number inside below alike, at)
@@ -170,13 +170,13 @@ module _ (vertices : List Vertex) (all : List Adjacency) (are : AreRanked vertic
   pub list_leaves : (one : Adjacency) (number : ℕ) → Contains all one → number_left one ≡ number → number < length (steps_of (record { vertices = vertices; edges = edges_of vertices all })) → AreLeaving (record { vertices = vertices; edges = edges_of vertices all }) number one.to.items
   list_leaves one number there is below = record {
     within = (numbered_list one there).to;
-    only = λ k d inside. edges_each vertices all one (edge (step_at (Main ∷ map Of vertices) number) (vertex_at vertices (get_or one.to.items k d))) there
-        (subst (λ (s : Step). Contains (edges_from vertices one) (edge s (vertex_at vertices (get_or one.to.items k d)))) left
-        (in_mapped (λ (n : ℕ). edge (left_by vertices one) (vertex_at vertices n)) one.to.items (get_or one.to.items k d) (Contains-get_or one.to.items k d inside)));
+    only = λ k d inside. edges_each vertices all one (edge (step_at (Main ∷ map Of vertices) number) (module_at vertices (get_or one.to.items k d))) there
+        (subst (λ (s : Step). Contains (edges_from vertices one) (edge s (module_at vertices (get_or one.to.items k d)))) left
+        (in_mapped (λ (n : ℕ). edge (left_by vertices one) (module_at vertices n)) one.to.items (get_or one.to.items k d) (Contains-get_or one.to.items k d inside)));
     all = λ y h.
         let (other, found, number_is, at) = list_with number below y h in
         let same : other ≡ one = one_list other one found there (number_is ∙ sym is) in
-        subst (λ (s : Step). Contains (map (λ (n : ℕ). edge s (vertex_at vertices n)) one.to.items) (edge (step_at (Main ∷ map Of vertices) number) y)) left
+        subst (λ (s : Step). Contains (map (λ (n : ℕ). edge s (module_at vertices n)) one.to.items) (edge (step_at (Main ∷ map Of vertices) number) y)) left
         (subst (λ (o : Adjacency). Contains (edges_from vertices o) (edge (step_at (Main ∷ map Of vertices) number) y)) same at);
   }
     where
@@ -209,5 +209,5 @@ module _ (vertices : List Vertex) (all : List Adjacency) (are : AreRanked vertic
       below
 
 -- A binary search found no such vertex.
-pub vertex_not_found : (vertices : List Vertex) (x : Vertex) (i : ℕ) → IsAscending pair_cmp vertices → (IsNonDecreasingBy (λ (y : Vertex). ordering_index (pair_cmp y x)) vertices → IsPartitionPoint (λ (y : Vertex). pair_cmp y x ≡ Less) (λ (y : Vertex). pair_cmp y x ≡ Greater) vertices i) → Contains vertices x → ⊥
-vertex_not_found vertices x i up says there = nothing_found vertex_total (λ (y : Vertex). y) vertices up x i says x there (tied_itself vertex_total x)
+pub vertex_not_found : (vertices : List ModuleVersion) (x : ModuleVersion) (i : ℕ) → IsAscending pair_cmp vertices → (IsNonDecreasingBy (λ (y : ModuleVersion). ordering_index (pair_cmp y x)) vertices → IsPartitionPoint (λ (y : ModuleVersion). pair_cmp y x ≡ Less) (λ (y : ModuleVersion). pair_cmp y x ≡ Greater) vertices i) → Contains vertices x → ⊥
+vertex_not_found vertices x i up says there = nothing_found pair_total (λ (y : ModuleVersion). y) vertices up x i says x there (tied_itself pair_total x)

@@ -17,13 +17,13 @@ use Rattle.std.proofs.lemmas.List.Elements.{All-cons, All-contains, All-head, Al
 use Rattle.std.proofs.lemmas.List.Kept.{AllPairs-cons}
 use Rattle.std.proofs.lemmas.List.Sorted.{All-permutation, Contains-permutation, IsPermutation-sym}
 use Rattle.std.proofs.lemmas.Map.Keys.{IsDistinct-IsPermutation, IsDistinct-from_apart, apart_from_distinct}
+use Rattle.gm_name.specs.ModuleVersion.{ModuleVersion, module_at, pair_cmp}
 use Rattle.gm_graph_select.specs.declared.adjacency.Adjacency.{Adjacency}
 use Rattle.gm_graph_select.specs.declared.step.Edge.{Edge}
 use Rattle.gm_graph_select.specs.declared.step.Step.{Step}
 use Rattle.gm_graph_select.specs.declared.step.Step.TheVariants.{Of}
-use Rattle.gm_graph_select.specs.Adjacency.{AreByRanks, HaveNumbers, AreRanked, HasRanks, IsBelow, IsNumbered, LeavesLower, edges_from, edges_of, left_by, rank_of, same_step, step_with, vertex_at}
-use Rattle.gm_graph_select.specs.Graph.{Vertex, edge, edge_cmp, step_cmp}
-use Rattle.gm_name.specs.PairOrder.{pair_cmp}
+use Rattle.gm_graph_select.specs.Adjacency.{AreByRanks, HaveNumbers, AreRanked, HasRanks, IsBelow, IsNumbered, LeavesLower, edges_from, edges_of, left_by, rank_of, same_step, step_with}
+use Rattle.gm_graph_select.specs.Graph.{edge, edge_cmp, step_cmp}
 use Rattle.gm_graph_select.specs.Marking.{HasMark}
 use Rattle.gm_graph_select.specs.Order.{HaveSame, IsAscending}
 use Rattle.gm_graph_select.specs.Ranking.{AreRanks}
@@ -43,17 +43,17 @@ from_mapped f (x ∷ xs) y (zero, below, is) = (x, (0, omega arith, refl), is)
 from_mapped f (x ∷ xs) y (suc k, below, is) = let (z, (j, under, at), e) = from_mapped f xs y (k, omega arith, is) in (z, (suc j, omega arith, at), e)
 
 -- the edge of a number
-abbrev leading : List Vertex → Adjacency → ℕ → Edge
-leading vertices one number = edge (left_by vertices one) (vertex_at vertices number)
+abbrev leading : List ModuleVersion → Adjacency → ℕ → Edge
+leading vertices one number = edge (left_by vertices one) (module_at vertices number)
 
 -- ---- the edges of adjacency lists
 
-pub edges_each : (vertices : List Vertex) (all : List Adjacency) (one : Adjacency) (e : Edge) → Contains all one → Contains (edges_from vertices one) e → Contains (edges_of vertices all) e
+pub edges_each : (vertices : List ModuleVersion) (all : List Adjacency) (one : Adjacency) (e : Edge) → Contains all one → Contains (edges_from vertices one) e → Contains (edges_of vertices all) e
 edges_each vertices [] one e there h = absurd (omega (arith, there.1))
 edges_each vertices (first ∷ all) one e (zero, below, is) h = Contains-append_left (edges_from vertices first) (edges_of vertices all) e (subst (λ (o : Adjacency). Contains (edges_from vertices o) e) (sym is) h)
 edges_each vertices (first ∷ all) one e (suc k, below, is) h = Contains-append_right (edges_from vertices first) (edges_of vertices all) e (edges_each vertices all one e (k, omega arith, is) h)
 
-pub edges_only : (vertices : List Vertex) (all : List Adjacency) (e : Edge) → Contains (edges_of vertices all) e → (one : Adjacency) × Contains all one × Contains (edges_from vertices one) e
+pub edges_only : (vertices : List ModuleVersion) (all : List Adjacency) (e : Edge) → Contains (edges_of vertices all) e → (one : Adjacency) × Contains all one × Contains (edges_from vertices one) e
 edges_only vertices [] e h = absurd (omega (arith, h.1))
 edges_only vertices (first ∷ all) e h = elim (Contains-append_cases (edges_from vertices first) (edges_of vertices all) e h) [
   | inl here ↦ (first, (0, omega arith, refl), here)
@@ -61,7 +61,7 @@ edges_only vertices (first ∷ all) e h = elim (Contains-append_cases (edges_fro
 ]
 
 -- Adjacency lists in another order have the same edges.
-edges_permuted : (vertices : List Vertex) (old new : List Adjacency) → IsPermutation old new → HaveSame (edges_of vertices old) (edges_of vertices new)
+edges_permuted : (vertices : List ModuleVersion) (old new : List Adjacency) → IsPermutation old new → HaveSame (edges_of vertices old) (edges_of vertices new)
 edges_permuted vertices old new same e = (along old new same, along new old (IsPermutation-sym old new same))
   where
     along : (a b : List Adjacency) → IsPermutation a b → Contains (edges_of vertices a) e → Contains (edges_of vertices b) e
@@ -96,15 +96,15 @@ pairs_append {T} R (x ∷ xs) ys a b between =
 pub lower_number : (a b : ℕ) → nat_cmp a b ≡ Less → a < b
 lower_number a b e = ranked a b Less (sym e)
 
-module _ (vertices : List Vertex) (up : IsAscending pair_cmp vertices) where
-  to_ascends : (s : Step) (to : List ℕ) → IsAscending nat_cmp to → All (λ n. n < length vertices) to → IsAscending edge_cmp (map (λ (n : ℕ). edge s (vertex_at vertices n)) to)
+module _ (vertices : List ModuleVersion) (up : IsAscending pair_cmp vertices) where
+  to_ascends : (s : Step) (to : List ℕ) → IsAscending nat_cmp to → All (λ n. n < length vertices) to → IsAscending edge_cmp (map (λ (n : ℕ). edge s (module_at vertices n)) to)
   to_ascends s to ranks within i j d lt below =
-      let lead = λ (n : ℕ). edge s (vertex_at vertices n) in
+      let lead = λ (n : ℕ). edge s (module_at vertices n) in
       let inside : j < length to = rw length-map at below in
       let a = get_or to i 0 in
       let b = get_or to j 0 in
       ap₂ edge_cmp (get_or-map lead to i 0 d (omega arith)) (get_or-map lead to j 0 d inside)
-      ∙ ap (λ (o : Ordering). ordering_then o (pair_cmp (vertex_at vertices a) (vertex_at vertices b))) (step_itself s)
+      ∙ ap (λ (o : Ordering). ordering_then o (pair_cmp (module_at vertices a) (module_at vertices b))) (step_itself s)
       ∙ up a b ([], []) (lower_number a b (ranks i j 0 lt inside)) (within j 0 inside)
 
   lower_step : (a b : Option ℕ) → IsBelow (length vertices) b → option_cmp nat_cmp a b ≡ Less → step_cmp (step_with vertices a) (step_with vertices b) ≡ Less
@@ -128,10 +128,10 @@ module _ (vertices : List Vertex) (up : IsAscending pair_cmp vertices) where
           let (m, found, same) = from_mapped (leading vertices other) other.to.items b at in
           let numbers = All-contains (IsNumbered (length vertices)) all other (All-tail (IsNumbered (length vertices)) one all numbered) later in
           ap₂ edge_cmp (sym is) (sym same)
-          ∙ ap (λ (o : Ordering). ordering_then o (pair_cmp (vertex_at vertices n) (vertex_at vertices m))) (lower_step one.from other.from numbers.from (pairs_head LeavesLower one other all lower later))
+          ∙ ap (λ (o : Ordering). ordering_then o (pair_cmp (module_at vertices n) (module_at vertices m))) (lower_step one.from other.from numbers.from (pairs_head LeavesLower one other all lower later))
 
 -- The edges of a graph by ranks are in ascending order.
-pub ranked_edges_ascend : (vertices : List Vertex) (all : List Adjacency) → AreRanked vertices all → IsAscending edge_cmp (edges_of vertices all)
+pub ranked_edges_ascend : (vertices : List ModuleVersion) (all : List Adjacency) → AreRanked vertices all → IsAscending edge_cmp (edges_of vertices all)
 ranked_edges_ascend vertices all are = edges_ascend vertices are.vertices_ascend all are.numbered are.lists_ascend are.each_ascends
 
 -- ---- sorted lists
@@ -208,7 +208,7 @@ pub record NamesMarked (marks : List Bool) (one : Adjacency) : Type 0 where
   pub from : IsFromMarked marks one.from
   pub to : All (HasMark marks) one.to.items
 
-module _ (modules : List Vertex) (marks : List Bool) (ordered : List Vertex) (ranks : List ℕ) (are : AreRanks modules marks ordered ranks) where
+module _ (modules : List ModuleVersion) (marks : List Bool) (ordered : List ModuleVersion) (ranks : List ℕ) (are : AreRanks modules marks ordered ranks) where
   step_kept : (from : Option ℕ) → IsFromMarked marks from → step_with ordered (option_map (rank_of ranks) from) ≡ step_with modules from
   step_kept None within = refl
   step_kept (Some number) within = ap Of (are.same number within)

@@ -12,25 +12,23 @@ use Rattle.std.proofs.lemmas.List.Elements.{All-contains, All-push, All-weaker, 
 use Rattle.std.proofs.lemmas.List.Quantifiers.{all_pairs_push}
 use Rattle.std.proofs.lemmas.List.Sorted.{All-permutation, Contains-permutation, IsPermutation-map, length_permutation}
 use Rattle.std.proofs.lemmas.Map.Keys.{IsDistinct-IsPermutation, IsDistinct-from_apart, apart_from_distinct}
-use Rattle.gm_name.specs.PairOrder.{pair_cmp, pair_eq, pair_ties}
+use Rattle.gm_name.specs.ModuleVersion.{ModuleVersion, module_at, pair_cmp, pair_eq, pair_ties, pair_total}
 use Rattle.gm_graph_select.specs.declared.ranking.Numbered.{Numbered}
-use Rattle.gm_graph_select.specs.Adjacency.{rank_of, vertex_at}
-use Rattle.gm_graph_select.specs.Graph.{Vertex}
+use Rattle.gm_graph_select.specs.Adjacency.{rank_of}
 use Rattle.gm_graph_select.specs.Marking.{HasMark}
 use Rattle.gm_graph_select.specs.Order.{IsAscending}
 use Rattle.gm_graph_select.specs.Ranking.{AreMarkedModules, AreRanks, HaveOneVertexEach, IsMarkedModule, IsPlaced, IsRanked}
-use Rattle.gm_graph_select.specs.StepOrder.{vertex_total}
 use Rattle.gm_graph_select.proofs.Ascending.{member_cases}
 use Rattle.gm_graph_select.proofs.RankedLists.{from_mapped, in_mapped}
 use Rattle.gm_graph_select.proofs.Marks.{marked_inside}
 use Rattle.gm_graph_select.proofs.Sorts.{from_adjacent}
 
-abbrev vertex_of : Numbered → Vertex
+abbrev vertex_of : Numbered → ModuleVersion
 vertex_of one = one.vertex
 
 -- ---- ranks, one vertex at a time
 
-module _ (vertices : List Vertex) (ranks : List ℕ) (next one : Numbered) (inside : next.number < length ranks) where
+module _ (vertices : List ModuleVersion) (ranks : List ℕ) (next one : Numbered) (inside : next.number < length ranks) where
   pub rank_here : one.number ≡ next.number → one.vertex ≡ next.vertex → IsRanked (vertices ++ next.vertex ∷ []) (set ranks next.number (length vertices)) one
   rank_here e f =
       let new = set ranks next.number (length vertices) in
@@ -38,7 +36,7 @@ module _ (vertices : List Vertex) (ranks : List ℕ) (next one : Numbered) (insi
       ap (λ (n : ℕ). get_or new n 0) e ∙ get_or-set_same ranks next.number (length vertices) 0 inside in
       record {
         within = omega (arith, rank, length_push vertices next.vertex);
-        is = ap (λ (n : ℕ). vertex_at (vertices ++ next.vertex ∷ []) n) rank ∙ get_or_push vertices next.vertex ([], []) (length vertices) refl ∙ sym f;
+        is = ap (λ (n : ℕ). module_at (vertices ++ next.vertex ∷ []) n) rank ∙ get_or_push vertices next.vertex ([], []) (length vertices) refl ∙ sym f;
       }
 
   rank_kept : one.number ≢ next.number → IsRanked vertices ranks one → IsRanked (vertices ++ next.vertex ∷ []) (set ranks next.number (length vertices)) one
@@ -46,7 +44,7 @@ module _ (vertices : List Vertex) (ranks : List ℕ) (next one : Numbered) (insi
       let rank : rank_of (set ranks next.number (length vertices)) one.number ≡ rank_of ranks one.number = get_or-set_other ranks next.number one.number (length vertices) 0 apart in
       record {
         within = omega (arith, rank, so.within, length_push vertices next.vertex);
-        is = ap (λ (n : ℕ). vertex_at (vertices ++ next.vertex ∷ []) n) rank ∙ get_or_append_left vertices (next.vertex ∷ []) ([], []) (rank_of ranks one.number) so.within ∙ so.is;
+        is = ap (λ (n : ℕ). module_at (vertices ++ next.vertex ∷ []) n) rank ∙ get_or_append_left vertices (next.vertex ∷ []) ([], []) (rank_of ranks one.number) so.within ∙ so.is;
       }
 
   -- A vertex that has its rank keeps it.
@@ -59,14 +57,14 @@ module _ (vertices : List Vertex) (ranks : List ℕ) (next one : Numbered) (insi
 -- ---- the ranking so far
 
 -- It has fewer vertices than all if some are left.
-pub fewer : (all : List Numbered) (before : List Vertex) (rest : List Numbered) → before ++ map vertex_of rest ≡ map vertex_of all → length before + length rest ≡ length all
-fewer all before rest is = sym (ap (λ (n : ℕ). length before + n) (length-map rest vertex_of)) ∙ sym (length-append before (map vertex_of rest)) ∙ ap (λ (xs : List Vertex). length xs) is ∙ length-map all vertex_of
+pub fewer : (all : List Numbered) (before : List ModuleVersion) (rest : List Numbered) → before ++ map vertex_of rest ≡ map vertex_of all → length before + length rest ≡ length all
+fewer all before rest is = sym (ap (λ (n : ℕ). length before + n) (length-map rest vertex_of)) ∙ sym (length-append before (map vertex_of rest)) ∙ ap (λ (xs : List ModuleVersion). length xs) is ∙ length-map all vertex_of
 
-pub next_vertices : (all : List Numbered) (before : List Vertex) (next : Numbered) (rest : List Numbered) → before ++ map vertex_of (next ∷ rest) ≡ map vertex_of all → (before ++ next.vertex ∷ []) ++ map vertex_of rest ≡ map vertex_of all
+pub next_vertices : (all : List Numbered) (before : List ModuleVersion) (next : Numbered) (rest : List Numbered) → before ++ map vertex_of (next ∷ rest) ≡ map vertex_of all → (before ++ next.vertex ∷ []) ++ map vertex_of rest ≡ map vertex_of all
 next_vertices all before next rest is = append_assoc before (next.vertex ∷ []) (map vertex_of rest) ∙ is
 
 -- After the next vertex each one has its rank or is left.
-pub next_ranked : (all : List Numbered) (before : List Vertex) (ranks : List ℕ) (next : Numbered) (rest : List Numbered) → HaveOneVertexEach all → Contains all next → next.number < length ranks
+pub next_ranked : (all : List Numbered) (before : List ModuleVersion) (ranks : List ℕ) (next : Numbered) (rest : List Numbered) → HaveOneVertexEach all → Contains all next → next.number < length ranks
     → (x : Numbered) → Contains all x → IsRanked before ranks x ⊎ Contains (next ∷ rest) x → IsRanked (before ++ next.vertex ∷ []) (set ranks next.number (length before)) x ⊎ Contains rest x
 next_ranked all before ranks next rest once in_all inside x there so = elim so [
   | inl ranked ↦ inl (rank_more before ranks next x inside (once x next there in_all) ranked)
@@ -78,7 +76,7 @@ next_ranked all before ranks next rest once in_all inside x there so = elim so [
 
 -- ---- the marked modules so far
 
-module _ (front : List Vertex) (marks : List Bool) (x : Vertex) (all : List Numbered) (are : AreMarkedModules front marks all) where
+module _ (front : List ModuleVersion) (marks : List Bool) (x : ModuleVersion) (all : List Numbered) (are : AreMarkedModules front marks all) where
   wider : (one : Numbered) → IsPlaced front marks one → IsPlaced (front ++ x ∷ []) marks one
   wider one placed = record {
     within = omega (arith, placed.within, length_push front x);
@@ -130,34 +128,34 @@ module _ (front : List Vertex) (marks : List Bool) (x : Vertex) (all : List Numb
   ]
 
 -- The next of the modules that are left.
-pub next_module : (modules rest : List Vertex) (x : Vertex) (i : ℕ) → i ≤ length modules → take i modules ++ x ∷ rest ≡ modules → (i < length modules) × (length (take i modules) ≡ i) × (take (i + 1) modules ≡ take i modules ++ x ∷ [])
+pub next_module : (modules rest : List ModuleVersion) (x : ModuleVersion) (i : ℕ) → i ≤ length modules → take i modules ++ x ∷ rest ≡ modules → (i < length modules) × (length (take i modules) ≡ i) × (take (i + 1) modules ≡ take i modules ++ x ∷ [])
 next_module modules rest x i within is = (inside, size, taken)
   where
     size : length (take i modules) ≡ i
     size = length-take-le i modules within
 
     inside : i < length modules
-    inside = omega (arith, size, ap (λ (xs : List Vertex). length xs) is, length-append (take i modules) (x ∷ rest))
+    inside = omega (arith, size, ap (λ (xs : List ModuleVersion). length xs) is, length-append (take i modules) (x ∷ rest))
 
     here : get_or modules i x ≡ x
-    here = ap (λ (xs : List Vertex). get_or xs i x) (sym is) ∙ get_or_at (take i modules) x rest x i size
+    here = ap (λ (xs : List ModuleVersion). get_or xs i x) (sym is) ∙ get_or_at (take i modules) x rest x i size
 
     taken : take (i + 1) modules ≡ take i modules ++ x ∷ []
-    taken = take_more modules i x inside ∙ ap (λ (y : Vertex). take i modules ++ y ∷ []) here
+    taken = take_more modules i x inside ∙ ap (λ (y : ModuleVersion). take i modules ++ y ∷ []) here
 
 -- ---- the marked modules in another order
 
-module _ (modules : List Vertex) (marks : List Bool) (all : List Numbered) (are : AreMarkedModules modules marks all) where
+module _ (modules : List ModuleVersion) (marks : List Bool) (all : List Numbered) (are : AreMarkedModules modules marks all) where
   -- Their vertices are distinct if the modules are.
   all_distinct : IsDistinct pair_eq modules → IsDistinct pair_eq (map vertex_of all)
   all_distinct distinct = IsDistinct-from_apart pair_eq (map vertex_of all) apart
     where
-      vertex_is : (k : ℕ) (d : Vertex) (e : Numbered) → k < length all → get_or (map vertex_of all) k d ≡ get_or modules (get_or all k e).number d
+      vertex_is : (k : ℕ) (d : ModuleVersion) (e : Numbered) → k < length all → get_or (map vertex_of all) k d ≡ get_or modules (get_or all k e).number d
       vertex_is k d e below =
           let placed = are.placed k e below in
           get_or-map vertex_of all k e d below ∙ placed.is ∙ get_or_default modules (get_or all k e).number ([], []) d placed.within
 
-      apart : (i j : ℕ) (d : Vertex) → i < j → j < length (map vertex_of all) → pair_eq (get_or (map vertex_of all) i d) (get_or (map vertex_of all) j d) ≡ false
+      apart : (i j : ℕ) (d : ModuleVersion) → i < j → j < length (map vertex_of all) → pair_eq (get_or (map vertex_of all) i d) (get_or (map vertex_of all) j d) ≡ false
       apart i j d lt below =
           let e : Numbered = record { vertex = d; number = 0 } in
           let inside : j < length all = omega (arith, below, length-map all vertex_of) in
@@ -178,13 +176,13 @@ module _ (modules : List Vertex) (marks : List Bool) (all : List Numbered) (are 
     one_vertex_each a b in_a in_b e =
         let first = All-contains (IsPlaced modules marks) ordered a ordered_placed in_a in
         let second = All-contains (IsPlaced modules marks) ordered b ordered_placed in_b in
-        first.is ∙ ap (λ (n : ℕ). vertex_at modules n) e ∙ sym second.is
+        first.is ∙ ap (λ (n : ℕ). module_at modules n) e ∙ sym second.is
 
     -- The entry of a marked module.
     its_entry : (number : ℕ) → number < length modules → HasMark marks number → (one : Numbered) × Contains ordered one × (one.number ≡ number)
     its_entry number below marked = let (one, there, is) = are.each number below marked in (one, Contains-permutation all ordered one same there, is)
 
-    pub marked_modules : (x : Vertex) → Contains (map vertex_of ordered) x ↔ IsMarkedModule modules marks x
+    pub marked_modules : (x : ModuleVersion) → Contains (map vertex_of ordered) x ↔ IsMarkedModule modules marks x
     marked_modules x = (there, back)
       where
         there : Contains (map vertex_of ordered) x → IsMarkedModule modules marks x
@@ -197,7 +195,7 @@ module _ (modules : List Vertex) (marks : List Bool) (all : List Numbered) (are 
         back (number, below, marked, is) =
             let (one, found, number_is) = its_entry number below marked in
             let placed = All-contains (IsPlaced modules marks) ordered one ordered_placed found in
-            subst (λ (y : Vertex). Contains (map vertex_of ordered) y) (placed.is ∙ ap (λ (n : ℕ). vertex_at modules n) number_is ∙ is) (in_mapped vertex_of ordered one found)
+            subst (λ (y : ModuleVersion). Contains (map vertex_of ordered) y) (placed.is ∙ ap (λ (n : ℕ). module_at modules n) number_is ∙ is) (in_mapped vertex_of ordered one found)
 
     module _ (ranks : List ℕ) (each : All (IsRanked (map vertex_of ordered) ranks) ordered) where
       pub ranks_are : length ranks ≡ length modules → length marks ≡ length modules → AreRanks modules marks (map vertex_of ordered) ranks
@@ -209,7 +207,7 @@ module _ (modules : List Vertex) (marks : List Bool) (all : List Numbered) (are 
         same = λ number marked.
             let (one, there, e) = its_entry number (below number marked) marked in
             let placed = All-contains (IsPlaced modules marks) ordered one ordered_placed there in
-            subst (λ (n : ℕ). vertex_at (map vertex_of ordered) (rank_of ranks n) ≡ vertex_at modules n) e
+            subst (λ (n : ℕ). module_at (map vertex_of ordered) (rank_of ranks n) ≡ module_at modules n) e
             ((All-contains (IsRanked (map vertex_of ordered) ranks) ordered one each there).is ∙ placed.is);
       }
         where
@@ -228,17 +226,17 @@ module _ (modules : List Vertex) (marks : List Bool) (all : List Numbered) (are 
     eq_flips Equal = refl
     eq_flips Greater = refl
 
-    pair_flips : (x y : Vertex) → pair_eq x y ≡ pair_eq y x
-    pair_flips x y = pair_ties x y ∙ ap is_eq (vertex_total.antisymm x y) ∙ eq_flips (pair_cmp y x) ∙ sym (pair_ties y x)
+    pair_flips : (x y : ModuleVersion) → pair_eq x y ≡ pair_eq y x
+    pair_flips x y = pair_ties x y ∙ ap is_eq (pair_total.antisymm x y) ∙ eq_flips (pair_cmp y x) ∙ sym (pair_ties y x)
 
     -- Sorted, distinct vertices ascend.
     pub vertices_ascend : IsSorted (λ (a b : Numbered). ordering_then (pair_cmp a.vertex b.vertex) (nat_cmp a.number b.number)) ordered → IsDistinct pair_eq modules → IsAscending pair_cmp (map vertex_of ordered)
-    vertices_ascend sorted distinct = from_adjacent vertex_total (map vertex_of ordered) next
+    vertices_ascend sorted distinct = from_adjacent pair_total (map vertex_of ordered) next
       where
         apart : IsDistinct pair_eq (map vertex_of ordered)
         apart = IsDistinct-IsPermutation pair_eq pair_flips (map vertex_of all) (map vertex_of ordered) (IsPermutation-map vertex_of all ordered same) (all_distinct distinct)
 
-        next : (k : ℕ) (d : Vertex) → k + 1 < length (map vertex_of ordered) → true ≡ is_lt (pair_cmp (get_or (map vertex_of ordered) k d) (get_or (map vertex_of ordered) (k + 1) d))
+        next : (k : ℕ) (d : ModuleVersion) → k + 1 < length (map vertex_of ordered) → true ≡ is_lt (pair_cmp (get_or (map vertex_of ordered) k d) (get_or (map vertex_of ordered) (k + 1) d))
         next k d inside =
             let e : Numbered = record { vertex = d; number = 0 } in
             let within : k + 1 < length ordered = omega (arith, inside, length-map ordered vertex_of) in
@@ -249,5 +247,5 @@ module _ (modules : List Vertex) (marks : List Bool) (all : List Numbered) (are 
             let differ : is_eq (pair_cmp a.vertex b.vertex) ≡ false =
             sym (pair_ties a.vertex b.vertex) ∙ sym (ap₂ pair_eq left right) ∙ apart_from_distinct pair_eq (map vertex_of ordered) k (k + 1) d apart (omega arith) inside in
             let low : is_lt (ordering_then (ordering_reverse (pair_cmp a.vertex b.vertex)) (nat_cmp b.number a.number)) ≡ false =
-            ap (λ (r : Ordering). is_lt (ordering_then r (nat_cmp b.number a.number))) (sym (vertex_total.antisymm b.vertex a.vertex)) ∙ sorted k e (omega arith) within in
+            ap (λ (r : Ordering). is_lt (ordering_then r (nat_cmp b.number a.number))) (sym (pair_total.antisymm b.vertex a.vertex)) ∙ sorted k e (omega arith) within in
             sym (ap is_lt (ap₂ pair_cmp left right ∙ later_vertex (pair_cmp a.vertex b.vertex) (nat_cmp b.number a.number) low differ))

@@ -3,11 +3,12 @@
 use Rattle.std.proofs.Common.{◌↔◌, ◌∙◌, ◌<◌, ℕ, suc, List, length, get_or, map, Contains, ap, subst, sym}
 use Rattle.std.proofs.lemmas.List.{get_or-map, length-map}
 use Rattle.std.proofs.lemmas.List.Elements.{Contains-get_or}
+use Rattle.gm_name.specs.ModuleVersion.{ModuleVersion}
 use Rattle.gm_file.specs.Directives.{Replacing}
 use Rattle.gm_graph_select.specs.declared.step.Edge.{Edge}
 use Rattle.gm_graph_select.specs.declared.step.Step.{Step}
 use Rattle.gm_graph_select.specs.declared.step.Step.TheVariants.{Main, Of}
-use Rattle.gm_graph_select.specs.Graph.{AreEnds, Vertex, Edges, IsEdgeEnd, among, edge}
+use Rattle.gm_graph_select.specs.Graph.{AreEnds, Edges, IsEdgeEnd, among, edge}
 use Rattle.gm_graph_select.specs.BuildList.{Entry, IsSelected, IsBuildList}
 use Rattle.gm_graph_select.specs.Order.{HaveSame}
 use Rattle.gm_graph_select.proofs.Greatest.{ending}
@@ -15,14 +16,14 @@ use Rattle.gm_graph_select.specs.Chains.{Leads, at_main, along, IsLevel, IsPrede
 
 -- The two relations hold between the same steps and vertices.
 abbrev pub AreSame : Edges → Edges → Type 0
-AreSame E F = (s : Step) (y : Vertex) → E s y ↔ F s y
+AreSame E F = (s : Step) (y : ModuleVersion) → E s y ↔ F s y
 
 pub same_back : (E F : Edges) → AreSame E F → AreSame F E
 same_back E F h s y = ((h s y).1, (h s y).0)
 
 -- The two relations lead to the same vertices.
 abbrev pub EndAlike : Edges → Edges → Type 0
-EndAlike E F = (y : Vertex) → IsEdgeEnd E y ↔ IsEdgeEnd F y
+EndAlike E F = (y : ModuleVersion) → IsEdgeEnd E y ↔ IsEdgeEnd F y
 
 alike_back : (E F : Edges) → EndAlike E F → EndAlike F E
 alike_back E F h y = ((h y).1, (h y).0)
@@ -30,13 +31,13 @@ alike_back E F h y = ((h y).1, (h y).0)
 same_ends : (E F : Edges) → AreSame E F → EndAlike E F
 same_ends E F h y = ((λ end. (end.0, (h end.0 y).0 end.1)), (λ end. (end.0, (h end.0 y).1 end.1)))
 
-pub ends_alike : (ends : List Vertex) (E F : Edges) → AreEnds ends E → AreEnds ends F → EndAlike E F
+pub ends_alike : (ends : List ModuleVersion) (E F : Edges) → AreEnds ends E → AreEnds ends F → EndAlike E F
 ends_alike ends E F e f y = ((λ end. (f y).0 ((e y).1 end)), (λ end. (e y).0 ((f y).1 end)))
 
-pub ending_ends : (ends : List Vertex) → AreEnds ends (ending ends)
+pub ending_ends : (ends : List ModuleVersion) → AreEnds ends (ending ends)
 ending_ends ends y = ((λ there. (Main, there)), (λ end. end.1))
 
-pub ends_same : (xs ys : List Vertex) (E : Edges) → HaveSame xs ys → AreEnds xs E → AreEnds ys E
+pub ends_same : (xs ys : List ModuleVersion) (E : Edges) → HaveSame xs ys → AreEnds xs E → AreEnds ys E
 ends_same xs ys E same are y = ((λ h. (are y).0 ((same y).1 h)), (λ end. (same y).0 ((are y).1 end)))
 
 -- the vertices that the edges of a list lead to, one for each edge
@@ -47,14 +48,14 @@ ends_of edges y = (from, to)
     from (k, below, at) =
         let inside : k < length edges = rw length-map at below in
         let e = get_or edges k (edge Main y) in
-        (e.from, subst (λ (z : Vertex). Contains edges (edge e.from z)) (sym (get_or-map (λ (e : Edge). e.to) edges k (edge Main y) y inside) ∙ at) (Contains-get_or edges k (edge Main y) inside))
+        (e.from, subst (λ (z : ModuleVersion). Contains edges (edge e.from z)) (sym (get_or-map (λ (e : Edge). e.to) edges k (edge Main y) y inside) ∙ at) (Contains-get_or edges k (edge Main y) inside))
 
     to : IsEdgeEnd (among edges) y → Contains (map (λ (e : Edge). e.to) edges) y
     to (s, there) =
         let (k, below, at) = there in
         (k, rw length-map below, get_or-map (λ (e : Edge). e.to) edges k (edge s y) y below ∙ ap (λ (e : Edge). e.to) at)
 
-pub alike_selected : (main : List ℕ) (E F : Edges) → EndAlike E F → (x : Vertex) → IsSelected main E x → IsSelected main F x
+pub alike_selected : (main : List ℕ) (E F : Edges) → EndAlike E F → (x : ModuleVersion) → IsSelected main E x → IsSelected main F x
 alike_selected main E F h x is = record {
   not_main = is.not_main;
   is_end = (h x).0 is.is_end;
@@ -83,7 +84,7 @@ same_leads E F h (along {s} {y} {n} l e) = along (same_leads E F h l) ((h s y).0
 pub same_level : (E F : Edges) → AreSame E F → (s : Step) (n : ℕ) → IsLevel E s n → IsLevel F s n
 same_level E F h s n level = record { leads = same_leads E F h level.leads; least = λ m l. level.least m (same_leads F E (same_back E F h) l) }
 
-pub same_before : (E F : Edges) → AreSame E F → (s : Step) (y : Vertex) → IsPredecessor E s y → IsPredecessor F s y
+pub same_before : (E F : Edges) → AreSame E F → (s : Step) (y : ModuleVersion) → IsPredecessor E s y → IsPredecessor F s y
 same_before E F h s y before = record {
   is_edge = (h s y).0 before.is_edge;
   level = before.level;

@@ -3,20 +3,20 @@ use Rattle.std.proofs.Common.{◌≡◌, ◌⊎◌, ◌↔◌, ◌∙◌, ◌<�
 use Rattle.std.specs.Prelude.{All}
 use Rattle.std.specs.List.{IsDistinct}
 use Rattle.std.proofs.lemmas.List.Elements.{Contains-get_or}
+use Rattle.gm_name.specs.ModuleVersion.{ModuleVersion, module_at, pair_cmp}
 use Rattle.gm_graph_select.specs.declared.adjacency.Adjacency.{Adjacency}
 use Rattle.gm_graph_select.specs.declared.step.Edge.{Edge}
 use Rattle.gm_graph_select.specs.declared.step.Step.{Step}
 use Rattle.gm_graph_select.specs.declared.step.Step.TheVariants.{Main, Of}
-use Rattle.gm_graph_select.specs.Adjacency.{AreByRanks, AreRanked, edges_of, left_by, same_step, sources_of, step_with, vertex_at}
-use Rattle.gm_graph_select.specs.Graph.{IsEdgeEnd, Vertex, among, edge}
-use Rattle.gm_name.specs.PairOrder.{pair_cmp}
+use Rattle.gm_graph_select.specs.Adjacency.{AreByRanks, AreRanked, edges_of, left_by, same_step, sources_of, step_with}
+use Rattle.gm_graph_select.specs.Graph.{IsEdgeEnd, among, edge}
 use Rattle.gm_graph_select.specs.Marking.{HasMark, named_by, numbers_named}
 use Rattle.gm_graph_select.specs.Order.{HaveSame, IsAscending}
 use Rattle.gm_graph_select.specs.Ranking.{AreRanks, IsMarkedModule}
 use Rattle.gm_graph_select.proofs.Marks.{marked_inside, named_from, named_only, names_from, names_only, names_to}
 use Rattle.gm_graph_select.proofs.RankedLists.{IsFromMarked, NamesMarked, edges_each, edges_only, from_mapped, in_mapped, lists_are_ranked, same_edges}
 
-module _ (modules : List Vertex) (marks : List Bool) (all : List Adjacency) (are : (number : ℕ) → HasMark marks number ↔ Contains (numbers_named all) number) where
+module _ (modules : List ModuleVersion) (marks : List Bool) (all : List Adjacency) (are : (number : ℕ) → HasMark marks number ↔ Contains (numbers_named all) number) where
   -- Each number that a list names is marked.
   all_named : All (NamesMarked marks) all
   all_named k d below = record { from = from_of one.from refl; to = λ j e inside. marked (get_or one.to.items j e) (names_to one (get_or one.to.items j e) (Contains-get_or one.to.items j e inside)) }
@@ -33,7 +33,7 @@ module _ (modules : List Vertex) (marks : List Bool) (all : List Adjacency) (are
 
   module _ (edges : List Edge) (same : HaveSame (edges_of modules all) edges) where
     -- A marked module is an end of an edge, or a list leaves it.
-    end_or_source : (x : Vertex) → IsMarkedModule modules marks x → IsEdgeEnd (among edges) x ⊎ Contains (sources_of modules all) (Of x)
+    end_or_source : (x : ModuleVersion) → IsMarkedModule modules marks x → IsEdgeEnd (among edges) x ⊎ Contains (sources_of modules all) (Of x)
     end_or_source x (number, below, marked, is) =
         let (one, there, named) = named_only all number ((are number).0 marked) in
         elim (names_only one number named) [
@@ -43,38 +43,38 @@ module _ (modules : List Vertex) (marks : List Bool) (all : List Adjacency) (are
           | inr found ↦ inl (
             left_by modules one,
             (same (edge (left_by modules one) x)).0
-                (subst (λ (y : Vertex). Contains (edges_of modules all) (edge (left_by modules one) y)) is
-                (edges_each modules all one (edge (left_by modules one) (vertex_at modules number)) there
-                (in_mapped (λ (n : ℕ). edge (left_by modules one) (vertex_at modules n)) one.to.items number found))),
+                (subst (λ (y : ModuleVersion). Contains (edges_of modules all) (edge (left_by modules one) y)) is
+                (edges_each modules all one (edge (left_by modules one) (module_at modules number)) there
+                (in_mapped (λ (n : ℕ). edge (left_by modules one) (module_at modules n)) one.to.items number found))),
           )
         ]
 
-    marked_module : length marks ≡ length modules → (x : Vertex) → (one : Adjacency) → Contains all one → (number : ℕ) → Contains (named_by one) number → vertex_at modules number ≡ x → IsMarkedModule modules marks x
+    marked_module : length marks ≡ length modules → (x : ModuleVersion) → (one : Adjacency) → Contains all one → (number : ℕ) → Contains (named_by one) number → module_at modules number ≡ x → IsMarkedModule modules marks x
     marked_module count x one there number named is =
         let marked : HasMark marks number = (are number).1 (named_from all one number there named) in
         (number, subst (λ (n : ℕ). number < n) count (marked_inside marks number marked), marked, is)
 
-    an_end : length marks ≡ length modules → (x : Vertex) → IsEdgeEnd (among edges) x → IsMarkedModule modules marks x
+    an_end : length marks ≡ length modules → (x : ModuleVersion) → IsEdgeEnd (among edges) x → IsMarkedModule modules marks x
     an_end count x (s, h) =
         let (one, there, at) = edges_only modules all (edge s x) ((same (edge s x)).1 h) in
-        let (number, found, is) = from_mapped (λ (n : ℕ). edge (left_by modules one) (vertex_at modules n)) one.to.items (edge s x) at in
+        let (number, found, is) = from_mapped (λ (n : ℕ). edge (left_by modules one) (module_at modules n)) one.to.items (edge s x) at in
         marked_module count x one there number (names_to one number found) (ap (λ (e : Edge). e.to) is)
 
-    a_source : length marks ≡ length modules → (x : Vertex) → Contains (sources_of modules all) (Of x) → IsMarkedModule modules marks x
+    a_source : length marks ≡ length modules → (x : ModuleVersion) → Contains (sources_of modules all) (Of x) → IsMarkedModule modules marks x
     a_source count x h =
         let (one, there, is) = from_mapped (left_by modules) all (Of x) h in
         its_vertex one there one.from refl is
       where
-        same_vertex : (y : Vertex) → Of y ≡ Of x → y ≡ x
+        same_vertex : (y : ModuleVersion) → Of y ≡ Of x → y ≡ x
         same_vertex y e = cc
 
         its_vertex : (one : Adjacency) → Contains all one → (from : Option ℕ) → one.from ≡ from → step_with modules one.from ≡ Of x → IsMarkedModule modules marks x
         its_vertex one there None is step = absurd (let main : Main ≡ Of x = sym (ap (λ (f : Option ℕ). step_with modules f) is) ∙ step in cc main)
         its_vertex one there (Some number) is step =
             marked_module count x one there number (names_from one number is)
-            (same_vertex (vertex_at modules number) (sym (ap (λ (f : Option ℕ). step_with modules f) is) ∙ step))
+            (same_vertex (module_at modules number) (sym (ap (λ (f : Option ℕ). step_with modules f) is) ∙ step))
 
-    vertices_named : length marks ≡ length modules → (x : Vertex) → IsMarkedModule modules marks x ↔ (IsEdgeEnd (among edges) x ⊎ Contains (sources_of modules all) (Of x))
+    vertices_named : length marks ≡ length modules → (x : ModuleVersion) → IsMarkedModule modules marks x ↔ (IsEdgeEnd (among edges) x ⊎ Contains (sources_of modules all) (Of x))
     vertices_named count x = (
       end_or_source x,
       (λ so. elim so [ inl end ↦ an_end count x end | inr source ↦ a_source count x source ]),
@@ -83,15 +83,15 @@ module _ (modules : List Vertex) (marks : List Bool) (all : List Adjacency) (are
 -- ---- a graph that was made
 
 -- The vertices are the modules that the old lists name, and the new lists have their edges.
-pub record IsGraphOf (modules : List Vertex) (old : List Adjacency) (vertices : List Vertex) (new : List Adjacency) : Type 0 where
+pub record IsGraphOf (modules : List ModuleVersion) (old : List Adjacency) (vertices : List ModuleVersion) (new : List Adjacency) : Type 0 where
   pub ranked : AreRanked vertices new
-  pub vertices_are : (x : Vertex) → Contains vertices x ↔ (IsEdgeEnd (among (edges_of vertices new)) x ⊎ Contains (sources_of modules old) (Of x))
+  pub vertices_are : (x : ModuleVersion) → Contains vertices x ↔ (IsEdgeEnd (among (edges_of vertices new)) x ⊎ Contains (sources_of modules old) (Of x))
   pub edges_are : HaveSame (edges_of modules old) (edges_of vertices new)
 
 -- `all`, `is_vertex` and `places` are what the calls were given: the lists, the marks and the ranks.
-pub is_graph_of : (modules : List Vertex) (marks is_vertex : List Bool) (vertices : List Vertex) (ranks places : List ℕ) (old all new : List Adjacency) → all ≡ old → is_vertex ≡ marks → places ≡ ranks
+pub is_graph_of : (modules : List ModuleVersion) (marks is_vertex : List Bool) (vertices : List ModuleVersion) (ranks places : List ℕ) (old all new : List Adjacency) → all ≡ old → is_vertex ≡ marks → places ≡ ranks
     → length marks ≡ length modules → ((number : ℕ) → HasMark marks number ↔ Contains (numbers_named all) number)
-    → ((x : Vertex) → Contains vertices x ↔ IsMarkedModule modules is_vertex x) → IsAscending pair_cmp vertices → AreRanks modules is_vertex vertices ranks
+    → ((x : ModuleVersion) → Contains vertices x ↔ IsMarkedModule modules is_vertex x) → IsAscending pair_cmp vertices → AreRanks modules is_vertex vertices ranks
     → AreByRanks places old new → IsDistinct (same_step modules) old → IsGraphOf modules old vertices new
 is_graph_of modules marks is_vertex vertices ranks places old all new lists_is marks_is ranks_is count are contains up are_ranks are_by once = record {
   ranked = lists_are_ranked modules marks vertices ranks ranked old new named by up once;
@@ -105,8 +105,8 @@ is_graph_of modules marks is_vertex vertices ranks places old all new lists_is m
     named_are : (number : ℕ) → HasMark marks number ↔ Contains (numbers_named old) number
     named_are = subst (λ (xs : List Adjacency). (number : ℕ) → HasMark marks number ↔ Contains (numbers_named xs) number) lists_is are
 
-    contains_marked : (x : Vertex) → Contains vertices x ↔ IsMarkedModule modules marks x
-    contains_marked = subst (λ (bs : List Bool). (x : Vertex) → Contains vertices x ↔ IsMarkedModule modules bs x) marks_is contains
+    contains_marked : (x : ModuleVersion) → Contains vertices x ↔ IsMarkedModule modules marks x
+    contains_marked = subst (λ (bs : List Bool). (x : ModuleVersion) → Contains vertices x ↔ IsMarkedModule modules bs x) marks_is contains
 
     ranked : AreRanks modules marks vertices ranks
     ranked = subst (λ (bs : List Bool). AreRanks modules bs vertices ranks) marks_is are_ranks

@@ -5,43 +5,39 @@ use Rattle.std.specs.List.Sorted.{IsPermutation, IsSortedByKey}
 use Rattle.std.specs.Option.{option_cmp, option_map}
 use Rattle.std.specs.Ordering.{nat_cmp}
 use Rattle.std.specs.declared.cmp.Ordering.TheVariants.{Less}
+use Rattle.gm_name.specs.ModuleVersion.{ModuleVersion, module_at, pair_cmp}
 use Rattle.gm_graph_select.specs.declared.adjacency.Adjacency.{Adjacency}
 use Rattle.gm_graph_select.specs.declared.step.Edge.{Edge}
 use Rattle.gm_graph_select.specs.declared.step.Step.{Step}
 use Rattle.gm_graph_select.specs.declared.step.Step.TheVariants.{Main, Of}
-use Rattle.gm_graph_select.specs.Graph.{Vertex, edge}
-use Rattle.gm_name.specs.PairOrder.{pair_cmp}
+use Rattle.gm_graph_select.specs.Graph.{edge}
 use Rattle.gm_graph_select.specs.Order.{HaveSame, IsAscending}
 use Rattle.gm_graph_select.specs.StepOrder.{step_eq}
 
--- the vertex with a number
-abbrev pub vertex_at : List Vertex → ℕ → Vertex
-vertex_at vertices number = slice_index_or vertices number ([], [])
-
 -- the step with a number: the main module has none
-abbrev pub step_with : List Vertex → Option ℕ → Step
+abbrev pub step_with : List ModuleVersion → Option ℕ → Step
 step_with vertices None = Main
-step_with vertices (Some number) = Of (vertex_at vertices number)
+step_with vertices (Some number) = Of (module_at vertices number)
 
 -- the step that an adjacency list leaves
-abbrev pub left_by : List Vertex → Adjacency → Step
+abbrev pub left_by : List ModuleVersion → Adjacency → Step
 left_by vertices one = step_with vertices one.from
 
 -- the steps that adjacency lists leave
-abbrev pub sources_of : List Vertex → List Adjacency → List Step
+abbrev pub sources_of : List ModuleVersion → List Adjacency → List Step
 sources_of vertices all = map (left_by vertices) all
 
 -- the edges of an adjacency list
-abbrev pub edges_from : List Vertex → Adjacency → List Edge
-edges_from vertices one = map (λ number. edge (left_by vertices one) (vertex_at vertices number)) one.to.items
+abbrev pub edges_from : List ModuleVersion → Adjacency → List Edge
+edges_from vertices one = map (λ number. edge (left_by vertices one) (module_at vertices number)) one.to.items
 
 -- the edges of all adjacency lists
-abbrev pub edges_of : List Vertex → List Adjacency → List Edge
+abbrev pub edges_of : List ModuleVersion → List Adjacency → List Edge
 edges_of vertices [] = []
 edges_of vertices (one ∷ all) = edges_from vertices one ++ edges_of vertices all
 
 -- Whether two adjacency lists leave the same step.
-abbrev pub same_step : List Vertex → Adjacency → Adjacency → Bool
+abbrev pub same_step : List ModuleVersion → Adjacency → Adjacency → Bool
 same_step vertices a b = step_eq (left_by vertices a) (left_by vertices b)
 
 -- A number, if there is one, is below this count.
@@ -82,7 +78,7 @@ LeavesLower a b = option_cmp nat_cmp a.from b.from ≡ Less
 
 -- The vertices are in strictly ascending order, and so are the steps that the lists leave and the vertices that each
 -- list leads to: numbers are ranks.
-pub record AreRanked (vertices : List Vertex) (all : List Adjacency) : Type 0 where
+pub record AreRanked (vertices : List ModuleVersion) (all : List Adjacency) : Type 0 where
   pub vertices_ascend : IsAscending pair_cmp vertices
   pub numbered : HaveNumbers (length vertices) all
   pub lists_ascend : AllPairs LeavesLower all
@@ -90,5 +86,5 @@ pub record AreRanked (vertices : List Vertex) (all : List Adjacency) : Type 0 wh
 
 -- a module graph, as contracts see it: its vertices, and its edges in strictly ascending order
 pub record GraphView : Type 0 where
-  pub vertices : List Vertex
+  pub vertices : List ModuleVersion
   pub edges : List Edge

@@ -6,13 +6,14 @@ use Rattle.std.specs.declared.cmp.Ordering.{Ordering}
 use Rattle.std.specs.Ordering.{is_gt, nat_cmp}
 use Rattle.std.specs.Cmp.Lexicographic.{slice_cmp}
 use Rattle.gm_name.specs.Version.{version_cmp}
+use Rattle.gm_name.specs.ModuleVersion.{ModuleVersion}
 use Rattle.gm_file.specs.Directives.{Replacing, Right}
 use Rattle.gm_file.specs.Fields.{replacement_of}
 use Rattle.gm_file.specs.Views.{right_view}
 use Rattle.gm_graph_select.specs.declared.step.Step.{Step}
 use Rattle.gm_graph_select.specs.declared.step.Step.TheVariants.{Main, Of}
 use Rattle.gm_graph_select.specs.declared.row.Row.{Row}
-use Rattle.gm_graph_select.specs.Graph.{Vertex, Edges, IsEdgeEnd}
+use Rattle.gm_graph_select.specs.Graph.{Edges, IsEdgeEnd}
 use Rattle.gm_graph_select.specs.Order.{IsAscending}
 
 -- a module of the build list, and its replacement
@@ -27,33 +28,33 @@ abbrev pub entries_of_rows : List Row → List Entry
 entries_of_rows rows = map entry_of_row rows
 
 -- The vertex has the greatest version of a path that is not the main module's.
-pub record IsSelected (main : List ℕ) (edges : Edges) (x : Vertex) : Type 0 where
+pub record IsSelected (main : List ℕ) (edges : Edges) (x : ModuleVersion) : Type 0 where
   pub not_main : x.0 ≢ main
   pub is_end : IsEdgeEnd edges x
-  pub greatest : (y : Vertex) → IsEdgeEnd edges y → y.0 ≡ x.0 → is_gt (version_cmp y.1 x.1) ≡ false
+  pub greatest : (y : ModuleVersion) → IsEdgeEnd edges y → y.0 ≡ x.0 → is_gt (version_cmp y.1 x.1) ≡ false
 
 -- the order of vertices by the bytes of their paths alone
-abbrev pub path_cmp : Vertex → Vertex → Ordering
+abbrev pub path_cmp : ModuleVersion → ModuleVersion → Ordering
 path_cmp x y = slice_cmp nat_cmp x.0 y.0
 
 -- the vertices that are selected, in strictly ascending order of the bytes of their paths
-pub record AreSelected (main : List ℕ) (edges : Edges) (selected : List Vertex) : Type 0 where
+pub record AreSelected (main : List ℕ) (edges : Edges) (selected : List ModuleVersion) : Type 0 where
   pub ascending : IsAscending path_cmp selected
-  pub each : (x : Vertex) → Contains selected x ↔ IsSelected main edges x
+  pub each : (x : ModuleVersion) → Contains selected x ↔ IsSelected main edges x
 
 abbrev pub main_entry : Entry
 main_entry = (Main, None)
 
-abbrev pub entry_of : List Replacing → Vertex → Entry
+abbrev pub entry_of : List Replacing → ModuleVersion → Entry
 entry_of replaces x = (Of x, replacement_of replaces x)
 
 -- The main module comes first, followed by the selected vertices in strictly ascending order of the bytes of their
 -- paths, each with its replacement.
 pub record IsBuildList (main : List ℕ) (replaces : List Replacing) (edges : Edges) (entries : List Entry) : Type 0 where
-  pub selected : List Vertex
+  pub selected : List ModuleVersion
   pub entries_are : entries ≡ main_entry ∷ map (entry_of replaces) selected
   pub ascending : IsAscending path_cmp selected
-  pub each : (x : Vertex) → Contains selected x ↔ IsSelected main edges x
+  pub each : (x : ModuleVersion) → Contains selected x ↔ IsSelected main edges x
 
 -- ---- entries by their path
 

@@ -1,14 +1,15 @@
 -- Levels of the module graph, and the chain by which the main module comes to require a vertex.
 use Rattle.std.specs.Prelude.{◌≡◌, ℕ, zero, suc, ◌≤◌, false, List, [], ◌∷◌, ◌++◌}
 use Rattle.std.specs.Ordering.{is_lt}
+use Rattle.gm_name.specs.ModuleVersion.{ModuleVersion}
 use Rattle.gm_graph_select.specs.declared.step.Step.{Step}
 use Rattle.gm_graph_select.specs.declared.step.Step.TheVariants.{Main, Of}
-use Rattle.gm_graph_select.specs.Graph.{Vertex, Edges, step_cmp}
+use Rattle.gm_graph_select.specs.Graph.{Edges, step_cmp}
 
 -- A path of n edges leads from the main module to the step.
 pub data Leads (edges : Edges) : Step → ℕ → Type 0 where
   at_main : Leads edges Main zero
-  along : {s : Step} {y : Vertex} {n : ℕ} → Leads edges s n → edges s y → Leads edges (Of y) (suc n)
+  along : {s : Step} {y : ModuleVersion} {n : ℕ} → Leads edges s n → edges s y → Leads edges (Of y) (suc n)
 
 -- the level: the least number of edges that lead from the main module to the step
 pub record IsLevel (edges : Edges) (s : Step) (n : ℕ) : Type 0 where
@@ -16,7 +17,7 @@ pub record IsLevel (edges : Edges) (s : Step) (n : ℕ) : Type 0 where
   pub least : (m : ℕ) → Leads edges s m → n ≤ m
 
 -- the predecessor: the least step that is one level nearer to the main module and has an edge to the vertex
-pub record IsPredecessor (edges : Edges) (s : Step) (y : Vertex) : Type 0 where
+pub record IsPredecessor (edges : Edges) (s : Step) (y : ModuleVersion) : Type 0 where
   pub is_edge : edges s y
   pub level : ℕ
   pub nearer : IsLevel edges s level
@@ -26,7 +27,7 @@ pub record IsPredecessor (edges : Edges) (s : Step) (y : Vertex) : Type 0 where
 -- the chain to a step: it begins with the main module, and each step is the predecessor of the next
 pub data IsChain (edges : Edges) : Step → List Step → Type 0 where
   begins : IsChain edges Main (Main ∷ [])
-  goes_on : {s : Step} {y : Vertex} {steps : List Step} → IsChain edges s steps → IsPredecessor edges s y
+  goes_on : {s : Step} {y : ModuleVersion} {steps : List Step} → IsChain edges s steps → IsPredecessor edges s y
       → IsChain edges (Of y) (steps ++ Of y ∷ [])
 
 -- Edges lead from the main module to the step.
@@ -35,4 +36,4 @@ IsReached edges s = (n : ℕ) × Leads edges s n
 
 -- Every edge leaves a step that edges lead to from the main module.
 abbrev pub IsRooted : Edges → Type 0
-IsRooted edges = (s : Step) (y : Vertex) → edges s y → IsReached edges s
+IsRooted edges = (s : Step) (y : ModuleVersion) → edges s y → IsReached edges s

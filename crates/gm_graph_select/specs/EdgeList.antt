@@ -2,13 +2,14 @@
 use Rattle.std.specs.Prelude.{◌<◌, ℕ, Option, None, Some, List, map}
 use Rattle.std.specs.Borrow.{Bor}
 use Rattle.std.specs.List.{flat_map}
+use Rattle.gm_name.specs.ModuleVersion.{ModuleVersion, module_at}
 use Rattle.gm_graph_select.specs.declared.adjacency.Adjacency.{Adjacency}
 use Rattle.gm_graph_select.specs.declared.edge_list.EdgeRef.{EdgeRef}
 use Rattle.gm_graph_select.specs.declared.step.Edge.{Edge}
 use Rattle.gm_graph_select.specs.declared.step.Step.{Step}
 use Rattle.gm_graph_select.specs.declared.step.Step.TheVariants.{Main, Of}
-use Rattle.gm_graph_select.specs.Adjacency.{IsBelow, step_with, vertex_at}
-use Rattle.gm_graph_select.specs.Graph.{Vertex, edge}
+use Rattle.gm_graph_select.specs.Adjacency.{IsBelow, step_with}
+use Rattle.gm_graph_select.specs.Graph.{edge}
 
 -- an edge by the numbers of its ends
 abbrev pub NumberedEdge : Type 0
@@ -20,8 +21,8 @@ numbered_from from to = map (λ number. (from, number)) to
 abbrev pub numbered_edges : List Adjacency → List NumberedEdge
 numbered_edges all = flat_map (λ one. numbered_from one.from one.to.items) all
 
-abbrev pub edge_with : List Vertex → NumberedEdge → Edge
-edge_with vertices pair = edge (step_with vertices pair.0) (vertex_at vertices pair.1)
+abbrev pub edge_with : List ModuleVersion → NumberedEdge → Edge
+edge_with vertices pair = edge (step_with vertices pair.0) (module_at vertices pair.1)
 
 -- Both numbers are below this count.
 abbrev pub AreEndsBelow : ℕ → NumberedEdge → Type 0
@@ -30,7 +31,7 @@ AreEndsBelow count pair = IsBelow count pair.0 × (pair.1 < count)
 -- ---- edges that are lent
 
 -- the step of a vertex that may be lent
-abbrev pub step_of_ref : Option (Bor Vertex) → Step
+abbrev pub step_of_ref : Option (Bor ModuleVersion) → Step
 step_of_ref None = Main
 step_of_ref (Some vertex) = Of vertex.now
 

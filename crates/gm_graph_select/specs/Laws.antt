@@ -2,11 +2,12 @@
 use Rattle.std.specs.Prelude.{◌≡◌, ◌≢◌, ◌<◌, ℕ, suc, false, List, [], ◌∷◌, ◌++◌, length, take, Option, Contains}
 use Rattle.std.specs.Ordering.{is_gt}
 use Rattle.gm_name.specs.Version.{version_cmp}
+use Rattle.gm_name.specs.ModuleVersion.{ModuleVersion}
 use Rattle.gm_file.specs.Directives.{Replacing, Right}
 use Rattle.gm_graph_select.specs.declared.step.Step.{Step}
 use Rattle.gm_graph_select.specs.declared.step.Step.TheVariants.{Main, Of}
 use Rattle.gm_graph_select.specs.declared.step.Edge.{Edge}
-use Rattle.gm_graph_select.specs.Graph.{Vertex, IsEdgeEnd, among}
+use Rattle.gm_graph_select.specs.Graph.{IsEdgeEnd, among}
 use Rattle.gm_graph_select.specs.BuildList.{Entry, IsBuildList, IsEntryOf, IsRestAfter, path_of}
 use Rattle.gm_graph_select.specs.Chains.{IsChain, IsLevel, IsReached, IsRooted}
 
@@ -14,15 +15,15 @@ use Rattle.gm_graph_select.specs.Chains.{IsChain, IsLevel, IsReached, IsRooted}
 abbrev pub RowsAreEnds : Type 0
 RowsAreEnds = (main : List ℕ) (replaces : List Replacing) (edges : List Edge) (entries : List Entry)
     → IsBuildList main replaces (among edges) entries
-    → (x : Vertex) (right : Option Right) → Contains entries (Of x, right) → IsEdgeEnd (among edges) x
+    → (x : ModuleVersion) (right : Option Right) → Contains entries (Of x, right) → IsEdgeEnd (among edges) x
 
 -- Each path other than the main module's that an edge leads to has a row, whose version is not below that of the
 -- edge.
 abbrev pub RowsSatisfy : Type 0
 RowsSatisfy = (main : List ℕ) (replaces : List Replacing) (edges : List Edge) (entries : List Entry)
     → IsBuildList main replaces (among edges) entries
-    → (y : Vertex) → IsEdgeEnd (among edges) y → y.0 ≢ main
-    → (x : Vertex) × (right : Option Right) × Contains entries (Of x, right) × (x.0 ≡ y.0)
+    → (y : ModuleVersion) → IsEdgeEnd (among edges) y → y.0 ≢ main
+    → (x : ModuleVersion) × (right : Option Right) × Contains entries (Of x, right) × (x.0 ≡ y.0)
     × (is_gt (version_cmp y.1 x.1) ≡ false)
 
 -- The edges have at most one build list.

@@ -1,12 +1,12 @@
 -- Numbers for the steps of a module graph: 0 for the main module, and for each vertex one more than its rank.
 use Rattle.std.specs.Prelude.{◌<◌, ◌+◌, ℕ, All, Contains, List, ◌∷◌, Option, None, Some, length, map, slice_index_or}
+use Rattle.gm_name.specs.ModuleVersion.{ModuleVersion, module_at, pair_cmp}
 use Rattle.gm_graph_select.specs.declared.adjacency.Adjacency.{Adjacency}
 use Rattle.gm_graph_select.specs.declared.step.Edge.{Edge}
 use Rattle.gm_graph_select.specs.declared.step.Step.{Step}
 use Rattle.gm_graph_select.specs.declared.step.Step.TheVariants.{Main, Of}
-use Rattle.gm_graph_select.specs.Adjacency.{GraphView, vertex_at}
-use Rattle.gm_graph_select.specs.Graph.{Vertex, Edges, among, edge}
-use Rattle.gm_name.specs.PairOrder.{pair_cmp}
+use Rattle.gm_graph_select.specs.Adjacency.{GraphView}
+use Rattle.gm_graph_select.specs.Graph.{Edges, among, edge}
 use Rattle.gm_graph_select.specs.Order.{IsAscending}
 
 -- the steps, by number
@@ -36,7 +36,7 @@ number_left one = number_with one.from
 
 -- the edge from the step with a number to the vertex with a rank
 abbrev pub edge_leaving : GraphView → ℕ → ℕ → Edge
-edge_leaving graph number rank = edge (step_at (steps_of graph) number) (vertex_at graph.vertices rank)
+edge_leaving graph number rank = edge (step_at (steps_of graph) number) (module_at graph.vertices rank)
 
 -- the edges from the step with a number to the vertices with these ranks
 abbrev pub edges_leaving : GraphView → ℕ → List ℕ → List Edge
@@ -46,5 +46,5 @@ edges_leaving graph number ranks = map (edge_leaving graph number) ranks
 pub record AreLeaving (graph : GraphView) (number : ℕ) (ranks : List ℕ) : Type 0 where
   pub within : All (λ rank. rank < length graph.vertices) ranks
   pub only : All (λ rank. Contains graph.edges (edge_leaving graph number rank)) ranks
-  pub all : (y : Vertex) → Contains graph.edges (edge (step_at (steps_of graph) number) y)
+  pub all : (y : ModuleVersion) → Contains graph.edges (edge (step_at (steps_of graph) number) y)
       → Contains (edges_leaving graph number ranks) (edge (step_at (steps_of graph) number) y)

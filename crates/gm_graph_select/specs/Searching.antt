@@ -1,13 +1,14 @@
 -- A breadth-first search for a vertex over the steps of a module graph.
 use Rattle.std.specs.Prelude.{◌≡◌, ◌≢◌, ◌↔◌, ◌<◌, ◌≤◌, ◌⊎◌, ◌+◌, ◌-◌, ℕ, suc, Bool, true, false, List, [], ◌∷◌, length, replicate, slice_index_or, slice_set, sum_by, Contains, if◌then◌else◌}
 use Rattle.std.specs.Ordering.{is_lt}
+use Rattle.gm_name.specs.ModuleVersion.{ModuleVersion}
 use Rattle.gm_graph_select.specs.declared.step.Step.{Step}
 use Rattle.gm_graph_select.specs.declared.step.Step.TheVariants.{Main, Of}
 use Rattle.gm_graph_select.specs.declared.step.Edge.{Edge}
 use Rattle.gm_graph_select.specs.declared.searching.Visit.{Visit}
 use Rattle.gm_graph_select.specs.declared.searching.Search.{Search}
 use Rattle.gm_graph_select.specs.Adjacency.{GraphView}
-use Rattle.gm_graph_select.specs.Graph.{Vertex, Edges, edge, step_cmp}
+use Rattle.gm_graph_select.specs.Graph.{Edges, edge, step_cmp}
 use Rattle.gm_graph_select.specs.Chains.{IsLevel, IsPredecessor, Leads}
 use Rattle.gm_graph_select.specs.Numbering.{graph_edges, step_at, steps_of}
 
@@ -27,7 +28,7 @@ visited steps visits place = step_at steps (visit_at visits place).number
 -- A visit is of the main module, or it names an earlier place, at which its step's predecessor was visited.
 abbrev pub IsTraced : Edges → List Step → List Visit → ℕ → Visit → Type 0
 IsTraced edges steps visits place visit = (step_at steps visit.number ≡ Main)
-    ⊎ ((y : Vertex) × (step_at steps visit.number ≡ Of y) × (visit.before < place)
+    ⊎ ((y : ModuleVersion) × (step_at steps visit.number ≡ Of y) × (visit.before < place)
     × IsPredecessor edges (visited steps visits visit.before) y)
 
 -- each of the visits
@@ -36,7 +37,7 @@ pub record AreTraced (edges : Edges) (steps : List Step) (visits : List Visit) :
   pub traced : (k : ℕ) → k < length visits → IsTraced edges steps visits k (visit_at visits k)
 
 -- The last visit is of the goal's predecessor.
-pub record IsTracedTo (graph : GraphView) (goal : Vertex) (visits : List Visit) : Type 0 where
+pub record IsTracedTo (graph : GraphView) (goal : ModuleVersion) (visits : List Visit) : Type 0 where
   pub each : AreTraced (graph_edges graph) (steps_of graph) visits
   pub some : 0 < length visits
   pub last : IsPredecessor (graph_edges graph) (visited (steps_of graph) visits (length visits - 1)) goal
@@ -74,7 +75,7 @@ flag (v ∷ due) = 1
 
 -- All steps up to a level were visited but those due, which are the steps of the level in ascending order. The steps
 -- found are exactly those up to the level, and the goal is none of these.
-pub record IsSearchedTo (graph : GraphView) (goal : Vertex) (level : ℕ) (state : State)
+pub record IsSearchedTo (graph : GraphView) (goal : ModuleVersion) (level : ℕ) (state : State)
     (due : List Visit) : Type 0 where
   pub size : length state.found ≡ length (steps_of graph)
   pub found : (i : ℕ) → i < length (steps_of graph)
@@ -94,7 +95,7 @@ pub record IsSearchedTo (graph : GraphView) (goal : Vertex) (level : ℕ) (state
 
 -- Some edges that leave steps of the level were followed, none of them to the goal: the steps found are those found
 -- before and those of the next level that these edges lead to.
-pub record IsFollowed (graph : GraphView) (goal : Vertex) (level : ℕ) (before : List Bool) (tried : List Edge)
+pub record IsFollowed (graph : GraphView) (goal : ModuleVersion) (level : ℕ) (before : List Bool) (tried : List Edge)
     (state : State) : Type 0 where
   pub size : length state.found ≡ length (steps_of graph)
   pub keeps : (i : ℕ) → is_found_at before i ≡ true → is_found_at state.found i ≡ true
@@ -117,13 +118,13 @@ pub record IsFollowed (graph : GraphView) (goal : Vertex) (level : ℕ) (before 
 -- the level were found.
 pub record IsTurn (graph : GraphView) (level : ℕ) (before : List Bool) (tried : List Edge) (s : Step) : Type 0 where
   pub on_level : IsLevel (graph_edges graph) s level
-  pub lower : (t : Step) (y : Vertex) → graph_edges graph t y → IsLevel (graph_edges graph) t level
+  pub lower : (t : Step) (y : ModuleVersion) → graph_edges graph t y → IsLevel (graph_edges graph) t level
       → is_lt (step_cmp t s) ≡ true → Contains tried (edge t y)
   pub full : (i : ℕ) → i < length (steps_of graph)
       → IsWithin (graph_edges graph) level (step_at (steps_of graph) i) → is_found_at before i ≡ true
 
 -- The visit comes next, after those whose edges were followed.
-pub record IsVisitedNext (graph : GraphView) (goal : Vertex) (level : ℕ) (before : List Bool) (tried : List Edge)
+pub record IsVisitedNext (graph : GraphView) (goal : ModuleVersion) (level : ℕ) (before : List Bool) (tried : List Edge)
     (state : State) (visit : Visit) : Type 0 where
   pub turn : IsTurn graph level before tried (step_at (steps_of graph) visit.number)
   pub far : IsWithin (graph_edges graph) level (Of goal) → ⊥
@@ -132,6 +133,6 @@ pub record IsVisitedNext (graph : GraphView) (goal : Vertex) (level : ℕ) (befo
 
 -- The edges that were followed include those that leave the visited steps.
 abbrev pub AreTried : GraphView → List Visit → List Edge → Type 0
-AreTried graph visits tried = (v : Visit) → Contains visits v → (y : Vertex)
+AreTried graph visits tried = (v : Visit) → Contains visits v → (y : ModuleVersion)
     → graph_edges graph (step_at (steps_of graph) v.number) y
     → Contains tried (edge (step_at (steps_of graph) v.number) y)

@@ -4,7 +4,7 @@
 //! predecessors of a vertex the least is taken, so the chain doesn't depend on the order in which files were read.
 
 ghost use Rattle.std.specs.Prelude.{◌≡◌, ◌++◌, ◌∷◌, ◌<◌, [], IfNone, IfOk, IfSome, IsErrOf, OnOk, length};
-ghost use Rattle.gm_graph_select.specs.Adjacency.{vertex_at};
+ghost use Rattle.gm_name.specs.ModuleVersion.{module_at};
 ghost use Rattle.gm_graph_select.specs.Graph.{among};
 ghost use Rattle.gm_graph_select.specs.BuildList.{IsEntryOf, HasEntryFor, entries_of_rows};
 ghost use Rattle.gm_graph_select.specs.Chains.{IsChain, IsReached};
@@ -70,9 +70,9 @@ fn walk_back(
     goal: usize,
 ) -> Result<Vec<Step>, AllocError>
     requires goal { goal < length graph.now.vertices }
-    requires traced { IsTracedTo graph.now (vertex_at graph.now.vertices goal) visits.now }
+    requires traced { IsTracedTo graph.now (module_at graph.now.vertices goal) visits.now }
     ensures { IfOk result (λ steps.
-        IsChain (graph_edges graph.now) (Of (vertex_at graph.now.vertices goal)) steps.items) }
+        IsChain (graph_edges graph.now) (Of (module_at graph.now.vertices goal)) steps.items) }
 {
     let mut steps = Vec::new(alloc);
     push_step(alloc, &mut steps, graph.vertex(goal))?;
@@ -91,9 +91,9 @@ fn chain_over(alloc: Global, graph: &Graph, goal: usize) -> Result<Option<Vec<St
     requires graph { IsGraph graph.now }
     requires goal { goal < length graph.now.vertices }
     ensures chain { IfOk result (λ chain. IfSome chain (λ steps.
-        IsChain (graph_edges graph.now) (Of (vertex_at graph.now.vertices goal)) steps.items)) }
+        IsChain (graph_edges graph.now) (Of (module_at graph.now.vertices goal)) steps.items)) }
     ensures none { IfOk result (λ chain. IfNone chain
-        (¬ (IsReached (graph_edges graph.now) (Of (vertex_at graph.now.vertices goal))))) }
+        (¬ (IsReached (graph_edges graph.now) (Of (module_at graph.now.vertices goal))))) }
 {
     let Some(visits) = visits_to(alloc, graph, goal)? else {
         return Ok(None);

@@ -5,11 +5,11 @@
 
 ghost use Rattle.std.specs.Prelude.{◌≡◌, ◌↔◌, ◌⊎◌, ◌≤◌, Contains, IfOk, length};
 ghost use Rattle.std.specs.List.{IsDistinct};
-ghost use Rattle.gm_name.specs.PairOrder.{pair_eq};
+ghost use Rattle.gm_name.specs.ModuleVersion.{ModuleVersion, pair_eq};
 ghost use Rattle.gm_graph_select.specs.Adjacency.{HaveNumbers, edges_of, same_step, sources_of};
 ghost use Rattle.gm_graph_select.specs.declared.step.Step.TheVariants.{Of};
 ghost use Rattle.gm_graph_select.specs.BuildList.{AreSelected};
-ghost use Rattle.gm_graph_select.specs.Graph.{AreEnds, IsEdgeEnd, Vertex, among, edge_cmp};
+ghost use Rattle.gm_graph_select.specs.Graph.{AreEnds, IsEdgeEnd, among, edge_cmp};
 ghost use Rattle.gm_graph_select.specs.Order.{HaveSame, IsAscending};
 
 use crate::adjacency::{Adjacency, by_ranks};
@@ -56,7 +56,7 @@ impl Graph {
         requires distinct { IsDistinct pair_eq modules.items }
         requires numbered { HaveNumbers (length modules.items) adjacency.items }
         requires once { IsDistinct (same_step modules.items) adjacency.items }
-        ensures vertices { IfOk result (λ graph. (x : Vertex) → Contains graph.vertices x
+        ensures vertices { IfOk result (λ graph. (x : ModuleVersion) → Contains graph.vertices x
             ↔ (IsEdgeEnd (among graph.edges) x ⊎ Contains (sources_of modules.items adjacency.items) (Of x))) }
         ensures edges { IfOk result (λ graph. HaveSame (edges_of modules.items adjacency.items) graph.edges) }
         ensures ascending { IfOk result (λ graph. IsAscending edge_cmp graph.edges) }

@@ -3,8 +3,8 @@
 //! A search goes over each edge once. By numbers it compares no texts there, and needs no map.
 
 ghost use Rattle.std.specs.Prelude.{◌≡◌, ◌<◌, Contains, IfNone, IfSome, length};
+ghost use Rattle.gm_name.specs.ModuleVersion.{module_at};
 ghost use Rattle.gm_graph_select.specs.declared.step.Step.TheVariants.{Main, Of};
-ghost use Rattle.gm_graph_select.specs.Adjacency.{vertex_at};
 ghost use Rattle.gm_graph_select.specs.Numbering.{AreLeaving, IsGraph, number_left, step_at, steps_of};
 
 use crate::adjacency::Adjacency;
@@ -32,7 +32,7 @@ impl Graph {
     /// The vertex with this rank.
     pub(crate) fn vertex(&self, rank: usize) -> &ModVer
         requires { rank < length self.now.vertices }
-        ensures { result.now ≡ vertex_at self.now.vertices rank }
+        ensures { result.now ≡ module_at self.now.vertices rank }
     {
         &self.vertices[rank]
     }
@@ -53,7 +53,7 @@ impl Graph {
     pub(crate) fn rank_of(&self, vertex: &ModVer) -> Option<usize>
         ensures graph { IsGraph self.now }
         ensures some { IfSome result (λ rank.
-            (rank < length self.now.vertices) × (vertex_at self.now.vertices rank ≡ vertex.now)) }
+            (rank < length self.now.vertices) × (module_at self.now.vertices rank ≡ vertex.now)) }
         ensures none { IfNone result (Contains self.now.vertices vertex.now → ⊥) }
     {
         match self.vertices.binary_search(vertex) {

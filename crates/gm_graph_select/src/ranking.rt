@@ -2,8 +2,7 @@
 
 ghost use Rattle.std.specs.Prelude.{◌≡◌, ◌↔◌, ◌<◌, ◌≤◌, ◌++◌, ◌∷◌, [], All, Contains, IfOk, OnOk, if◌then◌else◌, length, map, slice_set};
 ghost use Rattle.std.specs.List.{IsDistinct};
-ghost use Rattle.gm_name.specs.PairOrder.{pair_cmp, pair_eq};
-ghost use Rattle.gm_graph_select.specs.Graph.{Vertex};
+ghost use Rattle.gm_name.specs.ModuleVersion.{ModuleVersion, pair_cmp, pair_eq};
 ghost use Rattle.gm_graph_select.specs.Order.{IsAscending};
 ghost use Rattle.gm_graph_select.specs.Ranking.{AreMarkedModules, AreRanks, HaveOneVertexEach, IsMarkedModule, IsRanked};
 
@@ -108,7 +107,7 @@ pub(crate) fn ranked(
     requires few { length modules.items ≤ 4294967295 }
     requires distinct { IsDistinct pair_eq modules.items }
     requires marks { length is_vertex.now ≡ length modules.items }
-    ensures vertices { IfOk result (λ ranking. (x : Vertex) → Contains ranking.vertices.items x
+    ensures vertices { IfOk result (λ ranking. (x : ModuleVersion) → Contains ranking.vertices.items x
         ↔ IsMarkedModule modules.items is_vertex.now x) }
     ensures ascending { IfOk result (λ ranking. IsAscending pair_cmp ranking.vertices.items) }
     ensures ranks { IfOk result (λ ranking.

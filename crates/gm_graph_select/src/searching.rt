@@ -5,10 +5,10 @@
 //! main module. The search ends at the first edge that leads to the goal.
 
 ghost use Rattle.std.specs.Prelude.{◌≡◌, ◌≢◌, ◌↔◌, ◌<◌, ◌++◌, ◌∷◌, [], false, true, ℕ, Bool, Contains, IfNone, IfOk, IfSome, List, OnOk, length};
+ghost use Rattle.gm_name.specs.ModuleVersion.{ModuleVersion, module_at};
 ghost use Rattle.gm_graph_select.specs.declared.step.Edge.{Edge};
 ghost use Rattle.gm_graph_select.specs.declared.step.Step.TheVariants.{Of};
-ghost use Rattle.gm_graph_select.specs.Adjacency.{GraphView, vertex_at};
-ghost use Rattle.gm_graph_select.specs.Graph.{Vertex};
+ghost use Rattle.gm_graph_select.specs.Adjacency.{GraphView};
 ghost use Rattle.gm_graph_select.specs.Order.{HaveSame};
 ghost use Rattle.gm_graph_select.specs.Chains.{IsReached};
 ghost use Rattle.gm_graph_select.specs.Numbering.{IsGraph, graph_edges, step_at, steps_of};
@@ -46,7 +46,7 @@ impl Search {
         requires { number < length self.old.is_found.items }
         ensures size { length self.new.is_found.items ≡ length self.old.is_found.items }
         ensures visits { self.new.visits ≡ self.old.visits }
-        ensures followed { OnOk result ((graph : GraphView) (goal : Vertex) (level : ℕ) (found : List Bool)
+        ensures followed { OnOk result ((graph : GraphView) (goal : ModuleVersion) (level : ℕ) (found : List Bool)
             (tried : List Edge) (e : Edge) → IsGraph graph → length self.old.is_found.items ≡ length (steps_of graph)
             → IsTurn graph level found tried e.from → visited (steps_of graph) self.old.visits.items before ≡ e.from
             → before < length self.old.visits.items → step_at (steps_of graph) number ≡ Of e.to
@@ -72,11 +72,11 @@ impl Search {
         ensures size { length self.new.is_found.items ≡ length (steps_of graph.now) }
         ensures visits { OnOk result (self.new.visits.items ≡ self.old.visits.items ++ visit ∷ []) }
         ensures found { IfOk result (λ is_goal. is_goal ≡ true → (level : ℕ) (found : List Bool) (tried : List Edge)
-            → IsVisitedNext graph.now (vertex_at graph.now.vertices goal) level found tried (state_of self.old) visit
-            → IsTracedTo graph.now (vertex_at graph.now.vertices goal) self.new.visits.items) }
+            → IsVisitedNext graph.now (module_at graph.now.vertices goal) level found tried (state_of self.old) visit
+            → IsTracedTo graph.now (module_at graph.now.vertices goal) self.new.visits.items) }
         ensures missed { IfOk result (λ is_goal. is_goal ≡ false → (level : ℕ) (found : List Bool) (tried : List Edge)
-            → IsVisitedNext graph.now (vertex_at graph.now.vertices goal) level found tried (state_of self.old) visit
-            → (more : List Edge) × IsFollowed graph.now (vertex_at graph.now.vertices goal) level found (tried ++ more)
+            → IsVisitedNext graph.now (module_at graph.now.vertices goal) level found tried (state_of self.old) visit
+            → (more : List Edge) × IsFollowed graph.now (module_at graph.now.vertices goal) level found (tried ++ more)
             (state_of self.new) × AreTried graph.now (visit ∷ []) more) }
     {
         let before = self.visits.len();
@@ -97,13 +97,13 @@ impl Search {
         requires graph { IsGraph graph.now }
         requires goal { goal < length graph.now.vertices }
         requires searched { (level : ℕ)
-            × IsSearchedTo graph.now (vertex_at graph.now.vertices goal) level (state_of self.old) due.now }
+            × IsSearchedTo graph.now (module_at graph.now.vertices goal) level (state_of self.old) due.now }
         ensures found { IfOk result (λ is_goal. is_goal ≡ true
-            → IsTracedTo graph.now (vertex_at graph.now.vertices goal) self.new.visits.items) }
+            → IsTracedTo graph.now (module_at graph.now.vertices goal) self.new.visits.items) }
         ensures missed { IfOk result (λ is_goal. is_goal ≡ false → (level : ℕ)
-            → IsSearchedTo graph.now (vertex_at graph.now.vertices goal) level (state_of self.old) due.now
+            → IsSearchedTo graph.now (module_at graph.now.vertices goal) level (state_of self.old) due.now
             → (tried : List Edge) × AreTried graph.now due.now tried
-            × IsFollowed graph.now (vertex_at graph.now.vertices goal) level self.old.is_found.items tried
+            × IsFollowed graph.now (module_at graph.now.vertices goal) level self.old.is_found.items tried
             (state_of self.new)) }
     {
         for visit in due {
@@ -139,11 +139,11 @@ impl Search {
         requires graph { IsGraph graph.now }
         requires goal { goal < length graph.now.vertices }
         requires searched { (level : ℕ)
-            × IsSearchedTo graph.now (vertex_at graph.now.vertices goal) level (state_of self.old) first.items }
+            × IsSearchedTo graph.now (module_at graph.now.vertices goal) level (state_of self.old) first.items }
         ensures found { IfOk result (λ is_goal. is_goal ≡ true
-            → IsTracedTo graph.now (vertex_at graph.now.vertices goal) self.new.visits.items) }
+            → IsTracedTo graph.now (module_at graph.now.vertices goal) self.new.visits.items) }
         ensures missed { IfOk result (λ is_goal. is_goal ≡ false
-            → IsReached (graph_edges graph.now) (Of (vertex_at graph.now.vertices goal)) → ⊥) }
+            → IsReached (graph_edges graph.now) (Of (module_at graph.now.vertices goal)) → ⊥) }
     {
         let mut due = first;
         'levels: while !due.is_empty() {
@@ -191,9 +191,9 @@ pub(crate) fn visits_to(
     requires graph { IsGraph graph.now }
     requires goal { goal < length graph.now.vertices }
     ensures found { IfOk result (λ visits. IfSome visits (λ visits.
-        IsTracedTo graph.now (vertex_at graph.now.vertices goal) visits.items)) }
+        IsTracedTo graph.now (module_at graph.now.vertices goal) visits.items)) }
     ensures none { IfOk result (λ visits. IfNone visits
-        (IsReached (graph_edges graph.now) (Of (vertex_at graph.now.vertices goal)) → ⊥)) }
+        (IsReached (graph_edges graph.now) (Of (module_at graph.now.vertices goal)) → ⊥)) }
 {
     let first = first_visits(alloc)?;
     let mut search = first_search(alloc, graph)?;

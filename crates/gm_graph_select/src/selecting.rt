@@ -5,10 +5,10 @@
 
 ghost use Rattle.std.specs.Prelude.{◌≡◌, ◌∷◌, [], IfNone, IfSome, List};
 ghost use Rattle.std.specs.Iterator.{YieldsFirstRef, item_count};
+ghost use Rattle.gm_name.specs.ModuleVersion.{pair_cmp};
 ghost use Rattle.gm_graph_select.specs.declared.step.Edge.{Edge};
 ghost use Rattle.gm_graph_select.specs.BuildList.{AreSelected};
 ghost use Rattle.gm_graph_select.specs.Graph.{AreEnds, among};
-ghost use Rattle.gm_name.specs.PairOrder.{pair_cmp};
 ghost use Rattle.gm_graph_select.specs.Greatest.{first_has_path, greatest_of, is_selected};
 ghost use Rattle.gm_graph_select.specs.Order.{IsAscending};
 
@@ -60,10 +60,10 @@ pub struct Selection<'a> {
 
 impl<'a> Model for Selection<'a> {
     ghost use Rattle.std.specs.Prelude.{List};
-    ghost use Rattle.gm_graph_select.specs.Graph.{Vertex};
+    ghost use Rattle.gm_name.specs.ModuleVersion.{ModuleVersion};
     ghost use Rattle.gm_graph_select.specs.Greatest.{greatest_of};
 
-    ghost Value = { List Vertex };
+    ghost Value = { List ModuleVersion };
 
     ghost view = { λ s. greatest_of s.main.now s.rest.now };
 }

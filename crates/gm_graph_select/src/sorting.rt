@@ -3,8 +3,8 @@
 //! The graph's lists are stated as strictly ascending, so that equal graphs have equal lists.
 
 ghost use Rattle.std.specs.Prelude.{◌≡◌, false, true};
+ghost use Rattle.gm_name.specs.ModuleVersion.{pair_cmp};
 ghost use Rattle.gm_graph_select.specs.Graph.{edge_cmp};
-ghost use Rattle.gm_name.specs.PairOrder.{pair_cmp};
 ghost use Rattle.gm_graph_select.specs.Order.{TiesAreEqual, HaveSame, IsAscending};
 
 use crate::step::Edge;

@@ -1,7 +1,8 @@
 -- What a contract sees of known names: how many are kept, how many may be, and which path is expected.
 use Rattle.std.specs.Prelude.{◌≡◌, ◌≤◌, ℕ, List, Option, None}
 
--- for how many names of each kind there is room, how many paths and versions are kept, and the text of the expected path
+-- for how many names of each kind there is room, how many paths and versions are kept, and the text of the expected
+-- path
 pub record KeptCounts : Type 0 where
   pub room : ℕ
   pub paths : ℕ

@@ -17,4 +17,4 @@ pub mod Readings
 pub mod Tail
 pub mod Version
 pub mod VersionOrder
-pub mod PairOrder
+pub mod ModuleVersion

@@ -3,8 +3,8 @@ use Rattle.std.specs.Prelude.{ℕ, ◌==◌, ◌||◌, nat_lt, Bool, List, drop,
 use Rattle.std.specs.List.{before_first, filter, prefix_len, slice_split}
 
 -- space, tab or CR
-abbrev pub is_blank : ℕ → Bool
-is_blank b = b == 32 || b == 9 || b == 13
+abbrev pub is_blank_byte : ℕ → Bool
+is_blank_byte b = b == 32 || b == 9 || b == 13
 
 -- LF
 abbrev pub is_line_end : ℕ → Bool
@@ -16,12 +16,12 @@ lines text = slice_split is_line_end text
 
 -- a line without the blanks at its start
 abbrev pub after_blanks : List ℕ → List ℕ
-after_blanks line = drop (prefix_len is_blank line) line
+after_blanks line = drop (prefix_len is_blank_byte line) line
 
 -- the first word of a line: its first run of bytes that aren't blanks, or the empty list if there is none
 abbrev pub first_word : List ℕ → List ℕ
-first_word line = before_first is_blank (after_blanks line)
+first_word line = before_first is_blank_byte (after_blanks line)
 
 -- the fields of a line: all its words, in order
 abbrev pub fields : List ℕ → List (List ℕ)
-fields line = filter (λ word. nat_lt 0 (length word)) (slice_split is_blank line)
+fields line = filter (λ word. nat_lt 0 (length word)) (slice_split is_blank_byte line)

@@ -6,29 +6,31 @@
 ghost use Rattle.std.specs.Prelude.{◌≡◌, ◌≤◌, length};
 ghost use Rattle.std.specs.List.{position_or_len, prefix_len};
 ghost use Rattle.gm_name.specs.Cuts.{IsCut, prepend_word};
-ghost use Rattle.gm_name.specs.Lines.{after_blanks, fields, first_word, is_blank};
+ghost use Rattle.gm_name.specs.Lines.{after_blanks, fields, first_word, is_blank_byte};
 
 /// Whether a byte is a blank: a space, a tab or a CR.
-fn is_blank(byte: u8) -> bool
-    ensures { result ≡ is_blank byte }
+fn is_blank_byte(byte: u8) -> bool
+    ensures { result ≡ is_blank_byte byte }
 {
     byte == b' ' || byte == b'\t' || byte == b'\r'
 }
 
 /// The number of blanks at the start of a line.
 fn leading_blanks(line: &[u8]) -> usize
-    ensures count { result ≡ prefix_len is_blank line.now }
+    ensures count { result ≡ prefix_len is_blank_byte line.now }
     ensures within { result ≤ length line.now }
 {
-    line.iter().take_while(|byte| is_blank(**byte)).count()
+    line.iter().take_while(|byte| is_blank_byte(**byte)).count()
 }
 
 /// The number of bytes before the first blank, or the line's length if it has none.
 fn bytes_before_blank(line: &[u8]) -> usize
-    ensures count { result ≡ position_or_len is_blank line.now }
+    ensures count { result ≡ position_or_len is_blank_byte line.now }
     ensures within { result ≤ length line.now }
 {
-    line.iter().take_while(|byte| !is_blank(**byte)).count()
+    line.iter()
+        .take_while(|byte| !is_blank_byte(**byte))
+        .count()
 }
 
 /// The line without the blanks at its start.

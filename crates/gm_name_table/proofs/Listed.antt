@@ -4,38 +4,39 @@ use Rattle.std.specs.Prelude.{slice_get}
 use Rattle.std.proofs.lemmas.List.{drop-map, get_or_append_left, length-append, map_push, take-map}
 use Rattle.std.proofs.lemmas.List.Elements.{All-head, All-push, All-tail, All-weaker}
 use Rattle.std.proofs.lemmas.Option.{get_or_from_slice_get, slice_get_within}
-use Rattle.gm_name_table.specs.Listed.{Appends, AreModuleNumbers, BeginsWith, NumberedList, listed, module_at, modules_at, part}
-use Rattle.gm_name_table.specs.Lists.{IsOneMoreAtMost, Pair}
+use Rattle.gm_name.specs.ModuleVersion.{ModuleVersion, module_at}
+use Rattle.gm_name_table.specs.Listed.{Appends, AreModuleNumbers, BeginsWith, NumberedList, listed, modules_at, part}
+use Rattle.gm_name_table.specs.Lists.{IsOneMoreAtMost}
 
 -- A table that has one module more at most begins as it was.
-pub begins_as : (old new : List Pair) (pair : Pair) → IsOneMoreAtMost old new pair → BeginsWith old new
+pub begins_as : (old new : List ModuleVersion) (pair : ModuleVersion) → IsOneMoreAtMost old new pair → BeginsWith old new
 begins_as old new pair (inl same) = ([], same ∙ sym (append-nil old))
 begins_as old new pair (inr more) = (pair ∷ [], more)
 
 -- The modules with the numbers of a table are what they were, if the table begins as it was.
-pub same_modules : (old new : List Pair) (numbers : List ℕ) → BeginsWith old new → AreModuleNumbers old numbers
+pub same_modules : (old new : List ModuleVersion) (numbers : List ℕ) → BeginsWith old new → AreModuleNumbers old numbers
     → modules_at new numbers ≡ modules_at old numbers
 same_modules old new numbers begins are =
-    ap (λ (modules : List Pair). modules_at modules numbers) begins.1 ∙ each numbers are
+    ap (λ (modules : List ModuleVersion). modules_at modules numbers) begins.1 ∙ each numbers are
   where
     each : (ns : List ℕ) → AreModuleNumbers old ns → modules_at (old ++ begins.0) ns ≡ modules_at old ns
     each [] below = refl
     each (n ∷ ns) below =
-        ap (λ (rest : List Pair). module_at (old ++ begins.0) n ∷ rest)
+        ap (λ (rest : List ModuleVersion). module_at (old ++ begins.0) n ∷ rest)
         (each ns (All-tail (λ number. number < length old) n ns below))
-        ∙ ap (λ (first : Pair). first ∷ modules_at old ns)
+        ∙ ap (λ (first : ModuleVersion). first ∷ modules_at old ns)
         (get_or_append_left old begins.0 ([], []) n (All-head (λ number. number < length old) n ns below))
 
 -- They are numbers of the table still.
-pub still_numbers : (old new : List Pair) (numbers : List ℕ) → BeginsWith old new → AreModuleNumbers old numbers
+pub still_numbers : (old new : List ModuleVersion) (numbers : List ℕ) → BeginsWith old new → AreModuleNumbers old numbers
     → AreModuleNumbers new numbers
 still_numbers old new numbers begins are =
-    subst (λ (modules : List Pair). AreModuleNumbers modules numbers) (sym begins.1)
+    subst (λ (modules : List ModuleVersion). AreModuleNumbers modules numbers) (sym begins.1)
     (All-weaker (λ number. number < length old) (λ number. number < length (old ++ begins.0))
     (λ number below. omega (arith, below, length-append old begins.0)) numbers are)
 
 -- The number of a module was put to the end of the numbers.
-pub pushed : {was old : NumberedList} (new : List Pair) (pair : Pair) (numbers : List ℕ) (number : ℕ) → was ≡ old
+pub pushed : {was old : NumberedList} (new : List ModuleVersion) (pair : ModuleVersion) (numbers : List ℕ) (number : ℕ) → was ≡ old
     → IsOneMoreAtMost was.modules new pair → AreModuleNumbers was.modules was.numbers
     → slice_get new number ≡ Some pair → numbers ≡ was.numbers ++ number ∷ []
     → Appends old (record { modules = new; numbers = numbers }) (pair ∷ [])
@@ -46,14 +47,14 @@ pushed {was} new pair numbers number is_old only are there more =
       kept = (number ∷ [], more);
       listed = ap (λ (ns : List ℕ). modules_at new ns) more
           ∙ map_push (module_at new) was.numbers number
-          ∙ ap (λ (last : Pair). modules_at new was.numbers ++ last ∷ [])
+          ∙ ap (λ (last : ModuleVersion). modules_at new was.numbers ++ last ∷ [])
           (get_or_from_slice_get new number pair ([], []) there)
-          ∙ ap (λ (list : List Pair). list ++ pair ∷ [])
+          ∙ ap (λ (list : List ModuleVersion). list ++ pair ∷ [])
           (same_modules was.modules new was.numbers (begins_as was.modules new pair only) are);
     })
 
 -- The numbers are what they were.
-pub not_pushed : {was old : NumberedList} (new : List Pair) (pair : Pair) (numbers : List ℕ) → was ≡ old
+pub not_pushed : {was old : NumberedList} (new : List ModuleVersion) (pair : ModuleVersion) (numbers : List ℕ) → was ≡ old
     → IsOneMoreAtMost was.modules new pair → AreModuleNumbers was.modules was.numbers → numbers ≡ was.numbers
     → Appends old (record { modules = new; numbers = numbers }) []
 not_pushed {was} new pair numbers is_old only are same =
@@ -66,16 +67,16 @@ not_pushed {was} new pair numbers is_old only are same =
           ∙ sym (append-nil (listed was));
     })
 
-pub pushed_numbers : (modules : List Pair) (pair : Pair) (numbers : List ℕ) (number : ℕ)
+pub pushed_numbers : (modules : List ModuleVersion) (pair : ModuleVersion) (numbers : List ℕ) (number : ℕ)
     → slice_get modules number ≡ Some pair → AreModuleNumbers modules numbers → AreModuleNumbers modules (numbers ++ number ∷ [])
 pushed_numbers modules pair numbers number there are =
     All-push (λ n. n < length modules) numbers number are (slice_get_within modules number pair there)
 
 -- The part of the modules is that of their numbers.
-pub part_as : (modules table : List Pair) (numbers all : List ℕ) (start end : ℕ) → modules ≡ table → numbers ≡ all
+pub part_as : (modules table : List ModuleVersion) (numbers all : List ℕ) (start end : ℕ) → modules ≡ table → numbers ≡ all
     → modules_at modules (take (end - start) (drop start numbers)) ≡ part start end (modules_at table all)
 part_as modules table numbers all start end same_table same_numbers =
-    ap (λ (ms : List Pair). modules_at ms (take (end - start) (drop start numbers))) same_table
+    ap (λ (ms : List ModuleVersion). modules_at ms (take (end - start) (drop start numbers))) same_table
     ∙ ap (λ (ns : List ℕ). modules_at table (take (end - start) (drop start ns))) same_numbers
     ∙ sym (take-map (module_at table) (end - start) (drop start all))
-    ∙ ap (λ (rest : List Pair). take (end - start) rest) (sym (drop-map (module_at table) start all))
+    ∙ ap (λ (rest : List ModuleVersion). take (end - start) rest) (sym (drop-map (module_at table) start all))

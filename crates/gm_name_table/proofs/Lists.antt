@@ -3,22 +3,21 @@ use Rattle.std.proofs.Common.{◌≡◌, ◌∙◌, ◌||◌, ℕ, zero, suc, Bo
 use Rattle.std.specs.Prelude.{◌⊎◌, slice_get}
 use Rattle.std.specs.List.{IsDistinct, list_any}
 use Rattle.std.proofs.lemmas.Map.Keys.{IsDistinct-push}
-use Rattle.gm_name.specs.PairOrder.{pair_eq}
-use Rattle.gm_name_table.specs.Lists.{IsAbsent, Pair}
-use Rattle.gm_name_table.proofs.Pairs.{pair-eq, pairs-equivalence}
+use Rattle.gm_name.specs.ModuleVersion.{ModuleVersion, pair_eq, pair_eq-Decides, pairs-equivalence}
+use Rattle.gm_name_table.specs.Lists.{IsAbsent}
 
 -- What stands in a list with one more module: it at the end, and the others where they were.
-pub last : (pairs : List Pair) (pair : Pair) → slice_get (pairs ++ pair ∷ []) (length pairs) ≡ Some pair
+pub last : (pairs : List ModuleVersion) (pair : ModuleVersion) → slice_get (pairs ++ pair ∷ []) (length pairs) ≡ Some pair
 last [] pair = refl
 last (first ∷ pairs) pair = last pairs pair
 
-pub kept : (pairs : List Pair) (pair other : Pair) (i : ℕ) → slice_get pairs i ≡ Some other
+pub kept : (pairs : List ModuleVersion) (pair other : ModuleVersion) (i : ℕ) → slice_get pairs i ≡ Some other
     → slice_get (pairs ++ pair ∷ []) i ≡ Some other
 kept [] pair other i e = absurd (cc e)
 kept (first ∷ pairs) pair other zero e = e
 kept (first ∷ pairs) pair other (suc i) e = kept pairs pair other i e
 
-pub old-or-last : (pairs : List Pair) (pair other : Pair) (i : ℕ) → slice_get (pairs ++ pair ∷ []) i ≡ Some other
+pub old-or-last : (pairs : List ModuleVersion) (pair other : ModuleVersion) (i : ℕ) → slice_get (pairs ++ pair ∷ []) i ≡ Some other
     → (slice_get pairs i ≡ Some other) ⊎ ((i ≡ length pairs) × (pair ≡ other))
 old-or-last [] pair other zero e = inr (refl, cc e)
 old-or-last [] pair other (suc i) e = absurd (cc e)
@@ -27,21 +26,21 @@ old-or-last (first ∷ pairs) pair other (suc i) e =
     elim (old-or-last pairs pair other i e) [ inl old ↦ inl old | inr end ↦ inr (ap suc end.0, end.1) ]
 
 -- No module of a list is equal to one that stands nowhere in it.
-none-equal : (pairs : List Pair) (pair : Pair) → IsAbsent pairs pair → list_any (pair_eq pair) pairs ≡ false
+none-equal : (pairs : List ModuleVersion) (pair : ModuleVersion) → IsAbsent pairs pair → list_any (pair_eq pair) pairs ≡ false
 none-equal [] pair absent = refl
 none-equal (first ∷ pairs) pair absent =
     by-test (pair_eq pair first) refl (none-equal pairs pair (λ i there. absent (suc i) there))
   where
     by-test : (b : Bool) → pair_eq pair first ≡ b → list_any (pair_eq pair) pairs ≡ false
         → (pair_eq pair first || list_any (pair_eq pair) pairs) ≡ false
-    by-test true e none = absurd (absent 0 (ap (λ (p : Pair). Some p) (sym ((pair-eq pair first).0 e))))
+    by-test true e none = absurd (absent 0 (ap (λ (p : ModuleVersion). Some p) (sym ((pair_eq-Decides pair first).0 e))))
     by-test false e none = ap (λ (b : Bool). b || list_any (pair_eq pair) pairs) e ∙ none
 
 pub no_pairs : IsDistinct pair_eq []
 unfolding IsDistinct
 no_pairs = tt
 
-pub still-distinct : (pairs : List Pair) (pair : Pair) → IsDistinct pair_eq pairs → IsAbsent pairs pair
+pub still-distinct : (pairs : List ModuleVersion) (pair : ModuleVersion) → IsDistinct pair_eq pairs → IsAbsent pairs pair
     → IsDistinct pair_eq (pairs ++ pair ∷ [])
 still-distinct pairs pair distinct absent =
     IsDistinct-push pairs-equivalence pairs pair distinct (none-equal pairs pair absent)

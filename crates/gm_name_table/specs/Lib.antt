@@ -1,6 +1,6 @@
-pub mod Buckets
 pub mod Index
 pub mod Listed
 pub mod Lists
+pub mod ModuleBuckets
 pub mod TagMarks
 pub mod Tags

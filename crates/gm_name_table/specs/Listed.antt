@@ -1,27 +1,23 @@
 -- Lists of modules by their numbers.
-use Rattle.std.specs.Prelude.{◌≡◌, ◌-◌, ◌<◌, ◌++◌, ℕ, List, [], drop, length, map, slice_index_or, take}
+use Rattle.std.specs.Prelude.{◌≡◌, ◌-◌, ◌<◌, ◌++◌, ℕ, List, drop, length, map, take}
 use Rattle.std.specs.List.{All}
-use Rattle.gm_name_table.specs.Lists.{Pair}
+use Rattle.gm_name.specs.ModuleVersion.{ModuleVersion, module_at}
 
 -- distinct modules, of which each has its place as its number, and the numbers of a list of these modules
 pub record NumberedList : Type 0 where
-  pub modules : List Pair
+  pub modules : List ModuleVersion
   pub numbers : List ℕ
 
--- the module with a number
-abbrev pub module_at : List Pair → ℕ → Pair
-module_at modules number = slice_index_or modules number ([], [])
-
 -- the modules with these numbers
-abbrev pub modules_at : List Pair → List ℕ → List Pair
+abbrev pub modules_at : List ModuleVersion → List ℕ → List ModuleVersion
 modules_at modules numbers = map (module_at modules) numbers
 
 -- the modules of the list
-abbrev pub listed : NumberedList → List Pair
+abbrev pub listed : NumberedList → List ModuleVersion
 listed list = modules_at list.modules list.numbers
 
 -- Each of the numbers is that of a module.
-abbrev pub AreModuleNumbers : List Pair → List ℕ → Type 0
+abbrev pub AreModuleNumbers : List ModuleVersion → List ℕ → Type 0
 AreModuleNumbers modules numbers = All (λ number. number < length modules) numbers
 
 -- The new list begins with the old one.
@@ -29,7 +25,7 @@ abbrev pub BeginsWith : {T : Type 0} → List T → List T → Type 0
 BeginsWith {T} old new = (more : List T) × (new ≡ old ++ more)
 
 -- These modules were put to the end of the list. The numbers that modules and places had, they have still.
-pub record Appends (old new : NumberedList) (more : List Pair) : Type 0 where
+pub record Appends (old new : NumberedList) (more : List ModuleVersion) : Type 0 where
   pub numbered : BeginsWith old.modules new.modules
   pub kept : BeginsWith old.numbers new.numbers
   pub listed : listed new ≡ listed old ++ more

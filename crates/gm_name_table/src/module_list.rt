@@ -3,9 +3,9 @@
 ghost use Rattle.std.specs.Prelude.{◌≡◌, ◌≤◌, ◌<◌, ◌∷◌, [], false, true, IfOk, Ok, OnErr, OnOk, length, take};
 ghost use Rattle.std.specs.Iterator.{YieldsFirstRef, item_count};
 ghost use Rattle.std.specs.List.{IsDistinct};
-ghost use Rattle.gm_name.specs.PairOrder.{pair_eq};
+ghost use Rattle.gm_name.specs.ModuleVersion.{module_at, pair_eq};
 ghost use Rattle.gm_name.specs.Readings.{PairReading};
-ghost use Rattle.gm_name_table.specs.Listed.{Appends, AreModuleNumbers, listed, module_at, modules_at, part};
+ghost use Rattle.gm_name_table.specs.Listed.{Appends, AreModuleNumbers, listed, modules_at, part};
 ghost use Rattle.gm_name_table.specs.Lists.{IsOneMoreAtMost};
 
 use crate::module_table::ModuleTable;

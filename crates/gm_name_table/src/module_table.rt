@@ -1,9 +1,8 @@
 //! The table of distinct modules, in the order in which each was first put in.
 
-ghost use Rattle.std.specs.Prelude.{◌≡◌, ◌<◌, ◌≤◌, ◌++◌, ◌∷◌, []};
-ghost use Rattle.std.specs.Prelude.{IfOk, IfSome, IsTrue, Ok, OnErr, OnOk, Some, length, slice_get};
+ghost use Rattle.std.specs.Prelude.{◌≡◌, ◌<◌, ◌≤◌, ◌++◌, ◌∷◌, [], IfOk, IfSome, IsTrue, Ok, OnErr, OnOk, Some, length, slice_get};
 ghost use Rattle.std.specs.List.{IsDistinct};
-ghost use Rattle.gm_name.specs.PairOrder.{pair_eq};
+ghost use Rattle.gm_name.specs.ModuleVersion.{pair_eq};
 ghost use Rattle.gm_name.specs.Readings.{PairReading};
 ghost use Rattle.gm_name_table.specs.Index.{tag_of};
 ghost use Rattle.gm_name_table.specs.Lists.{IsAbsent, IsOneMoreAtMost};

@@ -6,7 +6,8 @@
 //! of a thousand.
 
 ghost use Rattle.std.specs.Prelude.{◌≡◌, ◌≤◌, ◌<◌, ◌*◌, ℕ, IfOk, None, Ok, OnErr, OnOk, false, length, true};
-ghost use Rattle.gm_name_table.specs.Buckets.{held_in};
+ghost use Rattle.number_map.specs.Buckets.{PutsIn};
+ghost use Rattle.gm_name_table.specs.ModuleBuckets.{number_in_buckets};
 
 use crate::bucket::{ModuleBucket, bucket_of};
 use gm_name::NoMemory;
@@ -33,7 +34,7 @@ pub(crate) struct Tags {
 /// The buckets for the first number, all empty.
 fn first_buckets(alloc: Global) -> Result<Vec<ModuleBucket>, NoMemory>
     ensures len { IfOk result (λ buckets. length buckets.items ≡ 64) }
-    ensures none { IfOk result (λ buckets. (t : ℕ) → held_in buckets.items t ≡ None) }
+    ensures none { IfOk result (λ buckets. (t : ℕ) → number_in_buckets buckets.items t ≡ None) }
 {
     let mut buckets = Vec::with_capacity(alloc, FIRST)?;
     for _ in 0..FIRST {
@@ -46,7 +47,8 @@ fn first_buckets(alloc: Global) -> Result<Vec<ModuleBucket>, NoMemory>
 fn doubled(alloc: Global, buckets: &[ModuleBucket]) -> Result<Vec<ModuleBucket>, NoMemory>
     requires { length buckets.now ≤ 2147483648 }
     ensures len { IfOk result (λ doubled. length doubled.items ≡ length buckets.now * 2) }
-    ensures same { IfOk result (λ doubled. (t : ℕ) → held_in doubled.items t ≡ held_in buckets.now t) }
+    ensures same { IfOk result (λ doubled. (t : ℕ)
+        → number_in_buckets doubled.items t ≡ number_in_buckets buckets.now t) }
 {
     let many = buckets.len() * 2;
     let mut doubled = Vec::with_capacity(alloc, many)?;
@@ -57,7 +59,7 @@ fn doubled(alloc: Global, buckets: &[ModuleBucket]) -> Result<Vec<ModuleBucket>,
 }
 
 impl Tags {
-    ghost use Rattle.gm_name_table.specs.Tags.{HasSame, PutsUnder, number_under};
+    ghost use Rattle.gm_name_table.specs.Tags.{HasSame, number_under};
 
     /// No numbers. Allocates no memory before the first one.
     pub(crate) fn new(alloc: Global) -> Tags
@@ -98,7 +100,7 @@ impl Tags {
     pub(crate) fn put(&mut self, tag: u32, number: u32) -> Result<bool, NoMemory>
         requires { number < 4294967295 }
         ensures free { result ≡ Ok true → number_under self.old tag ≡ None }
-        ensures put { result ≡ Ok true → PutsUnder self.old self.new tag number }
+        ensures put { result ≡ Ok true → PutsIn number_under self.old self.new tag number }
         ensures full { result ≡ Ok false → HasSame self.old self.new }
         ensures err { OnErr result (HasSame self.old self.new) }
     {
@@ -112,7 +114,7 @@ impl Tags {
     fn put_new(&mut self, tag: u32, number: u32) -> Result<bool, NoMemory>
         requires free { number_under self.old tag ≡ None }
         requires number { number < 4294967295 }
-        ensures put { result ≡ Ok true → PutsUnder self.old self.new tag number }
+        ensures put { result ≡ Ok true → PutsIn number_under self.old self.new tag number }
         ensures full { result ≡ Ok false → HasSame self.old self.new }
         ensures err { OnErr result (HasSame self.old self.new) }
     {

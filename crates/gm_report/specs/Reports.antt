@@ -2,10 +2,10 @@
 use Rattle.std.specs.Prelude.{ℕ, List, ◌++◌, codes, Option, Some, None}
 use Rattle.std.specs.Fmt.{decimal}
 use Rattle.std.specs.List.{flat_map}
+use Rattle.gm_name.specs.ModuleVersion.{ModuleVersion}
 use Rattle.gm_syntax.specs.declared.fault.SyntaxFault.{SyntaxFault}
 use Rattle.gm_syntax.specs.declared.fault.SyntaxFault.TheVariants as syntax
 use Rattle.gm_store.specs.Asked.{Name, mod_file, folder_file, list_file}
-use Rattle.gm_graph_select.specs.Graph.{Vertex}
 use Rattle.gm_graph_cache.specs.declared.class.Class.{Class}
 use Rattle.gm_graph_cache.specs.declared.class.Class.TheVariants.{NotFetchable, Missing, TooLong, NoSum, SumDiffers, Malformed, WrongPath}
 use Rattle.gm_graph_cache.specs.declared.class.Misreading.{Misreading}
@@ -33,7 +33,7 @@ class_text (Malformed number kind) = malformed_text number kind
 class_text WrongPath = codes "WrongPath"
 
 -- `PATH@VERSION: CLASS`
-abbrev pub fault_line : Vertex → Class → List ℕ
+abbrev pub fault_line : ModuleVersion → Class → List ℕ
 fault_line x class = line (vertex_text x ++ codes ": " ++ class_text class)
 
 -- each module with its fault as a line, in order

@@ -1,11 +1,11 @@
 -- Lines, and how a module is named in them.
 use Rattle.std.specs.Prelude.{ℕ, List, ◌++◌, codes}
-use Rattle.gm_graph_select.specs.Graph.{Vertex}
+use Rattle.gm_name.specs.ModuleVersion.{ModuleVersion}
 
 -- a text with the line feed that ends it
 abbrev pub line : List ℕ → List ℕ
 line text = text ++ codes "\n"
 
 -- `PATH@VERSION`
-abbrev pub vertex_text : Vertex → List ℕ
+abbrev pub vertex_text : ModuleVersion → List ℕ
 vertex_text x = x.0 ++ codes "@" ++ x.1

@@ -12,7 +12,7 @@ use Rattle.std.specs.Prelude.{encode_utf8_all}
 use Rattle.std.specs.Str.{IsUtf8, chars}
 use Rattle.std.specs.String.{string_bytes}
 use Rattle.gm_store.specs.Cutting.{IsParsedPrefix}
-use Rattle.gm_store.specs.Proxies.{is_proxy_mark, mark_of}
+use Rattle.gm_store.specs.Proxies.{is_proxy_mark, mark_at_byte}
 use Rattle.gm_store.specs.declared.fallback.proxy_list.Mark.{Mark}
 use Rattle.gm_store.proofs.Splits.{glue, glue-last, not_false, split-append, split_plain}
 
@@ -53,7 +53,7 @@ push_plain text folders marks folder next c plain grown cut =
           ∙ ap (λ fs. glue fs (encode_utf8 c ∷ [])) cut.folders_so_far
           ∙ glue-last (map string_bytes folders) (string_bytes folder) (encode_utf8 c) []
           ∙ ap (λ last. map string_bytes folders ++ last ∷ []) (sym grown);
-      marks_so_far = ap (map mark_of) (filter-joined text (encode_utf8 c) ∙ ap (λ more. filter is_proxy_mark text ++ more) (filter_plain (encode_utf8 c) none) ∙ append-nil (filter is_proxy_mark text)) ∙ cut.marks_so_far;
+      marks_so_far = ap (map mark_at_byte) (filter-joined text (encode_utf8 c) ∙ ap (λ more. filter is_proxy_mark text ++ more) (filter_plain (encode_utf8 c) none) ∙ append-nil (filter is_proxy_mark text)) ∙ cut.marks_so_far;
       between = cut.between;
     }
 
@@ -65,7 +65,7 @@ filter_mark c e = rw e refl
 
 -- one more character, a mark: it ends the folder in progress
 pub push_mark : (text : List ℕ) (folders ended : List (String Global)) (marks more : List Mark) (folder next : String Global) (c : ℕ)
-    → is_proxy_mark c ≡ true → ended ≡ folders ++ folder ∷ [] → more ≡ marks ++ mark_of c ∷ [] → string_bytes next ≡ [] → IsParsedPrefix text folders marks folder → IsParsedPrefix (text ++ encode_utf8 c) ended more next
+    → is_proxy_mark c ≡ true → ended ≡ folders ++ folder ∷ [] → more ≡ marks ++ mark_at_byte c ∷ [] → string_bytes next ≡ [] → IsParsedPrefix text folders marks folder → IsParsedPrefix (text ++ encode_utf8 c) ended more next
 push_mark text folders ended marks more folder next c mark end grown empty cut =
     let one : encode_utf8 c ≡ c ∷ [] = encode_ascii c (small_mark c mark) in
     record {
@@ -78,9 +78,9 @@ push_mark text folders ended marks more folder next c mark end grown empty cut =
           ∙ sym (append_assoc (map string_bytes folders) (string_bytes folder ∷ []) ([] ∷ []))
           ∙ ap (λ fs. fs ++ [] ∷ []) (sym (ap (map string_bytes) end ∙ map-append string_bytes folders (folder ∷ [])))
           ∙ ap (λ last. map string_bytes ended ++ last ∷ []) (sym empty);
-      marks_so_far = ap (map mark_of) (ap (λ cs. filter is_proxy_mark (text ++ cs)) one ∙ filter-joined text (c ∷ []) ∙ ap (λ more. filter is_proxy_mark text ++ more) (filter_mark c mark))
-          ∙ map-append mark_of (filter is_proxy_mark text) (c ∷ []) ∙ ap (λ ms. ms ++ mark_of c ∷ []) cut.marks_so_far ∙ sym grown;
-      between = ap length end ∙ length-append folders (folder ∷ []) ∙ ap (λ n. n + 1) cut.between ∙ sym (length-append marks (mark_of c ∷ [])) ∙ sym (ap length grown);
+      marks_so_far = ap (map mark_at_byte) (ap (λ cs. filter is_proxy_mark (text ++ cs)) one ∙ filter-joined text (c ∷ []) ∙ ap (λ more. filter is_proxy_mark text ++ more) (filter_mark c mark))
+          ∙ map-append mark_at_byte (filter is_proxy_mark text) (c ∷ []) ∙ ap (λ ms. ms ++ mark_at_byte c ∷ []) cut.marks_so_far ∙ sym grown;
+      between = ap length end ∙ length-append folders (folder ∷ []) ∙ ap (λ n. n + 1) cut.between ∙ sym (length-append marks (mark_at_byte c ∷ [])) ∙ sym (ap length grown);
     }
 
 -- the encoding of characters, with one more character

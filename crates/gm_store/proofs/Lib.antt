@@ -14,3 +14,6 @@ pub mod Greatest
 pub mod Inside
 pub mod Shown
 pub mod Stops
+pub mod Requesting
+pub mod Serving
+pub mod Answering

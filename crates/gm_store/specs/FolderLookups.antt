@@ -1,10 +1,11 @@
--- Which folders and marks a name is looked up with, and the results of all lookups over folders in memory.
-use Rattle.std.specs.Prelude.{ℕ, List, [], ◌∷◌, map}
+-- Which folders and marks a name is looked up with, the answers that folders may give to it, and the results of all
+-- lookups over folders in memory.
+use Rattle.std.specs.Prelude.{ℕ, List, [], ◌∷◌, map, Some}
 use Rattle.gm_store.specs.declared.fallback.proxy_list.Mark.{Mark}
 use Rattle.gm_store.specs.declared.folders.in_memory.FoldersInMemory.{FoldersInMemory}
-use Rattle.gm_store.specs.Asked.{Name, mod_file, folder_file, list_file}
+use Rattle.gm_store.specs.Asked.{Name, Reply, mod_file, folder_file, list_file}
 use Rattle.gm_store.specs.FoldersInMemory.{result_at}
-use Rattle.gm_store.specs.Steps.{Seen}
+use Rattle.gm_store.specs.Steps.{MayStop, Seen}
 
 -- the results of looking up a name in every folder: a module's file in each proxy folder in turn, the go.mod of a
 -- local folder only in the folder beside the main file
@@ -20,6 +21,12 @@ abbrev pub marks_for : Name → List Mark → List Mark
 marks_for (mod_file path version) marks = marks
 marks_for (list_file path) marks = marks
 marks_for (folder_file text) marks = []
+
+-- The answer is one that folders may give to a name: that of the folder at which the request stops. `may_find` says
+-- what each folder may find, and the marks stand between the proxy folders.
+abbrev pub MayAnswerFrom : (ℕ → Name → Seen → Type 0) → List Mark → Name → Reply → Type 0
+MayAnswerFrom may_find marks name reply = (failures : ℕ)
+    × MayStop (λ k seen. may_find k name seen) (marks_for name marks) (Some reply) failures
 
 -- the number of folders that a name may be looked up in, given the number of proxy folders
 abbrev pub count_for : ℕ → Name → ℕ

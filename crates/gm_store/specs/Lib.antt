@@ -22,3 +22,4 @@ pub mod Stops
 pub mod Taken
 pub mod Views
 pub mod Written
+pub mod Requests

@@ -46,13 +46,13 @@ MayLookUp may_open seen = (opening : Opening) × may_open opening × MayShow ope
 
 -- The results that reading a file up to one byte more than 16 MiB may have. A file that was not opened is not read, and
 -- that memory ran out is told apart from other errors.
-abbrev pub IsReading : Opening → Result (Vec ℕ) InputFault → Type 0
-IsReading (opened known) (Ok bytes) = IfSome known (λ all. bytes.items ≡ take 16777217 all)
-IsReading (opened known) (Err fault) = Unit {0}
-IsReading (refused kind) (Ok bytes) = ⊥
-IsReading (refused kind) (Err NoMemory) = kind ≡ OutOfMemory
-IsReading (refused kind) (Err Device) = kind ≢ OutOfMemory
+abbrev pub IsReadFrom : Opening → Result (Vec ℕ) InputFault → Type 0
+IsReadFrom (opened known) (Ok bytes) = IfSome known (λ all. bytes.items ≡ take 16777217 all)
+IsReadFrom (opened known) (Err fault) = Unit {0}
+IsReadFrom (refused kind) (Ok bytes) = ⊥
+IsReadFrom (refused kind) (Err NoMemory) = kind ≡ OutOfMemory
+IsReadFrom (refused kind) (Err Device) = kind ≢ OutOfMemory
 
 -- one of them, given what may come of opening the file
 abbrev pub MayRead : (Opening → Type 0) → Result (Vec ℕ) InputFault → Type 0
-MayRead may_open read = (opening : Opening) × may_open opening × IsReading opening read
+MayRead may_open read = (opening : Opening) × may_open opening × IsReadFrom opening read

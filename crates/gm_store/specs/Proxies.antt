@@ -14,8 +14,8 @@ abbrev pub is_proxy_mark : ℕ → Bool
 is_proxy_mark b = b == 44 || b == 124
 
 -- the mark that a separator byte stands for
-abbrev pub mark_of : ℕ → Mark
-mark_of b = if b == 44 then Comma else Bar
+abbrev pub mark_at_byte : ℕ → Mark
+mark_at_byte b = if b == 44 then Comma else Bar
 
 -- a folder's text: not empty, and none of the words that the go command reserves for other sources
 abbrev pub is_folder : List ℕ → Bool
@@ -27,7 +27,7 @@ folders_of value = slice_split is_proxy_mark value
 
 -- the marks of a text, in order
 abbrev pub marks_of : List ℕ → List Mark
-marks_of value = map mark_of (filter is_proxy_mark value)
+marks_of value = map mark_at_byte (filter is_proxy_mark value)
 
 -- the folders of a parsed list, and its marks
 abbrev pub folders_in : ProxyList → List (List ℕ)

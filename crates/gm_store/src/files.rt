@@ -8,8 +8,8 @@ pub(crate) mod failing;
 pub(crate) mod keeping;
 pub(crate) mod memory;
 
-ghost use Rattle.std.specs.Prelude.{◌≡◌, ◌+◌, ◌<◌, [], ◌∷◌, ◌++◌, length, slice_get, Some, None, OnOk, OnErr, IfOk};
-ghost use Rattle.gm_store.specs.Asked.{IsWithinLimit, name_of, reply_of};
+ghost use Rattle.std.specs.Prelude.{◌≡◌, ◌+◌, ◌<◌, [], ◌∷◌, ◌++◌, length, slice_get, List, Some, None, IfOk};
+ghost use Rattle.gm_store.specs.Asked.{IsWithinLimit, Name, Reply, name_of, reply_of};
 ghost use Rattle.gm_store.specs.declared.files.AskFault.TheVariants as ask_fault;
 
 use gm_name::{ModPath, ModVersion, NoMemory};
@@ -93,9 +93,9 @@ impl<T: Drop> From<AllocFailed<T>> for AskFault {
 ///
 /// So the files of a run don't change while it lasts, and contracts can refer to all that was read.
 pub trait Files {
-    ghost use Rattle.std.specs.Prelude.{◌≤◌};
     ghost use Rattle.gm_store.specs.Asked.{IsWithinLimit, Name, Reply, name_of, reply_of, names_in, replies_in, answer_in};
-    ghost use Rattle.gm_store.specs.States.{AddsAnswer, CountsFailure, StoreState};
+    ghost use Rattle.gm_store.specs.Requests.{IsRequest};
+    ghost use Rattle.gm_store.specs.States.{StoreState};
 
     /// The names requested so far with their answers, the names whose requests were refused because the device
     /// failed, and how often the device has failed. The count saturates at the greatest `u64`.
@@ -108,29 +108,13 @@ pub trait Files {
     /// ones.
     ///
     /// `NoMemory` is returned if memory runs out, `Device` if the device fails. A refusal leaves the answers
-    /// unchanged, so the file may be requested again.
+    /// unchanged, so the file may be requested again. A failure of the device records the name, and is returned
+    /// only if a failure was counted, or if the count is at its maximum; the count never falls. No answer has more
+    /// than `LIMIT` bytes, and a request doesn't add possible answers.
     fn ask(&mut self, name: &FileName) -> Result<(), AskFault>
         requires { answer_in (state self.old).asked (name_of name.now) ≡ None }
-        ensures ok { OnOk result ((reply : Reply) × may_answer self.old (name_of name.now) reply
-            × AddsAnswer (state self.old) (state self.new) (name_of name.now) reply) }
-        ensures err { OnErr result ((state self.new).asked ≡ (state self.old).asked) }
-
-        // A device failure records the name. It is returned only if a failure was counted, or if the count is
-        // already at its maximum.
-        ensures refused { result ≡ Err AskFault.Device
-            → (state self.new).refused ≡ (state self.old).refused ++ name_of name.now ∷ [] }
-        ensures not_refused { (result ≡ Err AskFault.Device → ⊥)
-            → (state self.new).refused ≡ (state self.old).refused }
-        ensures cause { result ≡ Err AskFault.Device → CountsFailure (state self.old) (state self.new) }
-
-        // A request doesn't add possible answers.
-        ensures same_store { (name : Name) (reply : Reply)
-            → may_answer self.new name reply → may_answer self.old name reply }
-
-        // No answer has more than `LIMIT` bytes, and the count of failures never falls.
-        ensures within_limit { OnOk result ((reply : Reply) × IsWithinLimit reply
-            × AddsAnswer (state self.old) (state self.new) (name_of name.now) reply) }
-        ensures later { (state self.old).faults ≤ (state self.new).faults };
+        ensures { IsRequest (may_answer self.old) (may_answer self.new)
+            (state self.old) (state self.new) (name_of name.now) result };
 
     /// The number of requests that were answered.
     fn count(&self) -> usize
@@ -150,4 +134,14 @@ pub trait Files {
     /// How often the device has failed. The count saturates at the greatest `u64`.
     fn faults(&self) -> u64
         ensures { result ≡ (state self.now).faults };
+}
+
+/// The answer to the last request that was answered. The store must have answered one.
+pub fn last_answer<F: Files>(files: &F) -> &Answer
+    requires { 0 < length (F.state files.now).asked }
+    ensures value { (before : List (Name × Reply)) (last : Name × Reply)
+        → (F.state files.now).asked ≡ before ++ last ∷ [] → reply_of result.now ≡ last.1 }
+    ensures within_limit { IsWithinLimit (reply_of result.now) }
+{
+    files.answer(files.count() - 1)
 }

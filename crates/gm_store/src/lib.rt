@@ -33,7 +33,7 @@ pub use crate::fallback::store::FallbackStore;
 pub use crate::file_system::{FileSystem, read_file};
 pub use crate::files::failing::FailingFiles;
 pub use crate::files::memory::MemoryFiles;
-pub use crate::files::{Answer, AskFault, FileName, Files, copy_name};
+pub use crate::files::{Answer, AskFault, FileName, Files, copy_name, last_answer};
 pub use crate::folders::Looked;
 pub use crate::folders::in_memory::FoldersInMemory;
 pub use crate::folders::main_folder::folder_of;

@@ -1,8 +1,8 @@
 -- The steps of a reader of lines.
 use Rattle.std.proofs.Common.{◌≡◌, ℕ, ◌+◌, ◌-◌, ◌<◌, ◌≤◌, true, false, List, [], ◌∷◌, ◌++◌, length, drop, Option, Some, None, Ok, Err, refl, sym, ap, subst, arith}
 use Rattle.std.proofs.lemmas.List.{map_push, length-append}
-use Rattle.gm_syntax.specs.declared.fault.LineFault.{LineFault}
-use Rattle.gm_syntax.specs.declared.fault.LineFault.TheVariants as faults
+use Rattle.gm_syntax.specs.declared.fault.LineSyntaxFault.{LineSyntaxFault}
+use Rattle.gm_syntax.specs.declared.fault.LineSyntaxFault.TheVariants as faults
 use Rattle.gm_syntax.specs.declared.fault.SyntaxKind.TheVariants.{OpenBlock}
 use Rattle.gm_syntax.specs.declared.fault.SyntaxFault.TheVariants as syntax
 use Rattle.gm_syntax.specs.declared.line.Line as declared
@@ -61,7 +61,7 @@ module _ {left : Unread} {lines : List (Line Placed)} (so : HasRead left lines) 
   }
 
   -- the next line has a fault
-  pub read_fault : (front next : List ℕ) (fault : LineFault) → lines_of left.rest ≡ front ∷ lines_of next → IsLineReadAs left.at.inside front (Err fault)
+  pub read_fault : (front next : List ℕ) (fault : LineSyntaxFault) → lines_of left.rest ≡ front ∷ lines_of next → IsLineReadAs left.at.inside front (Err fault)
       → IsParsedAs left.source (Err (fault_at left.at.number fault))
   read_fault front next faults.Memory cut only = tt
   read_fault front next (faults.Syntax kind) cut only = (so.is_text, plain_lines lines, text_fault so.progress front next kind cut only)

@@ -1,8 +1,8 @@
 -- A text that has one reading is one line, or has one fault.
 use Rattle.std.proofs.Common.{◌≡◌, Bool, List, ℕ, Option, Some, None, Result, Ok, Err, inl, inr, refl, sym, ap, subst, ◌∙◌}
 use Rattle.gm_syntax.specs.declared.fault.SyntaxKind.{SyntaxKind}
-use Rattle.gm_syntax.specs.declared.fault.LineFault.{LineFault}
-use Rattle.gm_syntax.specs.declared.fault.LineFault.TheVariants as faults
+use Rattle.gm_syntax.specs.declared.fault.LineSyntaxFault.{LineSyntaxFault}
+use Rattle.gm_syntax.specs.declared.fault.LineSyntaxFault.TheVariants as faults
 use Rattle.gm_syntax.specs.Words.{Word}
 use Rattle.gm_syntax.specs.Spelling.{Fault, Reads, IsSpelledBy, ending_of}
 use Rattle.gm_syntax.specs.Document.{Line, HasLineFault, class_of}
@@ -74,6 +74,6 @@ module _ (inside : Bool) (text : List ℕ) (words : List Word) where
       fault other (inr has) = absurd (no_fault has.1 kind (sym (so.only has.0 (ending_of has.1) has.2).1))
 
 -- what is wrong with a line is its only fault; nothing is said if memory runs out
-pub read_fault : (inside : Bool) (text : List ℕ) (fault : LineFault) → IsReadAs (Err fault) text → IsLineReadAs inside text (Err fault)
+pub read_fault : (inside : Bool) (text : List ℕ) (fault : LineSyntaxFault) → IsReadAs (Err fault) text → IsLineReadAs inside text (Err fault)
 read_fault inside text faults.Memory read = tt
 read_fault inside text (faults.Syntax kind) read = one_fault inside text read.0 kind read.1

@@ -1,7 +1,7 @@
 //! Reading a document line by line: each line is given away before the next one is read, so that a document can be
 //! read without keeping its lines.
 
-ghost use Rattle.std.specs.Prelude.{◌≡◌, ◌+◌, ◌<◌, ◌≤◌, ◌-◌, ◌^◌, ◌∷◌, ◌++◌, [], ℕ, List, length, drop, IfOk, IfErr, IfSome, IfNone, None, IsSome, IsTrue, IsFalse, OnErr};
+ghost use Rattle.std.specs.Prelude.{◌≡◌, ◌+◌, ◌<◌, ◌≤◌, ◌-◌, ◌^◌, ◌∷◌, ◌++◌, [], ℕ, List, length, drop, IfOk, IfErr, IfSome, IfNone, None, IsSome, OnErr};
 ghost use Rattle.gm_syntax.specs.Tokens.{Placed, AreSlicesBetween, AreNumbered};
 ghost use Rattle.gm_syntax.specs.LineViews.{line_of, tokens_of};
 ghost use Rattle.gm_syntax.specs.Lines.{line_len, lines_of, HasNoLineFeed};
@@ -12,7 +12,7 @@ ghost use Rattle.gm_syntax.specs.Reader.{IsLineReadAs};
 ghost use Rattle.gm_syntax.specs.LineReading.{HasRead, IsNextRead, IsRestRead};
 ghost use Rattle.gm_syntax.specs.SimpleLines.{IsSimpleRead};
 
-use crate::fault::{LineFault, SyntaxFault, SyntaxKind};
+use crate::fault::{LineSyntaxFault, SyntaxFault, SyntaxKind};
 use crate::line::{Line, classify};
 use crate::place::Place;
 use crate::reader::read_line;
@@ -214,7 +214,7 @@ fn read_line_at<'a>(
     place: Place,
     text: &'a str,
     first: usize,
-) -> Result<Line<'a>, LineFault>
+) -> Result<Line<'a>, LineSyntaxFault>
     requires empty { words.old.items ≡ [] }
     requires in_range { first + length text.now < 2 ^ 32 }
     requires number_in_range { place.number < 2 ^ 32 }
@@ -229,6 +229,6 @@ fn read_line_at<'a>(
     let parts = read_line(list, text, first, place.number())?;
     match classify(place.is_inside(), parts, words) {
         Ok(line) => Ok(line),
-        Err(kind) => Err(LineFault::Syntax(kind)),
+        Err(kind) => Err(LineSyntaxFault::Syntax(kind)),
     }
 }

@@ -1,12 +1,12 @@
 //! Escapes of bytes that a line of text can't show.
 
-use crate::faults::{CaseFault, LineFault, TextFault};
+use crate::faults::{CaseFault, CaseLineFault, TextFault};
 use crate::numbering::MOST;
 use std::alloc::Global;
 
 /// What the bytes so far end in.
 #[derive(Clone, Copy)]
-enum State {
+enum EscapeState {
     Plain,
     /// A backslash.
     Backslash,
@@ -24,20 +24,20 @@ enum State {
 #[derive(Drop)]
 pub(crate) struct Unescaper {
     bytes: Vec<u8>,
-    state: State,
+    state: EscapeState,
 }
 
 impl Unescaper {
     pub(crate) fn new(alloc: Global) -> Unescaper {
         Unescaper {
             bytes: Vec::new(alloc),
-            state: State::Plain,
+            state: EscapeState::Plain,
         }
     }
 
     /// Whether an escape has begun and not ended.
     pub(crate) fn is_inside_escape(&self) -> bool {
-        !matches!(self.state, State::Plain)
+        !matches!(self.state, EscapeState::Plain)
     }
 
     /// Takes a byte outside an escape.
@@ -60,18 +60,18 @@ impl Unescaper {
     /// Takes the next byte of the text.
     pub(crate) fn take(&mut self, byte: u8) -> Result<(), TextFault> {
         match self.state {
-            State::Plain if byte == b'\\' => self.state = State::Backslash,
-            State::Plain => self.push(byte)?,
-            State::Backslash if byte == b'x' => self.state = State::Hexadecimal,
-            State::Backslash if byte == b'*' => self.state = State::Count(0),
-            State::Backslash => self.end(escaped(byte))?,
-            State::Hexadecimal => match digit(byte) {
-                Some(first) => self.state = State::FirstDigit(first),
+            EscapeState::Plain if byte == b'\\' => self.state = EscapeState::Backslash,
+            EscapeState::Plain => self.push(byte)?,
+            EscapeState::Backslash if byte == b'x' => self.state = EscapeState::Hexadecimal,
+            EscapeState::Backslash if byte == b'*' => self.state = EscapeState::Count(0),
+            EscapeState::Backslash => self.end(escaped(byte))?,
+            EscapeState::Hexadecimal => match digit(byte) {
+                Some(first) => self.state = EscapeState::FirstDigit(first),
                 None => return Err(TextFault::Invalid),
             },
-            State::FirstDigit(first) => self.end(joined(first, byte))?,
-            State::Count(count) => self.state = counted(count, byte)?,
-            State::Times(count) => self.repeat(byte, count)?,
+            EscapeState::FirstDigit(first) => self.end(joined(first, byte))?,
+            EscapeState::Count(count) => self.state = counted(count, byte)?,
+            EscapeState::Times(count) => self.repeat(byte, count)?,
         }
         Ok(())
     }
@@ -80,7 +80,7 @@ impl Unescaper {
     fn repeat(&mut self, byte: u8, count: usize) -> Result<(), TextFault> {
         let length = self.bytes.len().saturating_add(count);
         self.bytes.resize(length, byte)?;
-        self.state = State::Plain;
+        self.state = EscapeState::Plain;
         Ok(())
     }
 
@@ -89,7 +89,7 @@ impl Unescaper {
         let Some(byte) = byte else {
             return Err(TextFault::Invalid);
         };
-        self.state = State::Plain;
+        self.state = EscapeState::Plain;
         self.push(byte)
     }
 
@@ -100,9 +100,9 @@ impl Unescaper {
 }
 
 /// What follows a backslash, `*`, the digits of a number, and this byte.
-fn counted(count: usize, byte: u8) -> Result<State, TextFault> {
+fn counted(count: usize, byte: u8) -> Result<EscapeState, TextFault> {
     match byte {
-        b'*' if count > 0 => Ok(State::Times(count)),
+        b'*' if count > 0 => Ok(EscapeState::Times(count)),
         b'0'..=b'9' => {
             let count = count
                 .saturating_mul(10)
@@ -110,7 +110,7 @@ fn counted(count: usize, byte: u8) -> Result<State, TextFault> {
             if count > MOST {
                 return Err(TextFault::Invalid);
             }
-            Ok(State::Count(count))
+            Ok(EscapeState::Count(count))
         }
         _ => Err(TextFault::Invalid),
     }
@@ -161,6 +161,6 @@ pub(crate) fn push_unescaped(
     match unescaped(alloc, text) {
         Ok(more) => Ok(bytes.extend_from_slice(more.as_slice())?),
         Err(TextFault::NoMemory) => Err(CaseFault::NoMemory),
-        Err(TextFault::Invalid) => Err(CaseFault::Line(number, LineFault::BadEscape)),
+        Err(TextFault::Invalid) => Err(CaseFault::Line(number, CaseLineFault::BadEscape)),
     }
 }

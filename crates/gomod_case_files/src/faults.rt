@@ -5,7 +5,7 @@ use std::fmt;
 
 /// What is wrong with a line of a file of cases.
 #[derive(Clone, Copy)]
-pub enum LineFault {
+pub enum CaseLineFault {
     /// No title is before it, and it is neither blank nor a remark.
     BeforeTitle,
     /// It is among commands, and has none of the marks of their lines.
@@ -42,33 +42,33 @@ pub enum LineFault {
     SeveralLines,
 }
 
-impl LineFault {
+impl CaseLineFault {
     /// What is said of the line.
     fn text(self) -> &'static str {
         match self {
-            LineFault::BeforeTitle => "stands before the first title",
-            LineFault::NoMark => "begins with no mark of a case",
-            LineFault::BeforeCommand => "stands before the first command of its case",
-            LineFault::BadWords => "has words that don't read",
-            LineFault::BadEscape => "has an escape that is none",
-            LineFault::BadStatus => "is no exit status",
-            LineFault::SaidBefore => "says again what a line above says",
-            LineFault::UnderCall => "stands under a call, of which only the output is compared",
-            LineFault::BadHeader => "is no header of a file",
-            LineFault::BadCount => "says how many, which is no number from 1 to 16777217",
-            LineFault::BadSizes =>
+            CaseLineFault::BeforeTitle => "stands before the first title",
+            CaseLineFault::NoMark => "begins with no mark of a case",
+            CaseLineFault::BeforeCommand => "stands before the first command of its case",
+            CaseLineFault::BadWords => "has words that don't read",
+            CaseLineFault::BadEscape => "has an escape that is none",
+            CaseLineFault::BadStatus => "is no exit status",
+            CaseLineFault::SaidBefore => "says again what a line above says",
+            CaseLineFault::UnderCall => "stands under a call, of which only the output is compared",
+            CaseLineFault::BadHeader => "is no header of a file",
+            CaseLineFault::BadCount => "says how many, which is no number from 1 to 16777217",
+            CaseLineFault::BadSizes =>
                 "has sizes that don't read, or that the title above doesn't name",
-            LineFault::NoSize => "has a size that its case doesn't have",
-            LineFault::NoCommand => "is the title of a case without a command",
-            LineFault::NoCase => "begins a file without a case",
-            LineFault::LikeMark => "begins like a title or a header, and is none",
-            LineFault::NoContent => "stands under the header of a folder or a link",
-            LineFault::SeveralLines => "is one of several lines of a file that is filled",
+            CaseLineFault::NoSize => "has a size that its case doesn't have",
+            CaseLineFault::NoCommand => "is the title of a case without a command",
+            CaseLineFault::NoCase => "begins a file without a case",
+            CaseLineFault::LikeMark => "begins like a title or a header, and is none",
+            CaseLineFault::NoContent => "stands under the header of a folder or a link",
+            CaseLineFault::SeveralLines => "is one of several lines of a file that is filled",
         }
     }
 }
 
-impl fmt::Display for LineFault {
+impl fmt::Display for CaseLineFault {
     fn fmt<W: fmt::Write>(&self, f: &mut fmt::Formatter<W>) -> fmt::Result {
         f.write_str(self.text())
     }
@@ -80,7 +80,7 @@ pub enum CaseFault {
     /// Memory ran out.
     NoMemory,
     /// The line of this number is invalid.
-    Line(usize, LineFault),
+    Line(usize, CaseLineFault),
 }
 
 impl From<AllocError> for CaseFault {

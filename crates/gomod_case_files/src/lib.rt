@@ -40,7 +40,7 @@ mod words;
 
 pub use crate::case_runtime::{CaseRuntime, Log};
 pub use crate::cases::{Case, CaseFile, Content, Run, STDIN};
-pub use crate::faults::{CaseFault, LineFault};
+pub use crate::faults::{CaseFault, CaseLineFault};
 pub use crate::folders::{lay_files, make_folder};
 pub use crate::pieces::NO_LINE_END;
 pub use crate::places::tidied;

@@ -2,7 +2,7 @@
 
 use crate::cases::{Case, CaseFile, Content};
 use crate::escapes::push_unescaped;
-use crate::faults::{CaseFault, LineFault};
+use crate::faults::{CaseFault, CaseLineFault};
 use crate::numbering::{NUMBER, count_of, numbered, push_line, push_numbered};
 use crate::places::tidied;
 use crate::words::texts_of_line;
@@ -13,9 +13,9 @@ pub const NO_LINE_END: &str = "\\ No newline at end of file";
 
 /// What the words of a header after the name say.
 #[derive(Clone, Copy)]
-enum Kind<'a> {
+enum HeaderKind<'a> {
     /// A file with lines of this form.
-    Lines(Form),
+    Lines(LineForm),
     /// A file with this mode.
     Mode(u32),
     Folder,
@@ -25,7 +25,7 @@ enum Kind<'a> {
 
 /// How the lines below a header are read.
 #[derive(Clone, Copy)]
-enum Form {
+enum LineForm {
     /// As they stand.
     Plain,
     /// With escapes.
@@ -38,12 +38,12 @@ enum Form {
 
 /// A piece of a file of a case: its header, and the lines below it.
 #[derive(Drop)]
-pub(crate) struct Piece {
+pub(crate) struct CasePiece {
     /// The number of the header's line.
     line: usize,
     /// The file that it makes or continues, with the bytes of the lines so far.
     file: CaseFile,
-    form: Form,
+    form: LineForm,
     lines: usize,
     /// The number of blank lines at the end, which are not among the bytes yet.
     blanks: usize,
@@ -61,9 +61,9 @@ fn mode_of(text: &str) -> Option<u32> {
 }
 
 /// What the words of a header after the name say.
-fn kind_of(words: &[String]) -> Option<Kind<'_>> {
+fn kind_of(words: &[String]) -> Option<HeaderKind<'_>> {
     match words {
-        [] => Some(Kind::Lines(Form::Plain)),
+        [] => Some(HeaderKind::Lines(LineForm::Plain)),
         [verb] => kind_alone(verb.as_str()),
         [verb, argument] => kind_with(verb.as_str(), argument.as_str()),
         _ => None,
@@ -71,33 +71,33 @@ fn kind_of(words: &[String]) -> Option<Kind<'_>> {
 }
 
 /// What a word of a header says that has no argument.
-fn kind_alone<'a>(verb: &str) -> Option<Kind<'a>> {
+fn kind_alone<'a>(verb: &str) -> Option<HeaderKind<'a>> {
     match verb {
-        "escaped" => Some(Kind::Lines(Form::Escaped)),
-        "folder" => Some(Kind::Folder),
+        "escaped" => Some(HeaderKind::Lines(LineForm::Escaped)),
+        "folder" => Some(HeaderKind::Folder),
         _ => None,
     }
 }
 
 /// What a word of a header says with its argument.
-fn kind_with<'a>(verb: &str, argument: &'a str) -> Option<Kind<'a>> {
+fn kind_with<'a>(verb: &str, argument: &'a str) -> Option<HeaderKind<'a>> {
     match verb {
-        "repeat" => Some(Kind::Lines(Form::Repeated(count_of(argument)?))),
-        "fill" => Some(Kind::Lines(Form::Filled(count_of(argument)?))),
-        "mode" => Some(Kind::Mode(mode_of(argument)?)),
-        "link" => Some(Kind::Link(argument)),
-        "copy" => Some(Kind::Copy(argument)),
+        "repeat" => Some(HeaderKind::Lines(LineForm::Repeated(count_of(argument)?))),
+        "fill" => Some(HeaderKind::Lines(LineForm::Filled(count_of(argument)?))),
+        "mode" => Some(HeaderKind::Mode(mode_of(argument)?)),
+        "link" => Some(HeaderKind::Link(argument)),
+        "copy" => Some(HeaderKind::Copy(argument)),
         _ => None,
     }
 }
 
 /// What a case has at the place of a header, before any line.
-fn content_of(alloc: Global, kind: Kind<'_>) -> Result<Content, AllocError> {
+fn content_of(alloc: Global, kind: HeaderKind<'_>) -> Result<Content, AllocError> {
     Ok(match kind {
-        Kind::Lines(_) | Kind::Mode(_) => Content::Bytes(Vec::new(alloc)),
-        Kind::Folder => Content::Folder,
-        Kind::Link(place) => Content::Link(String::from_str(alloc, place)?),
-        Kind::Copy(file) => Content::Copy(String::from_str(alloc, file)?),
+        HeaderKind::Lines(_) | HeaderKind::Mode(_) => Content::Bytes(Vec::new(alloc)),
+        HeaderKind::Folder => Content::Folder,
+        HeaderKind::Link(place) => Content::Link(String::from_str(alloc, place)?),
+        HeaderKind::Copy(file) => Content::Copy(String::from_str(alloc, file)?),
     })
 }
 
@@ -121,7 +121,7 @@ fn read_header(
     alloc: Global,
     line: usize,
     words: &[String],
-) -> Result<(&str, Kind<'_>), CaseFault> {
+) -> Result<(&str, HeaderKind<'_>), CaseFault> {
     if let Some((name, rest)) = words.split_first() {
         if let Some(kind) = kind_of(rest) {
             if is_place(alloc, name.as_str())? {
@@ -129,28 +129,36 @@ fn read_header(
             }
         }
     }
-    Err(CaseFault::Line(line, LineFault::BadHeader))
+    Err(CaseFault::Line(line, CaseLineFault::BadHeader))
 }
 
-impl Piece {
+impl CasePiece {
     /// The piece that a header begins.
-    pub(crate) fn begin(alloc: Global, line: usize, text: &str) -> Result<Piece, CaseFault> {
+    pub(crate) fn begin(alloc: Global, line: usize, text: &str) -> Result<CasePiece, CaseFault> {
         let words = texts_of_line(alloc, line, text)?;
-        Piece::of_words(alloc, line, words.as_slice())
+        CasePiece::of_words(alloc, line, words.as_slice())
     }
 
     /// The piece that the words of a header begin.
-    fn of_words(alloc: Global, line: usize, words: &[String]) -> Result<Piece, CaseFault> {
+    fn of_words(alloc: Global, line: usize, words: &[String]) -> Result<CasePiece, CaseFault> {
         let (name, kind) = read_header(alloc, line, words)?;
-        Ok(Piece::new(alloc, line, name, kind)?)
+        Ok(CasePiece::new(alloc, line, name, kind)?)
     }
 
     /// A piece without lines.
-    fn new(alloc: Global, line: usize, name: &str, kind: Kind<'_>) -> Result<Piece, AllocError> {
+    fn new(
+        alloc: Global,
+        line: usize,
+        name: &str,
+        kind: HeaderKind<'_>,
+    ) -> Result<CasePiece, AllocError> {
         let (form, mode) = match kind {
-            Kind::Lines(form) => (form, None),
-            Kind::Mode(mode) => (Form::Plain, Some(mode)),
-            Kind::Folder | Kind::Link(_) | Kind::Copy(_) => (Form::Plain, None),
+            HeaderKind::Lines(form) => (form, None),
+            HeaderKind::Mode(mode) => (LineForm::Plain, Some(mode)),
+            HeaderKind::Folder | HeaderKind::Link(_) | HeaderKind::Copy(_) => (
+                LineForm::Plain,
+                None,
+            ),
         };
         let name = String::from_str(alloc, name)?;
         let content = content_of(alloc, kind)?;
@@ -159,7 +167,7 @@ impl Piece {
             content,
             mode,
         };
-        Ok(Piece {
+        Ok(CasePiece {
             line,
             file,
             form,
@@ -182,7 +190,7 @@ impl Piece {
         self.take_blanks(0)?;
         self.lines = self.lines.saturating_add(1);
         let Content::Bytes(bytes) = &mut self.file.content else {
-            return Err(CaseFault::Line(number, LineFault::NoContent));
+            return Err(CaseFault::Line(number, CaseLineFault::NoContent));
         };
         push_formed(alloc, bytes, self.form, number, line)
     }
@@ -212,9 +220,9 @@ impl Piece {
     /// Adds the piece to the files of a case.
     fn put_into(self, alloc: Global, case: &mut Case<'_>) -> Result<(), CaseFault> {
         match self.form {
-            Form::Plain | Form::Escaped => put(case, self.file),
-            Form::Repeated(count) => put_repeated(alloc, case, &self.file, count),
-            Form::Filled(count) => put_filled(alloc, case, &self, count),
+            LineForm::Plain | LineForm::Escaped => put(case, self.file),
+            LineForm::Repeated(count) => put_repeated(alloc, case, &self.file, count),
+            LineForm::Filled(count) => put_filled(alloc, case, &self, count),
         }
     }
 }
@@ -223,11 +231,11 @@ impl Piece {
 fn push_formed(
     alloc: Global,
     bytes: &mut Vec<u8>,
-    form: Form,
+    form: LineForm,
     number: usize,
     line: &str,
 ) -> Result<(), CaseFault> {
-    if line == NO_LINE_END || !matches!(form, Form::Escaped) {
+    if line == NO_LINE_END || !matches!(form, LineForm::Escaped) {
         return take_line(bytes, line);
     }
     push_unescaped(alloc, bytes, number, line)?;
@@ -335,11 +343,11 @@ fn numbered_file(
 fn put_filled(
     alloc: Global,
     case: &mut Case<'_>,
-    piece: &Piece,
+    piece: &CasePiece,
     count: usize,
 ) -> Result<(), CaseFault> {
     if piece.lines != 1 {
-        return Err(CaseFault::Line(piece.line, LineFault::SeveralLines));
+        return Err(CaseFault::Line(piece.line, CaseLineFault::SeveralLines));
     }
     case.is_large = true;
     let line = piece.file.bytes();

@@ -2,9 +2,9 @@
 
 use crate::cases::{Case, Run};
 use crate::escapes::push_unescaped;
-use crate::faults::{CaseFault, LineFault};
+use crate::faults::{CaseFault, CaseLineFault};
 use crate::numbering::{count_of, push_numbered, push_repeated};
-use crate::pieces::{Piece, header, take_line};
+use crate::pieces::{CasePiece, header, take_line};
 use crate::sizes::has_place;
 use crate::words::words_of_line;
 use std::alloc::Global;
@@ -25,7 +25,7 @@ struct Reader<'a> {
     /// The cases so far. The next line belongs to the last of them.
     cases: Vec<Case<'a>>,
     /// The piece of a file that the next line belongs to.
-    piece: Option<Piece>,
+    piece: Option<CasePiece>,
 }
 
 /// The cases of a text that follows this many lines, in the order of their titles' lines.
@@ -55,7 +55,7 @@ impl<'a> Reader<'a> {
             self.take(number, line)?;
         }
         if self.cases.is_empty() {
-            return Err(CaseFault::Line(1, LineFault::NoCase));
+            return Err(CaseFault::Line(1, CaseLineFault::NoCase));
         }
         self.end_case()
     }
@@ -63,13 +63,13 @@ impl<'a> Reader<'a> {
     /// Takes the next line.
     fn take(&mut self, number: usize, line: &'a str) -> Result<(), CaseFault> {
         if has_place(line) {
-            return Err(CaseFault::Line(number, LineFault::NoSize));
+            return Err(CaseFault::Line(number, CaseLineFault::NoSize));
         }
         if let Some(title) = line.strip_prefix("=== ") {
             return self.begin_case(number, title);
         }
         if line.starts_with("===") {
-            return Err(CaseFault::Line(number, LineFault::NoMark));
+            return Err(CaseFault::Line(number, CaseLineFault::NoMark));
         }
         if self.cases.is_empty() {
             return take_before_cases(number, line);
@@ -89,7 +89,7 @@ impl<'a> Reader<'a> {
     /// Begins the piece of a file with a header.
     fn begin_piece(&mut self, number: usize, text: &str) -> Result<(), CaseFault> {
         self.end_piece(false)?;
-        self.piece = Some(Piece::begin(self.alloc, number, text)?);
+        self.piece = Some(CasePiece::begin(self.alloc, number, text)?);
         Ok(())
     }
 
@@ -97,7 +97,7 @@ impl<'a> Reader<'a> {
     fn take_in_case(&mut self, number: usize, line: &'a str) -> Result<(), CaseFault> {
         if let Some(piece) = &mut self.piece {
             if is_like_mark(line) {
-                return Err(CaseFault::Line(number, LineFault::LikeMark));
+                return Err(CaseFault::Line(number, CaseLineFault::LikeMark));
             }
             return piece.take(self.alloc, number, line);
         }
@@ -126,7 +126,7 @@ impl<'a> Reader<'a> {
         self.end_piece(true)?;
         match self.cases.last() {
             Some(case) if case.runs.is_empty() => {
-                Err(CaseFault::Line(case.line, LineFault::NoCommand))
+                Err(CaseFault::Line(case.line, CaseLineFault::NoCommand))
             }
             _ => Ok(()),
         }
@@ -138,7 +138,7 @@ fn take_before_cases(number: usize, line: &str) -> Result<(), CaseFault> {
     if is_passed(line) {
         return Ok(());
     }
-    Err(CaseFault::Line(number, LineFault::BeforeTitle))
+    Err(CaseFault::Line(number, CaseLineFault::BeforeTitle))
 }
 
 /// Whether a line begins as a title or a header does.
@@ -166,7 +166,7 @@ fn take_line_of_runs<'a>(
     }
     match runs.last_mut() {
         Some(run) => take_line_of_run(alloc, run, number, line),
-        None => Err(CaseFault::Line(number, LineFault::BeforeCommand)),
+        None => Err(CaseFault::Line(number, CaseLineFault::BeforeCommand)),
     }
 }
 
@@ -179,7 +179,7 @@ fn begin_run<'a>(
 ) -> Result<(), CaseFault> {
     let words = words_of_line(alloc, number, command)?;
     if words.is_empty() {
-        return Err(CaseFault::Line(number, LineFault::BadWords));
+        return Err(CaseFault::Line(number, CaseLineFault::BadWords));
     }
     Ok(runs.push(Run::new(alloc, number, command, words))?)
 }
@@ -195,7 +195,7 @@ fn take_line_of_run<'a>(
         return take_written(alloc, &mut run.out, number, rest);
     }
     if is_about_command_line(line) && !run.is_command_line() {
-        return Err(CaseFault::Line(number, LineFault::UnderCall));
+        return Err(CaseFault::Line(number, CaseLineFault::UnderCall));
     }
     if let Some(rest) = line.strip_prefix('!') {
         return take_written(alloc, &mut run.report, number, rest);
@@ -218,7 +218,7 @@ fn take_about_run(run: &mut Run<'_>, number: usize, line: &str) -> Result<(), Ca
         return take_status(run, number, text);
     }
     if line != FILES_ONLY {
-        return Err(CaseFault::Line(number, LineFault::NoMark));
+        return Err(CaseFault::Line(number, CaseLineFault::NoMark));
     }
     mark_once(&mut run.is_over_files_only, number)
 }
@@ -226,10 +226,10 @@ fn take_about_run(run: &mut Run<'_>, number: usize, line: &str) -> Result<(), Ca
 /// Takes the status of a command.
 fn take_status(run: &mut Run<'_>, number: usize, text: &str) -> Result<(), CaseFault> {
     let Ok(status) = text.parse::<u8>() else {
-        return Err(CaseFault::Line(number, LineFault::BadStatus));
+        return Err(CaseFault::Line(number, CaseLineFault::BadStatus));
     };
     if run.status.is_some() {
-        return Err(CaseFault::Line(number, LineFault::SaidBefore));
+        return Err(CaseFault::Line(number, CaseLineFault::SaidBefore));
     }
     run.status = Some(status);
     Ok(())
@@ -238,7 +238,7 @@ fn take_status(run: &mut Run<'_>, number: usize, text: &str) -> Result<(), CaseF
 /// Sets what the line of this number says, which no line before it said.
 fn mark_once(mark: &mut bool, number: usize) -> Result<(), CaseFault> {
     if *mark {
-        return Err(CaseFault::Line(number, LineFault::SaidBefore));
+        return Err(CaseFault::Line(number, CaseLineFault::SaidBefore));
     }
     *mark = true;
     Ok(())
@@ -271,14 +271,14 @@ fn take_repeated(
     rest: &str,
 ) -> Result<(), CaseFault> {
     let Some((count, line)) = repetition(rest) else {
-        return Err(CaseFault::Line(number, LineFault::NoMark));
+        return Err(CaseFault::Line(number, CaseLineFault::NoMark));
     };
     let (count, is_escaped) = match count.strip_suffix('\\') {
         Some(count) => (count, true),
         None => (count, false),
     };
     let Some(count) = count_of(count) else {
-        return Err(CaseFault::Line(number, LineFault::BadCount));
+        return Err(CaseFault::Line(number, CaseLineFault::BadCount));
     };
     if is_escaped {
         return push_repeated_unescaped(alloc, text, number, line, count);
@@ -298,7 +298,7 @@ fn push_repeated_unescaped(
     push_unescaped(alloc, &mut bytes, number, line)?;
     match str::from_utf8(bytes.as_slice()) {
         Ok(line) => Ok(push_numbered(alloc, text, line, count)?),
-        Err(_) => Err(CaseFault::Line(number, LineFault::BadEscape)),
+        Err(_) => Err(CaseFault::Line(number, CaseLineFault::BadEscape)),
     }
 }
 
@@ -317,14 +317,14 @@ fn take_opened<'a>(
     let said_none = matches!(&run.opened, Some(opened) if opened.is_empty());
     let said_some = matches!(&run.opened, Some(opened) if !opened.is_empty());
     if said_none || said_some && rest.is_empty() {
-        return Err(CaseFault::Line(number, LineFault::SaidBefore));
+        return Err(CaseFault::Line(number, CaseLineFault::SaidBefore));
     }
     let opened = run.opened.get_or_insert(Vec::new(alloc));
     if rest.is_empty() {
         return Ok(());
     }
     let Some(name) = rest.strip_prefix(' ') else {
-        return Err(CaseFault::Line(number, LineFault::NoMark));
+        return Err(CaseFault::Line(number, CaseLineFault::NoMark));
     };
     Ok(opened.push(name)?)
 }

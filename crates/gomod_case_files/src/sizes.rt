@@ -1,6 +1,6 @@
 //! Cases as text, each of which may be run at several sizes.
 
-use crate::faults::{CaseFault, LineFault};
+use crate::faults::{CaseFault, CaseLineFault};
 use crate::numbering::count_of;
 use std::alloc::{AllocError, Global};
 use std::mem;
@@ -74,7 +74,7 @@ impl<'a> CaseText<'a> {
         let names_size = self.title.is_some_and(|title| title.contains(SIZE));
         match range_of(line.text) {
             Some((least, most)) if names_size => Ok(Some(sizes_between(alloc, least, most)?)),
-            _ => Err(CaseFault::Line(line.number, LineFault::BadSizes)),
+            _ => Err(CaseFault::Line(line.number, CaseLineFault::BadSizes)),
         }
     }
 

@@ -1,14 +1,14 @@
 //! The words of a command.
 
 use crate::escapes::Unescaper;
-use crate::faults::{CaseFault, LineFault, TextFault};
+use crate::faults::{CaseFault, CaseLineFault, TextFault};
 use crate::numbering::{count_of, numbered};
 use std::alloc::Global;
 use std::{mem, str};
 
 /// Where a byte is in the words.
 #[derive(Clone, Copy, PartialEq, Eq)]
-enum State {
+enum WordState {
     /// Between words.
     Between,
     /// In a word without quotes.
@@ -27,7 +27,7 @@ struct Cutter {
     alloc: Global,
     words: Vec<Vec<u8>>,
     word: Unescaper,
-    state: State,
+    state: WordState,
 }
 
 impl Cutter {
@@ -36,7 +36,7 @@ impl Cutter {
             alloc,
             words: Vec::new(alloc),
             word: Unescaper::new(alloc),
-            state: State::Between,
+            state: WordState::Between,
         }
     }
 
@@ -46,33 +46,33 @@ impl Cutter {
             self.take(*byte)?;
         }
         match self.state {
-            State::Bare => self.end_bare(),
-            State::Single | State::Double => Err(TextFault::Invalid),
-            State::Between | State::Closed => Ok(()),
+            WordState::Bare => self.end_bare(),
+            WordState::Single | WordState::Double => Err(TextFault::Invalid),
+            WordState::Between | WordState::Closed => Ok(()),
         }
     }
 
     /// Takes the next byte.
     fn take(&mut self, byte: u8) -> Result<(), TextFault> {
         match self.state {
-            State::Between => self.begin(byte),
-            State::Bare if byte == b' ' => self.end_bare(),
-            State::Bare => self.word.push(byte),
-            State::Single if byte == b'\'' => self.end(State::Closed),
-            State::Single => self.word.push(byte),
-            State::Double => self.take_escaped(byte),
-            State::Closed if byte == b' ' => {
-                self.state = State::Between;
+            WordState::Between => self.begin(byte),
+            WordState::Bare if byte == b' ' => self.end_bare(),
+            WordState::Bare => self.word.push(byte),
+            WordState::Single if byte == b'\'' => self.end(WordState::Closed),
+            WordState::Single => self.word.push(byte),
+            WordState::Double => self.take_escaped(byte),
+            WordState::Closed if byte == b' ' => {
+                self.state = WordState::Between;
                 Ok(())
             }
-            State::Closed => Err(TextFault::Invalid),
+            WordState::Closed => Err(TextFault::Invalid),
         }
     }
 
     /// Takes the next byte of a word in `"`.
     fn take_escaped(&mut self, byte: u8) -> Result<(), TextFault> {
         if byte == b'"' && !self.word.is_inside_escape() {
-            return self.end(State::Closed);
+            return self.end(WordState::Closed);
         }
         self.word.take(byte)
     }
@@ -81,10 +81,10 @@ impl Cutter {
     fn begin(&mut self, byte: u8) -> Result<(), TextFault> {
         match byte {
             b' ' => {}
-            b'\'' => self.state = State::Single,
-            b'"' => self.state = State::Double,
+            b'\'' => self.state = WordState::Single,
+            b'"' => self.state = WordState::Double,
             _ => {
-                self.state = State::Bare;
+                self.state = WordState::Bare;
                 self.word.push(byte)?;
             }
         }
@@ -93,7 +93,7 @@ impl Cutter {
 
     /// Ends a word without quotes, which may stand for several.
     fn end_bare(&mut self) -> Result<(), TextFault> {
-        self.state = State::Between;
+        self.state = WordState::Between;
         let word = mem::replace(&mut self.word, Unescaper::new(self.alloc)).into_bytes();
         if word.first() != Some(&b'*') {
             self.words.push(word)?;
@@ -119,7 +119,7 @@ impl Cutter {
     }
 
     /// Ends a word.
-    fn end(&mut self, state: State) -> Result<(), TextFault> {
+    fn end(&mut self, state: WordState) -> Result<(), TextFault> {
         let word = mem::replace(&mut self.word, Unescaper::new(self.alloc));
         self.words.push(word.into_bytes())?;
         self.state = state;
@@ -150,7 +150,7 @@ pub(crate) fn words_of_line(
     match words_of(alloc, text) {
         Ok(words) => Ok(words),
         Err(TextFault::NoMemory) => Err(CaseFault::NoMemory),
-        Err(TextFault::Invalid) => Err(CaseFault::Line(number, LineFault::BadWords)),
+        Err(TextFault::Invalid) => Err(CaseFault::Line(number, CaseLineFault::BadWords)),
     }
 }
 
@@ -163,7 +163,7 @@ pub(crate) fn texts_of_line(
     let mut texts = Vec::new(alloc);
     for word in words_of_line(alloc, number, text)? {
         let Ok(word) = String::from_utf8(word) else {
-            return Err(CaseFault::Line(number, LineFault::BadWords));
+            return Err(CaseFault::Line(number, CaseLineFault::BadWords));
         };
         texts.push(word)?;
     }

@@ -7,7 +7,7 @@ ghost use Rattle.gomod_run.specs.Runs.{takes_sums};
 use crate::counting::Count;
 use crate::outcomes::{Outcome, Room};
 use crate::parsing::{Parsed, ParsedRun};
-use crate::stores::{Folders, Form};
+use crate::stores::{Folders, StoreForm};
 use gm_name::ModPath;
 use gm_store::{FileName, Files, MemoryFiles, ProxyList, copy_name};
 use gomod_case_files::{STDIN, View};
@@ -43,7 +43,7 @@ impl Memory<'_> {
     pub(crate) fn outcome(
         &self,
         parsed: &Parsed,
-        form: Form<'_>,
+        form: StoreForm<'_>,
         room: Room,
     ) -> Result<Option<InMemory>, AllocError> {
         match &parsed.command {
@@ -62,7 +62,7 @@ impl Memory<'_> {
         room: Room,
     ) -> Result<Option<InMemory>, AllocError> {
         match &parsed_run.parsed {
-            Some(parsed) => self.outcome(parsed, Form::Named, room),
+            Some(parsed) => self.outcome(parsed, StoreForm::Named, room),
             None => Ok(None),
         }
     }
@@ -102,7 +102,7 @@ impl Memory<'_> {
         &self,
         parsed: &Parsed,
         path: &ModPath,
-        form: Form<'_>,
+        form: StoreForm<'_>,
         room: Room,
     ) -> Result<Option<InMemory>, AllocError> {
         let folders = self.list_folders(path, &parsed.proxy, form)?;
@@ -114,7 +114,7 @@ impl Memory<'_> {
         &self,
         path: &ModPath,
         proxy: &Option<ProxyList>,
-        form: Form<'_>,
+        form: StoreForm<'_>,
     ) -> Result<Folders, AllocError> {
         let mut folders = Folders::new(self.alloc);
         self.put_lists(&mut folders, path, proxy, form)?;
@@ -127,7 +127,7 @@ impl Memory<'_> {
         folders: &mut Folders,
         path: &ModPath,
         proxy: &Option<ProxyList>,
-        form: Form<'_>,
+        form: StoreForm<'_>,
     ) -> Result<(), AllocError> {
         match proxy {
             Some(list) => folders.put_proxies(self.alloc, &self.view, list, form)?,
@@ -140,7 +140,7 @@ impl Memory<'_> {
     fn over_graph(
         &self,
         parsed: &Parsed,
-        form: Form<'_>,
+        form: StoreForm<'_>,
         room: Room,
     ) -> Result<Option<InMemory>, AllocError>
         requires { takes_sums parsed.now.command ≡ true }
@@ -169,7 +169,7 @@ impl Memory<'_> {
         place: &str,
         main: &[u8],
         list: &ProxyList,
-        form: Form<'_>,
+        form: StoreForm<'_>,
     ) -> Result<Folders, AllocError> {
         let mut folders = Folders::new(self.alloc);
         self.put_graph(&mut folders, place, main, list, form)?;
@@ -183,7 +183,7 @@ impl Memory<'_> {
         place: &str,
         main: &[u8],
         list: &ProxyList,
-        form: Form<'_>,
+        form: StoreForm<'_>,
     ) -> Result<(), AllocError> {
         folders.put_proxies(self.alloc, &self.view, list, form)?;
         folders.put_replacements(self.alloc, &self.view, place, main)?;

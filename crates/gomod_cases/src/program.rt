@@ -4,7 +4,7 @@ use crate::checking::check_case;
 use crate::counting::Count;
 use crate::differences::Differences;
 use gomod_case_files::{
-    Case, CaseFault, CaseFile, CaseText, Content, LineFault, case_texts, read_cases,
+    Case, CaseFault, CaseFile, CaseLineFault, CaseText, Content, case_texts, read_cases,
 };
 use std::alloc::AllocError;
 use std::process::ExitCode;
@@ -194,7 +194,7 @@ impl<'a> Session<'a> {
     }
 
     /// Reports a line that belongs to no case.
-    fn fail_line(&mut self, name: &str, number: usize, fault: LineFault) -> io::Result<()> {
+    fn fail_line(&mut self, name: &str, number: usize, fault: CaseLineFault) -> io::Result<()> {
         let line = format!(in self.system.alloc(); "{name}:{number}: {fault}\n")?;
         self.fail(line.as_str())
     }

@@ -6,7 +6,7 @@ use crate::differences::Differences;
 use crate::memory::{Asked, InMemory, Memory};
 use crate::outcomes::Room;
 use crate::parsing::Parsed;
-use crate::stores::Form;
+use crate::stores::StoreForm;
 use crate::workspace::{Real, Workspace};
 use gomod_case_files::Run;
 use std::alloc::{AllocError, Global};
@@ -29,7 +29,7 @@ pub(crate) fn sweep_asks(
     if parsed.folder_count() <= 1 {
         let found = workspace
             .memory()
-            .outcome(parsed, Form::Named, room_for(run))?;
+            .outcome(parsed, StoreForm::Named, room_for(run))?;
         if let Some(wanted) = &found {
             sweep_asked(workspace, run, parsed, wanted, differences)?;
         }
@@ -167,7 +167,7 @@ fn is_refused(
     before: &[Asked],
 ) -> Result<bool, AllocError> {
     let report = report_of_device(memory.alloc, refused)?;
-    let found = memory.outcome(parsed, Form::Broken(&refused.name), A_LINE)?;
+    let found = memory.outcome(parsed, StoreForm::Broken(&refused.name), A_LINE)?;
     Ok(fails_after(&found, report.as_str(), before))
 }
 
@@ -192,7 +192,7 @@ fn sweep_division(
 ) -> Result<(), AllocError> {
     let found = workspace
         .memory()
-        .outcome(parsed, Form::Divided, room_for(run))?;
+        .outcome(parsed, StoreForm::Divided, room_for(run))?;
     if !is_as_found(&found, wanted) {
         differences.command(run, "over files that are divided between two folders");
     }

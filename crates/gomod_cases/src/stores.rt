@@ -15,7 +15,7 @@ use std::alloc::{AllocError, Global};
 
 /// How stores in memory represent the proxy folders of a command.
 #[derive(Clone, Copy)]
-pub(crate) enum Form<'a> {
+pub(crate) enum StoreForm<'a> {
     /// One folder in memory for each that the words name, with the marks between them.
     Named,
     /// The files of the one folder that the words name, divided between two, with `,` between them.
@@ -60,9 +60,9 @@ impl Folders {
         alloc: Global,
         view: &View<'_>,
         list: &ProxyList,
-        form: Form<'_>,
+        form: StoreForm<'_>,
     ) -> Result<(), AllocError> {
-        if let (Form::Divided, [folder]) = (form, list.folders()) {
+        if let (StoreForm::Divided, [folder]) = (form, list.folders()) {
             return self.put_divided(alloc, view, folder.as_str());
         }
         for folder in list.folders() {
@@ -115,8 +115,12 @@ impl Folders {
     }
 
     /// Makes the device fail at a file.
-    pub(crate) fn break_at(&mut self, alloc: Global, form: Form<'_>) -> Result<(), AllocError> {
-        if let Form::Broken(name) = form {
+    pub(crate) fn break_at(
+        &mut self,
+        alloc: Global,
+        form: StoreForm<'_>,
+    ) -> Result<(), AllocError> {
+        if let StoreForm::Broken(name) = form {
             self.put(copy_name(alloc, name)?, Held::Broken)?;
         }
         Ok(())

@@ -1,8 +1,9 @@
 -- What a list keeps, less what a main file excludes.
 use Rattle.std.proofs.Common.{◌≡◌, ◌⊎◌, Bool, true, false, cond, not, List, [], ◌∷◌, Contains, filter, refl, sym, subst, inl, inr}
 use Rattle.std.proofs.lemmas.Bool.{false≢true}
-use Rattle.gm_file.proofs.SamePairs.{contains-tells}
-use Rattle.gm_graph_cache.specs.Main.{Main, ModuleVersion, is_excluded, without_excluded}
+use Rattle.gm_name.specs.ModuleVersion.{ModuleVersion}
+use Rattle.gm_file.proofs.Members.{contains-tells}
+use Rattle.gm_graph_cache.specs.Main.{Main, is_excluded, without_excluded}
 use Rattle.gm_graph_select.proofs.Ascending.{member_cases, member_head, member_tail, no_member}
 
 -- ---- members of a filtered list

@@ -1,9 +1,10 @@
 -- What is opened, and the edges, for a main file that says more.
 use Rattle.std.proofs.Common.{◌≡◌, ◌∙◌, true, false, Option, None, Some, Result, Ok, Err, Contains, ap, refl, subst, sym, inl, inr}
 use Rattle.std.proofs.lemmas.Bool.{false≢true}
+use Rattle.gm_name.specs.ModuleVersion.{ModuleVersion}
 use Rattle.gm_file.specs.Fields.{Dependency}
 use Rattle.gm_graph_cache.specs.declared.class.Class.{Class}
-use Rattle.gm_graph_cache.specs.Main.{Main, ModuleVersion, is_pruned_by}
+use Rattle.gm_graph_cache.specs.Main.{Main, is_pruned_by}
 use Rattle.gm_graph_cache.specs.Reading.{Readings, is_unpruned, is_unpruned_in, requirements_in, said_in, vertex_requirements}
 use Rattle.gm_graph_select.specs.declared.step.Step.{Step}
 use Rattle.gm_graph_select.specs.declared.step.Step.TheVariants.{Main as FromMain, Of}

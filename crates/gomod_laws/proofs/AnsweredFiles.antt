@@ -1,12 +1,13 @@
 -- What a run knows of the file of a module is what the answer to it says.
 use Rattle.std.proofs.Common.{◌≡◌, ℕ, Bool, true, false, cond, not, List, Option, Some, None, IsSome, Result, Ok, Err, Contains, refl, subst}
 use Rattle.std.proofs.lemmas.Bool.{false≢true}
+use Rattle.gm_name.specs.ModuleVersion.{ModuleVersion}
 use Rattle.gm_file.specs.Fields.{Dependency}
 use Rattle.gm_store.specs.Asked.{Name, Reply, answer_in, absent, bytes, too_long}
 use Rattle.gm_store_sums.specs.declared.sum_table.SumTable.{SumTable}
 use Rattle.gm_graph_cache.specs.declared.class.Class.{Class}
 use Rattle.gm_graph_cache.specs.declared.class.Class.TheVariants.{WrongPath}
-use Rattle.gm_graph_cache.specs.Main.{Main, ModuleVersion, is_pruned_by, replacement_in, without_excluded}
+use Rattle.gm_graph_cache.specs.Main.{Main, is_pruned_by, replacement_in, without_excluded}
 use Rattle.gm_graph_cache.specs.Reading.{Held, IsReadAsDependency, IsReadUnless, IsTold, Tells, fault_in, file_of, is_askable, is_right_path, is_unpruned_in, reading_if, readings_by, requirements_in, said_in, sum_fault, vertex_fault}
 use Rattle.gm_graph_select.proofs.Ascending.{no_member}
 use Rattle.gm_graph.specs.declared.fault.Fault.{Fault}

@@ -2,11 +2,12 @@
 use Rattle.std.proofs.Common.{◌≡◌, ◌∙◌, Bool, true, false, Option, Some, None, IsSome, Result, Ok, Err, Contains, ap, refl, subst, sym, inl, inr}
 use Rattle.std.specs.Option.{option_map}
 use Rattle.std.proofs.lemmas.Bool.{false≢true}
+use Rattle.gm_name.specs.ModuleVersion.{ModuleVersion}
 use Rattle.gm_file.specs.Fields.{Dependency}
 use Rattle.gm_store.specs.Asked.{Name, Reply}
 use Rattle.gm_store_sums.specs.declared.sum_table.SumTable.{SumTable}
 use Rattle.gm_graph_cache.specs.declared.class.Class.{Class}
-use Rattle.gm_graph_cache.specs.Main.{Main, ModuleVersion, replacement_in, without_excluded}
+use Rattle.gm_graph_cache.specs.Main.{Main, replacement_in, without_excluded}
 use Rattle.gm_graph_cache.specs.Reading.{IsTold, Readings, is_unpruned_in, reading_if, requirements_in, said_in, vertex_requirements, with_right_path}
 use Rattle.gm_graph_cache.proofs.OneReading.{one_reading}
 use Rattle.gm_graph_select.specs.declared.step.Step.{Step}

@@ -6,9 +6,10 @@ use Rattle.gm_name.specs.Element.{has_outer_dot, is_dotted_name, is_element, is_
 use Rattle.gm_name.specs.Names.{is_path}
 use Rattle.gm_name.specs.Path.{IsPath}
 use Rattle.gm_name.specs.Version.{version_cmp}
+use Rattle.gm_name.specs.ModuleVersion.{ModuleVersion}
 use Rattle.gm_name.proofs.NameTests.{path-tested}
 use Rattle.gm_file.specs.Directives.{Right}
-use Rattle.gm_graph_cache.specs.Main.{Main, ModuleVersion}
+use Rattle.gm_graph_cache.specs.Main.{Main}
 use Rattle.gm_graph_select.specs.declared.step.Step.TheVariants.{Main as FromMain, Of}
 use Rattle.gm_graph_select.specs.BuildList.{Entry, main_entry}
 use Rattle.gm_graph_select.proofs.Ascending.{member_cases, member_head, member_tail, no_member}

@@ -1,12 +1,13 @@
 -- A report is no list and no graph, and what is not required is not shown.
 use Rattle.std.proofs.Common.{◌≡◌, ◌∙◌, ◌∷◌, ℕ, Bool, true, false, List, [], Option, None, Some, Result, Err, Contains, ap, arith, codes, inl, inr, refl, subst, sym}
+use Rattle.gm_name.specs.ModuleVersion.{ModuleVersion}
 use Rattle.gm_file.specs.Directives.{Replacing}
 use Rattle.gm_file.specs.Fields.{Dependency, replacement_of}
 use Rattle.gm_store.specs.Asked.{Name, Reply, absent, mod_file}
 use Rattle.gm_store_sums.specs.declared.sum_table.SumTable.{SumTable}
 use Rattle.gm_graph_cache.specs.declared.class.Class.{Class}
 use Rattle.gm_graph_cache.specs.declared.class.Class.TheVariants.{Missing}
-use Rattle.gm_graph_cache.specs.Main.{Main, ModuleVersion}
+use Rattle.gm_graph_cache.specs.Main.{Main}
 use Rattle.gm_graph_cache.specs.Reading.{Held, IsTold, Readings, Tells, file_named, file_of, is_askable, reading_if, readings_by, requirements_in, said_in, vertex_requirements}
 use Rattle.gm_graph_select.specs.declared.step.Edge.{Edge}
 use Rattle.gm_graph_select.specs.declared.step.Step.{Step}

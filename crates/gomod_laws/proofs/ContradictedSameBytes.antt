@@ -1,10 +1,9 @@
 -- What the law on a replace by the same bytes concludes of lists is false of lists that contradict it.
 use Rattle.std.proofs.Common.{◌≡◌, ◌∙◌, ℕ, Bool, List, length, Option, Some, ap, arith, codes, cond, map, refl, sym}
 use Rattle.std.proofs.lemmas.List.{length-map}
+use Rattle.gm_name.specs.ModuleVersion.{ModuleVersion, pair-self, pair_eq}
 use Rattle.gm_file.specs.Directives.{Right}
-use Rattle.gm_name.specs.PairOrder.{pair_eq}
 use Rattle.gm_syntax.specs.Lines.{lines_of}
-use Rattle.gm_graph_cache.specs.Main.{ModuleVersion}
 use Rattle.gm_graph_select.specs.declared.step.Step.TheVariants.{Main as FromMain, Of}
 use Rattle.gm_graph_select.specs.BuildList.{Entry}
 use Rattle.gm_graph.proofs.Mapped.{from_mapped}
@@ -19,7 +18,6 @@ use Rattle.gomod_laws.specs.SameBytesLaws.{with_right}
 use Rattle.gomod_laws.specs.Shown.{run_over}
 use Rattle.gomod_laws.proofs.Contradicted.{arrow_is_missing, rows_are}
 use Rattle.gomod_laws.proofs.KnownVersions.{one_zero, one_zero_is}
-use Rattle.gomod_laws.proofs.SameBytes.{pair_self}
 
 -- the row of the version has the right side
 right_is : (x : ModuleVersion) (right : Right) (row : Entry) (its : Option Right) → with_right x right row ≡ (Of x, its) → its ≡ Some right
@@ -27,7 +25,7 @@ right_is x right (FromMain, was) its e = let no : FromMain ≡ Of x = ap (λ (r 
 right_is x right (Of y, was) its e =
     let steps : Of y ≡ Of x = ap (λ (r : Entry). r.0) e in
     let same : y ≡ x = cc steps in
-    sym (ap (λ (r : Entry). r.1) e) ∙ ap (λ (b : Bool). cond b (Some right) was) (ap (λ (z : ModuleVersion). pair_eq z x) same ∙ pair_self x)
+    sym (ap (λ (r : Entry). r.1) e) ∙ ap (λ (b : Bool). cond b (Some right) was) (ap (λ (z : ModuleVersion). pair_eq z x) same ∙ pair-self x)
 
 pub arrow_is_not_added : ArrowIsNotAdded
 arrow_is_not_added file changed sums main other right asked told (rows, before, after) =

@@ -7,7 +7,7 @@ use Rattle.std.specs.declared.cmp.Ordering.TheVariants.{Less, Greater}
 use Rattle.std.proofs.lemmas.Bool.{false≢true}
 use Rattle.gm_name.specs.Version.{IsVersion, version_cmp}
 use Rattle.gm_name.specs.VersionOrder.{version_total}
-use Rattle.gm_file.specs.Directives.{Pair, pair}
+use Rattle.gm_file.specs.Directives.{VersionInterval, pair}
 use Rattle.gm_file.specs.Fields.{Dependency}
 use Rattle.gm_file_retract.specs.Shown.{is_at_most, is_retracted, shown_of}
 use Rattle.gm_store.specs.Asked.{Name, Reply, bytes, mod_file}
@@ -122,7 +122,7 @@ same_file : (a b : Dependency) → ◌≡◌ {A = Result Dependency Class} (Ok a
 same_file a b e = cc e
 
 -- the latest version's file retracts one thing
-retracts_once : (asked : List (Name × Reply)) (path version : List ℕ) (xs ys : List Pair) → Retracts asked path version xs → Retracts asked path version ys → xs ≡ ys
+retracts_once : (asked : List (Name × Reply)) (path version : List ℕ) (xs ys : List VersionInterval) → Retracts asked path version xs → Retracts asked path version ys → xs ≡ ys
 retracts_once asked path version xs ys (reply, file, answered, finds, are) (other, also, known, says, is) =
     let same : reply ≡ other = same_answer reply other (sym answered ∙ known) in
     let read : IsFileReading None (mod_file path version) other (Ok file) = subst (λ (r : Reply). IsFileReading None (mod_file path version) r (Ok file)) same finds in
@@ -133,13 +133,13 @@ is_none : {A : Type 0} (x : A) (xs : List A) → x ∷ xs ≡ [] → ⊥
 is_none x xs e = cc e
 
 -- what is shown of both, if the latest one retracts these
-shown_of_both : (asked : List (Name × Reply)) (shown : List (List ℕ)) (intervals : List Pair) → Retracts asked (codes "a.b") one_one intervals
+shown_of_both : (asked : List (Name × Reply)) (shown : List (List ℕ)) (intervals : List VersionInterval) → Retracts asked (codes "a.b") one_one intervals
     → AreUnretracted asked (codes "a.b") both shown → shown ≡ shown_of intervals both
 shown_of_both asked shown intervals retracts (inl (none, nothing)) = absurd (is_none one_zero (one_one ∷ []) none)
 shown_of_both asked shown intervals retracts (inr (latest, others, greatest, says, is)) =
     let own : latest ≡ one_one = latest_once both latest one_one greatest one_one_is_latest in
     let same : others ≡ intervals = retracts_once asked (codes "a.b") one_one others intervals (subst (λ (v : List ℕ). Retracts asked (codes "a.b") v others) own says) retracts in
-    is ∙ ap (λ (xs : List Pair). shown_of xs both) same
+    is ∙ ap (λ (xs : List VersionInterval). shown_of xs both) same
 
 at_most_itself : is_at_most one_zero one_zero ≡ true
 at_most_itself = ap (λ (o : Ordering). not (is_gt o)) same_precedence
@@ -161,7 +161,7 @@ retracted_is_shown asked retracts law =
 
 pub unretracted_is_left_out : UnretractedIsLeftOut
 unretracted_is_left_out asked retracts law =
-    let none : List Pair = [] in
+    let none : List VersionInterval = [] in
     let first = printed (codes "a.b v1.1.0\n") in
     let all = all_are asked first both_of_a law both both_known refl in
     let rest = rest_are asked first both_of_a law (one_one ∷ []) (one_known one_one one_one_is) refl in

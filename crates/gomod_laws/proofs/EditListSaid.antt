@@ -3,7 +3,7 @@ use Rattle.std.proofs.Common.{◌≡◌, ◌∙◌, Bool, true, not, List, [], �
 use Rattle.std.specs.Prelude.{filter}
 use Rattle.std.specs.List.{cons_option, filter_map}
 use Rattle.std.proofs.lemmas.Bool.{cases_Bool, false≢true}
-use Rattle.gm_file.specs.Directives.{Directive, DeclaresModule, DeclaresGo, Requires, Excludes, Replaces, Retracts, Kept, Pair}
+use Rattle.gm_file.specs.Directives.{Directive, DeclaresModule, DeclaresGo, Requires, Excludes, Replaces, Retracts, Kept, VersionInterval}
 use Rattle.gm_file.specs.Fields.{as_exclusion, as_go, as_module, as_replacing, as_requirement}
 use Rattle.gm_file_edit.specs.About.{retracts_ends}
 use Rattle.gomod_laws.proofs.FormattingBlanks.{main_said}
@@ -33,7 +33,7 @@ main_stays : (after before : List Directive) → filter_map as_module after ≡ 
     → filter_map as_replacing after ≡ filter_map as_replacing before → main_said after ≡ main_said before
 main_stays after before a b c d e = rw (a, b, c, d, e) refl
 
-retracts_only : {X : Type 0} (part : Directive → Option X) → ((e : Pair) → part (Retracts e) ≡ None) → (ends : Pair) → IsOfOthers part (retracts_ends ends)
+retracts_only : {X : Type 0} (part : Directive → Option X) → ((e : VersionInterval) → part (Retracts e) ≡ None) → (ends : VersionInterval) → IsOfOthers part (retracts_ends ends)
 retracts_only part none ends (DeclaresModule path) is = absurd (false≢true is)
 retracts_only part none ends (DeclaresGo text) is = absurd (false≢true is)
 retracts_only part none ends (Requires p) is = absurd (false≢true is)
@@ -43,7 +43,7 @@ retracts_only part none ends Kept is = absurd (false≢true is)
 retracts_only part none ends (Retracts e) is = none e
 
 -- the retractions of an interval say nothing of a build
-pub main_without_retractions : (ends : Pair) (after before : List Directive) → rest_of (retracts_ends ends) after ≡ rest_of (retracts_ends ends) before → main_said after ≡ main_said before
+pub main_without_retractions : (ends : VersionInterval) (after before : List Directive) → rest_of (retracts_ends ends) after ≡ rest_of (retracts_ends ends) before → main_said after ≡ main_said before
 main_without_retractions ends after before same =
     main_stays after before (said_stays as_module (retracts_ends ends) after before (retracts_only as_module (λ e. refl) ends) same)
     (said_stays as_go (retracts_ends ends) after before (retracts_only as_go (λ e. refl) ends) same)

@@ -7,10 +7,11 @@ use Rattle.std.proofs.lemmas.Bool.{false≢true}
 use Rattle.std.proofs.lemmas.Fmt.{decimal_digit}
 use Rattle.std.proofs.lemmas.Map.Keys.{IsDistinct-head}
 use Rattle.gm_name.specs.Path.{is_fetchable}
+use Rattle.gm_name.specs.ModuleVersion.{ModuleVersion, pair-self, pair_cmp, pair_eq}
 use Rattle.gm_file.specs.declared.fault.DirectiveKind.TheVariants.{NoModule}
 use Rattle.gm_file.specs.Fields.{Dependency}
 use Rattle.gm_store.specs.Asked.{Name, Reply, absent, answer_in, same_name}
-use Rattle.gm_graph_cache.specs.Main.{Main, ModuleVersion}
+use Rattle.gm_graph_cache.specs.Main.{Main}
 use Rattle.gm_graph_cache.specs.Reading.{Held, IsTold, Readings, Tells, file_of, is_askable, reading_if, readings_by, requirements_in, said_in, vertex_fault, vertex_requirements}
 use Rattle.gm_graph_cache.specs.declared.class.Class.{Class}
 use Rattle.gm_graph_cache.specs.declared.class.Class.TheVariants.{Missing}
@@ -18,13 +19,11 @@ use Rattle.gm_graph_cache.specs.declared.class.Misreading.TheVariants as misread
 use Rattle.gm_graph_select.specs.declared.step.Step.TheVariants.{Main as FromMain, Of}
 use Rattle.gm_graph_select.specs.BuildList.{main_entry, path_cmp}
 use Rattle.gm_graph_select.specs.Graph.{IsEdgeEnd}
-use Rattle.gm_name.specs.PairOrder.{pair_cmp, pair_eq}
 use Rattle.gm_graph_select.proofs.Ascending.{member_cases, member_head, no_member}
 use Rattle.gm_graph.specs.Graph.{IsEdge, IsOpened, IsTop, from_deep, from_main, from_top}
 use Rattle.gm_graph.specs.Loading.{AreFew, AreTooMany}
 use Rattle.gm_graph.specs.Outcome.{AreFaults}
 use Rattle.gm_graph.specs.declared.fault.Fault.{Fault}
-use Rattle.gm_graph.proofs.Sameness.{pair_eq-refl}
 use Rattle.gm_graph_listing.specs.Outcomes.{AreKnown, AreRows, IsListOutcome, IsOutcomeOver, IsStopped, PrintsList, answers, device, faulty, too_many}
 use Rattle.gm_report.specs.Outcome.{Outcome, printed}
 use Rattle.gm_graph_listing.proofs.OneOutcome.{one_list_outcome}
@@ -139,7 +138,7 @@ module _ (held : Held) (silent : (x : ModuleVersion) → vertex_requirements mai
   one_at_most (x ∷ y ∷ all) distinct each =
       let first : x ≡ top_one = opened_is x (each x (member_head x (y ∷ all))) in
       let second : y ≡ top_one = opened_is y (each y (1, omega arith, refl)) in
-      let same : pair_eq x y ≡ true = subst (λ (z : ModuleVersion). pair_eq x z ≡ true) (first ∙ sym second) (pair_eq-refl x) in
+      let same : pair_eq x y ≡ true = subst (λ (z : ModuleVersion). pair_eq x z ≡ true) (first ∙ sym second) (pair-self x) in
       absurd (false≢true (sym (IsDistinct-head pair_eq x (y ∷ all) distinct).0 ∙ same))
 
   one_few : AreFew main (readings_by main held)

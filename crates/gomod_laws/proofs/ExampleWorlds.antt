@@ -9,10 +9,10 @@ use Rattle.std.proofs.lemmas.List.Kept.{AllPairs-cons}
 use Rattle.gm_name.specs.Path.{is_fetchable}
 use Rattle.gm_name.specs.Version.{version_cmp}
 use Rattle.gm_name.specs.VersionOrder.{version_total}
+use Rattle.gm_name.specs.ModuleVersion.{ModuleVersion, pair_cmp}
 use Rattle.gm_file.specs.Directives.{Folder}
 use Rattle.gm_file.specs.Fields.{Dependency}
 use Rattle.gm_store.specs.Asked.{Name, absent, folder_file, same_name}
-use Rattle.gm_graph_cache.specs.Main.{ModuleVersion}
 use Rattle.gm_graph_cache.specs.Reading.{IsTold, Readings, is_unpruned, readings_by, vertex_fault, vertex_requirements}
 use Rattle.gm_graph_cache.specs.declared.class.Class.{Class}
 use Rattle.gm_graph_cache.specs.declared.class.Class.TheVariants.{Missing}
@@ -21,7 +21,6 @@ use Rattle.gm_graph_select.specs.declared.step.Step.{Step}
 use Rattle.gm_graph_select.specs.declared.step.Step.TheVariants.{Main as FromMain, Of}
 use Rattle.gm_graph_select.specs.BuildList.{Entry, HasEntryFor, IsSelected, main_entry, path_cmp, path_of}
 use Rattle.gm_graph_select.specs.Graph.{IsEdgeEnd, edge, edge_cmp}
-use Rattle.gm_name.specs.PairOrder.{pair_cmp}
 use Rattle.gm_graph_select.proofs.Ascending.{member_cases, member_head, member_tail, no_member}
 use Rattle.gm_graph_select.proofs.Lawful.{same_build_lists}
 use Rattle.gm_graph.specs.Graph.{IsDeep, IsEdge, IsOpened, IsTop, from_deep, from_main, from_top}

@@ -1,10 +1,11 @@
 -- An exclude of a version that no edge of the module graph leads to changes no outcome.
 use Rattle.std.proofs.Common.{◌≡◌, ◌⊎◌, ◌++◌, ◌∷◌, Bool, List, Option, None, Some, Contains, ap, false, inl, inr, not, refl, subst, sym, true}
 use Rattle.std.proofs.lemmas.List.Elements.{Contains-append_cases, Contains-append_left, Contains-append_right}
-use Rattle.gm_file.proofs.SamePairs.{contains-tells}
+use Rattle.gm_name.specs.ModuleVersion.{ModuleVersion}
+use Rattle.gm_file.proofs.Members.{contains-tells}
 use Rattle.gm_file.specs.Directives.{Replacing}
 use Rattle.gm_file.specs.Fields.{Dependency, replacement_of}
-use Rattle.gm_graph_cache.specs.Main.{Main, ModuleVersion, is_excluded, is_pruned_by, without_excluded}
+use Rattle.gm_graph_cache.specs.Main.{Main, is_excluded, is_pruned_by, without_excluded}
 use Rattle.gm_graph_cache.specs.Reading.{readings_by, requirements_in, said_in}
 use Rattle.gm_graph_select.proofs.Ascending.{member_cases, member_tail, no_member}
 use Rattle.gm_graph_select.specs.declared.step.Step.TheVariants.{Main as FromMain, Of}

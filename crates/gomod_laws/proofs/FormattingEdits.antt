@@ -20,9 +20,10 @@ use Rattle.gm_syntax.proofs.Spelled.{BeginsMark, escaped_mark, escaped_parts, pl
 use Rattle.gm_name.specs.Names.{is_path, is_version}
 use Rattle.gm_name.specs.Path.{is_byte_of_path}
 use Rattle.gm_name.specs.Version.{is_byte_of_version}
+use Rattle.gm_name.specs.ModuleVersion.{ModuleVersion}
 use Rattle.gm_name.proofs.Bytes.{path-bytes, version-bytes}
 use Rattle.gm_name.proofs.NameTests.{and_both, path-tested, version-tested}
-use Rattle.gm_file.specs.Directives.{Directive, Pair, Left, Right, Folder, Module, Replacing, block_after_line, pair, replacing}
+use Rattle.gm_file.specs.Directives.{Directive, VersionInterval, Left, Right, Folder, Module, Replacing, block_after_line, pair, replacing}
 use Rattle.gm_file.specs.Faults.{is_go, is_module}
 use Rattle.gm_file.specs.Values.{is_folder_path}
 use Rattle.gm_file_edit.specs.About.{about, is_replaced_by, requires_path}
@@ -53,7 +54,7 @@ any_position b (x ∷ xs) = elim (cases_Bool (x == b)) [
 ]
 
 -- both sides of an ASCII byte of a UTF-8 text are UTF-8
-split_utf8 : (b : ℕ) (text : List ℕ) (parts : Pair) → b < 128 → IsUtf8 text → split_at_byte b text ≡ Some parts → AreUtf8 parts.0 parts.1
+split_utf8 : (b : ℕ) (text : List ℕ) (parts : List ℕ × List ℕ) → b < 128 → IsUtf8 text → split_at_byte b text ≡ Some parts → AreUtf8 parts.0 parts.1
 split_utf8 b text parts low utf8 e =
     let found = if-some (has_byte b text) (Some (pair (before_first (λ c. c == b) text) (after_first (λ c. c == b) text))) parts e in
     let there : nat_lt (position_or_len (λ c. c == b) text) (length text) ≡ true = sym (any_position b text) ∙ found.0 in
@@ -64,7 +65,7 @@ split_utf8 b text parts low utf8 e =
     let cut = before_ascii (before_first (λ c. c == b) text) (get_or text (position_or_len (λ c. c == b) text) 0 ∷ after_first (λ c. c == b) text) small (subst IsUtf8 whole utf8) in
     let same : pair (before_first (λ c. c == b) text) (after_first (λ c. c == b) text) ≡ parts = cc (found.1) in
     let both : AreUtf8 (before_first (λ c. c == b) text) (after_first (λ c. c == b) text) = record { front = cut.front; back = after_ascii _ (after_first (λ c. c == b) text) small cut.back } in
-    subst (λ (p : Pair). AreUtf8 p.0 p.1) same both
+    subst (λ (p : ModuleVersion). AreUtf8 p.0 p.1) same both
 
 low_text : (test : ℕ → Bool) → ((b : ℕ) → test b ≡ true → b < 128) → (text : List ℕ) → list_all test text ≡ true → IsUtf8 text
 low_text test low [] all = IsUtf8-nil
@@ -257,10 +258,10 @@ module _ {X : Type 0} (P : X → Type 0) where
 
 -- ---- the words of new entries
 
-pair_good : (p : Pair) → IsPairOfNames p → AreGoodWords (pair_words p)
+pair_good : (p : ModuleVersion) → IsPairOfNames p → AreGoodWords (pair_words p)
 pair_good p names = (new_utf8 p.0 (path_utf8 p.0 names.0), (new_utf8 p.1 (version_utf8 p.1 names.1), tt))
 
-interval_good : (ends : Pair) → AreVersions ends → AreGoodWords (interval_words ends)
+interval_good : (ends : VersionInterval) → AreVersions ends → AreGoodWords (interval_words ends)
 interval_good ends are = by_test (bytes_eq ends.0 ends.1)
   where
     by_test : (same : Bool) → AreGoodWords (if same then made_word ends.0 ∷ []

@@ -4,13 +4,13 @@ use mathlib.Core.Path.{fun_ext}
 use Rattle.std.specs.List.{list_any}
 use Rattle.std.specs.Prelude.{◌||◌}
 use Rattle.std.specs.Option.{option_map}
+use Rattle.gm_name.specs.ModuleVersion.{ModuleVersion, pair_eq}
 use Rattle.gm_file.specs.Directives.{Right}
 use Rattle.gm_file.specs.Fields.{Dependency}
-use Rattle.gm_name.specs.PairOrder.{pair_eq}
 use Rattle.gm_store.specs.Asked.{Name, Reply, answer_in}
 use Rattle.gm_graph_cache.specs.declared.class.Class.{Class}
 use Rattle.gm_graph_cache.specs.declared.class.Class.TheVariants.{NotFetchable}
-use Rattle.gm_graph_cache.specs.Main.{Main, ModuleVersion, is_excluded, replacement_in, without_excluded}
+use Rattle.gm_graph_cache.specs.Main.{Main, is_excluded, replacement_in, without_excluded}
 use Rattle.gm_graph_cache.specs.Reading.{Held, Readings, file_named, file_of, is_askable, reading_if, readings_by, requirements_in, said_in, vertex_requirements, with_right_path}
 use Rattle.gm_graph_select.specs.declared.step.Edge.{Edge}
 use Rattle.gm_graph_select.specs.declared.step.Step.{Step}

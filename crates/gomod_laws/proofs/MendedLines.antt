@@ -1,8 +1,9 @@
 -- The line `module PATH` is a file that requires nothing, so it mends what a report is about.
 use Rattle.std.proofs.Common.{ℕ, List, None, Option}
 use Rattle.gm_name.specs.Path.{IsPath}
+use Rattle.gm_name.specs.ModuleVersion.{ModuleVersion}
 use Rattle.gm_store.specs.Asked.{Name, Reply}
-use Rattle.gm_graph_cache.specs.Main.{Main, ModuleVersion}
+use Rattle.gm_graph_cache.specs.Main.{Main}
 use Rattle.gm_graph.specs.declared.fault.Fault.{Fault}
 use Rattle.gm_report.specs.Outcome.{Outcome}
 use Rattle.gm_graph_listing.proofs.RunNames.{run_has_names}

@@ -1,6 +1,7 @@
 -- What is read over a store that gives each reported module a file that requires nothing.
 use Rattle.std.proofs.Common.{◌≡◌, ◌≢◌, ◌∙◌, ◌↔◌, ◌≤◌, ℕ, Bool, true, false, List, [], length, Option, Some, None, Result, Ok, Err, Contains, ap, ap₂, arith, refl, sym, subst}
 use Rattle.std.specs.Option.{option_map}
+use Rattle.gm_name.specs.ModuleVersion.{ModuleVersion}
 use Rattle.gm_file.specs.Fields.{Dependency, replacement_of}
 use Rattle.gm_file.specs.Directives.{Replacing, Right}
 use Rattle.gm_store.specs.Asked.{Name, Reply, answer_in, bytes, mod_file}
@@ -8,7 +9,7 @@ use Rattle.gm_store.proofs.NameOrder.{bytes_itself}
 use Rattle.gm_store_sums.specs.declared.sum_table.SumTable.{SumTable}
 use Rattle.gm_graph_cache.specs.declared.class.Class.{Class}
 use Rattle.gm_graph_cache.specs.declared.class.Class.TheVariants.{NotFetchable}
-use Rattle.gm_graph_cache.specs.Main.{Main, ModuleVersion, replacement_in, without_excluded}
+use Rattle.gm_graph_cache.specs.Main.{Main, replacement_in, without_excluded}
 use Rattle.gm_graph_cache.specs.Reading.{Held, IsFileReading, IsReadUnless, IsTold, Readings, Tells, declares, fault_in, file_named, file_of, is_askable, reading_if, readings_by, sum_fault, vertex_fault, with_right_path}
 use Rattle.gm_graph_cache.proofs.OneReading.{one_reading}
 use Rattle.gm_graph_select.proofs.Ascending.{no_member}
@@ -20,7 +21,7 @@ use Rattle.gm_graph.specs.Graph.{IsEdge, IsOpened}
 use Rattle.gm_graph.specs.Loading.{AreTooMany, IsAnswered, IsNeeded}
 use Rattle.gm_graph.specs.Outcome.{AreFaults}
 use Rattle.gm_graph_listing.specs.Outcomes.{AreKnown, AreSums, answers}
-use Rattle.gomod_laws.specs.ReportLaws.{IsListed, RequiresNothing}
+use Rattle.gomod_laws.specs.ReportLaws.{IsSummed, RequiresNothing}
 use Rattle.gomod_laws.proofs.Carried.{IsCarried, Known, edge_too, opened_too, reading_kept, told_kept}
 use Rattle.gomod_laws.proofs.SumsChecked.{no_sum_fault}
 
@@ -40,7 +41,7 @@ same_module x y e =
 
 -- ---- a file that requires nothing
 
-listed_sound : (sums : Option (List ℕ)) (table : Option SumTable) → AreSums sums table → (x : ModuleVersion) (content : List ℕ) → IsListed sums x content
+listed_sound : (sums : Option (List ℕ)) (table : Option SumTable) → AreSums sums table → (x : ModuleVersion) (content : List ℕ) → IsSummed sums x content
     → sum_fault table (mod_file x.0 x.1) content ≡ None
 listed_sound None None are x content listed = refl
 listed_sound None (Some table) are x content listed = absurd are

@@ -4,9 +4,10 @@ use Rattle.std.specs.Ordering.{is_gt}
 use Rattle.std.proofs.lemmas.Cmp.{upto}
 use Rattle.gm_name.specs.Version.{version_cmp}
 use Rattle.gm_name.specs.VersionOrder.{version_total}
+use Rattle.gm_name.specs.ModuleVersion.{ModuleVersion}
 use Rattle.gm_file.specs.Directives.{Right}
 use Rattle.gm_file.specs.Fields.{replacement_of}
-use Rattle.gm_graph_cache.specs.Main.{Main, ModuleVersion, replacement_in}
+use Rattle.gm_graph_cache.specs.Main.{Main, replacement_in}
 use Rattle.gm_graph_cache.specs.Reading.{Readings}
 use Rattle.gm_graph_select.specs.declared.step.Step.TheVariants.{Of}
 use Rattle.gm_graph_select.specs.BuildList.{Entry, IsSelected}

@@ -7,12 +7,13 @@ use Rattle.std.specs.Option.{option_map, option_to_list}
 use Rattle.std.proofs.lemmas.Bool.{cases_Bool, false≢true}
 use Rattle.std.proofs.lemmas.Bool.Decides.{nat_tests}
 use Rattle.gm_name.specs.Names.{is_decimal}
+use Rattle.gm_name.specs.ModuleVersion.{ModuleVersion}
 use Rattle.gm_name.proofs.NameTests.{and_both}
 use Rattle.gm_syntax.specs.Words.{Word}
 use Rattle.gm_syntax.specs.Document.{Line}
 use Rattle.gm_file.specs.declared.fault.DirectiveKind.{DirectiveKind}
 use Rattle.gm_file.specs.declared.fault.DirectiveKind.TheVariants.{BadGo, Repeated}
-use Rattle.gm_file.specs.Directives.{DeclaresGo, DeclaresModule, Directive, Excludes, Item, Kept, LineInBlock, Lax, Opening, Pair, Replaces, Replacing, Requires, Retracts, Saying, Silent, Strict, Verb, ForExclude, ForGo, ForModule, ForNothing, ForReplace, ForRequire, ForRetract, Unknown, block_after_line, directive_in, directive_of, directives, ends_of, item_at, main_verb, pair_of, replacing_of, said, with_blocks, with_blocks_from}
+use Rattle.gm_file.specs.Directives.{DeclaresGo, DeclaresModule, Directive, Excludes, Item, Kept, LineInBlock, Lax, Opening, VersionInterval, Replaces, Replacing, Requires, Retracts, Saying, Silent, Strict, Verb, ForExclude, ForGo, ForModule, ForNothing, ForReplace, ForRequire, ForRetract, Unknown, block_after_line, directive_in, directive_of, directives, ends_of, item_at, main_verb, pair_of, replacing_of, said, with_blocks, with_blocks_from}
 use Rattle.gm_file.specs.Faults.{directive_kinds, entry_kinds, fault_of, go_in, is_go, item_kinds, unless}
 use Rattle.gm_file.specs.Fields.{as_go, as_requirement, first, go_of, requirements_of}
 use Rattle.gm_file.specs.GoVersions.{after_dot, before_dot, first_number, has_dot, is_go_suffix, last_number, lax_go, lax_go_text, numbers, second_number, small_number, strict_go}
@@ -34,8 +35,8 @@ part_first part None ds = refl
 part_first part (Some d) ds = refl
 
 -- a part of directives that an exclude, a replace, a retraction and an entry without effect don't have
-module _ {Y : Type 0} (part : Directive → Option Y) (no_exclude : (p : Pair) → part (Excludes p) ≡ None) (no_replace : (r : Replacing) → part (Replaces r) ≡ None)
-    (no_retract : (p : Pair) → part (Retracts p) ≡ None) (no_kept : part Kept ≡ None) where
+module _ {Y : Type 0} (part : Directive → Option Y) (no_exclude : (p : ModuleVersion) → part (Excludes p) ≡ None) (no_replace : (r : Replacing) → part (Replaces r) ≡ None)
+    (no_retract : (p : VersionInterval) → part (Retracts p) ≡ None) (no_kept : part Kept ≡ None) where
   by_tests : (a b c d e f g : Bool) (words : List Word)
       → option_and_then part (directive_of (if a then ForModule else (if b then ForGo else (if c then ForRequire else (if d then ForExclude else (if e then ForReplace else (if f then ForRetract else (if g then ForNothing else Unknown))))))) words)
       ≡ option_and_then part (directive_of (if a then ForModule else (if b then ForGo else (if c then ForRequire else ForNothing))) words)

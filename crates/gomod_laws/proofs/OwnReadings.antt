@@ -1,13 +1,14 @@
 -- What the file of an opened module says in a run that prints, if it is a valid main file too.
 use Rattle.std.proofs.Common.{◌≡◌, ◌∙◌, ℕ, Bool, true, false, cond, List, Option, Some, None, Result, Ok, Err, ap, refl, subst, sym}
 use Rattle.std.proofs.lemmas.Bool.{false≢true}
+use Rattle.gm_name.specs.ModuleVersion.{ModuleVersion}
 use Rattle.gm_file.specs.Directives.{Lax, Replacing, Right}
 use Rattle.gm_file.specs.Fields.{Dependency, replacement_of, go_of, requirements_of}
 use Rattle.gm_syntax.specs.LineViews.{plain_lines}
 use Rattle.gm_store.specs.Asked.{Name, Reply, answer_in, bytes, mod_file}
 use Rattle.gm_graph_cache.specs.declared.class.Class.{Class}
 use Rattle.gm_graph_cache.specs.declared.class.Class.TheVariants.{WrongPath}
-use Rattle.gm_graph_cache.specs.Main.{Main, ModuleVersion, replacement_in}
+use Rattle.gm_graph_cache.specs.Main.{Main, replacement_in}
 use Rattle.gm_graph_cache.specs.Reading.{Held, IsFileReading, IsReadAsDependency, IsReadUnless, IsTold, fault_in, file_named, file_of, is_askable, is_right_path, reading_if, readings_by, sum_fault, vertex_fault, with_right_path}
 use Rattle.gm_graph_select.proofs.Ascending.{no_member}
 use Rattle.gm_graph.specs.declared.fault.Fault.{Fault}

@@ -1,9 +1,10 @@
 -- No row of a dependency's own list is above the row of its path in the main file's list.
 use Rattle.std.proofs.Common.{◌≡◌, ◌⊎◌, ◌∙◌, ℕ, true, false, not, List, [], Option, None, Some, Result, Ok, Err, Contains, ap, refl, subst, sym, inl, inr}
+use Rattle.gm_name.specs.ModuleVersion.{ModuleVersion}
 use Rattle.gm_file.specs.Directives.{Replacing}
 use Rattle.gm_file.specs.Fields.{Dependency, replacement_of}
 use Rattle.gm_graph_cache.specs.declared.class.Class.{Class}
-use Rattle.gm_graph_cache.specs.Main.{Main, ModuleVersion, is_pruned_by}
+use Rattle.gm_graph_cache.specs.Main.{Main, is_pruned_by}
 use Rattle.gm_graph_cache.specs.Reading.{Readings, is_unpruned, is_unpruned_in, readings_by, requirements_in, said_in, vertex_requirements}
 use Rattle.gm_graph_select.specs.declared.step.Step.{Step}
 use Rattle.gm_graph_select.specs.declared.step.Step.TheVariants.{Main as FromMain, Of}

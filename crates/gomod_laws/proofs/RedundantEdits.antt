@@ -6,18 +6,19 @@ use Rattle.std.specs.Option.{option_map, option_to_list}
 use Rattle.std.specs.Prelude.{String}
 use Rattle.std.specs.Str.{bytes_eq}
 use Rattle.std.proofs.lemmas.Bool.{false≢true}
+use Rattle.gm_name.specs.ModuleVersion.{ModuleVersion}
 use Rattle.gm_syntax.specs.Document.{Line}
 use Rattle.gm_syntax.specs.Layout.{layout}
 use Rattle.gm_syntax.specs.LineViews.{plain_lines}
 use Rattle.gm_syntax.specs.Tokens.{Placed}
-use Rattle.gm_file.specs.Directives.{Directive, DeclaresModule, DeclaresGo, Requires, Excludes, Replaces, Retracts, Kept, Pair, pair}
+use Rattle.gm_file.specs.Directives.{Directive, DeclaresModule, DeclaresGo, Requires, Excludes, Replaces, Retracts, Kept, pair}
 use Rattle.gm_file.specs.Fields.{as_exclusion, as_go, as_module, as_replacing, as_requirement}
 use Rattle.gm_file_edit.specs.About.{requires_path}
 use Rattle.gm_file_edit.specs.Edited.{edited}
 use Rattle.gm_file_edit.specs.Edits.{Edit as Operation, Drop, AnyRequire, Set, RequireAt, edit_in}
 use Rattle.gm_file_edit.specs.Laws.{IsEditOf, directives_of}
 use Rattle.gm_file_edit.proofs.SaidAfter.{dropped-is-gone, others-stay}
-use Rattle.gm_graph_cache.specs.Main.{Main, ModuleVersion}
+use Rattle.gm_graph_cache.specs.Main.{Main}
 use Rattle.gm_graph_select.specs.declared.step.Edge.{Edge}
 use Rattle.gm_graph_select.proofs.RestRows.{texts_differ, texts_same}
 use Rattle.gm_graph.specs.Graph.{IsTop}
@@ -95,7 +96,7 @@ module _ (first second : Main) (rest : DifferInRequirements first second) (edges
 
 -- ---- `droprequire=`
 
-requires_only : {X : Type 0} (part : Directive → Option X) → ((p : Pair) → part (Requires p) ≡ None) → (path : List ℕ)
+requires_only : {X : Type 0} (part : Directive → Option X) → ((p : ModuleVersion) → part (Requires p) ≡ None) → (path : List ℕ)
     → IsOfOthers part (requires_path path)
 requires_only part none path (DeclaresModule p) is = absurd (false≢true is)
 requires_only part none path (DeclaresGo text) is = absurd (false≢true is)
@@ -167,7 +168,7 @@ drop_changes_no_list operations path file text sums first second edges seen grap
 
 -- ---- `require=`
 
-kept_by_upgrade : (p : Pair) (lines : List (Line Placed)) → IsEditOf (Set (RequireAt p)) lines → (x : ModuleVersion)
+kept_by_upgrade : (p : ModuleVersion) (lines : List (Line Placed)) → IsEditOf (Set (RequireAt p)) lines → (x : ModuleVersion)
     → bytes_eq x.0 p.0 ≡ false → Contains (filter_map as_requirement (directives_of lines)) x
     → Contains (filter_map as_requirement (directives_of (edited (Set (RequireAt p)) lines))) x
 kept_by_upgrade p lines is x e there =
@@ -175,7 +176,7 @@ kept_by_upgrade p lines is x e there =
     (still_there p lines is x (required_of (directives_of lines) x there) (λ same. absurd (texts_differ x.0 p.0 e (sym same))))
 
 -- what both main files say but for what they require, and what the second still requires of other paths
-pub after_require : (p : Pair) (first second : Main) → AreSaidBy (Set (RequireAt p)) first second → DifferInRequirements first second
+pub after_require : (p : ModuleVersion) (first second : Main) → AreSaidBy (Set (RequireAt p)) first second → DifferInRequirements first second
     × ((x : ModuleVersion) → bytes_eq x.0 p.0 ≡ false → Contains first.requirements x → Contains second.requirements x)
 after_require p first second said =
     let ds : List Directive = directives_of said.lines in
@@ -188,7 +189,7 @@ after_require p first second said =
 
 pub upgrade_lowers_no_row : UpgradeLowersNoRow
 upgrade_lowers_no_row operations path version file text sums first second edges seen graph one next runs alike has shows stands =
-    let p : Pair = pair path version in
+    let p : ModuleVersion = pair path version in
     let said = said_by operations (Set (RequireAt p)) file text first second has runs.first_says runs.second_says in
     let (rest, keeps) = after_require p first second said in
     no_row_is_lower file text sums first second edges seen graph one next runs alike shows rest

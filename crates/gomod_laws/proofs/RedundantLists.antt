@@ -1,8 +1,9 @@
 -- What the second of two main files leaves out still stands in its graph.
 use Rattle.std.proofs.Common.{◌≡◌, ◌∙◌, ◌⊎◌, ℕ, List, [], Option, None, ap, refl, sym, inl, inr}
+use Rattle.gm_name.specs.ModuleVersion.{ModuleVersion}
 use Rattle.gm_file.specs.Fields.{replacement_of}
 use Rattle.gm_store.specs.Asked.{Name, Reply}
-use Rattle.gm_graph_cache.specs.Main.{Main, ModuleVersion, replacement_in}
+use Rattle.gm_graph_cache.specs.Main.{Main, replacement_in}
 use Rattle.gm_graph_cache.specs.Reading.{Held, Readings, readings_by}
 use Rattle.gm_graph_select.specs.declared.step.Edge.{Edge}
 use Rattle.gm_graph_select.specs.declared.step.Step.TheVariants.{Of}

@@ -2,10 +2,11 @@
 use Rattle.std.proofs.Common.{◌≡◌, ◌↔◌, ◌∙◌, ◌||◌, ◌++◌, ◌∷◌, Bool, List, [], Option, Some, None, Contains, ap, ap₂, cond, false, refl, subst, sym, true}
 use Rattle.std.specs.List.{find}
 use Rattle.std.specs.Option.{option_map, option_or}
+use Rattle.gm_name.specs.ModuleVersion.{ModuleVersion}
 use Rattle.gm_file.specs.Directives.{Left, Replacing, left_with, left_without}
 use Rattle.gm_file.specs.Faults.{is_same_left}
 use Rattle.gm_file.specs.Fields.{Dependency, replacement_of, right_for}
-use Rattle.gm_graph_cache.specs.Main.{Main, ModuleVersion, is_pruned_by, replacement_in, without_excluded}
+use Rattle.gm_graph_cache.specs.Main.{Main, is_pruned_by, replacement_in, without_excluded}
 use Rattle.gm_graph_cache.specs.Reading.{readings_by, requirements_in, said_in, vertex_requirements}
 use Rattle.gomod_laws.specs.ExclusionLaws.{HasOneMoreReplace, ReplaceAloneAddsNothing, is_left_of}
 use Rattle.gomod_laws.proofs.SameRuns.{SaysTheSameOfRun, same_of_run}

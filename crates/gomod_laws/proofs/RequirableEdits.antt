@@ -4,10 +4,11 @@ use Rattle.std.specs.List.{cons_option, filter_map}
 use Rattle.std.specs.Prelude.{ℕ}
 use Rattle.std.specs.Str.{bytes_eq}
 use Rattle.std.proofs.lemmas.Bool.{false≢true}
+use Rattle.gm_name.specs.ModuleVersion.{ModuleVersion}
 use Rattle.gm_syntax.specs.Document.{IsDocument, Line}
 use Rattle.gm_syntax.specs.LineViews.{plain_lines}
 use Rattle.gm_syntax.specs.Tokens.{Placed}
-use Rattle.gm_file.specs.Directives.{Strict, Pair, Directive, DeclaresModule, DeclaresGo, Requires, Excludes, Replaces, Retracts, Kept}
+use Rattle.gm_file.specs.Directives.{Strict, Directive, DeclaresModule, DeclaresGo, Requires, Excludes, Replaces, Retracts, Kept}
 use Rattle.gm_file.specs.Faults.{fault_of}
 use Rattle.gm_file.specs.Fields.{as_exclusion, as_go, as_module, as_replacing, as_requirement}
 use Rattle.gm_file_edit.specs.About.{requires_path}
@@ -88,10 +89,10 @@ same_after f test before after none same =
 
 -- ---- the requirements of directives
 
-one_requirement : (p q : Pair) → Requires p ≡ Requires q → p ≡ q
+one_requirement : (p q : ModuleVersion) → Requires p ≡ Requires q → p ≡ q
 one_requirement p q e = cc e
 
-pub required_in : (ds : List Directive) (x : Pair) → Contains ds (Requires x) → Contains (filter_map as_requirement ds) x
+pub required_in : (ds : List Directive) (x : ModuleVersion) → Contains ds (Requires x) → Contains (filter_map as_requirement ds) x
 required_in [] x there = absurd (no_member (Requires x) there)
 required_in (d ∷ ds) x there = go d (member_cases d (Requires x) ds there) (required_in ds x)
   where
@@ -99,7 +100,7 @@ required_in (d ∷ ds) x there = go d (member_cases d (Requires x) ds there) (re
         → (Contains ds (Requires x) → Contains (filter_map as_requirement ds) x)
         → Contains (cons_option (as_requirement d) (filter_map as_requirement ds)) x
     go (Requires p) (inl is) rest =
-        subst (λ (q : Pair). Contains (p ∷ filter_map as_requirement ds) q) (one_requirement p x is)
+        subst (λ (q : ModuleVersion). Contains (p ∷ filter_map as_requirement ds) q) (one_requirement p x is)
         (member_head p (filter_map as_requirement ds))
     go (Requires p) (inr behind) rest = member_tail p x (filter_map as_requirement ds) (rest behind)
     go (DeclaresModule p) (inl is) rest = cc is
@@ -115,14 +116,14 @@ required_in (d ∷ ds) x there = go d (member_cases d (Requires x) ds there) (re
     go Kept (inl is) rest = cc is
     go Kept (inr behind) rest = rest behind
 
-pub required_of : (ds : List Directive) (x : Pair) → Contains (filter_map as_requirement ds) x → Contains ds (Requires x)
+pub required_of : (ds : List Directive) (x : ModuleVersion) → Contains (filter_map as_requirement ds) x → Contains ds (Requires x)
 required_of [] x there = absurd (no_member x there)
 required_of (d ∷ ds) x there = go d there (required_of ds x)
   where
     go : (d : Directive) → Contains (cons_option (as_requirement d) (filter_map as_requirement ds)) x
         → (Contains (filter_map as_requirement ds) x → Contains ds (Requires x)) → Contains (d ∷ ds) (Requires x)
     go (Requires p) inside rest = elim (member_cases p x (filter_map as_requirement ds) inside) [
-      | inl is ↦ subst (λ (q : Pair). Contains (Requires p ∷ ds) (Requires q)) is (member_head (Requires p) ds)
+      | inl is ↦ subst (λ (q : ModuleVersion). Contains (Requires p ∷ ds) (Requires q)) is (member_head (Requires p) ds)
       | inr behind ↦ member_tail (Requires p) (Requires x) ds (rest behind)
     ]
     go (DeclaresModule p) inside rest = member_tail (DeclaresModule p) (Requires x) ds (rest inside)
@@ -135,7 +136,7 @@ required_of (d ∷ ds) x there = go d there (required_of ds x)
 -- ---- one edit that requires a module
 
 -- the directives before and after an edit that requires p
-module _ (p : Pair) (lines : List (Line Placed)) (is : IsEditOf (Set (RequireAt p)) lines) where
+module _ (p : ModuleVersion) (lines : List (Line Placed)) (is : IsEditOf (Set (RequireAt p)) lines) where
   abbrev before : List Directive
   before = directives_of lines
 
@@ -161,7 +162,7 @@ module _ (p : Pair) (lines : List (Line Placed)) (is : IsEditOf (Set (RequireAt 
       (from_filtered test after (Requires p)
       (subst (λ (ds : List Directive). Contains ds (Requires p)) (sym alone) (member_head (Requires p) []))).0
 
-  pub after_was : (x : Pair) → Contains after (Requires x) → (p ≡ x) ⊎ Contains before (Requires x)
+  pub after_was : (x : ModuleVersion) → Contains after (Requires x) → (p ≡ x) ⊎ Contains before (Requires x)
   after_was x there = go (bytes_eq x.0 p.0) refl
     where
       go : (b : Bool) → bytes_eq x.0 p.0 ≡ b → (p ≡ x) ⊎ Contains before (Requires x)
@@ -178,11 +179,11 @@ module _ (p : Pair) (lines : List (Line Placed)) (is : IsEditOf (Set (RequireAt 
           inr (from_filtered (λ d. not (test d)) before (Requires x)
           (subst (λ (ds : List Directive). Contains ds (Requires x)) same kept)).0
 
-  pub still_there : (x : Pair) → Contains before (Requires x) → (p.0 ≡ x.0 → p ≡ x) → Contains after (Requires x)
+  pub still_there : (x : ModuleVersion) → Contains before (Requires x) → (p.0 ≡ x.0 → p ≡ x) → Contains after (Requires x)
   still_there x there one = go (bytes_eq x.0 p.0) refl
     where
       go : (b : Bool) → bytes_eq x.0 p.0 ≡ b → Contains after (Requires x)
-      go true e = subst (λ (q : Pair). Contains after (Requires q)) (one (sym (texts_same x.0 p.0 e))) set_there
+      go true e = subst (λ (q : ModuleVersion). Contains after (Requires q)) (one (sym (texts_same x.0 p.0 e))) set_there
       go false e =
           let same = others-stay (Set (RequireAt p)) lines is in
           let kept = in_filtered (λ d. not (test d)) before (Requires x) there (ap not e) in
@@ -197,24 +198,24 @@ pub record AreFaultless (lines : List (Line Placed)) : Type 0 where
   pub faultless : fault_of Strict (plain_lines lines) ≡ None
 
 -- an edit can require the module
-pub record IsRequirable (p : Pair) : Type 0 where
+pub record IsRequirable (p : ModuleVersion) : Type 0 where
   pub spelling : List ℕ
   pub spelled : edit_in spelling ≡ Some (Set (RequireAt p))
   pub fits : is_fit (Set (RequireAt p)) ≡ true
 
 -- What a file says after the modules were required, of which no two have the same path.
-pub record AreRequired (ps : List Pair) (lines after : List (Line Placed)) : Type 0 where
+pub record AreRequired (ps : List ModuleVersion) (lines after : List (Line Placed)) : Type 0 where
   pub sound : AreFaultless after
   pub rest : SameRest (directives_of lines) (directives_of after)
-  pub each : (x : Pair) → Contains ps x → Contains (directives_of after) (Requires x)
-  pub only : (x : Pair) → Contains (directives_of after) (Requires x)
+  pub each : (x : ModuleVersion) → Contains ps x → Contains (directives_of after) (Requires x)
+  pub only : (x : ModuleVersion) → Contains (directives_of after) (Requires x)
       → Contains ps x ⊎ Contains (directives_of lines) (Requires x)
-  pub keeps : (x : Pair) → Contains (directives_of lines) (Requires x)
-      → ((p : Pair) → Contains ps p → p.0 ≡ x.0 → p ≡ x) → Contains (directives_of after) (Requires x)
+  pub keeps : (x : ModuleVersion) → Contains (directives_of lines) (Requires x)
+      → ((p : ModuleVersion) → Contains ps p → p.0 ≡ x.0 → p ≡ x) → Contains (directives_of after) (Requires x)
 
-pub required_in_turn : (ps : List Pair) (lines : List (Line Placed)) → AreFaultless lines
-    → ((p : Pair) → Contains ps p → IsRequirable p)
-    → ((p q : Pair) → Contains ps p → Contains ps q → p.0 ≡ q.0 → p ≡ q)
+pub required_in_turn : (ps : List ModuleVersion) (lines : List (Line Placed)) → AreFaultless lines
+    → ((p : ModuleVersion) → Contains ps p → IsRequirable p)
+    → ((p q : ModuleVersion) → Contains ps p → Contains ps q → p.0 ≡ q.0 → p ≡ q)
     → AreRequired ps lines (edited_in_turn (map (λ p. Set (RequireAt p)) ps) lines)
 required_in_turn [] lines are can one = record {
   sound = are;
@@ -241,14 +242,14 @@ required_in_turn (p ∷ ps) lines are can one =
         replaces = here.replaces ∙ later.rest.replaces;
       };
       each = λ x there. elim (member_cases p x ps there) [
-        | inl same ↦ subst (λ (q : Pair). Contains (directives_of (edited_in_turn (map (λ p. Set (RequireAt p)) ps) next)) (Requires q)) same
+        | inl same ↦ subst (λ (q : ModuleVersion). Contains (directives_of (edited_in_turn (map (λ p. Set (RequireAt p)) ps) next)) (Requires q)) same
             (later.keeps p (set_there p lines is) (λ q inside. one q p (member_tail p q ps inside) (member_head p ps)))
         | inr behind ↦ later.each x behind
       ];
       only = λ x there. elim (later.only x there) [
         | inl inside ↦ inl (member_tail p x ps inside)
         | inr was ↦ elim (after_was p lines is x was) [
-          | inl same ↦ inl (subst (λ (q : Pair). Contains (p ∷ ps) q) same (member_head p ps))
+          | inl same ↦ inl (subst (λ (q : ModuleVersion). Contains (p ∷ ps) q) same (member_head p ps))
           | inr before ↦ inr before
         ]
       ];

@@ -6,11 +6,12 @@ use Rattle.std.specs.declared.cmp.Ordering.TheVariants.{Less, Equal, Greater}
 use Rattle.std.proofs.lemmas.Bool.{false≢true}
 use Rattle.gm_name.specs.Version.{version_cmp}
 use Rattle.gm_name.specs.VersionOrder.{version_total, version-anti}
+use Rattle.gm_name.specs.ModuleVersion.{ModuleVersion}
 use Rattle.gm_file.specs.Directives.{Replacing, Right}
 use Rattle.gm_file.specs.Fields.{Dependency, replacement_of}
 use Rattle.gm_store.specs.Asked.{Name, Reply}
 use Rattle.gm_graph_cache.specs.declared.class.Class.{Class}
-use Rattle.gm_graph_cache.specs.Main.{Main, ModuleVersion, is_pruned_by, without_excluded, replacement_in}
+use Rattle.gm_graph_cache.specs.Main.{Main, is_pruned_by, without_excluded, replacement_in}
 use Rattle.gm_graph_cache.specs.Reading.{Held, Readings, readings_by, requirements_in, said_in}
 use Rattle.gm_graph_select.specs.declared.step.Step.TheVariants.{Main as FromMain, Of}
 use Rattle.gm_graph_select.specs.Graph.{Edges, edge}

@@ -3,11 +3,12 @@ use Rattle.std.proofs.Common.{◌≡◌, ◌∙◌, ◌++◌, ◌+◌, ℕ, List
 use Rattle.std.specs.List.{cons_option, filter_map}
 use Rattle.std.specs.Option.{option_map, option_to_list}
 use Rattle.std.specs.Prelude.{option_and_then, unwrap_or}
+use Rattle.gm_name.specs.ModuleVersion.{ModuleVersion}
 use Rattle.gm_syntax.specs.Document.{Line}
 use Rattle.gm_syntax.specs.Layout.{layout}
 use Rattle.gm_syntax.specs.LineViews.{plain_lines}
 use Rattle.gm_syntax.specs.Tokens.{Placed}
-use Rattle.gm_file.specs.Directives.{Strict, Directive, Pair, Replacing}
+use Rattle.gm_file.specs.Directives.{Strict, Directive, Replacing}
 use Rattle.gm_file.specs.Faults.{go_in}
 use Rattle.gm_file.specs.Fields.{first, replacement_of}
 use Rattle.gm_file_edit.specs.Edits.{Edit as Change, Set, RequireAt, edit_in}
@@ -41,8 +42,8 @@ differ ds es same = record {
   path = ap (λ (ms : List (List ℕ)). unwrap_or (first ms) []) same.modules;
   replaces = λ x. ap (λ (rs : List Replacing). replacement_of rs x) same.replaces;
   excludes = λ x. (
-    (λ there. subst (λ (ps : List Pair). Contains ps x) same.exclusions there),
-    (λ there. subst (λ (ps : List Pair). Contains ps x) (sym same.exclusions) there),
+    (λ there. subst (λ (ps : List ModuleVersion). Contains ps x) same.exclusions there),
+    (λ there. subst (λ (ps : List ModuleVersion). Contains ps x) (sym same.exclusions) there),
   );
   pruned = ap (λ (ts : List (List ℕ)). is_pruned_by (unwrap_or (option_and_then (go_in Strict) (first ts)) (1, 16))) same.gos;
 }
@@ -50,18 +51,18 @@ differ ds es same = record {
 -- ---- the operations
 
 -- what the operations require
-pub record AreRows (rows : List Entry) (texts : List (List ℕ)) (ps : List Pair) : Type 0 where
+pub record AreRows (rows : List Entry) (texts : List (List ℕ)) (ps : List ModuleVersion) : Type 0 where
   pub edits : filter_map edit_in texts ≡ map (λ p. Set (RequireAt p)) ps
-  pub able : (p : Pair) → Contains ps p → IsRequirable p
-  pub listed : (p : Pair) → Contains ps p → HasRow rows p
-  pub each : (text : List ℕ) (x : Pair) → Contains texts text → edit_in text ≡ Some (Set (RequireAt x)) → Contains ps x
+  pub able : (p : ModuleVersion) → Contains ps p → IsRequirable p
+  pub listed : (p : ModuleVersion) → Contains ps p → HasRow rows p
+  pub each : (text : List ℕ) (x : ModuleVersion) → Contains texts text → edit_in text ≡ Some (Set (RequireAt x)) → Contains ps x
 
-same_required : (p q : Pair) → Some (Set (RequireAt p)) ≡ Some (Set (RequireAt q)) → p ≡ q
+same_required : (p q : ModuleVersion) → Some (Set (RequireAt p)) ≡ Some (Set (RequireAt q)) → p ≡ q
 same_required p q e = cc e
 
 rows_of : (rows : List Entry) (number : ℕ) (texts : List (List ℕ))
-    → ((text : List ℕ) → Contains texts text → (x : Pair) × HasRow rows x × (edit_in text ≡ Some (Set (RequireAt x))))
-    → refusals_from number texts ≡ [] → (ps : List Pair) × AreRows rows texts ps
+    → ((text : List ℕ) → Contains texts text → (x : ModuleVersion) × HasRow rows x × (edit_in text ≡ Some (Set (RequireAt x))))
+    → refusals_from number texts ≡ [] → (ps : List ModuleVersion) × AreRows rows texts ps
 rows_of rows number [] are none =
     ([], record { edits = refl; able = λ p there. absurd (no_member p there); listed = λ p there. absurd (no_member p there); each = λ text x there e. absurd (no_member text there) })
 rows_of rows number (text ∷ texts) are none =
@@ -82,7 +83,7 @@ rows_of rows number (text ∷ texts) are none =
           | inr behind ↦ rest.listed q behind
         ];
         each = λ t x there e. elim (member_cases text t texts there) [
-          | inl same ↦ subst (λ (q : Pair). Contains (p ∷ ps) q)
+          | inl same ↦ subst (λ (q : ModuleVersion). Contains (p ∷ ps) q)
               (same_required p x (sym spelled ∙ ap edit_in same ∙ e)) (member_head p ps)
           | inr behind ↦ member_tail p x ps (rest.each t x behind e)
         ];
@@ -91,12 +92,12 @@ rows_of rows number (text ∷ texts) are none =
 
 -- no two rows have the same path
 one_row : (file : List ℕ) (sums : Option (List ℕ)) (asked : List (Name × Reply)) (main : Main) (rows : List Entry) (one : Outcome)
-    → ShowsRows (run_over file sums asked) main None None rows one → (p q : Pair) → HasRow rows p → HasRow rows q → p.0 ≡ q.0 → p ≡ q
+    → ShowsRows (run_over file sums asked) main None None rows one → (p q : ModuleVersion) → HasRow rows p → HasRow rows q → p.0 ≡ q.0 → p ≡ q
 one_row file sums asked main rows one shows p q has also same =
     let E = IsEdge main (readings_by main shows.held) in
     let is = row_selected main.path main.replaces E rows shows.are p has.0 has.1 in
     let be = row_selected main.path main.replaces E rows shows.are q also.0 also.1 in
-    ap₂ (λ (a v : List ℕ). let m : Pair = (a, v) in m) same
+    ap₂ (λ (a v : List ℕ). let m : ModuleVersion = (a, v) in m) same
     (same_version p.1 q.1 (be.greatest p is.is_end same) (is.greatest q be.is_end (sym same)))
 
 -- ---- the law

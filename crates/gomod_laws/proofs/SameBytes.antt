@@ -1,19 +1,17 @@
 -- A replace by a file with the same bytes changes no graph.
 use Rattle.std.proofs.Common.{◌≡◌, ◌∙◌, ◌&&◌, ◌||◌, ◌++◌, ◌∷◌, ℕ, Bool, true, false, cond, List, [], Option, Some, None, IsSome, Result, Ok, Err, Contains, ap, ap₂, inl, refl, subst, sym}
 use Rattle.std.proofs.lemmas.Bool.{false≢true}
-use Rattle.std.specs.Cmp.Lexicographic.{nat_list_eq_equiv}
 use Rattle.std.specs.List.{find}
 use Rattle.std.specs.Option.{option_map, option_or}
-use Rattle.gm_file.proofs.SamePairs.{pair-same}
+use Rattle.gm_name.specs.ModuleVersion.{ModuleVersion, pair-same, pair-self, pair_eq}
 use Rattle.gm_file.specs.Directives.{Left, Replacing, Right, Folder, Module, left_with, left_without}
 use Rattle.gm_file.specs.Faults.{is_same_left}
 use Rattle.gm_file.specs.Fields.{Dependency, replacement_of, right_for}
-use Rattle.gm_name.specs.PairOrder.{pair_eq}
 use Rattle.gm_store.specs.Asked.{Name, Reply, absent, answer_in, bytes, mod_file, too_long}
 use Rattle.gm_store_sums.specs.declared.sum_table.SumTable.{SumTable}
 use Rattle.gm_graph_cache.specs.declared.class.Class.{Class}
 use Rattle.gm_graph_cache.specs.declared.class.Class.TheVariants.{NotFetchable, WrongPath}
-use Rattle.gm_graph_cache.specs.Main.{Main, ModuleVersion, is_pruned_by, replacement_in}
+use Rattle.gm_graph_cache.specs.Main.{Main, is_pruned_by, replacement_in}
 use Rattle.gm_graph_cache.specs.Reading.{Held, IsContentReading, IsFileReading, IsReadUnless, IsTold, Readings, Tells, declares, fault_in, file_named, file_of, is_askable, reading_if, readings_by, sum_fault, with_right_path}
 use Rattle.gm_graph_cache.proofs.OneReading.{one_reading}
 use Rattle.gm_graph_select.proofs.Ascending.{no_member}
@@ -35,9 +33,6 @@ use Rattle.gomod_laws.proofs.SameVertices.{at_right, reads_at}
 use Rattle.gomod_laws.proofs.SumsChecked.{no_sum_fault}
 
 -- ---- what replaces the version, and the others
-
-pub pair_self : (x : ModuleVersion) → pair_eq x x ≡ true
-pair_self x = ap₂ ◌&&◌ (nat_list_eq_equiv.refl x.0) (nat_list_eq_equiv.refl x.1)
 
 and_false : (b : Bool) → (b && false) ≡ false
 and_false true = refl
@@ -71,7 +66,7 @@ module _ (main other : Main) (x : ModuleVersion) (right : Right) (more : HasOneM
       let none : replacement_of (more.before ++ more.after) x ≡ None = ap (λ (rs : List Replacing). replacement_of rs x) (sym more.replaces) ∙ unreplaced in
       let missed : find test (more.before ++ more.after) ≡ None =
       nothing_mapped (λ (r : Replacing). r.1) (find test (more.before ++ more.after)) (nothing_first (right_for (more.before ++ more.after) left) (right_for (more.before ++ more.after) (left_without x.0)) none) in
-      let found : find test (more.before ++ (left, right) ∷ more.after) ≡ Some (left, right) = find_more test more.before more.after (left, right) missed (pair_self x) in
+      let found : find test (more.before ++ (left, right) ∷ more.after) ≡ Some (left, right) = find_more test more.before more.after (left, right) missed (pair-self x) in
       ap (λ (rs : List Replacing). replacement_of rs x) more.more_replaces
       ∙ ap (λ (o : Option Replacing). option_or (option_map (λ (r : Replacing). r.1) o) (right_for (more.before ++ (left, right) ∷ more.after) (left_without x.0))) found
 

@@ -1,10 +1,9 @@
 -- What queries print where one version more is replaced by a file with the same bytes.
 use Rattle.std.proofs.Common.{◌≡◌, ◌∙◌, ◌∷◌, ℕ, Bool, true, false, cond, List, [], Option, Some, None, ap, ap₂, inl, inr, map, refl, subst, sym}
 use Rattle.std.proofs.lemmas.List.{map-append}
+use Rattle.gm_name.specs.ModuleVersion.{ModuleVersion, pair-same, pair_eq}
 use Rattle.gm_file.specs.Directives.{Replacing, Right, left_with}
-use Rattle.gm_name.specs.PairOrder.{pair_eq}
-use Rattle.gm_file.proofs.SamePairs.{pair-same}
-use Rattle.gm_graph_cache.specs.Main.{Main, ModuleVersion, replacement_in}
+use Rattle.gm_graph_cache.specs.Main.{Main, replacement_in}
 use Rattle.gm_graph_cache.specs.Reading.{Readings, readings_by}
 use Rattle.gm_graph_select.specs.declared.step.Step.{Step}
 use Rattle.gm_graph_select.specs.declared.step.Step.TheVariants.{Main as FromMain, Of}

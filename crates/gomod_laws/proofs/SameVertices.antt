@@ -2,13 +2,14 @@
 -- the same.
 use Rattle.std.proofs.Common.{◌≡◌, ◌↔◌, ◌∙◌, ◌∷◌, ℕ, Bool, List, [], Option, Some, IsSome, Result, Err, Contains, ap, ap₂, false, inl, inr, map, refl, subst, sym, true}
 use Rattle.std.specs.Option.{option_map}
+use Rattle.gm_name.specs.ModuleVersion.{ModuleVersion}
 use Rattle.gm_file.specs.Directives.{Right}
 use Rattle.gm_file.specs.Fields.{Dependency}
 use Rattle.gm_store.specs.Asked.{Name, answer_in}
 use Rattle.gm_store_sums.specs.declared.sum_table.SumTable.{SumTable}
 use Rattle.gm_graph_cache.specs.declared.class.Class.{Class}
 use Rattle.gm_graph_cache.specs.declared.class.Class.TheVariants.{NotFetchable}
-use Rattle.gm_graph_cache.specs.Main.{Main, ModuleVersion, is_pruned_by, replacement_in}
+use Rattle.gm_graph_cache.specs.Main.{Main, is_pruned_by, replacement_in}
 use Rattle.gm_graph_cache.specs.Reading.{Held, Readings, fault_in, file_named, file_of, is_askable, is_unpruned_in, reading_if, readings_by, requirements_in, said_in, vertex_requirements, with_right_path}
 use Rattle.gm_graph_select.specs.declared.step.Edge.{Edge}
 use Rattle.gm_graph_select.specs.declared.step.Step.{Step}

@@ -1,6 +1,7 @@
 -- What files say with a go.sum that finds no fault, and without one.
 use Rattle.std.proofs.Common.{◌≡◌, ◌∙◌, Bool, true, false, cond, List, [], ◌∷◌, Option, Some, None, Result, Ok, Err, Contains, ap, ap₂, sym, refl, subst, inl, inr, ℕ}
 use Rattle.std.specs.Option.{option_map}
+use Rattle.gm_name.specs.ModuleVersion.{ModuleVersion}
 use Rattle.gm_file.specs.Fields.{Dependency}
 use Rattle.gm_store.specs.Asked.{Name, Reply, absent, answer_in, bytes, folder_file, list_file, mod_file, names_in, same_name, too_long}
 use Rattle.gm_store.proofs.NameOrder.{names_equal}
@@ -10,7 +11,7 @@ use Rattle.gm_store_sums.specs.declared.sum_table.Sum.{Sum}
 use Rattle.gm_store_sums.specs.declared.sum_table.Sum.TheVariants.{Differs, Good, Unlisted}
 use Rattle.gm_store_sums.specs.declared.sum_table.SumTable.{SumTable}
 use Rattle.gm_graph_cache.specs.declared.class.Class.{Class}
-use Rattle.gm_graph_cache.specs.Main.{Main, ModuleVersion}
+use Rattle.gm_graph_cache.specs.Main.{Main}
 use Rattle.gm_graph_cache.specs.Reading.{Held, IsContentReading, IsFileReading, IsReadUnless, IsTold, Readings, Tells, class_of_sum, fault_in, file_of, is_askable, is_unpruned_in, reading_if, readings_by, requirements_in, said_in, sum_fault, vertex_fault}
 use Rattle.gm_graph_select.proofs.Ascending.{member_head, member_tail, no_member}
 use Rattle.gm_graph.specs.Building.{fault}

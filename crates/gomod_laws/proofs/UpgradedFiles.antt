@@ -3,11 +3,12 @@ use Rattle.std.proofs.Common.{◌≡◌, ℕ, Bool, true, false, not, List, [], 
 use Rattle.std.specs.Ordering.{is_gt}
 use Rattle.std.specs.Str.{bytes_eq}
 use Rattle.gm_name.specs.Version.{version_cmp}
-use Rattle.gm_file.specs.Directives.{Directive, Pair, pair}
+use Rattle.gm_name.specs.ModuleVersion.{ModuleVersion}
+use Rattle.gm_file.specs.Directives.{Directive, pair}
 use Rattle.gm_file_edit.specs.Edited.{edited}
 use Rattle.gm_file_edit.specs.Edits.{Set, RequireAt}
 use Rattle.gm_file_edit.specs.Laws.{directives_of}
-use Rattle.gm_graph_cache.specs.Main.{Main, ModuleVersion, is_excluded, without_excluded}
+use Rattle.gm_graph_cache.specs.Main.{Main, is_excluded, without_excluded}
 use Rattle.gm_graph_select.proofs.Ascending.{member_head}
 use Rattle.gm_graph_select.proofs.Greatest.{equal_itself}
 use Rattle.gm_graph_select.proofs.RestRows.{texts_same}
@@ -44,7 +45,7 @@ module _ (first second : Main) (rest : DifferInRequirements first second) (path 
 
 pub require_later_lowers_no_row : RequireLaterLowersNoRow
 require_later_lowers_no_row operations path version file text sums first second one next runs has high kept no_less prints_first prints_second =
-    let p : Pair = pair path version in
+    let p : ModuleVersion = pair path version in
     let said = said_by operations (Set (RequireAt p)) file text first second has runs.first_says runs.second_says in
     let es : List Directive = directives_of (edited (Set (RequireAt p)) said.lines) in
     let (rest, keeps) = after_require p first second said in

@@ -7,7 +7,7 @@ use Rattle.std.proofs.lemmas.List.Kept.{IsStrictlySortedBy-filter}
 use Rattle.std.specs.List.{filter}
 use Rattle.gm_name.specs.Version.{version_cmp}
 use Rattle.gm_name.specs.Path.{is_fetchable}
-use Rattle.gm_file.specs.Directives.{Pair}
+use Rattle.gm_file.specs.Directives.{VersionInterval}
 use Rattle.gm_file.specs.Fields.{Dependency}
 use Rattle.gm_file_retract.specs.Shown.{is_retracted, shown_of}
 use Rattle.gm_store.specs.Asked.{Name, Reply, absent, answer_in, bytes, list_file, mod_file, too_long}
@@ -73,7 +73,7 @@ list_answered path all answers outcome prints (inr (reply, fetchable, answered, 
 abbrev AreShown : List ℕ → Bool → Pairs → List (List ℕ) → List (List ℕ) → Type 0
 AreShown path all asked versions shown =
     (((all ≡ true) ⊎ (versions ≡ [])) × (shown ≡ versions))
-    ⊎ ((all ≡ false) × (latest : List ℕ) × (intervals : List Pair)
+    ⊎ ((all ≡ false) × (latest : List ℕ) × (intervals : List VersionInterval)
     × IsLatest versions latest
     × Retracts asked path latest intervals
     × (shown ≡ shown_of intervals versions))
@@ -102,7 +102,7 @@ record AreNamed (path list : List ℕ) (versions : List (List ℕ)) : Type 0 whe
 listed_are_named : (path list : List ℕ) (versions : List (List ℕ)) → AreListed path list versions → AreNamed path list versions
 listed_are_named path list versions are = record { ascending = are.ascending; each = λ version there. (are.members version).0 there }
 
-unretracted_are_named : (path list : List ℕ) (intervals : List Pair) (versions : List (List ℕ)) → AreNamed path list versions → AreNamed path list (shown_of intervals versions)
+unretracted_are_named : (path list : List ℕ) (intervals : List VersionInterval) (versions : List (List ℕ)) → AreNamed path list versions → AreNamed path list (shown_of intervals versions)
 unretracted_are_named path list intervals versions are = record {
   ascending = IsStrictlySortedBy-filter version_cmp (λ version. not (is_retracted intervals version)) versions are.ascending;
   each = λ version there. are.each version (kept_member (λ one. not (is_retracted intervals one)) versions version there);

@@ -1,8 +1,9 @@
 -- What the laws of gm_graph_listing conclude of `list`, `graph` and `chain` is false of outputs that contradict them.
 use Rattle.std.specs.Prelude.{◌≡◌, ℕ, List, [], Option, None, Some, Contains, codes}
+use Rattle.gm_name.specs.ModuleVersion.{ModuleVersion}
 use Rattle.gm_syntax.specs.Lines.{lines_of}
 use Rattle.gm_graph_cache.specs.declared.class.Class.TheVariants.{Missing}
-use Rattle.gm_graph_cache.specs.Main.{Main, ModuleVersion}
+use Rattle.gm_graph_cache.specs.Main.{Main}
 use Rattle.gm_graph.specs.declared.fault.Fault.{Fault}
 use Rattle.gm_graph.specs.Graph.{IsTop}
 use Rattle.gm_graph_listing.specs.Laws.{JoinsPages, ShowOneGraph, ShowsBuildList, ShowsPart, ShowsShortestWalk}

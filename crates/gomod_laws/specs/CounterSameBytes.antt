@@ -1,8 +1,9 @@
 -- What the law on a replace by the same bytes concludes of lists is false of lists that contradict it.
 use Rattle.std.specs.Prelude.{ℕ, List, Option, None, codes}
+use Rattle.gm_name.specs.ModuleVersion.{ModuleVersion}
 use Rattle.gm_file.specs.Directives.{Right}
 use Rattle.gm_store.specs.Asked.{Name, Reply}
-use Rattle.gm_graph_cache.specs.Main.{Main, ModuleVersion}
+use Rattle.gm_graph_cache.specs.Main.{Main}
 use Rattle.gm_report.specs.Outcome.{printed}
 use Rattle.gomod_laws.specs.Counterexamples.{a_one, list_of_a}
 use Rattle.gomod_laws.specs.SameBytesLaws.{ShowsTheArrow}

@@ -1,7 +1,8 @@
 -- Whole runs of `list` over the bytes of small files, on which the definitions of an outcome are tried.
 use Rattle.std.specs.Prelude.{◌≡◌, ℕ, List, [], ◌∷◌, None, codes}
+use Rattle.gm_name.specs.ModuleVersion.{ModuleVersion}
 use Rattle.gm_store.specs.Asked.{Name, Reply, mod_file, absent}
-use Rattle.gm_graph_cache.specs.Main.{Main, ModuleVersion}
+use Rattle.gm_graph_cache.specs.Main.{Main}
 use Rattle.gm_graph_listing.specs.Outcomes.{Given, IsListOutcome, IsMainFile, IsOutcomeOver, PrintsList, answers, given}
 use Rattle.gm_report.specs.Outcome.{Outcome, failed, printed, refused}
 use Rattle.gomod_laws.specs.ExampleWorld.{top_one}

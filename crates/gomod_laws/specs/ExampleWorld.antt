@@ -1,10 +1,11 @@
 -- A small world of modules, on which the definitions of a run's outcome are tried. The main module m is pruned and
 -- requires top.org and mid.org at v1.0.0. It excludes low.org at v1.1.0, and replaces mid.org at v1.1.0 by a folder.
 use Rattle.std.specs.Prelude.{◌≡◌, ◌↔◌, ℕ, true, false, if◌then◌else◌, List, [], ◌∷◌, Option, Some, None, Result, Ok, Err, Contains, codes}
+use Rattle.gm_name.specs.ModuleVersion.{ModuleVersion}
 use Rattle.gm_file.specs.Directives.{Folder, left_with, replacing}
 use Rattle.gm_file.specs.Fields.{Dependency}
 use Rattle.gm_store.specs.Asked.{mod_file, folder_file, absent, same_name}
-use Rattle.gm_graph_cache.specs.Main.{Main, ModuleVersion, is_pruned_by}
+use Rattle.gm_graph_cache.specs.Main.{Main, is_pruned_by}
 use Rattle.gm_graph_cache.specs.Reading.{Held, Readings, Tells, file_of, is_askable, is_unpruned, readings_by, vertex_fault, vertex_requirements}
 use Rattle.gm_graph_cache.specs.declared.class.Class.{Class}
 use Rattle.gm_graph_cache.specs.declared.class.Class.TheVariants.{Missing, NotFetchable, WrongPath}

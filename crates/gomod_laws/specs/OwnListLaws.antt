@@ -3,9 +3,10 @@
 use Rattle.std.specs.Prelude.{◌≡◌, ◌≢◌, ◌⊎◌, ℕ, false, List, [], Option, Some, None, Contains}
 use Rattle.std.specs.Ordering.{is_gt}
 use Rattle.gm_name.specs.Version.{version_cmp}
+use Rattle.gm_name.specs.ModuleVersion.{ModuleVersion}
 use Rattle.gm_file.specs.Directives.{Right}
 use Rattle.gm_store.specs.Asked.{answer_in, bytes, mod_file}
-use Rattle.gm_graph_cache.specs.Main.{Main, ModuleVersion, is_pruned_by}
+use Rattle.gm_graph_cache.specs.Main.{Main, is_pruned_by}
 use Rattle.gm_graph_select.specs.declared.step.Step.TheVariants.{Of}
 use Rattle.gm_graph_select.specs.BuildList.{Entry}
 use Rattle.gm_report.specs.Outcome.{Outcome}

@@ -2,10 +2,11 @@
 -- pruning".
 use Rattle.std.specs.Prelude.{◌≡◌, ◌⊎◌, ◌∷◌, ℕ, false, List, [], Option, Some, None, String}
 use Rattle.std.specs.Global.{Global, Vec}
+use Rattle.gm_name.specs.ModuleVersion.{ModuleVersion}
 use Rattle.gm_file.specs.Directives.{pair}
 use Rattle.gm_file_edit.specs.Edits.{Edit as Operation, Drop, AnyRequire, Set, RequireAt, edit_in}
 use Rattle.gm_store.specs.Asked.{Name, Reply}
-use Rattle.gm_graph_cache.specs.Main.{Main, ModuleVersion, is_pruned_by}
+use Rattle.gm_graph_cache.specs.Main.{Main, is_pruned_by}
 use Rattle.gm_graph_select.specs.declared.step.Edge.{Edge}
 use Rattle.gm_graph.specs.Graph.{IsTop}
 use Rattle.gm_graph_listing.specs.Laws.{AnswerAlike}

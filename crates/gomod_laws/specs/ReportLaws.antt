@@ -1,12 +1,13 @@
 -- A report is complete: where each module that it is about has a file that requires nothing, nothing else is wrong.
 use Rattle.std.specs.Prelude.{◌≡◌, ◌≢◌, ◌≤◌, ◌++◌, ℕ, List, [], Option, None, Some, Contains, codes, length, true, ⊤}
+use Rattle.gm_name.specs.ModuleVersion.{ModuleVersion}
 use Rattle.gm_file.specs.Fields.{Dependency}
 use Rattle.gm_store.specs.Asked.{Name, Reply, answer_in, bytes, mod_file}
 use Rattle.gm_store_sums.specs.Hash.{file_hash}
 use Rattle.gm_store_sums.specs.Sums.{Says}
 use Rattle.gm_store_sums.specs.declared.sum_table.Sum.TheVariants.{Good}
 use Rattle.gm_store_sums.specs.declared.sum_table.SumTable.{SumTable}
-use Rattle.gm_graph_cache.specs.Main.{Main, ModuleVersion}
+use Rattle.gm_graph_cache.specs.Main.{Main}
 use Rattle.gm_graph_cache.specs.Reading.{Held, IsReadAsDependency, readings_by}
 use Rattle.gm_graph_cache.specs.declared.class.Class.TheVariants.{NotFetchable}
 use Rattle.gm_graph_select.specs.declared.step.Edge.{Edge}
@@ -25,9 +26,9 @@ use Rattle.gomod_laws.specs.Shown.{ReportsFaults, ShowsEdges, ShowsRows, run_ove
 -- ---- files that require nothing
 
 -- no go.sum, or one that has the hash of these bytes for the module's go.mod, and no other
-abbrev pub IsListed : Option (List ℕ) → ModuleVersion → List ℕ → Type 0
-IsListed None x content = ⊤
-IsListed (Some sums) x content = Says sums x.0 x.1 (file_hash content) Good
+abbrev pub IsSummed : Option (List ℕ) → ModuleVersion → List ℕ → Type 0
+IsSummed None x content = ⊤
+IsSummed (Some sums) x content = Says sums x.0 x.1 (file_hash content) Good
 
 -- what a store can give for the file of a module
 abbrev pub FilesFor : Type 1
@@ -36,7 +37,7 @@ FilesFor = Option (List ℕ) → ModuleVersion → Reply → Type 0
 -- bytes that read as a dependency's file, which declares the module's path and requires nothing
 abbrev pub RequiresNothing : FilesFor
 RequiresNothing sums x reply =
-    (content : List ℕ) × (file : Dependency) × (reply ≡ bytes content) × IsListed sums x content
+    (content : List ℕ) × (file : Dependency) × (reply ≡ bytes content) × IsSummed sums x content
     × IsReadAsDependency content file × (file.declared ≡ Some x.0) × (file.requirements ≡ [])
 
 -- the line `module PATH`
@@ -46,7 +47,7 @@ module_line path = codes "module " ++ path ++ codes "\n"
 -- that line of the module's path alone, which is not too long for a file
 abbrev pub IsModuleAlone : FilesFor
 IsModuleAlone sums x reply =
-    (reply ≡ bytes (module_line x.0)) × (length (module_line x.0) ≤ longest) × IsListed sums x (module_line x.0)
+    (reply ≡ bytes (module_line x.0)) × (length (module_line x.0) ≤ longest) × IsSummed sums x (module_line x.0)
 
 -- ---- a report, and a second run
 

@@ -1,10 +1,11 @@
 -- What is listed can be required: Go Modules Reference, "Minimal version selection" and "Module graph pruning".
 use Rattle.std.specs.Prelude.{◌≡◌, ◌↔◌, ◌⊎◌, ◌≤◌, ℕ, false, List, Option, Some, None, Contains, String, length}
 use Rattle.std.specs.Global.{Global, Vec}
+use Rattle.gm_name.specs.ModuleVersion.{ModuleVersion}
 use Rattle.gm_file.specs.Directives.{Right}
 use Rattle.gm_file_edit.specs.Edits.{Set, RequireAt, edit_in}
 use Rattle.gm_store.specs.Asked.{Name, Reply}
-use Rattle.gm_graph_cache.specs.Main.{Main, ModuleVersion, is_pruned_by, replacement_in}
+use Rattle.gm_graph_cache.specs.Main.{Main, is_pruned_by, replacement_in}
 use Rattle.gm_graph_select.specs.declared.step.Edge.{Edge}
 use Rattle.gm_graph_select.specs.declared.step.Step.{Step}
 use Rattle.gm_graph_select.specs.declared.step.Step.TheVariants.{Of}

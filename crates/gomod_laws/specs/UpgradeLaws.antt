@@ -4,11 +4,12 @@ use Rattle.std.specs.Prelude.{◌≡◌, ℕ, false, true, List, Option, Some, N
 use Rattle.std.specs.Global.{Global, Vec}
 use Rattle.std.specs.Ordering.{is_gt, is_lt}
 use Rattle.gm_name.specs.Version.{version_cmp}
+use Rattle.gm_name.specs.ModuleVersion.{ModuleVersion}
 use Rattle.gm_file.specs.Directives.{pair}
 use Rattle.gm_file.specs.Fields.{Dependency}
 use Rattle.gm_file_edit.specs.Edits.{Set, RequireAt}
 use Rattle.gm_store.specs.Asked.{Name, Reply, answer_in, bytes}
-use Rattle.gm_graph_cache.specs.Main.{Main, ModuleVersion, is_excluded, is_pruned_by, without_excluded}
+use Rattle.gm_graph_cache.specs.Main.{Main, is_excluded, is_pruned_by, without_excluded}
 use Rattle.gm_graph_cache.specs.Reading.{IsReadAsDependency, file_of}
 use Rattle.gm_graph.specs.Graph.{IsTop}
 use Rattle.gm_report.specs.Outcome.{Outcome}

@@ -2,7 +2,7 @@
 use Rattle.std.specs.Prelude.{◌≡◌, ◌⊎◌, ℕ, Bool, List, [], Option, None, Some, Ok, Contains, false, true}
 use Rattle.std.specs.List.Sorted.{IsStrictlySortedBy}
 use Rattle.gm_name.specs.Version.{IsVersion, version_cmp}
-use Rattle.gm_file.specs.Directives.{Pair}
+use Rattle.gm_file.specs.Directives.{VersionInterval}
 use Rattle.gm_file.specs.Fields.{Dependency}
 use Rattle.gm_file_retract.specs.Shown.{shown_of}
 use Rattle.gm_store.specs.Asked.{Name, Reply, answer_in, bytes, list_file, mod_file}
@@ -47,7 +47,7 @@ LineSaysVersions = (path : List ℕ) (versions others : List (List ℕ))
     → versions_line path versions ≡ versions_line path others → versions ≡ others
 
 -- The store answered with a go.mod of the version that can be read, and that retracts these intervals.
-abbrev pub Retracts : List (Name × Reply) → List ℕ → List ℕ → List Pair → Type 0
+abbrev pub Retracts : List (Name × Reply) → List ℕ → List ℕ → List VersionInterval → Type 0
 Retracts asked path version intervals =
     (reply : Reply) × (file : Dependency)
     × (answer_in asked (mod_file path version) ≡ Some reply)
@@ -59,7 +59,7 @@ Retracts asked path version intervals =
 abbrev pub AreUnretracted : List (Name × Reply) → List ℕ → List (List ℕ) → List (List ℕ) → Type 0
 AreUnretracted asked path versions shown =
     ((versions ≡ []) × (shown ≡ []))
-    ⊎ ((latest : List ℕ) × (intervals : List Pair)
+    ⊎ ((latest : List ℕ) × (intervals : List VersionInterval)
     × IsLatest versions latest
     × Retracts asked path latest intervals
     × (shown ≡ shown_of intervals versions))

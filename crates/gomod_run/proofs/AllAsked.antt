@@ -1,12 +1,13 @@
 -- A run that is done has an answer for every file that it needs.
 use Rattle.std.proofs.Common.{◌≡◌, ◌∙◌, ℕ, List, Option, Some, None, IsSome, Result, true, ap, arith, inl, inr, refl, subst, sym}
+use Rattle.gm_name.specs.ModuleVersion.{ModuleVersion}
 use mathlib.Core.Path.{fun_ext}
 use Rattle.gm_file.specs.Fields.{Dependency}
 use Rattle.gm_store.specs.Asked.{Name, Reply, absent, answer_in, bytes, too_long}
 use Rattle.gm_store_sums.specs.declared.sum_table.SumTable.{SumTable}
 use Rattle.gm_graph_cache.proofs.OneReading.{one_reading}
 use Rattle.gm_graph_cache.specs.declared.class.Class.{Class}
-use Rattle.gm_graph_cache.specs.Main.{Main, ModuleVersion}
+use Rattle.gm_graph_cache.specs.Main.{Main}
 use Rattle.gm_graph_cache.specs.Reading.{Held, IsFileReading, IsReadUnless, IsTold, Tells, is_askable, readings_by}
 use Rattle.gm_graph.specs.Graph.{IsOpened}
 use Rattle.gm_graph.specs.Loading.{IsAnswered, IsNeeded}

@@ -1,15 +1,8 @@
 -- The answers of a store, in the order of the asks.
-use Rattle.std.proofs.Common.{◌≡◌, ◌-◌, ◌<◌, ◌&&◌, suc, ℕ, Bool, true, false, if◌then◌else◌, List, [], ◌∷◌, ◌++◌, length, Some, Contains, ap, ap₂, arith, refl, sym}
-use Rattle.std.specs.List.{slice_get}
+use Rattle.std.proofs.Common.{◌≡◌, ◌-◌, ◌<◌, ◌&&◌, suc, ℕ, Bool, true, false, if◌then◌else◌, List, [], ◌∷◌, length, Some, Contains, ap, ap₂, arith, refl, sym}
 use Rattle.std.specs.Str.{bytes_eq}
 use Rattle.std.proofs.lemmas.Slice.Eq.{bytes_eq-Decides}
-use Rattle.gm_store.specs.Asked.{Name, Reply, answer_in, folder_file, list_file, mod_file, replies_in, same_name}
-use Rattle.gm_graph_cache.proofs.Telling.{last_answered}
-
--- the last answer is that of the last ask
-pub last_reply : (asked before : List (Name × Reply)) (last : Name × Reply) (reply : Reply) (count : ℕ) → asked ≡ before ++ last ∷ [] → count ≡ length asked
-    → slice_get (replies_in asked) (count - 1) ≡ Some reply → reply ≡ last.1
-last_reply asked before (name, answer) reply count grown at is = last_answered asked before name answer reply count grown at is
+use Rattle.gm_store.specs.Asked.{Name, Reply, answer_in, folder_file, list_file, mod_file, same_name}
 
 same_bytes : (t : List ℕ) → bytes_eq t t ≡ true
 same_bytes t = (bytes_eq-Decides t t).1 refl

@@ -2,7 +2,7 @@
 use Rattle.std.proofs.lemmas.List.{append_cancel_left}
 use Rattle.std.proofs.lemmas.Option.{same_Some}
 use Rattle.std.proofs.lemmas.Result.{err_from_is_err_and}
-use Rattle.std.proofs.Common.{◌≡◌, ◌⊎◌, ◌∙◌, ◌++◌, ◌∷◌, zero, suc, ℕ, ◌<◌, ◌≤◌, length, Bool, true, false, List, [], Some, None, Result, Ok, Err, Contains, IfOk, append-nil, ap, arith, codes, inl, inr, refl, subst, sym}
+use Rattle.std.proofs.Common.{◌≡◌, ◌⊎◌, ◌∙◌, ◌++◌, ◌∷◌, ℕ, ◌≤◌, length, Bool, true, false, List, [], Some, None, Result, Ok, Err, IfOk, append-nil, ap, codes, inl, inr, refl, subst, sym}
 use Rattle.std.specs.Prelude.{String, ⊤}
 use Rattle.std.specs.declared.alloc.Global.{Global}
 use Rattle.std.specs.Result.{IsErrAnd}
@@ -183,41 +183,15 @@ refused_on old new outcome one is grown name more =
     let tail : one ∷ [] ≡ name ∷ [] = append_cancel_left old.refused (one ∷ []) (name ∷ []) (sym grown ∙ more) in
     let same : one ≡ name = cc tail in is ∙ ap (λ (name : Name). failed (device_line name)) same
 
--- ---- from the contracts of the functions
-
--- the one answer is one that the store may give
-one_allowed : (may : Name → Reply → Type 0) (asked : Pairs) (first : Name) (reply : Reply) → may first reply → asked ≡ (first, reply) ∷ []
-    → (name : Name) (r : Reply) → Contains asked (name, r) → may name r
-one_allowed may asked first reply allowed is name r inside = at_pair (subst (λ (a : Pairs). Contains {X = Name × Reply} a (name, r)) is inside)
-  where
-    at_pair : Contains {X = Name × Reply} ((first, reply) ∷ []) (name, r) → may name r
-    at_pair (zero, within, same) = subst (λ (p : Name × Reply). may p.0 p.1) same allowed
-    at_pair (suc k, within, same) = absurd (omega arith)
-
-both_allowed : (may : Name → Reply → Type 0) (asked : Pairs) (first second : Name) (one two : Reply) → may first one → may second two
-    → asked ≡ (first, one) ∷ (second, two) ∷ [] → (name : Name) (r : Reply) → Contains asked (name, r) → may name r
-both_allowed may asked first second one two allowed also is name r inside = at_pair (subst (λ (a : Pairs). Contains {X = Name × Reply} a (name, r)) is inside)
-  where
-    at_pair : Contains {X = Name × Reply} ((first, one) ∷ (second, two) ∷ []) (name, r) → may name r
-    at_pair (zero, within, same) = subst (λ (p : Name × Reply). may p.0 p.1) same allowed
-    at_pair (suc zero, within, same) = subst (λ (p : Name × Reply). may p.0 p.1) same also
-    at_pair (suc (suc k), within, same) = absurd (omega arith)
-
-pub none_allowed : (may : Name → Reply → Type 0) (asked : Pairs) → asked ≡ [] → (name : Name) (r : Reply) → Contains asked (name, r) → may name r
-none_allowed may asked none name r inside =
-    let there = subst (λ (a : Pairs). Contains {X = Name × Reply} a (name, r)) none inside in
-    let within : there.0 < 0 = there.1 in absurd (omega arith)
-
 -- ---- the clauses of a run
 
--- what the contract of `versions_outcome` says of a run
-pub record IsVersionsRun (path : List ℕ) (all : Bool) (may : Name → Reply → Type 0) (old new : StoreState) (outcome : Outcome) : Type 0 where
+-- what the contract of `versions_outcome` says of a run, but for `served`
+pub record IsVersionsRun (path : List ℕ) (all : Bool) (old new : StoreState) (outcome : Outcome) : Type 0 where
   pub comes : OrNoMemory (IsRunOutcome (VersionsNeed path all) (IsVersionsOutcome path all) old new) outcome
   pub device : (name : Name) → new.refused ≡ old.refused ++ name ∷ [] → outcome ≡ failed (device_line name)
   pub no_list : (other : Outcome) → IsRefusedList path (answer_in new.asked) other → outcome ≡ other
   pub in_turn : AskedInTurn (VersionsNeed path all) new.asked
   pub fails : FailsInTurn (VersionsNeed path all) old new
-  pub answers : (name : Name) (reply : Reply) → Contains new.asked (name, reply) → may name reply
 
 -- the report that there is no list, or that it is too long, is one
 one_refusal : (Leads : List ℕ → Outcome → Type 0) (path : List ℕ) (reply : Reply) (outcome other : Outcome)
@@ -270,11 +244,11 @@ ends_wider One Other path absent outcome wider is = is
 ends_wider One Other path too_long outcome wider is = is
 ends_wider One Other path (bytes list) outcome wider is = wider list is
 
-module _ (path : List ℕ) (all : Bool) (may : Name → Reply → Type 0) (old : StoreState) (first : old.asked ≡ []) where
+module _ (path : List ℕ) (all : Bool) (old : StoreState) (first : old.asked ≡ []) where
   -- ---- no list was answered
 
   -- the path is not fetchable, or the device failed at the list, or memory ran out
-  pub unlisted_run : (new : StoreState) (told : Report) → IsListAsked path may old new (Err told) → IsVersionsRun path all may old new (report_outcome told)
+  pub unlisted_run : (new : StoreState) (told : Report) → IsListAsked path old new (Err told) → IsVersionsRun path all old new (report_outcome told)
   unlisted_run new told (inl ((no_path, is), same)) =
       let none : new.asked ≡ [] = ap (λ (s : StoreState). s.asked) same ∙ first in
       let still : new.refused ≡ old.refused = ap (λ (s : StoreState). s.refused) same in
@@ -284,7 +258,6 @@ module _ (path : List ℕ) (all : Bool) (may : Name → Reply → Type 0) (old :
         no_list = λ other refusal. is ∙ sym (refused_first path new.asked other none refusal).1;
         in_turn = none_in_turn (VersionsNeed path all) new.asked none;
         fails = inl still;
-        answers = none_allowed may new.asked none;
       }
   unlisted_run new told (inr (fetchable, inl (is, same, grown))) =
       let none : new.asked ≡ [] = same ∙ first in
@@ -294,7 +267,6 @@ module _ (path : List ℕ) (all : Bool) (may : Name → Reply → Type 0) (old :
         no_list = none_refused path new.asked (report_outcome told) fetchable none;
         in_turn = none_in_turn (VersionsNeed path all) new.asked none;
         fails = inr (list_file path, (fetchable, inl refl), ap (λ (a : Pairs). answer_in a (list_file path)) none, grown);
-        answers = none_allowed may new.asked none;
       }
   unlisted_run new told (inr (fetchable, inr (is, same, still))) =
       let none : new.asked ≡ [] = same ∙ first in
@@ -304,47 +276,44 @@ module _ (path : List ℕ) (all : Bool) (may : Name → Reply → Type 0) (old :
         no_list = none_refused path new.asked (report_outcome told) fetchable none;
         in_turn = none_in_turn (VersionsNeed path all) new.asked none;
         fails = inl still;
-        answers = none_allowed may new.asked none;
       }
 
   -- ---- the list was answered
 
-  module _ (mid : StoreState) (reply : Reply) (fetchable : is_fetchable path ≡ true) (answered : IsAnsweredAsk (list_file path) may old mid reply) where
+  module _ (mid : StoreState) (reply : Reply) (fetchable : is_fetchable path ≡ true) (answered : IsAnsweredAsk (list_file path) old mid reply) where
     -- only the list was asked for
     only_list : mid.asked ≡ (list_file path, reply) ∷ []
-    only_list = answered.1 ∙ ap (λ (a : Pairs). a ++ (list_file path, reply) ∷ []) first
+    only_list = answered.0 ∙ ap (λ (a : Pairs). a ++ (list_file path, reply) ∷ []) first
 
     -- nothing else was asked
-    listed_run : (outcome : Outcome) → IsEndByList (λ list. OrNoMemory (IsPrinted path all list)) path reply outcome → IsVersionsRun path all may old mid outcome
+    listed_run : (outcome : Outcome) → IsEndByList (λ list. OrNoMemory (IsPrinted path all list)) path reply outcome → IsVersionsRun path all old mid outcome
     listed_run outcome is = record {
-      comes = by_list path all old mid reply outcome fetchable only_list answered.2 is;
-      device = unrefused old mid outcome answered.2;
+      comes = by_list path all old mid reply outcome fetchable only_list answered.1 is;
+      device = unrefused old mid outcome answered.1;
       no_list = refused_as (λ list. OrNoMemory (IsPrinted path all list)) path (answer_in mid.asked) reply outcome fetchable (list_is path all old mid outcome reply only_list) is;
       in_turn = list_in_turn path all mid.asked reply fetchable only_list;
-      fails = inl answered.2;
-      answers = one_allowed may mid.asked (list_file path) reply answered.0 only_list;
+      fails = inl answered.1;
     }
 
 -- ---- the list was answered, and the go.mod of the latest version may have been asked for
 
-module _ (path : List ℕ) (all : Bool) (may later : Name → Reply → Type 0) (old mid new : StoreState) (first : old.asked ≡ []) (list : List ℕ)
-    (some : all ≡ false) (fetchable : is_fetchable path ≡ true) (answered : IsAnsweredAsk (list_file path) may old mid (bytes list))
-    (same_store : (name : Name) (reply : Reply) → later name reply → may name reply) where
+module _ (path : List ℕ) (all : Bool) (old mid new : StoreState) (first : old.asked ≡ []) (list : List ℕ)
+    (some : all ≡ false) (fetchable : is_fetchable path ≡ true) (answered : IsAnsweredAsk (list_file path) old mid (bytes list)) where
   -- only the list had been asked for
   list_alone : mid.asked ≡ (list_file path, bytes list) ∷ []
-  list_alone = only_list path all may old first mid (bytes list) fetchable answered
+  list_alone = only_list path all old first mid (bytes list) fetchable answered
 
   -- memory ran out before anything more was asked
-  unasked_run : (outcome : Outcome) → IsUnanswered mid new outcome → IsVersionsRun path all may old new outcome
+  unasked_run : (outcome : Outcome) → IsUnanswered mid new outcome → IsVersionsRun path all old new outcome
   unasked_run outcome (is, asked, still) =
-      listed_run path all may old first new (bytes list) fetchable (answered.0, asked ∙ answered.1, still ∙ answered.2) outcome (inr is)
+      listed_run path all old first new (bytes list) fetchable (asked ∙ answered.0, still ∙ answered.1) outcome (inr is)
 
   -- the go.mod of the latest version was asked for
   latest_run : (versions : List (List ℕ)) (latest : List ℕ) (outcome : Outcome) → AreListed path list versions → IsLatest versions latest
-      → IsLatestAsked path versions latest later mid new outcome → IsVersionsRun path all may old new outcome
+      → IsLatestAsked path versions latest mid new outcome → IsVersionsRun path all old new outcome
   latest_run versions latest outcome listed greatest (inl a) =
-      let both : new.asked ≡ (list_file path, bytes list) ∷ (mod_file path latest, a.0) ∷ [] = a.1.1 ∙ ap (λ (p : Pairs). p ++ (mod_file path latest, a.0) ∷ []) list_alone in
-      let still : new.refused ≡ old.refused = a.1.2 ∙ answered.2 in
+      let both : new.asked ≡ (list_file path, bytes list) ∷ (mod_file path latest, a.0) ∷ [] = a.1.0 ∙ ap (λ (p : Pairs). p ++ (mod_file path latest, a.0) ∷ []) list_alone in
+      let still : new.refused ≡ old.refused = a.1.1 ∙ answered.1 in
       record {
         comes = elim a.2 [
           | inl shows ↦ inl (ends_shown path all old new outcome list versions latest a.0 fetchable some listed greatest both still shows)
@@ -354,11 +323,10 @@ module _ (path : List ℕ) (all : Bool) (may later : Name → Reply → Type 0) 
         no_list = refused_as (λ list outcome. ⊤) path (answer_in new.asked) (bytes list) outcome fetchable (both_list path all old new outcome list latest a.0 both) tt;
         in_turn = both_in_turn path all new.asked list versions latest a.0 fetchable some listed greatest both;
         fails = inl still;
-        answers = both_allowed may new.asked (list_file path) (mod_file path latest) (bytes list) a.0 answered.0 (same_store _ _ a.1.0) both;
       }
   latest_run versions latest outcome listed greatest (inr (inl (is, asked, grown))) =
       let alone : new.asked ≡ (list_file path, bytes list) ∷ [] = asked ∙ list_alone in
-      let more : new.refused ≡ old.refused ++ mod_file path latest ∷ [] = grown ∙ ap (λ (names : List Name). names ++ mod_file path latest ∷ []) answered.2 in
+      let more : new.refused ≡ old.refused ++ mod_file path latest ∷ [] = grown ∙ ap (λ (names : List Name). names ++ mod_file path latest ∷ []) answered.1 in
       let wanted : IsWanted (VersionsNeed path all) (mod_file path latest) new.asked =
       file_wanted path all old new outcome list versions latest fetchable some listed greatest alone in
       record {
@@ -367,15 +335,14 @@ module _ (path : List ℕ) (all : Bool) (may later : Name → Reply → Type 0) 
         no_list = refused_as (λ list outcome. ⊤) path (answer_in new.asked) (bytes list) outcome fetchable (list_is path all old new outcome (bytes list) alone) tt;
         in_turn = list_in_turn path all new.asked (bytes list) fetchable alone;
         fails = inr (mod_file path latest, wanted.0, wanted.1, more);
-        answers = one_allowed may new.asked (list_file path) (bytes list) answered.0 alone;
       }
   latest_run versions latest outcome listed greatest (inr (inr unasked)) = unasked_run outcome unasked
 
   -- the versions that are not retracted are to be printed
-  shown_run : (outcome : Outcome) → IsShownAsked path list later mid new outcome → IsVersionsRun path all may old new outcome
+  shown_run : (outcome : Outcome) → IsShownAsked path list mid new outcome → IsVersionsRun path all old new outcome
   shown_run outcome (inl (listed, is, same)) =
-      subst (λ (state : StoreState). IsVersionsRun path all may old state outcome) (sym same)
-      (listed_run path all may old first mid (bytes list) fetchable answered outcome (inl ([], listed, inr refl, is)))
+      subst (λ (state : StoreState). IsVersionsRun path all old state outcome) (sym same)
+      (listed_run path all old first mid (bytes list) fetchable answered outcome (inl ([], listed, inr refl, is)))
   shown_run outcome (inr (inl full)) = latest_run full.0 full.1 outcome full.2 full.3 full.4
   shown_run outcome (inr (inr unasked)) = unasked_run outcome unasked
 
@@ -383,42 +350,42 @@ module _ (path : List ℕ) (all : Bool) (may later : Name → Reply → Type 0) 
 abbrev IsLastReply : StoreState → Reply → Type 0
 IsLastReply state answer = (before : Pairs) (last : Name × Reply) → state.asked ≡ before ++ last ∷ [] → answer ≡ last.1
 
-module _ (path : List ℕ) (all : Bool) (may : Name → Reply → Type 0) (old mid : StoreState) (first : old.asked ≡ []) (answer : Reply) (last : IsLastReply mid answer) where
+module _ (path : List ℕ) (all : Bool) (old mid : StoreState) (first : old.asked ≡ []) (answer : Reply) (last : IsLastReply mid answer) where
   -- no go.mod has been answered yet
-  pub file_unasked : (u : Unit {0}) → IsListAsked path may old mid (Ok u) → (latest : List ℕ) → answer_in mid.asked (mod_file path latest) ≡ None
+  pub file_unasked : (u : Unit {0}) → IsListAsked path old mid (Ok u) → (latest : List ℕ) → answer_in mid.asked (mod_file path latest) ≡ None
   file_unasked u (fetchable, (reply, answered)) latest =
-      ap (λ (a : Pairs). answer_in a (mod_file path latest)) (only_list path all may old first mid reply fetchable answered)
+      ap (λ (a : Pairs). answer_in a (mod_file path latest)) (only_list path all old first mid reply fetchable answered)
 
   -- an outcome by the answer, if only the list was asked for
-  by_answer : (One : List ℕ → Outcome → Type 0) (outcome : Outcome) (u : Unit {0}) → IsListAsked path may old mid (Ok u)
+  by_answer : (One : List ℕ → Outcome → Type 0) (outcome : Outcome) (u : Unit {0}) → IsListAsked path old mid (Ok u)
       → ((list : List ℕ) → One list outcome → OrNoMemory (IsPrinted path all list) outcome)
-      → IsEndByList One path answer outcome → IsVersionsRun path all may old mid outcome
+      → IsEndByList One path answer outcome → IsVersionsRun path all old mid outcome
   by_answer One outcome u (fetchable, (reply, answered)) wider is =
       let is' : IsEndByList One path reply outcome =
-      subst (λ (r : Reply). IsEndByList One path r outcome) (last old.asked (list_file path, reply) answered.1) is in
-      listed_run path all may old first mid reply fetchable answered outcome
+      subst (λ (r : Reply). IsEndByList One path r outcome) (last old.asked (list_file path, reply) answered.0) is in
+      listed_run path all old first mid reply fetchable answered outcome
       (ends_wider One (λ list. OrNoMemory (IsPrinted path all list)) path reply outcome wider is')
 
   -- all versions are printed
-  pub all_run : (outcome : Outcome) (u : Unit {0}) → IsListAsked path may old mid (Ok u) → all ≡ true → IsEndByList (λ list. OrNoMemory (IsAllOutcome path list)) path answer outcome
-      → IsVersionsRun path all may old mid outcome
+  pub all_run : (outcome : Outcome) (u : Unit {0}) → IsListAsked path old mid (Ok u) → all ≡ true → IsEndByList (λ list. OrNoMemory (IsAllOutcome path list)) path answer outcome
+      → IsVersionsRun path all old mid outcome
   all_run outcome u asked every is =
       by_answer (λ list. OrNoMemory (IsAllOutcome path list)) outcome u asked
       (λ list known. elim known [ inl shows ↦ inl (shows.0, shows.1, inl every, shows.2) | inr memory ↦ inr memory ]) is
 
   -- there is no list, or memory ran out before it was copied
-  pub uncopied_run : (outcome : Outcome) (u : Unit {0}) → IsListAsked path may old mid (Ok u) → IsEndByList (λ list outcome. outcome ≡ out_of_memory) path answer outcome
-      → IsVersionsRun path all may old mid outcome
+  pub uncopied_run : (outcome : Outcome) (u : Unit {0}) → IsListAsked path old mid (Ok u) → IsEndByList (λ list outcome. outcome ≡ out_of_memory) path answer outcome
+      → IsVersionsRun path all old mid outcome
   uncopied_run outcome u asked is = by_answer (λ list outcome. outcome ≡ out_of_memory) outcome u asked (λ list memory. inr memory) is
 
   -- the versions that are not retracted are to be printed
-  pub copied_run : (later : Name → Reply → Type 0) (new : StoreState) (list : List ℕ) (outcome : Outcome) (u : Unit {0}) → IsListAsked path may old mid (Ok u) → all ≡ false
-      → answer ≡ bytes list → ((name : Name) (reply : Reply) → later name reply → may name reply) → IsShownAsked path list later mid new outcome
-      → IsVersionsRun path all may old new outcome
-  copied_run later new list outcome u (fetchable, (reply, answered)) some is same_store shown =
-      let same : reply ≡ bytes list = sym (last old.asked (list_file path, reply) answered.1) ∙ is in
-      shown_run path all may later old mid new first list some fetchable
-      (subst (λ (r : Reply). IsAnsweredAsk (list_file path) may old mid r) same answered) same_store outcome shown
+  pub copied_run : (new : StoreState) (list : List ℕ) (outcome : Outcome) (u : Unit {0}) → IsListAsked path old mid (Ok u) → all ≡ false
+      → answer ≡ bytes list → IsShownAsked path list mid new outcome
+      → IsVersionsRun path all old new outcome
+  copied_run new list outcome u (fetchable, (reply, answered)) some is shown =
+      let same : reply ≡ bytes list = sym (last old.asked (list_file path, reply) answered.0) ∙ is in
+      shown_run path all old mid new first list some fetchable
+      (subst (λ (r : Reply). IsAnsweredAsk (list_file path) old mid r) same answered) outcome shown
 
 -- ---- single functions
 
@@ -437,10 +404,10 @@ pub list_ends : (Leads : List ℕ → Outcome → Type 0) (path : List ℕ) (rep
 list_ends Leads path reply list outcome is known = subst (λ (r : Reply). IsEndByList Leads path r outcome) (sym is) known
 
 -- the list was asked for
-pub list_asked : (path : List ℕ) (may : Name → Reply → Type 0) (old new : StoreState) (result : Result (Unit {0}) Report) → is_fetchable path ≡ true
-    → IsAsked (list_file path) may old new result → IsListAsked path may old new result
-list_asked path may old new (Ok u) fetchable asked = (fetchable, asked)
-list_asked path may old new (Err told) fetchable asked = inr (fetchable, asked)
+pub list_asked : (path : List ℕ) (old new : StoreState) (result : Result (Unit {0}) Report) → is_fetchable path ≡ true
+    → IsAsked (list_file path) old new result → IsListAsked path old new result
+list_asked path old new (Ok u) fetchable asked = (fetchable, asked)
+list_asked path old new (Err told) fetchable asked = inr (fetchable, asked)
 
 -- what an answer says, by what its bytes say
 pub answer_says : {E : Type 0} (name : Name) (reply : Reply) (content : List ℕ) (result : Result FileReading E) → reply ≡ bytes content
@@ -459,17 +426,17 @@ shown_read path versions latest reply read reading outcome says is shows =
 -- ---- the go.mod of the latest version
 
 -- the file was not answered
-pub latest_unanswered : (path : List ℕ) (versions : List (List ℕ)) (latest : List ℕ) (may : Name → Reply → Type 0) (old new : StoreState) (name : Name) (told : Report)
-    → name ≡ mod_file path latest → IsAsked name may old new (Err told) → IsLatestAsked path versions latest may old new (report_outcome told)
-latest_unanswered path versions latest may old new name told same asked =
+pub latest_unanswered : (path : List ℕ) (versions : List (List ℕ)) (latest : List ℕ) (old new : StoreState) (name : Name) (told : Report)
+    → name ≡ mod_file path latest → IsAsked name old new (Err told) → IsLatestAsked path versions latest old new (report_outcome told)
+latest_unanswered path versions latest old new name told same asked =
     inr (subst (λ (n : Name). IsRefusedAt n old new (report_outcome told) ⊎ IsUnanswered old new (report_outcome told)) same asked)
 
 -- the outcome follows from the answer for it
-pub latest_answered : (path : List ℕ) (versions : List (List ℕ)) (latest : List ℕ) (may : Name → Reply → Type 0) (old new : StoreState) (name : Name) (answer reply : Reply) (outcome : Outcome)
-    → name ≡ mod_file path latest → IsAnsweredAsk name may old new reply → answer ≡ reply → IsWithinLimit answer
-    → (IsWithinLimit answer → OrNoMemory (IsShownOutcome path versions latest answer) outcome) → IsLatestAsked path versions latest may old new outcome
-latest_answered path versions latest may old new name answer reply outcome same answered is within known = inl (
+pub latest_answered : (path : List ℕ) (versions : List (List ℕ)) (latest : List ℕ) (old new : StoreState) (name : Name) (answer reply : Reply) (outcome : Outcome)
+    → name ≡ mod_file path latest → IsAnsweredAsk name old new reply → answer ≡ reply → IsWithinLimit answer
+    → (IsWithinLimit answer → OrNoMemory (IsShownOutcome path versions latest answer) outcome) → IsLatestAsked path versions latest old new outcome
+latest_answered path versions latest old new name answer reply outcome same answered is within known = inl (
   reply,
-  subst (λ (n : Name). IsAnsweredAsk n may old new reply) same answered,
+  subst (λ (n : Name). IsAnsweredAsk n old new reply) same answered,
   subst (λ (r : Reply). OrNoMemory (IsShownOutcome path versions latest r) outcome) is (known within),
 )

@@ -7,12 +7,10 @@ use Rattle.gm_report.specs.Reports.{device_line}
 use Rattle.gm_report.specs.declared.report.Report.{Report}
 use Rattle.gomod_run.specs.Versions.{IsShownOutcome}
 
--- the file is answered, with a reply that the store may give
-abbrev pub IsAnsweredAsk : Name → (Name → Reply → Type 0) → StoreState → StoreState → Reply → Type 0
-IsAnsweredAsk name may old new reply =
-    may name reply
-    × (new.asked ≡ old.asked ++ (name, reply) ∷ [])
-    × (new.refused ≡ old.refused)
+-- the file is answered, with this reply
+abbrev pub IsAnsweredAsk : Name → StoreState → StoreState → Reply → Type 0
+IsAnsweredAsk name old new reply =
+    (new.asked ≡ old.asked ++ (name, reply) ∷ []) × (new.refused ≡ old.refused)
 
 -- the device failed at the file, and this is reported
 abbrev pub IsRefusedAt : Name → StoreState → StoreState → Outcome → Type 0
@@ -26,17 +24,16 @@ abbrev pub IsUnanswered : StoreState → StoreState → Outcome → Type 0
 IsUnanswered old new outcome = (outcome ≡ out_of_memory) × (new.asked ≡ old.asked) × (new.refused ≡ old.refused)
 
 -- the file is asked for: the store answers, or its device fails, or memory runs out
-abbrev pub IsAsked : Name → (Name → Reply → Type 0) → StoreState → StoreState → Result (Unit {0}) Report → Type 0
-IsAsked name may old new (Ok u) = (reply : Reply) × IsAnsweredAsk name may old new reply
-IsAsked name may old new (Err told) =
+abbrev pub IsAsked : Name → StoreState → StoreState → Result (Unit {0}) Report → Type 0
+IsAsked name old new (Ok u) = (reply : Reply) × IsAnsweredAsk name old new reply
+IsAsked name old new (Err told) =
     IsRefusedAt name old new (report_outcome told) ⊎ IsUnanswered old new (report_outcome told)
 
 -- the go.mod of the latest version is asked for, and the outcome follows from its answer or reports the device, or
 -- memory runs out before or after the answer
-abbrev pub IsLatestAsked : List ℕ → List (List ℕ) → List ℕ
-    → (Name → Reply → Type 0) → StoreState → StoreState → Outcome → Type 0
-IsLatestAsked path versions latest may old new outcome =
+abbrev pub IsLatestAsked : List ℕ → List (List ℕ) → List ℕ → StoreState → StoreState → Outcome → Type 0
+IsLatestAsked path versions latest old new outcome =
     ((reply : Reply)
-    × IsAnsweredAsk (mod_file path latest) may old new reply
+    × IsAnsweredAsk (mod_file path latest) old new reply
     × OrNoMemory (IsShownOutcome path versions latest reply) outcome)
     ⊎ (IsRefusedAt (mod_file path latest) old new outcome ⊎ IsUnanswered old new outcome)

@@ -1,7 +1,7 @@
 -- The answer for the list of a module, and stores that were asked for it.
 use Rattle.std.specs.Prelude.{◌≡◌, ◌⊎◌, ℕ, List, [], Result, Ok, Err, true}
 use Rattle.gm_name.specs.Path.{is_fetchable}
-use Rattle.gm_store.specs.Asked.{Name, Reply, list_file}
+use Rattle.gm_store.specs.Asked.{Reply, list_file}
 use Rattle.gm_store.specs.Latest.{IsLatest}
 use Rattle.gm_store.specs.Listed.{AreListed}
 use Rattle.gm_store.specs.States.{StoreState}
@@ -12,10 +12,10 @@ use Rattle.gomod_run.specs.Versions.{IsUnfetchable, versions_line}
 
 -- the path is fetchable and the list was asked for: the store answered, or its device failed, or memory ran out; or the
 -- path is not fetchable, and nothing was asked
-abbrev pub IsListAsked : List ℕ → (Name → Reply → Type 0) → StoreState → StoreState → Result (Unit {0}) Report → Type 0
-IsListAsked path may old new (Ok u) = (is_fetchable path ≡ true)
-    × ((reply : Reply) × IsAnsweredAsk (list_file path) may old new reply)
-IsListAsked path may old new (Err told) = (IsUnfetchable path (report_outcome told) × (new ≡ old))
+abbrev pub IsListAsked : List ℕ → StoreState → StoreState → Result (Unit {0}) Report → Type 0
+IsListAsked path old new (Ok u) = (is_fetchable path ≡ true)
+    × ((reply : Reply) × IsAnsweredAsk (list_file path) old new reply)
+IsListAsked path old new (Err told) = (IsUnfetchable path (report_outcome told) × (new ≡ old))
     ⊎ ((is_fetchable path ≡ true)
     × (IsRefusedAt (list_file path) old new (report_outcome told) ⊎ IsUnanswered old new (report_outcome told)))
 
@@ -30,13 +30,13 @@ IsEmptyList path list old new outcome =
     AreListed path list [] × (outcome ≡ printed (versions_line path [])) × (new ≡ old)
 
 -- the list has versions, and the go.mod of the latest one was asked for
-abbrev pub IsFullList : List ℕ → List ℕ → (Name → Reply → Type 0) → StoreState → StoreState → Outcome → Type 0
-IsFullList path list may old new outcome = (versions : List (List ℕ)) × (latest : List ℕ)
+abbrev pub IsFullList : List ℕ → List ℕ → StoreState → StoreState → Outcome → Type 0
+IsFullList path list old new outcome = (versions : List (List ℕ)) × (latest : List ℕ)
     × AreListed path list versions
     × IsLatest versions latest
-    × IsLatestAsked path versions latest may old new outcome
+    × IsLatestAsked path versions latest old new outcome
 
 -- what a list ends with if retracted versions are not to be printed, unless memory ran out before more was asked
-abbrev pub IsShownAsked : List ℕ → List ℕ → (Name → Reply → Type 0) → StoreState → StoreState → Outcome → Type 0
-IsShownAsked path list may old new outcome = IsEmptyList path list old new outcome
-    ⊎ (IsFullList path list may old new outcome ⊎ IsUnanswered old new outcome)
+abbrev pub IsShownAsked : List ℕ → List ℕ → StoreState → StoreState → Outcome → Type 0
+IsShownAsked path list old new outcome = IsEmptyList path list old new outcome
+    ⊎ (IsFullList path list old new outcome ⊎ IsUnanswered old new outcome)

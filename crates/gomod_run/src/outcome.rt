@@ -1,10 +1,10 @@
 //! The outcome of a command. It is complete before anything is written, since a fault that is found late must leave
 //! standard output empty.
 
-ghost use Rattle.std.specs.Prelude.{◌≡◌, ◌≤◌, ◌++◌, ◌∷◌, [], Bool, Contains, List, ℕ};
+ghost use Rattle.std.specs.Prelude.{◌≡◌, ◌++◌, ◌∷◌, [], Bool, List, ℕ};
 ghost use Rattle.std.specs.Option.{option_map};
-ghost use Rattle.gm_store.specs.Asked.{Name, Reply, answer_in};
-ghost use Rattle.gm_store.specs.States.{RefusesWithCause};
+ghost use Rattle.gm_store.specs.Asked.{Name, answer_in};
+ghost use Rattle.gm_store.specs.States.{HasServed};
 ghost use Rattle.gm_report.specs.Outcome.{OrNoMemory, Outcome, failed, outcome_view};
 ghost use Rattle.gm_report.specs.Reports.{device_line};
 ghost use Rattle.gm_graph_listing.specs.Needs.{AskedInTurn, FailsInTurn};
@@ -43,10 +43,8 @@ pub(crate) fn outcome<'c, F: Files>(
         (F.state files.new).asked }
     ensures fails { FailsInTurn (Needs command.now main.now (option_map (λ sums. sums.now) sums.entry))
         (F.state files.old) (F.state files.new) }
-    ensures answers { (name : Name) (reply : Reply)
-        → Contains (F.state files.new).asked (name, reply) → F.may_answer files.old name reply }
-    ensures cause { RefusesWithCause (F.state files.old) (F.state files.new) }
-    ensures later { (F.state files.old).faults ≤ (F.state files.new).faults }
+    ensures served { HasServed (F.may_answer files.old) (F.may_answer files.new)
+        (F.state files.old) (F.state files.new) }
 {
     match command {
         Command::Versions { path, all } => versions_outcome(alloc, path, *all, files),

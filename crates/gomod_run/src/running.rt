@@ -1,9 +1,9 @@
 //! Running one command, from bytes that have been read to bytes that are written.
 
-ghost use Rattle.std.specs.Prelude.{◌≡◌, ◌≤◌, ◌++◌, ◌∷◌, [], Bool, Contains, List, None, false, ℕ};
+ghost use Rattle.std.specs.Prelude.{◌≡◌, ◌++◌, ◌∷◌, [], Bool, List, None, false, ℕ};
 ghost use Rattle.std.specs.Option.{option_map};
-ghost use Rattle.gm_store.specs.Asked.{Name, Reply, answer_in};
-ghost use Rattle.gm_store.specs.States.{RefusesWithCause};
+ghost use Rattle.gm_store.specs.Asked.{Name, answer_in};
+ghost use Rattle.gm_store.specs.States.{HasServed};
 ghost use Rattle.gm_report.specs.Outcome.{Outcome, code_of, failed};
 ghost use Rattle.gm_report.specs.Reports.{device_line};
 ghost use Rattle.gm_graph_listing.specs.Needs.{AnsweredAll, AskedInTurn, FailsInTurn};
@@ -94,7 +94,7 @@ pub fn run<F: Files, O: Sink, R: Sink>(
     // Each file is asked for once, and is needed by the answers before it. `fmt` and `edit` need none. `graph`,
     // `list` and `chain` need the go.mod files of the opened modules, and none if the main file or the go.sum can't
     // be parsed (Go Modules Reference, "Minimal version selection" and "Module graph pruning"). This clause and
-    // the clauses `fails` and `answers` hold however the run ends.
+    // the clauses `fails` and `served` hold however the run ends.
     ensures in_turn { AskedInTurn (Needs command.now main.now (option_map (λ sums. sums.now) sums.entry))
         (F.state files.new).asked }
     // A run that is done has an answer for every file that it needs.
@@ -104,12 +104,10 @@ pub fn run<F: Files, O: Sink, R: Sink>(
     // The device fails at one file at most, which is needed by the answers and is not among them.
     ensures fails { FailsInTurn (Needs command.now main.now (option_map (λ sums. sums.now) sums.entry))
         (F.state files.old) (F.state files.new) }
-    // Each answer is one that the store may give.
-    ensures answers { (name : Name) (reply : Reply)
-        → Contains (F.state files.new).asked (name, reply) → F.may_answer files.old name reply }
-    // The device fails only where the count of its failures rises in this run, or stood at its maximum before it.
-    ensures cause { RefusesWithCause (F.state files.old) (F.state files.new) }
-    ensures later { (F.state files.old).faults ≤ (F.state files.new).faults }
+    // Each answer is one that the store may give, and no other becomes possible. The device fails only if the count
+    // of its failures rises in this run, or stood at its maximum before it; the count never falls.
+    ensures served { HasServed (F.may_answer files.old) (F.may_answer files.new)
+        (F.state files.old) (F.state files.new) }
 {
     match outcome(alloc, command, main, sums, files) {
         Ok(text) => print_text(out, text.as_str()),

@@ -1,14 +1,14 @@
 //! The outcome of `versions`: it needs a module's list and then perhaps one go.mod, so the asks of the store are
 //! ordered here.
 
-ghost use Rattle.std.specs.Prelude.{◌≡◌, ◌≤◌, ◌++◌, ◌∷◌, ℕ, [], Contains, IfOk, List, MatchOption, MatchResult, None, OnOk, codes, map};
+ghost use Rattle.std.specs.Prelude.{◌≡◌, ◌++◌, ◌∷◌, ℕ, [], IfOk, List, MatchOption, MatchResult, None, OnOk, codes, map};
 ghost use Rattle.std.specs.String.{string_bytes};
 ghost use Rattle.std.specs.List.Sorted.{IsStrictlySortedBy};
 ghost use Rattle.gm_name.specs.Version.{version_cmp};
 ghost use Rattle.gm_file.specs.Views.{interval_views};
 ghost use Rattle.gm_file_retract.specs.Shown.{shown_of};
-ghost use Rattle.gm_store.specs.Asked.{IsWithinLimit, Name, Reply, answer_in, bytes, mod_file, reply_of};
-ghost use Rattle.gm_store.specs.States.{RefusesWithCause};
+ghost use Rattle.gm_store.specs.Asked.{IsWithinLimit, Name, answer_in, bytes, mod_file, reply_of};
+ghost use Rattle.gm_store.specs.States.{HasServed};
 ghost use Rattle.gm_graph_cache.specs.Reading.{IsFileReading};
 ghost use Rattle.gm_graph_cache.specs.Summaries.{reading_of};
 ghost use Rattle.gm_report.specs.Outcome.{OrNoMemory, Outcome, failed, out_of_memory, outcome_view, report_outcome};
@@ -20,13 +20,13 @@ ghost use Rattle.gomod_run.specs.Listing.{IsAllOutcome, IsListAsked, IsShownAske
 ghost use Rattle.gomod_run.specs.Runs.{IsRunOutcome};
 ghost use Rattle.gomod_run.specs.Versions.{IsEndByList, IsRefusedList, IsShownOutcome, IsVersionsOutcome, VersionsNeed, versions_line};
 
-use crate::asking::{ask_for, last_answer};
+use crate::asking::ask_for;
 use gm_file::Interval;
 use gm_file_retract::shown_versions;
 use gm_graph_cache::{Class, FileReading};
 use gm_name::{BorrowedVersion, KnownNames, ModPath, ModVersion, NoMemory};
 use gm_report::Report;
-use gm_store::{Answer, FileName, Files, latest, versions_of};
+use gm_store::{Answer, FileName, Files, last_answer, latest, versions_of};
 use std::alloc::Global;
 
 /// Appends a space and a version.
@@ -156,11 +156,10 @@ fn latest_outcome<'p, F: Files>(
 ) -> Result<String, Report<'p>>
     requires ascending { IsStrictlySortedBy version_cmp versions.now }
     requires unasked { answer_in (F.state files.old).asked (mod_file path.now latest) ≡ None }
-    ensures asked { IsLatestAsked path.now versions.now latest (F.may_answer files.old)
-        (F.state files.old) (F.state files.new)
+    ensures asked { IsLatestAsked path.now versions.now latest (F.state files.old) (F.state files.new)
         (outcome_view result) }
-    ensures cause { RefusesWithCause (F.state files.old) (F.state files.new) }
-    ensures later { (F.state files.old).faults ≤ (F.state files.new).faults }
+    ensures served { HasServed (F.may_answer files.old) (F.may_answer files.new)
+        (F.state files.old) (F.state files.new) }
 {
     ask_for(files, FileName::Mod(path.copy(alloc)?, latest.copy(alloc)?))?;
     shown_outcome(alloc, path, versions, latest, last_answer(files))
@@ -173,11 +172,9 @@ fn ask_for_list<'p, F: Files>(
     files: &mut F,
 ) -> Result<(), Report<'p>>
     requires { (F.state files.old).asked ≡ [] }
-    ensures asked { IsListAsked path.now (F.may_answer files.old) (F.state files.old) (F.state files.new) result }
-    ensures same_store { (name : Name) (reply : Reply)
-        → F.may_answer files.new name reply → F.may_answer files.old name reply }
-    ensures cause { RefusesWithCause (F.state files.old) (F.state files.new) }
-    ensures later { (F.state files.old).faults ≤ (F.state files.new).faults }
+    ensures asked { IsListAsked path.now (F.state files.old) (F.state files.new) result }
+    ensures served { HasServed (F.may_answer files.old) (F.may_answer files.new)
+        (F.state files.old) (F.state files.new) }
 {
     if !path.is_fetchable() {
         return Err(Report::List(path, Class::NotFetchable));
@@ -222,11 +219,10 @@ fn outcome_of_shown<'p, F: Files>(
     files: &mut F,
 ) -> Result<String, Report<'p>>
     requires { (latest : List ℕ) → answer_in (F.state files.old).asked (mod_file path.now latest) ≡ None }
-    ensures asked { IsShownAsked path.now list.now (F.may_answer files.old)
-        (F.state files.old) (F.state files.new)
+    ensures asked { IsShownAsked path.now list.now (F.state files.old) (F.state files.new)
         (outcome_view result) }
-    ensures cause { RefusesWithCause (F.state files.old) (F.state files.new) }
-    ensures later { (F.state files.old).faults ≤ (F.state files.new).faults }
+    ensures served { HasServed (F.may_answer files.old) (F.may_answer files.new)
+        (F.state files.old) (F.state files.new) }
 {
     let versions = versions_of(alloc, path, list)?;
     match latest_version(alloc, versions.as_slice())? {
@@ -256,10 +252,8 @@ pub(crate) fn versions_outcome<'p, F: Files>(
     ensures in_turn { AskedInTurn (VersionsNeed path.now all) (F.state files.new).asked }
     ensures fails { FailsInTurn (VersionsNeed path.now all)
         (F.state files.old) (F.state files.new) }
-    ensures answers { (name : Name) (reply : Reply)
-        → Contains (F.state files.new).asked (name, reply) → F.may_answer files.old name reply }
-    ensures cause { RefusesWithCause (F.state files.old) (F.state files.new) }
-    ensures later { (F.state files.old).faults ≤ (F.state files.new).faults }
+    ensures served { HasServed (F.may_answer files.old) (F.may_answer files.new)
+        (F.state files.old) (F.state files.new) }
 {
     ask_for_list(alloc, path, files)?;
     if all {

@@ -2,8 +2,6 @@
 //! module graph comes from, so these are read in one place.
 
 ghost use Rattle.std.specs.Prelude.{◌≡◌, IfErr, IfOk, IfSome, Some, codes, option_map, true, unwrap_or};
-ghost use Rattle.std.specs.Char.{is_ascii_digit};
-ghost use Rattle.std.specs.List.{list_all};
 ghost use Rattle.std.specs.String.{string_bytes};
 ghost use Rattle.clap.specs.Words.{first_of, found_of, rows_of};
 ghost use Rattle.gm_name.specs.Path.{IsPath};
@@ -13,16 +11,9 @@ ghost use Rattle.gomod_words.specs.Usage.{ArePlaces, IsAfterFault, IsEntriesFaul
 use crate::help::{CHAIN_USAGE, GRAPH_USAGE, LIST_USAGE};
 use crate::usage::{Command, Places, UsageFault, line, read_path, read_proxy, value_of};
 use clap::ArgMatches;
-use gm_name::ModPath;
+use gm_name::{ModPath, has_only_digits};
 use gm_store::ProxyList;
 use std::alloc::{AllocError, Global};
-
-/// Whether a text consists of ASCII digits. True of the empty text.
-fn has_only_digits(text: &[u8]) -> bool
-    ensures { result ≡ list_all is_ascii_digit text.now }
-{
-    text.iter().all(|b| b.is_ascii_digit())
-}
 
 /// The number of rows that a text stands for, or `None` if it is not one or more ASCII digits that form a
 /// number from 1 to 4,294,967,295.

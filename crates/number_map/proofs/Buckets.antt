@@ -1,25 +1,13 @@
--- What buckets hold after one of them was changed, and after all were divided.
-use Rattle.std.proofs.Common.{◌≡◌, ◌∙◌, ◌+◌, ◌<◌, ◌≤◌, ◌*◌, ◌/◌, ℕ, zero, suc, Bool, true, false, cond, List, [], ◌∷◌, Option, None, Some, Result, Ok, Err, OnErr, length, get_or, nat_eq, ap, refl, sym, subst, inl, inr, arith}
-use Rattle.std.specs.Prelude.{All, slice_get}
-use Rattle.std.specs.Option.{option_and_then, option_or}
+-- What buckets of any kind hold after one of them was changed, and that a number chooses one of them.
+use Rattle.std.proofs.Common.{◌≡◌, ◌∙◌, ◌+◌, ◌<◌, ◌≤◌, ◌*◌, ℕ, zero, suc, Bool, cond, List, [], ◌∷◌, Option, Some, length, get_or, nat_eq, ap, refl, sym, subst, inl, inr, arith}
+use Rattle.std.specs.Prelude.{slice_get}
+use Rattle.std.specs.Option.{option_and_then}
 use Rattle.std.proofs.Math.ListN.{set}
-use Rattle.std.proofs.Math.Nat.{mul_assoc, mul-suc, mul-zero}
-use Rattle.std.proofs.lemmas.Bool.{cases_eq, cases_lt, eqb-true, ne_eqb}
+use Rattle.std.proofs.Math.Nat.{mul-suc, mul-zero}
+use Rattle.std.proofs.lemmas.Bool.{cases_eq, ne_eqb}
 use Rattle.std.proofs.lemmas.List.{length-set, get_or-set_same, set-get_or}
-use Rattle.std.proofs.lemmas.Option.{get_or_from_slice_get, slice_get_past, slice_get_read, slice_get_within}
-use Rattle.number_map.specs.declared.bucket.Bucket.{Bucket}
-use Rattle.number_map.specs.Buckets.{AreParts, HasNone, bucket_of, held_at, held_in}
-use Rattle.number_map.specs.Slots.{place_in}
-
--- Empty buckets hold nothing.
-pub nothing_held : (buckets : List Bucket) → All HasNone buckets → (n : ℕ) → held_in buckets n ≡ None
-nothing_held buckets none n = by_bucket (slice_get buckets (bucket_of n (length buckets))) refl
-  where
-    by_bucket : (o : Option Bucket) → slice_get buckets (bucket_of n (length buckets)) ≡ o → option_and_then (λ bucket. place_in bucket.slots.items n) o ≡ None
-    by_bucket None e = refl
-    by_bucket (Some bucket) e =
-        let at = bucket_of n (length buckets) in
-        subst HasNone (get_or_from_slice_get buckets at bucket bucket e) (none at bucket (slice_get_within buckets at bucket e)) n
+use Rattle.std.proofs.lemmas.Option.{slice_get_read}
+use Rattle.number_map.specs.Buckets.{PutsIn, bucket_of, value_at, value_in}
 
 -- A list with one item changed has that item in its place.
 there : {X : Type 0} (xs : List X) (i : ℕ) (x : X) → i < length xs → slice_get (set xs i x) i ≡ Some x
@@ -33,96 +21,45 @@ elsewhere (y ∷ ys) zero (suc j) x apart = refl
 elsewhere (y ∷ ys) (suc i) zero x apart = refl
 elsewhere (y ∷ ys) (suc i) (suc j) x apart = elsewhere ys i j x (λ e. apart (ap suc e))
 
-pub set_there : (buckets : List Bucket) (old new : Bucket) (at : ℕ) → old ≡ get_or buckets at old → new ≡ old → set buckets at new ≡ buckets
-set_there buckets old new at is same = ap (λ (b : Bucket). set buckets at b) (same ∙ is) ∙ set-get_or buckets at old
+-- A bucket that was put back as it was changes nothing.
+pub set_there : {B : Type 0} (buckets : List B) (old new : B) (at : ℕ) → old ≡ get_or buckets at old → new ≡ old → set buckets at new ≡ buckets
+set_there {B} buckets old new at is same = ap (λ (b : B). set buckets at b) (same ∙ is) ∙ set-get_or buckets at old
 
-held_there : (buckets : List Bucket) (old : Bucket) (at n : ℕ) → at < length buckets → old ≡ get_or buckets at old → held_at buckets at n ≡ place_in old.slots.items n
-held_there buckets old at n within is =
-    ap (λ (o : Option Bucket). option_and_then (λ bucket. place_in bucket.slots.items n) o) (slice_get_read buckets (length buckets) at old refl within is)
+-- What the bucket at a place holds is what they hold there.
+pub value_there : {B : Type 0} (holds : B → ℕ → Option ℕ) (buckets : List B) (old : B) (at n : ℕ) → at < length buckets → old ≡ get_or buckets at old
+    → value_at holds buckets at n ≡ holds old n
+value_there {B} holds buckets old at n within is =
+    ap (λ (o : Option B). option_and_then (λ bucket. holds bucket n) o) (slice_get_read buckets (length buckets) at old refl within is)
 
--- A place that is put in the bucket of its number is put in all.
-pub put_in : (buckets : List Bucket) (old new : Bucket) (at number place : ℕ) → at ≡ bucket_of number (length buckets) → at < length buckets → old ≡ get_or buckets at old
-    → ((n : ℕ) → place_in new.slots.items n ≡ cond (nat_eq number n) (Some place) (place_in old.slots.items n))
-    → (n : ℕ) → held_in (set buckets at new) n ≡ cond (nat_eq number n) (Some place) (held_in buckets n)
-put_in buckets old new at number place chosen within is puts n =
-    ap (λ (many : ℕ). held_at (set buckets at new) (bucket_of n many) n) (length-set buckets at new)
-    ∙ elim (cases_eq at (bucket_of n (length buckets))) [ inl same ↦ here same | inr apart ↦ other apart ]
+-- What is put in the bucket of its number is put in all.
+pub put_in : {B : Type 0} (holds : B → ℕ → Option ℕ) (choice : ℕ → ℕ → ℕ) (buckets : List B) (old new : B) (at number value : ℕ)
+    → at ≡ choice number (length buckets) → at < length buckets → old ≡ get_or buckets at old → PutsIn holds old new number value
+    → (n : ℕ) → value_in holds choice (set buckets at new) n ≡ cond (nat_eq number n) (Some value) (value_in holds choice buckets n)
+put_in {B} holds choice buckets old new at number value chosen within is puts n =
+    ap (λ (many : ℕ). value_at holds (set buckets at new) (choice n many) n) (length-set buckets at new)
+    ∙ elim (cases_eq at (choice n (length buckets))) [ inl same ↦ here same | inr apart ↦ other apart ]
   where
-    here : at ≡ bucket_of n (length buckets) → held_at (set buckets at new) (bucket_of n (length buckets)) n ≡ cond (nat_eq number n) (Some place) (held_in buckets n)
+    here : at ≡ choice n (length buckets)
+        → value_at holds (set buckets at new) (choice n (length buckets)) n ≡ cond (nat_eq number n) (Some value) (value_in holds choice buckets n)
     here same =
-        subst (λ (m : ℕ). held_at (set buckets at new) m n ≡ cond (nat_eq number n) (Some place) (held_at buckets m n)) same
-        (ap (λ (o : Option Bucket). option_and_then (λ bucket. place_in bucket.slots.items n) o) (there buckets at new within)
+        subst (λ (m : ℕ). value_at holds (set buckets at new) m n ≡ cond (nat_eq number n) (Some value) (value_at holds buckets m n)) same
+        (ap (λ (o : Option B). option_and_then (λ bucket. holds bucket n) o) (there buckets at new within)
         ∙ puts n
-        ∙ ap (λ (o : Option ℕ). cond (nat_eq number n) (Some place) o) (sym (held_there buckets old at n within is)))
+        ∙ ap (λ (o : Option ℕ). cond (nat_eq number n) (Some value) o) (sym (value_there holds buckets old at n within is)))
 
-    other : (at ≡ bucket_of n (length buckets) → ⊥) → held_at (set buckets at new) (bucket_of n (length buckets)) n ≡ cond (nat_eq number n) (Some place) (held_in buckets n)
+    other : (at ≡ choice n (length buckets) → ⊥)
+        → value_at holds (set buckets at new) (choice n (length buckets)) n ≡ cond (nat_eq number n) (Some value) (value_in holds choice buckets n)
     other apart =
-        ap (λ (o : Option Bucket). option_and_then (λ bucket. place_in bucket.slots.items n) o) (elsewhere buckets at (bucket_of n (length buckets)) new apart)
-        ∙ sym (ap (λ (b : Bool). cond b (Some place) (held_in buckets n))
-        (ne_eqb number n (λ same. apart (chosen ∙ ap (λ (m : ℕ). bucket_of m (length buckets)) same))))
+        ap (λ (o : Option B). option_and_then (λ bucket. holds bucket n) o) (elsewhere buckets at (choice n (length buckets)) new apart)
+        ∙ sym (ap (λ (b : Bool). cond b (Some value) (value_in holds choice buckets n))
+        (ne_eqb number n (λ same. apart (chosen ∙ ap (λ (m : ℕ). choice m (length buckets)) same))))
 
-or_put : (b : Bool) (place : ℕ) (held rest : Option ℕ) → option_or (cond b (Some place) held) rest ≡ cond b (Some place) (option_or held rest)
-or_put true place held rest = refl
-or_put false place held rest = refl
+below : (number many : ℕ) → number < 4294967296 → number * many + many ≤ 4294967296 * many
+below number zero small = omega (arith, mul-zero number)
+below number (suc many) small = omega (arith, small, below number many small, mul-suc number many)
 
-or_rest : (b : Bool) (place : ℕ) (held rest : Option ℕ) → (b ≡ true → held ≡ None) → option_or held (cond b (Some place) rest) ≡ cond b (Some place) (option_or held rest)
-or_rest true place held rest none = ap (λ (o : Option ℕ). option_or o (Some place)) (none refl)
-or_rest false place held rest none = refl
-
--- The same with what the ordered map of the rest holds.
-pub put_or : (buckets : List Bucket) (old new : Bucket) (at number place : ℕ) → at ≡ bucket_of number (length buckets) → at < length buckets → old ≡ get_or buckets at old
-    → ((n : ℕ) → place_in new.slots.items n ≡ cond (nat_eq number n) (Some place) (place_in old.slots.items n))
-    → (n : ℕ) (rest : Option ℕ) → option_or (held_in (set buckets at new) n) rest ≡ cond (nat_eq number n) (Some place) (option_or (held_in buckets n) rest)
-put_or buckets old new at number place chosen within is puts n rest =
-    ap (λ (o : Option ℕ). option_or o rest) (put_in buckets old new at number place chosen within is puts n)
-    ∙ or_put (nat_eq number n) place (held_in buckets n) rest
-
--- A place that is put in the ordered map, where the bucket of its number holds none and was left as it was.
-pub rest_or : (buckets : List Bucket) (old new : Bucket) (at number place : ℕ) → at ≡ bucket_of number (length buckets) → at < length buckets → old ≡ get_or buckets at old
-    → new ≡ old → place_in old.slots.items number ≡ None
-    → (n : ℕ) (rest : Option ℕ) → option_or (held_in (set buckets at new) n) (cond (nat_eq number n) (Some place) rest)
-    ≡ cond (nat_eq number n) (Some place) (option_or (held_in buckets n) rest)
-rest_or buckets old new at number place chosen within is same none n rest =
-    ap (λ (bs : List Bucket). option_or (held_in bs n) (cond (nat_eq number n) (Some place) rest)) (set_there buckets old new at is same)
-    ∙ or_rest (nat_eq number n) place (held_in buckets n) rest
-    (λ equal. ap (λ (m : ℕ). held_in buckets m) (sym (eqb-true number n equal)) ∙ ap (λ (m : ℕ). held_at buckets m number) (sym chosen) ∙ held_there buckets old at number within is ∙ none)
-
--- Among twice as many buckets, a number chooses one of the two that its bucket is divided in.
-half : (n many : ℕ) → bucket_of n (many * 2) / 2 ≡ bucket_of n many
-half n many =
-    let whole : n / 4294967296 * (many * 2) ≡ n / 4294967296 * many * 2 = sym (mul_assoc (n / 4294967296) many 2) in
-    ap (λ (m : ℕ). m / 4294967296 / 2) whole ∙ halved (n / 4294967296 * many)
-  where
-    halved : (m : ℕ) → m * 2 / 4294967296 / 2 ≡ m / 4294967296
-    halved m = omega arith
-
--- Buckets that were divided hold the same.
-pub divided : (buckets parts : List Bucket) (many : ℕ) → many ≡ length buckets * 2 → length parts ≡ many → AreParts buckets many parts
-    → (n : ℕ) → held_in parts n ≡ held_in buckets n
-divided buckets parts many twice all are n =
-    let at = bucket_of n many in
-    let here : bucket_of n (length parts) ≡ at = ap (λ (m : ℕ). bucket_of n m) all in
-    let halved : at / 2 ≡ bucket_of n (length buckets) = ap (λ (m : ℕ). bucket_of n m / 2) twice ∙ half n (length buckets) in
-    ap (λ (m : ℕ). held_at parts m n) here
-    ∙ elim (cases_lt at (length parts)) [
-      | inl within ↦ are at n within refl
-      | inr past ↦
-          ap (λ (o : Option Bucket). option_and_then (λ bucket. place_in bucket.slots.items n) o) (slice_get_past parts at past)
-          ∙ sym (ap (λ (o : Option Bucket). option_and_then (λ bucket. place_in bucket.slots.items n) o) (slice_get_past buckets (at / 2) (omega (arith, past, all, twice))))
-    ]
-    ∙ ap (λ (m : ℕ). held_at buckets m n) halved
-
-below : (high many : ℕ) → high < 4294967296 → high * many + many ≤ 4294967296 * many
-below high zero small = omega (arith, mul-zero high)
-below high (suc many) small = omega (arith, small, below high many small, mul-suc high many)
-
--- A number of 64 bits chooses a bucket that there is.
-pub within : (number many : ℕ) → number < 18446744073709551616 → 0 < many → bucket_of number many < many
+-- A number of 32 bits chooses a bucket that there is.
+pub within : (number many : ℕ) → number < 4294967296 → 0 < many → bucket_of number many < many
 within number many fits some =
-    let product = below (number / 4294967296) many (omega (arith, fits)) in
+    let product = below number many fits in
     omega (arith, product, some)
-
--- What is refused leaves what it left.
-pub refused : {A B : Type 0} (r : Result A B) (P : Type 0) → P → OnErr r P
-refused (Ok x) P p = tt
-refused (Err e) P p = p

@@ -1,3 +1,4 @@
 pub mod Buckets
+pub mod Places
 pub mod Slots
 pub mod Values

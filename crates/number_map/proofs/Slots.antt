@@ -29,11 +29,13 @@ pushed xs slot none n =
     after xs (slot ∷ []) n
     ∙ pushed_by (nat_eq slot.number n) slot.place (place_in xs n) (λ same. subst (λ (m : ℕ). place_in xs m ≡ None) (eqb-true _ _ same) none)
 
-none_head : (b : Bool) (p : ℕ) (rest : Option ℕ) → cond b (Some p) rest ≡ None → (b ≡ false) × (rest ≡ None)
+-- Where nothing is found, the first slot was not it, and nothing is found in the others.
+pub none_head : (b : Bool) (p : ℕ) (rest : Option ℕ) → cond b (Some p) rest ≡ None → (b ≡ false) × (rest ≡ None)
 none_head true p rest e = absurd (cc e)
 none_head false p rest e = (refl, e)
 
-swapped : (a b : Bool) (p q rest : Option ℕ) → (a ≡ true → b ≡ true → ⊥) → cond a p (cond b q rest) ≡ cond b q (cond a p rest)
+-- Which of two slots is looked at first doesn't matter, if they are not both found.
+pub swapped : (a b : Bool) (p q rest : Option ℕ) → (a ≡ true → b ≡ true → ⊥) → cond a p (cond b q rest) ≡ cond b q (cond a p rest)
 swapped true true p q rest apart = absurd (apart refl refl)
 swapped true false p q rest apart = refl
 swapped false b p q rest apart = refl

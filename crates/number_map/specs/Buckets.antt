@@ -1,31 +1,29 @@
--- Buckets: which one a number chooses, and what they hold at a number.
+-- Buckets of a hash table: which one a number chooses, and what they hold at a number. They may be of any kind: what a
+-- bucket holds at a number (`holds`), and which of so many buckets a number chooses (`choice`), are given.
 use Rattle.std.specs.Prelude.{◌≡◌, ◌<◌, ◌*◌, ◌/◌, ℕ, List, Option, None, Some, cond, length, nat_eq, slice_get}
 use Rattle.std.specs.Option.{option_and_then}
-use Rattle.number_map.specs.declared.bucket.Bucket.{Bucket}
-use Rattle.number_map.specs.Slots.{place_in}
 
--- which of so many buckets a number chooses: its high half divided by 2^32, of that many
+-- which of so many buckets a number of 32 bits chooses: the number divided by 2^32, of that many
 abbrev pub bucket_of : ℕ → ℕ → ℕ
-bucket_of number many = number / 4294967296 * many / 4294967296
+bucket_of number many = number * many / 4294967296
 
 -- what the bucket at a place of a list holds at a number
-abbrev pub held_at : List Bucket → ℕ → ℕ → Option ℕ
-held_at buckets at number = option_and_then (λ bucket. place_in bucket.slots.items number) (slice_get buckets at)
+abbrev pub value_at : {B : Type 0} → (B → ℕ → Option ℕ) → List B → ℕ → ℕ → Option ℕ
+value_at holds buckets at number = option_and_then (λ bucket. holds bucket number) (slice_get buckets at)
 
 -- what buckets hold at a number: what the one that it chooses holds there
-abbrev pub held_in : List Bucket → ℕ → Option ℕ
-held_in buckets number = held_at buckets (bucket_of number (length buckets)) number
+abbrev pub value_in : {B : Type 0} → (B → ℕ → Option ℕ) → (ℕ → ℕ → ℕ) → List B → ℕ → Option ℕ
+value_in holds choice buckets number = value_at holds buckets (choice number (length buckets)) number
 
 -- The bucket is empty.
-abbrev pub HasNone : Bucket → Type 0
-HasNone bucket = (number : ℕ) → place_in bucket.slots.items number ≡ None
+abbrev pub HasNone : {B : Type 0} → (B → ℕ → Option ℕ) → B → Type 0
+HasNone holds bucket = (number : ℕ) → holds bucket number ≡ None
 
 -- At the numbers that choose it among so many, each part holds what the bucket that it is half of holds.
-abbrev pub AreParts : List Bucket → ℕ → List Bucket → Type 0
-AreParts buckets many parts = (at number : ℕ) → at < length parts → bucket_of number many ≡ at
-    → held_at parts at number ≡ held_at buckets (at / 2) number
+abbrev pub AreParts : {B : Type 0} → (B → ℕ → Option ℕ) → (ℕ → ℕ → ℕ) → List B → ℕ → List B → Type 0
+AreParts holds choice buckets many parts = (at number : ℕ) → at < length parts → choice number many ≡ at
+    → value_at holds parts at number ≡ value_at holds buckets (at / 2) number
 
--- The place was put in the bucket under the number, and nothing else was changed.
-abbrev pub PutsIn : Bucket → Bucket → ℕ → ℕ → Type 0
-PutsIn old new number place = (n : ℕ)
-    → place_in new.slots.items n ≡ cond (nat_eq number n) (Some place) (place_in old.slots.items n)
+-- In a bucket, or in what has buckets, the value was put under the number, and nothing else was changed.
+abbrev pub PutsIn : {B : Type 0} → (B → ℕ → Option ℕ) → B → B → ℕ → ℕ → Type 0
+PutsIn holds old new number value = (n : ℕ) → holds new n ≡ cond (nat_eq number n) (Some value) (holds old n)

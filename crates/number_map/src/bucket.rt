@@ -1,8 +1,9 @@
 //! Buckets of places, and how a number chooses one of them.
 
 ghost use Rattle.std.specs.Prelude.{◌≡◌, ◌≤◌, ℕ, IfSome, None};
-ghost use Rattle.number_map.specs.Buckets.{PutsIn, bucket_of};
+ghost use Rattle.number_map.specs.Buckets.{PutsIn};
 ghost use Rattle.number_map.specs.declared.bucket.Put.TheVariants as Put;
+ghost use Rattle.number_map.specs.Places.{bucket_of_high, place_in_bucket};
 ghost use Rattle.number_map.specs.Slots.{IsFirst, place_in};
 
 use arrayvec::ArrayVec;
@@ -37,7 +38,7 @@ pub(crate) enum Put {
 /// Which of so many buckets a number chooses. Its high half decides, so that twice as many buckets divide each in two.
 pub(crate) fn bucket_of(number: u64, many: usize) -> usize
     requires { many ≤ 4294967296 }
-    ensures { result ≡ bucket_of number many }
+    ensures { result ≡ bucket_of_high number many }
 {
     (((number >> 32) * many as u64) >> 32) as usize
 }
@@ -79,8 +80,8 @@ impl Bucket {
 
     /// Puts a place under a number, if there is room.
     pub(crate) fn put(&mut self, number: u64, place: usize) -> Put
-        ensures replaced { result ≡ Put.Replaced → PutsIn self.old self.new number place }
-        ensures added { result ≡ Put.Added → PutsIn self.old self.new number place }
+        ensures replaced { result ≡ Put.Replaced → PutsIn place_in_bucket self.old self.new number place }
+        ensures added { result ≡ Put.Added → PutsIn place_in_bucket self.old self.new number place }
         ensures same { result ≡ Put.Full → self.new ≡ self.old }
         ensures none { result ≡ Put.Full → place_in self.old.slots.items number ≡ None }
     {
@@ -99,7 +100,7 @@ impl Bucket {
     /// The slots whose numbers choose the given bucket among so many.
     pub(crate) fn part(&self, bucket: usize, many: usize) -> Bucket
         requires { many ≤ 4294967296 }
-        ensures { (n : ℕ) → bucket_of n many ≡ bucket
+        ensures { (n : ℕ) → bucket_of_high n many ≡ bucket
             → place_in result.slots.items n ≡ place_in self.now.slots.items n }
     {
         let mut part = ArrayVec::new();

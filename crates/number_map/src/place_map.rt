@@ -3,7 +3,7 @@
 ghost use Rattle.std.specs.Prelude.{◌≡◌, ◌≤◌, ◌<◌, ◌*◌, ℕ, IfOk, None, OnErr, OnOk, Some, cond, length, nat_eq};
 ghost use Rattle.std.specs.BTreeMap as map;
 ghost use Rattle.std.specs.Ordering.{nat_cmp};
-ghost use Rattle.number_map.specs.Buckets.{held_in};
+ghost use Rattle.number_map.specs.Places.{place_in_buckets};
 
 use crate::bucket::{Bucket, Put, bucket_of};
 use std::alloc::{AllocError, Global};
@@ -32,7 +32,7 @@ pub(crate) struct PlaceMap {
 /// The buckets for the first number, all empty.
 fn first_buckets(alloc: Global) -> Result<Vec<Bucket>, AllocError>
     ensures len { IfOk result (λ buckets. length buckets.items ≡ 256) }
-    ensures none { IfOk result (λ buckets. (n : ℕ) → held_in buckets.items n ≡ None) }
+    ensures none { IfOk result (λ buckets. (n : ℕ) → place_in_buckets buckets.items n ≡ None) }
 {
     let mut buckets = Vec::with_capacity(alloc, FIRST)?;
     for _ in 0..FIRST {
@@ -45,7 +45,8 @@ fn first_buckets(alloc: Global) -> Result<Vec<Bucket>, AllocError>
 fn doubled(alloc: Global, buckets: &[Bucket]) -> Result<Vec<Bucket>, AllocError>
     requires { length buckets.now ≤ 2147483648 }
     ensures len { IfOk result (λ doubled. length doubled.items ≡ length buckets.now * 2) }
-    ensures same { IfOk result (λ doubled. (n : ℕ) → held_in doubled.items n ≡ held_in buckets.now n) }
+    ensures same { IfOk result (λ doubled. (n : ℕ)
+        → place_in_buckets doubled.items n ≡ place_in_buckets buckets.now n) }
 {
     let many = buckets.len() * 2;
     let mut doubled = Vec::with_capacity(alloc, many)?;
@@ -56,7 +57,8 @@ fn doubled(alloc: Global, buckets: &[Bucket]) -> Result<Vec<Bucket>, AllocError>
 }
 
 impl PlaceMap {
-    ghost use Rattle.number_map.specs.PlaceMap.{PutsPlace, place_at};
+    ghost use Rattle.number_map.specs.Buckets.{PutsIn};
+    ghost use Rattle.number_map.specs.PlaceMap.{place_at};
 
     /// The empty map. Allocates no memory before the first number.
     pub(crate) fn new(alloc: Global) -> PlaceMap
@@ -72,7 +74,7 @@ impl PlaceMap {
 
     /// The place in the bucket of a number.
     fn held(&self, number: u64) -> Option<usize>
-        ensures { result ≡ held_in self.now.buckets.items number }
+        ensures { result ≡ place_in_buckets self.now.buckets.items number }
     {
         let bucket = bucket_of(number, self.buckets.len());
         self.buckets.get(bucket)?.get(number)
@@ -121,7 +123,7 @@ impl PlaceMap {
     /// Puts a place under a number, instead of any other there. The only refusal is `AllocError`, if memory runs out,
     /// which leaves the map unchanged.
     pub(crate) fn insert(&mut self, number: u64, place: usize) -> Result<(), AllocError>
-        ensures puts { OnOk result (PutsPlace self.old self.new number place) }
+        ensures puts { OnOk result (PutsIn place_at self.old self.new number place) }
         ensures err { OnErr result ((n : ℕ) → place_at self.new n ≡ place_at self.old n) }
     {
         self.make_room()?;

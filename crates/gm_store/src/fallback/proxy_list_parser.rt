@@ -4,7 +4,7 @@
 
 ghost use Rattle.std.specs.Prelude.{◌≡◌, ◌++◌, ℕ, List, [], map, true, false, IfOk, IfSome, IfNone, encode_utf8, string_bytes};
 ghost use Rattle.std.specs.List.{list_all};
-ghost use Rattle.gm_store.specs.Proxies.{folders_in, folders_of, is_folder, is_proxy_mark, mark_of, marks_in, marks_of};
+ghost use Rattle.gm_store.specs.Proxies.{folders_in, folders_of, is_folder, is_proxy_mark, mark_at_byte, marks_in, marks_of};
 ghost use Rattle.gm_store.specs.Cutting.{IsParsedPrefix};
 
 use crate::fallback::proxy_list::{Mark, ProxyList};
@@ -27,8 +27,8 @@ pub(crate) fn has_folders_only(folders: &[String]) -> bool
 }
 
 /// The mark that a character stands for, or `None` if it belongs to a folder's text.
-fn mark_of(c: char) -> Option<Mark>
-    ensures some { IfSome result (λ mark. (is_proxy_mark c ≡ true) × (mark ≡ mark_of c)) }
+fn mark_at_byte(c: char) -> Option<Mark>
+    ensures some { IfSome result (λ mark. (is_proxy_mark c ≡ true) × (mark ≡ mark_at_byte c)) }
     ensures none { IfNone result (is_proxy_mark c ≡ false) }
 {
     match c {
@@ -52,7 +52,7 @@ fn parse_char(
     ensures { IfOk result (λ next. (text : List ℕ) → IsParsedPrefix text folders.old.items marks.old.items folder
         → IsParsedPrefix (text ++ encode_utf8 c) folders.new.items marks.new.items next) }
 {
-    let Some(mark) = mark_of(c) else {
+    let Some(mark) = mark_at_byte(c) else {
         let mut folder = folder;
         folder.push(c)?;
         return Ok(folder);

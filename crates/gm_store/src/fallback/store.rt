@@ -69,35 +69,25 @@ impl<F: FolderList> FallbackStore<F> {
 }
 
 impl<F: FolderList> Files for FallbackStore<F> {
-    ghost use Rattle.std.specs.Prelude.{◌≤◌, ℕ, [], ◌∷◌, ◌++◌, None, Some, OnOk, OnErr};
-    ghost use Rattle.gm_store.specs.Asked.{IsWithinLimit, Reply, answer_in};
-    ghost use Rattle.gm_store.specs.States.{AddsAnswer, CountsFailure};
+    ghost use Rattle.std.specs.Prelude.{ℕ, [], None, Some, OnOk};
+    ghost use Rattle.gm_store.specs.Asked.{Reply, answer_in};
+    ghost use Rattle.gm_store.specs.FolderLookups.{MayAnswerFrom};
+    ghost use Rattle.gm_store.specs.Requests.{IsRequest};
+    ghost use Rattle.gm_store.specs.States.{AddsAnswer};
     ghost use Rattle.gm_store.specs.Steps.{HasCounted, MayStop, counted_up};
     ghost use Rattle.gm_store.specs.Views.{fallback_state as state_of, folders_under, marks_between};
 
     ghost state = { state_of };
 
-    ghost may_answer = { λ store name reply. (failures : ℕ)
-        × MayStop (λ k seen. F.may_find (folders_under store) k name seen)
-        (marks_for name (marks_between store)) (Some reply) failures };
+    ghost may_answer = { λ store. MayAnswerFrom (F.may_find (folders_under store)) (marks_between store) };
 
     fn ask(&mut self, name: &FileName) -> Result<(), AskFault>
         requires { answer_in (state_of self.old).asked (name_of name.now) ≡ None }
-        ensures ok { OnOk result ((reply : Reply)
-            × ((failures : ℕ) × MayStop (λ k seen. F.may_find (folders_under self.old) k (name_of name.now) seen)
-            (marks_for (name_of name.now) (marks_between self.old)) (Some reply) failures)
-            × AddsAnswer (state_of self.old) (state_of self.new) (name_of name.now) reply) }
-        ensures err { OnErr result ((state_of self.new).asked ≡ (state_of self.old).asked) }
-        ensures refused { result ≡ Err AskFault.Device
-            → (state_of self.new).refused ≡ (state_of self.old).refused ++ name_of name.now ∷ [] }
-        ensures not_refused { (result ≡ Err AskFault.Device → ⊥)
-            → (state_of self.new).refused ≡ (state_of self.old).refused }
-        ensures cause { result ≡ Err AskFault.Device → CountsFailure (state_of self.old) (state_of self.new) }
-        ensures same_store { (folders_under self.new ≡ folders_under self.old)
+        ensures request { IsRequest (MayAnswerFrom (F.may_find (folders_under self.old)) (marks_between self.old))
+            (MayAnswerFrom (F.may_find (folders_under self.new)) (marks_between self.new))
+            (state_of self.old) (state_of self.new) (name_of name.now) result }
+        ensures same_folders { (folders_under self.new ≡ folders_under self.old)
             × (marks_between self.new ≡ marks_between self.old) }
-        ensures within_limit { OnOk result ((reply : Reply) × IsWithinLimit reply
-            × AddsAnswer (state_of self.old) (state_of self.new) (name_of name.now) reply) }
-        ensures later { (state_of self.old).faults ≤ (state_of self.new).faults }
 
         // The answer is that of the folder at which `step` stops. The request fails only if `step` stops at a
         // failure of the device. Failures in the folders before are counted too.

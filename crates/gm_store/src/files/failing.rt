@@ -2,9 +2,9 @@
 //!
 //! Tests use it to inject a device failure at every point of a run, without a real device.
 
-ghost use Rattle.std.specs.Prelude.{◌≡◌, ◌+◌, ◌≤◌, List, [], ◌∷◌, ◌++◌, Some, None, OnOk, OnErr, IsErr};
-ghost use Rattle.gm_store.specs.Asked.{IsWithinLimit, Name, Reply, answer_in, name_of};
-ghost use Rattle.gm_store.specs.States.{AddsAnswer, CountsFailure};
+ghost use Rattle.std.specs.Prelude.{◌≡◌, [], Some, None, OnOk, IsErr};
+ghost use Rattle.gm_store.specs.Asked.{answer_in, name_of};
+ghost use Rattle.gm_store.specs.Requests.{IsRequest};
 
 use crate::files::keeping::keep_name;
 use crate::files::memory::MemoryFiles;
@@ -53,19 +53,8 @@ impl Files for FailingFiles {
 
     fn ask(&mut self, name: &FileName) -> Result<(), AskFault>
         requires { answer_in (state_of self.old).asked (name_of name.now) ≡ None }
-        ensures ok { OnOk result ((reply : Reply) × may_give (inside_of self.old) (name_of name.now) reply
-            × AddsAnswer (state_of self.old) (state_of self.new) (name_of name.now) reply) }
-        ensures err { OnErr result ((state_of self.new).asked ≡ (state_of self.old).asked) }
-        ensures refused { result ≡ Err AskFault.Device
-            → (state_of self.new).refused ≡ (state_of self.old).refused ++ name_of name.now ∷ [] }
-        ensures not_refused { (result ≡ Err AskFault.Device → ⊥)
-            → (state_of self.new).refused ≡ (state_of self.old).refused }
-        ensures cause { result ≡ Err AskFault.Device → CountsFailure (state_of self.old) (state_of self.new) }
-        ensures same_store { (name : Name) (reply : Reply)
-            → may_give (inside_of self.new) name reply → may_give (inside_of self.old) name reply }
-        ensures within_limit { OnOk result ((reply : Reply) × IsWithinLimit reply
-            × AddsAnswer (state_of self.old) (state_of self.new) (name_of name.now) reply) }
-        ensures later { (state_of self.old).faults ≤ (state_of self.new).faults }
+        ensures request { IsRequest (may_give (inside_of self.old)) (may_give (inside_of self.new))
+            (state_of self.old) (state_of self.new) (name_of name.now) result }
 
         // The device fails exactly once: when no request is left before the failure.
         ensures fails { asks_left self.old ≡ Some 0 → IsErr result }

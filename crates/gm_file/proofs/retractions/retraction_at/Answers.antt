@@ -4,7 +4,7 @@ use Rattle.std.specs.Option.{option_map}
 use Rattle.std.specs.Str.{bytes_eq}
 use Rattle.gm_syntax.specs.Tokens.{words_of}
 use Rattle.gm_name.proofs.NameTests.{not_true}
-use Rattle.gm_file.specs.Directives.{Pair}
+use Rattle.gm_file.specs.Directives.{VersionInterval}
 use Rattle.gm_file.specs.Views.{interval_view}
 use Rattle.gm_file.proofs.Retracted.{not-false, other-retracts, retract-retracts}
 use Rattle.gm_file.proofs.retractions.retraction_at.Goals as goal
@@ -16,6 +16,6 @@ returns-then-ne c =
 
 pub returns : goal.returns
 returns c =
-    subst (λ (o : Option Pair). IfOk c.interval_in.result (λ interval. option_map interval_view interval ≡ o))
+    subst (λ (o : Option VersionInterval). IfOk c.interval_in.result (λ interval. option_map interval_view interval ≡ o))
     (retract-retracts _ c.in-Some.verb.now.word.spelling (words_of c.in-Some.words.now) c.in-Some.ensures
     (ap (λ (t : List ℕ). bytes_eq t (codes "retract")) (sym c.spelling.ensures) ∙ not-false _ (sym c.ne.ensures ∙ c.if-ne.false))) c.interval_in.ensures

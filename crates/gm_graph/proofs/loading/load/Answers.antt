@@ -1,10 +1,11 @@
 use Rattle.std.proofs.Common.{◌∙◌, Contains, Err, List, Option, sym, ap, subst}
 use Rattle.std.specs.List.{IsDistinct}
 use Rattle.std.specs.Option.{option_copied}
+use Rattle.gm_name.specs.ModuleVersion.{ModuleVersion}
 use Rattle.gm_store.specs.Asked.{name_of}
 use Rattle.gm_store_sums.specs.declared.sum_table.SumTable.{SumTable}
 use Rattle.gm_graph_cache.specs.Cached.{main_in}
-use Rattle.gm_graph_cache.specs.Main.{Main, ModuleVersion, main_of}
+use Rattle.gm_graph_cache.specs.Main.{Main, main_of}
 use Rattle.gm_graph_select.specs.declared.step.Step.TheVariants.{Of}
 use Rattle.gm_graph_select.specs.Chains.{IsRooted}
 use Rattle.gm_graph_select.specs.Graph.{IsEdgeEnd, among}
@@ -12,8 +13,8 @@ use Rattle.gm_graph_select.specs.Order.{HaveSame}
 use Rattle.gm_graph_select.specs.StepOrder.{step_eq}
 use Rattle.gm_graph.specs.Builder.{IsBuilder, edges_in, sources_in}
 use Rattle.gm_graph.specs.Loading.{AreTooMany, IsDue, Told}
-use Rattle.gm_graph_cache.proofs.Growing.{may_none}
-use Rattle.gm_graph.proofs.Dues.{asks_nothing, may_all}
+use Rattle.gm_store.proofs.Serving.{nothing_served}
+use Rattle.gm_graph.proofs.Dues.{asks_nothing}
 use Rattle.gm_graph.proofs.Loads.{gathered_ends, gathered_rooted, loads_of, too_many_first}
 use Rattle.gm_graph.proofs.loading.load.Goals as goal
 
@@ -42,9 +43,6 @@ returns-in_err-visit_all-clause-too_many g c = λ e.
     (subst (λ (s : Option SumTable). Told (main_in c.in_ok-cache.cache) s pairs (AreTooMany (main_in c.in_ok-cache.cache))) c.in_ok-cache.ensures.sums
     (c.in_err-visit_all.ensures.too_many (ap Err (sym (rw e at c.from_residual-in_err-visit_all.ensures.1)))))
 
-pub returns-in_err-visit_all-clause-cause : goal.returns-in_err-visit_all-clause-cause
-returns-in_err-visit_all-clause-cause g c = λ name e. c.in_err-visit_all.ensures.cause name (ap Err (sym (rw e at c.from_residual-in_err-visit_all.ensures.1)))
-
 pub assemble-requires : goal.assemble-requires
 assemble-requires g c =
     let opened = c.in_ok-visit_all.ensures.opened in
@@ -69,21 +67,8 @@ returns-clause-loaded g c =
     (subst (λ (ms : List ModuleVersion). HaveSame (edges_in ms builder) loaded.edges) c.into_parts-modules.ensures.modules told.edges)
     told.rows (told.turns ∙ c.into_parts-modules.ensures.turns)
 
-pub returns-in_err-builder-clause-may_answer : goal.returns-in_err-builder-clause-may_answer
-returns-in_err-builder-clause-may_answer g c =
-    let old = g.F.Files.state c.args.files.now in
-    may_all _ old old c.requires (may_none _ old)
+pub returns-in_err-builder-clause-served : goal.returns-in_err-builder-clause-served
+returns-in_err-builder-clause-served g c = nothing_served _ (g.F.Files.state c.args.files.now)
 
-pub returns-in_err-cache-clause-may_answer : goal.returns-in_err-cache-clause-may_answer
-returns-in_err-cache-clause-may_answer g c =
-    let old = g.F.Files.state c.args.files.now in
-    may_all _ old old c.requires (may_none _ old)
-
-pub returns-in_err-visit_all-clause-may_answer : goal.returns-in_err-visit_all-clause-may_answer
-returns-in_err-visit_all-clause-may_answer g c = may_all _ (g.F.Files.state c.args.files.now) (g.F.Files.state c.visit_all.new.files) c.requires c.visit_all.ensures.may
-
-pub returns-in_err-assemble-clause-may_answer : goal.returns-in_err-assemble-clause-may_answer
-returns-in_err-assemble-clause-may_answer g c = may_all _ (g.F.Files.state c.args.files.now) (g.F.Files.state c.visit_all.new.files) c.requires c.visit_all.ensures.may
-
-pub returns-clause-may_answer : goal.returns-clause-may_answer
-returns-clause-may_answer g c = may_all _ (g.F.Files.state c.args.files.now) (g.F.Files.state c.visit_all.new.files) c.requires c.visit_all.ensures.may
+pub returns-in_err-cache-clause-served : goal.returns-in_err-cache-clause-served
+returns-in_err-cache-clause-served g c = nothing_served _ (g.F.Files.state c.args.files.now)

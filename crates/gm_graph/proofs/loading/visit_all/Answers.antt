@@ -1,9 +1,8 @@
 use Rattle.std.proofs.Common.{◌∙◌, ◌++◌, sym, ap, Err, arith, refl, List, append-nil}
 use Rattle.gm_store.specs.Asked.{Name}
-use Rattle.gm_store.proofs.Counts.{cause_later, later_both}
+use Rattle.gm_store.proofs.Serving.{nothing_served, served_both}
 use Rattle.gm_graph_cache.specs.Cached.{main_in, modules_in, numbered, sums_in}
 use Rattle.gm_graph_cache.specs.Refusals.{refused_names}
-use Rattle.gm_graph_cache.proofs.Growing.{may_along, may_none}
 use Rattle.gm_graph.proofs.Dues.{asks_more, due_here, many_here, refused_same}
 use Rattle.gm_graph.proofs.Rounds.{few_turns}
 use Rattle.gm_graph.specs.Builder.{turns_of}
@@ -13,10 +12,8 @@ use Rattle.gm_graph.proofs.loading.visit_all.Goals as goal
 pub turns-init : goal.turns-init
 turns-init g c = record {
   state = first_step c.args.cache.now (g.F.Files.state c.args.files.now).asked c.args.builder.now c.requires.asked c.requires.knows c.requires.lent c.requires.first;
-  may = may_none _ (g.F.Files.state c.args.files.now);
-  same_store = λ n r h. h;
+  served = nothing_served _ (g.F.Files.state c.args.files.now);
   refused = refl;
-  later = omega arith;
 }
 
 pub turns-smaller : goal.turns-smaller
@@ -36,10 +33,8 @@ turns-preserved g c =
     record {
       state = step (main_in c.args.cache.now) (sums_in c.args.cache.now) c.turns.cache c.visit.new.cache (g.F.Files.state c.turns.files).asked (g.F.Files.state c.visit.new.files).asked c.turns.builder c.visit.new.builder c.turns.at x one.depth
           c.turns.invariant.state below here c.in_ok-visit.ensures.knows c.in_ok-visit.ensures.continues c.in_ok-visit.ensures.turns c.in_ok-visit.ensures.builder c.in_ok-visit.ensures.followed c.visit.ensures.asks;
-      may = may_along _ _ (g.F.Files.state c.args.files.now) (g.F.Files.state c.turns.files) (g.F.Files.state c.visit.new.files) c.turns.invariant.same_store c.turns.invariant.may c.visit.ensures.may;
-      same_store = λ n r h. c.turns.invariant.same_store n r (c.visit.ensures.same_store n r h);
+      served = served_both _ _ _ (g.F.Files.state c.args.files.now) (g.F.Files.state c.turns.files) (g.F.Files.state c.visit.new.files) c.turns.invariant.served c.visit.ensures.served;
       refused = c.in_ok-visit.ensures.refused ∙ append-nil _ ∙ c.turns.invariant.refused;
-      later = later_both _ _ _ c.turns.invariant.later c.visit.ensures.later;
     }
 
 pub returns-clause-opened : goal.returns-clause-opened
@@ -89,15 +84,9 @@ returns-in_err-visit-clause-device g c = λ name e.
     due_here (main_in c.args.cache.now) (sums_in c.args.cache.now) c.turns.cache state.main_is state.sums_are (g.F.Files.state c.turns.files).asked state.knows (turns_of modules c.turns.builder) c.turns.at x one.depth state.queue.sound below here
     (g.F.Files.state c.visit.new.files).asked _ said.0 said.1 said.2 said.3
 
-pub returns-in_err-visit-clause-cause : goal.returns-in_err-visit-clause-cause
-returns-in_err-visit-clause-cause g c = λ name e.
-    cause_later _ _ _ _ c.turns.invariant.later c.visit.ensures.later (c.in_err-visit.ensures.cause name (ap Err (sym (rw e at c.from_residual.ensures.1))))
-
-pub returns-in_err-visit-clause-later : goal.returns-in_err-visit-clause-later
-returns-in_err-visit-clause-later g c = later_both _ _ _ c.turns.invariant.later c.visit.ensures.later
-
-pub returns-in_err-visit-clause-may : goal.returns-in_err-visit-clause-may
-returns-in_err-visit-clause-may g c = may_along _ _ (g.F.Files.state c.args.files.now) (g.F.Files.state c.turns.files) (g.F.Files.state c.visit.new.files) c.turns.invariant.same_store c.turns.invariant.may c.visit.ensures.may
+pub returns-in_err-visit-clause-served : goal.returns-in_err-visit-clause-served
+returns-in_err-visit-clause-served g c =
+    served_both _ _ _ (g.F.Files.state c.args.files.now) (g.F.Files.state c.turns.files) (g.F.Files.state c.visit.new.files) c.turns.invariant.served c.visit.ensures.served
 
 pub returns-in_err-visit-clause-refused : goal.returns-in_err-visit-clause-refused
 returns-in_err-visit-clause-refused g c =

@@ -1,5 +1,5 @@
-use Rattle.std.proofs.Common.{◌≡◌, ◌≤◌, ◌-◌}
-use Rattle.gm_graph_cache.specs.Asking.{MayGrow, MayLess}
+use Rattle.std.proofs.Common.{◌≡◌, ◌-◌}
+use Rattle.gm_store.specs.States.{HasServed}
 use Rattle.gm_graph_cache.specs.Cached.{main_in, sums_in}
 use Rattle.gm_graph.proofs.Stepping.{IsAt}
 use Rattle.gm_graph.proofs.loading.visit_all.Given as goal
@@ -7,10 +7,8 @@ use Rattle.gm_graph.proofs.loading.visit_all.Given as goal
 abbrev pub invariant-turns : goal.invariant-turns
 invariant-turns g l = record {
   state : IsAt (main_in l.fn.cache) (sums_in l.fn.cache) l.cache (g.F.Files.state l.files).asked l.builder l.at;
-  may : MayGrow (g.F.Files.may_answer l.fn.files) (g.F.Files.state l.fn.files) (g.F.Files.state l.files);
-  same_store : MayLess (g.F.Files.may_answer l.files) (g.F.Files.may_answer l.fn.files);
+  served : HasServed (g.F.Files.may_answer l.fn.files) (g.F.Files.may_answer l.files) (g.F.Files.state l.fn.files) (g.F.Files.state l.files);
   refused : (g.F.Files.state l.files).refused ≡ (g.F.Files.state l.fn.files).refused;
-  later : (g.F.Files.state l.fn.files).faults ≤ (g.F.Files.state l.files).faults;
 }
 
 abbrev pub decreases-turns : goal.decreases-turns

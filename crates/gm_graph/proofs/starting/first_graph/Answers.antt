@@ -1,6 +1,7 @@
 use Rattle.std.proofs.Common.{◌∙◌, Err, List, ap, subst}
+use Rattle.gm_name.specs.ModuleVersion.{ModuleVersion}
 use Rattle.gm_graph_cache.specs.Lent.{lent_modules, lent_table}
-use Rattle.gm_graph_cache.specs.Main.{ModuleVersion, main_of}
+use Rattle.gm_graph_cache.specs.Main.{main_of}
 use Rattle.gm_graph.specs.Visiting.{IsFirstGraph}
 use Rattle.gm_graph.proofs.AddFaults.{add_too_many}
 use Rattle.gm_graph.proofs.FirstGraph.{is_first, required_in, too_many_first}

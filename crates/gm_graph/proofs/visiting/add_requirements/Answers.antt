@@ -1,12 +1,11 @@
 use Rattle.std.proofs.Common.{◌≡◌, ◌++◌, ◌∷◌, ◌∙◌, [], ℕ, List, Option, Err, ap, map, subst, sym}
+use Rattle.gm_name.specs.ModuleVersion.{ModuleVersion, module_at}
 use Rattle.gm_graph_cache.specs.Cached.{IsLender, main_in, modules_in, numbered}
 use Rattle.gm_graph_cache.specs.Lent.{lent_table}
 use Rattle.gm_graph_cache.specs.declared.depth.Depth.TheVariants.{Deep}
 use Rattle.gm_graph_cache.specs.declared.depth.Turn.{Turn}
-use Rattle.gm_graph_cache.specs.Main.{ModuleVersion}
 use Rattle.gm_graph_cache.specs.Reading.{vertex_requirements}
 use Rattle.gm_graph_cache.specs.Turns.{turn}
-use Rattle.gm_graph_select.specs.Adjacency.{vertex_at}
 use Rattle.gm_graph_select.specs.Graph.{edge}
 use Rattle.gm_graph_select.specs.declared.step.Step.TheVariants.{Of}
 use Rattle.gm_graph.specs.declared.graph_builder.GraphBuilder.{GraphBuilder}
@@ -104,9 +103,9 @@ returns-clause-followed c =
           let after = w.add_edges.new.self in
           subst (λ (b : GraphBuilder). AddsIf (gathers (turns_of modules old) (turn x d)) (built modules turned) (built modules b) x ys) (sym w.builder-is)
           (adds_them modules turned after (gathers (turns_of modules old) (turn x d)) x ys (sym adds_edges ∙ w.if-gathers.true)
-          (subst (λ (ms : List ModuleVersion). edges_in ms after ≡ edges_in ms turned ++ map (edge (Of (vertex_at ms number))) ys) table
-          (more.edges ∙ ap (λ (zs : List ModuleVersion). edges_in (lent_table c.in_ok-required.required) turned ++ map (edge (Of (vertex_at (lent_table c.in_ok-required.required) number))) zs) lent))
-          (subst (λ (ms : List ModuleVersion). sources_in ms after ≡ sources_in ms turned ++ Of (vertex_at ms number) ∷ []) table more.sources)
+          (subst (λ (ms : List ModuleVersion). edges_in ms after ≡ edges_in ms turned ++ map (edge (Of (module_at ms number))) ys) table
+          (more.edges ∙ ap (λ (zs : List ModuleVersion). edges_in (lent_table c.in_ok-required.required) turned ++ map (edge (Of (module_at (lent_table c.in_ok-required.required) number))) zs) lent))
+          (subst (λ (ms : List ModuleVersion). sources_in ms after ≡ sources_in ms turned ++ Of (module_at ms number) ∷ []) table more.sources)
           more.turns more.faults)
       | else-gathers w ↦ adds_nothing modules turned new (gathers (turns_of modules old) (turn x d)) x ys (sym adds_edges ∙ w.if-gathers.false) w.builder-is
     ] in

@@ -1,7 +1,8 @@
 use Rattle.std.proofs.Common.{◌≡◌, ◌∙◌, ap, arith, length, sym}
 use Rattle.std.proofs.lemmas.List.{length-map}
 use Rattle.std.specs.List.{list_any}
-use Rattle.gm_name_table.specs.Listed.{listed, module_at}
+use Rattle.gm_name.specs.ModuleVersion.{module_at}
+use Rattle.gm_name_table.specs.Listed.{listed}
 use Rattle.gm_graph_cache.specs.Main.{is_excluded, main_of}
 use Rattle.gm_graph_cache.proofs.Spans.{summary_together}
 use Rattle.gm_graph_cache.proofs.summary.summary_of.Goals as goal

@@ -1,9 +1,10 @@
 use Rattle.std.proofs.lemmas.Result.{err_from_is_err_and}
 use Rattle.std.specs.Option.{option_copied}
+use Rattle.gm_store.proofs.Serving.{nothing_served}
 use Rattle.gm_graph_cache.specs.Main.{main_of}
 use Rattle.gm_report.specs.Outcome.{outcome_view}
 use Rattle.gm_graph_listing.specs.Needs.{GraphNeeds}
-use Rattle.gm_graph_listing.proofs.CommandOutcomes.{answered, both_ok, broken, load_counts, not_broken, not_loaded, refused_read, unasked}
+use Rattle.gm_graph_listing.proofs.CommandOutcomes.{answered, both_ok, broken, not_broken, not_loaded, refused_read, unasked}
 use Rattle.gm_graph_listing.proofs.InTurn.{due_in_turn, load_fails, none_in_turn}
 use Rattle.gm_graph_listing.proofs.answering.answer.Goals as goal
 
@@ -52,10 +53,6 @@ returns-in_err-loaded-clause-fails g c =
     (both_ok c.args.file.now (option_copied c.args.sums) c.read_files.result c.in_ok-read.read c.in_ok-read.was c.read_files.ensures)
     (g.F.Files.state c.args.files.now) (g.F.Files.state c.load.new.files) c.load.result load.refused load.device
 
-pub returns-in_err-loaded-clause-cause : goal.returns-in_err-loaded-clause-cause
-returns-in_err-loaded-clause-cause g c =
-    load_counts (g.F.Files.state c.args.files.now) (g.F.Files.state c.load.new.files) c.load.result c.load.ensures.refused c.load.ensures.cause
-
 pub returns-clause-comes : goal.returns-clause-comes
 returns-clause-comes g c =
     let load = rw c.as_ref.ensures.value at c.load.ensures in
@@ -84,6 +81,5 @@ returns-clause-fails g c =
     (both_ok c.args.file.now (option_copied c.args.sums) c.read_files.result c.in_ok-read.read c.in_ok-read.was c.read_files.ensures)
     (g.F.Files.state c.args.files.now) (g.F.Files.state c.load.new.files) c.load.result load.refused load.device
 
-pub returns-clause-cause : goal.returns-clause-cause
-returns-clause-cause g c =
-    load_counts (g.F.Files.state c.args.files.now) (g.F.Files.state c.load.new.files) c.load.result c.load.ensures.refused c.load.ensures.cause
+pub returns-in_err-read-clause-served : goal.returns-in_err-read-clause-served
+returns-in_err-read-clause-served g c = nothing_served _ (g.F.Files.state c.args.files.now)

@@ -1,5 +1,5 @@
 use Rattle.std.proofs.Common.{◌++◌, ◌<◌, List, length, reverse}
-use Rattle.gm_graph_select.specs.Adjacency.{vertex_at}
+use Rattle.gm_name.specs.ModuleVersion.{module_at}
 use Rattle.gm_graph_select.specs.declared.step.Step.{Step}
 use Rattle.gm_graph_select.specs.declared.step.Step.TheVariants.{Of}
 use Rattle.gm_graph_select.specs.Chains.{IsChain}
@@ -11,7 +11,7 @@ use Rattle.gm_graph_select.proofs.chaining.walk_back.Given as goal
 abbrev pub invariant-back : goal.invariant-back
 invariant-back l = record {
   inside : l.place < length l.visits;
-  chain : (c : List Step) → IsChain (graph_edges l.graph) (visited (steps_of l.graph) l.visits l.place) c → IsChain (graph_edges l.graph) (Of (vertex_at l.graph.vertices l.goal)) (c ++ reverse l.steps.items);
+  chain : (c : List Step) → IsChain (graph_edges l.graph) (visited (steps_of l.graph) l.visits l.place) c → IsChain (graph_edges l.graph) (Of (module_at l.graph.vertices l.goal)) (c ++ reverse l.steps.items);
 }
 
 abbrev pub decreases-back : goal.decreases-back

@@ -1,8 +1,7 @@
 use Rattle.std.proofs.Common.{◌<◌, ◌∙◌, ℕ, List, arith, subst, sym}
 use Rattle.std.specs.Prelude.{All, Contains, ◌↔◌}
+use Rattle.gm_name.specs.ModuleVersion.{ModuleVersion, pair_cmp}
 use Rattle.gm_graph_select.specs.declared.ranking.Numbered.{Numbered}
-use Rattle.gm_graph_select.specs.Graph.{Vertex}
-use Rattle.gm_name.specs.PairOrder.{pair_cmp}
 use Rattle.gm_graph_select.specs.Order.{IsAscending}
 use Rattle.gm_graph_select.specs.Ranking.{AreRanks, IsMarkedModule, IsRanked}
 use Rattle.gm_graph_select.proofs.Ranks.{few_ordered, marked_modules, numbers_within, one_vertex_each, ranks_are, vertices_ascend}
@@ -23,18 +22,18 @@ ranking_of-requires-clause-once c = one_vertex_each c.args.modules.items c.args.
 
 pub returns-clause-vertices : goal.returns-clause-vertices
 returns-clause-vertices c = λ x.
-    subst (λ (xs : List Vertex). Contains xs x ↔ IsMarkedModule c.args.modules.items c.args.is_vertex.now x) (sym c.in_ok-ranking.ensures.vertices)
+    subst (λ (xs : List ModuleVersion). Contains xs x ↔ IsMarkedModule c.args.modules.items c.args.is_vertex.now x) (sym c.in_ok-ranking.ensures.vertices)
     (marked_modules c.args.modules.items c.args.is_vertex.now c.in_ok-all.all.items c.in_ok-all.ensures c.sort_unstable.new.self.items c.sort_unstable.ensures.permutation x)
 
 pub returns-clause-ascending : goal.returns-clause-ascending
 returns-clause-ascending c =
-    subst (λ (xs : List Vertex). IsAscending pair_cmp xs) (sym c.in_ok-ranking.ensures.vertices)
+    subst (λ (xs : List ModuleVersion). IsAscending pair_cmp xs) (sym c.in_ok-ranking.ensures.vertices)
     (vertices_ascend c.args.modules.items c.args.is_vertex.now c.in_ok-all.all.items c.in_ok-all.ensures c.sort_unstable.new.self.items c.sort_unstable.ensures.permutation c.sort_unstable.ensures.sorted c.requires.distinct)
 
 pub returns-clause-ranks : goal.returns-clause-ranks
 returns-clause-ranks c =
     let all = c.sort_unstable.new.self.items in
     let ranks = c.in_ok-ranking.ranking.ranks.items in
-    subst (λ (xs : List Vertex). AreRanks c.args.modules.items c.args.is_vertex.now xs ranks) (sym c.in_ok-ranking.ensures.vertices)
+    subst (λ (xs : List ModuleVersion). AreRanks c.args.modules.items c.args.is_vertex.now xs ranks) (sym c.in_ok-ranking.ensures.vertices)
     (ranks_are c.args.modules.items c.args.is_vertex.now c.in_ok-all.all.items c.in_ok-all.ensures all c.sort_unstable.ensures.permutation ranks
-    (subst (λ (xs : List Vertex). All (IsRanked xs ranks) all) c.in_ok-ranking.ensures.vertices c.in_ok-ranking.ensures.ranks) (c.in_ok-ranking.ensures.count ∙ c.requires.marks) c.requires.marks)
+    (subst (λ (xs : List ModuleVersion). All (IsRanked xs ranks) all) c.in_ok-ranking.ensures.vertices c.in_ok-ranking.ensures.ranks) (c.in_ok-ranking.ensures.count ∙ c.requires.marks) c.requires.marks)

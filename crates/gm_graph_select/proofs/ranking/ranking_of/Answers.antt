@@ -2,8 +2,8 @@ use Rattle.std.proofs.Common.{◌⊎◌, ◌∷◌, ◌++◌, ◌<◌, ◌∙◌
 use Rattle.std.proofs.lemmas.List.{length-set}
 use Rattle.std.proofs.lemmas.List.Elements.{All-contains}
 use Rattle.std.specs.Vec.Iter.{into_iter_items}
+use Rattle.gm_name.specs.ModuleVersion.{ModuleVersion}
 use Rattle.gm_graph_select.specs.declared.ranking.Numbered.{Numbered}
-use Rattle.gm_graph_select.specs.Graph.{Vertex}
 use Rattle.gm_graph_select.specs.Ranking.{IsRanked}
 use Rattle.gm_graph_select.proofs.Ascending.{member_head, member_tail}
 use Rattle.gm_graph_select.proofs.Ranks.{fewer, next_ranked, next_vertices}
@@ -29,12 +29,12 @@ loop-next-preserved c =
     let low : next.number < c.args.modules = All-contains (λ (one : Numbered). one.number < c.args.modules) all next c.requires.within in_all in
     let inside : next.number < length ranks = omega (arith, low, so.count) in
     record {
-      vertices = ap (λ (xs : List Vertex). xs ++ map (λ (one : Numbered). one.vertex) rest) c.in_ok-push.ensures.vertices
+      vertices = ap (λ (xs : List ModuleVersion). xs ++ map (λ (one : Numbered). one.vertex) rest) c.in_ok-push.ensures.vertices
           ∙ next_vertices all vertices next rest (ap (λ (xs : List Numbered). vertices ++ map (λ (one : Numbered). one.vertex) xs) (sym before) ∙ so.vertices);
       count = ap (λ (xs : List ℕ). length xs) c.in_ok-push.ensures.ranks ∙ length-set ranks next.number (length vertices) ∙ so.count;
       rest = λ x h. rest_from x (member_tail next x rest h);
       each = λ x there.
           let kept = next_ranked all vertices ranks next rest c.requires.once in_all inside x there (elim (so.each x there) [ inl ranked ↦ inl ranked | inr left ↦ inr (subst (λ (xs : List Numbered). Contains xs x) before left) ]) in
-          subst (λ (xs : List Vertex). IsRanked xs c.push.new.self.ranks.items x ⊎ Contains rest x) (sym c.in_ok-push.ensures.vertices)
+          subst (λ (xs : List ModuleVersion). IsRanked xs c.push.new.self.ranks.items x ⊎ Contains rest x) (sym c.in_ok-push.ensures.vertices)
           (subst (λ (rs : List ℕ). IsRanked (vertices ++ next.vertex ∷ []) rs x ⊎ Contains rest x) (sym c.in_ok-push.ensures.ranks) kept);
     }

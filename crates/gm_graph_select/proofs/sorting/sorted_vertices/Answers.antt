@@ -1,5 +1,5 @@
-use Rattle.gm_graph_select.specs.StepOrder.{vertex-anti}
+use Rattle.gm_name.specs.ModuleVersion.{pair-anti}
 use Rattle.gm_graph_select.proofs.sorting.sorted_vertices.Goals as goal
 
 pub sorted-requires : goal.sorted-requires
-sorted-requires c = λ a b x y e. vertex-anti a b e
+sorted-requires c = λ a b x y e. pair-anti a b e

@@ -1,6 +1,6 @@
 use Rattle.std.proofs.Common.{◌≡◌, ◌∙◌, length, refl, sym}
 use Rattle.std.proofs.lemmas.Option.{slice_get_past, slice_get_read}
-use Rattle.gm_name_table.proofs.Pairs.{pair-eq}
+use Rattle.gm_name.specs.ModuleVersion.{pair_eq-Decides}
 use Rattle.gm_name_table.proofs.index.stands_at.Goals as goal
 
 pub returns-in-Some : goal.returns-in-Some
@@ -9,7 +9,7 @@ returns-in-Some c =
     let there = c.in-Some.there.now in
     let read = c.in-Some.ensures.lookup in
     let stands = slice_get_read pairs (length pairs) c.args.place there refl read.3.0 read.1 in
-    let decides = pair-eq there c.args.pair.now in (
+    let decides = pair_eq-Decides there c.args.pair.now in (
       λ equal. (let same : there ≡ c.args.pair.now = decides.0 (sym c.eq.ensures ∙ equal) in cc (stands, same)),
       λ here. c.eq.ensures ∙ decides.1 (cc (stands, here)),
     )

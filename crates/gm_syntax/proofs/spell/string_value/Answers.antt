@@ -3,7 +3,7 @@ use Rattle.std.proofs.iter.FirstChar.{cut}
 use Rattle.gm_syntax.specs.Scan.{plain_len}
 use Rattle.gm_syntax.proofs.Spelled.{Inside, inside_at, first_boundary, last_boundary, raw_string, in_quotes_of, quoted_string, plain_all}
 use Rattle.gm_syntax.proofs.spell.string_value.Goals as goal
-use Rattle.gm_syntax.proofs.spell.string_value.Goals.{After-split_at, After-split_at-2}
+use Rattle.gm_syntax.proofs.spell.string_value.Goals.{After-split_at-2}
 
 whole : (c : After-split_at-2) → Inside c.args.text.now c.split_at.result.1.now c.split_at-2.result.0.now c.requires.0
 whole c = inside_at c.args.text.now c.requires.0 c.split_at.result.1.now c.split_at-2.result.0.now c.requires.1 c.split_at.ensures.back c.split_at-2.ensures.front

@@ -1,5 +1,6 @@
 use Rattle.std.proofs.Common.{None, inl, option_map}
 use Rattle.gm_store.specs.Memory.{memory_files_state}
+use Rattle.gm_store.proofs.Serving.{may_all}
 use Rattle.gm_report.specs.Outcome.{OrNoMemory, report_outcome}
 use Rattle.gm_report.specs.declared.report.Report.{Report}
 use Rattle.gomod_run.specs.Program.{IsServed}
@@ -27,6 +28,6 @@ returns-clause-ends g c =
     let old = memory_files_state c.in_ok-files.files in
     let new = memory_files_state c.run.new.files in
     ends_weaken _ _ _ _ _ _ _ (λ outcome runs. memory_served (g.S.FileSystem.may_open c.args.rt.now) c.args.command.now c.args.places.now c.in_ok-read.read c.in_ok-files.files c.run.new.files
-    c.in_ok-read.ensures c.in_ok-files.ensures.held c.run.ensures.answers outcome
+    c.in_ok-read.ensures c.in_ok-files.ensures.held (may_all _ _ old new c.in_ok-files.ensures.asked c.run.ensures.served) outcome
     (same_run c.args.command.now c.in_ok-read.read c.as_slice-main.result.now (option_map (λ sums. sums.now) c.sums.result) old new c.as_slice-main.ensures.value c.sums.ensures outcome runs))
     c.run.ensures.ends

@@ -23,7 +23,7 @@ ask_for-requires g c =
 
 pub returns-clause-asked : goal.returns-clause-asked
 returns-clause-asked g c =
-    list_asked c.args.path.now (g.F.Files.may_answer c.args.files.now) (g.F.Files.state c.args.files.now) (g.F.Files.state c.ask_for.new.files) c.ask_for.result
+    list_asked c.args.path.now (g.F.Files.state c.args.files.now) (g.F.Files.state c.ask_for.new.files) c.ask_for.result
     (sym c.is_fetchable.ensures ∙ c.if-not-is_fetchable.false)
-    (subst (λ (p : List ℕ). IsAsked (list_file p) (g.F.Files.may_answer c.args.files.now) (g.F.Files.state c.args.files.now) (g.F.Files.state c.ask_for.new.files) c.ask_for.result)
+    (subst (λ (p : List ℕ). IsAsked (list_file p) (g.F.Files.state c.args.files.now) (g.F.Files.state c.ask_for.new.files) c.ask_for.result)
     c.in_ok-copy.ensures c.ask_for.ensures.asked)

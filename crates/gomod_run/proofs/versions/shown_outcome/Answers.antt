@@ -1,5 +1,5 @@
 use Rattle.std.proofs.Common.{◌∙◌, List, Ok, Err, ap, inl, inr, refl}
-use Rattle.gm_file.specs.Directives.{Pair}
+use Rattle.gm_file.specs.Directives.{VersionInterval}
 use Rattle.gm_file_retract.specs.Shown.{shown_of}
 use Rattle.gm_store.specs.Asked.{mod_file, reply_of}
 use Rattle.gm_graph_cache.specs.Summaries.{reading_of}
@@ -19,7 +19,7 @@ returns-in_ok-line-in-Valid c = λ within. inl
     (shown_read c.args.path.now c.args.versions.now c.args.latest (reply_of c.args.answer.now) (reading_of c.in_ok-dependency.field-0) (Ok c.in-Valid.dependency) _
     (c.in_ok-dependency.ensures (mod_file c.args.path.now c.args.latest) within) (ap reading_of c.in-Valid.is)
     (ap printed c.in_ok-line-in-Valid.ensures
-    ∙ ap (λ (rs : List Pair). printed (versions_line c.args.path.now (shown_of rs c.args.versions.now))) c.retracts.ensures))
+    ∙ ap (λ (rs : List VersionInterval). printed (versions_line c.args.path.now (shown_of rs c.args.versions.now))) c.retracts.ensures))
 
 pub returns-in-Faulty : goal.returns-in-Faulty
 returns-in-Faulty c = λ within. inl

@@ -1,7 +1,7 @@
 use Rattle.std.proofs.Common.{ℕ, List, ap, subst, ◌∙◌, Some}
+use Rattle.gm_name.specs.ModuleVersion.{ModuleVersion}
 use Rattle.gm_name_table.specs.Listed.{Appends}
 use Rattle.gm_file.specs.DepLines.{AreAllRead}
-use Rattle.gm_file.specs.Directives.{Pair}
 use Rattle.gm_file.specs.Listed.{Head, with_requirements}
 use Rattle.gm_file.proofs.DepReading.{dep-whole}
 use Rattle.gm_file.proofs.ListEnds.{cut_appends}
@@ -9,7 +9,7 @@ use Rattle.gm_file.proofs.dep_file.DepFile.read_listed.Goals as goal
 use Rattle.gm_file.proofs.dep_file.DepFile.read_listed.Goals.{After-of_fields-file}
 
 -- the requirements that were read, also up to a fault
-abbrev items : After-of_fields-file → List Pair
+abbrev items : After-of_fields-file → List ModuleVersion
 items c = c.read_all-read.new.said.fields.requirements.items
 
 -- the requirements were put to the end of the old list

@@ -1,5 +1,5 @@
 use Rattle.std.proofs.Common.{◌∙◌}
-use Rattle.gm_file.proofs.SamePairs.{contains-tells}
+use Rattle.gm_file.proofs.Members.{contains-tells}
 use Rattle.gm_file.proofs.exclusions.Exclusions.contains.Goals as goal
 
 pub returns : goal.returns

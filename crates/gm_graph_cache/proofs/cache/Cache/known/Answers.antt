@@ -25,7 +25,7 @@ returns-in-Err-Device-clause-device g c = λ name e.
     let none = c.in_default.ensures in
     let same : c.in_ok-name.name ≡ name = cc in
     subst (λ (n : FileName). StillLacks (main_in c.args.self.now) (g.F.Files.state c.args.files.now) (g.F.Files.state c.read_file.new.files) (numbered c.args.self.now c.args.number) (name_of n)) same (
-      (c.in-Err-Device.ensures.device (ap Err c.in-Err-Device.field-0-is)).0,
+      c.in-Err-Device.ensures.device (ap Err c.in-Err-Device.field-0-is),
       c.in_ok-name.ensures ∙ ap (file_of (main_in c.args.self.now)) c.module.ensures.module,
       sym c.is_askable.ensures ∙ c.if-not-is_askable.false,
       not_asked c.args.self.now (g.F.Files.state c.args.files.now).asked (name_of c.in_ok-name.name) c.requires.knows none,
@@ -62,9 +62,6 @@ returns-in_err-name-clause-not_too_many g c = λ e. cc (rw e at c.from_residual.
 pub returns-in_err-name-clause-device : goal.returns-in_err-name-clause-device
 returns-in_err-name-clause-device g c = λ name e. absurd (cc (rw e at c.from_residual.ensures.1))
 
-pub returns-in_err-name-clause-cause : goal.returns-in_err-name-clause-cause
-returns-in_err-name-clause-cause g c = λ name e. absurd (cc (rw e at c.from_residual.ensures.1))
-
 pub returns-in_err-name-clause-refused : goal.returns-in_err-name-clause-refused
 returns-in_err-name-clause-refused g c = none_refused c.from_residual.result (g.F.Files.state c.args.files.now).refused _ c.from_residual.ensures.1 refl
 
@@ -84,7 +81,7 @@ returns-in_ok-keep-in-Ok-clause-sound g c =
     c.keep.ensures.modules (c.in_default.ensures) c.in_ok-keep-in-Ok.ensures.adds c.keep.ensures.files
 
 pub returns-in_ok-keep-in-Ok-clause-refused : goal.returns-in_ok-keep-in-Ok-clause-refused
-returns-in_ok-keep-in-Ok-clause-refused g c = c.in-Ok.ensures.not_refused (λ e. cc e) ∙ sym (append-nil _)
+returns-in_ok-keep-in-Ok-clause-refused g c = c.in-Ok.ensures.refused
 
 -- ---- memory ran out when it was to be kept
 
@@ -109,12 +106,9 @@ returns-in_err-keep-in-Ok-clause-not_too_many g c = λ e. cc (rw e at c.from_res
 pub returns-in_err-keep-in-Ok-clause-device : goal.returns-in_err-keep-in-Ok-clause-device
 returns-in_err-keep-in-Ok-clause-device g c = λ name e. absurd (cc (rw e at c.from_residual-in_err-keep-in-Ok.ensures.1))
 
-pub returns-in_err-keep-in-Ok-clause-cause : goal.returns-in_err-keep-in-Ok-clause-cause
-returns-in_err-keep-in-Ok-clause-cause g c = λ name e. absurd (cc (rw e at c.from_residual-in_err-keep-in-Ok.ensures.1))
-
 pub returns-in_err-keep-in-Ok-clause-refused : goal.returns-in_err-keep-in-Ok-clause-refused
 returns-in_err-keep-in-Ok-clause-refused g c =
-    none_refused c.from_residual-in_err-keep-in-Ok.result (g.F.Files.state c.args.files.now).refused _ c.from_residual-in_err-keep-in-Ok.ensures.1 (c.in-Ok.ensures.not_refused (λ e. cc e))
+    none_refused c.from_residual-in_err-keep-in-Ok.result (g.F.Files.state c.args.files.now).refused _ c.from_residual-in_err-keep-in-Ok.ensures.1 (c.in-Ok.ensures.refused ∙ append-nil _)
 
 -- ---- memory ran out when the file was asked for, or the device failed
 
@@ -123,13 +117,10 @@ returns-in-Err-NoMemory-clause-grows g c = keeps_same c.args.self.now c.read_fil
 
 pub returns-in-Err-NoMemory-clause-refused : goal.returns-in-Err-NoMemory-clause-refused
 returns-in-Err-NoMemory-clause-refused g c =
-    c.in-Err-NoMemory.ensures.not_refused (λ e. let never = sym (ap Err c.in-Err-NoMemory.field-0-is) ∙ e in cc never) ∙ sym (append-nil _)
+    rw c.in-Err-NoMemory.field-0-is at c.in-Err-NoMemory.ensures.refused
 
 pub returns-in-Err-Device-clause-grows : goal.returns-in-Err-Device-clause-grows
 returns-in-Err-Device-clause-grows g c = keeps_same c.args.self.now c.read_file.new.self c.read_file.ensures.holds
 
 pub returns-in-Err-Device-clause-refused : goal.returns-in-Err-Device-clause-refused
-returns-in-Err-Device-clause-refused g c = (c.in-Err-Device.ensures.device (ap Err c.in-Err-Device.field-0-is)).1
-
-pub returns-in-Err-Device-clause-cause : goal.returns-in-Err-Device-clause-cause
-returns-in-Err-Device-clause-cause g c = λ name e. c.in-Err-Device.ensures.cause (ap Err c.in-Err-Device.field-0-is)
+returns-in-Err-Device-clause-refused g c = rw c.in-Err-Device.field-0-is at c.in-Err-Device.ensures.refused

@@ -1,8 +1,8 @@
 use Rattle.std.proofs.Common.{◌≡◌, ◌∙◌, ◌++◌, ◌∷◌, [], ap, append-nil, refl, subst, sym}
+use Rattle.gm_name.specs.ModuleVersion.{ModuleVersion}
 use Rattle.gm_name_table.specs.Listed.{listed}
 use Rattle.gm_graph_cache.specs.declared.summary.ListSpan.{ListSpan}
 use Rattle.gm_graph_cache.specs.Cached.{numbered}
-use Rattle.gm_graph_cache.specs.Main.{ModuleVersion}
 use Rattle.gm_graph_cache.specs.Turns.{turn}
 use Rattle.gm_graph_cache.specs.Summaries.{IsWithinList, at_span}
 use Rattle.gm_graph_cache.proofs.Keeping.{holds_listed}

@@ -3,11 +3,9 @@ use Rattle.std.specs.List.Sorted.{IsNonDecreasingBy, IsPartitionPoint}
 use Rattle.std.specs.Ordering.{ordering_index}
 use Rattle.std.specs.Prelude.{Contains}
 use Rattle.std.specs.declared.cmp.Ordering.TheVariants.{Less, Greater}
-use Rattle.gm_graph_select.specs.Adjacency.{GraphView, vertex_at}
-use Rattle.gm_graph_select.specs.Graph.{Vertex}
-use Rattle.gm_name.specs.PairOrder.{pair_cmp}
+use Rattle.gm_name.specs.ModuleVersion.{ModuleVersion, module_at, pair-anti, pair_cmp}
+use Rattle.gm_graph_select.specs.Adjacency.{GraphView}
 use Rattle.gm_graph_select.specs.Numbering.{IsGraph}
-use Rattle.gm_graph_select.specs.StepOrder.{vertex-anti}
 use Rattle.gm_graph_select.proofs.NumberedSteps.{is_graph, vertex_not_found}
 use Rattle.gm_graph_select.proofs.graph.Graph.rank_of.Goals as goal
 
@@ -17,9 +15,9 @@ returns-in-Ok-clause-graph c = subst IsGraph c.self.view_is (is_graph c.self.ins
 pub returns-in-Ok-clause-some : goal.returns-in-Ok-clause-some
 returns-in-Ok-clause-some c =
     let rank = c.in-Ok.rank in
-    subst (λ (g : GraphView). (rank < length g.vertices) × (vertex_at g.vertices rank ≡ c.args.vertex.now)) c.self.view_is
-    (subst (λ (xs : List Vertex). (rank < length xs) × (vertex_at xs rank ≡ c.args.vertex.now)) c.deref.ensures.value
-    (c.in-Ok.ensures.bound, vertex-anti (vertex_at c.deref.result.now rank) c.args.vertex.now (c.in-Ok.ensures.ok ([], []))))
+    subst (λ (g : GraphView). (rank < length g.vertices) × (module_at g.vertices rank ≡ c.args.vertex.now)) c.self.view_is
+    (subst (λ (xs : List ModuleVersion). (rank < length xs) × (module_at xs rank ≡ c.args.vertex.now)) c.deref.ensures.value
+    (c.in-Ok.ensures.bound, pair-anti (module_at c.deref.result.now rank) c.args.vertex.now (c.in-Ok.ensures.ok ([], []))))
 
 pub returns-in-Err-clause-graph : goal.returns-in-Err-clause-graph
 returns-in-Err-clause-graph c = subst IsGraph c.self.view_is (is_graph c.self.inside.vertices.items c.self.inside.adjacency.items c.self.invariant)
@@ -28,5 +26,5 @@ pub returns-in-Err-clause-none : goal.returns-in-Err-clause-none
 returns-in-Err-clause-none c =
     let x = c.args.vertex.now in
     let i = c.in-Err.field-0 in
-    let says = subst (λ (xs : List Vertex). IsNonDecreasingBy (λ (y : Vertex). ordering_index (pair_cmp y x)) xs → IsPartitionPoint (λ (y : Vertex). pair_cmp y x ≡ Less) (λ (y : Vertex). pair_cmp y x ≡ Greater) xs i) c.deref.ensures.value c.in-Err.ensures.position in
+    let says = subst (λ (xs : List ModuleVersion). IsNonDecreasingBy (λ (y : ModuleVersion). ordering_index (pair_cmp y x)) xs → IsPartitionPoint (λ (y : ModuleVersion). pair_cmp y x ≡ Less) (λ (y : ModuleVersion). pair_cmp y x ≡ Greater) xs i) c.deref.ensures.value c.in-Err.ensures.position in
     subst (λ (g : GraphView). Contains g.vertices x → ⊥) c.self.view_is (vertex_not_found c.self.inside.vertices.items x i c.self.invariant.vertices_ascend says)

@@ -1,7 +1,8 @@
 use Rattle.std.proofs.Common.{List, subst, sym}
+use Rattle.gm_name.specs.ModuleVersion.{ModuleVersion}
 use Rattle.gm_graph_select.specs.Adjacency.{GraphView}
 use Rattle.gm_graph_select.specs.BuildList.{AreSelected}
-use Rattle.gm_graph_select.specs.Graph.{AreEnds, Vertex, among}
+use Rattle.gm_graph_select.specs.Graph.{AreEnds, among}
 use Rattle.gm_graph_select.specs.Greatest.{greatest_of}
 use Rattle.gm_graph_select.proofs.LastVersions.{are_selected}
 use Rattle.gm_graph_select.proofs.graph.Graph.selected.Goals as goal
@@ -11,6 +12,6 @@ returns c = λ are.
     let main = c.args.main.now in
     let all = c.self.inside.vertices.items in
     let edges = among c.args.self.now.edges in
-    subst (λ (xs : List Vertex). AreSelected main edges xs) (sym c.among.ensures)
-    (subst (λ (xs : List Vertex). AreSelected main edges (greatest_of main xs)) (sym c.deref.ensures.value)
+    subst (λ (xs : List ModuleVersion). AreSelected main edges xs) (sym c.among.ensures)
+    (subst (λ (xs : List ModuleVersion). AreSelected main edges (greatest_of main xs)) (sym c.deref.ensures.value)
     (are_selected main all c.self.invariant.vertices_ascend edges (subst (λ (g : GraphView). AreEnds g.vertices edges) (sym c.self.view_is) are)))

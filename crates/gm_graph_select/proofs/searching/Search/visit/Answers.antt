@@ -1,8 +1,8 @@
 use Rattle.std.proofs.Common.{◌≡◌, ◌≢◌, ◌++◌, ◌∙◌, List, ℕ, append-nil, ap, get_or, refl, take, subst, sym, arith}
 use Rattle.std.proofs.lemmas.Grind.{common_steps}
+use Rattle.gm_name.specs.ModuleVersion.{module_at}
 use Rattle.gm_graph_select.specs.declared.step.Edge.{Edge}
 use Rattle.gm_graph_select.specs.declared.searching.Visit.{Visit}
-use Rattle.gm_graph_select.specs.Adjacency.{vertex_at}
 use Rattle.gm_graph_select.specs.Numbering.{edge_leaving, edges_leaving, step_at, steps_of}
 use Rattle.gm_graph_select.specs.Searching.{IsFollowed, state_of}
 use Rattle.gm_graph_select.proofs.BreadthFirst.{found_here, last_visit, one_more, one_tried, turn_later, with_visit}
@@ -16,7 +16,7 @@ loop-rank-init c = record {
   followed = λ level found tried due.
       let old = c.args.self.now in
       let graph = c.args.graph.now in
-      let goal = vertex_at graph.vertices c.args.goal in
+      let goal = module_at graph.vertices c.args.goal in
       subst (λ (es : List Edge). IsFollowed graph goal level found es (record { found = old.is_found.items; visits = c.push.new.self.items; next = old.next.items })) (sym (append-nil tried))
       (subst (λ (vs : List Visit). IsFollowed graph goal level found tried (record { found = old.is_found.items; visits = vs; next = old.next.items })) (sym c.in_ok-push.ensures.items)
       (with_visit graph goal level found tried old.is_found.items old.visits.items old.next.items c.args.visit c.requires.inside due.traced due.followed));
@@ -25,13 +25,13 @@ loop-rank-init c = record {
 pub returns-then-rank-goal-clause-found : goal.returns-then-rank-goal-clause-found
 returns-then-rank-goal-clause-found c = λ e level found tried due.
     let graph = c.args.graph.now in
-    let goal = vertex_at graph.vertices c.args.goal in
+    let goal = module_at graph.vertices c.args.goal in
     let number = c.args.visit.number in
     let k = c.loop-rank.rank-index in
     let ranks = c.leaving-rank-items.result.now in
     let rank = get_or ranks k 0 in
     let there = c.leaving-rank-items.ensures.only k 0 (omega arith) in
-    let same : vertex_at graph.vertices rank ≡ goal = ap (λ (n : ℕ). vertex_at graph.vertices n) c.if-rank-goal.true in
+    let same : module_at graph.vertices rank ≡ goal = ap (λ (n : ℕ). module_at graph.vertices n) c.if-rank-goal.true in
     found_here graph goal level found (tried ++ edges_leaving graph number (take k ranks)) (state_of c.loop-rank.self) c.args.self.now.visits.items c.args.visit (edge_leaving graph number rank) c.loop-rank.invariant.visits same there refl
     (turn_later graph goal level found tried (edges_leaving graph number (take k ranks)) (step_at (steps_of graph) number) due.turn) due.far (c.loop-rank.invariant.followed level found tried due)
 
@@ -41,7 +41,7 @@ loop-rank-preserved c = record {
   visits = ap (λ v. v.items) c.follow.ensures.visits ∙ c.loop-rank.invariant.visits;
   followed = λ level found tried due.
       let graph = c.args.graph.now in
-      let goal = vertex_at graph.vertices c.args.goal in
+      let goal = module_at graph.vertices c.args.goal in
       let number = c.args.visit.number in
       let k = c.loop-rank.rank-index in
       let ranks = c.leaving-rank-items.result.now in
@@ -49,7 +49,7 @@ loop-rank-preserved c = record {
       let done = tried ++ edges_leaving graph number (take k ranks) in
       let there = c.leaving-rank-items.ensures.only k 0 (omega arith) in
       let inside = c.leaving-rank-items.ensures.within k 0 (omega arith) in
-      let miss : vertex_at graph.vertices rank ≢ goal = λ same. c.if-rank-goal.false (same_rank graph.vertices c.requires.graph.ascending rank c.args.goal inside c.requires.goal same) in
+      let miss : module_at graph.vertices rank ≢ goal = λ same. c.if-rank-goal.false (same_rank graph.vertices c.requires.graph.ascending rank c.args.goal inside c.requires.goal same) in
       let (here, room) = last_visit (steps_of graph) c.args.self.now.visits.items c.args.visit c.loop-rank.self.visits.items c.len-before.result c.loop-rank.invariant.visits (let long = c.args.self.now.visits.ok.0 in let is = c.len-before.ensures in omega (arith, long, is)) in
       subst (λ (es : List Edge). IsFollowed graph goal level found es (state_of c.follow.new.self)) (one_more graph number tried ranks k rank (omega arith) refl)
       (c.in_ok-follow.ensures.followed graph goal level found done (edge_leaving graph number rank) c.requires.graph c.loop-rank.invariant.size
@@ -64,6 +64,6 @@ returns-clause-missed c = λ e level found tried due.
     let ranks = c.leaving-rank-items.result.now in
     let whole : take c.loop-rank.rank-index ranks ≡ ranks = grind (arith, common_steps) in (
       edges_leaving graph number ranks,
-      subst (λ (rs : List ℕ). IsFollowed graph (vertex_at graph.vertices c.args.goal) level found (tried ++ edges_leaving graph number rs) (state_of c.loop-rank.self)) whole (c.loop-rank.invariant.followed level found tried due),
+      subst (λ (rs : List ℕ). IsFollowed graph (module_at graph.vertices c.args.goal) level found (tried ++ edges_leaving graph number rs) (state_of c.loop-rank.self)) whole (c.loop-rank.invariant.followed level found tried due),
       one_tried graph c.args.visit (edges_leaving graph number ranks) c.leaving-rank-items.ensures.all,
     )

@@ -2,7 +2,7 @@ use Rattle.std.proofs.Common.{◌≡◌, ◌++◌, [], List, Contains, get_or, l
 use Rattle.std.proofs.lemmas.Grind.{common_steps}
 use Rattle.std.proofs.lemmas.List.{get_or_default}
 use Rattle.std.proofs.lemmas.List.Elements.{Contains-get_or}
-use Rattle.gm_graph_select.specs.Adjacency.{vertex_at}
+use Rattle.gm_name.specs.ModuleVersion.{module_at}
 use Rattle.gm_graph_select.specs.declared.searching.Visit.{Visit}
 use Rattle.gm_graph_select.specs.Numbering.{graph_edges, steps_of}
 use Rattle.gm_graph_select.specs.Searching.{AreTried, IsTraced, state_of, visit_at}
@@ -15,7 +15,7 @@ loop-visit-init c =
     record {
       size = h.size;
       traced = h.traced;
-      followed = λ level h. ([], tried_none c.args.graph.now c.args.due.now, level_begins c.args.graph.now (vertex_at c.args.graph.now.vertices c.args.goal) level (state_of c.args.self.now) c.args.due.now h);
+      followed = λ level h. ([], tried_none c.args.graph.now c.args.due.now, level_begins c.args.graph.now (module_at c.args.graph.now.vertices c.args.goal) level (state_of c.args.self.now) c.args.due.now h);
     }
 
 pub visit-requires-clause-inside : goal.visit-requires-clause-inside
@@ -32,7 +32,7 @@ returns-then-branch-clause-found c = λ e.
     let v = visit_at due i in
     let member : Contains due v = Contains-get_or due i (record { number = 0; before = 0 }) (omega arith) in
     c.in_ok-visit.ensures.found c.if-branch.true level c.args.self.now.is_found.items tried
-    (due_next c.args.graph.now (vertex_at c.args.graph.now.vertices c.args.goal) level (state_of c.args.self.now) (state_of c.loop-visit.self) due tried i v c.requires.graph h (omega arith)
+    (due_next c.args.graph.now (module_at c.args.graph.now.vertices c.args.goal) level (state_of c.args.self.now) (state_of c.loop-visit.self) due tried i v c.requires.graph h (omega arith)
     (get_or_default due i (record { number = 0; before = 0 }) v (omega arith)) all (c.loop-visit.invariant.traced v member) f)
 
 pub loop-visit-preserved : goal.loop-visit-preserved
@@ -48,7 +48,7 @@ loop-visit-preserved c = record {
       let is : v ≡ get_or due i v = get_or_default due i (record { number = 0; before = 0 }) v (omega arith) in
       let member : Contains due v = Contains-get_or due i (record { number = 0; before = 0 }) (omega arith) in
       let (more, g, new) = c.in_ok-visit.ensures.missed c.if-branch.false level c.args.self.now.is_found.items tried
-      (due_next c.args.graph.now (vertex_at c.args.graph.now.vertices c.args.goal) level (state_of c.args.self.now) (state_of c.loop-visit.self) due tried i v c.requires.graph h (omega arith) is all (c.loop-visit.invariant.traced v member) f) in
+      (due_next c.args.graph.now (module_at c.args.graph.now.vertices c.args.goal) level (state_of c.args.self.now) (state_of c.loop-visit.self) due tried i v c.requires.graph h (omega arith) is all (c.loop-visit.invariant.traced v member) f) in
       (tried ++ more, tried_more c.args.graph.now due i v tried more (omega arith) is all new, g);
 }
 

@@ -1,5 +1,5 @@
 use Rattle.std.proofs.Common.{◌≡◌, ℕ, List, Contains, length, take}
-use Rattle.gm_graph_select.specs.Adjacency.{vertex_at}
+use Rattle.gm_name.specs.ModuleVersion.{module_at}
 use Rattle.gm_graph_select.specs.declared.step.Edge.{Edge}
 use Rattle.gm_graph_select.specs.declared.searching.Visit.{Visit}
 use Rattle.gm_graph_select.specs.Numbering.{graph_edges, steps_of}
@@ -10,5 +10,5 @@ abbrev pub invariant-loop-visit : goal.invariant-loop-visit
 invariant-loop-visit l = record {
   size : length l.self.is_found.items ≡ length (steps_of l.graph);
   traced : (v : Visit) → Contains l.due v → IsTraced (graph_edges l.graph) (steps_of l.graph) l.self.visits.items (length l.self.visits.items) v;
-  followed : (level : ℕ) → IsSearchedTo l.graph (vertex_at l.graph.vertices l.goal) level (state_of l.fn.self) l.due → (tried : List Edge) × AreTried l.graph (take l.visit-index l.due) tried × IsFollowed l.graph (vertex_at l.graph.vertices l.goal) level l.fn.self.is_found.items tried (state_of l.self);
+  followed : (level : ℕ) → IsSearchedTo l.graph (module_at l.graph.vertices l.goal) level (state_of l.fn.self) l.due → (tried : List Edge) × AreTried l.graph (take l.visit-index l.due) tried × IsFollowed l.graph (module_at l.graph.vertices l.goal) level l.fn.self.is_found.items tried (state_of l.self);
 }

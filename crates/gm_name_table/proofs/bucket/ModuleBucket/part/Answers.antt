@@ -1,6 +1,6 @@
 use Rattle.std.proofs.Common.{◌∙◌, ap}
 use Rattle.std.proofs.Math.ListN.{set}
-use Rattle.gm_name_table.specs.Buckets.{number_in}
+use Rattle.gm_name_table.specs.ModuleBuckets.{number_in_slots}
 use Rattle.gm_name_table.specs.declared.bucket.ModuleSlot.{ModuleSlot}
 use Rattle.gm_name_table.proofs.Slots.{kept-one}
 use Rattle.gm_name_table.proofs.bucket.ModuleBucket.part.Goals as goal
@@ -8,6 +8,6 @@ use Rattle.gm_name_table.proofs.bucket.ModuleBucket.part.Goals as goal
 pub loop-at-preserved : goal.loop-at-preserved
 loop-at-preserved c = λ tag chosen.
     let slots = c.loop-at.slots in
-    ap (λ (slot : ModuleSlot). number_in (set slots c.loop-at.at slot) tag) c.kept_in.ensures
+    ap (λ (slot : ModuleSlot). number_in_slots (set slots c.loop-at.at slot) tag) c.kept_in.ensures
     ∙ kept-one slots c.loop-at.at c.args.bucket c.args.many tag _ chosen
     ∙ c.loop-at.invariant tag chosen

@@ -1,7 +1,7 @@
 use Rattle.std.proofs.Common.{◌∙◌, ℕ, List, ap, arith, get_or}
 use Rattle.std.proofs.lemmas.Bool.{ne_eqb}
 use Rattle.number_map.specs.declared.bucket.Slot.{Slot}
-use Rattle.number_map.specs.Buckets.{bucket_of}
+use Rattle.number_map.specs.Places.{bucket_of_high}
 use Rattle.number_map.specs.Slots.{place_in}
 use Rattle.number_map.proofs.Slots.{left_more, taken_more}
 use Rattle.number_map.proofs.bucket.Bucket.part.Goals as goal
@@ -25,6 +25,6 @@ loop-slot-preserved c =
           rw w.part-is (record {
             few = omega (arith, so.few);
             chosen = λ n chosen. left_more c.loop-slot.part.items xs i n none within (so.chosen n chosen)
-                (ne_eqb _ _ (λ same. w.if-bucket_of-bucket.false (c.bucket_of.ensures ∙ ap (λ (ys : List Slot). bucket_of (get_or ys i none).number c.args.many) here ∙ ap (λ (m : ℕ). bucket_of m c.args.many) same ∙ chosen)));
+                (ne_eqb _ _ (λ same. w.if-bucket_of-bucket.false (c.bucket_of.ensures ∙ ap (λ (ys : List Slot). bucket_of_high (get_or ys i none).number c.args.many) here ∙ ap (λ (m : ℕ). bucket_of_high m c.args.many) same ∙ chosen)));
           })
     ]
