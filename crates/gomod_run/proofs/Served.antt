@@ -229,12 +229,6 @@ same_served may_open command places proxy out mid out' report between report' ma
     let S : Result Status Report → Type 0 = λ served. IsRun may_open command places out out' report report' served in
     subst S (sym same) (subst R (sym same_report) (subst Q (sym same_out) (subst P same_proxy run)))
 
--- the end of a command whose run has one
-pub done_ends : (may_open : List ℕ → Opening → Type 0) (command : Command) (places : Places) (out out' report report' : SinkState) (served : Result Status Report) (status : Status) → served ≡ Ok status
-    → IsRun may_open command places out out' report report' served → EndsAsStated (IsServed may_open command places) out out' report report' (code_of status)
-done_ends may_open command places out out' report report' served status is run =
-    subst (λ (served : Result Status Report). IfOk served (λ status. EndsAsStated (IsServed may_open command places) out out' report report' (code_of status))) is run.ends
-
 -- the end of a command whose run has none: what can't be read is reported
 pub stopped_ends : (may_open : List ℕ → Opening → Type 0) (command : Command) (places : Places) (told : Report) (out mid out' report between report' : SinkState) (served : Result Status Report) (status : ℕ) → served ≡ Err told
     → IsRun may_open command places out mid report between served
@@ -244,3 +238,14 @@ stopped_ends may_open command places told out mid out' report between report' se
     let P : SinkState → Type 0 = λ report. IsWritten (report_outcome told) mid out' report report' status in
     let Q : SinkState → Type 0 = λ out. IsWritten (report_outcome told) out out' report report' status in
     record { outcome = report_outcome told; as_stated = run'.unread; written = subst Q run'.no_text (subst P run'.no_report written) }
+
+-- the end of a command that was served
+pub served_ends : (may_open : List ℕ → Opening → Type 0) (command : Command) (places : Places) (out mid report between report' : SinkState) (served : Result Status Report) (status : Status)
+    → IsRun may_open command places out mid report between served → IfOk served (λ ran. status ≡ ran) → IfOk served (λ _. report' ≡ between)
+    → IfErr served (λ told. (any : SinkState) → IsWritten (report_outcome told) any any between report' (code_of status))
+    → EndsAsStated (IsServed may_open command places) out mid report report' (code_of status)
+served_ends may_open command places out mid report between report' (Ok ran) status run is same written =
+    subst (λ (last : SinkState). EndsAsStated (IsServed may_open command places) out mid report last (code_of status)) (sym same)
+    (subst (λ (code : Status). EndsAsStated (IsServed may_open command places) out mid report between (code_of code)) (sym is) run.ends)
+served_ends may_open command places out mid report between report' (Err told) status run is same written =
+    stopped_ends may_open command places told out mid mid report between report' (Err told) (code_of status) refl run (written mid)

@@ -5,7 +5,8 @@ ghost use Rattle.std.specs.Prelude.{◌≡◌, IfErr, IfOk, None, Some};
 ghost use Rattle.gm_report.specs.Outcome.{OrNoMemory, code_of, report_outcome};
 ghost use Rattle.gomod_run.specs.Program.{IsServed};
 ghost use Rattle.gomod_run.specs.Reads.{with_proxy};
-ghost use Rattle.gomod_run.specs.Written.{EndsAsStated};
+ghost use Rattle.gm_store.specs.Taken.{SinkState};
+ghost use Rattle.gomod_run.specs.Written.{EndsAsStated, IsWritten};
 
 use crate::inputs::read_inputs;
 use crate::running::run;
@@ -82,6 +83,20 @@ fn over_memory<'a, S: Input + FileSystem + Alloc<A = Global>, O: Sink, R: Sink>(
     ))
 }
 
+/// The status of a command that was run; or, if something could not be read, that of its report, which is written.
+fn ended<R: Sink>(served: Result<Status, Report<'_>>, report: &mut R) -> Status
+    ensures status { IfOk served.entry (λ status. result ≡ status) }
+    ensures no_report { IfOk served.entry (λ _. R.state report.new ≡ R.state report.old) }
+    ensures written { IfErr served.entry (λ told. (out : SinkState) → IsWritten (report_outcome told)
+        out out (R.state report.old) (R.state report.new)
+        (code_of result)) }
+{
+    match served {
+        Ok(status) => status,
+        Err(told) => write_report(report, &told),
+    }
+}
+
 /// Reads what a command works on and runs it, or reports what can't be read.
 pub(crate) fn serve<S: Input + FileSystem + Copy + Drop + Alloc<A = Global>, O: Sink, R: Sink>(
     rt: &S,
@@ -99,8 +114,5 @@ pub(crate) fn serve<S: Input + FileSystem + Copy + Drop + Alloc<A = Global>, O: 
         Some(folders) => over_folders(rt, command, &places, folders, out, report),
         None => over_memory(rt, command, &places, out, report),
     };
-    match served {
-        Ok(status) => status,
-        Err(told) => write_report(report, &told),
-    }
+    ended(served, report)
 }

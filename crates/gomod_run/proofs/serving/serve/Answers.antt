@@ -1,20 +1,7 @@
 use Rattle.std.proofs.Common.{◌∙◌, None, Some, ap, sym}
-use Rattle.gomod_run.proofs.Served.{IsRun, done_ends, same_served, stopped_ends}
+use Rattle.gomod_run.proofs.Served.{IsRun, same_served, served_ends}
 use Rattle.gomod_run.proofs.serving.serve.Goals.{in-Some, in-None}
 use Rattle.gomod_run.proofs.serving.serve.Goals as goal
-
-pub returns-in-Ok : goal.returns-in-Ok
-returns-in-Ok g c =
-    let may_open = g.S.FileSystem.may_open c.args.rt.now in
-    let run : IsRun may_open c.args.command.now c.args.places (g.O.Sink.state c.args.out.now) (g.O.Sink.state c.match-proxy.out) (g.R.Sink.state c.args.report.now) (g.R.Sink.state c.match-proxy.report) c.match-proxy.served = elim c.match-proxy.branch [
-      | in-Some w ↦ same_served may_open c.args.command.now c.args.places (Some w.in-Some.folders) _ _ _ _ _ _ w.over_folders-served.result c.match-proxy.served
-          (sym w.in-Some.is ∙ c.take-proxy.ensures.value) (ap g.O.Sink.state w.out-is) (ap g.R.Sink.state w.report-is) w.served-is
-          (record { ends = w.over_folders-served.ensures.ends; unread = w.over_folders-served.ensures.unread; no_text = w.over_folders-served.ensures.no_text; no_report = w.over_folders-served.ensures.no_report })
-      | in-None w ↦ same_served may_open c.args.command.now c.args.places None _ _ _ _ _ _ w.over_memory-served.result c.match-proxy.served
-          (sym w.in-None.is ∙ c.take-proxy.ensures.value) (ap g.O.Sink.state w.out-is) (ap g.R.Sink.state w.report-is) w.served-is
-          (record { ends = w.over_memory-served.ensures.ends; unread = w.over_memory-served.ensures.unread; no_text = w.over_memory-served.ensures.no_text; no_report = w.over_memory-served.ensures.no_report })
-    ] in
-    done_ends may_open c.args.command.now c.args.places _ _ _ _ c.match-proxy.served c.in-Ok.status c.in-Ok.is run
 
 pub returns : goal.returns
 returns g c =
@@ -27,5 +14,5 @@ returns g c =
           (sym w.in-None.is ∙ c.take-proxy.ensures.value) (ap g.O.Sink.state w.out-is) (ap g.R.Sink.state w.report-is) w.served-is
           (record { ends = w.over_memory-served.ensures.ends; unread = w.over_memory-served.ensures.unread; no_text = w.over_memory-served.ensures.no_text; no_report = w.over_memory-served.ensures.no_report })
     ] in
-    stopped_ends may_open c.args.command.now c.args.places c.in-Err.told _ _ _ _ _ _ c.match-proxy.served _ c.in-Err.is run
-    (c.write_report.ensures (g.O.Sink.state c.match-proxy.out))
+    served_ends may_open c.args.command.now c.args.places _ _ _ _ _ c.match-proxy.served c.ended.result run
+    c.ended.ensures.status c.ended.ensures.no_report c.ended.ensures.written
