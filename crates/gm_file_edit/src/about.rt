@@ -4,13 +4,12 @@
 
 ghost use Rattle.std.specs.Prelude.{◌≡◌, None};
 ghost use Rattle.gm_file.specs.DirectiveViews.{directive_view};
-ghost use Rattle.gm_file.specs.Faults.{is_go, is_module, is_same_left, is_same_version};
+ghost use Rattle.gm_file.specs.Faults.{is_go, is_module, is_same_version};
 ghost use Rattle.gm_file.specs.Views.{interval_view, replace_view};
-ghost use Rattle.gm_file_edit.specs.About.{about, excludes_pair, is_covered_by, is_replaced_by, replaces_left, requires_path, retracts_ends};
-ghost use Rattle.gm_file_edit.specs.Views.{edit_of, left_of_parts, left_seen};
+ghost use Rattle.gm_file_edit.specs.About.{about, excludes_pair, is_replaced_by, replaces_left, requires_path, retracts_ends};
+ghost use Rattle.gm_file_edit.specs.Views.{edit_of, left_of_parts};
 
 use crate::op::{Addition, Change, Setting, Target};
-use crate::part::LeftSide;
 use gm_file::{Directive, Interval, Replace};
 use gm_name::{ModPath, ModVersion};
 

@@ -35,7 +35,7 @@ pub(crate) struct FileTable {
 }
 
 impl FileTable {
-    ghost use Rattle.std.specs.Prelude.{◌≡◌, ◌<◌, ℕ, IfOk, IfSome, List, None, OnErr, OnOk, Some, false, slice_get, slice_index_or, true, unwrap_or};
+    ghost use Rattle.std.specs.Prelude.{◌≡◌, ◌<◌, IfOk, IfSome, List, None, OnErr, OnOk, Some, false, slice_get, slice_index_or, true, unwrap_or};
     ghost use Rattle.std.specs.Option.{option_and_then};
     ghost use Rattle.gm_name_table.specs.Listed.{BeginsWith};
     ghost use Rattle.gm_store.specs.Asked.{Name, name_of};

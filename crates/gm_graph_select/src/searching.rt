@@ -4,7 +4,7 @@
 //! So the first edge that leads to a step comes from its predecessor: the least step that is one edge nearer to the
 //! main module. The search ends at the first edge that leads to the goal.
 
-ghost use Rattle.std.specs.Prelude.{◌≡◌, ◌≢◌, ◌↔◌, ◌<◌, ◌++◌, ◌∷◌, [], false, true, ℕ, Bool, Contains, IfNone, IfOk, IfSome, List, OnOk, length};
+ghost use Rattle.std.specs.Prelude.{◌≡◌, ◌≢◌, ◌<◌, ◌++◌, ◌∷◌, [], false, true, ℕ, Bool, Contains, IfNone, IfOk, IfSome, List, OnOk, length};
 ghost use Rattle.gm_name.specs.ModuleVersion.{ModuleVersion, module_at};
 ghost use Rattle.gm_graph_select.specs.declared.step.Edge.{Edge};
 ghost use Rattle.gm_graph_select.specs.declared.step.Step.TheVariants.{Of};

@@ -58,7 +58,10 @@ pub pair_eq-Decides : (a b : ModuleVersion) → Decides (pair_eq a b) (a ≡ b)
 pair_eq-Decides a b = (pair-same a b, λ same. subst (λ (x : ModuleVersion). pair_eq a x ≡ true) same (pair-self a))
 
 pub pair-tie : (a b : ModuleVersion) → Decides (is_eq (pair_cmp a b)) (a ≡ b)
-pair-tie a b = (λ tie. (pair_eq-Decides a b).0 (pair_ties a b ∙ tie), λ same. sym (pair_ties a b) ∙ (pair_eq-Decides a b).1 same)
+pair-tie a b = (
+  λ tie. (pair_eq-Decides a b).0 (pair_ties a b ∙ tie),
+  λ same. sym (pair_ties a b) ∙ (pair_eq-Decides a b).1 same,
+)
 
 pub pair-anti : (a b : ModuleVersion) → pair_cmp a b ≡ Equal → a ≡ b
 pair-anti a b e = (pair-tie a b).0 (ap is_eq e)

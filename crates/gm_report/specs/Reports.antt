@@ -91,7 +91,7 @@ edit_line refusal = numbered_line (codes "edit ") refusal.0 refusal.1
 
 -- `PATH: NotListed`
 abbrev pub not_listed_line : List ℕ → List ℕ
-not_listed_line path = line (path ++ codes ": NotListed")
+not_listed_line path = list_line path (codes "NotListed")
 
 -- `gomod: no memory`
 abbrev pub no_memory_line : List ℕ

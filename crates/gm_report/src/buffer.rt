@@ -38,7 +38,7 @@ impl LineBuffer {
         }
     }
 
-    /// IsGiven a line: these pieces and then a line feed. If it fits the buffer, it reaches the sink in one write with
+    /// Gives a line: these pieces and then a line feed. If it fits the buffer, it reaches the sink in one write with
     /// all of its bytes.
     pub(crate) fn give_line<R: Sink>(
         &mut self,
@@ -57,7 +57,7 @@ impl LineBuffer {
         self.give(sink, b"\n")
     }
 
-    /// IsGiven a piece of a line.
+    /// Gives a piece of a line.
     fn give<R: Sink>(&mut self, sink: &mut R, piece: &[u8]) -> Result<(), WriteFault>
         ensures { IsGiven (R.state sink.old) self.old (R.state sink.new) self.new piece.now result }
     {

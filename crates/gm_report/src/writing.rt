@@ -125,7 +125,7 @@ fn write_faults<R: Sink>(sink: &mut R, faults: &[Fault]) -> Result<(), WriteFaul
     buffer.end(sink)
 }
 
-/// IsGiven the line of a module with a fault: `PATH@VERSION: CLASS`, or `PATH@VERSION: Malformed LINE KIND`.
+/// Gives the line of a module with a fault: `PATH@VERSION: CLASS`, or `PATH@VERSION: Malformed LINE KIND`.
 fn give_fault<R: Sink>(
     buffer: &mut LineBuffer,
     sink: &mut R,
@@ -152,7 +152,7 @@ fn give_fault<R: Sink>(
     }
 }
 
-/// IsGiven `PATH@VERSION: Malformed NUMBER WORD`.
+/// Gives `PATH@VERSION: Malformed NUMBER WORD`.
 fn give_malformed<R: Sink>(
     buffer: &mut LineBuffer,
     sink: &mut R,
@@ -179,7 +179,7 @@ fn give_malformed<R: Sink>(
     )
 }
 
-/// IsGiven `PATH@VERSION: WORD`.
+/// Gives `PATH@VERSION: WORD`.
 fn give_class<R: Sink>(
     buffer: &mut LineBuffer,
     sink: &mut R,

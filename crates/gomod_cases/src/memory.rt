@@ -2,7 +2,7 @@
 
 ghost use Rattle.std.specs.Prelude.{◌≡◌, [], None, false, true};
 ghost use Rattle.std.specs.Option.{option_map};
-ghost use Rattle.gomod_run.specs.Runs.{takes_sums};
+ghost use Rattle.gomod_run.specs.Runs.{is_query};
 
 use crate::counting::Count;
 use crate::outcomes::{Outcome, Room};
@@ -143,7 +143,7 @@ impl Memory<'_> {
         form: StoreForm<'_>,
         room: Room,
     ) -> Result<Option<InMemory>, AllocError>
-        requires { takes_sums parsed.now.command ≡ true }
+        requires { is_query parsed.now.command ≡ true }
     {
         let command = &parsed.command;
         let (Some(main), Some(list)) = (self.view.named(parsed.main.as_str()), &parsed.proxy) else {
@@ -199,7 +199,7 @@ impl Memory<'_> {
         folders: Folders,
         room: Room,
     ) -> Result<Option<InMemory>, AllocError>
-        requires { takes_sums command.now ≡ false → option_map (λ sums. sums.now) sums ≡ None }
+        requires { is_query command.now ≡ false → option_map (λ sums. sums.now) sums ≡ None }
     {
         let Some(mut files) = folders.into_store(self.alloc) else {
             return Ok(None);
@@ -217,7 +217,7 @@ impl Memory<'_> {
         room: Room,
     ) -> Result<InMemory, AllocError>
         requires unasked { (F.state files.old).asked ≡ [] }
-        requires no_sums { takes_sums command.now ≡ false → option_map (λ sums. sums.now) sums ≡ None }
+        requires no_sums { is_query command.now ≡ false → option_map (λ sums. sums.now) sums ≡ None }
     {
         let outcome = self.outcome_over(command, main, sums, files, room)?;
         let asked = asked_of(self.alloc, files)?;
@@ -234,7 +234,7 @@ impl Memory<'_> {
         room: Room,
     ) -> Result<Outcome, AllocError>
         requires unasked { (F.state files.old).asked ≡ [] }
-        requires no_sums { takes_sums command.now ≡ false → option_map (λ sums. sums.now) sums ≡ None }
+        requires no_sums { is_query command.now ≡ false → option_map (λ sums. sums.now) sums ≡ None }
     {
         let (mut out, mut report) = room.sinks(self.alloc)?;
         self.count.add();

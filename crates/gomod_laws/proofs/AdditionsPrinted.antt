@@ -1,5 +1,5 @@
 -- A requirement added lowers nothing.
-use Rattle.std.proofs.Common.{◌≡◌, ◌∙◌, ℕ, List, [], Option, None, refl, subst, sym, inl}
+use Rattle.std.proofs.Common.{◌∙◌, ℕ, List, [], Option, None, refl, sym, inl}
 use Rattle.gm_name.specs.ModuleVersion.{ModuleVersion}
 use Rattle.gm_store.specs.Asked.{Name, Reply}
 use Rattle.gm_file.specs.Fields.{replacement_of}
@@ -19,25 +19,18 @@ use Rattle.gomod_laws.specs.Runs.{HasOutcome}
 use Rattle.gomod_laws.specs.AdditionLaws.{AreNotLower, GraphKeepsLines, ListLowersNothing, SaysMore}
 use Rattle.gomod_laws.proofs.AdditionsKept.{kept_more}
 use Rattle.gomod_laws.proofs.AdditionsOpened.{edge_too, opened_too}
-use Rattle.gomod_laws.proofs.AdditionsRuns.{agree, none_failed, printed_by, prints_too}
+use Rattle.gomod_laws.proofs.AdditionsRuns.{agree, printed_by, prints_too}
+use Rattle.gomod_laws.proofs.PrintedRuns.{query_by_answers}
 
 -- ---- the outcome of a query, given what was asked
 
 pub list_run : (after : Option (List ℕ)) (limit : Option ℕ) (file : List ℕ) (sums : Option (List ℕ)) (asked : List (Name × Reply)) (outcome : Outcome)
     → HasOutcome (Rows after limit) file sums asked outcome → IsListOutcome after limit (given file sums (answers asked [])) outcome
-list_run after limit file sums asked outcome has =
-    let (failed, grown, is) = has.run in
-    let none : failed ≡ [] = none_failed has.old.refused has.new.refused failed grown has.none_failed in
-    subst (λ (names : List Name). IsListOutcome after limit (given file sums (answers asked names)) outcome) none
-    (subst (λ (pairs : List (Name × Reply)). IsListOutcome after limit (given file sums (answers pairs failed)) outcome) has.asked_are is)
+list_run after limit file sums asked outcome has = query_by_answers (Rows after limit) file sums asked outcome refl has
 
 pub graph_run : (file : List ℕ) (sums : Option (List ℕ)) (asked : List (Name × Reply)) (outcome : Outcome)
     → HasOutcome Graph file sums asked outcome → IsGraphOutcome (given file sums (answers asked [])) outcome
-graph_run file sums asked outcome has =
-    let (failed, grown, is) = has.run in
-    let none : failed ≡ [] = none_failed has.old.refused has.new.refused failed grown has.none_failed in
-    subst (λ (names : List Name). IsGraphOutcome (given file sums (answers asked names)) outcome) none
-    (subst (λ (pairs : List (Name × Reply)). IsGraphOutcome (given file sums (answers pairs failed)) outcome) has.asked_are is)
+graph_run file sums asked outcome has = query_by_answers Graph file sums asked outcome refl has
 
 -- ---- a main file that says more
 

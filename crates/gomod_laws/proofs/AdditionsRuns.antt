@@ -1,7 +1,6 @@
 -- A run over a main file prints where one over another main file does that opens no fewer modules.
-use Rattle.std.proofs.Common.{◌≡◌, ◌∙◌, ◌≤◌, ℕ, Bool, true, false, List, [], ◌∷◌, ◌++◌, length, Option, Result, Err, ap, append-nil, arith, refl, subst, sym, inl, inr}
+use Rattle.std.proofs.Common.{◌≡◌, ◌∙◌, ◌≤◌, ℕ, Bool, true, false, List, [], ◌∷◌, length, Option, Result, Err, ap, arith, refl, subst, sym, inl, inr}
 use Rattle.std.specs.Option.{option_map}
-use Rattle.std.proofs.lemmas.List.{append_cancel_left}
 use Rattle.gm_name.specs.ModuleVersion.{ModuleVersion}
 use Rattle.gm_file.specs.Directives.{Right}
 use Rattle.gm_file.specs.Fields.{Dependency}
@@ -114,9 +113,3 @@ printed_by prints run main outcome says is ends =
     let (other, held, found, shows) = printed_run prints run outcome is ends in
     subst (λ (m : Main). (h : Held) × AllFilesAreValid run m h × prints m (readings_by m h) outcome)
     (one_main run.file other main found.read.main_file says) (held, found, shows)
-
--- ---- what failed
-
--- Nothing failed where what failed before is what failed after.
-pub none_failed : (old new failing : List Name) → new ≡ old ++ failing → new ≡ old → failing ≡ []
-none_failed old new failing grown same = append_cancel_left old failing [] (sym grown ∙ same ∙ sym (append-nil old))

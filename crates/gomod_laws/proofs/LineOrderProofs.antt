@@ -17,7 +17,9 @@ use Rattle.gm_graph.specs.Outcome.{AreFaults}
 use Rattle.gm_graph_listing.specs.Outcomes.{AreKnown, AreRows, Answers, IsMainFile, IsOutcome, IsOutcomeOver, IsStopped, Prints, PrintsChain, PrintsGraph, PrintsList, device, faulty, given, too_many}
 use Rattle.gm_report.specs.Outcome.{Outcome}
 use Rattle.gm_graph_listing.proofs.OneRead.{misread_or_main, one_main}
+use Rattle.gomod_words.specs.declared.usage.Command.{Command}
 use Rattle.gomod_words.specs.declared.usage.Command.TheVariants.{Fmt, Edit, Versions, Graph, List as Rows, Chain}
+use Rattle.gomod_run.specs.Queries.{PrintsOf}
 use Rattle.gomod_laws.specs.LineOrderLaws.{OrderDoesNotMatter, SayTheSame}
 use Rattle.gomod_laws.proofs.LineOrderRuns.{QueriesMove, same_outcome}
 use Rattle.gomod_laws.proofs.LineOrderSame.{answered, asked, edges, faults, few, needed, opened, readings_same, same_back, same_edges, too_many as many}
@@ -93,6 +95,14 @@ over_moves prints moves m n same table told outcome (inr (held, are, none, says)
       along m k same table told (λ (r : Readings). prints k r outcome) held (moves m n (readings_by m held) outcome same says),
     )
 
+query_moves : (command : Command) → Moves (PrintsOf command)
+query_moves Graph = graph_moves
+query_moves (Rows after limit) = list_moves after limit
+query_moves (Chain path) = chain_moves path
+query_moves Fmt = λ m n readings outcome same says. says
+query_moves (Edit operations) = λ m n readings outcome same says. says
+query_moves (Versions path all) = λ m n readings outcome same says. says
+
 -- ---- a run
 
 module _ (file other : List ℕ) (sums : Option (List ℕ)) (m n : Main) (is : IsMainFile file m) (also : IsMainFile other n) (same : SayTheSame m n) where
@@ -110,12 +120,7 @@ module _ (file other : List ℕ) (sums : Option (List ℕ)) (m n : Main) (is : I
       inr (n, table, record { main_file = also; sums = read.sums }, subst (λ (main : Main). IsOutcomeOver prints main table told outcome) path_back (over_moves prints moves m n same_path table told outcome here))
 
   pub queries_move : QueriesMove file other sums
-  queries_move Fmt told outcome run = run
-  queries_move (Edit operations) told outcome run = run
-  queries_move (Versions path all) told outcome run = run
-  queries_move Graph told outcome run = moved PrintsGraph graph_moves told outcome run
-  queries_move (Rows after limit) told outcome run = moved (PrintsList after limit) (list_moves after limit) told outcome run
-  queries_move (Chain path) told outcome run = moved (PrintsChain path) (chain_moves path) told outcome run
+  queries_move command told outcome run = moved (PrintsOf command) (query_moves command) told outcome run
 
 pub order_does_not_matter : OrderDoesNotMatter
 order_does_not_matter command file other main also sums asked answered a b query is be same alike one two =

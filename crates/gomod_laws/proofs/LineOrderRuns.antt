@@ -5,10 +5,10 @@ use Rattle.gm_graph_listing.specs.Laws.{AnswerAlike}
 use Rattle.gm_graph_listing.specs.Outcomes.{Answers, answers, given}
 use Rattle.gm_report.specs.Outcome.{Outcome}
 use Rattle.gomod_words.specs.declared.usage.Command.{Command}
-use Rattle.gomod_words.specs.declared.usage.Command.TheVariants.{Fmt, Edit, Versions, Graph, List as Rows, Chain}
 use Rattle.gomod_run.specs.Queries.{IsQueryOutcome, RunsTo}
 use Rattle.gm_store.specs.States.{StoreState}
 use Rattle.gomod_run.specs.Runs.{is_query}
+use Rattle.gomod_run.proofs.Endings.{query_runs, runs_query}
 use Rattle.gomod_run.proofs.OneStore.{one_for_stores}
 use Rattle.gomod_laws.specs.Runs.{HasOutcome}
 
@@ -18,12 +18,9 @@ QueriesMove file other sums = (command : Command) (told : Answers) (outcome : Ou
 
 run_moves : (command : Command) (file other : List ℕ) (sums : Option (List ℕ)) (old new : StoreState) (outcome : Outcome) → is_query command ≡ true → QueriesMove file other sums
     → RunsTo command file sums old new outcome → RunsTo command other sums old new outcome
-run_moves Fmt file other sums old new outcome query moves run = absurd cc
-run_moves (Edit operations) file other sums old new outcome query moves run = absurd cc
-run_moves (Versions path all) file other sums old new outcome query moves run = absurd cc
-run_moves Graph file other sums old new outcome query moves (failed, grown, is) = (failed, grown, moves Graph (answers new.asked failed) outcome is)
-run_moves (Rows after limit) file other sums old new outcome query moves (failed, grown, is) = (failed, grown, moves (Rows after limit) (answers new.asked failed) outcome is)
-run_moves (Chain path) file other sums old new outcome query moves (failed, grown, is) = (failed, grown, moves (Chain path) (answers new.asked failed) outcome is)
+run_moves command file other sums old new outcome query moves run =
+    let (failed, grown, is) = query_runs command file sums old new outcome query run in
+    runs_query command other sums old new outcome query (failed, grown, moves command (answers new.asked failed) outcome is)
 
 pub same_outcome : (command : Command) (file other : List ℕ) (sums : Option (List ℕ)) (asked answered : List (Name × Reply)) (a b : Outcome) → is_query command ≡ true → QueriesMove file other sums → AnswerAlike asked answered
     → HasOutcome command file sums asked a → HasOutcome command other sums answered b → a ≡ b

@@ -1,6 +1,5 @@
 -- After a report, `list` and `graph` print where each reported module has a file that requires nothing.
-use Rattle.std.proofs.Common.{◌≡◌, ◌↔◌, ◌∷◌, ℕ, true, List, [], Option, None, Contains, refl, subst, inl, inr}
-use Rattle.std.proofs.lemmas.Bool.{false≢true}
+use Rattle.std.proofs.Common.{◌≡◌, ◌↔◌, ◌∷◌, ℕ, List, [], Option, None, Contains, refl, subst, inl, inr}
 use Rattle.gm_store.specs.Asked.{Name, Reply, names_in}
 use Rattle.gm_graph_cache.specs.Main.{Main}
 use Rattle.gm_graph_cache.specs.Reading.{Held, Tells, readings_by}
@@ -9,13 +8,12 @@ use Rattle.gm_graph_select.proofs.Same.{AreSame, same_build_list}
 use Rattle.gm_graph.specs.declared.fault.Fault.{Fault}
 use Rattle.gm_graph.specs.Graph.{IsEdge}
 use Rattle.gm_graph_listing.specs.Laws.{AllFilesAreValid}
-use Rattle.gm_graph_listing.specs.Outcomes.{IsOutcome, IsOutcomeOver, Prints as PrintsBy, PrintsChain, PrintsGraph, PrintsList, answers, device, faulty, given, too_many}
+use Rattle.gm_graph_listing.specs.Outcomes.{IsOutcome, IsOutcomeOver, Prints as PrintsBy, PrintsGraph, PrintsList, answers, device, faulty, given, too_many}
 use Rattle.gm_report.specs.Outcome.{Outcome}
 use Rattle.gm_graph_listing.proofs.OneRead.{misread_or_main, misread_or_sums, one_finding, one_main, tells_alike}
 use Rattle.gomod_words.specs.declared.usage.Command.{Command}
-use Rattle.gomod_words.specs.declared.usage.Command.TheVariants.{Fmt, Edit, Versions, Graph, List as Rows, Chain}
-use Rattle.gomod_run.specs.Queries.{IsQueryOutcome}
-use Rattle.gomod_run.specs.Runs.{is_query}
+use Rattle.gomod_words.specs.declared.usage.Command.TheVariants.{Graph, List as Rows}
+use Rattle.gomod_run.specs.Queries.{PrintsOf}
 use Rattle.gomod_laws.specs.ReportLaws.{AreMended, MendedAsksForTheSame, MendedIsGraphed, MendedIsListed, RequiresNothing}
 use Rattle.gomod_laws.specs.Shown.{run_over}
 use Rattle.gomod_laws.proofs.MendedReadings.{none_at_fault, not_many, same_graph, same_needs}
@@ -100,13 +98,5 @@ mended_graph command file sums main faults asked told first graph are =
     )
 
 pub mended_asks : MendedAsksForTheSame RequiresNothing
-mended_asks command again file sums main faults asked told first second query are = by again query are (query_by_answers again file sums told second query are.second_runs)
-  where
-    by : (c : Command) → is_query c ≡ true → AreMended RequiresNothing command c file sums main faults asked told first second
-        → IsQueryOutcome c (given file sums (answers told [])) second → (name : Name) → Contains (names_in told) name ↔ Contains (names_in asked) name
-    by Fmt is were runs = absurd (false≢true is)
-    by (Edit operations) is were runs = absurd (false≢true is)
-    by (Versions path all) is were runs = absurd (false≢true is)
-    by Graph is were runs = (mended_run PrintsGraph command Graph file sums main faults asked told first second were runs).asks
-    by (Rows after limit) is were runs = (mended_run (PrintsList after limit) command (Rows after limit) file sums main faults asked told first second were runs).asks
-    by (Chain path) is were runs = (mended_run (PrintsChain path) command (Chain path) file sums main faults asked told first second were runs).asks
+mended_asks command again file sums main faults asked told first second query are =
+    (mended_run (PrintsOf again) command again file sums main faults asked told first second are (query_by_answers again file sums told second query are.second_runs)).asks

@@ -4,9 +4,9 @@ use Rattle.gm_store.specs.declared.folders.in_memory.FoldersInMemory.{FoldersInM
 use Rattle.gm_store.specs.declared.folders.memory_folder.MemoryFolder.{MemoryFolder}
 use Rattle.gm_store.specs.declared.fallback.proxy_list.Mark.{Mark}
 use Rattle.gm_store.specs.Asked.{Name, Reply, list_file, mod_file, names_in}
-use Rattle.gm_store.specs.FolderLookups.{lookup_results, marks_for}
+use Rattle.gm_store.specs.FolderLookups.{MayAnswerFrom, lookup_results}
 use Rattle.gm_store.specs.FoldersInMemory.{result_at}
-use Rattle.gm_store.specs.Steps.{MayStop, Seen, absent}
+use Rattle.gm_store.specs.Steps.{Seen, absent}
 use Rattle.gm_report.specs.Outcome.{Outcome, refused}
 use Rattle.gm_report.specs.Reports.{too_many_line}
 use Rattle.gm_graph_listing.specs.Needs.{AskedInTurn}
@@ -16,9 +16,8 @@ use Rattle.gomod_laws.specs.Runs.{HasOutcome, HasPrinted}
 
 -- the answers that folders in memory may give to a name, with these marks between the proxy folders
 abbrev pub FolderMayAnswer : FoldersInMemory → List Mark → Name → Reply → Type 0
-FolderMayAnswer folders marks name reply = (failures : ℕ)
-    × MayStop (λ k seen. slice_get (lookup_results folders name) k ≡ Some seen) (marks_for name marks)
-    (Some reply) failures
+FolderMayAnswer folders marks name reply =
+    MayAnswerFrom (λ k name seen. slice_get (lookup_results folders name) k ≡ Some seen) marks name reply
 
 -- A run over folders in memory, none of which failed: it has this outcome, each file that was asked for was needed
 -- by the answers before it, and each answer is one that the folders may give.

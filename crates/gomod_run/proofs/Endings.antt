@@ -1,5 +1,5 @@
 -- Facts about how the program ends.
-use Rattle.std.proofs.Common.{◌≡◌, ◌∙◌, ◌++◌, ◌∷◌, ℕ, List, [], Option, None, Some, Contains, ap, codes, false, inl, inr, subst, sym, true}
+use Rattle.std.proofs.Common.{◌≡◌, ◌∙◌, ◌++◌, ◌∷◌, ℕ, Bool, List, [], Option, None, Some, Contains, ap, codes, false, inl, inr, subst, sym, true}
 use Rattle.std.specs.Str.{IsUtf8}
 use Rattle.gm_store.specs.Asked.{Name, Reply, answer_in, list_file, reply_for}
 use Rattle.gm_store.specs.Memory.{may_give}
@@ -12,13 +12,13 @@ use Rattle.gomod_words.specs.declared.usage.UsageFault.{UsageFault}
 use Rattle.gomod_words.specs.declared.usage.UsageFault.TheVariants.{NoMemory, Help, Version, Line, BadPath, BadProxy}
 use Rattle.gomod_words.specs.declared.usage.Command.{Command}
 use Rattle.gomod_words.specs.declared.usage.Places.{Places}
-use Rattle.gm_graph_listing.specs.Outcomes.{longest}
+use Rattle.gm_graph_listing.specs.Outcomes.{IsAnswerOver, longest}
 use Rattle.gm_report.specs.Outcome.{Outcome}
 use Rattle.gomod_run.specs.Held.{HoldsOne}
 use Rattle.gomod_run.specs.Program.{AreOfOneFile, IsFolderOutcome, IsInputOutcome, IsUnreadableWords, IsProgramOutcome, IsProgramStatus, IsServed, IsWordsOutcome, MayBeTold, usage_outcome}
 use Rattle.gm_store.specs.States.{StoreState}
 use Rattle.gomod_run.specs.Runs.{IsRunOutcome, Needs, StatesOutcome, is_over_file, is_query}
-use Rattle.gomod_run.specs.Queries.{RunsTo}
+use Rattle.gomod_run.specs.Queries.{PrintsOf, RunsAs, RunsTo}
 use Rattle.gomod_run.proofs.Answering.{answered_in}
 use Rattle.gomod_run.specs.Written.{EndsAsStated}
 use Rattle.gm_store.specs.Taken.{SinkState}
@@ -109,15 +109,20 @@ input_weaken command path list store asked old new same none still held allowed 
 input_weaken command path list store asked old new same none still held allowed outcome (inr refused) =
     let grown : [] ≡ refused.0 ∷ [] = sym still ∙ refused.4 ∙ ap (λ (names : List Name). names ++ refused.0 ∷ []) none in absurd (cc)
 
+-- the outcomes of `graph`, `list` and `chain` are those of `IsAnswerOver`
+pub query_runs : (command : Command) (main : List ℕ) (sums : Option (List ℕ)) (old new : StoreState) (outcome : Outcome) → is_query command ≡ true
+    → RunsTo command main sums old new outcome → IsAnswerOver (PrintsOf command) main sums old new outcome
+query_runs command main sums old new outcome query runs = subst (λ (query : Bool). RunsAs query command main sums old new outcome) query runs
+
+-- and the reverse
+pub runs_query : (command : Command) (main : List ℕ) (sums : Option (List ℕ)) (old new : StoreState) (outcome : Outcome) → is_query command ≡ true
+    → IsAnswerOver (PrintsOf command) main sums old new outcome → RunsTo command main sums old new outcome
+runs_query command main sums old new outcome query runs = subst (λ (query : Bool). RunsAs query command main sums old new outcome) (sym query) runs
+
 -- the outcomes of `fmt`, `edit` and `versions` are those of `IsRunOutcome`
 pub plain_runs : (command : Command) (main : List ℕ) (sums : Option (List ℕ)) (old new : StoreState) (outcome : Outcome) → is_query command ≡ false
     → RunsTo command main sums old new outcome → IsRunOutcome (Needs command main sums) (StatesOutcome command main sums) old new outcome
-plain_runs Fmt main sums old new outcome plain runs = runs
-plain_runs (Edit operations) main sums old new outcome plain runs = runs
-plain_runs (Versions path all) main sums old new outcome plain runs = runs
-plain_runs Graph main sums old new outcome plain runs = cc plain
-plain_runs (Rows after limit) main sums old new outcome plain runs = cc plain
-plain_runs (Chain path) main sums old new outcome plain runs = cc plain
+plain_runs command main sums old new outcome plain runs = subst (λ (query : Bool). RunsAs query command main sums old new outcome) plain runs
 
 folders_come : (may_open : List ℕ → Opening → Type 0) (folders : ProxyList) (command : Command) (old new : StoreState) (outcome : Outcome)
     → ((name : Name) (reply : Reply) → Contains new.asked (name, reply) → MayBeTold may_open (codes ".") (Some folders) name reply)

@@ -65,7 +65,7 @@ states_kept (Chain path) main sums one other outcome keeps is = absurd is
 
 -- ---- two runs
 
-none_more : (old new failing : List Name) → new ≡ old ++ failing → new ≡ old → failing ≡ []
+pub none_more : (old new failing : List Name) → new ≡ old ++ failing → new ≡ old → failing ≡ []
 none_more old new failing grown same = append_cancel_left old failing [] (sym grown ∙ same ∙ sym (append-nil old))
 
 one_more : (old new : List Name) (name : Name) → new ≡ old ++ name ∷ [] → new ≡ old → ⊥

@@ -25,7 +25,7 @@ use Rattle.gomod_run.specs.Queries.{RunsTo}
 use Rattle.gomod_run.specs.Reads.{AreBothRead, AreInputs, AreSumsInput, AreSumsUnread, HoldsInput, IsOneUnread, IsStoreFolder, IsUnreadInput, IsUnreadStore, with_proxy}
 use Rattle.gomod_run.specs.Runs.{is_query}
 use Rattle.gomod_run.specs.Written.{EndsAsStated, IsWritten}
-use Rattle.gomod_run.proofs.Endings.{by_bytes, folder_weaken, input_weaken}
+use Rattle.gomod_run.proofs.Endings.{by_bytes, folder_weaken, input_weaken, query_runs}
 
 -- ---- the inputs
 
@@ -42,12 +42,8 @@ sums_passed_on may_open places main told (Ok inputs) none same may is = absurd (
 query_weaken : (may_answer : Name → Reply → Type 0) (command : Command) (main : List ℕ) (sums : Option (List ℕ)) (old new : StoreState) → is_query command ≡ true
     → ((name : Name) (reply : Reply) → Contains new.asked (name, reply) → may_answer name reply) → (outcome : Outcome)
     → RunsTo command main sums old new outcome → IsQueryRun may_answer command main sums outcome
-query_weaken may_answer Fmt main sums old new query told outcome runs = cc query
-query_weaken may_answer (Edit operations) main sums old new query told outcome runs = cc query
-query_weaken may_answer (Versions path all) main sums old new query told outcome runs = cc query
-query_weaken may_answer Graph main sums old new query told outcome runs = (answers new.asked runs.0, told, runs.2)
-query_weaken may_answer (Rows after limit) main sums old new query told outcome runs = (answers new.asked runs.0, told, runs.2)
-query_weaken may_answer (Chain path) main sums old new query told outcome runs = (answers new.asked runs.0, told, runs.2)
+query_weaken may_answer command main sums old new query told outcome runs =
+    let (failed, grown, is) = query_runs command main sums old new outcome query runs in (answers new.asked failed, told, is)
 
 -- a query that runs with what was read of the named go.sum
 sums_served : (may_open : List ℕ → Opening → Type 0) (may_answer : Name → Reply → Type 0) (command : Command) (name : Option (List ℕ)) (main : List ℕ) (sums : Option (Vec ℕ)) (outcome : Outcome)

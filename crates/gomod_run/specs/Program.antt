@@ -13,7 +13,7 @@ use Rattle.gm_store.specs.declared.reading.InputFault.{InputFault}
 use Rattle.gm_store.specs.declared.reading.InputFault.TheVariants as reading
 use Rattle.gomod_words.specs.Usage.{AskFor, IsFaultOf, unreadable_text}
 use Rattle.gomod_words.specs.declared.usage.Command.{Command}
-use Rattle.gomod_words.specs.declared.usage.Command.TheVariants.{Fmt, Edit, Versions, Graph, List as Rows, Chain}
+use Rattle.gomod_words.specs.declared.usage.Command.TheVariants.{Fmt, Edit, Versions}
 use Rattle.gomod_words.specs.declared.usage.Places.{Places}
 use Rattle.gomod_words.specs.declared.usage.UsageFault.{UsageFault}
 use Rattle.gomod_words.specs.declared.usage.UsageFault.TheVariants as usage
@@ -133,9 +133,7 @@ IsServed may_open (Edit operations) places outcome =
     IsFileServed may_open (Edit operations) (string_bytes places.main) outcome
 IsServed may_open (Versions path all) places outcome =
     IsVersionsServed may_open (Versions path all) path places.proxy outcome
-IsServed may_open Graph places outcome = IsQueryServed may_open Graph places outcome
-IsServed may_open (Rows after limit) places outcome = IsQueryServed may_open (Rows after limit) places outcome
-IsServed may_open (Chain path) places outcome = IsQueryServed may_open (Chain path) places outcome
+IsServed may_open query places outcome = IsQueryServed may_open query places outcome
 
 -- the outcome for these words: their usage error, or the outcome of their command over the files that they name
 abbrev pub IsWordsOutcome : (List ℕ → Opening → Type 0) → List (List ℕ) → Outcome → Type 0

@@ -24,14 +24,12 @@ IsFmtOutcome file outcome =
     ⊎ ((fault : SyntaxFault) × (place : FaultPlace) × IsParsedAs file (Err fault) × (syntax_place fault ≡ Some place)
     × (outcome ≡ refused (main_line place)))
 
--- whether a command is a query on a module graph
+-- whether a command is a query on a module graph; no other command reads a go.sum
 abbrev pub is_query : Command → Bool
-is_query Fmt = false
-is_query (Edit operations) = false
-is_query (Versions path all) = false
 is_query Graph = true
 is_query (Rows after limit) = true
 is_query (Chain path) = true
+is_query _ = false
 
 -- whether a command reads the bytes of one file and nothing else
 abbrev pub is_over_file : Command → Bool
@@ -53,13 +51,6 @@ Needs Fmt main sums answers name = ⊥
 Needs (Edit operations) main sums answers name = ⊥
 Needs (Versions path all) main sums answers name = VersionsNeed path all answers name
 Needs _ main sums answers name = GraphNeeds main sums answers name
-
--- whether a command reads a go.sum
-abbrev pub takes_sums : Command → Bool
-takes_sums Fmt = false
-takes_sums (Edit operations) = false
-takes_sums (Versions path all) = false
-takes_sums _ = true
 
 -- a run over a store that had not been asked before: the outcome that its answers give, if all that is needed was
 -- answered; or the report that the device failed at a file that was needed and not answered

@@ -1,11 +1,13 @@
 //! `edit`: each operation is parsed and applied in turn. This is here and not in `gm_file_edit`, because reports belong
 //! to the program and not to the library.
 
-ghost use Rattle.std.specs.Prelude.{◌≡◌, ◌∷◌, [], IfErr, None, OnOk, map};
+ghost use Rattle.std.specs.Prelude.{◌≡◌, ◌∷◌, [], IfErr, MatchResult, None, OnOk, map};
 ghost use Rattle.std.specs.List.{filter_map};
 ghost use Rattle.std.specs.String.{string_bytes};
 ghost use Rattle.gm_file_edit.specs.Edits.{edit_in};
-ghost use Rattle.gm_report.specs.Outcome.{OrNoMemory, outcome_view, report_outcome};
+ghost use Rattle.gm_graph_listing.specs.Outcomes.{IsMainOf, IsMalformedMain};
+ghost use Rattle.gm_report.specs.Outcome.{OrNoMemory, outcome_view, refused, report_outcome};
+ghost use Rattle.gm_report.specs.Reports.{FaultPlace, main_line};
 ghost use Rattle.gomod_run.specs.Editing.{IsEditOutcome, IsRefusedOperation, edited_in_turn, refusal_of};
 ghost use Rattle.gomod_run.specs.Refusals.{report_by_edit, report_by_op};
 
@@ -62,6 +64,17 @@ fn apply_text<'r>(
     }
 }
 
+/// An editor of a main module's file, or the report of the first fault of its bytes.
+fn editor_of<'a, 'r>(alloc: Global, file: &'a [u8]) -> Result<Editor<'a>, Report<'r>>
+    ensures { MatchResult result
+        (λ editor. IsMainOf file.now editor)
+        (λ told. OrNoMemory (λ outcome. (place : FaultPlace) × IsMalformedMain file.now place
+        × (outcome ≡ refused (main_line place))) (report_outcome told)) }
+{
+    let main = main_file(alloc, file)?;
+    Ok(Editor::of(alloc, main)?)
+}
+
 /// What `edit` ends with over the bytes of a main module's file: the layout after all operations, or the report of the
 /// first that is refused.
 pub(crate) fn edit_outcome<'r>(
@@ -71,8 +84,7 @@ pub(crate) fn edit_outcome<'r>(
 ) -> Result<String, Report<'r>>
     ensures { OrNoMemory (IsEditOutcome (map string_bytes operations.now) file.now) (outcome_view result) }
 {
-    let main = main_file(alloc, file)?;
-    let mut editor = Editor::of(alloc, main)?;
+    let mut editor = editor_of(alloc, file)?;
     for (n, text) in operations.iter().enumerate() {
         apply_text(alloc, &mut editor, n + 1, text.as_str())?;
     }

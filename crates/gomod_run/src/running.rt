@@ -7,7 +7,7 @@ ghost use Rattle.gm_store.specs.States.{HasServed};
 ghost use Rattle.gm_report.specs.Outcome.{Outcome, code_of, failed};
 ghost use Rattle.gm_report.specs.Reports.{device_line};
 ghost use Rattle.gm_graph_listing.specs.Needs.{AnsweredAll, AskedInTurn, FailsInTurn};
-ghost use Rattle.gomod_run.specs.Runs.{Needs, takes_sums};
+ghost use Rattle.gomod_run.specs.Runs.{Needs, is_query};
 ghost use Rattle.gomod_run.specs.Queries.{RunsTo};
 ghost use Rattle.gomod_run.specs.Versions.{IsRefusedList};
 ghost use Rattle.gomod_run.specs.Written.{EndsAsStated, IsWritten};
@@ -74,7 +74,7 @@ pub fn run<F: Files, O: Sink, R: Sink>(
     // Otherwise the outcome could depend on answers of an earlier run.
     requires unasked { (F.state files.old).asked ≡ [] }
     // A go.sum that such a command ignored would pass for one that was checked.
-    requires no_sums { takes_sums command.now ≡ false → option_map (λ sums. sums.now) sums ≡ None }
+    requires no_sums { is_query command.now ≡ false → option_map (λ sums. sums.now) sums ≡ None }
     // All asks and all allocations come before the first byte is written, so a report never follows part of a text.
     ensures ends { EndsAsStated (RunsTo command.now main.now (option_map (λ sums. sums.now) sums.entry)
         (F.state files.old) (F.state files.new))
