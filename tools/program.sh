@@ -5,7 +5,7 @@
 #   tools/program.sh FILE.txt.. TITLE..   those of these files, or those whose titles have one of these texts
 #
 # The merge gate runs the same cases inside a process, with outputs in memory; of the program itself it compares what
-# a few stored runs write to standard output. What this adds is standard error and the whole way from the words to the
+# one stored run writes to standard output. What this adds is standard error and the whole way from the words to the
 # system. .ci/run runs it after the gate. Calls, cases with a file at the root of the system, and those of files without
 # permission for root are left out.
 #

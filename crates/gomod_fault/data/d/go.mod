@@ -1,3 +1,0 @@
-module example.com/d
-
-require example.com/f v1.0.0
