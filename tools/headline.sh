@@ -3,7 +3,7 @@
 #
 #   tools/headline.sh          writes the shown definitions into the pages anew: HEADLINE, REPORTS, BYTES, DIRECTIVES, EDITS
 #   tools/headline.sh --check  changes nothing, and tells which page is out of step
-#   tools/headline.sh --names  lists the names that stand in two files of specs/, and the private types reached
+#   tools/headline.sh --names  lists the names that stand in two files of specs/, and what each exported contract reaches
 #
 # Between the marks `<!-- show .. -->` and `<!-- end -->` of a page stands what the sources say, and it is written anew:
 #
@@ -15,8 +15,9 @@
 # All other text of a page is written by hand. A quote (a line that begins with `>`) must stand in docs/SPEC.md word by
 # word. The same definition stands on one page only.
 #
-# The last lines count what one reads to believe a clause of `gomod_run::run`: a definition is reached if a name of it
-# stands in the clause or in a definition that is reached, and it has as many lines as are neither empty nor a comment.
+# The last lines count what one reads to believe a contract: that of `gomod_run::run`, and of all functions that the
+# libraries export. A definition is reached if a name of it stands in a clause or in a definition that is reached, and it
+# has as many lines as are neither empty nor a comment. A type of the code is private if its crate doesn't export it.
 #
 # The status of --check is 1 if a page is out of step. .ci/run runs it before the merge gate. It needs python3.
 set -euo pipefail
@@ -66,7 +67,7 @@ class Scope:
 
     def __init__(self, text):
         self.names, self.modules = {}, {}
-        for path, listed, short in re.findall(r"(?m)^(?:ghost )?use ([\w.]+?)(?:\.\{([^}]*)\}|\s+as (\w+));?$", text):
+        for path, listed, short in re.findall(r"(?m)^ *(?:ghost )?use ([\w.]+?)(?:\.\{([^}]*)\}|\s+as (\w+));?$", text):
             if short:
                 self.modules[short] = path
             for one in listed.split(","):
@@ -112,15 +113,16 @@ for path in sorted(CRATES.glob("*/specs/*.antt")):
 
 
 class Leaf:
-    """A name that no file in specs/ defines: one of the standard library, of another package, or a type of the code."""
+    """A name that no file in specs/ defines: one of the standard library, of another package, or of a type of the code,
+    which is then given by its crate and its own name."""
 
-    def __init__(self, name, source):
-        self.name, self.source = name, source
+    def __init__(self, name, source, owner):
+        self.name, self.source, self.owner = name, source, owner
 
 
 @functools.cache
-def leaf(name, source):
-    return Leaf(name, source)
+def leaf(name, source, owner=None):
+    return Leaf(name, source, owner)
 
 
 def place(path, name):
@@ -132,7 +134,8 @@ def place(path, name):
     if parts[3] == "declared":
         names = [it for it in parts[4:] if it != "TheVariants"]
         of = f" of `{names[-1]}`" if parts[-1] == "TheVariants" else ""
-        return leaf(name, f"`crates/{parts[1]}/src/{'/'.join(names[:-1])}.rt`{of}")
+        owner = None if names[-1] == "TheConstants" else (parts[1], names[-1])
+        return leaf(name, f"`crates/{parts[1]}/src/{'/'.join(names[:-1])}.rt`{of}", owner)
     file = f"{parts[1]}/specs/{'/'.join(parts[3:])}.antt"
     if file not in FILES:
         return leaf(name, f"`crates/{parts[1]}/{'/'.join(parts[2:])}.antt`")
@@ -182,7 +185,9 @@ def used_in(text, scope, definitions, bound=frozenset()):
     return seen
 
 
+@functools.cache
 def used_by(one):
+    """What the names in a definition mean."""
     definitions, scope = FILES[one.file]
     return used_in(one.text, scope, definitions)
 
@@ -206,14 +211,21 @@ def reached_from(found):
 def clauses_of(file, function):
     """The clauses of the first function of this name in a source: name to its text, with the comments before it."""
     lines = (CRATES / file).read_text().split("\n")
-    at = next(at for at, line in enumerate(lines) if re.search(rf"\bfn {function}\b", line))
+    return clauses_at(lines, next(at for at, line in enumerate(lines) if re.search(rf"\bfn {function}\b", line)))
+
+
+def clauses_at(lines, at):
+    """The clauses of the function whose head begins on this line."""
     clauses, comment, text, name = {}, [], [], None
+    margin = lines[at][:len(lines[at]) - len(lines[at].lstrip())]
     for line in lines[at + 1:]:
+        line = line.removeprefix(margin)
         head = re.match(r"    (?:requires|ensures) (?:(\w+) )?\{", line)
-        if head or line.startswith("{") or line.startswith("    //"):
-            if name:
+        is_end = re.match(r"[{}]|.*;$", line)
+        if head or is_end or line.startswith("    //"):
+            if name is not None:
                 clauses[name], text, name = "\n".join(text), [], None
-        if line.startswith("{"):
+        if is_end:
             break
         if line.startswith("    //"):
             comment.append(line[4:])
@@ -331,14 +343,52 @@ def duplicates():
     return {name: sorted(it) for name, it in files.items() if len(it) > 1}
 
 
+@functools.cache
+def exports(crate):
+    """The names that a crate exports, and its public modules."""
+    root = CRATES / crate / "src/lib.rt"
+    text = root.read_text() if root.exists() else ""
+    used = " ".join(re.findall(r"(?m)^pub use [^;]*;", text))
+    names = set(re.findall(r"\w+", used)) | set(re.findall(r"(?m)^pub (?:struct|enum|trait|type|fn) (\w+)", text))
+    return names, set(re.findall(r"(?m)^pub mod (\w+);", text))
+
+
 def is_private(leaf):
-    """Whether the code doesn't make a type public: it is declared without `pub`, or only for its crate."""
-    found = re.match(r"`(crates/\w+/src/.*\.rt)`$", leaf.source)
-    if not found or not pathlib.Path(found[1]).exists():
-        return False
-    text = pathlib.Path(found[1]).read_text()
-    declared = re.search(rf"(?m)^(pub(?:\([a-z]+\))? )?(?:struct|enum|type) {leaf.name}\b", text)
-    return bool(declared) and declared[1] != "pub "
+    """Whether the name is of a type that its crate doesn't export."""
+    return bool(leaf.owner) and leaf.owner[1] not in exports(leaf.owner[0])[0]
+
+
+def exported():
+    """The functions with a contract that the libraries export: the crate's name and the function's, and its clauses
+    with what their names mean."""
+    for path in sorted(CRATES.glob("*/src/**/*.rt")):
+        crate, file = path.parts[1], "/".join(path.parts[3:])
+        names, modules = exports(crate)
+        lines, owner, is_trait = path.read_text().split("\n"), None, False
+        scope = Scope("\n".join(lines))
+        for at, line in enumerate(lines):
+            head = re.match(r"impl(?:<.*?>)? (.* for )?(\w+)", line)
+            if head:
+                is_trait, owner = bool(head[1]), head[2]
+            elif line.startswith("}"):
+                owner = None
+            function = re.match(r"(    )?(pub )?fn (\w+)", line)
+            if not function:
+                continue
+            is_method, is_public, name = function.groups()
+            is_known = owner in names if is_method else name in names or file.split(".")[0] in modules
+            is_own = is_known and (is_public or (is_method and is_trait))
+            clauses = clauses_at(lines, at) if is_own else {}
+            if clauses:
+                yield f"{crate}::{owner + '::' if is_method else ''}{name}", clauses, scope
+
+
+def size_of(found):
+    """What these names reach, in words, and the private types among it."""
+    reached, leaves = reached_from(found)
+    size, files = sum(it.lines() for it in reached.values()), {it.file for it in reached.values()}
+    private = sorted({f"{it.owner[0]}::{it.owner[1]}" for it in leaves.values() if is_private(it)})
+    return len(reached), f"{len(reached)} definitions, {size} lines, in {len(files)} files", private
 
 
 def counts(option):
@@ -347,13 +397,18 @@ def counts(option):
     ends = list(used_in(*clauses_named(RUNNING, "run", ["ends"]), scope, {}).values())
     every = [it for clause in clauses.values() for it in used_in(clause, scope, {}).values()]
     for title, found in (("`list`", [place(*it) for it in LIST]), ("clause `ends`", ends), ("all clauses", every)):
-        reached, leaves = reached_from(found)
-        private = sorted(f"{it.source.strip('`')}: {it.name}" for it in leaves.values() if is_private(it))
-        size, files = sum(it.lines() for it in reached.values()), {it.file for it in reached.values()}
-        print(f"gomod_run::run, {title}: {len(reached)} definitions, {size} lines, in {len(files)} files;"
-              f" {len(private)} private types of the code")
-        if option == "--names":
-            print("".join(f"  {it}\n" for it in private), end="")
+        _, size, private = size_of(found)
+        print(f"gomod_run::run, {title}: {size}; {len(private)} private types of the code")
+    rows, types = [], set()
+    for name, clauses, scope in exported():
+        used = [it for clause in clauses.values() for it in used_in(clause, scope, {}).values()]
+        count, size, private = size_of(used)
+        rows.append((count, f"{name}: {size}", private))
+        types.update(private)
+    print(f"all {len(rows)} exported contracts, the most for {max(rows)[1]}; {len(types)} private types of the code")
+    if option == "--names":
+        for _, row, private in sorted(rows, key=lambda it: it[1]):
+            print(f"  {row}{'; private: ' if private else ''}{' '.join(private)}")
     found = duplicates()
     print(f"{len(found)} names stand in two files of specs/")
     if option == "--names":
