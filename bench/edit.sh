@@ -16,7 +16,7 @@ cd "$(dirname "$0")/.."
 begin_benchmark bench/edit.sh "$@"
 
 # The same bytes at each run.
-count=65535 many=1000 added=4000 goal=" (goal: 1 s)"
+count=65535 many=1000 added=4000 goal=" (goal: 0.5 s)"
 [ -z "$small" ] || count=2000 many=30 added=200 goal=
 python3 - "$work" $count $many $added << 'PY'
 import sys
@@ -100,4 +100,4 @@ row "$many operations$goal" big.mod many
 row "$many operations, $count excludes of a path" excludes.mod excluded
 row "$many operations, $count replaces of a path" replaces.mod replaced
 row "$many operations, $count retractions" retractions.mod retracted
-row "$added additions, one line$goal" small.mod added
+row "$added additions, one line" small.mod added

@@ -10,7 +10,7 @@
 # by modules and folders, retractions and a go.sum, and now and then a missing or faulty file, made from its number
 # alone. Both programs are asked for list, graph, versions (with and without retracted ones), edit and fmt, and each
 # chain of gomod is looked up in the graph of go. go runs without a network, with its module cache, its GOPATH and all
-# that it writes in a scratch folder. Where go updates the main file, gomod reads what that leaves.
+# that it writes in a scratch folder. If go updates the main file, gomod reads what that leaves.
 #
 # It prints the version of go, each difference that docs/GO.md does not name in full, with the number of its world, and
 # for each command how many results were the same, refused by both, or differ in a way that has a row in the table of

@@ -10,13 +10,13 @@
 # permission for root are left out.
 #
 # Of a case with sizes it runs the greatest, each command with an address space of 64 MiB and a hundred times the bytes
-# of the files of the case, which is the bound of README.md: a command that reserves more is told that memory ran out.
+# of the files of the case, which is the bound of README.md: a command that reserves more runs out of memory.
 #
-# Where REFUSE_MEMORY names the library that tools/refuse-memory.sh makes, each command runs again with each of its
+# If REFUSE_MEMORY names the library that tools/refuse-memory.sh makes, each command runs again with each of its
 # allocations refused in turn: it then has to say that memory ran out, or to have the result of the case.
 #
 # It needs bin/gomod (./build makes it) and python3, and prints each difference and how many cases passed and failed.
-# The status is 1 where one failed.
+# The status is 1 if one failed.
 set -euo pipefail
 cd "$(dirname "$0")/.."
 # shellcheck source=tools/lib.sh

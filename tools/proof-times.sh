@@ -4,7 +4,7 @@
 #   tools/proof-times.sh NAME [ROWS]   the crate's last check, as many rows as that (20 without it)
 #   tools/proof-times.sh NAME ROWS 5   only what was checked in the last 5 minutes
 #
-# A check keeps a file in out/incremental for each part of a proof when that is done, so where it ran with one job
+# A check keeps a file in out/incremental for each part of a proof when that is done, so if it ran with one job
 # (`rt check --jobs 1`) the time between two files is that of the later part. What was kept from an earlier check costs
 # nothing: remove out/incremental first to see all functions. It needs python3.
 set -euo pipefail

@@ -12,7 +12,7 @@
 # one.
 #
 # It needs bin/gomod (./build makes it), bash and python3. It prints each difference and how many examples, pieces of
-# code and links were right and wrong. The status is 1 where one was wrong. .ci/run runs it after the merge gate.
+# code and links were right and wrong. The status is 1 if one was wrong. .ci/run runs it after the merge gate.
 set -euo pipefail
 cd "$(dirname "$0")/.."
 # shellcheck source=tools/lib.sh

@@ -9,7 +9,7 @@
 #
 # A command whose memory is refused has to say so, or to have the result of its case. A test has to end well, or to
 # fail and say that memory ran out. What does otherwise, crashes or hangs is printed with the number of the refused
-# allocation. The status is 1 where that happened, and 0 where all stood every refusal. The merge gate runs the same
+# allocation. The status is 1 if that happened, and 0 if all stood every refusal. The merge gate runs the same
 # cases and tests with none refused.
 #
 # It needs a C compiler (`cc`), bin/gomod (./build makes it) and python3 for the cases, and `rt` for a crate whose
