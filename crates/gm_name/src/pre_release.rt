@@ -5,9 +5,10 @@
 
 ghost use Rattle.std.specs.Prelude.{◌≡◌, ◌≤◌, length};
 ghost use Rattle.std.specs.Cmp.Lexicographic.{slice_cmp};
-ghost use Rattle.semver.specs.Order.{is_numeric, part_length, parts, pre_cmp, pre_part_cmp};
+ghost use Rattle.semver.specs.Order.{part_length, parts, pre_cmp, pre_part_cmp};
 ghost use Rattle.gm_name.specs.Version.{IsVersion, parts_in};
 
+use crate::number::has_only_digits;
 use std::cmp::Ordering;
 
 /// The pre-release in the text of a version: what follows the first `-`, up to a `+`. Empty if there is none.
@@ -37,24 +38,12 @@ fn identifier_len(text: &[u8]) -> usize
     text.len()
 }
 
-/// Whether an identifier has only digits.
-fn is_numeric(identifier: &[u8]) -> bool
-    ensures { result ≡ is_numeric identifier.now }
-{
-    'bytes: for place in 0..identifier.len() {
-        if !identifier[place].is_ascii_digit() {
-            return false;
-        }
-    }
-    true
-}
-
 /// The order of two identifiers (SemVer 2.0.0, section 11.4). Numbers have no leading zeros, so the longer one is
 /// the greater one.
 fn compare_identifiers(one: &[u8], other: &[u8]) -> Ordering
     ensures { result ≡ pre_part_cmp one.now other.now }
 {
-    match (is_numeric(one), is_numeric(other)) {
+    match (has_only_digits(one), has_only_digits(other)) {
         (true, true) => one.len().cmp(&other.len()).then(one.cmp(other)),
         (true, false) => Ordering::Less,
         (false, true) => Ordering::Greater,
