@@ -1,6 +1,6 @@
 //! Names that were read before, kept so that a duplicate is neither tested nor stored again.
 
-ghost use Rattle.std.specs.Prelude.{◌≡◌, ◌≤◌, ◌↔◌, IfOk, IfSome, IsErrOf, IsTrue, Ok, OnOk, Some};
+ghost use Rattle.std.specs.Prelude.{◌≡◌, ◌≤◌, ◌↔◌, IfOk, IfSome, IsErrOf, Ok};
 ghost use Rattle.number_map.specs.NumberMap.{count_of};
 ghost use Rattle.gm_name.specs.Fingerprint.{fingerprint};
 ghost use Rattle.gm_name.specs.Fit.{Fits};
@@ -73,8 +73,8 @@ impl From<VersionFault> for PairFault {
 ///
 /// Reading through a `KnownNames` gives the same results as `ModPath::parse` and `ModVersion::parse`. One name is
 /// kept under each fingerprint, so a lookup takes a few comparisons of numbers, at most log n among n names, and one
-/// of texts, whatever the names are. Contracts see which path is expected, and how many names of each kind are kept:
-/// no fewer than before, and never more than there is room for. If there is no room, no text is hashed to be looked
+/// of texts, whatever the names are. Contracts see how many names of each kind are kept: no fewer than before, and
+/// never more than there is room for. If there is no room, no text is hashed to be looked
 /// up. All memory comes from the allocator that it was made with.
 #[derive(Drop)]
 pub struct KnownNames {
@@ -101,7 +101,6 @@ impl Model for KnownNames {
       room = a.room;
       paths = count_of a.paths;
       versions = count_of a.versions;
-      expected = a.expected;
     } };
 
     ghost invariant = { λ a. (count_of a.paths ≤ a.room) × (count_of a.versions ≤ a.room) };
@@ -142,7 +141,6 @@ impl KnownNames {
     /// and neither looked up nor tested. It takes the place of the one that was expected before. Allocates no memory;
     /// it fails only if the path already has as many copies as a `usize` can count.
     pub fn expect(&mut self, path: &ModPath) -> Result<(), AllocError>
-        ensures expected { OnOk result (self.new.expected ≡ Some path.now) }
         ensures kept { KeepsAll self.old self.new }
         ensures within { IsWithinRoom self.new }
     {
