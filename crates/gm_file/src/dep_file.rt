@@ -24,8 +24,7 @@ use std::alloc::Global;
 use std::marker::Model;
 use std::mem;
 
-/// About how many bytes of a file its line of one requirement takes, so that a list of requirements is mostly made once
-/// with the room that it needs.
+/// About how many bytes a line with one requirement takes, to reserve the list of requirements once.
 const BYTES_OF_ONE: usize = 40;
 
 /// A dependency's file, read laxly: its `module`, `go`, `require` and `retract` directives.
@@ -49,7 +48,12 @@ impl Model for DepFile {
 
     ghost Value = { Dependency };
 
-    ghost view = { λ f. record { declared = f.declared; go = f.go; requirements = f.requirements.items; retracts = interval_views f.retracts.items } };
+    ghost view = { λ f. record {
+      declared = f.declared;
+      go = f.go;
+      requirements = f.requirements.items;
+      retracts = interval_views f.retracts.items;
+    } };
 }
 
 impl DepFile {
@@ -57,7 +61,7 @@ impl DepFile {
     /// Modules Reference, go.mod files). The go version may have a leading `v`, and after its second number any text
     /// that doesn't begin with a digit. `module` may be missing.
     ///
-    /// A document with a fault is refused with `FileFault::Directive`, which has the lowest faulty line, counted from
+    /// A document with a fault is refused with `FileFault::Directive`, which has the first faulty line, counted from
     /// 1, and the first kind of that line's faults in the order of `DirectiveKind`. A `retract` is never a fault: an
     /// entry that strict reading would refuse retracts nothing. `NoMemory` may replace any result, when memory runs
     /// out.

@@ -60,7 +60,7 @@ fn set_block<'a>(block: &mut Option<Token<'a>>, verb: Option<Token<'a>>)
 }
 
 impl<'a> DepLines<'a> {
-    /// What no lines say. Requirements go to this place, and there must be none in it.
+    /// The state before the first line. Requirements are added to `requirements`, which must be empty.
     pub(crate) fn over(alloc: Global, requirements: Required) -> DepLines<'a>
         requires { requirements.items ≡ [] }
         ensures before { result.fields.requirements.before ≡ requirements.before }
@@ -218,7 +218,7 @@ fn read_simple_lines<'a>(
     Ok(())
 }
 
-/// Reads every line, so that what no lines say becomes what all lines say.
+/// Reads every line into `said`, which must be that of no lines.
 pub(crate) fn read_all<'a>(
     alloc: Global,
     names: &mut KnownNames,

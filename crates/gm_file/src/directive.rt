@@ -70,7 +70,7 @@ fn read_entry(
     }
 }
 
-/// The directive of an entry with this verb and these arguments, where the verb is still a word.
+/// The directive of an entry with this verb and these arguments, if the verb is still a word.
 // Inlined, so that the wide result is made in its place.
 #[inline(always)]
 fn read_verb_entry(

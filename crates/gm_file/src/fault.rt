@@ -52,7 +52,7 @@ pub enum FileFault {
     /// Memory ran out.
     #[error("out of memory")]
     NoMemory,
-    /// The lowest line with a fault, counted from 1, and the first kind of its faults. Line 0 stands for the whole
+    /// The first line with a fault, counted from 1, and the first kind of its faults. Line 0 stands for the whole
     /// file.
     #[error("line {line}: {kind}")]
     Directive { line: usize, kind: DirectiveKind },
@@ -82,7 +82,7 @@ pub enum ReadFault {
     /// The bytes are not a document: the line and the fault that gm_syntax reports.
     #[error("line {line}: {kind}")]
     Syntax { line: usize, kind: SyntaxKind },
-    /// The lowest line with a fault of its directive, counted from 1, and the first kind of its faults.
+    /// The first line with a fault of its directive, counted from 1, and the first kind of its faults.
     #[error("line {line}: {kind}")]
     Directive { line: usize, kind: DirectiveKind },
 }

@@ -54,7 +54,7 @@ fn go_in(mode: Mode, text: &str) -> Option<(u32, u32)>
 }
 
 impl Fields {
-    /// The fields of no lines, in which requirements go to this place. There must be none in it.
+    /// The state before the first line. Requirements are added to `requirements`, which must be empty.
     pub(crate) fn over(alloc: Global, requirements: Required) -> Fields
         requires { requirements.items ≡ [] }
         ensures before { result.requirements.before ≡ requirements.before }
@@ -225,7 +225,7 @@ pub fn block_after_line<'w, 'a>(
     }
 }
 
-/// The fields of all lines of a main file, or the first fault of the lowest line that has one. Lines are counted from 1.
+/// The fields of all lines of a main file, or the first fault of the first line that has one. Lines are counted from 1.
 /// A missing `module` is no fault here: `MainFile::read` checks for it.
 pub(crate) fn read_lines(
     alloc: Global,

@@ -83,8 +83,8 @@ fn last_number(text: &str) -> Option<u32>
     small_number(digits)
 }
 
-/// The second number of a go version from the text after its first dot: `M` or `M.P`, where a suffix may follow the
-/// last number. `None` for another text.
+/// The second number of a go version from the text after its first dot: `M` or `M.P`. A suffix may follow the last
+/// number. `None` for another text.
 #[tactic(auto, unfolding(crate::specs::GoVersions::second_number))]
 fn second_number(text: &str) -> Option<u32>
     ensures { result ≡ second_number text.now }

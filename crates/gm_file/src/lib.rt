@@ -4,7 +4,7 @@
 //! (`MainFile`): each verb must be known and each entry well-formed. A dependency's file is read laxly (`DepFile`):
 //! only its `module`, `go` and `require` can be at fault, so that a directive that is newer than this crate, or that
 //! counts only in the main module, can't break a build. Of all faults of a file exactly one is reported: the one on the
-//! lowest line, and of that line's faults the first in the order of `DirectiveKind`.
+//! first line with one, and of that line's faults the first in the order of `DirectiveKind`.
 //!
 //! For example, strict reading of
 //!

@@ -19,7 +19,7 @@ use gm_syntax::Doc;
 use std::alloc::Global;
 use std::marker::Model;
 
-/// How many paths, and how many versions, lines of a main file share. A long one names few versions again and again.
+/// How many paths, and as many versions, the lines of a main file share. A long one names few versions again and again.
 const MOST_SHARED: usize = 1_024;
 
 /// The main module's file, read strictly.
@@ -63,7 +63,7 @@ impl<'a> Model for MainFile<'a> {
 impl<'a> MainFile<'a> {
     /// Reads the directives of a main module's file (Go Modules Reference, go.mod files).
     ///
-    /// A document with a fault is refused with `FileFault::Directive`, which has the lowest faulty line and the first
+    /// A document with a fault is refused with `FileFault::Directive`, which has the first faulty line and the first
     /// kind of that line's faults in the order of `DirectiveKind`. A file without `module` and without any other fault
     /// is refused with `NoModule` at line 0. Lines are counted in the document, from 1. `NoMemory` may replace any
     /// result, when memory runs out. The document is consumed, also on a refusal. Reading n lines takes O(n log n)

@@ -28,7 +28,7 @@ fn borrowed_value<'w>(alloc: Global, word: &'w Token) -> Result<CowStr<'w>, Line
     Ok(word.value(alloc)?)
 }
 
-/// The value of an argument, borrowed where it has no escapes. Punctuation is not an argument and is refused with
+/// The value of an argument, borrowed if it has no escapes. Punctuation is not an argument and is refused with
 /// `WrongArguments`.
 fn borrowed_argument<'w>(alloc: Global, word: &'w Token) -> Result<CowStr<'w>, LineFault>
     ensures { IsRead cow_str_bytes DirectiveKind.WrongArguments no_kinds (argument word.now.word) result }
@@ -47,7 +47,7 @@ pub(crate) fn argument(alloc: Global, word: &Token) -> Result<String, LineFault>
     Ok(borrowed_argument(alloc, word)?.into_owned(alloc)?)
 }
 
-/// The value of the only argument, borrowed where it has no escapes. Any other number of words is refused with
+/// The value of the only argument, borrowed if it has no escapes. Any other number of words is refused with
 /// `WrongArguments`.
 pub(crate) fn borrowed_one<'w>(alloc: Global, words: &'w [Token]) -> Result<CowStr<'w>, LineFault>
     ensures { IsRead cow_str_bytes DirectiveKind.WrongArguments no_kinds (one_of (words_of words.now)) result }

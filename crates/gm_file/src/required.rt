@@ -18,7 +18,8 @@ use std::mem;
 enum Destination {
     /// A list of their own.
     Own(Vec<ModVer>),
-    /// The end of a list of modules, which had this many before, so many of them distinct.
+    /// The end of a list of modules. `start` and `known` are its length and its number of distinct modules before; only
+    /// contracts use them.
     End {
         list: ModuleList,
         start: usize,

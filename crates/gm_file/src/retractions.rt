@@ -96,7 +96,7 @@ pub(crate) fn add_retraction(
     Ok(())
 }
 
-/// The interval that a line outside blocks retracts, if it retracts one, where the line is these two bare words.
+/// The interval that a line outside blocks retracts, if it retracts one and is these two bare words.
 fn single_retraction(
     names: &mut KnownNames,
     verb: &str,
@@ -117,7 +117,7 @@ fn single_retraction(
     }
 }
 
-/// Adds the interval that a line outside blocks retracts, if it retracts one, where the line is these two bare words.
+/// Adds the interval that a line outside blocks retracts, if it retracts one and is these two bare words.
 pub(crate) fn add_single_retraction(
     names: &mut KnownNames,
     intervals: &mut Vec<Interval>,

@@ -48,6 +48,7 @@ impl ModVersion {
         requires { text.now ≡ self.now }
         ensures { result ≡ self.now }
     {
+        // The clauses of as_str tell the proof that the text is a version.
         let _text = self.as_str();
         BorrowedVersion {
             text,

@@ -161,7 +161,7 @@ impl KnownNames {
         }
     }
 
-    /// The number that a text is kept under: its fingerprint, or `None` where there is no room to keep anything.
+    /// The number that a text is kept under: its fingerprint, or `None` if there is no room to keep anything.
     /// Without a number nothing is looked up.
     fn number_of(&self, text: &str) -> Option<u64>
         ensures { IfSome result (λ number. number ≡ fingerprint 0 text.now) }

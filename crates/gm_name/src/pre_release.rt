@@ -1,7 +1,7 @@
 //! The order of pre-releases as texts.
 //!
-//! `semver` orders pre-releases that it has read, each of which has its text in a block of memory of its own. One in
-//! a borrowed text is compared as it stands there.
+//! `semver` orders pre-releases that it has read, each of which has its text in a block of memory of its own. A
+//! pre-release in a borrowed text is compared in place.
 
 ghost use Rattle.std.specs.Prelude.{◌≡◌, ◌≤◌, length};
 ghost use Rattle.std.specs.Cmp.Lexicographic.{slice_cmp};

@@ -15,7 +15,7 @@ pub fn escaped_texts_are_tested()
     ensures { EscapedTextsAreTested }
 {}
 
-/// An escaped text has no upper-case letter, so that escaped texts differ even where case is ignored.
+/// An escaped text has no upper-case letter, so that escaped texts differ even if case is ignored.
 pub fn escaped_is_lower_case()
     ensures { EscapedIsLowerCase }
 {}

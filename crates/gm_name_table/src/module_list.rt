@@ -70,9 +70,9 @@ impl ModuleList {
         self.table.at(number)
     }
 
-    /// Appends the module with these texts, if it is found among those that were put in before, and reports whether it
-    /// was. Few of these aren't found: those `push` appends all the same, without keeping them twice. No text is tested
-    /// again. The only refusal is `NoMemory`, which leaves the list as it was.
+    /// Appends the module with these texts if it finds it among those put in before, and returns whether it did. It
+    /// misses a few; `push` appends these without keeping them twice. No text is tested again. The only refusal is
+    /// `NoMemory`, which leaves the list as it was.
     pub fn push_known(&mut self, path: &str, version: &str) -> Result<bool, NoMemory>
         ensures pushed { IfOk result (λ is_known. is_known ≡ true
             → Appends self.old self.new ((path.now, version.now) ∷ [])) }

@@ -80,8 +80,8 @@ impl Tags {
         self.buckets.get(bucket)?.get(tag)
     }
 
-    /// Makes buckets if there are none yet, and twice as many where there are three numbers for each. Fails only when
-    /// memory runs out. What is kept stays in any case.
+    /// Makes the first buckets, or twice as many if there are three numbers for each. Fails only when memory runs out.
+    /// What is kept stays in any case.
     fn make_room(&mut self) -> Result<(), NoMemory>
         ensures some { OnOk result (0 < length self.new.buckets.items) }
         ensures same { HasSame self.old self.new }

@@ -1,4 +1,4 @@
--- What a look-up shows of a file that was opened: reading up to the limit shows whether there is more.
+-- What a lookup shows of a file that was opened: reading up to the limit shows whether there is more.
 use Rattle.std.proofs.Common.{◌≡◌, ◌+◌, ◌<◌, ◌≤◌, ◌⊎◌, ◌∙◌, ℕ, List, Option, Result, Some, None, Ok, Err, IfOk, IfSome, Vec, Global, ap, arith, inl, inr, length, sym, take}
 use Rattle.std.specs.Prelude.{if◌then◌else◌, nat_le}
 use Rattle.std.proofs.lemmas.Bool.{cases_lt}

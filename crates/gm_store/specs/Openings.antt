@@ -1,4 +1,4 @@
--- What may come of opening a file, and the results of a look-up that opens it.
+-- What may come of opening a file, and the results of a lookup that opens it.
 use Rattle.std.specs.Prelude.{◌≡◌, ◌≢◌, ◌⊎◌, ℕ, List, Option, Some, None, Result, Ok, Err, IfSome, take}
 use Rattle.std.specs.Global.{Vec}
 use Rattle.std.specs.IoError.{error_kind}
@@ -33,7 +33,7 @@ IsReadLookup (Ok bytes) seen = seen ≡ result_for_bytes bytes.items
 IsReadLookup (Err Device) seen = seen ≡ failed
 IsReadLookup (Err NoMemory) seen = ⊥
 
--- The results that a look-up may have. An opened file is never absent: the result is its bytes, or that they are too
+-- The results that a lookup may have. An opened file is never absent: the result is its bytes, or that they are too
 -- many, or a failure if they can't be read.
 abbrev pub MayShow : Opening → Seen → Type 0
 MayShow (opened (Some content)) seen = (seen ≡ result_for_bytes content) ⊎ (seen ≡ failed)

@@ -3,7 +3,7 @@ use Rattle.std.specs.Prelude.{◌≡◌, ◌<◌, ◌≤◌, ◌-◌, ℕ, List,
 use Rattle.std.specs.Io.KnownBytes.{Appends}
 use Rattle.gm_store.specs.Faults.{HasCountedFailure}
 
--- what is known of a sink: the bytes that it took and how many more it can take, where it reports them, and how
+-- what is known of a sink: the bytes that it took and how many more it can take, if it reports them, and how
 -- often it failed
 pub record SinkState : Type 0 where
   pub taken : Option (List ℕ)

@@ -9,8 +9,8 @@ use std::{fs, io, rt};
 
 /// A file system whose files can be opened.
 ///
-/// Files are opened only through this trait, so that a contract can say which file is opened, and what its bytes or the
-/// error give.
+/// Files are opened only through this trait, so that a contract can say which file is opened, and what follows from its
+/// bytes or the error.
 pub trait FileSystem {
     ghost use Rattle.std.specs.Prelude.{List, ℕ};
     ghost use Rattle.gm_store.specs.Openings.{Opening, opening_of};

@@ -107,8 +107,8 @@ pub fn read_limited<R: Read>(alloc: Global, reader: &mut R) -> Result<Vec<u8>, I
     read_by_pieces(alloc, reader, &mut Vec::new(alloc))
 }
 
-/// As `read_limited`, with each read made into `piece`. Whatever that holds before, it may be used again for the next
-/// file: it is made where it is empty, and longer where it was filled.
+/// Reads as `read_limited` does, but into `piece`, which may be passed again for the next file. An empty piece is
+/// allocated; one that a read filled is replaced by a longer one.
 ///
 /// If the bytes are at most `LIMIT`, the room that they don't need is given back.
 pub(crate) fn read_by_pieces<R: Read>(

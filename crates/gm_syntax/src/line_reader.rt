@@ -24,7 +24,7 @@ use std::marker::Model;
 use std::{mem, str};
 
 /// The greatest number of bytes that a file may have. The reference sets no bound. This one limits the memory
-/// that an untrusted file can take, which is up to a hundred times its size where each line has a byte or two.
+/// that an untrusted file can take, which is up to a hundred times its size if each line has a byte or two.
 pub const MAX_BYTES: usize = 16_777_216;
 
 /// A reader of the lines of a go.mod, one after the other.

@@ -46,8 +46,8 @@ impl<V: Drop> NumberMap<V> {
         self.values.len()
     }
 
-    /// Puts a value under a number, instead of any other there. It is refused only if memory runs out; then the value
-    /// is given back, and the map is unchanged.
+    /// Puts a value under a number and replaces any value there. Fails only if memory runs out; then it gives the value
+    /// back, and the map is unchanged.
     pub fn insert(&mut self, number: u64, value: V) -> Result<(), AllocFailed<V>>
         ensures puts { OnOk result (Puts self.old self.new number value) }
         ensures count { OnOk result (count_of self.new ≡ count_of self.old + 1) }

@@ -90,8 +90,8 @@ impl PlaceMap {
         }
     }
 
-    /// Makes buckets if there are none yet, and twice as many where there are two numbers for each. The only refusal
-    /// is `AllocError`, if memory runs out. What the map holds stays in any case.
+    /// Makes the first buckets, or twice as many if there are two numbers for each. The only refusal is `AllocError`,
+    /// if memory runs out. What the map holds stays in any case.
     fn make_room(&mut self) -> Result<(), AllocError>
         ensures some { OnOk result (0 < length self.new.buckets.items) }
         ensures same { (n : ℕ) → place_at self.new n ≡ place_at self.old n }

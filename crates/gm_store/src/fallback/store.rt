@@ -26,7 +26,7 @@ pub struct FallbackStore<F: FolderList> {
     pub(crate) alloc: Global,
     /// The folders.
     pub(crate) folders: F,
-    /// The buffers for look-ups.
+    /// The buffers for lookups.
     pub(crate) buffers: Buffers,
     /// The marks between the proxy folders, one fewer than these.
     pub(crate) marks: Vec<Mark>,

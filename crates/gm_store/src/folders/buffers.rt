@@ -1,10 +1,10 @@
-//! Buffers for look-ups in a file system.
+//! Buffers for lookups in a file system.
 //!
 //! A store keeps them from one request to the next, so a request allocates only what the store keeps of it.
 
 use std::alloc::Global;
 
-/// The buffers that look-ups share. What they hold between look-ups has no meaning.
+/// The buffers that lookups share. What they hold between lookups has no meaning.
 #[derive(Drop)]
 pub struct Buffers {
     /// The path of the file that is looked up.
@@ -14,7 +14,7 @@ pub struct Buffers {
 }
 
 impl Buffers {
-    /// Empty buffers. No memory is allocated before the first look-up.
+    /// Empty buffers. No memory is allocated before the first lookup.
     pub(crate) fn new(alloc: Global) -> Buffers {
         Buffers {
             path: String::new(alloc),

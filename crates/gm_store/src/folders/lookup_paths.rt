@@ -32,7 +32,7 @@ pub(crate) fn set_lookup_path(
     push_relative(place, name)
 }
 
-/// Appends the folder that a name's path is relative to in the look-up in folder number `folder`: nothing for a local
+/// Appends the folder that a name's path is relative to in the lookup in folder number `folder`: nothing for a local
 /// folder whose text is absolute. The only refusal is `NoMemory`.
 fn push_base(
     place: &mut String,

@@ -1,7 +1,7 @@
 //! What a lookup in a file system results in, from the outcomes of opening and reading a file.
 //!
 //! Only a file that the system reports as not found is absent. If other errors counted as absent, the
-//! fallback would continue after a comma, where only an absent file allows that.
+//! fallback would continue after a comma, which only an absent file allows.
 
 ghost use Rattle.std.specs.Prelude.{◌≡◌, IfOk, OnErr};
 ghost use Rattle.gm_store.specs.Asked.{IsWithinLimit};
@@ -15,7 +15,7 @@ use std::alloc::{AllocError, Global};
 use std::io;
 use std::io::{ErrorKind, Read};
 
-/// The result of a look-up, from what came of opening the file at its path. The file is read by pieces into `piece`, at
+/// The result of a lookup, from what came of opening the file at its path. The file is read by pieces into `piece`, at
 /// most `LIMIT + 1` bytes of it.
 ///
 /// The only refusal is `NoMemory`, if the system or reading ran out of memory.

@@ -30,6 +30,7 @@ fn is_pseudo(version: &ModVersion) -> bool
     ensures form { IsTrue result ↔ IsPseudoVersion version.now }
     ensures version { IsVersion version.now }
 {
+    // The clauses of as_str tell the proof that the text is a version.
     let _text = version.as_str();
     pseudo(version).is_some()
 }
