@@ -32,14 +32,14 @@ pub enum DirectiveKind {
     #[error("the version doesn't fit the path")]
     Misfit,
     /// A second `module` or `go` directive.
-    #[error("a second one")]
+    #[error("a second module or go directive")]
     Repeated,
     /// A main file has no `module`. This is a fault of the whole file, at line 0, and is reported only if there is no
     /// other.
     #[error("no module")]
     NoModule,
     /// An earlier `replace` has the same left side and a different right side.
-    #[error("an earlier replace differs")]
+    #[error("conflicts with an earlier replace")]
     ConflictingReplace,
     /// A go version is invalid.
     #[error("not a go version")]
