@@ -1,6 +1,5 @@
 //! Reading one line, which both ways of reading files and the edits of files share.
 
-ghost use Rattle.std.specs.Prelude.{◌≡◌};
 ghost use Rattle.std.specs.Option.{option_map};
 ghost use Rattle.gm_syntax.specs.LineViews.{line_of, plain};
 ghost use Rattle.gm_syntax.specs.Tokens.{words_of};

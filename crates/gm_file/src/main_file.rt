@@ -1,6 +1,6 @@
 //! The main module's file: strict reading, and lookups of replacements and exclusions.
 
-ghost use Rattle.std.specs.Prelude.{◌≡◌, ◌↔◌, IsTrue, IsFalse, IfOk, IfErr, OnOk, OnErr, IsErrOf, None, Some, Contains};
+ghost use Rattle.std.specs.Prelude.{◌≡◌, ◌↔◌, IsTrue, IfOk, IfErr, None, Some, Contains};
 ghost use Rattle.std.specs.Option.{option_map};
 ghost use Rattle.gm_syntax.specs.LineViews.{plain_lines};
 ghost use Rattle.gm_file.specs.Directives.{Strict};

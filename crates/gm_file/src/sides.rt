@@ -1,14 +1,14 @@
 //! Reading the two sides of a `replace` (Go Modules Reference, replace directive). Both sides are split into texts
 //! first, since wrong arguments on either side come before the faults of paths and versions.
 
-ghost use Rattle.std.specs.Prelude.{◌≡◌, ◌+◌, [], length, not, take_while, IfNone, IfSome, Some};
+ghost use Rattle.std.specs.Prelude.{◌≡◌, [], length, not, take_while, IfNone, IfSome, Some};
 ghost use Rattle.std.specs.Option.{option_and_then, option_map};
 ghost use Rattle.std.specs.List.{after_first, before_first};
 ghost use Rattle.std.specs.String.{string_bytes};
 ghost use Rattle.gm_syntax.specs.Tokens.{words_of};
 ghost use Rattle.gm_file.specs.Directives.{folder_right, is_arrow, left_of, left_with, left_without, module_right, pair, replacing, replacing_of, right_of, Folder, Module};
 ghost use Rattle.gm_file.specs.Values.{argument, both};
-ghost use Rattle.gm_file.specs.Faults.{does_left_fit, left_version_kinds, sides_kinds};
+ghost use Rattle.gm_file.specs.Faults.{does_left_fit, left_version_kinds};
 ghost use Rattle.gm_file.specs.Reading.{IsRead, no_kinds, replacing_kinds};
 ghost use Rattle.gm_file.specs.Views.{left_text_view, replace_view, right_text_view};
 

@@ -7,7 +7,7 @@ ghost use Rattle.std.specs.List.{count_by};
 ghost use Rattle.std.specs.Option.{option_map};
 ghost use Rattle.gm_store.specs.Asked.{IsWithinLimit, name_of, reply_of};
 ghost use Rattle.gm_store.specs.Faults.{HasCountedFailure};
-ghost use Rattle.gm_store.specs.Steps.{HasCounted, HasFallenBack, MayStop, counted_up, has_failed, outcome_of, reply_in, result_of, step_of};
+ghost use Rattle.gm_store.specs.Steps.{HasCounted, HasFallenBack, MayStop, counted_up, has_failed, outcome_of, reply_in, result_of};
 ghost use Rattle.gm_store.specs.declared.files.AskFault.TheVariants as ask_fault;
 
 use crate::fallback::proxy_list::Mark;

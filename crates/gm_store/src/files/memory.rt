@@ -3,8 +3,8 @@
 //! It serves commands that read no other file than the one given on standard input, and tests that need neither
 //! several folders nor device failures.
 
-ghost use Rattle.std.specs.Prelude.{◌≡◌, List, [], ◌∷◌, map, Some, None, OnOk, OnErr, IfOk, if◌then◌else◌};
-ghost use Rattle.gm_store.specs.Asked.{IsWithinLimit, Name, name_of, reply_of, same_name};
+ghost use Rattle.std.specs.Prelude.{◌≡◌, [], map, Some, None, OnOk, OnErr, IfOk, if◌then◌else◌};
+ghost use Rattle.gm_store.specs.Asked.{IsWithinLimit, Name, name_of, reply_of};
 
 use crate::files::keeping::keep_answer;
 use crate::files::{Answer, Answered, AskFault, FileName, Files};

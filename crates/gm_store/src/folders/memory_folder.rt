@@ -29,7 +29,7 @@ pub struct MemoryFolder {
 
 impl MemoryFolder {
     ghost use Rattle.gm_store.specs.FoldersInMemory.{file_at, result_at};
-    ghost use Rattle.gm_store.specs.Steps.{absent, reply_in, result_of};
+    ghost use Rattle.gm_store.specs.Steps.{reply_in, result_of};
 
     /// An empty folder.
     pub fn new(alloc: Global) -> MemoryFolder
