@@ -23,19 +23,19 @@ use std::alloc::Global;
 #[derive(Drop)]
 pub struct FallbackStore<F: FolderList> {
     /// The allocator for the kept names and answers.
-    pub(crate) alloc: Global,
+    alloc: Global,
     /// The folders.
-    pub(crate) folders: F,
+    folders: F,
     /// The buffers for lookups.
-    pub(crate) buffers: Buffers,
+    buffers: Buffers,
     /// The marks between the proxy folders, one fewer than these.
-    pub(crate) marks: Vec<Mark>,
+    marks: Vec<Mark>,
     /// The answered requests, in order.
-    pub(crate) asked: Vec<Answered>,
+    asked: Vec<Answered>,
     /// The names whose requests were refused because the device failed, in order.
-    pub(crate) refused: Vec<FileName>,
+    refused: Vec<FileName>,
     /// How often the device has failed. The count saturates.
-    pub(crate) faults: u64,
+    faults: u64,
     // A folder follows each mark, for each name, so the walk can't leave the list.
     ghost between: { (name : Name) → length (marks_for name marks.items) < F.count_for folders name },
 }
