@@ -1,7 +1,7 @@
 //! Reading a document line by line: each line is given away before the next one is read, so that a document can be
 //! read without keeping its lines.
 
-ghost use Rattle.std.specs.Prelude.{◌≡◌, ◌+◌, ◌<◌, ◌≤◌, ◌-◌, ◌^◌, ◌∷◌, ◌++◌, [], ℕ, List, length, drop, IfOk, IfErr, IfSome, IfNone, None, IsSome, OnErr};
+ghost use Rattle.std.specs.Prelude.{◌≡◌, ◌≢◌, ◌+◌, ◌<◌, ◌≤◌, ◌-◌, ◌^◌, ◌∷◌, ◌++◌, [], ℕ, List, length, drop, IfOk, IfErr, IfSome, IfNone, None, IsSome, OnErr};
 ghost use Rattle.gm_syntax.specs.Tokens.{Placed, AreSlicesBetween, AreNumbered};
 ghost use Rattle.gm_syntax.specs.LineViews.{line_of, tokens_of};
 ghost use Rattle.gm_syntax.specs.Lines.{line_len, lines_of, HasNoLineFeed};
@@ -64,7 +64,7 @@ impl<'a> LineReader<'a> {
         ensures source { IfOk result (λ reader. reader.source ≡ bytes.now) }
         ensures start { IfOk result (λ reader. HasRead reader []) }
         ensures fault { IfErr result (λ fault. IsParsedAs bytes.now (Err fault)) }
-        ensures memory { result ≡ Err SyntaxFault.NoMemory → ⊥ }
+        ensures memory { result ≢ Err SyntaxFault.NoMemory }
     {
         if bytes.len() > MAX_BYTES {
             return Err(SyntaxFault::TooMany);
