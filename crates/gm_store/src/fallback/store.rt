@@ -86,8 +86,8 @@ impl<F: FolderList> Files for FallbackStore<F> {
         ensures request { IsRequest (MayAnswerFrom (F.may_find (folders_under self.old)) (marks_between self.old))
             (MayAnswerFrom (F.may_find (folders_under self.new)) (marks_between self.new))
             (state_of self.old) (state_of self.new) (name_of name.now) result }
-        ensures same_folders { (folders_under self.new ≡ folders_under self.old)
-            × (marks_between self.new ≡ marks_between self.old) }
+        ensures same_folders { folders_under self.new ≡ folders_under self.old }
+        ensures same_marks { marks_between self.new ≡ marks_between self.old }
 
         // The answer is that of the folder at which `step` stops. The request fails only if `step` stops at a
         // failure of the device. Failures in the folders before are counted too.
