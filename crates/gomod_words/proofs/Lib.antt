@@ -1,5 +1,6 @@
 pub mod Asked
 mod Commands
+mod Exclusion
 mod Faults
 mod Limits
 mod Queries

@@ -22,7 +22,7 @@ no_proxy None None none known some = cc some
 no_proxy None (Some list) none known some = known
 
 -- the first letters differ
-other_name : codes "list" ≡ codes "edit" → ⊥
+pub other_name : codes "list" ≡ codes "edit" → ⊥
 other_name e = let first : 108 ≡ 101 = ap (λ (text : Text). slice_index text 0) e in absurd (omega (arith, first))
 
 no_command : (rows : List Row) (command : Command) (places : Places) → first_of (codes "proxy") rows ≡ None → Means (codes "list") rows command places → ⊥
@@ -32,7 +32,7 @@ no_command rows (Versions path all) places none meant = cc meant.0
 no_command rows Graph places none meant = cc meant.0
 no_command rows (Chain path) places none meant = cc meant.0
 no_command rows (Rows after limit) places none meant =
-    no_proxy (first_of (codes "proxy") rows) places.proxy none meant.3.0 meant.3.1
+    no_proxy (first_of (codes "proxy") rows) places.proxy none meant.4.0 meant.4.1
 
 no_bad_path : (rows : List Row) (after : Option Text) (text : Text) → first_of (codes "after") rows ≡ after → ((text : Text) → after ≡ Some text → IsPath text)
     → HasBadPath (Some (codes "list", rows)) text → ⊥
@@ -58,7 +58,7 @@ places_fault rows after (Line text) is paths limit known = no_meaning rows after
 places_fault rows after (BadPath text) is paths limit known = absurd known
 places_fault rows after (BadProxy text) is paths limit known = (sound_before rows after is paths limit, known.0, known.1)
 
-some_path : (after : Option Text) (text : Text) → IfSome after IsPath → after ≡ Some text → IsPath text
+pub some_path : (after : Option Text) (text : Text) → IfSome after IsPath → after ≡ Some text → IsPath text
 some_path (Some path) text known is = let same : path ≡ text = cc is in subst IsPath same known
 some_path None text known is = cc is
 

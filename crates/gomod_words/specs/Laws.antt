@@ -5,6 +5,7 @@ use Rattle.gomod_words.specs.Usage.{AskFor, IsFaultOf, IsVersionLine, is_line_or
 use Rattle.gomod_words.specs.declared.usage.Command.{Command}
 use Rattle.gomod_words.specs.declared.usage.Places.{Places}
 use Rattle.gomod_words.specs.declared.usage.UsageFault.{UsageFault}
+use Rattle.gomod_words.specs.declared.usage.UsageFault.TheVariants.{NoMemory}
 
 -- the words ask for the version and for nothing else
 abbrev pub AskForVersion : List Text → Type 0
@@ -26,3 +27,8 @@ VersionIsAsked = (program : Text)
 -- `gomod` alone
 abbrev pub NothingIsAsked : Type 0
 NothingIsAsked = (program : Text) → AreUsageError (program ∷ [])
+
+-- words that ask for a command have no fault, though memory may run out
+abbrev pub CommandsHaveNoFault : Type 0
+CommandsHaveNoFault = (words : List Text) (command : Command) (places : Places) (fault : UsageFault)
+    → AskFor words command places → IsFaultOf words fault → fault ≡ NoMemory

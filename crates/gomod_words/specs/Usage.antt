@@ -1,6 +1,6 @@
 -- What the words of a command line mean: the table of commands that the parser is given, the command that its
 -- entries stand for, and the faults of words that have no meaning.
-use Rattle.std.specs.Prelude.{◌≡◌, ◌≢◌, ◌⊎◌, ◌||◌, ◌∷◌, ◌++◌, not, ℕ, Bool, List, [], Option, Some, None, true, false, codes, encode_utf8_all, flat_map, is_some, map, option_map, unwrap_or, String}
+use Rattle.std.specs.Prelude.{◌≡◌, ◌≢◌, ◌⊎◌, ◌||◌, ◌∷◌, ◌++◌, not, ℕ, Bool, IfSome, List, [], Option, Some, None, true, false, codes, encode_utf8_all, flat_map, is_some, map, option_map, unwrap_or, String}
 use Rattle.std.specs.Char.Escape.{escape_ascii}
 use Rattle.std.specs.List.{list_all}
 use Rattle.std.specs.Option.{option_map_or}
@@ -143,10 +143,11 @@ abbrev pub texts_in : Vec (String Global) → List Text
 texts_in texts = map string_bytes texts.items
 
 -- The command and the places that a command's name and its entries stand for. All versions are asked for if
--- `--retracted` is given or if there is no proxy.
+-- `--retracted` is given or if there is no proxy. PATH and the value of `--after` must be paths.
+-- The type doesn't say so here: in a definition a `ModPath` is its text.
 abbrev pub Means : Text → List Row → Command → Places → Type 0
 Means name rows (Versions path all) places =
-    (name ≡ codes "versions") × (first_of (codes "path") rows ≡ Some path)
+    (name ≡ codes "versions") × (first_of (codes "path") rows ≡ Some path) × IsPath path
     × IsProxy (first_of (codes "proxy") rows) places.proxy
     × (all ≡ (is_given (codes "retracted") rows || not (is_some places.proxy)))
     × (string_bytes places.main ≡ codes "go.mod") × (places.sums ≡ None)
@@ -158,10 +159,10 @@ Means name rows (Edit operations) places =
     × (all_of (codes "op") rows ≡ Some (texts_in operations)) × (places.proxy ≡ None) × (places.sums ≡ None)
 Means name rows Graph places = (name ≡ codes "graph") × ArePlaces rows places
 Means name rows (Rows after limit) places =
-    (name ≡ codes "list") × (first_of (codes "after") rows ≡ after)
+    (name ≡ codes "list") × (first_of (codes "after") rows ≡ after) × IfSome after IsPath
     × IsLimit (first_of (codes "limit") rows) limit × ArePlaces rows places
 Means name rows (Chain path) places =
-    (name ≡ codes "chain") × (first_of (codes "path") rows ≡ Some path) × ArePlaces rows places
+    (name ≡ codes "chain") × (first_of (codes "path") rows ≡ Some path) × IsPath path × ArePlaces rows places
 
 -- what the parser's entries stand for, if there is a command
 abbrev pub IsMeant : Option (Text × List Row) → Command → Places → Type 0
