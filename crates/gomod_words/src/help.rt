@@ -63,8 +63,8 @@ Exit status:
   2  usage error
   3  a file can't be read, the output can't be written, or memory runs out
 
-With any status but 0, standard error says what is wrong. 'gomod <COMMAND> --help' explains the
-errors of each command.";
+After an error standard error says what is wrong, unless it is a failed write.
+'gomod <COMMAND> --help' explains the errors of each command.";
 
 /// The long text about `fmt`.
 pub(crate) const FMT_ABOUT: &str = "\
