@@ -319,7 +319,7 @@ IsVersionLine NoMemory = Unit {0}
 IsVersionLine (Version text) = string_bytes text ≡ version_line
 IsVersionLine _ = ⊥
 
--- a word as it is shown where it is not UTF-8: each byte that prints as itself, and any other by its code, as `\xe9`
+-- a word as it is shown if it is not UTF-8: each byte that prints as itself, and any other by its code, as `\xe9`
 abbrev pub shown_bytes : List ℕ → List ℕ
 shown_bytes word = flat_map (λ b. encode_utf8_all (escape_ascii b)) word
 

@@ -93,39 +93,45 @@ The operations are those of go mod edit, without the dash in front:
   dropretract=VERSION                   no longer retract it
   dropretract=[LOW,HIGH]                no longer retract them";
 
+/// The long text about a query on a module graph: what it prints, and where the go.mod files come from.
+macro_rules! query_about {
+    ($prints:literal) => {
+        concat!(
+            $prints,
+            "
+
+The go.mod files of other modules are read from the proxy folders, or from the folders that
+replace directives name. A cache that only go build filled may lack some of them. They are then
+Missing, and 'go mod download' in the folder of the main module adds them to the cache, and their
+hashes to its go.sum."
+        )
+    };
+}
+
 /// The long text about `graph`.
-pub(crate) const GRAPH_ABOUT: &str = "\
+pub(crate) const GRAPH_ABOUT: &str = query_about!(
+    "\
 Prints the module graph of a main module, as go mod graph does: a line for each requirement, with
 the module that has it, a space, and the module that it requires, in ascending order. The main
-module is printed as its path, any other as PATH@VERSION.
-
-The go.mod files of other modules are read from the proxy folders, or from the folders that
-replace directives name. A cache that only go build filled may lack some of them. They are then
-Missing, and 'go mod download' in the folder of the main module adds them to the cache, and their
-hashes to its go.sum.";
+module is printed as its path, any other as PATH@VERSION."
+);
 
 /// The long text about `list`.
-pub(crate) const LIST_ABOUT: &str = "\
+pub(crate) const LIST_ABOUT: &str = query_about!(
+    "\
 Prints the build list of a main module by minimal version selection, as go list -m all does: the
 path of the main module, then PATH VERSION of each other module, in the order of their paths. If
-a module is replaced, ' => ' and its replacement follow.
-
-The go.mod files of other modules are read from the proxy folders, or from the folders that
-replace directives name. A cache that only go build filled may lack some of them. They are then
-Missing, and 'go mod download' in the folder of the main module adds them to the cache, and their
-hashes to its go.sum.";
+a module is replaced, ' => ' and its replacement follow."
+);
 
 /// The long text about `chain`.
-pub(crate) const CHAIN_ABOUT: &str = "\
+pub(crate) const CHAIN_ABOUT: &str = query_about!(
+    "\
 Prints a shortest chain of requirements from the main module to the version of a module that is
 in the build list, one module on each line: the path of the main module, then PATH@VERSION. A
 main module at go 1.17 or later requires its indirect dependencies itself, so the chain to one of
-them has two lines. It is not the chain of imports that go mod why prints.
-
-The go.mod files of other modules are read from the proxy folders, or from the folders that
-replace directives name. A cache that only go build filled may lack some of them. They are then
-Missing, and 'go mod download' in the folder of the main module adds them to the cache, and their
-hashes to its go.sum.";
+them has two lines. It is not the chain of imports that go mod why prints."
+);
 
 /// The long text about `versions`.
 pub(crate) const VERSIONS_ABOUT: &str = "\

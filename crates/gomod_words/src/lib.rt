@@ -1,4 +1,4 @@
-//! What the words of a command line ask for.
+//! What the arguments of a command line ask for.
 //!
 //! A parser of command lines splits the words into options and values. This crate gives the parser its table
 //! of commands and turns what it finds into a `Command` and the `Places` that it works on. Module paths,

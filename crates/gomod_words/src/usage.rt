@@ -75,8 +75,8 @@ pub enum UsageFault {
     /// The version was asked for. This is the line that says it.
     #[error("{0}")]
     Version(String),
-    /// The words are not a valid command line. This text says what is wrong with them. Where there are no words but
-    /// the program's name, it is the help of the program.
+    /// The words are not a valid command line. This text says what is wrong with them. If there are no words but the
+    /// program's name, it is the help of the program.
     #[error("{0}")]
     Line(String),
     /// This word is not a module path, and one is required in its position.
@@ -369,7 +369,7 @@ fn unreadable_message(alloc: Global, word: &[u8]) -> Result<String, AllocError>
     Ok(message)
 }
 
-/// The bytes as they are shown where they are not UTF-8.
+/// The bytes as they are shown if they are not UTF-8.
 fn shown(alloc: Global, bytes: &[u8]) -> Result<String, AllocError>
     ensures { IfOk result (λ text. string_bytes text ≡ shown_bytes bytes.now) }
 {
