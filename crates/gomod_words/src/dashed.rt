@@ -3,7 +3,7 @@
 
 ghost use Rattle.std.specs.Prelude.{◌≡◌, map};
 ghost use Rattle.std.specs.List.{find};
-ghost use Rattle.std.specs.Option.{option_map};
+ghost use Rattle.std.specs.Option.{option_copied};
 ghost use Rattle.clap.specs.Lexer.{strip_byte, without_minus};
 ghost use Rattle.gomod_words.specs.Usage.{IsLineOf, dashed_text};
 ghost use Rattle.gomod_words.specs.Dashed.{begins_with_dash, dashed_in, edit_takes, operation_in};
@@ -29,7 +29,7 @@ fn edit_takes(word: &str) -> bool
 
 /// What follows a first dash.
 fn strip_dash(word: &str) -> Option<&str>
-    ensures { option_map (λ text. text.now) result ≡ strip_byte 45 word.now }
+    ensures { option_copied result ≡ strip_byte 45 word.now }
 {
     word.strip_prefix('-')
 }
@@ -46,7 +46,7 @@ fn without_dash(word: &str) -> &str
 
 /// The operation that a word with a dash stands for, or `None` if it is for the parser.
 fn operation_in(word: &str) -> Option<&str>
-    ensures { option_map (λ text. text.now) result ≡ operation_in word.now }
+    ensures { option_copied result ≡ operation_in word.now }
 {
     if edit_takes(word) {
         None
@@ -57,7 +57,7 @@ fn operation_in(word: &str) -> Option<&str>
 
 /// The first word that begins with a dash and is more than that.
 fn first_with_dash<'a>(words: &[&'a str]) -> Option<&'a str>
-    ensures { option_map (λ word. word.now) result ≡ find begins_with_dash (map (λ word. word.now) words.now) }
+    ensures { option_copied result ≡ find begins_with_dash (map (λ word. word.now) words.now) }
 {
     words.iter().copied().find(|word| begins_with_dash(*word))
 }
@@ -65,7 +65,7 @@ fn first_with_dash<'a>(words: &[&'a str]) -> Option<&'a str>
 /// The operation that the words of a command line have with a dash in front, or `None` if the parser is to read them.
 /// The first word is the program's name.
 pub(crate) fn dashed_in<'a>(words: &[&'a str]) -> Option<&'a str>
-    ensures { option_map (λ text. text.now) result ≡ dashed_in (map (λ word. word.now) words.now) }
+    ensures { option_copied result ≡ dashed_in (map (λ word. word.now) words.now) }
 {
     let [_, name, rest @ ..] = words else {
         return None;
