@@ -3,10 +3,11 @@
 //! The vertices are sorted once. From then on a vertex is its rank, its place in the sorted list, so that edges are in
 //! order if their ranks are.
 
-ghost use Rattle.std.specs.Prelude.{◌≡◌, ◌↔◌, ◌⊎◌, ◌≤◌, Contains, IfOk, length};
+ghost use Rattle.std.specs.Prelude.{◌≡◌, ◌↔◌, ◌⊎◌, ◌≤◌, Contains, IfOk, List, length};
 ghost use Rattle.std.specs.List.{IsDistinct};
 ghost use Rattle.gm_name.specs.ModuleVersion.{ModuleVersion, pair_eq};
 ghost use Rattle.gm_graph_select.specs.Adjacency.{HaveNumbers, edges_of, same_step, sources_of};
+ghost use Rattle.gm_graph_select.specs.declared.step.Edge.{Edge};
 ghost use Rattle.gm_graph_select.specs.declared.step.Step.TheVariants.{Of};
 ghost use Rattle.gm_graph_select.specs.BuildList.{AreSelected};
 ghost use Rattle.gm_graph_select.specs.Graph.{AreEnds, IsEdgeEnd, among, edge_cmp};
@@ -81,8 +82,8 @@ impl Graph {
     /// module's comes once, at its greatest version, in ascending order of the bytes of the path. That is minimal
     /// version selection if an edge leads to each vertex. It takes no memory.
     pub fn selected<'a>(&'a self, main: &'a ModPath) -> Selection<'a>
-        ensures { AreEnds self.now.vertices (among self.now.edges)
-            → AreSelected main.now (among self.now.edges) result }
+        ensures { (edges : List Edge) → AreEnds self.now.vertices (among edges)
+            → AreSelected main.now (among edges) result }
     {
         Selection::among(main, &self.vertices)
     }

@@ -8,10 +8,10 @@ use Rattle.gm_graph_select.proofs.LastVersions.{are_selected}
 use Rattle.gm_graph_select.proofs.graph.Graph.selected.Goals as goal
 
 pub returns : goal.returns
-returns c = λ are.
+returns c = λ given are.
     let main = c.args.main.now in
     let all = c.self.inside.vertices.items in
-    let edges = among c.args.self.now.edges in
+    let edges = among given in
     subst (λ (xs : List ModuleVersion). AreSelected main edges xs) (sym c.among.ensures)
     (subst (λ (xs : List ModuleVersion). AreSelected main edges (greatest_of main xs)) (sym c.deref.ensures.value)
     (are_selected main all c.self.invariant.vertices_ascend edges (subst (λ (g : GraphView). AreEnds g.vertices edges) (sym c.self.view_is) are)))
