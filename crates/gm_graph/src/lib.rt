@@ -13,8 +13,8 @@
 //! The file of `a` is read, so there is an edge to `b`, and `b` is in the build list. The file of `b` is not read.
 //! If the file of `a` had go 1.16, the file of `b` would be read too, and so would those of all its dependencies.
 //!
-//! Modules whose files are read are called opened here. Exactly the files of opened modules are asked for, each
-//! once.
+//! Modules whose files are needed are called opened here. Exactly those of their files that may be asked for are asked
+//! for, each once.
 #![tactic(auto)]
 
 mod fault;

@@ -10,7 +10,7 @@ ghost use Rattle.gm_graph.specs.Outcome.{AreReached};
 use crate::fault::Fault;
 use gm_graph_cache::Turn;
 use gm_graph_select::{ChainFault, Edges, Graph, NotListed, Row, Rows, Step};
-use gm_name::{ModPath, NoMemory};
+use gm_name::ModPath;
 use std::alloc::Global;
 use std::marker::Model;
 
@@ -36,7 +36,13 @@ impl Model for Loaded {
 
     ghost Value = { LoadedGraph };
 
-    ghost view = { λ l. record { main = l.main; faults = l.faults.items; edges = l.graph.edges; rows = entries_of_rows l.rows.items; turns = l.turns.items } };
+    ghost view = { λ l. record {
+      main = l.main;
+      faults = l.faults.items;
+      edges = l.graph.edges;
+      rows = entries_of_rows l.rows.items;
+      turns = l.turns.items;
+    } };
 
     ghost invariant = { λ l. AreReached l.graph.edges (entries_of_rows l.rows.items) };
 }

@@ -106,8 +106,8 @@ fn assemble(
 /// and the build list (Go Modules Reference, "Minimal version selection" and "Module graph pruning"). Nothing may
 /// have been asked of the store before.
 ///
-/// Exactly the files of the opened vertices are asked for, each once. If there is a go.sum, the files of proxies
-/// are checked against it.
+/// Exactly the files of the opened vertices that may be asked for are asked for, each once. If there is a go.sum, the
+/// files of proxies are checked against it.
 ///
 /// `Device` is returned if the store's device fails when it is asked for that file, and `TooMany` only if more than
 /// 65,536 vertices are opened; with `Ok` at most that many are. `NoMemory` may be returned in place of any other

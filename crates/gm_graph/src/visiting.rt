@@ -1,6 +1,6 @@
 //! One visit of the worklist: what reading one vertex adds to the worklist and to the graph.
 
-ghost use Rattle.std.specs.Prelude.{◌≡◌, ◌<◌, ◌++◌, ◌∷◌, [], OnOk, Ok, Err, length};
+ghost use Rattle.std.specs.Prelude.{◌≡◌, ◌<◌, ◌++◌, ◌∷◌, [], OnOk, Err, length};
 ghost use Rattle.gm_name.specs.ModuleVersion.{ModuleVersion};
 ghost use Rattle.gm_store.specs.Asked.{name_of};
 ghost use Rattle.gm_store.specs.States.{HasServed};
@@ -26,7 +26,7 @@ fn lender(finding: &Finding) -> Option<u32>
     }
 }
 
-/// Whether the requirements of a vertex of which this was found are opened as well, in a visit to this depth.
+/// Whether a visit to this depth also opens what the vertex requires. `finding` is what was found of the vertex.
 fn leads_on(cache: &Cache<'_>, depth: Depth, finding: &Finding) -> bool
     requires { (x : ModuleVersion) × IsFinding cache.now x finding.now }
     ensures { (x : ModuleVersion) → IsFinding cache.now x finding.now

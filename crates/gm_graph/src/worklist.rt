@@ -16,7 +16,7 @@ use gm_graph_cache::{Depth, Lent, LoadFault};
 use std::alloc::AllocError;
 
 /// The most vertices that are opened. Loading a larger graph is refused with `TooMany`.
-pub(crate) const MOST: usize = 65_536;
+const MOST: usize = 65_536;
 
 /// Why a turn was not added.
 #[derive(Drop)]
@@ -48,7 +48,7 @@ impl From<AddFault> for LoadFault {
     }
 }
 
-/// How many vertices have a turn once one with these marks has one more.
+/// How many vertices have a turn after a vertex with these marks gets one more.
 fn opened_with(opened: usize, marks: Marks) -> usize
     requires { opened ≤ 65536 }
     ensures { result ≡ (if marks.top || marks.deep then opened else opened + 1) }

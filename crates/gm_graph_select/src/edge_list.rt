@@ -1,6 +1,6 @@
 //! The edges of adjacency lists, one after the other, without a copy of any module.
 
-ghost use Rattle.std.specs.Prelude.{◌≡◌, ◌∷◌, ◌<◌, [], IfNone, IfOk, IfSome, length};
+ghost use Rattle.std.specs.Prelude.{◌≡◌, ◌∷◌, [], IfNone, IfOk, IfSome, length};
 ghost use Rattle.std.specs.Iterator.{YieldsFirst, YieldsFirstBy, item_count};
 ghost use Rattle.gm_graph_select.specs.Adjacency.{HaveNumbers, IsBelow, edges_of, step_with};
 ghost use Rattle.gm_graph_select.specs.EdgeList.{edge_of_ref, numbered_edges, step_of_ref};
@@ -105,7 +105,8 @@ impl<'a> EdgeRef<'a> {
     }
 }
 
-/// Edges in order, which a clause sees as the list of those that are still to come. It takes no memory.
+/// An iterator over edges, in order. It takes no memory. A clause sees it as the list of the edges that are still to
+/// come.
 #[derive(Drop)]
 pub struct Edges<'a> {
     /// The vertices of the graph.

@@ -1,7 +1,7 @@
 //! What follows from a module graph's edges: the build list and shortest chains of requirements.
 //!
 //! The rules are those of the Go Modules Reference ("Minimal version selection",
-//! <https://go.dev/ref/mod#minimal-version-selection>). `rest_after` gives the rest of a build list after an entry.
+//! <https://go.dev/ref/mod#minimal-version-selection>).
 //!
 //! An edge leads from the main module, or from a module path at a version, to a module path at a version that it
 //! requires. Minimal version selection takes, for each path, the greatest version that any edge leads to. The chain

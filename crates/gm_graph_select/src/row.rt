@@ -27,7 +27,7 @@ pub struct Row {
 #[error("not in the build list")]
 pub struct NotListed;
 
-/// Rows in order, which a clause sees as the list of the rows that are still to come. It takes no memory.
+/// An iterator over rows, in order. It takes no memory. A clause sees it as the list of the rows that are still to come.
 #[derive(Drop)]
 pub struct Rows<'a> {
     /// The rows that are still to come.
@@ -69,7 +69,7 @@ impl<'a> Rows<'a> {
 }
 
 /// The path of a step.
-pub(crate) fn path_of<'a>(main: &'a ModPath, step: &'a Step) -> &'a ModPath
+fn path_of<'a>(main: &'a ModPath, step: &'a Step) -> &'a ModPath
     ensures { result.now ≡ path_of main.now step.now }
 {
     match step {

@@ -49,7 +49,8 @@ fn first_selected<'a>(main: &ModPath, vertices: &'a [ModVer]) -> Option<(&'a Mod
     None
 }
 
-/// The selected modules in order, which a clause sees as the list of those that are still to come. It takes no memory.
+/// An iterator over the selected modules, in order. It takes no memory. A clause sees it as the list of the modules
+/// that are still to come.
 #[derive(Drop)]
 pub struct Selection<'a> {
     /// The main module's path.
