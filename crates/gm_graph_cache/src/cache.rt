@@ -3,7 +3,7 @@
 //! It exists so that each file is asked for and parsed once, however many vertices and turns need it. The test of
 //! the declared path depends on the vertex, not on the file alone, and is therefore repeated for each vertex.
 
-ghost use Rattle.std.specs.Prelude.{◌≡◌, ◌≤◌, ◌<◌, ◌++◌, ◌∷◌, [], List, IfOk, OnOk, OnErr, MatchOption, None, Some, Ok, Err, length, take, true};
+ghost use Rattle.std.specs.Prelude.{◌≡◌, ◌≤◌, ◌<◌, ◌++◌, ◌∷◌, [], IfOk, OnOk, OnErr, MatchOption, None, Err, length, take, true};
 ghost use Rattle.std.specs.Option.{option_copied};
 ghost use Rattle.gm_name.specs.ModuleVersion.{ModuleVersion};
 ghost use Rattle.gm_name_table.specs.Listed.{listed};
@@ -53,7 +53,7 @@ pub struct Cache<'a> {
     names: KnownNames,
     /// The requirements of the main file and of all that were read, one file after another. All modules have numbers.
     modules: ModuleList,
-    /// The list begins with so many requirements of the main file: those that it doesn't exclude.
+    /// How many modules at the front of the list are requirements of the main file, without the excluded ones.
     first: usize,
     /// What was read of each file, or what is wrong with it.
     files: FileTable,
@@ -66,7 +66,7 @@ pub struct Cache<'a> {
     ghost has_replacing: { HasReplacing (main_of main.now) files },
 }
 
-/// Known names, as many as are read, with the paths that a main file requires.
+/// A table of names without a limit, which knows the paths that the main file requires.
 fn names_for(alloc: Global, main: &MainFile) -> Result<KnownNames, NoMemory> {
     let mut names = KnownNames::new(alloc, usize::MAX);
     for y in main_view::requirements(main) {
@@ -93,8 +93,7 @@ fn first_modules(alloc: Global, main: &MainFile) -> Result<ModuleList, NoMemory>
 fn expect_path(names: &mut KnownNames, name: &FileName) -> Result<(), NoMemory> {
     match name {
         FileName::Mod(path, _) => names.expect(path),
-        FileName::Folder(_) => Ok(()),
-        FileName::List(_) => Ok(()),
+        FileName::Folder(_) | FileName::List(_) => Ok(()),
     }
 }
 
@@ -362,13 +361,6 @@ impl<'a> Cache<'a> {
             → result ≡ is_unpruned (readings_by (main_in self.now) (held_of self.now)) x }
     {
         self.files.at(place).is_unpruned()
-    }
-
-    /// The vertices and depths whose requirements were requested, in order.
-    pub fn turns(&self) -> &[Turn]
-        ensures { result.now ≡ turns_in self.now }
-    {
-        self.turns.as_slice()
     }
 
     /// The modules in the order of their numbers, and the list of turns. The rest of the cache is dropped.

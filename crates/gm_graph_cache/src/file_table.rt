@@ -16,7 +16,7 @@ use gm_store::FileName;
 use std::alloc::{AllocError, Global};
 use std::collections::BTreeMap;
 
-/// The number that stands for no place.
+/// The number that stands for no place. It keeps an entry at four bytes, half of an `Option<u32>`.
 const NO_PLACE: u32 = 4_294_967_295;
 
 /// What is kept of the files that were read.

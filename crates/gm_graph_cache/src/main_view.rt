@@ -51,7 +51,7 @@ pub(crate) fn is_excluded(main: &MainFile, x: &ModVer) -> bool
 pub(crate) fn is_pruned(go: (u32, u32)) -> bool
     ensures { result ≡ is_pruned_by go }
 {
-    go.0 > 1 || go.0 == 1 && go.1 >= 17
+    go >= (1, 17)
 }
 
 /// Whether the main file is pruned.

@@ -40,7 +40,6 @@ pub(crate) fn is_askable(name: &FileName) -> bool
 {
     match name {
         FileName::Mod(path, _) => path.is_fetchable(),
-        FileName::Folder(_) => true,
-        FileName::List(_) => true,
+        FileName::Folder(_) | FileName::List(_) => true,
     }
 }

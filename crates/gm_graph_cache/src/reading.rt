@@ -25,7 +25,7 @@ pub enum FileReading {
     Faulty(Class),
 }
 
-/// What a file says whose requirements were put into the list of modules, or what is wrong with it.
+/// What a file says other than its requirements, which are in the list of modules, or what is wrong with it.
 #[derive(Drop)]
 pub(crate) enum ListedReading {
     /// The file is valid, and says this beside its requirements.
@@ -72,8 +72,7 @@ fn sum_fault(sums: Option<&SumTable>, name: &FileName, content: &[u8]) -> Option
     let table = sums?;
     match name {
         FileName::Mod(path, version) => class_of(table.check_content(path, version, content)),
-        FileName::Folder(_) => None,
-        FileName::List(_) => None,
+        FileName::Folder(_) | FileName::List(_) => None,
     }
 }
 
@@ -100,8 +99,8 @@ fn malformed(line: usize, kind: Misreading) -> Class
     Class::Malformed { line, kind }
 }
 
-/// What a dependency's file with these bytes says, which go to the end of the list of modules, or why they can't be
-/// read. The only refusal is `NoMemory`.
+/// Reads a dependency's file, and puts its requirements at the end of the list of modules. The result is what else it
+/// says, or why it can't be read. The only refusal is `NoMemory`.
 fn read_content(
     alloc: Global,
     names: &mut KnownNames,

@@ -66,23 +66,23 @@ fn has_excluded(main: &MainFile, mut list: Modules<'_>) -> bool
 
 /// Copies of those that are not excluded.
 fn copy_kept(alloc: Global, main: &MainFile, list: Modules<'_>) -> Result<Vec<ModVer>, NoMemory>
-    ensures { IfOk result (λ some. some.items ≡ without_excluded (main_of main.now) list.entry) }
+    ensures { IfOk result (λ kept. kept.items ≡ without_excluded (main_of main.now) list.entry) }
 {
-    let mut some = Vec::new(alloc);
+    let mut kept = Vec::new(alloc);
     for x in list {
         if !is_excluded(main, x) {
-            some.push(x.copy(alloc)?)?;
+            kept.push(x.copy(alloc)?)?;
         }
     }
-    Ok(some)
+    Ok(kept)
 }
 
 /// Appends modules to the list. The only refusal is `NoMemory`, after which the list may have some of them.
-fn append(modules: &mut ModuleList, some: &[ModVer]) -> Result<(), NoMemory>
-    ensures ok { OnOk result (Appends modules.old modules.new some.now) }
+fn append(modules: &mut ModuleList, more: &[ModVer]) -> Result<(), NoMemory>
+    ensures ok { OnOk result (Appends modules.old modules.new more.now) }
     ensures grows { Grows modules.old modules.new }
 {
-    for x in some {
+    for x in more {
         modules.push(x)?;
     }
     Ok(())
@@ -112,8 +112,8 @@ pub(crate) fn summary_of(
             kept: all,
         });
     }
-    let some = copy_kept(alloc, main, modules.part(start, end))?;
-    append(modules, &some)?;
+    let others = copy_kept(alloc, main, modules.part(start, end))?;
+    append(modules, &others)?;
     let kept = ListSpan {
         start: end,
         end: modules.len(),
