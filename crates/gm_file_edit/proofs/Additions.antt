@@ -1,16 +1,14 @@
 -- Where an operation puts a new entry.
 use Rattle.std.proofs.Common.{◌≡◌, ℕ, ◌||◌, Bool, true, false, List, [], ◌∷◌, ◌++◌, length, Option, Some, None, is_some, refl, ap, subst, ◌∙◌}
-use Rattle.std.specs.Prelude.{suc, insert}
+use Rattle.std.specs.Prelude.{suc, codes, insert}
 use Rattle.std.specs.List.{list_any}
 use Rattle.gm_syntax.specs.Tokens.{Placed}
 use Rattle.gm_syntax.specs.Document.{Line, Blank}
 use Rattle.gm_file.specs.Directives.{Directive, block_after_line, block_after_lines}
-use Rattle.gm_file_edit.specs.declared.adding.AddedVerb.{AddedVerb}
-use Rattle.gm_file_edit.specs.declared.adding.AddedVerb.TheVariants as verb
 use Rattle.gm_file_edit.specs.declared.adding.Spot.{Spot}
 use Rattle.gm_file_edit.specs.Edits.{Edit, Set, ModuleIs, GoIs, RequireAt, Drop, Add, Exclude, ReplaceWith, Retract}
 use Rattle.gm_file_edit.specs.About.{about}
-use Rattle.gm_file_edit.specs.Adding.{added, added_at, is_of, spot_after_last, verb_text}
+use Rattle.gm_file_edit.specs.Adding.{added, added_at, spot_after_last}
 use Rattle.gm_file_edit.specs.NewWords.{entry_at, single}
 use Rattle.gm_file_edit.specs.Edited.{edited}
 use Rattle.gm_file_edit.specs.Pass.{edited_by_pass, put_in}
@@ -18,6 +16,7 @@ use Rattle.gm_file_edit.specs.EditLaws.{AdditionFollowsItsVerb, AdditionOfANewVe
 use Rattle.gm_file_edit.specs.Holding.{directive_at, passes}
 use Rattle.gm_file_edit.specs.Laws.{directives_of}
 use Rattle.gm_file_edit.specs.Searching.{is_there, is_there_from}
+use Rattle.gm_file_edit.specs.Verbs.{is_require}
 use Rattle.gm_file_edit.proofs.Idle.{there-said}
 use Rattle.gm_file_edit.proofs.BySections.{edited-is-pass}
 
@@ -58,14 +57,14 @@ pub added-at-end : (test : Directive → Bool) (text : List ℕ) (arguments : Li
 unfolding added
 added-at-end test text arguments lines none = ap (added_at text arguments lines) (no-spot test None lines none)
 
-abbrev verb_or_require : Option AddedVerb → AddedVerb
-verb_or_require None = verb.Require
+abbrev verb_or_require : Option ((Directive → Bool) × List ℕ) → (Directive → Bool) × List ℕ
+verb_or_require None = (is_require, codes "require")
 verb_or_require (Some v) = v
 
-abbrev AddsOf : Edit → List (Line Placed) → AddedVerb → Type 0
-AddsOf edit lines v = put_in edit lines ≡ added (is_of v) (verb_text v) (arguments_added edit) lines
+abbrev AddsOf : Edit → List (Line Placed) → (Directive → Bool) × List ℕ → Type 0
+AddsOf edit lines v = put_in edit lines ≡ added v.0 v.1 (arguments_added edit) lines
 
-put-is : (edit : Edit) (v : AddedVerb) (lines : List (Line Placed)) → verb_added edit ≡ Some v → AddsOf edit lines v
+put-is : (edit : Edit) (v : (Directive → Bool) × List ℕ) (lines : List (Line Placed)) → verb_added edit ≡ Some v → AddsOf edit lines v
 unfolding put_in
 put-is (Set (ModuleIs path)) v lines e = absurd cc
 put-is (Set (GoIs text)) v lines e = absurd cc
@@ -75,21 +74,21 @@ put-is (Add (Exclude p)) v lines e = subst (AddsOf (Add (Exclude p)) lines) (ap 
 put-is (Set (ReplaceWith r)) v lines e = subst (AddsOf (Set (ReplaceWith r)) lines) (ap verb_or_require e) refl
 put-is (Add (Retract ends)) v lines e = subst (AddsOf (Add (Retract ends)) lines) (ap verb_or_require e) refl
 
-pass-added : (edit : Edit) (v : AddedVerb) (lines : List (Line Placed)) → verb_added edit ≡ Some v → list_any (about edit) (directives_of lines) ≡ false
-    → edited_by_pass edit lines ≡ added (is_of v) (verb_text v) (arguments_added edit) lines
+pass-added : (edit : Edit) (v : (Directive → Bool) × List ℕ) (lines : List (Line Placed)) → verb_added edit ≡ Some v → list_any (about edit) (directives_of lines) ≡ false
+    → edited_by_pass edit lines ≡ added v.0 v.1 (arguments_added edit) lines
 unfolding edited_by_pass
 pass-added edit v lines adds none =
     let absent : is_there (about edit) lines ≡ false = there-said (about edit) lines ∙ none in
     rw absent (put-is edit v lines adds)
 
-pub edited-added : (edit : Edit) (v : AddedVerb) (lines : List (Line Placed)) → verb_added edit ≡ Some v → list_any (about edit) (directives_of lines) ≡ false
-    → edited edit lines ≡ added (is_of v) (verb_text v) (arguments_added edit) lines
-edited-added edit v lines adds none = edited-is-pass edit lines ∙ pass-added edit v lines adds none
+pub edited-added : (edit : Edit) (test : Directive → Bool) (verb : List ℕ) (lines : List (Line Placed)) → verb_added edit ≡ Some (test, verb) → list_any (about edit) (directives_of lines) ≡ false
+    → edited edit lines ≡ added test verb (arguments_added edit) lines
+edited-added edit test verb lines adds none = edited-is-pass edit lines ∙ pass-added edit (test, verb) lines adds none
 
 pub addition-follows : AdditionFollowsItsVerb
-addition-follows edit v front back line adds none is =
-    edited-added edit v (front ++ line ∷ back) adds none ∙ added-after-last (is_of v) (verb_text v) (arguments_added edit) front back line is.is_of_verb is.none_later
+addition-follows edit test verb front back line adds none is =
+    edited-added edit test verb (front ++ line ∷ back) adds none ∙ added-after-last test verb (arguments_added edit) front back line is.is_of_verb is.none_later
 
 pub addition-last : AdditionOfANewVerbIsLast
-addition-last edit v lines adds none new =
-    edited-added edit v lines adds none ∙ added-at-end (is_of v) (verb_text v) (arguments_added edit) lines (there-said (is_of v) lines ∙ new)
+addition-last edit test verb lines adds none new =
+    edited-added edit test verb lines adds none ∙ added-at-end test verb (arguments_added edit) lines (there-said test lines ∙ new)

@@ -242,12 +242,12 @@ abbrev edit_or : Edit → Option Edit → Edit
 edit_or other None = other
 edit_or other (Some edit) = edit
 
-abbrev verb_or : AddedVerb → Option AddedVerb → AddedVerb
+abbrev verb_or : (Directive → Bool) × List ℕ → Option ((Directive → Bool) × List ℕ) → (Directive → Bool) × List ℕ
 verb_or other None = other
 verb_or other (Some v) = v
 
-abbrev Undoes : Edit → List (Line Placed) → AddedVerb → Edit → Type 0
-Undoes edit lines v undo = edited undo (edited edit lines) ≡ (if list_any (is_of v) (directives_of lines) then lines else lines ++ Blank ∷ [])
+abbrev Undoes : Edit → List (Line Placed) → (Directive → Bool) → Edit → Type 0
+Undoes edit lines test undo = edited undo (edited edit lines) ≡ (if list_any test (directives_of lines) then lines else lines ++ Blank ∷ [])
 
 fewer-there : (test other : Directive → Bool) → ((d : Directive) → test d ≡ false → other d ≡ false) → (block : Option Placed) (lines : List (Line Placed)) → is_there_from test block lines ≡ false → is_there_from other block lines ≡ false
 fewer-there test other fewer block [] e = refl
@@ -259,27 +259,27 @@ fewer-there test other fewer block (line ∷ lines) e =
     miss None f = refl
     miss (Some d) f = fewer d f
 
-undone : (edit : Edit) (t : Target) (v : AddedVerb) (lines : List (Line Placed)) → IsUndone edit t v → SoundFrom [] None lines → verb_added edit ≡ Some v → list_any (about edit) (directives_of lines) ≡ false
-    → Undoes edit lines v (Drop t)
+undone : (edit : Edit) (t : Target) (v : AddedVerb) (lines : List (Line Placed)) → IsUndone edit t v → SoundFrom [] None lines → verb_added edit ≡ Some (is_of v, verb_text v) → list_any (about edit) (directives_of lines) ≡ false
+    → Undoes edit lines (is_of v) (Drop t)
 undone edit t v lines is sound adds none =
     let absent : is_there (about (Drop t)) lines ≡ false = fewer-there (about edit) (about (Drop t)) is.fewer None lines (there-said (about edit) lines ∙ none) in
-    edited-is-pass (Drop t) (edited edit lines) ∙ drop-pass t (edited edit lines) ∙ ap (dropped (about (Drop t))) (edited-added edit v lines adds none)
+    edited-is-pass (Drop t) (edited edit lines) ∙ drop-pass t (edited edit lines) ∙ ap (dropped (about (Drop t))) (edited-added edit (is_of v) (verb_text v) lines adds none)
     ∙ added-undone (about (Drop t)) v (arguments_added edit) is.new lines is.so is.own absent sound ∙ ap (λ (b : Bool). if b then lines else lines ++ Blank ∷ []) (there-said (is_of v) lines)
 
-undone-sound : (edit undo : Edit) (v : AddedVerb) (lines : List (Line Placed)) → IsSoundEdit edit → SoundFrom [] None lines → verb_added edit ≡ Some v → undone_by edit ≡ Some undo
-    → list_any (about edit) (directives_of lines) ≡ false → Undoes edit lines v undo
-undone-sound (Set (ModuleIs path)) undo v lines good sound adds undoes none = absurd cc
-undone-sound (Set (GoIs text)) undo v lines good sound adds undoes none = absurd cc
-undone-sound (Set (RequireAt p)) undo v lines good sound adds undoes none =
+undone-sound : (edit undo : Edit) (test : Directive → Bool) (text : List ℕ) (lines : List (Line Placed)) → IsSoundEdit edit → SoundFrom [] None lines → verb_added edit ≡ Some (test, text) → undone_by edit ≡ Some undo
+    → list_any (about edit) (directives_of lines) ≡ false → Undoes edit lines test undo
+undone-sound (Set (ModuleIs path)) undo test text lines good sound adds undoes none = absurd cc
+undone-sound (Set (GoIs version)) undo test text lines good sound adds undoes none = absurd cc
+undone-sound (Set (RequireAt p)) undo test text lines good sound adds undoes none =
     let edit : Edit = Set (RequireAt p) in
-    subst (Undoes edit lines v) (ap (edit_or edit) undoes)
-    (subst (λ (w : AddedVerb). Undoes edit lines w (Drop (AnyRequire p.0))) (ap (verb_or v) adds)
+    subst (Undoes edit lines test) (ap (edit_or edit) undoes)
+    (subst (λ (w : (Directive → Bool) × List ℕ). Undoes edit lines w.0 (Drop (AnyRequire p.0))) (ap (verb_or (test, text)) adds)
     (undone edit (AnyRequire p.0) verb.Require lines
     (record { new = Requires p; so = addition verb.Require (pair_words p) (Requires p) (pair-are p good) (require-says p good); own = text-itself p.0; fewer = λ d e. e }) sound refl none))
-undone-sound (Set (ReplaceWith r)) undo v lines good sound adds undoes none =
+undone-sound (Set (ReplaceWith r)) undo test text lines good sound adds undoes none =
     let edit : Edit = Set (ReplaceWith r) in
-    subst (Undoes edit lines v) (ap (edit_or edit) undoes)
-    (subst (λ (w : AddedVerb). Undoes edit lines w (Drop (AnyReplace r.0))) (ap (verb_or v) adds)
+    subst (Undoes edit lines test) (ap (edit_or edit) undoes)
+    (subst (λ (w : (Directive → Bool) × List ℕ). Undoes edit lines w.0 (Drop (AnyReplace r.0))) (ap (verb_or (test, text)) adds)
     (undone edit (AnyReplace r.0) verb.Replace lines
     (record {
       new = Replaces r;
@@ -287,24 +287,24 @@ undone-sound (Set (ReplaceWith r)) undo v lines good sound adds undoes none =
       own = and-both (bytes_eq r.0.path r.0.path) (is_same_version r.0.version r.0.version) (text-itself r.0.path) (version-itself r.0.version);
       fewer = replaced-left r.0;
     }) sound refl none))
-undone-sound (Add (Exclude p)) undo v lines good sound adds undoes none =
+undone-sound (Add (Exclude p)) undo test text lines good sound adds undoes none =
     let edit : Edit = Add (Exclude p) in
-    subst (Undoes edit lines v) (ap (edit_or edit) undoes)
-    (subst (λ (w : AddedVerb). Undoes edit lines w (Drop (AnyExclude p))) (ap (verb_or v) adds)
+    subst (Undoes edit lines test) (ap (edit_or edit) undoes)
+    (subst (λ (w : (Directive → Bool) × List ℕ). Undoes edit lines w.0 (Drop (AnyExclude p))) (ap (verb_or (test, text)) adds)
     (undone edit (AnyExclude p) verb.Exclude lines
     (record { new = Excludes p; so = addition verb.Exclude (pair_words p) (Excludes p) (pair-are p good) (exclude-says p good); own = pair-itself p; fewer = λ d e. e }) sound refl none))
-undone-sound (Add (Retract ends)) undo v lines good sound adds undoes none =
+undone-sound (Add (Retract ends)) undo test text lines good sound adds undoes none =
     let edit : Edit = Add (Retract ends) in
-    subst (Undoes edit lines v) (ap (edit_or edit) undoes)
-    (subst (λ (w : AddedVerb). Undoes edit lines w (Drop (AnyRetract ends))) (ap (verb_or v) adds)
+    subst (Undoes edit lines test) (ap (edit_or edit) undoes)
+    (subst (λ (w : (Directive → Bool) × List ℕ). Undoes edit lines w.0 (Drop (AnyRetract ends))) (ap (verb_or (test, text)) adds)
     (undone edit (AnyRetract ends) verb.Retract lines
     (record { new = Retracts ends; so = addition verb.Retract (interval_words ends) (Retracts ends) (ends-are ends good) (ends-says ends good); own = pair-itself ends; fewer = λ d e. e }) sound refl none))
-undone-sound (Drop t) undo v lines good sound adds undoes none = absurd cc
+undone-sound (Drop t) undo test text lines good sound adds undoes none = absurd cc
 
 pub drop-undoes : DropUndoes
-drop-undoes edit undo v lines is adds undoes none =
+drop-undoes edit undo test text lines is adds undoes none =
     let sound = sound-of edit lines is in
-    undone-sound edit undo v lines sound.0 sound.1 adds undoes none
+    undone-sound edit undo test text lines sound.0 sound.1 adds undoes none
 
 -- ---- the layout
 
@@ -320,16 +320,16 @@ either-layout : (b : Bool) (lines : List (Line Placed)) → layout (plain_lines 
 either-layout true lines = refl
 either-layout false lines = ap layout (map-append plain lines (Blank ∷ [])) ∙ blank-end initial_state (plain_lines lines)
 
-has-verb : (edit undo : Edit) → undone_by edit ≡ Some undo → (v : AddedVerb) × (verb_added edit ≡ Some v)
+has-verb : (edit undo : Edit) → undone_by edit ≡ Some undo → (test : Directive → Bool) × (text : List ℕ) × (verb_added edit ≡ Some (test, text))
 has-verb (Set (ModuleIs path)) undo e = absurd cc
 has-verb (Set (GoIs text)) undo e = absurd cc
-has-verb (Set (RequireAt p)) undo e = (verb.Require, refl)
-has-verb (Set (ReplaceWith r)) undo e = (verb.Replace, refl)
-has-verb (Add (Exclude p)) undo e = (verb.Exclude, refl)
-has-verb (Add (Retract ends)) undo e = (verb.Retract, refl)
+has-verb (Set (RequireAt p)) undo e = (is_of verb.Require, verb_text verb.Require, refl)
+has-verb (Set (ReplaceWith r)) undo e = (is_of verb.Replace, verb_text verb.Replace, refl)
+has-verb (Add (Exclude p)) undo e = (is_of verb.Exclude, verb_text verb.Exclude, refl)
+has-verb (Add (Retract ends)) undo e = (is_of verb.Retract, verb_text verb.Retract, refl)
 has-verb (Drop t) undo e = absurd cc
 
 pub drop-undoes-layout : DropUndoesForLayout
 drop-undoes-layout edit undo lines is undoes none =
-    let v = has-verb edit undo undoes in
-    ap (λ (ls : List (Line Placed)). layout (plain_lines ls)) (drop-undoes edit undo v.0 lines is v.1 undoes none) ∙ either-layout (list_any (is_of v.0) (directives_of lines)) lines
+    let (test, text, adds) = has-verb edit undo undoes in
+    ap (λ (ls : List (Line Placed)). layout (plain_lines ls)) (drop-undoes edit undo test text lines is adds undoes none) ∙ either-layout (list_any test (directives_of lines)) lines

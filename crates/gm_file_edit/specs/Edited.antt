@@ -2,13 +2,13 @@
 use Rattle.std.specs.Prelude.{ℕ, ◌&&◌, not, if◌then◌else◌, Bool, List, [], ◌∷◌, ◌++◌, map, codes, Option, Some, None, is_none, is_some, filter}
 use Rattle.std.specs.List.{flat_map, list_all, list_any}
 use Rattle.gm_syntax.specs.Tokens.{Placed}
-use Rattle.gm_syntax.specs.Document.{Line, Blank, Open, Close}
+use Rattle.gm_syntax.specs.Document.{Line, Blank, Open, Close, Entry}
 use Rattle.gm_file.specs.Directives.{Directive, LineInBlock, with_blocks, with_blocks_from}
 use Rattle.gm_file.specs.Faults.{is_module}
 use Rattle.gm_file_edit.specs.About.{about}
 use Rattle.gm_file_edit.specs.Edits.{Edit, Set, Add, Drop, GoIs, RequireAt, ReplaceWith, Exclude, Retract}
 use Rattle.gm_file_edit.specs.Holding.{directive_at, is_blank_source_line, passes}
-use Rattle.gm_file_edit.specs.NewWords.{entry_at, interval_words, made_word, pair_words, replace_words, single}
+use Rattle.gm_file_edit.specs.NewWords.{interval_words, made_word, pair_words, replace_words, single}
 use Rattle.gm_file_edit.specs.Renewing.{made_new}
 use Rattle.gm_file_edit.specs.Verbs.{is_exclude, is_replace, is_require, is_retract}
 
@@ -144,7 +144,8 @@ abbrev pub after_last : (Directive → Bool) → List ℕ → List Placed → Li
 after_last test verb arguments [] = []
 after_last test verb arguments (line ∷ lines) =
     if holds test line && not (list_any (holds test) lines)
-    then line.1 ∷ entry_at (is_some line.0) verb arguments ∷ map (λ other. other.1) lines
+    then line.1 ∷ (if is_some line.0 then Entry arguments None else single verb arguments)
+    ∷ map (λ other. other.1) lines
     else line.1 ∷ after_last test verb arguments lines
 
 -- the same; if there is none, the entry goes to the end, after a blank line

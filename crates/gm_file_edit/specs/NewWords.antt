@@ -54,9 +54,8 @@ interval_words ends =
 
 -- an entry outside blocks; its verb has no source position
 abbrev pub single : List ℕ → List Placed → Line Placed
-single verb arguments = Entry (record { word = new_word verb; line = 0; span = None } ∷ arguments) None
+single verb arguments = Entry (made_word verb ∷ arguments) None
 
 -- an entry, in a block of its verb if the flag says so; the verb is then left out
 abbrev pub entry_at : Bool → List ℕ → List Placed → Line Placed
-entry_at false verb arguments = single verb arguments
-entry_at true verb arguments = Entry arguments None
+entry_at inside verb arguments = if inside then Entry arguments None else single verb arguments

@@ -5,7 +5,7 @@ use Rattle.gm_name.specs.ModuleVersion.{ModuleVersion}
 use Rattle.gm_file.specs.Values.{is_folder_path}
 use Rattle.gm_file.specs.GoVersions.{strict_go}
 use Rattle.gm_file.specs.Directives.{VersionInterval, Left, Right, Folder, Module}
-use Rattle.gm_file_edit.specs.Edits.{Edit, Set, ModuleIs, GoIs, RequireAt, Drop, Add, Exclude, ReplaceWith, Retract, edit_in, has_byte}
+use Rattle.gm_file_edit.specs.Edits.{Edit, Set, ModuleIs, GoIs, RequireAt, Drop, Add, Exclude, ReplaceWith, Retract, has_byte}
 
 -- a path and a version
 abbrev pub IsPairOfNames : ModuleVersion → Type 0
@@ -39,7 +39,3 @@ IsSoundEdit (Drop t) = ⊤
 IsSoundEdit (Add (Exclude p)) = IsPairOfNames p
 IsSoundEdit (Set (ReplaceWith r)) = IsSoundLeft r.0 × IsSoundRight r.1
 IsSoundEdit (Add (Retract ends)) = AreVersions ends
-
--- some text spells the operation
-abbrev pub HasSpelling : Edit → Type 0
-HasSpelling edit = (text : List ℕ) × (edit_in text ≡ Some edit)
