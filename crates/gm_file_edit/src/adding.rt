@@ -2,12 +2,12 @@
 //!
 //! A new entry goes next to its own kind, so that the file keeps its grouping.
 
-ghost use Rattle.std.specs.Prelude.{◌≡◌, ◌∷◌, ◌++◌, ◌≤◌, [], length, take, drop, List, IfOk, OnErr, OnOk, None, codes, insert};
+ghost use Rattle.std.specs.Prelude.{◌≡◌, ◌∷◌, ◌++◌, ◌≤◌, [], length, take, drop, List, IfOk, OnErr, OnOk, None, codes};
 ghost use Rattle.std.specs.Option.{option_map};
 ghost use Rattle.gm_syntax.specs.Document.{Blank, IsDocument, Line as LineOf};
 ghost use Rattle.gm_syntax.specs.Tokens.{Placed};
 ghost use Rattle.gm_syntax.specs.LineViews.{line_of, line_views, plain_lines};
-ghost use Rattle.gm_file.specs.Directives.{Strict, block_after_line};
+ghost use Rattle.gm_file.specs.Directives.{Strict};
 ghost use Rattle.gm_file.specs.Faults.{fault_of, is_module};
 ghost use Rattle.gm_file_edit.specs.Adding.{added, after_first_that, spot_after_first, spot_after_last, close_len, is_of, past_block, verb_text};
 ghost use Rattle.gm_syntax.specs.Lines.{HasNoLineFeed};
@@ -207,7 +207,8 @@ pub(crate) fn add<'a>(
 fn go_index(lines: &[Line]) -> usize
     requires document { IsDocument (plain_lines (line_views lines.now)) }
     requires sound { fault_of Strict (plain_lines (line_views lines.now)) ≡ None }
-    ensures index { (new : List (LineOf Placed)) → take result (line_views lines.now) ++ (new ++ drop result (line_views lines.now))
+    ensures index { (new : List (LineOf Placed))
+        → take result (line_views lines.now) ++ (new ++ drop result (line_views lines.now))
         ≡ after_first_that is_module new (line_views lines.now) }
     ensures in_range { result ≤ length lines.now }
 {

@@ -2,18 +2,18 @@
 //!
 //! Whatever may run out of memory comes before any change of the lines, so that a failed edit leaves them unchanged.
 
-ghost use Rattle.std.specs.Prelude.{◌≡◌, ◌↔◌, ◌<◌, not, length, take_while, IsErrOf, OnErr, OnOk, None, true, false, is_some};
+ghost use Rattle.std.specs.Prelude.{◌≡◌, ◌↔◌, ◌<◌, not, length, take_while, IsErrOf, OnErr, OnOk, None, false};
 ghost use Rattle.gm_syntax.specs.Document.{IsDocument};
 ghost use Rattle.gm_syntax.specs.LineViews.{plain_lines};
 ghost use Rattle.gm_file.specs.Directives.{Strict};
-ghost use Rattle.gm_file.specs.Faults.{does_left_fit, fault_of};
+ghost use Rattle.gm_file.specs.Faults.{fault_of};
 ghost use Rattle.gm_name.specs.Names.{does_fit};
 ghost use Rattle.gm_file_edit.specs.About.{about};
 ghost use Rattle.gm_file_edit.specs.Adding.{added, is_of, verb_text};
 ghost use Rattle.gm_file_edit.specs.Pass.{changed, put_in};
 ghost use Rattle.gm_file_edit.specs.Edits.{Add, Set};
 ghost use Rattle.gm_file_edit.specs.Edited.{edited};
-ghost use Rattle.gm_file_edit.specs.Kinds.{is_drop, is_fit, set_by};
+ghost use Rattle.gm_file_edit.specs.Kinds.{is_fit};
 ghost use Rattle.gm_file_edit.specs.Marks.{marks_from};
 ghost use Rattle.gm_file_edit.specs.NewWords.{pair_words};
 ghost use Rattle.gm_file_edit.specs.Sound.{IsSoundEdit};

@@ -2,8 +2,8 @@
 //!
 //! An operation leaves a sound file sound, so nothing is read again between two operations.
 
-ghost use Rattle.std.specs.Prelude.{◌≡◌, ◌↔◌, IfOk, IsErrOf, OnErr, OnOk, None, true, false};
-ghost use Rattle.gm_syntax.specs.LineViews.{line_views, plain_lines};
+ghost use Rattle.std.specs.Prelude.{◌≡◌, ◌↔◌, IfOk, IsErrOf, OnErr, OnOk, None, false};
+ghost use Rattle.gm_syntax.specs.LineViews.{plain_lines};
 ghost use Rattle.gm_file.specs.Directives.{Strict};
 ghost use Rattle.gm_file.specs.Faults.{fault_of};
 ghost use Rattle.gm_file_edit.specs.Edited.{edited};

@@ -37,7 +37,7 @@ pub(crate) enum Sought {
     Target(u32),
 }
 
-/// Where a line is, as far as entries with the verb of an operation are concerned.
+/// Whether a line is outside blocks, in a block of the operation's verb, or in another block.
 #[derive(Clone, Copy)]
 pub(crate) enum Scope {
     /// Outside blocks.
@@ -117,8 +117,7 @@ fn target_from(first: Option<&Token>, one: u32, two: u32, fourth: Option<&Token>
     match first {
         None => NONE,
         Some(word) => match word.kind() {
-            Kind::Bare => joined(one, two),
-            Kind::Text => joined(one, two),
+            Kind::Bare | Kind::Text => joined(one, two),
             Kind::Mark => ends_number(two, number_at(fourth)),
         },
     }

@@ -1,6 +1,8 @@
 //! Laws about the definitions that the contracts of `Op::parse` and `apply` cite.
 //!
 //! They show that the definitions mean what a user expects of an edit. Each law is the contract of an empty function.
+//! Laws on what is set or added, on other directives, on second additions, settings and operations, on undoing and on
+//! order are about a file without a fault and operations that some text writes and that aren't refused.
 
 ghost use Rattle.std.specs.Prelude.{◌≡◌, ℕ, true, List, Some, None};
 ghost use Rattle.gm_syntax.specs.Tokens.{Placed};

@@ -41,7 +41,7 @@ fn push_mark<'a>(alloc: Global, words: &mut Vec<Token<'a>>, punct: Punct) -> Res
 }
 
 /// Appends a path.
-pub(crate) fn push_path<'a>(
+fn push_path<'a>(
     alloc: Global,
     words: &mut Vec<Token<'a>>,
     path: &ModPath,
@@ -52,7 +52,7 @@ pub(crate) fn push_path<'a>(
 }
 
 /// Appends a version.
-pub(crate) fn push_version<'a>(
+fn push_version<'a>(
     alloc: Global,
     words: &mut Vec<Token<'a>>,
     version: &ModVersion,

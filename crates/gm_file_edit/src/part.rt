@@ -3,8 +3,7 @@
 //! Each `read_` function fails with `OpFault::Spelling` if and only if the text isn't such an argument, unless memory
 //! runs out.
 
-ghost use Rattle.std.specs.Prelude.{◌≡◌, true, drop, length, take_while};
-ghost use Rattle.std.specs.Option.{option_map};
+ghost use Rattle.std.specs.Prelude.{◌≡◌, true, length, take_while};
 ghost use Rattle.std.specs.List.{suffix_len};
 ghost use Rattle.std.specs.String.{string_bytes};
 ghost use Rattle.gm_file.specs.Views.{interval_view, replace_view, right_view};

@@ -3,12 +3,12 @@
 //! A line is read only if its key has the number that the operation looks for, so that an operation reads few lines of
 //! a large file.
 
-ghost use Rattle.std.specs.Prelude.{◌≡◌, ℕ, List, Option, IfOk, None, false};
+ghost use Rattle.std.specs.Prelude.{◌≡◌, ℕ, List, Option, IfOk, None};
 ghost use Rattle.std.specs.Option.{option_map};
 ghost use Rattle.gm_syntax.specs.Document.{Entry};
 ghost use Rattle.gm_syntax.specs.LineViews.{line_of};
-ghost use Rattle.gm_syntax.specs.Tokens.{Placed, words_of};
-ghost use Rattle.gm_file.specs.Directives.{block_after_line, directive_of, main_verb};
+ghost use Rattle.gm_syntax.specs.Tokens.{Placed};
+ghost use Rattle.gm_file.specs.Directives.{block_after_line};
 ghost use Rattle.gm_file.specs.DirectiveViews.{directive_view};
 ghost use Rattle.gm_file.specs.Views.{interval_view};
 ghost use Rattle.gm_file.specs.Values.{argument};
@@ -82,7 +82,7 @@ fn interval_number(ends: &Interval) -> u32
     )
 }
 
-/// The number that the lines have that an operation targets.
+/// What the keys of the lines that an operation targets have in common.
 pub(crate) fn sought_of(change: &Change) -> Sought
     ensures { result ≡ sought_of (edit_of change.now) }
 {
@@ -107,7 +107,7 @@ pub(crate) fn sought_of(change: &Change) -> Sought
     }
 }
 
-/// Where the lines after the opening of a block are, or those outside blocks if none is open.
+/// The scope of the lines in the open block, or of lines outside blocks if none is open.
 pub(crate) fn scope_of(verb: &str, block: Option<&Token>) -> Scope
     ensures { result ≡ scope_of verb.now (option_map (λ t. t.now) block.entry) }
 {
@@ -123,7 +123,7 @@ pub(crate) fn scope_of(verb: &str, block: Option<&Token>) -> Scope
     }
 }
 
-/// Where the line after a line is.
+/// The scope of the line after this one.
 pub(crate) fn scope_after_line(verb: &str, scope: Scope, line: &Line) -> Scope
     ensures { (block : Option Placed) → scope ≡ scope_of verb.now block
         → result ≡ scope_of verb.now (block_after_line block (line_of line.now)) }
@@ -159,7 +159,7 @@ pub(crate) fn is_entry_of(verb: &str, block: Option<&Token>, line: &Line) -> boo
     }
 }
 
-/// The same of a line by where it is. In a block of the verb no text is compared.
+/// Whether a line in this scope is an entry with this verb. In a block of the verb no text is compared.
 #[tactic(auto, unfolding(gm_file::specs::Directives::item_at))]
 pub(crate) fn is_entry_in(verb: &str, scope: Scope, line: &Line) -> bool
     ensures { (block : Option Placed) → scope ≡ scope_of verb.now block
@@ -186,7 +186,7 @@ fn passes(change: &Change, directive: &Option<Directive>) -> bool
 }
 
 /// The directive that a line of a valid file holds. Reading it can only fail if memory runs out.
-pub(crate) fn held_at(
+fn held_at(
     alloc: Global,
     block: Option<&Token>,
     line: &Line,
