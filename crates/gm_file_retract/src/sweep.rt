@@ -31,7 +31,7 @@ pub(crate) struct Sweep<'a> {
 }
 
 /// Whether a version has lower precedence than another, or the same (SemVer 2.0.0, section 11).
-pub(crate) fn is_at_most(one: &BorrowedVersion<'_>, other: &BorrowedVersion<'_>) -> bool
+fn is_at_most(one: &BorrowedVersion<'_>, other: &BorrowedVersion<'_>) -> bool
     ensures { result ≡ is_at_most one.now other.now }
 {
     one.precedence(other) != Ordering::Greater
