@@ -63,7 +63,7 @@ fn read_files<'a, 'r>(
 /// If one of the two files is invalid, the store is asked for nothing. Otherwise it is asked for the files of
 /// the modules that are opened according to its previous answers, each once, and for no other file. Each
 /// answer is one that the store may give. Its device fails on at most one file, which is one of these, and
-/// only where the count of its failures rises or has reached its maximum. All this holds however the run ends.
+/// only if the count of its failures rises or has reached its maximum. All this holds however the run ends.
 ///
 /// The store must not have been asked for anything before. If memory runs out, which can happen in place of any
 /// answer but the report of the store's device, the report is `NoMemory`.

@@ -23,7 +23,7 @@ struct Numbered {
 pub(crate) struct Ranking {
     /// The vertices, in ascending order.
     pub(crate) vertices: Vec<ModVer>,
-    /// By the numbers of the modules, the rank of each that is a vertex, its place in that list, and 0 for the others.
+    /// The rank of each module that is a vertex, by the module's number: its place in `vertices`. 0 for other modules.
     pub(crate) ranks: Vec<u32>,
 }
 

@@ -27,7 +27,8 @@ pub struct Row {
 #[error("not in the build list")]
 pub struct NotListed;
 
-/// An iterator over rows, in order. It takes no memory. A clause sees it as the list of the rows that are still to come.
+/// An iterator over rows, in order. It takes no memory. A clause sees it as the list of the rows that are still to
+/// come.
 #[derive(Drop)]
 pub struct Rows<'a> {
     /// The rows that are still to come.

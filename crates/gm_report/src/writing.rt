@@ -1,5 +1,5 @@
-//! The lines of reports. The words for faults come from the types of the faults, so a report always names a fault as the
-//! library does.
+//! The lines of reports. The words for faults come from the types of the faults, so a report always names a fault as
+//! the library does.
 
 ghost use Rattle.std.specs.Prelude.{◌++◌, codes};
 ghost use Rattle.std.specs.List.{flat_map};
