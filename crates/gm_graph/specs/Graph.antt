@@ -9,7 +9,7 @@ use Rattle.gm_graph_cache.specs.Reading.{Readings, is_unpruned, vertex_requireme
 use Rattle.gm_graph_select.specs.declared.step.Step.{Step}
 use Rattle.gm_graph_select.specs.declared.step.Step.TheVariants.{Main as FromMain, Of}
 
--- The requirements of the main file are opened at the top.
+-- What the main file requires, except what it excludes, is opened at the top.
 abbrev pub IsTop : Main → ModuleVersion → Type 0
 IsTop main x = Contains (without_excluded main main.requirements) x
 

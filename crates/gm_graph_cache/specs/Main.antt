@@ -6,7 +6,7 @@ use Rattle.gm_syntax.specs.Tokens.{Placed}
 use Rattle.gm_syntax.specs.Document.{Line}
 use Rattle.gm_syntax.specs.LineViews.{plain_lines}
 use Rattle.gm_file.specs.Directives.{Strict, Replacing, Right}
-use Rattle.gm_file.specs.Fields.{module_of, go_of, requirements_of, excludes_of, replaces_of, replacement_of as right_among}
+use Rattle.gm_file.specs.Fields.{module_of, go_of, requirements_of, excludes_of, replaces_of, replacement_of}
 
 -- what the main module's file says (Go Modules Reference, "go.mod files")
 pub record Main : Type 0 where
@@ -37,7 +37,7 @@ without_excluded main = filter (λ x. not (is_excluded main x))
 -- What replaces a module at a version (Go Modules Reference, "replace directive"): the right-hand side of the
 -- `replace` of that version, or otherwise of the whole path.
 abbrev pub replacement_in : Main → ModuleVersion → Option Right
-replacement_in main x = right_among main.replaces x
+replacement_in main x = replacement_of main.replaces x
 
 -- go 1.17 and later, by the first two numbers (Go Modules Reference, "Module graph pruning")
 abbrev pub is_pruned_by : ℕ × ℕ → Bool

@@ -10,7 +10,7 @@ use Rattle.gm_syntax.specs.LineViews.{plain_lines}
 use Rattle.gm_syntax.specs.Parsed.{IsParsedAs}
 use Rattle.gm_syntax.specs.declared.fault.SyntaxFault.TheVariants as syntax
 use Rattle.gm_file.specs.Directives.{Lax, Right, Folder, Module}
-use Rattle.gm_file.specs.Faults.{fault_of as directive_fault}
+use Rattle.gm_file.specs.Faults.{fault_of}
 use Rattle.gm_file.specs.Fields.{Dependency, dependency_of}
 use Rattle.gm_store.specs.Asked.{Name, Reply, mod_file, folder_file, list_file, bytes, absent, too_long, answer_in}
 use Rattle.gm_store_sums.specs.Sums.{check_in}
@@ -35,7 +35,7 @@ file_named x (Some (Module path version)) = mod_file path version
 abbrev pub file_of : Main → ModuleVersion → Name
 file_of main x = file_named x (replacement_in main x)
 
--- A file is asked for, unless it comes from a proxy and its path is not fetchable.
+-- A .mod file may be asked for if its path is fetchable, any other file always.
 abbrev pub is_askable : Name → Bool
 is_askable (mod_file path version) = is_fetchable path
 is_askable _ = true
@@ -63,12 +63,12 @@ IsMisreadAt content line misreading.TooMany = (line ≡ 0) × IsParsedAs content
 IsMisreadAt content line misreading.NotUtf8 = (line ≡ 0) × IsParsedAs content (Err syntax.NotUtf8)
 IsMisreadAt content line (misreading.Syntax kind) = IsParsedAs content (Err (syntax.Syntax line kind))
 IsMisreadAt content line (misreading.Directive kind) = (doc : List (Line Placed)) × IsParsedAs content (Ok doc)
-    × (directive_fault Lax (plain_lines doc) ≡ Some (line, kind))
+    × (fault_of Lax (plain_lines doc) ≡ Some (line, kind))
 
 -- The bytes can be read as a dependency's file with these contents.
 abbrev pub IsReadAsDependency : List ℕ → Dependency → Type 0
 IsReadAsDependency content file = (doc : List (Line Placed)) × IsParsedAs content (Ok doc)
-    × (directive_fault Lax (plain_lines doc) ≡ None) × (dependency_of (plain_lines doc) ≡ file)
+    × (fault_of Lax (plain_lines doc) ≡ None) × (dependency_of (plain_lines doc) ≡ file)
 
 -- The contents of the bytes as a dependency's file, or why they can't be read. No store gives too many bytes.
 abbrev pub IsContentReading : List ℕ → Result Dependency Class → Type 0
@@ -90,7 +90,7 @@ IsFileReading sums name (bytes content) reading = IsReadUnless (sum_fault sums n
 
 -- ---- what the files say that were asked for
 
--- What the file of each name says or what is wrong with it, where that is known.
+-- What the file of each name says or what is wrong with it, if that is known.
 abbrev pub Held : Type 0
 Held = Name → Option (Result Dependency Class)
 
@@ -126,7 +126,7 @@ abbrev pub with_right_path : ModuleVersion → Option Right → Result Dependenc
 with_right_path x right (Err class) = Err class
 with_right_path x right (Ok file) = if is_right_path x right file.declared then Ok file else Err WrongPath
 
--- For each vertex, what its file says or its fault, where that is known.
+-- For each vertex, what its file says or its fault, if that is known.
 abbrev pub Readings : Type 0
 Readings = ModuleVersion → Option (Result Dependency Class)
 

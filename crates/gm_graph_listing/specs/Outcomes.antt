@@ -7,7 +7,7 @@ use Rattle.gm_syntax.specs.Tokens.{Placed}
 use Rattle.gm_syntax.specs.LineViews.{plain_lines}
 use Rattle.gm_syntax.specs.Parsed.{IsParsedAs}
 use Rattle.gm_file.specs.Directives.{Strict}
-use Rattle.gm_file.specs.Faults.{fault_of as directive_fault}
+use Rattle.gm_file.specs.Faults.{fault_of}
 use Rattle.gm_store.specs.Asked.{Name, Reply, names_in}
 use Rattle.gm_store.specs.States.{StoreState}
 use Rattle.gm_store_sums.specs.Sums.{HasValidLines, IsFirstInvalid, ReadsAs}
@@ -60,7 +60,7 @@ longest = 16777216
 
 -- the bytes are a valid main module's file with these lines
 abbrev pub IsMainOf : List ℕ → List (Line Placed) → Type 0
-IsMainOf bytes lines = IsParsedAs bytes (Ok lines) × (directive_fault Strict (plain_lines lines) ≡ None)
+IsMainOf bytes lines = IsParsedAs bytes (Ok lines) × (fault_of Strict (plain_lines lines) ≡ None)
 
 -- the bytes are a valid main module's file, and this is what it says
 abbrev pub IsMainFile : List ℕ → Main → Type 0
@@ -75,7 +75,7 @@ IsMalformedMain bytes (number, misreading.NotUtf8) = IsMisreadAt bytes number mi
 IsMalformedMain bytes (number, misreading.Syntax kind) = IsMisreadAt bytes number (misreading.Syntax kind)
 IsMalformedMain bytes (number, misreading.Directive kind) =
     (lines : List (Line Placed)) × IsParsedAs bytes (Ok lines)
-    × (directive_fault Strict (plain_lines lines) ≡ Some (number, kind))
+    × (fault_of Strict (plain_lines lines) ≡ Some (number, kind))
 
 -- The go.sum is valid, and the table is what it says; or no go.sum is given, and there is no table.
 abbrev pub AreSums : Option (List ℕ) → Option SumTable → Type 0
@@ -103,7 +103,7 @@ abbrev pub IsUnasked : Answers → Type 0
 IsUnasked told = (told.asked ≡ []) × (told.failed ≡ [])
 
 -- Of the files of the opened modules, those that may be asked for were asked for, each once, and no other
--- file was. This is what the files say.
+-- file was. This is what the files say. At most 65,536 modules are opened, and the device did not fail.
 pub record AreKnown (main : Main) (table : Option SumTable) (told : Answers) (held : Held) : Type 0 where
   pub tells : Tells table told.asked held
   pub answered : (x : ModuleVersion) → IsOpened main (readings_by main held) x → IsAnswered main told.asked x
@@ -111,9 +111,9 @@ pub record AreKnown (main : Main) (table : Option SumTable) (told : Answers) (he
   pub few : AreFew main (readings_by main held)
   pub none_failed : told.failed ≡ []
 
--- Why nothing is printed although both files are valid: the first of these that applies.
+-- Why nothing is printed although both files are valid; no two of these apply.
 pub data IsStopped (main : Main) (table : Option SumTable) (told : Answers) (outcome : Outcome) : Type 0 where
-  -- more than 65,536 modules are opened
+  -- more than 65,536 modules are opened, and the device did not fail
   too_many : Told main table told.asked (AreTooMany main) → told.failed ≡ []
       → outcome ≡ refused too_many_line → IsStopped main table told outcome
   -- the store's device failed on the file of an opened module

@@ -27,7 +27,7 @@ entry_of_row row = (row.step, option_map right_view row.right)
 abbrev pub entries_of_rows : List Row → List Entry
 entries_of_rows rows = map entry_of_row rows
 
--- The vertex has the greatest version of a path that is not the main module's.
+-- The path is not the main module's, an edge leads to the vertex, and none leads to a greater version of the path.
 pub record IsSelected (main : List ℕ) (edges : Edges) (x : ModuleVersion) : Type 0 where
   pub not_main : x.0 ≢ main
   pub is_end : IsEdgeEnd edges x

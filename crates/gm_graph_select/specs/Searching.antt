@@ -68,7 +68,7 @@ is_found_at found number = slice_index_or found number false
 abbrev pub count_left : List Bool → ℕ
 count_left found = sum_by (λ is_found. if is_found then 0 else 1) found
 
--- 1 where visits are due
+-- 1 if visits are due
 abbrev pub flag : List Visit → ℕ
 flag [] = 0
 flag (v ∷ due) = 1

@@ -1,5 +1,5 @@
 -- What a sink took of a text.
-use Rattle.std.specs.Prelude.{◌≡◌, ◌<◌, ◌≤◌, ◌-◌, ℕ, List, Option, Some, None, Result, Ok, Err, length, take}
+use Rattle.std.specs.Prelude.{◌≡◌, ◌<◌, ◌≤◌, ◌-◌, ℕ, List, Option, Some, None, Result, Ok, Err, length, take, ⊤}
 use Rattle.std.specs.Io.KnownBytes.{Appends}
 use Rattle.gm_store.specs.Faults.{HasCountedFailure}
 use Rattle.gm_store.specs.Taken.{AppendsSome, SinkState}
@@ -17,7 +17,7 @@ pub record TookAll (old new : SinkState) (text : List ℕ) : Type 0 where
 
 -- if room is known, the text does not fit, and as much as fits was taken
 abbrev pub Overflows : Option ℕ → Option (List ℕ) → Option (List ℕ) → List ℕ → Type 0
-Overflows None old new text = Unit {0}
+Overflows None old new text = ⊤
 Overflows (Some room) old new text = (room < length text) × Appends old new (take room text)
 
 -- the sink failed, and took a prefix of the text

@@ -92,7 +92,7 @@ IsVersionsServed may_open command path None outcome =
     × IsReadOutcome (codes "-") (IsInputOutcome command path) read outcome
 IsVersionsServed may_open command path (Some folders) outcome = IsFolderOutcome may_open folders command outcome
 
--- a query on a module graph, over the bytes of the main file, those of a go.sum where one is given, and answers to
+-- a query on a module graph, over the bytes of the main file, those of a go.sum if one is given, and answers to
 -- the names that a store was asked for
 abbrev pub IsQueryRun : (Name → Reply → Type 0) → Command → List ℕ → Option (List ℕ) → Outcome → Type 0
 IsQueryRun may_answer command main sums outcome = (told : Told)

@@ -37,7 +37,7 @@ is_over_file Fmt = true
 is_over_file (Edit operations) = true
 is_over_file _ = false
 
--- `fmt`, `edit` or `versions` over the main file's bytes, those of a go.sum where one is given, and the answers of
+-- `fmt`, `edit` or `versions` over the main file's bytes, those of a go.sum if one is given, and the answers of
 -- a store. Queries on a module graph have their own definition.
 abbrev pub StatesOutcome : Command → List ℕ → Option (List ℕ) → AnswersByName → Outcome → Type 0
 StatesOutcome Fmt main sums answers outcome = IsFmtOutcome main outcome
