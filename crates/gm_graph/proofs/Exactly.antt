@@ -18,7 +18,8 @@ use Rattle.gm_graph_cache.specs.declared.depth.Turn.{Turn}
 use Rattle.gm_graph_cache.specs.declared.depth.Depth.{Depth}
 use Rattle.gm_graph_cache.specs.declared.depth.Depth.TheVariants.{Top, Deep}
 use Rattle.gm_graph_cache.specs.Main.{Main, is_pruned_by}
-use Rattle.gm_graph_cache.specs.Reading.{Held, IsTold, Keeps, Readings, Tells, file_of, is_askable, reading_if, readings_by}
+use Rattle.gm_graph_cache.specs.Reading.{Held, IsTold, Keeps, Readings, Tells, file_of, is_askable, readings_by}
+use Rattle.gm_graph_cache.proofs.ReadingIf.{reading_if}
 use Rattle.gm_graph_cache.specs.Turns.{turn}
 use Rattle.gm_graph_cache.proofs.Keeping.{readings_stay, earlier_readings_stay}
 use Rattle.gm_graph.specs.Graph.{IsOpened, from_main}

@@ -6,7 +6,8 @@ use Rattle.gm_file.specs.Directives.{Right}
 use Rattle.gm_graph_cache.specs.declared.class.Class.{Class}
 use Rattle.gm_graph_cache.specs.declared.class.Class.TheVariants.{WrongPath}
 use Rattle.gm_graph_cache.specs.Main.{Main, replacement_in}
-use Rattle.gm_graph_cache.specs.Reading.{Held, file_of, is_askable, is_right_path, reading_if, readings_by, with_right_path}
+use Rattle.gm_graph_cache.specs.Reading.{Held, file_of, is_askable, is_right_path, readings_by, with_right_path}
+use Rattle.gm_graph_cache.proofs.ReadingIf.{reading_if}
 
 abbrev or_wrong : Bool → Dependency → Result Dependency Class
 or_wrong b file = cond b (Ok file) (Err WrongPath)

@@ -13,7 +13,8 @@ use Rattle.gm_graph_cache.specs.declared.summary.Kept.TheVariants.{Valid, Faulty
 use Rattle.gm_graph_cache.specs.declared.summary.ListSpan.{ListSpan}
 use Rattle.gm_graph_cache.specs.declared.cache.Cache.{Cache}
 use Rattle.gm_graph_cache.specs.Main.{Main, without_excluded, replacement_in}
-use Rattle.gm_graph_cache.specs.Reading.{Held, file_of, is_askable, is_right_path, is_unpruned, is_unpruned_in, reading_if, readings_by, requirements_in, vertex_requirements, said_in, with_right_path}
+use Rattle.gm_graph_cache.specs.Reading.{Held, file_of, is_askable, is_right_path, is_unpruned, is_unpruned_in, readings_by, requirements_in, vertex_requirements, said_in, with_right_path}
+use Rattle.gm_graph_cache.proofs.ReadingIf.{reading_if}
 use Rattle.gm_graph_cache.specs.Summaries.{IsKept, IsWithinList, at_span, span_found, summary_reading}
 use Rattle.gm_graph_cache.specs.Cached.{IsLender, IsSound, LendsKept, kept_file, file_count, held_of, main_in}
 use Rattle.gm_graph_cache.proofs.Holding.{held_sound}

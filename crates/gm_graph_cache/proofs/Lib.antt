@@ -6,6 +6,7 @@ pub mod OwnFiles
 pub mod Lending
 pub mod OneReading
 pub mod Keeping
+pub mod ReadingIf
 pub mod FilePlaces
 pub mod PuttingPlaces
 pub mod Replacements

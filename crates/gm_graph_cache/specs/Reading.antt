@@ -11,7 +11,8 @@ use Rattle.gm_syntax.specs.Parsed.{IsParsedAs}
 use Rattle.gm_syntax.specs.declared.fault.SyntaxFault.TheVariants as syntax
 use Rattle.gm_file.specs.Directives.{Lax, Right, Folder, Module}
 use Rattle.gm_file.specs.Faults.{fault_of}
-use Rattle.gm_file.specs.Fields.{Dependency, dependency_of}
+use Rattle.gm_file.specs.DepLines.{IsDependencyIn}
+use Rattle.gm_file.specs.Fields.{Dependency}
 use Rattle.gm_store.specs.Asked.{Name, Reply, mod_file, folder_file, list_file, bytes, absent, too_long, answer_in}
 use Rattle.gm_store_sums.specs.Sums.{check_in}
 use Rattle.gm_store_sums.specs.Hash.{file_hash}
@@ -65,14 +66,9 @@ IsMisreadAt content line (misreading.Syntax kind) = IsParsedAs content (Err (syn
 IsMisreadAt content line (misreading.Directive kind) = (doc : List (Line Placed)) × IsParsedAs content (Ok doc)
     × (fault_of Lax (plain_lines doc) ≡ Some (line, kind))
 
--- The bytes can be read as a dependency's file with these contents.
-abbrev pub IsReadAsDependency : List ℕ → Dependency → Type 0
-IsReadAsDependency content file = (doc : List (Line Placed)) × IsParsedAs content (Ok doc)
-    × (fault_of Lax (plain_lines doc) ≡ None) × (dependency_of (plain_lines doc) ≡ file)
-
 -- The contents of the bytes as a dependency's file, or why they can't be read. No store gives too many bytes.
 abbrev pub IsContentReading : List ℕ → Result Dependency Class → Type 0
-IsContentReading content (Ok file) = IsReadAsDependency content file
+IsContentReading content (Ok file) = IsDependencyIn content file
 IsContentReading content (Err (Malformed line misreading.TooMany)) = ⊥
 IsContentReading content (Err (Malformed line kind)) = IsMisreadAt content line kind
 IsContentReading content (Err class) = ⊥
@@ -99,9 +95,14 @@ IsTold sums name None None = ⊤
 IsTold sums name (Some reply) (Some reading) = IsFileReading sums name reply reading
 IsTold sums name _ _ = ⊥
 
+-- What is held of the file of each name is what the reply to it says, checked against the go.sum if there is one.
+-- Nothing is held if there is no reply.
+abbrev pub HeldByAnswers : Option SumTable → (Name → Option Reply) → Held → Type 0
+HeldByAnswers sums answers held = (name : Name) → IsTold sums name (answers name) (held name)
+
 -- What is held is what the replies to the requested names say, and nothing about any other name.
 abbrev pub Tells : Option SumTable → List (Name × Reply) → Held → Type 0
-Tells sums pairs held = (name : Name) → IsTold sums name (answer_in pairs name) (held name)
+Tells sums pairs held = HeldByAnswers sums (answer_in pairs) held
 
 -- What is held stays.
 abbrev pub KeepsHeld : Held → Held → Type 0
@@ -130,14 +131,11 @@ with_right_path x right (Ok file) = if is_right_path x right file.declared then 
 abbrev pub Readings : Type 0
 Readings = ModuleVersion → Option (Result Dependency Class)
 
-abbrev pub reading_if : Bool → Main → ModuleVersion
-    → Option (Result Dependency Class) → Option (Result Dependency Class)
-reading_if true main x held = option_map (with_right_path x (replacement_in main x)) held
-reading_if false main x held = Some (Err NotFetchable)
-
 -- the readings of vertices, by what is held of the files
 abbrev pub readings_by : Main → Held → Readings
-readings_by main held x = reading_if (is_askable (file_of main x)) main x (held (file_of main x))
+readings_by main held x = if is_askable (file_of main x)
+    then option_map (with_right_path x (replacement_in main x)) (held (file_of main x))
+    else Some (Err NotFetchable)
 
 -- ---- fault, requirements, pruning
 

@@ -27,8 +27,8 @@ use Rattle.gm_graph_listing.specs.declared.answering.Read.{Read}
 use Rattle.gm_graph_listing.specs.declared.query.Query.{Query}
 use Rattle.gm_graph_listing.specs.declared.query.Query.TheVariants.{Graph, List as Rows, Chain}
 use Rattle.gm_graph_listing.specs.Texts.{limited, list_text}
-use Rattle.gm_graph_listing.specs.Outcomes.{AreKnown, AreInvalidSums, AreSums, IsAnswerOver, IsMainFile, IsMainOf, IsOutcomeOver, IsRefusedRead, PrintsFor, PrintsRows, answers, device, faulty, too_many}
-use Rattle.gm_graph_listing.specs.Found.{FilesReadAs, IsOutcomeOfFound, PrintsFound, ReportsFaultsOr}
+use Rattle.gm_graph_listing.specs.Outcomes.{AreKnown, AreInvalidSums, AreSums, FilesReadAs, IsAnswerOver, IsMainFile, IsMainOf, IsOutcomeOver, IsRefusedRead, PrintsFor, PrintsRows, answers, device, faulty, too_many}
+use Rattle.gm_graph_listing.specs.Found.{IsOutcomeOfFound, PrintsFound, ReportsFaultsOr}
 use Rattle.gm_graph_listing.proofs.Misreading.{IsMalformed}
 
 -- ---- what is printed
@@ -110,7 +110,7 @@ sums_told file sums main r told is stops match = refused_sums (subst (AreSumsRea
 
 pub both_read : (file : List ℕ) (sums : Option (List ℕ)) (r : Result (List (Line Placed)) Report) (s : Result (Option SumTable) Report) (lines : List (Line Placed)) (table : Option SumTable)
     → r ≡ Ok lines → IsMainRead file r → s ≡ Ok table → AreSumsRead sums s → FilesReadAs file sums (main_of lines) table
-both_read file sums r s lines table is main are read = (main_ok file r lines is main, sums_ok sums s table are read)
+both_read file sums r s lines table is main are read = record { main_file = main_ok file r lines is main; sums = sums_ok sums s table are read }
 
 abbrev pub IsBothRead : List ℕ → Option (List ℕ) → Result Read Report → Type 0
 IsBothRead file sums r =
@@ -135,22 +135,22 @@ pub not_loaded : (query : Query) (file : List ℕ) (sums : Option (List ℕ)) (m
     → ((name : FileName) → result ≡ Err (load.Device name) → IsDue main table new.asked (name_of name))
     → new.refused ≡ old.refused ++ refused_in result → OrNoMemory (IsAnswerOver (PrintsFor query) file sums old new) (report_outcome (report_by_load fault))
 not_loaded query file sums main table old new result load.NoMemory is read many due grown = inr refl
-not_loaded query file sums main table old new result load.TooMany is (main_file, sums_are) many due grown =
+not_loaded query file sums main table old new result load.TooMany is read many due grown =
     let none = subst (λ r. new.refused ≡ old.refused ++ refused_in r) is grown in
-    inl ([], none, inr (main, table, record { main_file = main_file; sums = sums_are }, inl (too_many (many is) refl refl)))
-not_loaded query file sums main table old new result (load.Device name) is (main_file, sums_are) many due grown =
+    inl ([], none, inr (main, table, read, inl (too_many (many is) refl refl)))
+not_loaded query file sums main table old new result (load.Device name) is read many due grown =
     let one = subst (λ r. new.refused ≡ old.refused ++ refused_in r) is grown in
-    inl (name_of name ∷ [], one, inr (main, table, record { main_file = main_file; sums = sums_are }, inl (device (name_of name) (due name is) refl refl)))
+    inl (name_of name ∷ [], one, inr (main, table, read, inl (device (name_of name) (due name is) refl refl)))
 
 -- both files are valid, and loading found a graph
 pub answered : (query : Query) (file : List ℕ) (sums : Option (List ℕ)) (main : Main) (table : Option SumTable) (old new : StoreState) (result : Result Loaded LoadFault) (loaded : Loaded)
     (outcome : Outcome) → result ≡ Ok loaded → FilesReadAs file sums main table → IfOk result (λ loaded. Told main table new.asked (IsLoaded main new.asked loaded))
     → new.refused ≡ old.refused ++ refused_in result → OrNoMemory (IsOutcomeOfFound query main loaded) outcome → OrNoMemory (IsAnswerOver (PrintsFor query) file sums old new) outcome
-answered query file sums main table old new result loaded outcome ok (main_file, sums_are) is grown (inl told) =
+answered query file sums main table old new result loaded outcome ok read is grown (inl told) =
     let found = subst (λ r. IfOk r (λ loaded. Told main table new.asked (IsLoaded main new.asked loaded))) ok is in
     let none = subst (λ r. new.refused ≡ old.refused ++ refused_in r) ok grown in
     let over = by_faults query main table old new loaded loaded.faults outcome found none refl told in
-    inl (over.0, over.1, inr (main, table, record { main_file = main_file; sums = sums_are }, over.2))
+    inl (over.0, over.1, inr (main, table, read, over.2))
 answered query file sums main table old new result loaded outcome ok read is grown (inr none) = inr none
 
 -- ---- a device that failed

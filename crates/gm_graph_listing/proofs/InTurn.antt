@@ -9,7 +9,7 @@ use Rattle.gm_graph_cache.specs.Refusals.{refused_in}
 use Rattle.gm_graph_cache.specs.declared.load_fault.LoadFault.{LoadFault}
 use Rattle.gm_graph_cache.specs.declared.load_fault.LoadFault.TheVariants as load
 use Rattle.gm_graph.specs.Loading.{AsksInTurn, IsDue, nothing, more}
-use Rattle.gm_graph_listing.specs.Found.{FilesReadAs}
+use Rattle.gm_graph_listing.specs.Outcomes.{FilesReadAs}
 use Rattle.gm_graph_listing.specs.Needs.{AnswersByName, AskedAfter, AskedInTurn, FailsInTurn, GraphNeeds}
 
 abbrev Pairs : Type 0
@@ -37,7 +37,7 @@ module _ (file : List ℕ) (sums : Option (List ℕ)) (main : Main) (table : Opt
   -- a file that is due is needed
   due_needed : (asked : Pairs) (name : Name) → IsDue main table asked name → IsWanted (GraphNeeds file sums) name asked
   due_needed asked name due = (
-    record { main = main; table = table; held = due.0.0; main_reads = read.0; sums_read = read.1; files_read = due.0.1; needed = due.0.2 },
+    record { main = main; table = table; held = due.0.0; read = read; files_read = due.0.1; needed = due.0.2 },
     due.1,
   )
 

@@ -7,8 +7,8 @@ use Rattle.gm_graph_select.specs.Graph.{Edges, among}
 use Rattle.gm_graph_select.proofs.Same.{AreSame, same_back, same_build_list, same_chain}
 use Rattle.gm_graph.specs.Graph.{IsEdge}
 use Rattle.gm_graph.proofs.Rooted.{same_edges}
-use Rattle.gm_graph_listing.specs.Laws.{OneGraph, OneRefusal, PartsOfOneList, ShowsChain}
-use Rattle.gm_graph_listing.specs.Outcomes.{Given, IsOutcome, Prints, PrintsChain, PrintsGraph, PrintsList, PrintsRows}
+use Rattle.gm_graph_listing.specs.Laws.{OneGraph, OneRefusal, PartsOfOneList}
+use Rattle.gm_graph_listing.specs.Outcomes.{Given, IsOutcome, Prints, PrintsChain, PrintsGraph, PrintsList, PrintsRows, ShowsChain}
 use Rattle.gm_report.specs.Outcome.{Outcome}
 use Rattle.gm_graph_listing.proofs.OneOutcome.{also_printed, one_chain_outcome, one_list_outcome}
 use Rattle.gm_graph_listing.proofs.OnePrinted.{one_rows}

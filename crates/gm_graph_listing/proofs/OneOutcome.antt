@@ -11,7 +11,7 @@ use Rattle.gm_graph.specs.Loading.{AreTooMany, Told}
 use Rattle.gm_graph.specs.Outcome.{AreFaults}
 use Rattle.gm_graph_listing.specs.Found.{ReportsFaultsOr}
 use Rattle.gm_graph_listing.specs.Laws.{AlikeChains, AlikeGraphs, AlikeLists, AnswerAlike, AreAlike, AllFilesAreValid, OneChainOutcome, OneGraphOutcome, OneListOutcome}
-use Rattle.gm_graph_listing.specs.Outcomes.{Answers, AreKnown, GivenFilesReadAs, AreSums, Given, IsMainFile, IsOutcome, IsOutcomeOver, IsRefusedRead, Prints, PrintsChain, PrintsGraph, PrintsList, device, faulty, too_many}
+use Rattle.gm_graph_listing.specs.Outcomes.{Answers, AreKnown, AreSums, FilesReadAs, Given, IsMainFile, IsOutcome, IsOutcomeOver, IsRefusedRead, Prints, PrintsChain, PrintsGraph, PrintsList, device, faulty, too_many}
 use Rattle.gm_report.specs.Outcome.{Outcome, failed, refused}
 use Rattle.gm_report.specs.Reports.{FaultPlace, device_line, main_line, too_many_line}
 use Rattle.gm_graph_listing.proofs.OnePrinted.{PrintsOnce, chain_once, graph_once, list_once, one_faults}
@@ -91,11 +91,11 @@ one_refusal file sums a b (inl (here, misread, says)) (inr (main, report, is, ot
 one_refusal file sums a b (inr (main, report, is, misread, says)) (inl (there, other, tells)) = absurd (misread_or_main file there main other is)
 one_refusal file sums a b (inr (main, report, is, misread, says)) (inr (again, line, be, other, tells)) = says ∙ ap refused (one_misreport sums report line misread other) ∙ sym tells
 
-not_refused : (run : Given) (outcome : Outcome) (main : Main) (table : Option SumTable) → IsRefusedRead run.file run.sums outcome → GivenFilesReadAs run main table → ⊥
+not_refused : (run : Given) (outcome : Outcome) (main : Main) (table : Option SumTable) → IsRefusedRead run.file run.sums outcome → FilesReadAs run.file run.sums main table → ⊥
 not_refused run outcome main table (inl (place, misread, says)) are = misread_or_main run.file place main misread are.main_file
 not_refused run outcome main table (inr (other, report, is, misread, says)) are = misread_or_sums run.sums report table misread are.sums
 
-read_alike : (one other : Given) (main : Main) (table : Option SumTable) → AreAlike one other → GivenFilesReadAs one main table → GivenFilesReadAs other main table
+read_alike : (one other : Given) (main : Main) (table : Option SumTable) → AreAlike one other → FilesReadAs one.file one.sums main table → FilesReadAs other.file other.sums main table
 read_alike one other main table alike are = record {
   main_file = subst (λ (bytes : List ℕ). IsMainFile bytes main) alike.file are.main_file;
   sums = subst (λ (sums : Option (List ℕ)). AreSums sums table) alike.sums are.sums;
@@ -112,7 +112,7 @@ one_outcome prints once one other a b alike (inl (is, none)) (inl (be, nothing))
 one_outcome prints once one other a b alike (inl (is, none)) (inr (main, table, are, over)) = absurd (not_refused other a main table (refused_alike one other a alike is) are)
 one_outcome prints once one other a b alike (inr (main, table, are, over)) (inl (be, nothing)) = absurd (not_refused other b main table be (read_alike one other main table alike are))
 one_outcome prints once one other a b alike (inr (main, table, are, over)) (inr (again, next, were, beyond)) =
-    let here : GivenFilesReadAs other main table = read_alike one other main table alike are in
+    let here : FilesReadAs other.file other.sums main table = read_alike one other main table alike are in
     let same : main ≡ again = one_main other.file main again here.main_file were.main_file in
     let found : FindSame table next = one_finding other.sums table next here.sums were.sums in
     let first : LoadingEnd prints main next one.told a = loading_end_alike prints main table next one.told a found (loading_end prints main table one.told a over) in

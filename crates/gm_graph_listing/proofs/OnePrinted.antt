@@ -19,9 +19,8 @@ use Rattle.gm_graph.specs.declared.fault.Fault.{Fault}
 use Rattle.gm_graph.specs.Graph.{IsEdge}
 use Rattle.gm_graph.specs.Loading.{AreFew}
 use Rattle.gm_graph.specs.Outcome.{AreEdges, AreFaults}
-use Rattle.gm_graph_listing.specs.Laws.{ShowsChain}
 use Rattle.gm_graph_listing.specs.Texts.{chain_text, graph_text, limited, list_text}
-use Rattle.gm_graph_listing.specs.Outcomes.{AreRows, Prints, PrintsChain, PrintsGraph, PrintsList, PrintsRows}
+use Rattle.gm_graph_listing.specs.Outcomes.{AreRows, Prints, PrintsChain, PrintsGraph, PrintsList, PrintsRows, ShowsChain}
 use Rattle.gm_report.specs.Outcome.{Outcome, printed}
 use Rattle.gm_graph_listing.proofs.FewOpened.{edges_listed}
 use Rattle.gm_graph_listing.proofs.OneStore.{Agrees, fault}

@@ -8,7 +8,8 @@ use Rattle.gm_store.specs.Asked.{Name, Reply, answer_in}
 use Rattle.gm_store_sums.specs.declared.sum_table.SumTable.{SumTable}
 use Rattle.gm_graph_cache.specs.declared.class.Class.{Class}
 use Rattle.gm_graph_cache.specs.Main.{Main, replacement_in}
-use Rattle.gm_graph_cache.specs.Reading.{Held, IsTold, Readings, Tells, fault_in, vertex_fault, file_of, is_askable, is_unpruned_in, reading_if, readings_by, requirements_in, vertex_requirements, said_in, with_right_path}
+use Rattle.gm_graph_cache.specs.Reading.{Held, IsTold, Readings, Tells, fault_in, vertex_fault, file_of, is_askable, is_unpruned_in, readings_by, requirements_in, vertex_requirements, said_in, with_right_path}
+use Rattle.gm_graph_cache.proofs.ReadingIf.{reading_if}
 use Rattle.gm_graph_cache.proofs.OneReading.{one_reading}
 use Rattle.gm_graph_select.specs.declared.step.Step.{Step}
 use Rattle.gm_graph_select.specs.declared.step.Step.TheVariants.{Main as FromMain, Of}

@@ -1,24 +1,16 @@
 -- What loading found, and what the commands do with its result.
-use Rattle.std.specs.Prelude.{◌≡◌, ◌⊎◌, ℕ, List, [], ◌∷◌, Option}
+use Rattle.std.specs.Prelude.{◌≡◌, ℕ, List, [], ◌∷◌}
 use Rattle.std.specs.Option.{option_copied}
-use Rattle.gm_store_sums.specs.declared.sum_table.SumTable.{SumTable}
 use Rattle.gm_graph_cache.specs.Main.{Main}
-use Rattle.gm_graph_select.specs.declared.step.Step.{Step}
-use Rattle.gm_graph_select.specs.BuildList.{IsEntryOf}
-use Rattle.gm_graph_select.specs.Chains.{IsChain}
 use Rattle.gm_graph_select.specs.Graph.{among}
 use Rattle.gm_graph.specs.declared.fault.Fault.{Fault}
 use Rattle.gm_graph.specs.Outcome.{LoadedGraph as Found}
 use Rattle.gm_graph_listing.specs.declared.query.Query.{Query}
 use Rattle.gm_graph_listing.specs.declared.query.Query.TheVariants.{Graph, List as Rows, Chain}
-use Rattle.gm_graph_listing.specs.Texts.{chain_text, graph_text}
+use Rattle.gm_graph_listing.specs.Texts.{graph_text}
 use Rattle.gm_report.specs.Reports.{faults_text}
-use Rattle.gm_graph_listing.specs.Outcomes.{AreSums, IsMainFile, IsUnlisted, PrintsRows}
+use Rattle.gm_graph_listing.specs.Outcomes.{PrintsRows, ShowsChain}
 use Rattle.gm_report.specs.Outcome.{Outcome, printed, refused}
-
--- both files are valid, and this is what they say
-abbrev pub FilesReadAs : List ℕ → Option (List ℕ) → Main → Option SumTable → Type 0
-FilesReadAs file sums main table = IsMainFile file main × AreSums sums table
 
 -- `graph` prints the edges that were found
 abbrev pub PrintsEdges : Main → Found → Outcome → Type 0
@@ -26,10 +18,7 @@ PrintsEdges main found outcome = outcome ≡ printed (graph_text main.path found
 
 -- `chain` prints the chain over the edges that were found, or reports that the path is not listed
 abbrev pub PrintsSteps : List ℕ → Main → Found → Outcome → Type 0
-PrintsSteps path main found outcome =
-    ((s : Step) × (steps : List Step) × IsEntryOf main.path found.rows path s
-    × IsChain (among found.edges) s steps × (outcome ≡ printed (chain_text main.path steps)))
-    ⊎ IsUnlisted main found.rows path outcome
+PrintsSteps path main found outcome = ShowsChain path main (among found.edges) found.rows outcome
 
 -- what a command prints of what was found
 abbrev pub PrintsFound : Query → Main → Found → Outcome → Type 0

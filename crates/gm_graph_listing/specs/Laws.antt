@@ -1,7 +1,7 @@
 -- Laws about the outcomes of `graph`, `list` and `chain`, which follow from the definitions alone. A law that
 -- names no section of the Go Modules Reference is about a choice of this program: that a run has exactly one
 -- outcome, that the list can be printed in parts and pages, and which chain is printed.
-use Rattle.std.specs.Prelude.{◌≡◌, ◌≢◌, ◌<◌, ◌≤◌, ◌⊎◌, ℕ, false, List, [], ◌∷◌, ◌++◌, length, map, Option, Some, None, Contains}
+use Rattle.std.specs.Prelude.{◌≡◌, ◌≢◌, ◌<◌, ◌≤◌, ℕ, false, List, [], ◌∷◌, ◌++◌, length, map, Option, Some, None, Contains}
 use Rattle.std.specs.List.{flat_map}
 use Rattle.std.specs.Ordering.{is_gt}
 use Rattle.gm_name.specs.Version.{version_cmp}
@@ -14,7 +14,6 @@ use Rattle.gm_graph_select.specs.declared.step.Edge.{Edge}
 use Rattle.gm_graph_select.specs.declared.step.Step.{Step}
 use Rattle.gm_graph_select.specs.declared.step.Step.TheVariants.{Main as FromMain, Of}
 use Rattle.gm_graph_select.specs.BuildList.{Entry, IsBuildList, IsEntryOf, entry_of, main_entry, path_cmp, path_of}
-use Rattle.gm_graph_select.specs.Chains.{IsChain}
 use Rattle.gm_graph_select.specs.Graph.{Edges, among}
 use Rattle.gm_graph_select.specs.Laws.{entries_of_pages}
 use Rattle.gm_graph_select.specs.Order.{IsAscending}
@@ -22,7 +21,7 @@ use Rattle.gm_graph.specs.Graph.{IsEdge, IsVertex}
 use Rattle.gm_graph.specs.Outcome.{AreEdges, AreFaults}
 use Rattle.gm_report.specs.declared.status.Status.TheVariants.{Done}
 use Rattle.gm_graph_listing.specs.Texts.{chain_text, graph_text, list_text}
-use Rattle.gm_graph_listing.specs.Outcomes.{AreKnown, GivenFilesReadAs, AreRows, Given, IsChainOutcome, IsGraphOutcome, IsListOutcome, IsUnlisted, PrintsRows}
+use Rattle.gm_graph_listing.specs.Outcomes.{AreKnown, AreRows, FilesReadAs, Given, IsChainOutcome, IsGraphOutcome, IsListOutcome, PrintsRows, ShowsChain}
 use Rattle.gm_report.specs.Outcome.{Outcome, code_of, printed}
 
 -- ---- one outcome
@@ -77,7 +76,7 @@ AlikeChains = (path : List ℕ) (one other : Given) (a b : Outcome) → AreAlike
 -- faults.
 pub record AllFilesAreValid (run : Given) (main : Main) (held : Held) : Type 0 where
   pub table : Option SumTable
-  pub read : GivenFilesReadAs run main table
+  pub read : FilesReadAs run.file run.sums main table
   pub known : AreKnown main table run.told held
   pub sound : AreFaults main (readings_by main held) []
 
@@ -179,13 +178,6 @@ PrintedChainIsShortest = (path : List ℕ) (run : Given) (outcome : Outcome) →
     → outcome.status ≡ code_of Done → ShowsShortestWalk path run outcome
 
 -- ---- the three commands show one graph
-
--- what `chain` prints, if these are the edges and the rows
-abbrev pub ShowsChain : List ℕ → Main → Edges → List Entry → Outcome → Type 0
-ShowsChain path main edges rows outcome =
-    ((s : Step) × (steps : List Step) × IsEntryOf main.path rows path s × IsChain edges s steps
-    × (outcome ≡ printed (chain_text main.path steps)))
-    ⊎ IsUnlisted main rows path outcome
 
 -- The rows of `list` are the build list of the edges of `graph`, and the steps of `chain` are the chain over
 -- these edges to the build list's entry for the path.

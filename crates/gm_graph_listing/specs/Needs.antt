@@ -5,9 +5,9 @@ use Rattle.gm_store.specs.Asked.{Name, Reply, answer_in}
 use Rattle.gm_store.specs.States.{StoreState}
 use Rattle.gm_store_sums.specs.declared.sum_table.SumTable.{SumTable}
 use Rattle.gm_graph_cache.specs.Main.{Main}
-use Rattle.gm_graph_cache.specs.Reading.{Held, IsTold, readings_by}
+use Rattle.gm_graph_cache.specs.Reading.{Held, HeldByAnswers, readings_by}
 use Rattle.gm_graph.specs.Loading.{IsNeeded}
-use Rattle.gm_graph_listing.specs.Outcomes.{AreSums, IsMainFile}
+use Rattle.gm_graph_listing.specs.Outcomes.{FilesReadAs}
 
 -- what a store answered
 abbrev pub AnswersByName : Type 0
@@ -40,11 +40,6 @@ FailsInTurn needs old new =
 
 -- ---- what `graph`, `list` and `chain` need
 
--- what is held for each file is what its answer says, checked against the go.sum if one is given; nothing is held
--- for a file without an answer
-abbrev pub HeldByAnswers : Option SumTable → AnswersByName → Held → Type 0
-HeldByAnswers table answers held = (name : Name) → IsTold table name (answers name) (held name)
-
 -- The bytes are those of a valid main module's file, and of a valid go.sum if one is given. The name is that of the
 -- go.mod of a module which these files and the answers so far open, and which may be asked for. If the main file or
 -- the go.sum is invalid, no file is needed.
@@ -52,7 +47,6 @@ pub record GraphNeeds (file : List ℕ) (sums : Option (List ℕ)) (answers : An
   pub main : Main
   pub table : Option SumTable
   pub held : Held
-  pub main_reads : IsMainFile file main
-  pub sums_read : AreSums sums table
+  pub read : FilesReadAs file sums main table
   pub files_read : HeldByAnswers table answers held
   pub needed : IsNeeded main (readings_by main held) name

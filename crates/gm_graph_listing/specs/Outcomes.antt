@@ -20,6 +20,7 @@ use Rattle.gm_graph_select.specs.declared.step.Step.{Step}
 use Rattle.gm_graph_select.specs.declared.step.Edge.{Edge}
 use Rattle.gm_graph_select.specs.BuildList.{Entry, IsBuildList, IsEntryOf, HasEntryFor, IsRestAfter}
 use Rattle.gm_graph_select.specs.Chains.{IsChain}
+use Rattle.gm_graph_select.specs.Graph.{Edges}
 use Rattle.gm_graph.specs.declared.fault.Fault.{Fault}
 use Rattle.gm_graph.specs.Graph.{IsEdge, IsOpened}
 use Rattle.gm_graph.specs.Loading.{AreAsked, AreFew, AreTooMany, IsAnswered, IsDue, Told}
@@ -91,10 +92,11 @@ AreInvalidSums (Some text) report =
     ((longest < length text) × (report ≡ long_sums_line))
     ⊎ ((length text ≤ longest) × (number : ℕ) × IsFirstInvalid text number × (report ≡ bad_sum_line number))
 
--- both are valid, and this is what they say
-pub record GivenFilesReadAs (run : Given) (main : Main) (table : Option SumTable) : Type 0 where
-  pub main_file : IsMainFile run.file main
-  pub sums : AreSums run.sums table
+-- both files are valid, and this is what they say
+pub record FilesReadAs (file : List ℕ) (sums_text : Option (List ℕ)) (main : Main)
+    (table : Option SumTable) : Type 0 where
+  pub main_file : IsMainFile file main
+  pub sums : AreSums sums_text table
 
 -- ---- a run
 
@@ -149,7 +151,7 @@ IsRefusedRead file sums outcome =
 abbrev pub IsOutcome : Prints → Given → Outcome → Type 0
 IsOutcome prints run outcome =
     (IsRefusedRead run.file run.sums outcome × IsUnasked run.told)
-    ⊎ ((main : Main) × (table : Option SumTable) × GivenFilesReadAs run main table
+    ⊎ ((main : Main) × (table : Option SumTable) × FilesReadAs run.file run.sums main table
     × IsOutcomeOver prints main table run.told outcome)
 
 -- ---- graph
@@ -193,13 +195,18 @@ IsListOutcome after limit run outcome = IsOutcome (PrintsList after limit) run o
 
 -- ---- chain
 
--- the steps of the chain to the build list's entry for the path, or the report that there is none
+-- the steps of the chain over these edges to the entry that these rows have for the path, or the report that there is
+-- none
+abbrev pub ShowsChain : List ℕ → Main → Edges → List Entry → Outcome → Type 0
+ShowsChain path main edges rows outcome =
+    ((s : Step) × (steps : List Step) × IsEntryOf main.path rows path s × IsChain edges s steps
+    × (outcome ≡ printed (chain_text main.path steps)))
+    ⊎ IsUnlisted main rows path outcome
+
+-- what `chain` prints over the module graph and the build list
 abbrev pub PrintsChain : List ℕ → Prints
-PrintsChain path main readings outcome =
-    (rows : List Entry) × AreRows main readings rows
-    × (((s : Step) × (steps : List Step) × IsEntryOf main.path rows path s
-    × IsChain (IsEdge main readings) s steps × (outcome ≡ printed (chain_text main.path steps)))
-    ⊎ IsUnlisted main rows path outcome)
+PrintsChain path main readings outcome = (rows : List Entry) × AreRows main readings rows
+    × ShowsChain path main (IsEdge main readings) rows outcome
 
 -- the outcome of `chain`
 abbrev pub IsChainOutcome : List ℕ → Given → Outcome → Type 0

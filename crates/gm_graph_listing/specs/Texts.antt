@@ -17,8 +17,12 @@ step_text main Main = main
 step_text main (Of x) = vertex_text x
 
 -- the step that the edge leaves, a space, and the vertex that it leads to
+abbrev pub edge_text : List ℕ → Edge → List ℕ
+edge_text main edge = step_text main edge.from ++ codes " " ++ vertex_text edge.to
+
+-- an edge as a line
 abbrev pub edge_line : List ℕ → Edge → List ℕ
-edge_line main edge = line (step_text main edge.from ++ codes " " ++ vertex_text edge.to)
+edge_line main edge = line (edge_text main edge)
 
 -- each edge as a line, in order
 abbrev pub graph_text : List ℕ → List Edge → List ℕ
@@ -49,9 +53,13 @@ abbrev pub replacement_suffix : Option Right → List ℕ
 replacement_suffix None = []
 replacement_suffix (Some right) = codes " => " ++ replacement_text right
 
--- a module and its replacement, if any, as a line
+-- a module and its replacement, if any
+abbrev pub row_text : List ℕ → Entry → List ℕ
+row_text main row = module_text main row.0 ++ replacement_suffix row.1
+
+-- an entry as a line
 abbrev pub entry_line : List ℕ → Entry → List ℕ
-entry_line main entry = line (module_text main entry.0 ++ replacement_suffix entry.1)
+entry_line main entry = line (row_text main entry)
 
 -- each entry as a line, in order
 abbrev pub list_text : List ℕ → List Entry → List ℕ

@@ -7,10 +7,10 @@ use Rattle.gm_syntax.specs.declared.fault.SyntaxFault.{SyntaxFault}
 use Rattle.gm_syntax.specs.declared.fault.SyntaxFault.TheVariants as syntax
 use Rattle.gm_store.specs.Asked.{Name, mod_file, folder_file, list_file}
 use Rattle.gm_graph_cache.specs.declared.class.Class.{Class}
-use Rattle.gm_graph_cache.specs.declared.class.Class.TheVariants.{NotFetchable, Missing, TooLong, NoSum, SumDiffers, Malformed, WrongPath}
+use Rattle.gm_graph_cache.specs.declared.class.Class.TheVariants.{Malformed}
 use Rattle.gm_graph_cache.specs.declared.class.Misreading.{Misreading}
 use Rattle.gm_graph_cache.specs.declared.class.Misreading.TheVariants as misreading
-use Rattle.gm_graph_cache.specs.ClassWords.{misreading_word}
+use Rattle.gm_graph_cache.specs.ClassWords.{class_word, misreading_word}
 use Rattle.gm_graph.specs.declared.fault.Fault.{Fault}
 use Rattle.gm_report.specs.declared.report.Refusal.{Refusal}
 use Rattle.gm_report.specs.declared.report.Refusal.TheVariants.{Spelling, Misfit}
@@ -24,17 +24,16 @@ malformed_text number kind = codes "Malformed " ++ decimal number ++ codes " " +
 
 -- `CLASS`, or `Malformed LINE KIND`
 abbrev pub class_text : Class → List ℕ
-class_text NotFetchable = codes "NotFetchable"
-class_text Missing = codes "Missing"
-class_text TooLong = codes "TooLong"
-class_text NoSum = codes "NoSum"
-class_text SumDiffers = codes "SumDiffers"
 class_text (Malformed number kind) = malformed_text number kind
-class_text WrongPath = codes "WrongPath"
+class_text class = class_word class
 
 -- `PATH@VERSION: CLASS`
+abbrev pub vertex_fault_text : ModuleVersion → Class → List ℕ
+vertex_fault_text x class = vertex_text x ++ codes ": " ++ class_text class
+
+-- a module with its fault as a line
 abbrev pub fault_line : ModuleVersion → Class → List ℕ
-fault_line x class = line (vertex_text x ++ codes ": " ++ class_text class)
+fault_line x class = line (vertex_fault_text x class)
 
 -- each module with its fault as a line, in order
 abbrev pub faults_text : List Fault → List ℕ

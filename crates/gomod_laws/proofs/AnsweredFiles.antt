@@ -8,7 +8,9 @@ use Rattle.gm_store_sums.specs.declared.sum_table.SumTable.{SumTable}
 use Rattle.gm_graph_cache.specs.declared.class.Class.{Class}
 use Rattle.gm_graph_cache.specs.declared.class.Class.TheVariants.{WrongPath}
 use Rattle.gm_graph_cache.specs.Main.{Main, is_pruned_by, replacement_in, without_excluded}
-use Rattle.gm_graph_cache.specs.Reading.{Held, IsReadAsDependency, IsReadUnless, IsTold, Tells, fault_in, file_of, is_askable, is_right_path, is_unpruned_in, reading_if, readings_by, requirements_in, said_in, sum_fault, vertex_fault}
+use Rattle.gm_graph_cache.specs.Reading.{Held, IsReadUnless, IsTold, Tells, fault_in, file_of, is_askable, is_right_path, is_unpruned_in, readings_by, requirements_in, said_in, sum_fault, vertex_fault}
+use Rattle.gm_file.specs.DepLines.{IsDependencyIn}
+use Rattle.gm_graph_cache.proofs.ReadingIf.{reading_if}
 use Rattle.gm_graph_select.proofs.Ascending.{no_member}
 use Rattle.gm_graph.specs.declared.fault.Fault.{Fault}
 use Rattle.gm_graph.specs.Graph.{IsOpened}
@@ -24,7 +26,7 @@ same_file r file e = cc e
 
 told_bytes : (table : Option SumTable) (name : Name) (answer : Option Reply) (said : Option (Result Dependency Class))
     (file : Dependency) → IsTold table name answer said → said ≡ Some (Ok file)
-    → (content : List ℕ) × (answer ≡ Some (bytes content)) × IsReadAsDependency content file
+    → (content : List ℕ) × (answer ≡ Some (bytes content)) × IsDependencyIn content file
 told_bytes table name None None file told e = cc e
 told_bytes table name None (Some r) file told e = absurd told
 told_bytes table name (Some reply) None file told e = absurd told

@@ -8,7 +8,8 @@ use Rattle.gm_store.specs.Asked.{Name, Reply}
 use Rattle.gm_store_sums.specs.declared.sum_table.SumTable.{SumTable}
 use Rattle.gm_graph_cache.specs.declared.class.Class.{Class}
 use Rattle.gm_graph_cache.specs.Main.{Main, replacement_in, without_excluded}
-use Rattle.gm_graph_cache.specs.Reading.{IsTold, Readings, is_unpruned_in, reading_if, requirements_in, said_in, vertex_requirements, with_right_path}
+use Rattle.gm_graph_cache.specs.Reading.{IsTold, Readings, is_unpruned_in, requirements_in, said_in, vertex_requirements, with_right_path}
+use Rattle.gm_graph_cache.proofs.ReadingIf.{reading_if}
 use Rattle.gm_graph_cache.proofs.OneReading.{one_reading}
 use Rattle.gm_graph_select.specs.declared.step.Step.{Step}
 use Rattle.gm_graph_select.specs.declared.step.Step.TheVariants.{Main as FromMain, Of}

@@ -12,7 +12,7 @@ use Rattle.gm_graph_select.specs.BuildList.{Entry, HasEntryFor, path_of}
 use Rattle.gm_graph_select.proofs.Ascending.{member_cases, member_head, no_member}
 use Rattle.gm_graph_listing.specs.Outcomes.{Given}
 use Rattle.gm_report.specs.Outcome.{Outcome, printed}
-use Rattle.gm_graph_listing.specs.PrintedLines.{edge_text}
+use Rattle.gm_graph_listing.specs.Texts.{edge_text}
 use Rattle.gomod_laws.specs.CounterAdditions.{ChainIsByNoLine, ChainIsToAnother, LineIsLost, NeitherPrints, RowIsHigher, RowIsLower, ShowA, UnlistedIsShown, chain_by_b, chain_to_b}
 use Rattle.gomod_laws.specs.Counterexamples.{a_one}
 use Rattle.gomod_laws.specs.RowLaws.{IsExplained, LeadsTo, further, here, text_of}

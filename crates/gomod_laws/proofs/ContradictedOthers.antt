@@ -6,8 +6,7 @@ use Rattle.gm_graph_select.specs.BuildList.{main_entry}
 use Rattle.gm_graph_select.proofs.Ascending.{member_head, member_tail}
 use Rattle.gm_graph.proofs.Mapped.{in_mapped}
 use Rattle.gm_report.specs.Outcome.{Outcome}
-use Rattle.gm_graph_listing.specs.PrintedLines.{edge_text, row_text}
-use Rattle.gm_graph_listing.specs.Texts.{step_text}
+use Rattle.gm_graph_listing.specs.Texts.{step_text, row_text, edge_text}
 use Rattle.gm_report.specs.Texts.{line}
 use Rattle.gm_graph_listing.proofs.GraphLines.{chain_has_lines, graph_has_lines}
 use Rattle.gm_graph_listing.proofs.ListLines.{list_has_lines}

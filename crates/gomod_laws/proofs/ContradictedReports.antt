@@ -8,7 +8,8 @@ use Rattle.gm_store_sums.specs.declared.sum_table.SumTable.{SumTable}
 use Rattle.gm_graph_cache.specs.declared.class.Class.{Class}
 use Rattle.gm_graph_cache.specs.declared.class.Class.TheVariants.{Missing}
 use Rattle.gm_graph_cache.specs.Main.{Main}
-use Rattle.gm_graph_cache.specs.Reading.{Held, IsTold, Readings, Tells, file_named, file_of, is_askable, reading_if, readings_by, requirements_in, said_in, vertex_requirements}
+use Rattle.gm_graph_cache.specs.Reading.{Held, IsTold, Readings, Tells, file_named, file_of, is_askable, readings_by, requirements_in, said_in, vertex_requirements}
+use Rattle.gm_graph_cache.proofs.ReadingIf.{reading_if}
 use Rattle.gm_graph_select.specs.declared.step.Edge.{Edge}
 use Rattle.gm_graph_select.specs.declared.step.Step.{Step}
 use Rattle.gm_graph_select.specs.declared.step.Step.TheVariants.{Main as FromMain, Of}

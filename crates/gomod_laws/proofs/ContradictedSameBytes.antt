@@ -8,8 +8,7 @@ use Rattle.gm_graph_select.specs.declared.step.Step.TheVariants.{Main as FromMai
 use Rattle.gm_graph_select.specs.BuildList.{Entry}
 use Rattle.gm_graph.proofs.Mapped.{from_mapped}
 use Rattle.gm_report.specs.Outcome.{Outcome}
-use Rattle.gm_graph_listing.specs.PrintedLines.{row_text}
-use Rattle.gm_graph_listing.specs.Texts.{list_text}
+use Rattle.gm_graph_listing.specs.Texts.{list_text, row_text}
 use Rattle.gm_graph_listing.proofs.ListLines.{list_has_lines}
 use Rattle.gm_graph_listing.proofs.RunNames.{run_has_names, run_has_proper_rows}
 use Rattle.gomod_laws.specs.Counterexamples.{a_one}

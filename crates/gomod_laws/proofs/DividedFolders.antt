@@ -7,7 +7,7 @@ use Rattle.gm_graph_cache.specs.Main.{Main}
 use Rattle.gm_graph_cache.specs.Reading.{Held, Tells, readings_by}
 use Rattle.gm_graph_select.proofs.Ascending.{no_member}
 use Rattle.gm_graph_listing.specs.Laws.{AnswerAlike}
-use Rattle.gm_graph_listing.specs.Outcomes.{AreKnown, Given, GivenFilesReadAs, IsOutcome, IsRefusedRead, Prints as PrintsBy, PrintsChain, PrintsGraph, PrintsList, answers, device, faulty, given, too_many}
+use Rattle.gm_graph_listing.specs.Outcomes.{AreKnown, FilesReadAs, Given, IsOutcome, IsRefusedRead, Prints as PrintsBy, PrintsChain, PrintsGraph, PrintsList, answers, device, faulty, given, too_many}
 use Rattle.gm_graph_listing.specs.Needs.{AnsweredAll, AskedInTurn}
 use Rattle.gm_report.specs.Outcome.{Outcome, refused}
 use Rattle.gm_report.specs.Reports.{too_many_line}
@@ -29,7 +29,7 @@ use Rattle.gomod_laws.proofs.PrintedRuns.{Pairs, query_by_answers}
 -- what a query asked for: nothing, or the files of all opened modules
 data Loading (run : Given) (outcome : Outcome) : Type 0 where
   unread : IsRefusedRead run.file run.sums outcome → run.told.asked ≡ [] → Loading run outcome
-  loaded : (main : Main) (table : Option SumTable) (held : Held) → GivenFilesReadAs run main table → AreKnown main table run.told held → Loading run outcome
+  loaded : (main : Main) (table : Option SumTable) (held : Held) → FilesReadAs run.file run.sums main table → AreKnown main table run.told held → Loading run outcome
 
 failed_nowhere : (names : List Name) (name : Name) → names ≡ [] → names ≡ name ∷ [] → ⊥
 failed_nowhere names name none some = let same : name ∷ [] ≡ [] = sym some ∙ none in cc same
@@ -41,19 +41,19 @@ loading prints run outcome sound few (inr (main, table, read, inl (device name d
 loading prints run outcome sound few (inr (main, table, read, inl (faulty held first others known faults is))) = loaded main table held read known
 loading prints run outcome sound few (inr (main, table, read, inr (held, known, faults, says))) = loaded main table held read known
 
-not_both : (run : Given) (outcome : Outcome) (main : Main) (table : Option SumTable) → IsRefusedRead run.file run.sums outcome → GivenFilesReadAs run main table → ⊥
+not_both : (run : Given) (outcome : Outcome) (main : Main) (table : Option SumTable) → IsRefusedRead run.file run.sums outcome → FilesReadAs run.file run.sums main table → ⊥
 not_both run outcome main table (inl (place, misread, says)) read = misread_or_main run.file place main misread read.main_file
 not_both run outcome main table (inr (other, report, is, misread, says)) read = misread_or_sums run.sums report table misread read.sums
 
-read_as : (file : List ℕ) (sums : Option (List ℕ)) (asked told : Pairs) (main : Main) (table : Option SumTable) → GivenFilesReadAs (given file sums (answers asked [])) main table
-    → GivenFilesReadAs (given file sums (answers told [])) main table
+read_as : (file : List ℕ) (sums : Option (List ℕ)) (asked told : Pairs) (main : Main) (table : Option SumTable) → FilesReadAs file sums main table
+    → FilesReadAs file sums main table
 read_as file sums asked told main table read = record { main_file = read.main_file; sums = read.sums }
 
 module _ (file : List ℕ) (sums : Option (List ℕ)) (asked told : Pairs) (alike : AnswerAlike asked told) where
   -- runs over answers that are alike ask for the same files
   known_names : (main again : Main) (table next : Option SumTable) (held other : Held)
-      → GivenFilesReadAs (given file sums (answers asked [])) main table → AreKnown main table (answers asked []) held
-      → GivenFilesReadAs (given file sums (answers told [])) again next → AreKnown again next (answers told []) other
+      → FilesReadAs file sums main table → AreKnown main table (answers asked []) held
+      → FilesReadAs file sums again next → AreKnown again next (answers told []) other
       → (name : Name) → Contains (names_in asked) name → Contains (names_in told) name
   known_names main again table next held other read known also too name there =
       let same : main ≡ again = one_main file main again read.main_file also.main_file in

@@ -12,7 +12,8 @@ use Rattle.gm_file.specs.declared.fault.DirectiveKind.TheVariants.{NoModule}
 use Rattle.gm_file.specs.Fields.{Dependency}
 use Rattle.gm_store.specs.Asked.{Name, Reply, absent, answer_in, same_name}
 use Rattle.gm_graph_cache.specs.Main.{Main}
-use Rattle.gm_graph_cache.specs.Reading.{Held, IsTold, Readings, Tells, file_of, is_askable, reading_if, readings_by, requirements_in, said_in, vertex_fault, vertex_requirements}
+use Rattle.gm_graph_cache.specs.Reading.{Held, IsTold, Readings, Tells, file_of, is_askable, readings_by, requirements_in, said_in, vertex_fault, vertex_requirements}
+use Rattle.gm_graph_cache.proofs.ReadingIf.{reading_if}
 use Rattle.gm_graph_cache.specs.declared.class.Class.{Class}
 use Rattle.gm_graph_cache.specs.declared.class.Class.TheVariants.{Missing}
 use Rattle.gm_graph_cache.specs.declared.class.Misreading.TheVariants as misreading

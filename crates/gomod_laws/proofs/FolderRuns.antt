@@ -10,7 +10,8 @@ use Rattle.gm_store.specs.Listed.{AreListed}
 use Rattle.gm_store_sums.specs.declared.sum_table.SumTable.{SumTable}
 use Rattle.gm_graph_cache.specs.declared.class.Class.{Class}
 use Rattle.gm_graph_cache.specs.Main.{Main}
-use Rattle.gm_graph_cache.specs.Reading.{Held, IsFileReading, IsTold, Tells, fault_in, file_of, is_askable, reading_if, readings_by, vertex_fault}
+use Rattle.gm_graph_cache.specs.Reading.{Held, IsFileReading, IsTold, Tells, fault_in, file_of, is_askable, readings_by, vertex_fault}
+use Rattle.gm_graph_cache.proofs.ReadingIf.{reading_if}
 use Rattle.gm_graph_cache.proofs.Keeping.{answer_stays}
 use Rattle.gm_graph_select.proofs.Ascending.{member_cases, no_member}
 use Rattle.gm_graph.specs.declared.fault.Fault.{Fault}

@@ -10,7 +10,8 @@ use Rattle.gm_store_sums.specs.declared.sum_table.SumTable.{SumTable}
 use Rattle.gm_graph_cache.specs.declared.class.Class.{Class}
 use Rattle.gm_graph_cache.specs.declared.class.Class.TheVariants.{NotFetchable}
 use Rattle.gm_graph_cache.specs.Main.{Main, replacement_in, without_excluded}
-use Rattle.gm_graph_cache.specs.Reading.{Held, IsFileReading, IsReadUnless, IsTold, Readings, Tells, declares, fault_in, file_named, file_of, is_askable, reading_if, readings_by, sum_fault, vertex_fault, with_right_path}
+use Rattle.gm_graph_cache.specs.Reading.{Held, IsFileReading, IsReadUnless, IsTold, Readings, Tells, declares, fault_in, file_named, file_of, is_askable, readings_by, sum_fault, vertex_fault, with_right_path}
+use Rattle.gm_graph_cache.proofs.ReadingIf.{reading_if}
 use Rattle.gm_graph_cache.proofs.OneReading.{one_reading}
 use Rattle.gm_graph_select.proofs.Ascending.{no_member}
 use Rattle.gm_graph_select.proofs.Same.{AreSame}

@@ -13,7 +13,7 @@ use Rattle.gm_graph.specs.Loading.{AreTooMany, Told}
 use Rattle.gm_graph.specs.Outcome.{AreEdges, AreFaults}
 use Rattle.gm_graph_listing.specs.Found.{ReportsFaultsOr}
 use Rattle.gm_graph_listing.specs.Laws.{AllFilesAreValid, AnswerAlike}
-use Rattle.gm_graph_listing.specs.Outcomes.{AreInvalidSums, AreKnown, AreRows, AreSums, Given, GivenFilesReadAs, IsMainFile, IsOutcome, IsOutcomeOver, Prints, PrintsGraph, PrintsList, device, faulty, too_many}
+use Rattle.gm_graph_listing.specs.Outcomes.{AreInvalidSums, AreKnown, AreRows, AreSums, FilesReadAs, Given, IsMainFile, IsOutcome, IsOutcomeOver, Prints, PrintsGraph, PrintsList, device, faulty, too_many}
 use Rattle.gm_report.specs.Outcome.{Outcome, refused}
 use Rattle.gm_report.specs.Reports.{too_many_line}
 use Rattle.gm_graph_listing.proofs.OneRead.{misread_or_main, misread_or_sums, one_finding, one_main, tells_alike}
@@ -38,7 +38,7 @@ pub record IsKnown (prints : Prints) (run : Given) (main : Main) (outcome : Outc
   pub table : Option SumTable
   pub held : Held
   pub faults : List Fault
-  pub read : GivenFilesReadAs run main table
+  pub read : FilesReadAs run.file run.sums main table
   pub known : AreKnown main table run.told held
   pub are : AreFaults main (readings_by main held) faults
   pub shows : ReportsFaultsOr faults (prints main (readings_by main held) outcome) outcome

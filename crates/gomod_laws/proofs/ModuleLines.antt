@@ -27,7 +27,7 @@ use Rattle.gm_syntax.proofs.Stable.{is_stable}
 use Rattle.gm_file.specs.Directives.{Lax, directive_of, item_at}
 use Rattle.gm_file.specs.Faults.{directive_kinds, fault_of, faults}
 use Rattle.gm_file.specs.Fields.{Dependency, dependency_of}
-use Rattle.gm_graph_cache.specs.Reading.{IsReadAsDependency}
+use Rattle.gm_file.specs.DepLines.{IsDependencyIn}
 use Rattle.gm_graph_listing.specs.Outcomes.{longest}
 use Rattle.gm_graph_listing.proofs.ListLines.{Lacks, lacks, path_has_no_feed}
 use Rattle.gomod_laws.specs.ReportLaws.{module_line}
@@ -196,5 +196,5 @@ line_requires_nothing path = refl
 abbrev pub line_file : List ℕ → Dependency
 line_file path = dependency_of (lines path)
 
-pub line_reads : (path : List ℕ) → IsPath path → length (module_line path) ≤ longest → IsReadAsDependency (module_line path) (line_file path)
+pub line_reads : (path : List ℕ) → IsPath path → length (module_line path) ≤ longest → IsDependencyIn (module_line path) (line_file path)
 line_reads path is short = (doc path, parsed path is short, no_fault path ((path-tested path).1 is), refl)

@@ -9,7 +9,9 @@ use Rattle.gm_store.specs.Asked.{Name, Reply, answer_in, bytes, mod_file}
 use Rattle.gm_graph_cache.specs.declared.class.Class.{Class}
 use Rattle.gm_graph_cache.specs.declared.class.Class.TheVariants.{WrongPath}
 use Rattle.gm_graph_cache.specs.Main.{Main, replacement_in}
-use Rattle.gm_graph_cache.specs.Reading.{Held, IsFileReading, IsReadAsDependency, IsReadUnless, IsTold, fault_in, file_named, file_of, is_askable, is_right_path, reading_if, readings_by, sum_fault, vertex_fault, with_right_path}
+use Rattle.gm_graph_cache.specs.Reading.{Held, IsFileReading, IsReadUnless, IsTold, fault_in, file_named, file_of, is_askable, is_right_path, readings_by, sum_fault, vertex_fault, with_right_path}
+use Rattle.gm_file.specs.DepLines.{IsDependencyIn}
+use Rattle.gm_graph_cache.proofs.ReadingIf.{reading_if}
 use Rattle.gm_graph_select.proofs.Ascending.{no_member}
 use Rattle.gm_graph.specs.declared.fault.Fault.{Fault}
 use Rattle.gm_graph.specs.Graph.{IsOpened}
@@ -27,7 +29,7 @@ pub record SaysAs (main : Main) (file : Dependency) : Type 0 where
   pub requirements : file.requirements ≡ main.requirements
   pub go : file.go ≡ main.go
 
-pub says_as : (content : List ℕ) (main : Main) (file : Dependency) → IsMainFile content main → IsReadAsDependency content file → SaysAs main file
+pub says_as : (content : List ℕ) (main : Main) (file : Dependency) → IsMainFile content main → IsDependencyIn content file → SaysAs main file
 says_as content main file (lines, (parsed, sound), is) (doc, also, lax, says) =
     let same : plain_lines doc ≡ plain_lines lines = same_lines content doc lines also parsed in
     record {
@@ -38,7 +40,7 @@ says_as content main file (lines, (parsed, sound), is) (doc, also, lax, says) =
 
 -- ---- the reading
 
-pub read_well : (fault : Option Class) (content : List ℕ) (file : Dependency) → IsReadUnless fault content (Ok file) → IsReadAsDependency content file
+pub read_well : (fault : Option Class) (content : List ℕ) (file : Dependency) → IsReadUnless fault content (Ok file) → IsDependencyIn content file
 read_well None content file is = is
 read_well (Some class) content file is = cc is
 
@@ -84,7 +86,7 @@ module _ (run : Given) (main : Main) (held : Held) (valid : AllFilesAreValid run
 
   reading_is : (x : ModuleVersion) (content : List ℕ) (answer : Option Reply) (said : Option (Result Dependency Class)) (askable : Bool) → askable ≡ true → answer ≡ Some (bytes content)
       → IsTold valid.table (mod_file x.0 x.1) answer said → fault_in (reading_if askable main x said) ≡ None
-      → (file : Dependency) × IsReadAsDependency content file × (reading_if askable main x said ≡ Some (Ok file))
+      → (file : Dependency) × IsDependencyIn content file × (reading_if askable main x said ≡ Some (Ok file))
   reading_is x content None said askable may e told sound = cc e
   reading_is x content (Some reply) None askable may e told sound = absurd told
   reading_is x content (Some reply) (Some r) false may e told sound = absurd (false≢true may)
@@ -98,7 +100,7 @@ module _ (run : Given) (main : Main) (held : Held) (valid : AllFilesAreValid run
 
   -- a module whose file was given is opened, and its file is read
   pub given_reading : (x : ModuleVersion) (content : List ℕ) → answer_in run.told.asked (mod_file x.0 x.1) ≡ Some (bytes content)
-      → IsOpened main (readings_by main held) x × ((file : Dependency) × IsReadAsDependency content file × (readings_by main held x ≡ Some (Ok file)))
+      → IsOpened main (readings_by main held) x × ((file : Dependency) × IsDependencyIn content file × (readings_by main held x ≡ Some (Ok file)))
   given_reading x content e =
       let (opened, askable) = asked_opened x (bytes content) e in
       let told : IsTold valid.table (mod_file x.0 x.1) (answer_in run.told.asked (mod_file x.0 x.1)) (held (file_of main x)) =

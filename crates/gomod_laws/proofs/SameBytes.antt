@@ -12,7 +12,8 @@ use Rattle.gm_store_sums.specs.declared.sum_table.SumTable.{SumTable}
 use Rattle.gm_graph_cache.specs.declared.class.Class.{Class}
 use Rattle.gm_graph_cache.specs.declared.class.Class.TheVariants.{NotFetchable, WrongPath}
 use Rattle.gm_graph_cache.specs.Main.{Main, is_pruned_by, replacement_in}
-use Rattle.gm_graph_cache.specs.Reading.{Held, IsContentReading, IsFileReading, IsReadUnless, IsTold, Readings, Tells, declares, fault_in, file_named, file_of, is_askable, reading_if, readings_by, sum_fault, with_right_path}
+use Rattle.gm_graph_cache.specs.Reading.{Held, IsContentReading, IsFileReading, IsReadUnless, IsTold, Readings, Tells, declares, fault_in, file_named, file_of, is_askable, readings_by, sum_fault, with_right_path}
+use Rattle.gm_graph_cache.proofs.ReadingIf.{reading_if}
 use Rattle.gm_graph_cache.proofs.OneReading.{one_reading}
 use Rattle.gm_graph_select.proofs.Ascending.{no_member}
 use Rattle.gm_graph_select.proofs.Same.{AreSame}

@@ -10,7 +10,8 @@ use Rattle.gm_store_sums.specs.declared.sum_table.SumTable.{SumTable}
 use Rattle.gm_graph_cache.specs.declared.class.Class.{Class}
 use Rattle.gm_graph_cache.specs.declared.class.Class.TheVariants.{NotFetchable}
 use Rattle.gm_graph_cache.specs.Main.{Main, is_pruned_by, replacement_in}
-use Rattle.gm_graph_cache.specs.Reading.{Held, Readings, fault_in, file_named, file_of, is_askable, is_unpruned_in, reading_if, readings_by, requirements_in, said_in, vertex_requirements, with_right_path}
+use Rattle.gm_graph_cache.specs.Reading.{Held, Readings, fault_in, file_named, file_of, is_askable, is_unpruned_in, readings_by, requirements_in, said_in, vertex_requirements, with_right_path}
+use Rattle.gm_graph_cache.proofs.ReadingIf.{reading_if}
 use Rattle.gm_graph_select.specs.declared.step.Edge.{Edge}
 use Rattle.gm_graph_select.specs.declared.step.Step.{Step}
 use Rattle.gm_graph_select.specs.declared.step.Step.TheVariants.{Main as FromMain, Of}

@@ -94,7 +94,7 @@ module _ (prints : PrintsOver) (once : PrintsOnce prints) (main one other : List
         same_for : (name : Name) → IsNeeded said (readings_by said held) name → HaveSameFor one other name
         same_for (mod_file path version) needed =
             λ hash. are.same path version hash
-            (record { main = said; table = Some t; held = held; main_reads = is_main; sums_read = reads; files_read = told; needed = needed })
+            (record { main = said; table = Some t; held = held; read = record { main_file = is_main; sums = reads }; files_read = told; needed = needed })
         same_for (folder_file folder) needed = tt
         same_for (list_file path) needed = tt
 

@@ -102,8 +102,7 @@ module _ (main sums : List ℕ) (asked : List (Name × Reply)) (right : AreRight
         main = said;
         table = None;
         held = held;
-        main_reads = is_main;
-        sums_read = tt;
+        read = record { main_file = is_main; sums = tt };
         files_read = tells;
         needed = needed;
       })

@@ -5,7 +5,7 @@ use Rattle.gm_graph_select.specs.declared.step.Edge.{Edge}
 use Rattle.gm_graph_select.specs.BuildList.{Entry}
 use Rattle.gm_graph_listing.specs.Outcomes.{Given}
 use Rattle.gm_report.specs.Outcome.{Outcome, printed, refused}
-use Rattle.gm_graph_listing.specs.PrintedLines.{edge_text}
+use Rattle.gm_graph_listing.specs.Texts.{edge_text}
 use Rattle.gomod_laws.specs.AdditionLaws.{KeepsLines, LowersNothing}
 use Rattle.gomod_laws.specs.Counterexamples.{graph_of_a, list_of_a}
 use Rattle.gomod_laws.specs.RequirableLaws.{PrintsAndStays}

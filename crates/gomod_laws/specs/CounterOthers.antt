@@ -4,8 +4,7 @@ use Rattle.gm_file.specs.GoVersions.{strict_go}
 use Rattle.gm_graph_cache.specs.Main.{Main}
 use Rattle.gm_syntax.specs.Lines.{lines_of}
 use Rattle.gm_report.specs.Outcome.{Outcome, printed, refused}
-use Rattle.gm_graph_listing.specs.PrintedLines.{edge_text, row_text}
-use Rattle.gm_graph_listing.specs.Texts.{step_text}
+use Rattle.gm_graph_listing.specs.Texts.{step_text, row_text, edge_text}
 use Rattle.gm_graph_select.specs.declared.step.Step.TheVariants.{Main as FromMain, Of}
 use Rattle.gm_graph_select.specs.Graph.{edge}
 use Rattle.gomod_laws.specs.Counterexamples.{a_one, chain_to_a, graph_of_a, list_of_a}

@@ -15,7 +15,7 @@ use Rattle.gm_graph.specs.declared.fault.Fault.{Fault}
 use Rattle.gm_graph.specs.Graph.{IsTop}
 use Rattle.gm_graph.specs.Outcome.{AreFaults}
 use Rattle.gm_graph_listing.specs.Laws.{AnswerAlike}
-use Rattle.gm_graph_listing.specs.Outcomes.{AreKnown, AreSums, Given, GivenFilesReadAs, IsMainFile}
+use Rattle.gm_graph_listing.specs.Outcomes.{AreKnown, AreSums, FilesReadAs, Given, IsMainFile}
 use Rattle.gm_report.specs.Outcome.{Outcome, refused}
 use Rattle.gm_report.specs.Reports.{faults_text, too_many_line}
 use Rattle.gomod_words.specs.declared.usage.Command.{Command}
@@ -129,7 +129,7 @@ ReportsThese (first ∷ others) outcome = outcome ≡ refused (faults_text (firs
 pub record ShowsFaults (run : Given) (main : Main) (faults : List Fault) (outcome : Outcome) : Type 0 where
   pub held : Held
   pub table : Option SumTable
-  pub read : GivenFilesReadAs run main table
+  pub read : FilesReadAs run.file run.sums main table
   pub known : AreKnown main table run.told held
   pub are : AreFaults main (readings_by main held) faults
   pub reports : ReportsThese faults outcome

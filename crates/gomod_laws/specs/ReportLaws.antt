@@ -8,13 +8,14 @@ use Rattle.gm_store_sums.specs.Sums.{Says}
 use Rattle.gm_store_sums.specs.declared.sum_table.Sum.TheVariants.{Good}
 use Rattle.gm_store_sums.specs.declared.sum_table.SumTable.{SumTable}
 use Rattle.gm_graph_cache.specs.Main.{Main}
-use Rattle.gm_graph_cache.specs.Reading.{Held, IsReadAsDependency, readings_by}
+use Rattle.gm_graph_cache.specs.Reading.{Held, readings_by}
+use Rattle.gm_file.specs.DepLines.{IsDependencyIn}
 use Rattle.gm_graph_cache.specs.declared.class.Class.TheVariants.{NotFetchable}
 use Rattle.gm_graph_select.specs.declared.step.Edge.{Edge}
 use Rattle.gm_graph_select.specs.BuildList.{Entry}
 use Rattle.gm_graph.specs.declared.fault.Fault.{Fault}
 use Rattle.gm_graph.specs.Outcome.{AreEdges}
-use Rattle.gm_graph_listing.specs.Outcomes.{AreKnown, AreRows, Given, GivenFilesReadAs, longest}
+use Rattle.gm_graph_listing.specs.Outcomes.{AreKnown, AreRows, FilesReadAs, Given, longest}
 use Rattle.gm_report.specs.Outcome.{Outcome}
 use Rattle.gomod_words.specs.declared.usage.Command.{Command}
 use Rattle.gomod_words.specs.declared.usage.Command.TheVariants.{Graph, List as Rows}
@@ -38,7 +39,7 @@ FilesFor = Option (List ℕ) → ModuleVersion → Reply → Type 0
 abbrev pub RequiresNothing : FilesFor
 RequiresNothing sums x reply =
     (content : List ℕ) × (file : Dependency) × (reply ≡ bytes content) × IsSummed sums x content
-    × IsReadAsDependency content file × (file.declared ≡ Some x.0) × (file.requirements ≡ [])
+    × IsDependencyIn content file × (file.declared ≡ Some x.0) × (file.requirements ≡ [])
 
 -- the line `module PATH`
 abbrev pub module_line : List ℕ → List ℕ
@@ -73,7 +74,7 @@ pub record AreMended (Files : FilesFor) (command again : Command) (file : List �
 pub record AreRowsBy (run : Given) (main : Main) (rows : List Entry) : Type 0 where
   pub held : Held
   pub table : Option SumTable
-  pub read : GivenFilesReadAs run main table
+  pub read : FilesReadAs run.file run.sums main table
   pub known : AreKnown main table run.told held
   pub are : AreRows main (readings_by main held) rows
 
@@ -81,7 +82,7 @@ pub record AreRowsBy (run : Given) (main : Main) (rows : List Entry) : Type 0 wh
 pub record AreEdgesBy (run : Given) (main : Main) (edges : List Edge) : Type 0 where
   pub held : Held
   pub table : Option SumTable
-  pub read : GivenFilesReadAs run main table
+  pub read : FilesReadAs run.file run.sums main table
   pub known : AreKnown main table run.told held
   pub are : AreEdges main (readings_by main held) edges
 

@@ -7,9 +7,8 @@ use Rattle.gm_graph_select.specs.declared.step.Edge.{Edge}
 use Rattle.gm_graph_select.specs.BuildList.{Entry, HasEntryFor, path_of}
 use Rattle.gm_graph_listing.specs.Laws.{AnswerAlike}
 use Rattle.gm_report.specs.Outcome.{Outcome, printed, refused}
-use Rattle.gm_graph_listing.specs.PrintedLines.{edge_text}
 use Rattle.gm_report.specs.Reports.{not_listed_line}
-use Rattle.gm_graph_listing.specs.Texts.{step_text}
+use Rattle.gm_graph_listing.specs.Texts.{edge_text, step_text}
 use Rattle.gm_report.specs.Texts.{line}
 use Rattle.gomod_words.specs.declared.usage.Command.TheVariants.{Graph, List as Rows, Chain}
 use Rattle.gomod_laws.specs.Runs.{HasOutcome, HasPrinted}

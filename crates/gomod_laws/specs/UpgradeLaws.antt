@@ -10,7 +10,8 @@ use Rattle.gm_file.specs.Fields.{Dependency}
 use Rattle.gm_file_edit.specs.Edits.{Set, RequireAt}
 use Rattle.gm_store.specs.Asked.{Name, Reply, answer_in, bytes}
 use Rattle.gm_graph_cache.specs.Main.{Main, is_excluded, is_pruned_by, without_excluded}
-use Rattle.gm_graph_cache.specs.Reading.{IsReadAsDependency, file_of}
+use Rattle.gm_graph_cache.specs.Reading.{file_of}
+use Rattle.gm_file.specs.DepLines.{IsDependencyIn}
 use Rattle.gm_graph.specs.Graph.{IsTop}
 use Rattle.gm_report.specs.Outcome.{Outcome}
 use Rattle.gomod_words.specs.declared.usage.Command.TheVariants.{List as Rows}
@@ -36,7 +37,7 @@ pub record RequiresNoLess (main : Main) (earlier later : Dependency) : Type 0 wh
 -- The file of the module, or that of what replaces it, was asked for, and says this.
 abbrev pub IsAnsweredWith : Main → List (Name × Reply) → ModuleVersion → Dependency → Type 0
 IsAnsweredWith main asked x file = (content : List ℕ) × (answer_in asked (file_of main x) ≡ Some (bytes content))
-    × IsReadAsDependency content file
+    × IsDependencyIn content file
 
 -- A later version of a module that the second run asked for requires no less than an earlier one that the first run
 -- asked for.

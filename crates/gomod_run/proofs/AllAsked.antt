@@ -57,10 +57,10 @@ module _ (file : List ℕ) (sums : Option (List ℕ)) (asked : List (Name × Rep
   all_answered : AnsweredAll (GraphNeeds file sums) (answer_in asked)
   all_answered name needs =
       let held_same : needs.held ≡ held =
-      fun_ext (λ (n : Name). same_told needs.table table (one_finding sums needs.table table needs.sums_read sums_read) n (answer_in asked n) (needs.held n) (held n) (needs.files_read n) (tells n)) in
+      fun_ext (λ (n : Name). same_told needs.table table (one_finding sums needs.table table needs.read.sums sums_read) n (answer_in asked n) (needs.held n) (held n) (needs.files_read n) (tells n)) in
       let by_held : IsNeeded needs.main (readings_by needs.main held) name =
       subst (λ (h : Held). IsNeeded needs.main (readings_by needs.main h) name) held_same needs.needed in
-      needed_answered name (subst (λ (m : Main). IsNeeded m (readings_by m held) name) (one_main file needs.main main needs.main_reads main_reads) by_held)
+      needed_answered name (subst (λ (m : Main). IsNeeded m (readings_by m held) name) (one_main file needs.main main needs.read.main_file main_reads) by_held)
 
 -- ---- runs that are done
 
