@@ -1,5 +1,5 @@
 -- Facts about how the program ends.
-use Rattle.std.proofs.Common.{◌≡◌, ◌∙◌, ◌++◌, ◌∷◌, ℕ, Bool, List, [], Option, None, Some, Contains, ap, codes, false, inl, inr, subst, sym, true}
+use Rattle.std.proofs.Common.{◌≡◌, ◌∙◌, ◌++◌, ◌∷◌, MatchBool, ℕ, Bool, List, [], Option, None, Some, Contains, ap, codes, false, inl, inr, subst, sym, true}
 use Rattle.std.specs.Str.{IsUtf8}
 use Rattle.gm_store.specs.Asked.{Name, Reply, answer_in, list_file, reply_for}
 use Rattle.gm_store.specs.Memory.{may_give}
@@ -18,7 +18,7 @@ use Rattle.gomod_run.specs.Held.{HoldsOne}
 use Rattle.gomod_run.specs.Program.{AreOfOneFile, IsFolderOutcome, IsInputOutcome, IsUnreadableWords, IsProgramOutcome, IsProgramStatus, IsServed, IsWordsOutcome, MayBeTold, usage_outcome}
 use Rattle.gm_store.specs.States.{StoreState}
 use Rattle.gomod_run.specs.Runs.{IsRunOutcome, Needs, StatesOutcome, is_over_file, is_query}
-use Rattle.gomod_run.specs.Queries.{PrintsOf, RunsAs, RunsTo}
+use Rattle.gomod_run.specs.Queries.{PrintsOf, RunsTo}
 use Rattle.gomod_run.proofs.Answering.{answered_in}
 use Rattle.gomod_run.specs.Written.{EndsAsStated}
 use Rattle.gm_store.specs.Taken.{SinkState}
@@ -108,6 +108,12 @@ input_weaken command path list store asked old new same none still held allowed 
 )
 input_weaken command path list store asked old new same none still held allowed outcome (inr refused) =
     let grown : [] ≡ refused.0 ∷ [] = sym still ∙ refused.4 ∙ ap (λ (names : List Name). names ++ refused.0 ∷ []) none in absurd (cc)
+
+-- `RunsTo` with the test as a variable
+abbrev RunsAs : Bool → Command → List ℕ → Option (List ℕ) → StoreState → StoreState → Outcome → Type 0
+RunsAs query command main sums old new outcome = MatchBool query
+    (IsAnswerOver (PrintsOf command) main sums old new outcome)
+    (IsRunOutcome (Needs command main sums) (StatesOutcome command main sums) old new outcome)
 
 -- the outcomes of `graph`, `list` and `chain` are those of `IsAnswerOver`
 pub query_runs : (command : Command) (main : List ℕ) (sums : Option (List ℕ)) (old new : StoreState) (outcome : Outcome) → is_query command ≡ true

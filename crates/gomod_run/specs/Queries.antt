@@ -1,5 +1,5 @@
 -- The outcomes of `graph`, `list` and `chain`, and of each command.
-use Rattle.std.specs.Prelude.{ℕ, Bool, List, Option, false, true}
+use Rattle.std.specs.Prelude.{ℕ, List, MatchBool, Option}
 use Rattle.gm_graph_listing.specs.Outcomes.{Given, IsAnswerOver, IsOutcome, Prints, PrintsChain, PrintsGraph, PrintsList}
 use Rattle.gm_report.specs.Outcome.{Outcome}
 use Rattle.gomod_words.specs.declared.usage.Command.{Command}
@@ -19,11 +19,7 @@ abbrev pub IsQueryOutcome : Command → Given → Outcome → Type 0
 IsQueryOutcome command run outcome = IsOutcome (PrintsOf command) run outcome
 
 -- the outcomes of a run of a command: of a query, or of `fmt`, `edit` or `versions`
-abbrev pub RunsAs : Bool → Command → List ℕ → Option (List ℕ) → StoreState → StoreState → Outcome → Type 0
-RunsAs true query main sums old new outcome = IsAnswerOver (PrintsOf query) main sums old new outcome
-RunsAs false command main sums old new outcome =
-    IsRunOutcome (Needs command main sums) (StatesOutcome command main sums) old new outcome
-
--- the outcomes of a run of any command
 abbrev pub RunsTo : Command → List ℕ → Option (List ℕ) → StoreState → StoreState → Outcome → Type 0
-RunsTo command main sums old new outcome = RunsAs (is_query command) command main sums old new outcome
+RunsTo command main sums old new outcome = MatchBool (is_query command)
+    (IsAnswerOver (PrintsOf command) main sums old new outcome)
+    (IsRunOutcome (Needs command main sums) (StatesOutcome command main sums) old new outcome)
