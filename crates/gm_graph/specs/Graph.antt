@@ -8,6 +8,7 @@ use Rattle.gm_graph_cache.specs.Main.{Main, is_pruned_by, without_excluded}
 use Rattle.gm_graph_cache.specs.Reading.{Readings, is_unpruned, vertex_requirements}
 use Rattle.gm_graph_select.specs.declared.step.Step.{Step}
 use Rattle.gm_graph_select.specs.declared.step.Step.TheVariants.{Main as FromMain, Of}
+use Rattle.gm_graph_select.specs.Graph.{IsEdgeEnd}
 
 -- What the main file requires, except what it excludes, is opened at the top.
 abbrev pub IsTop : Main → ModuleVersion → Type 0
@@ -40,4 +41,4 @@ IsEdge main readings (Of x) y = IsOpened main readings x × Contains (vertex_req
 
 -- An edge leads to the vertex.
 abbrev pub IsVertex : Main → Readings → ModuleVersion → Type 0
-IsVertex main readings y = (from : Step) × IsEdge main readings from y
+IsVertex main readings y = IsEdgeEnd (IsEdge main readings) y

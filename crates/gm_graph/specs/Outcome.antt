@@ -34,6 +34,11 @@ pub record AreEdges (main : Main) (readings : Readings) (edges : List Edge) : Ty
   pub ascending : IsAscending edge_cmp edges
   pub each : (one : Edge) → Contains edges one ↔ IsEdge main readings one.from one.to
 
+-- The build list: the main module, followed by each other path that an edge leads to, once, in path order, at
+-- the greatest version.
+abbrev pub AreRows : Main → Readings → List Entry → Type 0
+AreRows main readings rows = IsBuildList main.path main.replaces (IsEdge main readings) rows
+
 -- The result of loading. Each part is what the definitions state for the contents of the files, the file of each
 -- opened vertex is known, no other file was asked for, and at most 65,536 vertices are opened.
 pub record IsLoaded (main : Main) (pairs : List (Name × Reply)) (loaded : LoadedGraph)
@@ -41,7 +46,7 @@ pub record IsLoaded (main : Main) (pairs : List (Name × Reply)) (loaded : Loade
   pub main_is : loaded.main ≡ main.path
   pub faults : AreFaults main readings loaded.faults
   pub edges : AreEdges main readings loaded.edges
-  pub rows : IsBuildList main.path main.replaces (IsEdge main readings) loaded.rows
+  pub rows : AreRows main readings loaded.rows
   pub turns : AreTurns main readings loaded.turns
   pub answered : (x : ModuleVersion) → IsOpened main readings x → IsAnswered main pairs x
   pub asked : AreAsked main readings (names_in pairs)

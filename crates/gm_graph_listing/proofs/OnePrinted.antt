@@ -18,9 +18,9 @@ use Rattle.gm_graph_select.proofs.Same.{AreSame, same_back, same_build_list, sam
 use Rattle.gm_graph.specs.declared.fault.Fault.{Fault}
 use Rattle.gm_graph.specs.Graph.{IsEdge}
 use Rattle.gm_graph.specs.Loading.{AreFew}
-use Rattle.gm_graph.specs.Outcome.{AreEdges, AreFaults}
+use Rattle.gm_graph.specs.Outcome.{AreEdges, AreFaults, AreRows}
 use Rattle.gm_graph_listing.specs.Texts.{chain_text, graph_text, limited, list_text}
-use Rattle.gm_graph_listing.specs.Outcomes.{AreRows, Prints, PrintsChain, PrintsGraph, PrintsList, PrintsRows, ShowsChain}
+use Rattle.gm_graph_listing.specs.Outcomes.{Prints, PrintsChain, PrintsGraph, PrintsList, PrintsRows, ShowsChain}
 use Rattle.gm_report.specs.Outcome.{Outcome, printed}
 use Rattle.gm_graph_listing.proofs.FewOpened.{edges_listed}
 use Rattle.gm_graph_listing.proofs.OneStore.{Agrees, fault}

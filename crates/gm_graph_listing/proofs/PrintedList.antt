@@ -22,7 +22,8 @@ use Rattle.gm_graph.specs.Graph.{IsEdge, IsVertex}
 use Rattle.gm_graph.specs.Loading.{AreFew}
 use Rattle.gm_graph.proofs.Mapped.{from_mapped, in_mapped}
 use Rattle.gm_graph_listing.specs.Laws.{AllFilesAreValid, AreGreatest, ArePrintedPages, ListIsBuildList, PrintedPagesJoin, no_row, one_page}
-use Rattle.gm_graph_listing.specs.Outcomes.{AreRows, Given, IsListOutcome, IsOutcome, Prints, PrintsList, device, faulty, too_many}
+use Rattle.gm_graph_listing.specs.Outcomes.{Given, IsListOutcome, IsOutcome, Prints, PrintsList, device, faulty, too_many}
+use Rattle.gm_graph.specs.Outcome.{AreRows}
 use Rattle.gm_report.specs.Outcome.{Outcome, failed, printed, refused}
 use Rattle.gm_graph_listing.specs.Texts.{list_text}
 use Rattle.gm_graph_listing.proofs.FewOpened.{edges_listed}

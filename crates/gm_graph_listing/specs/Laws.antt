@@ -18,10 +18,10 @@ use Rattle.gm_graph_select.specs.Graph.{Edges, among}
 use Rattle.gm_graph_select.specs.Laws.{entries_of_pages}
 use Rattle.gm_graph_select.specs.Order.{IsAscending}
 use Rattle.gm_graph.specs.Graph.{IsEdge, IsVertex}
-use Rattle.gm_graph.specs.Outcome.{AreEdges, AreFaults}
+use Rattle.gm_graph.specs.Outcome.{AreEdges, AreFaults, AreRows}
 use Rattle.gm_report.specs.declared.status.Status.TheVariants.{Done}
 use Rattle.gm_graph_listing.specs.Texts.{chain_text, graph_text, list_text}
-use Rattle.gm_graph_listing.specs.Outcomes.{AreKnown, AreRows, FilesReadAs, Given, IsChainOutcome, IsGraphOutcome, IsListOutcome, PrintsRows, ShowsChain}
+use Rattle.gm_graph_listing.specs.Outcomes.{AreKnown, FilesReadAs, Given, IsChainOutcome, IsGraphOutcome, IsListOutcome, PrintsRows, ShowsChain}
 use Rattle.gm_report.specs.Outcome.{Outcome, code_of, printed}
 
 -- ---- one outcome

@@ -18,13 +18,13 @@ use Rattle.gm_graph_cache.specs.Reading.{Held, IsMisreadAt, Readings, Tells, rea
 use Rattle.gm_graph_cache.specs.declared.class.Misreading.TheVariants as misreading
 use Rattle.gm_graph_select.specs.declared.step.Step.{Step}
 use Rattle.gm_graph_select.specs.declared.step.Edge.{Edge}
-use Rattle.gm_graph_select.specs.BuildList.{Entry, IsBuildList, IsEntryOf, HasEntryFor, IsRestAfter}
+use Rattle.gm_graph_select.specs.BuildList.{Entry, IsEntryOf, HasEntryFor, IsRestAfter}
 use Rattle.gm_graph_select.specs.Chains.{IsChain}
 use Rattle.gm_graph_select.specs.Graph.{Edges}
 use Rattle.gm_graph.specs.declared.fault.Fault.{Fault}
 use Rattle.gm_graph.specs.Graph.{IsEdge, IsOpened}
 use Rattle.gm_graph.specs.Loading.{AreAsked, AreFew, AreTooMany, IsAnswered, IsDue, Told}
-use Rattle.gm_graph.specs.Outcome.{AreEdges, AreFaults}
+use Rattle.gm_graph.specs.Outcome.{AreEdges, AreFaults, AreRows}
 use Rattle.gm_graph_listing.specs.declared.query.Query.{Query}
 use Rattle.gm_graph_listing.specs.declared.query.Query.TheVariants.{Graph, List as Rows, Chain}
 use Rattle.gm_graph_listing.specs.Texts.{chain_text, graph_text, limited, list_text}
@@ -166,11 +166,6 @@ abbrev pub IsGraphOutcome : Given → Outcome → Type 0
 IsGraphOutcome run outcome = IsOutcome PrintsGraph run outcome
 
 -- ---- list
-
--- The build list: the main module, followed by each other path that an edge leads to, once, in path order, at
--- the greatest version.
-abbrev pub AreRows : Main → Readings → List Entry → Type 0
-AreRows main readings rows = IsBuildList main.path main.replaces (IsEdge main readings) rows
 
 -- the path is not in the build list, and this is reported
 abbrev pub IsUnlisted : Main → List Entry → List ℕ → Outcome → Type 0

@@ -10,7 +10,8 @@ use Rattle.gm_graph_select.specs.BuildList.{Entry}
 use Rattle.gm_graph_select.proofs.Lawful.{row_selected, selected_row}
 use Rattle.gm_graph.specs.Graph.{IsEdge, IsOpened, IsTop}
 use Rattle.gm_graph.specs.Loading.{AreFew}
-use Rattle.gm_graph_listing.specs.Outcomes.{AreRows, IsGraphOutcome, IsListOutcome, Prints, PrintsGraph, PrintsList, answers, given}
+use Rattle.gm_graph_listing.specs.Outcomes.{IsGraphOutcome, IsListOutcome, Prints, PrintsGraph, PrintsList, answers, given}
+use Rattle.gm_graph.specs.Outcome.{AreRows}
 use Rattle.gm_report.specs.Outcome.{Outcome}
 use Rattle.gm_graph_listing.proofs.OneStore.{Agrees}
 use Rattle.gm_graph_listing.proofs.PrintedList.{greatest}

@@ -13,10 +13,10 @@ use Rattle.gm_graph_select.proofs.Ascending.{member_cases, member_head, member_t
 use Rattle.gm_graph_select.proofs.Lawful.{rows_are_ends}
 use Rattle.gm_graph_select.proofs.Same.{same_build_list, same_chain}
 use Rattle.gm_graph.specs.Graph.{IsEdge, IsTop}
-use Rattle.gm_graph.specs.Outcome.{AreEdges}
+use Rattle.gm_graph.specs.Outcome.{AreEdges, AreRows}
 use Rattle.gm_graph.proofs.Rooted.{same_edges}
 use Rattle.gm_graph_listing.specs.Laws.{AllFilesAreValid, IsWalk, further, here}
-use Rattle.gm_graph_listing.specs.Outcomes.{AreRows, Given}
+use Rattle.gm_graph_listing.specs.Outcomes.{Given}
 use Rattle.gm_report.specs.Outcome.{printed}
 use Rattle.gm_graph_listing.specs.PrintedLines.{AreProperRows, AreProperSteps, IsProperRow, IsProperStep}
 use Rattle.gm_report.specs.Reports.{not_listed_line}

@@ -17,7 +17,8 @@ use Rattle.gm_graph_select.specs.Laws.{entries_of_pages}
 use Rattle.gm_graph_select.proofs.Ascending.{member_cases, member_head, member_tail, no_member}
 use Rattle.gm_graph.specs.Graph.{IsDeep, IsOpened, IsTop, IsVertex, from_deep, from_main, from_top}
 use Rattle.gm_graph_listing.specs.Laws.{AllFilesAreValid, AreGreatest, ArePrintedPages, ShowsBuildList, no_row, one_page}
-use Rattle.gm_graph_listing.specs.Outcomes.{AreRows, Given, IsListOutcome, IsMainFile}
+use Rattle.gm_graph_listing.specs.Outcomes.{Given, IsListOutcome, IsMainFile}
+use Rattle.gm_graph.specs.Outcome.{AreRows}
 use Rattle.gm_report.specs.Outcome.{Outcome, printed, refused}
 use Rattle.gm_graph_listing.specs.PrintedLines.{AreProperRows, IsProperRow}
 use Rattle.gm_report.specs.Reports.{not_listed_line}

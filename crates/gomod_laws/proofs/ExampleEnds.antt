@@ -23,9 +23,9 @@ use Rattle.gm_graph_select.specs.Graph.{IsEdgeEnd}
 use Rattle.gm_graph_select.proofs.Ascending.{member_cases, member_head, no_member}
 use Rattle.gm_graph.specs.Graph.{IsEdge, IsOpened, IsTop, from_deep, from_main, from_top}
 use Rattle.gm_graph.specs.Loading.{AreFew, AreTooMany}
-use Rattle.gm_graph.specs.Outcome.{AreFaults}
+use Rattle.gm_graph.specs.Outcome.{AreFaults, AreRows}
 use Rattle.gm_graph.specs.declared.fault.Fault.{Fault}
-use Rattle.gm_graph_listing.specs.Outcomes.{AreKnown, AreRows, IsListOutcome, IsOutcomeOver, IsStopped, PrintsList, answers, device, faulty, too_many}
+use Rattle.gm_graph_listing.specs.Outcomes.{AreKnown, IsListOutcome, IsOutcomeOver, IsStopped, PrintsList, answers, device, faulty, too_many}
 use Rattle.gm_report.specs.Outcome.{Outcome, printed}
 use Rattle.gm_graph_listing.proofs.OneOutcome.{one_list_outcome}
 use Rattle.gomod_laws.specs.ExampleWorld.{top_one}

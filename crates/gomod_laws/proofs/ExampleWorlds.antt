@@ -24,9 +24,8 @@ use Rattle.gm_graph_select.specs.Graph.{IsEdgeEnd, edge, edge_cmp}
 use Rattle.gm_graph_select.proofs.Ascending.{member_cases, member_head, member_tail, no_member}
 use Rattle.gm_graph_select.proofs.Lawful.{same_build_lists}
 use Rattle.gm_graph.specs.Graph.{IsDeep, IsEdge, IsOpened, IsTop, from_deep, from_main, from_top}
-use Rattle.gm_graph.specs.Outcome.{AreEdges}
+use Rattle.gm_graph.specs.Outcome.{AreEdges, AreRows}
 use Rattle.gm_graph.specs.declared.fault.Fault.{Fault}
-use Rattle.gm_graph_listing.specs.Outcomes.{AreRows}
 use Rattle.gm_report.specs.Outcome.{printed}
 use Rattle.gm_graph_listing.specs.Texts.{limited, list_text}
 use Rattle.gomod_laws.specs.ExampleWorld.{AnswersTell, FaultsAreClassed, FilesHaveNames, FourEdgesLead, ListIsPrinted, OneFaultIsReported, OnlyListIsPrinted, PrunedFrom17, RequirementsAreLeft, RowsAreFour, ThreeAreOpened, all_there, edges, fault_of_mid, folder_says, held_with, low_one, low_two, mid_one, mid_two, one_missing, opened_three, rows, top_one, world}

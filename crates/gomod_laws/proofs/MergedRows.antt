@@ -14,7 +14,7 @@ use Rattle.gm_graph_select.specs.BuildList.{Entry, IsSelected}
 use Rattle.gm_graph_select.proofs.Lawful.{row_selected, selected_row}
 use Rattle.gm_graph.specs.Graph.{IsEdge, IsVertex}
 use Rattle.gm_graph.specs.Loading.{AreFew}
-use Rattle.gm_graph_listing.specs.Outcomes.{AreRows}
+use Rattle.gm_graph.specs.Outcome.{AreRows}
 use Rattle.gm_graph_listing.proofs.PrintedList.{greatest}
 use Rattle.gomod_laws.specs.AdditionLaws.{AreNotLower}
 use Rattle.gomod_laws.specs.MergeLaws.{AreHigherRows, IsMerged, NoneIsHigher}

@@ -10,10 +10,10 @@ use Rattle.gm_graph_select.proofs.Ascending.{member_head, no_member}
 use Rattle.gm_graph.specs.declared.fault.Fault.{Fault}
 use Rattle.gm_graph.specs.Graph.{IsTop}
 use Rattle.gm_graph.specs.Loading.{AreTooMany, Told}
-use Rattle.gm_graph.specs.Outcome.{AreEdges, AreFaults}
+use Rattle.gm_graph.specs.Outcome.{AreEdges, AreFaults, AreRows}
 use Rattle.gm_graph_listing.specs.Found.{ReportsFaultsOr}
 use Rattle.gm_graph_listing.specs.Laws.{AllFilesAreValid, AnswerAlike}
-use Rattle.gm_graph_listing.specs.Outcomes.{AreInvalidSums, AreKnown, AreRows, AreSums, FilesReadAs, Given, IsMainFile, IsOutcome, IsOutcomeOver, Prints, PrintsGraph, PrintsList, device, faulty, too_many}
+use Rattle.gm_graph_listing.specs.Outcomes.{AreInvalidSums, AreKnown, AreSums, FilesReadAs, Given, IsMainFile, IsOutcome, IsOutcomeOver, Prints, PrintsGraph, PrintsList, device, faulty, too_many}
 use Rattle.gm_report.specs.Outcome.{Outcome, refused}
 use Rattle.gm_report.specs.Reports.{too_many_line}
 use Rattle.gm_graph_listing.proofs.OneRead.{misread_or_main, misread_or_sums, one_finding, one_main, tells_alike}

@@ -13,7 +13,8 @@ use Rattle.gm_graph_select.proofs.Ascending.{no_member}
 use Rattle.gm_graph_select.proofs.Lawful.{row_selected, selected_row}
 use Rattle.gm_graph.specs.Graph.{IsDeep, IsEdge, IsOpened, IsTop, IsVertex, from_deep, from_main, from_top}
 use Rattle.gm_graph.specs.Loading.{AreFew}
-use Rattle.gm_graph_listing.specs.Outcomes.{AreRows, Prints, PrintsList, answers, given}
+use Rattle.gm_graph_listing.specs.Outcomes.{Prints, PrintsList, answers, given}
+use Rattle.gm_graph.specs.Outcome.{AreRows}
 use Rattle.gm_graph_listing.proofs.OneStore.{Agrees}
 use Rattle.gm_graph_listing.proofs.PrintedList.{greatest}
 use Rattle.gomod_laws.specs.OwnListLaws.{AreNotAbove, OnlyRequires, OwnListIsNotAbove}

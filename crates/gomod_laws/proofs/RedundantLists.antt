@@ -15,7 +15,8 @@ use Rattle.gm_graph.specs.Graph.{IsEdge, IsOpened, IsTop, IsVertex}
 use Rattle.gm_graph.specs.Loading.{AreFew}
 use Rattle.gm_graph.proofs.LawProofs.{unpruned_is_plain}
 use Rattle.gm_graph_listing.specs.Laws.{AllFilesAreValid, AnswerAlike}
-use Rattle.gm_graph_listing.specs.Outcomes.{AreRows, Given, IsMainFile, PrintsList, answers, given}
+use Rattle.gm_graph_listing.specs.Outcomes.{Given, IsMainFile, PrintsList, answers, given}
+use Rattle.gm_graph.specs.Outcome.{AreRows}
 use Rattle.gm_report.specs.Outcome.{Outcome}
 use Rattle.gm_graph_listing.proofs.OneStore.{Agrees, alike_back, opened as opened_by}
 use Rattle.gm_graph_listing.proofs.PrintedList.{greatest}

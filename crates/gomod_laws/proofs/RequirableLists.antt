@@ -23,7 +23,8 @@ use Rattle.gm_graph.specs.Graph.{IsEdge, IsOpened, IsTop, IsVertex}
 use Rattle.gm_graph.specs.Loading.{AreFew}
 use Rattle.gm_graph.proofs.LawProofs.{unpruned_is_plain}
 use Rattle.gm_graph_listing.specs.Laws.{AllFilesAreValid, AnswerAlike}
-use Rattle.gm_graph_listing.specs.Outcomes.{AreRows, Given, Prints, PrintsList, answers, given}
+use Rattle.gm_graph_listing.specs.Outcomes.{Given, Prints, PrintsList, answers, given}
+use Rattle.gm_graph.specs.Outcome.{AreRows}
 use Rattle.gm_report.specs.Outcome.{Outcome, printed}
 use Rattle.gm_graph_listing.specs.Texts.{list_text}
 use Rattle.gm_graph_listing.proofs.OneOutcome.{also_printed}

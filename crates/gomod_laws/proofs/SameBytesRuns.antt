@@ -12,7 +12,8 @@ use Rattle.gm_graph_select.specs.Graph.{Edges}
 use Rattle.gm_graph_select.proofs.Same.{AreSame, same_back, same_build_list, same_chain}
 use Rattle.gm_graph.specs.Graph.{IsEdge}
 use Rattle.gm_graph.proofs.Mapped.{from_mapped}
-use Rattle.gm_graph_listing.specs.Outcomes.{AreRows, PrintsChain, PrintsGraph, PrintsList, PrintsRows, answers, given}
+use Rattle.gm_graph_listing.specs.Outcomes.{PrintsChain, PrintsGraph, PrintsList, PrintsRows, answers, given}
+use Rattle.gm_graph.specs.Outcome.{AreRows}
 use Rattle.gm_report.specs.Outcome.{Outcome, printed}
 use Rattle.gm_graph_listing.specs.Texts.{chain_text, graph_text}
 use Rattle.gm_graph_listing.proofs.OnePrinted.{chain_once, graph_once, one_rows}

@@ -21,8 +21,8 @@ use Rattle.gm_graph_select.proofs.Same.{AreSame, same_build_list, same_chain}
 use Rattle.gm_graph.specs.declared.fault.Fault.{Fault}
 use Rattle.gm_graph.specs.Graph.{IsDeep, IsEdge, IsOpened, IsTop, IsVertex, from_deep, from_main, from_top}
 use Rattle.gm_graph.specs.Loading.{AreTooMany}
-use Rattle.gm_graph.specs.Outcome.{AreEdges, AreFaults}
-use Rattle.gm_graph_listing.specs.Outcomes.{Answers, AreKnown, AreRows, PrintsChain, PrintsGraph, PrintsList}
+use Rattle.gm_graph.specs.Outcome.{AreEdges, AreFaults, AreRows}
+use Rattle.gm_graph_listing.specs.Outcomes.{Answers, AreKnown, PrintsChain, PrintsGraph, PrintsList}
 use Rattle.gm_report.specs.Outcome.{Outcome}
 use Rattle.gomod_laws.proofs.AdditionsOpened.{opened_vertex}
 

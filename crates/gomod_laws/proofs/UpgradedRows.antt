@@ -16,7 +16,8 @@ use Rattle.gm_graph_select.proofs.Greatest.{equal_itself, gt_false}
 use Rattle.gm_graph_select.proofs.Lawful.{row_selected, selected_row}
 use Rattle.gm_graph.specs.Graph.{IsDeep, IsEdge, IsOpened, IsVertex, from_deep, from_main, from_top}
 use Rattle.gm_graph.specs.Loading.{AreFew}
-use Rattle.gm_graph_listing.specs.Outcomes.{AreRows, Prints, PrintsList, answers, given}
+use Rattle.gm_graph_listing.specs.Outcomes.{Prints, PrintsList, answers, given}
+use Rattle.gm_graph.specs.Outcome.{AreRows}
 use Rattle.gm_graph_listing.proofs.OneStore.{Agrees}
 use Rattle.gm_graph_listing.proofs.PrintedList.{greatest}
 use Rattle.gomod_laws.specs.AdditionLaws.{AreNotLower}

@@ -14,9 +14,9 @@ use Rattle.gm_graph_select.specs.declared.step.Edge.{Edge}
 use Rattle.gm_graph_select.specs.BuildList.{Entry, main_entry}
 use Rattle.gm_graph_select.specs.Graph.{edge}
 use Rattle.gm_graph.specs.Graph.{IsDeep, IsEdge, IsOpened, IsTop}
-use Rattle.gm_graph.specs.Outcome.{AreEdges, AreFaults}
+use Rattle.gm_graph.specs.Outcome.{AreEdges, AreFaults, AreRows}
 use Rattle.gm_graph.specs.declared.fault.Fault.{Fault}
-use Rattle.gm_graph_listing.specs.Outcomes.{AreRows, PrintsList}
+use Rattle.gm_graph_listing.specs.Outcomes.{PrintsList}
 use Rattle.gm_report.specs.Outcome.{Outcome, printed, refused}
 use Rattle.gm_report.specs.Reports.{faults_text}
 

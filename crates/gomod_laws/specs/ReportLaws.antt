@@ -14,8 +14,8 @@ use Rattle.gm_graph_cache.specs.declared.class.Class.TheVariants.{NotFetchable}
 use Rattle.gm_graph_select.specs.declared.step.Edge.{Edge}
 use Rattle.gm_graph_select.specs.BuildList.{Entry}
 use Rattle.gm_graph.specs.declared.fault.Fault.{Fault}
-use Rattle.gm_graph.specs.Outcome.{AreEdges}
-use Rattle.gm_graph_listing.specs.Outcomes.{AreKnown, AreRows, FilesReadAs, Given, longest}
+use Rattle.gm_graph.specs.Outcome.{AreEdges, AreRows}
+use Rattle.gm_graph_listing.specs.Outcomes.{AreKnown, FilesReadAs, Given, longest}
 use Rattle.gm_report.specs.Outcome.{Outcome}
 use Rattle.gomod_words.specs.declared.usage.Command.{Command}
 use Rattle.gomod_words.specs.declared.usage.Command.TheVariants.{Graph, List as Rows}
