@@ -1,5 +1,5 @@
 -- Where the lines for a path and a version are in a table, and what they say about a hash.
-use Rattle.std.proofs.Common.{◌≡◌, ◌<◌, ◌≤◌, ◌+◌, ◌-◌, ℕ, Bool, true, false, not, List, length, map, ap, ◌∙◌, sym, refl, arith, slice_index_or, inl, inr}
+use Rattle.std.proofs.Common.{◌≡◌, ◌<◌, ◌≤◌, ◌+◌, ◌-◌, ℕ, Bool, true, false, not, List, [], length, map, ap, ◌∙◌, sym, refl, arith, slice_index_or, inl, inr}
 use Rattle.std.proofs.lemmas.Bool.{cases_lt}
 use Rattle.std.proofs.lemmas.Cmp.{nat_list_cmp_total, on_total, then_total, tied_itself}
 use Rattle.std.proofs.lemmas.List.{get_or_default}
@@ -163,6 +163,17 @@ ends_after lines path version start order before some here other =
     parted_at (λ line. is_le (key_cmp (triple line) (path, version))) lines (start + 1) (parted_up_to lines path version order)
     (λ k d low high. parted_up_to lines path version order k start d (omega arith) some (ap is_le (even_at path version (triple (slice_index_or lines start d)) (sym (here d)))))
     (λ d within. above path version (triple (slice_index_or lines (start + 1) d)) (before.1 (start + 1) d (omega arith) within) (sym (other d within)))
+
+-- the line that the code reads at a place: past the end, one of empty texts
+abbrev pub line_at : List SumLine → ℕ → SumLine
+line_at lines k = slice_index_or lines k (record {
+  path = record { ref_ptr = (0, 0); now = [] };
+  version = record { ref_ptr = (0, 0); now = [] };
+  hash = record { ref_ptr = (0, 0); now = [] };
+})
+
+pub reads_itself : (lines : List SumLine) (k : ℕ) → k < length lines → slice_index_or lines k (line_at lines k) ≡ line_at lines k
+reads_itself lines k within = get_or_default lines k _ _ within
 
 module _ (lines : List SumLine) (path version hash : List ℕ) (start end : ℕ)
     (before : IsPartitionPoint (λ line. is_lt (key_cmp (triple line) (path, version)) ≡ true) (λ line. is_lt (key_cmp (triple line) (path, version)) ≡ false) lines start)

@@ -4,9 +4,7 @@ use Rattle.std.specs.List.{list_any, position_or_len, starts_with}
 use Rattle.std.specs.Str.{bytes_eq, is_utf8}
 use Rattle.gm_store_sums.specs.declared.sum_table.Sum.{Sum}
 use Rattle.gm_store_sums.specs.declared.sum_table.Sum.TheVariants.{Good, Unlisted, Differs}
-use Rattle.gm_store_sums.specs.declared.sum_table.SumTable.{SumTable}
 use Rattle.gm_name.specs.Lines.{fields, lines}
-use Rattle.gm_store_sums.specs.Order.{triple}
 
 -- ---- the lines of a go.sum
 
@@ -44,9 +42,9 @@ Says text path version hash Good = IsSum text path version hash
 
 -- ---- the table
 
--- the lines of a table
-abbrev pub lines_in : SumTable → List (List ℕ × List ℕ × List ℕ)
-lines_in table = map triple table.lines.items
+-- the lines of a table: a module's path, its version without "/go.mod", and a hash of its go.mod
+abbrev pub Sums : Type 0
+Sums = List (List ℕ × List ℕ × List ℕ)
 
 abbrev pub is_line_for : List ℕ → List ℕ → List ℕ × List ℕ × List ℕ → Bool
 is_line_for path version line = bytes_eq line.0 path && bytes_eq line.1 version
@@ -56,14 +54,14 @@ abbrev pub is_other_hash : List ℕ → List ℕ → List ℕ → List ℕ × Li
 is_other_hash path version hash line = is_line_for path version line && not (bytes_eq line.2 hash)
 
 -- what a table says about this hash of a module's go.mod
-abbrev pub check_in : SumTable → List ℕ → List ℕ → List ℕ → Sum
-check_in table path version hash = if not (list_any (is_line_for path version) (lines_in table)) then Unlisted
-    else (if list_any (is_other_hash path version hash) (lines_in table) then Differs else Good)
+abbrev pub check_in : Sums → List ℕ → List ℕ → List ℕ → Sum
+check_in sums path version hash = if not (list_any (is_line_for path version) sums) then Unlisted
+    else (if list_any (is_other_hash path version hash) sums then Differs else Good)
 
 -- the table says about each hash what the text says
-abbrev pub ReadsAs : SumTable → List ℕ → Type 0
-ReadsAs table text = (path version hash : List ℕ) → Says text path version hash (check_in table path version hash)
+abbrev pub ReadsAs : Sums → List ℕ → Type 0
+ReadsAs sums text = (path version hash : List ℕ) → Says text path version hash (check_in sums path version hash)
 
 -- the lines are those of the text that list a hash for a go.mod
-abbrev pub HoldsSums : List (List ℕ × List ℕ × List ℕ) → List ℕ → Type 0
+abbrev pub HoldsSums : Sums → List ℕ → Type 0
 HoldsSums sums text = (path version hash : List ℕ) → Contains sums (path, version, hash) ↔ IsSum text path version hash

@@ -1,11 +1,12 @@
 //! The table of the hashes in a go.sum, sorted so that lookups are fast.
 
-ghost use Rattle.std.specs.Prelude.{◌≡◌, ◌<◌, ◌≤◌, ◌↔◌, ℕ, IfOk, OnOk, length, slice_index_or, true, false};
+ghost use Rattle.std.specs.Prelude.{◌≡◌, ◌<◌, ◌≤◌, ◌↔◌, ℕ, IfOk, OnOk, length, map, slice_index_or, true, false};
 ghost use Rattle.std.specs.List.Sorted.{IsPartitionPoint};
 ghost use Rattle.std.specs.Ordering.{is_le, is_lt};
 ghost use Rattle.std.specs.Str.{bytes_eq};
 ghost use Rattle.gm_store_sums.specs.Hash.{file_hash};
 ghost use Rattle.gm_store_sums.specs.Order.{AreInOrder, key_cmp, triple};
+ghost use Rattle.gm_store_sums.specs.Sums.{HasValidLines, IsFirstInvalid, ReadsAs, check_in, is_line_for};
 ghost use Rattle.gm_store_sums.specs.declared.sum_table.SumLine.{SumLine};
 ghost use Rattle.gm_store_sums.specs.declared.sum_table.SumFault.TheVariants.{NoMemory as OutOfMemory};
 
@@ -14,9 +15,11 @@ use crate::sum_lines::{fault_of, sums_of};
 use gm_name::{ModPath, ModVersion};
 use std::alloc::{AllocError, Global};
 use std::cmp::Ordering;
+use std::marker::Model;
 use thiserror::Error;
 
-/// The greatest length of a go.sum, in bytes: 16 MiB. Who cuts off long files must let more than this through.
+/// The greatest length of a go.sum, in bytes: 16 MiB. A caller that cuts off long files must keep at least one byte
+/// more.
 pub const MAX_BYTES: usize = 16_777_216;
 
 /// Why `SumTable::read` returned no table.
@@ -29,7 +32,7 @@ pub enum SumFault {
     #[error("too many bytes")]
     TooMany,
     /// The line of this number, counted from 1, is the first that is neither blank nor three fields of UTF-8.
-    #[error("line {0} has not three fields of UTF-8")]
+    #[error("line {0} does not have three UTF-8 fields")]
     BadSum(usize),
 }
 
@@ -52,7 +55,7 @@ pub enum Sum {
     Differs,
 }
 
-/// A line of a table: the hash of the go.mod of a module at a version. Its texts stand in the go.sum.
+/// A line of a table: the hash of the go.mod of a module at a version. Its fields are slices of the go.sum.
 #[derive(Clone, Copy, Debug, PartialEq, Eq, PartialOrd, Ord)]
 pub struct SumLine<'a> {
     /// The module's path.
@@ -63,17 +66,27 @@ pub struct SumLine<'a> {
     pub hash: &'a [u8],
 }
 
-/// The hashes of go.mod files that a go.sum lists. It borrows from the bytes of the go.sum.
+/// The hashes of go.mod files that a go.sum lists. It borrows from the bytes of the go.sum. A clause sees it as the
+/// list of its lines.
 #[derive(Debug, Drop)]
 pub struct SumTable<'a> {
     /// The lines in the order of their paths, versions and hashes.
-    pub(crate) lines: Vec<SumLine<'a>>,
-    ghost in_order: { AreInOrder lines.items },
+    lines: Vec<SumLine<'a>>,
+}
+
+impl<'a> Model for SumTable<'a> {
+    ghost use Rattle.std.specs.Prelude.{map};
+    ghost use Rattle.gm_store_sums.specs.Order.{AreInOrder, triple};
+    ghost use Rattle.gm_store_sums.specs.Sums.{Sums};
+
+    ghost Value = { Sums };
+
+    ghost view = { λ t. map triple t.lines.items };
+
+    ghost invariant = { λ t. AreInOrder t.lines.items };
 }
 
 impl<'a> SumTable<'a> {
-    ghost use Rattle.gm_store_sums.specs.Sums.{HasValidLines, IsFirstInvalid, ReadsAs, check_in, is_line_for};
-
     /// The table of a go.sum (Go Modules Reference, go.sum files). Blank lines are skipped, and so are the
     /// hashes of whole modules and those that don't begin with `h1:`.
     ///
@@ -102,7 +115,7 @@ impl<'a> SumTable<'a> {
     pub fn check(&self, path: &ModPath, version: &ModVersion, hash: &str) -> Sum
         ensures { result ≡ check_in self.now path.now version.now hash.now }
     {
-        self.find(path, version, hash.as_bytes())
+        find(&self.lines, path, version, hash.as_bytes())
     }
 
     /// What the table says about the go.mod of a module at a version if these are its bytes: what `check` says about
@@ -110,76 +123,77 @@ impl<'a> SumTable<'a> {
     pub fn check_content(&self, path: &ModPath, version: &ModVersion, content: &[u8]) -> Sum
         ensures { result ≡ check_in self.now path.now version.now (file_hash content.now) }
     {
-        self.find(path, version, hash_bytes(content).as_slice())
+        find(&self.lines, path, version, hash_bytes(content).as_slice())
     }
+}
 
-    /// What the table says about this hash of the go.mod of a module at a version.
-    fn find(&self, path: &ModPath, version: &ModVersion, hash: &[u8]) -> Sum
-        ensures { result ≡ check_in self.now path.now version.now hash.now }
-    {
-        // The lines for a path and version are adjacent and in the order of their hashes, so if the first and
-        // the last have this hash, all of them do.
-        let start = self.lines_before(path, version);
-        let end = self.lines_up_to(path, version, start);
-        if start >= end {
-            return Sum::Unlisted;
-        }
-        if has_hash(&self.lines[start], hash) && has_hash(&self.lines[end - 1], hash) {
-            Sum::Good
-        } else {
-            Sum::Differs
-        }
+/// What the lines of a table say about this hash of the go.mod of a module at a version.
+fn find(lines: &[SumLine<'_>], path: &ModPath, version: &ModVersion, hash: &[u8]) -> Sum
+    requires { AreInOrder lines.now }
+    ensures { result ≡ check_in (map triple lines.now) path.now version.now hash.now }
+{
+    // The lines for a path and version are adjacent and in the order of their hashes, so if the first and the last
+    // have this hash, all of them do.
+    let start = lines_before(lines, path, version);
+    let end = lines_up_to(lines, path, version, start);
+    if start >= end {
+        return Sum::Unlisted;
     }
-
-    /// How many lines are before those for this path and version.
-    fn lines_before(&self, path: &ModPath, version: &ModVersion) -> usize
-        ensures within { result ≤ length self.now.lines.items }
-        ensures point { IsPartitionPoint
-            (λ line. is_lt (key_cmp (triple line) (path.now, version.now)) ≡ true)
-            (λ line. is_lt (key_cmp (triple line) (path.now, version.now)) ≡ false)
-            self.now.lines.items result }
-    {
-        self.lines
-            .partition_point(|line| compare_key(line, path, version).is_lt())
+    if has_hash(&lines[start], hash) && has_hash(&lines[end - 1], hash) {
+        Sum::Good
+    } else {
+        Sum::Differs
     }
+}
 
-    /// How many lines are before those for this path and version or among them, if `start` lines are before them.
-    fn lines_up_to(&self, path: &ModPath, version: &ModVersion, start: usize) -> usize
-        requires within { start ≤ length self.now.lines.items }
-        requires point { IsPartitionPoint
-            (λ line. is_lt (key_cmp (triple line) (path.now, version.now)) ≡ true)
-            (λ line. is_lt (key_cmp (triple line) (path.now, version.now)) ≡ false)
-            self.now.lines.items start }
-        ensures within { result ≤ length self.now.lines.items }
-        ensures point { IsPartitionPoint
-            (λ line. is_le (key_cmp (triple line) (path.now, version.now)) ≡ true)
-            (λ line. is_le (key_cmp (triple line) (path.now, version.now)) ≡ false)
-            self.now.lines.items result }
-    {
-        // Most files have one line or none, so two lines are looked at before all of them are searched.
-        if !self.is_for(start, path, version) {
-            return start;
-        }
-        if !self.is_for(start + 1, path, version) {
-            return start + 1;
-        }
-        self.lines
-            .partition_point(|line| compare_key(line, path, version).is_le())
+/// How many lines are before those for this path and version.
+fn lines_before(lines: &[SumLine<'_>], path: &ModPath, version: &ModVersion) -> usize
+    requires { AreInOrder lines.now }
+    ensures within { result ≤ length lines.now }
+    ensures point { IsPartitionPoint
+        (λ line. is_lt (key_cmp (triple line) (path.now, version.now)) ≡ true)
+        (λ line. is_lt (key_cmp (triple line) (path.now, version.now)) ≡ false)
+        lines.now result }
+{
+    lines.partition_point(|line| compare_key(line, path, version).is_lt())
+}
+
+/// How many lines are before those for this path and version or among them, if `start` lines are before them.
+fn lines_up_to(lines: &[SumLine<'_>], path: &ModPath, version: &ModVersion, start: usize) -> usize
+    requires order { AreInOrder lines.now }
+    requires within { start ≤ length lines.now }
+    requires point { IsPartitionPoint
+        (λ line. is_lt (key_cmp (triple line) (path.now, version.now)) ≡ true)
+        (λ line. is_lt (key_cmp (triple line) (path.now, version.now)) ≡ false)
+        lines.now start }
+    ensures within { result ≤ length lines.now }
+    ensures point { IsPartitionPoint
+        (λ line. is_le (key_cmp (triple line) (path.now, version.now)) ≡ true)
+        (λ line. is_le (key_cmp (triple line) (path.now, version.now)) ≡ false)
+        lines.now result }
+{
+    // Most files have one line or none, so two lines are looked at before all of them are searched.
+    if !is_for(lines, start, path, version) {
+        return start;
     }
+    if !is_for(lines, start + 1, path, version) {
+        return start + 1;
+    }
+    lines.partition_point(|line| compare_key(line, path, version).is_le())
+}
 
-    /// Whether the table has a line for this path and version in this place.
-    fn is_for(&self, place: usize, path: &ModPath, version: &ModVersion) -> bool
-        ensures within { result ≡ true → place < length self.now.lines.items }
-        ensures same { (line : SumLine) → place < length self.now.lines.items → result
-            ≡ is_line_for path.now version.now (triple (slice_index_or self.now.lines.items place line)) }
-    {
-        match self.lines.get(place) {
-            // Lines of one path stand together, so it is the version that tells them apart.
-            Some(line) => {
-                line.version == version.as_str().as_bytes() && line.path == path.as_str().as_bytes()
-            }
-            None => false,
+/// Whether the line in this place is for this path and version.
+fn is_for(lines: &[SumLine<'_>], place: usize, path: &ModPath, version: &ModVersion) -> bool
+    ensures within { result ≡ true → place < length lines.now }
+    ensures same { (line : SumLine) → place < length lines.now → result
+        ≡ is_line_for path.now version.now (triple (slice_index_or lines.now place line)) }
+{
+    match lines.get(place) {
+        // Lines of one path stand together, so it is the version that tells them apart.
+        Some(line) => {
+            line.version == version.as_str().as_bytes() && line.path == path.as_str().as_bytes()
         }
+        None => false,
     }
 }
 
