@@ -18,7 +18,7 @@ pub struct Log {
 }
 
 impl Log {
-    /// An empty log. Where a number is given, the file after that many others can't be opened.
+    /// An empty log. If a number is given, the file after that many others can't be opened.
     pub fn new(alloc: Global, left: Option<usize>) -> Log {
         Log {
             opened: RefCell::new(Vec::new(alloc)),

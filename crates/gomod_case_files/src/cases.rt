@@ -29,7 +29,7 @@ pub struct CaseFile {
     pub name: String,
     /// What it holds.
     pub content: Content,
-    /// Its permissions, where the case gives them.
+    /// Its permissions, if the case gives them.
     pub mode: Option<u32>,
 }
 
@@ -43,7 +43,7 @@ impl CaseFile {
         }
     }
 
-    /// The bytes of the file, or none where it is a folder or a link.
+    /// The bytes of the file, or none if it is a folder or a link.
     pub(crate) fn bytes(&self) -> &[u8] {
         match &self.content {
             Content::Bytes(bytes) => bytes.as_slice(),
@@ -65,9 +65,9 @@ pub struct Run<'a> {
     pub out: Vec<u8>,
     /// What it writes to standard error.
     pub report: Vec<u8>,
-    /// Its exit status, where the case gives it.
+    /// Its exit status, if the case gives it.
     pub status: Option<u8>,
-    /// The files that it opens, in order, where the case lists them.
+    /// The files that it opens, in order, if the case lists them.
     pub opened: Option<Vec<&'a str>>,
     /// Whether it is run over real files alone, and not in memory.
     pub is_over_files_only: bool,

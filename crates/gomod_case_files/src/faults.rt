@@ -34,7 +34,7 @@ pub enum CaseLineFault {
     NoCommand,
     /// It begins a text that has no case.
     NoCase,
-    /// It is in a file, and begins as a title or a header does. Where a file has such a line, an escape spells it.
+    /// It is in a file, and begins as a title or a header does. If a file has such a line, an escape spells it.
     LikeMark,
     /// It is below the header of a folder, a link or a copy.
     NoContent,
@@ -49,19 +49,19 @@ impl CaseLineFault {
             CaseLineFault::BeforeTitle => "stands before the first title",
             CaseLineFault::NoMark => "begins with no mark of a case",
             CaseLineFault::BeforeCommand => "stands before the first command of its case",
-            CaseLineFault::BadWords => "has words that don't read",
-            CaseLineFault::BadEscape => "has an escape that is none",
+            CaseLineFault::BadWords => "has words that can't be read",
+            CaseLineFault::BadEscape => "has an invalid escape",
             CaseLineFault::BadStatus => "is no exit status",
             CaseLineFault::SaidBefore => "says again what a line above says",
             CaseLineFault::UnderCall => "stands under a call, of which only the output is compared",
             CaseLineFault::BadHeader => "is no header of a file",
-            CaseLineFault::BadCount => "says how many, which is no number from 1 to 16777217",
+            CaseLineFault::BadCount => "has a count that isn't a number from 1 to 16777217",
             CaseLineFault::BadSizes =>
-                "has sizes that don't read, or that the title above doesn't name",
+                "has sizes that can't be read, or that the title above doesn't name",
             CaseLineFault::NoSize => "has a size that its case doesn't have",
             CaseLineFault::NoCommand => "is the title of a case without a command",
             CaseLineFault::NoCase => "begins a file without a case",
-            CaseLineFault::LikeMark => "begins like a title or a header, and is none",
+            CaseLineFault::LikeMark => "begins like a title or a header but is neither",
             CaseLineFault::NoContent => "stands under the header of a folder or a link",
             CaseLineFault::SeveralLines => "is one of several lines of a file that is filled",
         }

@@ -1,7 +1,7 @@
 //! The real folders that the commands of a case run in.
 
 use crate::cases::{Case, CaseFile, Content, STDIN};
-use std::fs::{OpenFile, OpenOptions, Permissions};
+use std::fs::Permissions;
 use std::os::unix::fs::PermissionsExt;
 use std::{env, fs, io, process};
 

@@ -13,7 +13,7 @@
 //! ```
 //!
 //! `read_cases` reads it as a `Case` with one `Run` and one `CaseFile`. The run has the three words of the command, the
-//! line after `> ` as its output, an empty report, the status 0, and `a/go.mod` as the one file that it opens. Where a
+//! line after `> ` as its output, an empty report, the status 0, and `a/go.mod` as the one file that it opens. If a
 //! line belongs to no case, the result is a `CaseFault` with its number.
 //!
 //! `case_texts` divides a file of cases by its titles. A case that is run at several sizes is a text with places for
