@@ -4,7 +4,6 @@
 //! The tests run with ample memory. A test that runs out of it anyway ends, and says that this is the reason.
 
 mod documents;
-mod known_names;
 mod loading;
 mod opened_files;
 mod projects;

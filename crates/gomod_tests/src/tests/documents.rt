@@ -1,54 +1,14 @@
-//! Documents, words and names: copies, inserted and removed lines, and an operation that is refused.
+//! Documents: copies, and lines that are inserted and removed.
 
 ghost use Rattle.std.specs.Prelude.{◌≡◌};
 ghost use Rattle.gm_syntax.specs.Lines.{HasNoLineFeed};
 ghost use Rattle.gm_syntax.specs.Document.{is_level};
 ghost use Rattle.gm_syntax.specs.LineViews.{line_of, plain};
 
-use super::{OUT_OF_MEMORY, assert_same, file_name, main_file};
-use gm_file::MainFile;
-use gm_file_edit::{EditFault, Op, apply};
-use gm_store::copy_name;
-use gm_syntax::{Doc, Kind, Line, Punct, Token};
+use super::{OUT_OF_MEMORY, assert_same};
+use gm_syntax::{Doc, Line, Token};
 use std::alloc::{AllocError, Global};
 use std::process::Abort;
-
-// ---- words
-
-/// Each mark with its spelling.
-const MARKS: &'static [(Punct, &'static str)] = &[
-    (Punct::LeftParen, "("),
-    (Punct::RightParen, ")"),
-    (Punct::LeftBracket, "["),
-    (Punct::RightBracket, "]"),
-    (Punct::Comma, ","),
-    (Punct::Arrow, "=>"),
-];
-
-/// Whether a word is this mark, newly made and not read from a text.
-fn is_mark(token: &Token<'_>, spelling: &str) -> bool {
-    token.kind() == Kind::Mark
-        && token.spelling() == spelling
-        && token.line() == 0
-        && token.span().is_none()
-}
-
-/// Makes a mark and copies it, and looks at both.
-fn copy_mark(rt: &impl Abort, alloc: Global, punct: Punct, spelling: &str) {
-    let token = Token::mark(alloc, punct).expect(rt, OUT_OF_MEMORY);
-    let copy = token.copy(alloc).expect(rt, OUT_OF_MEMORY);
-    let got = (is_mark(&token, spelling), is_mark(&copy, spelling));
-    assert_same(rt, spelling, &got, &(true, true));
-}
-
-#[test]
-fn marks_are_made_and_copied(rt: HostRuntime) {
-    for (punct, spelling) in MARKS {
-        copy_mark(&rt, rt.alloc(), *punct, spelling);
-    }
-}
-
-// ---- lines
 
 /// A document with a comment, a block and a quoted word. It is already in its layout.
 const TEXT: &str = "a // c\nb (\n\t\"c d\"\n)\n";
@@ -90,9 +50,10 @@ fn doc<'a>(rt: &impl Abort, alloc: Global, text: &'a str) -> Doc<'a> {
     Doc::parse(alloc, text.as_bytes()).expect(rt, text)
 }
 
-/// Compares the layout of a document with a text.
+/// Compares the layout of a copy of a document with a text.
 fn assert_layout(rt: &impl Abort, title: &str, doc: &Doc<'_>, wanted: &str) {
-    let text = doc.format().expect(rt, OUT_OF_MEMORY);
+    let copy = doc.copy().expect(rt, OUT_OF_MEMORY);
+    let text = copy.format().expect(rt, OUT_OF_MEMORY);
     assert_same(rt, title, &text.as_str(), &wanted);
 }
 
@@ -105,43 +66,4 @@ fn lines_go_in_and_out(rt: HostRuntime) {
     assert_same(&rt, "drops", &drops, &(true, false));
     assert_layout(&rt, "changed", &copy, "b (\n\t\"c d\"\n\t\"x y\"\n)\n");
     assert_layout(&rt, "as it was", &doc, TEXT);
-}
-
-// ---- names
-
-/// Copies the name of a file, and compares both.
-fn copy_file_name(rt: &impl Abort, alloc: Global, path: &str, version: &str) {
-    let name = file_name(rt, alloc, path, version);
-    let copy = copy_name(alloc, &name).expect(rt, OUT_OF_MEMORY);
-    assert_same(rt, path, &copy, &name);
-}
-
-#[test]
-fn names_are_copied(rt: HostRuntime) {
-    copy_file_name(&rt, rt.alloc(), "example.com/p/v2", "v2.0.0-rc.1");
-    copy_file_name(&rt, rt.alloc(), "../p", "");
-}
-
-// ---- an operation that is refused
-
-/// A main module's file in its layout, with a comment that a rewrite could lose.
-const MAIN: &str = "module example.com/m\n\nrequire example.com/p v1.0.0 // kept\n";
-
-/// What comes of an operation.
-fn applied(
-    rt: &impl Abort,
-    alloc: Global,
-    file: &mut MainFile<'_>,
-    text: &str,
-) -> Result<(), EditFault> {
-    let op = Op::parse(alloc, text).expect(rt, text);
-    apply(alloc, file, &op)
-}
-
-#[test]
-fn a_refused_operation_leaves_the_file(rt: HostRuntime) {
-    let mut file = main_file(&rt, rt.alloc(), MAIN);
-    let got = applied(&rt, rt.alloc(), &mut file, "require=example.com/p@v2.0.0");
-    assert_same(&rt, "refused", &got, &Err(EditFault::Misfit));
-    assert_layout(&rt, "as it was", file.doc(), MAIN);
 }

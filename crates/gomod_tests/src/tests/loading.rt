@@ -4,35 +4,12 @@
 use super::projects::{PROJECTS, Project};
 use super::rounds::{RoundsResult, load_in_rounds};
 use super::{OUT_OF_MEMORY, assert_same, main_file, store_of};
-use gm_file::{MainFile, Right};
+use gm_file::MainFile;
 use gm_graph::{Loaded, load};
 use gm_graph_cache::{Depth, Turn};
 use gm_graph_select::{Edge, Row};
 use std::alloc::Global;
 use std::process::Abort;
-
-/// The path and version of a replacement, or its folder and no version. Empty if there is no replacement.
-fn replacement_parts(right: &Option<Right>) -> (&str, &str) {
-    match right {
-        None => ("", ""),
-        Some(Right::Folder(folder)) => (folder.as_str(), ""),
-        Some(Right::Module(path, version)) => (path.as_str(), version.as_str()),
-    }
-}
-
-/// The rows of a build list, one per line.
-fn rows_text(rt: &impl Abort, alloc: Global, rows: &[Row]) -> String {
-    let mut text = String::new(alloc);
-    for row in rows {
-        let (path, version) = replacement_parts(&row.right);
-        let line = format!(in alloc; "{:?} => {path} {version}\n", row.step).expect(
-            rt,
-            OUT_OF_MEMORY,
-        );
-        text.push_str(&line).expect(rt, OUT_OF_MEMORY);
-    }
-    text
-}
 
 /// What the worklist finds for a project, over its main file.
 fn load_project(rt: &impl Abort, alloc: Global, main: &MainFile<'_>, project: &Project) -> Loaded {
@@ -61,7 +38,7 @@ fn are_taken(turns: &[Turn], wanted: &'static [(&'static str, Depth)]) -> bool {
     turns.len() == wanted.len()
 }
 
-/// Compares the turns of the worklist with the expected ones, where a project has them.
+/// Compares the turns of the worklist with the expected ones, if a project has them.
 fn compare_turns(rt: &impl Abort, project: &Project, turns: &[Turn]) {
     if let Some(wanted) = project.turns {
         let title = project.title;
@@ -72,11 +49,10 @@ fn compare_turns(rt: &impl Abort, project: &Project, turns: &[Turn]) {
     }
 }
 
-/// Compares the rows of the worklist with others. It has none where a module has a fault.
-fn compare_rows(rt: &impl Abort, alloc: Global, title: &str, loaded: &Loaded, wanted: &[Row]) {
+/// Compares the rows of the worklist with others. It has none if a module has a fault.
+fn compare_rows(rt: &impl Abort, title: &str, loaded: &Loaded, wanted: &[Row]) {
     if loaded.faults().is_empty() {
-        let rows = rows_text(rt, alloc, loaded.build_list());
-        assert_same(rt, title, &rows, &rows_text(rt, alloc, wanted));
+        assert_same(rt, title, &loaded.build_list(), &wanted);
     }
 }
 
@@ -100,7 +76,7 @@ fn compare_finds(
 ) {
     assert_same(rt, title, &loaded.faults(), &plain.faults.as_slice());
     assert_same(rt, title, &edges_of(rt, alloc, loaded), &plain.edges);
-    compare_rows(rt, alloc, title, loaded, &plain.rows);
+    compare_rows(rt, title, loaded, &plain.rows);
 }
 
 /// Loads a project both ways, over its main file, and compares what they find and the turns.

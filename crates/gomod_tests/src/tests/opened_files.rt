@@ -113,7 +113,7 @@ struct Request {
     opened: &'static str,
     /// How the request ends.
     ended: Ended,
-    /// How many failures of the device are counted. They are counted too where memory runs out after them.
+    /// How many failures of the device are counted. They are counted too if memory runs out after them.
     faults: u64,
 }
 

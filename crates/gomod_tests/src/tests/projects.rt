@@ -3,7 +3,7 @@
 use super::File;
 use gm_graph_cache::Depth;
 
-/// A project, with the expected work of loading it where that matters.
+/// A project, with the expected work of loading it if that matters.
 #[derive(Clone, Copy)]
 pub(super) struct Project {
     /// What the project shows.

@@ -1,7 +1,7 @@
-//! Sinks that fail in mid-stream: sinks in memory without room, and writers that take few bytes per call.
+//! Sinks over writers that take few bytes per call, and fail in mid-stream.
 
 use super::{OUT_OF_MEMORY, assert_same};
-use gm_store::{MemorySink, Sink, StdSink, WriteFault, write_all};
+use gm_store::{Sink, StdSink, write_all};
 use std::alloc::Global;
 use std::io;
 use std::io::{ErrorKind, Write};
@@ -12,51 +12,6 @@ const TEXT: &[u8] = b"example.com/p v1.9.0 v1.10.0-rc.1 v1.10.0\n";
 
 /// Whether a text was written, what was taken of it, and how many writes were refused.
 type Written<'a> = (bool, &'a [u8], u64);
-
-/// Writes the text to a sink with room for this many bytes, and compares what comes of it.
-fn write_with_room(rt: &impl Abort, alloc: Global, room: usize) {
-    let mut sink = MemorySink::new(alloc, room).expect(rt, OUT_OF_MEMORY);
-    let is_written = write_all(&mut sink, TEXT).is_ok();
-    let got: Written<'_> = (is_written, sink.bytes(), sink.faults());
-    let fits = room >= TEXT.len();
-    let wanted: Written<'_> = (fits, &TEXT[..room.min(TEXT.len())], u64::from(!fits));
-    assert_same(rt, format_args!("with room for {room}"), &got, &wanted);
-}
-
-#[test]
-fn a_sink_in_memory_takes_what_fits(rt: HostRuntime) {
-    for room in 0..TEXT.len() + 2 {
-        write_with_room(&rt, rt.alloc(), room);
-    }
-}
-
-#[test]
-fn a_sink_in_memory_fails_again(rt: HostRuntime) {
-    let mut sink = MemorySink::new(rt.alloc(), 1).expect(&rt, OUT_OF_MEMORY);
-    let writes = [
-        sink.write(b"xyz"),
-        sink.write(b""),
-        sink.write(b"y"),
-        sink.write(b"y"),
-    ];
-    assert_same(
-        &rt,
-        "writes",
-        &writes,
-        &[Ok(1), Ok(0), Err(WriteFault), Err(WriteFault)],
-    );
-    assert_same(
-        &rt,
-        "what is left of them",
-        &(sink.bytes(), sink.faults()),
-        &(b"x".as_slice(), 2),
-    );
-}
-
-#[test]
-fn no_sink_has_room_for_all_bytes(rt: HostRuntime) {
-    assert!(rt; MemorySink::new(rt.alloc(), usize::MAX).is_err());
-}
 
 /// The most bytes that a writer takes per call.
 const STEP: usize = 5;
