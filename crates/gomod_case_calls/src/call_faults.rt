@@ -40,7 +40,7 @@ pub(crate) enum CallFault {
 }
 
 impl CallFault {
-    /// The line that names it, or none where there is no such call.
+    /// The line that names it, or none if there is no such call.
     pub(crate) fn line(self, alloc: Global) -> Result<Option<String>, AllocError> {
         match self {
             CallFault::NoMemory => Err(AllocError),

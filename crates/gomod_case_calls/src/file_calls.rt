@@ -129,7 +129,7 @@ pub(crate) fn spans(alloc: Global, bytes: &[u8]) -> Result<String, CallFault> {
     places_in(alloc, doc.lines())
 }
 
-/// The word with a value, or none where the value has a line feed.
+/// The word with a value, or none if the value has a line feed.
 pub(crate) fn spell(alloc: Global, value: &str) -> Result<String, CallFault> {
     if !value.as_bytes().iter().all(|byte| *byte != b'\n') {
         return Ok(String::from_str(alloc, "none\n")?);

@@ -10,7 +10,7 @@ pub(crate) fn line_of(alloc: Global, text: &str) -> Result<String, CallFault> {
     Ok(format!(in alloc; "{text}\n")?)
 }
 
-/// The path and the version that two texts spell, where the version fits the path.
+/// The path and the version that two texts spell, if the version fits the path.
 pub(crate) fn pair(alloc: Global, pair: (&str, &str)) -> Result<ModVer, CallFault> {
     let path = ModPath::parse(alloc, pair.0)?;
     let version = ModVersion::parse(alloc, pair.1)?;

@@ -170,7 +170,7 @@ fn check_result(
     Ok(())
 }
 
-/// Whether a command opened the files that the case lists, or, where it lists none, no file twice.
+/// Whether a command opened the files that the case lists, or, if it lists none, no file twice.
 fn opens_right(alloc: Global, run: &Run<'_>, opened: &[String]) -> Result<bool, AllocError> {
     match &run.opened {
         Some(names) => are_opened(alloc, opened, names.as_slice()),
@@ -178,7 +178,7 @@ fn opens_right(alloc: Global, run: &Run<'_>, opened: &[String]) -> Result<bool, 
     }
 }
 
-/// Checks a command line over a store in memory. Where the result differs there, or the command can't be run in memory,
+/// Checks a command line over a store in memory. If the result differs there, or the command can't be run in memory,
 /// the case has to say so.
 fn check_in_memory(
     workspace: &Workspace<'_>,

@@ -43,7 +43,7 @@ pub(crate) struct CutFile<'a> {
 }
 
 /// Runs the commands of a case in memory over files of which one is cut off, and over the same real files. Both must
-/// have the same result, a command that fails writes nothing but its report, and where `fmt` refuses a main file each
+/// have the same result, a command that fails writes nothing but its report, and if `fmt` refuses a main file, each
 /// command over it reports the same.
 pub(crate) fn check_cut(
     workspace: &Workspace<'_>,
@@ -71,7 +71,7 @@ fn check_runs_over_cut(
     Ok(())
 }
 
-/// Runs a command in memory, if it runs there, and over real files where the real file is cut off.
+/// Runs a command in memory, if it runs there, and over real files if the real file is cut off.
 fn check_run_over_cut(
     workspace: &Workspace<'_>,
     parsed_run: &ParsedRun<'_>,
@@ -171,7 +171,7 @@ fn layout_of(
     Ok(Some(workspace.memory().layout(cut.bytes, AMPLE)?))
 }
 
-/// How a command differs from what `fmt` reports of its main file, where `fmt` refuses that.
+/// How a command differs from what `fmt` reports of its main file, if `fmt` refuses that.
 fn differs(
     layout: &Option<Outcome>,
     parsed_run: &ParsedRun<'_>,
@@ -205,7 +205,7 @@ fn unsound(
 }
 
 /// Whether a command that fails writes nothing to its output and reports why, and one that succeeds reports nothing. A
-/// status of 2 or 3 is right only where the command has it over the whole file too.
+/// status of 2 or 3 is right only if the command has it over the whole file too.
 fn is_sound(run: &Run<'_>, outcome: &Outcome) -> bool {
     let out = outcome.out.bytes();
     let report = outcome.report.bytes();

@@ -141,7 +141,7 @@ fn check_full(
     Ok(())
 }
 
-/// The result of a command over outputs with this room, in memory or, where that is wanted or it can't be run in
+/// The result of a command over outputs with this room, in memory or, if that is wanted or it can't be run in
 /// memory, over real files.
 fn outcome_within(
     workspace: &Workspace<'_>,

@@ -15,7 +15,7 @@ pub(crate) struct Parsed {
 }
 
 impl Parsed {
-    /// What words ask for, or none where they are a usage error or a request for help.
+    /// What words ask for, or none if they are a usage error or a request for help.
     fn of(alloc: Global, words: &[&str]) -> Result<Option<Parsed>, AllocError> {
         match read_words(alloc, words) {
             Ok((command, places)) => Ok(Some(Parsed::of_places(alloc, command, places)?)),

@@ -170,7 +170,7 @@ impl<'a> Session<'a> {
         Ok(())
     }
 
-    /// Runs the case of a text that follows this many lines. Where it is one of several sizes, it is said whether that
+    /// Runs the case of a text that follows this many lines. If it is one of several sizes, it is said whether that
     /// is the greatest.
     fn run_read(
         &mut self,
@@ -250,7 +250,7 @@ impl<'a> Session<'a> {
     }
 }
 
-/// Reads the files that a case copies, and says how it is run where it is at one of several sizes.
+/// Reads the files that a case copies, and says how it is run if it is at one of several sizes.
 fn prepare(rt: &HostRuntime, case: &mut Case<'_>, is_greatest: Option<bool>) -> io::Result<()> {
     if let Some(is_greatest) = is_greatest {
         case.is_large = true;

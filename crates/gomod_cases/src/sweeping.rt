@@ -80,7 +80,7 @@ fn sweep_file(
 }
 
 /// Runs the commands of a case over one of its files, cut off: in memory wherever it is cut, and over real files
-/// where a line ends there, or a command runs over real files alone.
+/// if a line ends there, or a command runs over real files alone.
 fn sweep_cuts(
     workspace: &Workspace<'_>,
     runs: &[ParsedRun<'_>],
