@@ -1,5 +1,5 @@
 -- What the definitions of a run's outcome say of the example world.
-use Rattle.std.proofs.Common.{◌≡◌, ◌∙◌, ◌∷◌, ◌⊎◌, ℕ, zero, suc, Bool, true, false, List, [], Some, None, Result, Ok, Err, Contains, ap, ap₂, arith, codes, inl, inr, length, refl, subst, sym}
+use Rattle.std.proofs.Common.{◌≡◌, ◌∙◌, ◌∷◌, ◌⊎◌, ℕ, zero, suc, Bool, true, false, List, [], Option, Some, None, Result, Ok, Err, Contains, ap, ap₂, arith, codes, inl, inr, length, refl, subst, sym}
 use Rattle.std.specs.Prelude.{AllPairs, if◌then◌else◌}
 use Rattle.std.specs.List.{All, AllByRecursion}
 use Rattle.std.specs.Ordering.{is_gt}
@@ -28,7 +28,7 @@ use Rattle.gm_graph.specs.Outcome.{AreEdges, AreRows}
 use Rattle.gm_graph.specs.declared.fault.Fault.{Fault}
 use Rattle.gm_report.specs.Outcome.{printed}
 use Rattle.gm_graph_listing.specs.Texts.{limited, list_text}
-use Rattle.gomod_laws.specs.ExampleWorld.{AnswersTell, FaultsAreClassed, FilesHaveNames, FourEdgesLead, ListIsPrinted, OneFaultIsReported, OnlyListIsPrinted, PrunedFrom17, RequirementsAreLeft, RowsAreFour, ThreeAreOpened, all_there, edges, fault_of_mid, folder_says, held_with, low_one, low_two, mid_one, mid_two, one_missing, opened_three, rows, top_one, world}
+use Rattle.gomod_laws.specs.ExampleWorld.{AnswersTell, FaultsAreClassed, FilesHaveNames, FourEdgesLead, ListIsPrinted, OneFaultIsReported, OnlyListIsPrinted, PrunedFrom17, ReplacementsApply, RequirementsAreLeft, RowsAreFour, ThreeAreOpened, all_as_mid, all_there, edges, fault_of_mid, folder_requiring, folder_says, held_with, low_one, low_two, mid_one, mid_two, one_missing, opened_three, rows, top_one, unpruned_world, world}
 use Rattle.gomod_laws.proofs.KnownVersions.{first_byte, not_above_itself, one_one_is_above, one_zero_is_below, versions_differ}
 
 -- ---- what computes
@@ -49,12 +49,45 @@ pub pruned_from_17 : PrunedFrom17
 unfolding is_fetchable
 pruned_from_17 = record { before = refl; from = refl; later = refl; top = refl; mid = refl; faulty = refl }
 
+pub replacements_apply : ReplacementsApply
+unfolding is_fetchable
+replacements_apply = record {
+  version = refl;
+  version_last = refl;
+  whole = refl;
+  whole_last = refl;
+  other_path = refl;
+  file = refl;
+  own_path = refl;
+  fork_path = refl;
+  wrong_path = refl;
+  undeclared = refl;
+  text = refl;
+  row = refl;
+}
+
+-- ---- what answers tell
+
 pub told_by : (name : Name) (is : Bool) → IsTold None name (if is then Some absent else None) (if is then Some (Err Missing) else None)
 told_by name true = refl
 told_by name false = tt
 
+told_only : (name : Name) (is : Bool) (said : Option (Result Dependency Class)) → IsTold None name (if is then Some absent else None) said
+    → said ≡ (if is then Some (Err Missing) else None)
+told_only name true None told = absurd told
+told_only name true (Some reading) told = ap (λ (one : Result Dependency Class). Some one) told
+told_only name false None told = refl
+told_only name false (Some reading) told = absurd told
+
 pub answers_tell : AnswersTell
-answers_tell name = told_by name (same_name name (folder_file (codes "./mid")))
+answers_tell = record {
+  tells = λ name. told_by name (same_name name (folder_file (codes "./mid")));
+  only = λ held told name. told_only name (same_name name (folder_file (codes "./mid"))) (held name) (told name);
+  long = λ sums reading. (λ told. told, λ told. told);
+  unlisted = refl;
+  differs = refl;
+  good = refl;
+}
 
 -- ---- pairs of a list that is written out
 
@@ -197,6 +230,19 @@ member_opened x there = elim (member_cases top_one x (mid_one ∷ mid_two ∷ []
   ]
 ]
 
+-- ---- what is below a deep module, and below an unpruned main file
+
+below_deep : IsDeep world folder_requiring low_one
+unfolding is_fetchable
+below_deep = from_deep {x = mid_two} (from_top {x = top_one} top_is_top refl (0, omega arith, refl)) (0, omega arith, refl)
+
+all_deep : IsDeep unpruned_world all_there mid_one
+all_deep = from_main refl mid_is_top
+
+all_below : IsDeep unpruned_world all_there low_one
+all_below = from_deep {x = mid_one} all_deep
+    (subst (λ (ys : List ModuleVersion). Contains ys low_one) (sym (mid_requires there_file requirements_are_left.folder)) (member_head low_one []))
+
 pub three_are_opened : ThreeAreOpened
 three_are_opened = record {
   each = λ x. (opened_member x, member_opened x);
@@ -210,6 +256,9 @@ three_are_opened = record {
     | inr is ↦ mids_differ (sym is)
   ];
   not_deep = λ deep. mids_differ (deep_is there_file requirements_are_left.folder mid_one deep);
+  below_deep = below_deep;
+  all_deep = all_deep;
+  all_below = all_below;
 }
 
 -- ---- edges
@@ -250,6 +299,19 @@ edges_are = record {
   each = λ one. (member_leads one, edge_member one.from one.to);
 }
 
+-- none is deep if every file is pruned, as the main file is
+none_deep : (x : ModuleVersion) → IsDeep world all_as_mid x → ⊥
+none_deep x (from_main unpruned top) = false≢true (sym unpruned)
+none_deep y (from_top {x = x} top unpruned there) = false≢true unpruned
+none_deep y (from_deep {x = x} deep there) = none_deep x deep
+
+low_unopened : IsOpened world all_as_mid low_one → ⊥
+low_unopened (inr deep) = none_deep low_one deep
+low_unopened (inl top) = elim (top_cases low_one top) [
+  | inl is ↦ low_is_top is
+  | inr is ↦ low_is_mid _ _ is
+]
+
 pub four_edges_lead : FourEdgesLead
 four_edges_lead = record {
   are = edges_are;
@@ -261,6 +323,7 @@ four_edges_lead = record {
     | inl (is, to) ↦ low_is_mid _ _ to
     | inr (is, to) ↦ mid_is_top_one _ (sym is)
   ];
+  not_unopened = λ leads. low_unopened leads.0;
 }
 
 -- ---- the build list
@@ -366,7 +429,7 @@ only_rows : (others : List Entry) → AreRows world all_there others → others 
 only_rows others are = same_build_lists (codes "m") world.replaces Leading others rows are rows_are
 
 pub rows_are_four : RowsAreFour
-rows_are_four = record { are = rows_are; only = only_rows }
+rows_are_four = record { are = rows_are; only = only_rows; not_main = λ is. is.not_main refl }
 
 -- ---- the text
 
@@ -411,6 +474,15 @@ list_is_printed = record {
   whole = (rows, rows_are, refl);
   limited = (rows, rows_are, refl);
   after = (rows, rows_are, inl (top_row ∷ [], (mid_row, record { before = main_entry ∷ low_row ∷ []; parts = refl; path_is = refl; others = not_before }), refl));
+  after_main = (
+    rows,
+    rows_are,
+    inl (
+      low_row ∷ mid_row ∷ top_row ∷ [],
+      (main_entry, record { before = []; parts = refl; path_is = refl; others = λ other there. absurd (no_member other there) }),
+      refl,
+    ),
+  );
   unlisted = (rows, rows_are, inr (no_row, refl));
 }
 

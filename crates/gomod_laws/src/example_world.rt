@@ -7,7 +7,7 @@
 //! about runs over the bytes of smaller files.
 
 ghost use Rattle.gomod_laws.specs.ExampleRuns.{EmptyIsRefused, FilesAreRead, IsListedAlone, RequiredIsAsked};
-ghost use Rattle.gomod_laws.specs.ExampleWorld.{AnswersTell, FaultsAreClassed, FilesHaveNames, FourEdgesLead, ListIsPrinted, OneFaultIsReported, OnlyListIsPrinted, PrunedFrom17, RequirementsAreLeft, RowsAreFour, ThreeAreOpened};
+ghost use Rattle.gomod_laws.specs.ExampleWorld.{AnswersTell, FaultsAreClassed, FilesHaveNames, FourEdgesLead, ListIsPrinted, OneFaultIsReported, OnlyListIsPrinted, PrunedFrom17, ReplacementsApply, RequirementsAreLeft, RowsAreFour, ThreeAreOpened};
 
 /// `file_of`, `is_askable`: the file of mid.org v1.1.0 is the folder's, that of mid.org v1.0.0 its own. Both may be
 /// asked for, and the file of a path that is no host name may not.
@@ -15,7 +15,16 @@ pub fn files_have_names()
     ensures { FilesHaveNames }
 {}
 
-/// `Tells`: the answer that there is no file tells `Missing` of that file, and nothing of any other.
+/// `replacement_in`, `file_of`, `is_right_path`, `replacement_text`: beside a replacement of every mid.org by fork.org
+/// v1.2.0, that of v1.1.0 has precedence. The file of mid.org v1.0.0 is then that of fork.org v1.2.0, and may declare
+/// either path. The row is `mid.org v1.0.0 => fork.org v1.2.0`.
+pub fn replacements_apply()
+    ensures { ReplacementsApply }
+{}
+
+/// `Tells`, `IsFileReading`, `class_of_sum`: the answer that there is no file tells `Missing` of that file, nothing of
+/// any other, and nothing else. A file that is too long is `TooLong`. One that a go.sum doesn't list is `NoSum`, and
+/// one of which it lists another hash is `SumDiffers`.
 pub fn answers_tell()
     ensures { AnswersTell }
 {}
@@ -37,24 +46,27 @@ pub fn pruned_from_17()
 {}
 
 /// `IsTop`, `IsDeep`, `IsOpened`: opened are top.org v1.0.0, mid.org v1.0.0 and mid.org v1.1.0. low.org v1.0.0, which
-/// only the pruned mid.org v1.0.0 requires, is not.
+/// only the pruned mid.org v1.0.0 requires, is not. It is if the folder's file requires it, or if the main module is
+/// unpruned.
 pub fn three_are_opened()
     ensures { ThreeAreOpened }
 {}
 
 /// `IsEdge`, `AreEdges`: four edges, one of them from mid.org v1.0.0 to low.org v1.0.0, and none to low.org v1.1.0.
+/// None leaves a module that isn't opened, even if its file requires one.
 pub fn four_edges_lead()
     ensures { FourEdgesLead }
 {}
 
 /// `IsSelected`, `IsBuildList`, `AreRows`: m, low.org v1.0.0, mid.org v1.1.0 with its folder, and top.org v1.0.0. No
-/// other list is the build list.
+/// other list is the build list. A main module top.org would not be selected again.
 pub fn rows_are_four()
     ensures { RowsAreFour }
 {}
 
 /// `list_text`, `PrintsRows`, `PrintsList`: the lines `m`, `low.org v1.0.0`, `mid.org v1.1.0 => ./mid` and
-/// `top.org v1.0.0`; the first two of them; the one after mid.org; and `b.org: NotListed` after a path without a row.
+/// `top.org v1.0.0`; the first two of them; the one after mid.org; all but the first after m; and `b.org: NotListed`
+/// after a path without a row.
 pub fn list_is_printed()
     ensures parts { ListIsPrinted }
     ensures only { OnlyListIsPrinted }
