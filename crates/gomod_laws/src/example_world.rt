@@ -7,6 +7,7 @@
 //! about runs over the bytes of smaller files.
 
 ghost use Rattle.gomod_laws.specs.ExampleRuns.{EmptyIsRefused, FilesAreRead, IsListedAlone, RequiredIsAsked};
+ghost use Rattle.gomod_laws.specs.ExampleSums.{SumsSay};
 ghost use Rattle.gomod_laws.specs.ExampleWorld.{AnswersTell, FaultsAreClassed, FilesHaveNames, FourEdgesLead, ListIsPrinted, OneFaultIsReported, OnlyListIsPrinted, PrunedFrom17, ReplacementsApply, RequirementsAreLeft, RowsAreFour, ThreeAreOpened};
 
 /// `file_of`, `is_askable`: the file of mid.org v1.1.0 is the folder's, that of mid.org v1.0.0 its own. Both may be
@@ -27,6 +28,12 @@ pub fn replacements_apply()
 /// one of which it lists another hash is `SumDiffers`.
 pub fn answers_tell()
     ensures { AnswersTell }
+{}
+
+/// `Says`: of the go.sum line `a.b v1.0.0/go.mod h1:A`, h1:A is good, h1:B differs, and v1.1.0 is not listed. If the
+/// line of h1:B is there as well, h1:A differs too. Lines without `/go.mod`, and hashes of another kind, list nothing.
+pub fn sums_say()
+    ensures { SumsSay }
 {}
 
 /// `vertex_fault`: a missing file, a file that declares another path, and a path that can't be fetched are faults. A
