@@ -1,5 +1,5 @@
 -- How runs of `list` over small main files end.
-use Rattle.std.proofs.Common.{◌≡◌, ◌∙◌, ◌≤◌, ◌∷◌, Bool, true, false, List, [], Option, Some, None, IsSome, Result, Err, Contains, ap, ap₂, arith, codes, inl, inr, length, lit<, refl, subst, sym}
+use Rattle.std.proofs.Common.{◌≡◌, ◌∙◌, ◌≤◌, ◌∷◌, ℕ, Bool, true, false, List, [], Option, Some, None, IsSome, Result, Ok, Err, Contains, ap, ap₂, arith, codes, inl, inr, length, lit<, refl, subst, sym}
 use Rattle.std.specs.Prelude.{if◌then◌else◌}
 use Rattle.std.specs.List.{IsDistinct}
 use Rattle.std.specs.declared.cmp.Ordering.TheVariants.{Less}
@@ -10,7 +10,7 @@ use Rattle.gm_name.specs.Path.{is_fetchable}
 use Rattle.gm_name.specs.ModuleVersion.{ModuleVersion, pair-self, pair_cmp, pair_eq}
 use Rattle.gm_file.specs.declared.fault.DirectiveKind.TheVariants.{NoModule}
 use Rattle.gm_file.specs.Fields.{Dependency}
-use Rattle.gm_store.specs.Asked.{Name, Reply, absent, answer_in, same_name}
+use Rattle.gm_store.specs.Asked.{Name, Reply, mod_file, folder_file, list_file, absent, answer_in, same_name}
 use Rattle.gm_graph_cache.specs.Main.{Main}
 use Rattle.gm_graph_cache.specs.Reading.{Held, IsTold, Readings, Tells, file_of, is_askable, readings_by, requirements_in, said_in, vertex_fault, vertex_requirements}
 use Rattle.gm_graph_cache.proofs.ReadingIf.{reading_if}
@@ -22,16 +22,17 @@ use Rattle.gm_graph_select.specs.BuildList.{main_entry, path_cmp}
 use Rattle.gm_graph_select.specs.Graph.{IsEdgeEnd}
 use Rattle.gm_graph_select.proofs.Ascending.{member_cases, member_head, no_member}
 use Rattle.gm_graph.specs.Graph.{IsEdge, IsOpened, IsTop, from_deep, from_main, from_top}
-use Rattle.gm_graph.specs.Loading.{AreFew, AreTooMany}
+use Rattle.gm_graph.specs.Loading.{AreAsked, AreFew, AreTooMany, IsDue, IsNeeded}
 use Rattle.gm_graph.specs.Outcome.{AreFaults, AreRows}
 use Rattle.gm_graph.specs.declared.fault.Fault.{Fault}
 use Rattle.gm_graph_listing.specs.Outcomes.{AreKnown, IsListOutcome, IsOutcomeOver, IsStopped, PrintsList, answers, device, faulty, too_many}
-use Rattle.gm_report.specs.Outcome.{Outcome, printed}
+use Rattle.gm_report.specs.Outcome.{Outcome, printed, refused}
 use Rattle.gm_graph_listing.proofs.OneOutcome.{one_list_outcome}
 use Rattle.gomod_laws.specs.ExampleWorld.{top_one}
-use Rattle.gomod_laws.specs.ExampleRuns.{EmptyIsRefused, IsListedAlone, RequiredIsAsked, alone, main_requiring, run_of, top_name}
+use Rattle.gomod_laws.specs.ExampleRuns.{BadSumIsRefused, EmptyIsRefused, IsListedAlone, RequiredIsAsked, alone, low_name, main_requiring, run_of, run_with_bad_sum, top_name}
 use Rattle.gomod_laws.proofs.ExampleFiles.{empty_is_malformed, files_are_read}
 use Rattle.gomod_laws.proofs.ExampleWorlds.{fault_with, pairs_of, same_class, told_by}
+use Rattle.gomod_laws.proofs.KnownVersions.{first_byte}
 
 -- nothing is held
 abbrev nothing : Held
@@ -103,6 +104,26 @@ is_listed_alone = record {
   only = λ outcome is. one_list_outcome None None (run_of alone [] []) outcome (printed (codes "m\n")) is alone_listed;
 }
 
+-- ---- a go.sum with a line of two fields
+
+bad_sum_reported : IsListOutcome None None run_with_bad_sum (refused (codes "go.sum:1: BadSum\n"))
+bad_sum_reported = inl (
+  inr (
+    main_requiring [],
+    codes "go.sum:1: BadSum\n",
+    files_are_read.one,
+    inr (omega arith, 1, (omega arith, refl), rw (decimal_digit 1 (lit< tt)) refl),
+    refl,
+  ),
+  (refl, refl),
+)
+
+pub bad_sum_is_refused : BadSumIsRefused
+bad_sum_is_refused = record {
+  reported = bad_sum_reported;
+  only = λ outcome is. one_list_outcome None None run_with_bad_sum outcome (refused (codes "go.sum:1: BadSum\n")) is bad_sum_reported;
+}
+
 -- ---- the empty file
 
 pub empty_is_refused : EmptyIsRefused
@@ -171,6 +192,81 @@ not_stopped outcome (faulty held first others known are is) = false≢true (know
 not_ended : (outcome : Outcome) → IsOutcomeOver (PrintsList None None) main None (answers [] []) outcome → ⊥
 not_ended outcome (inl stopped) = not_stopped outcome stopped
 not_ended outcome (inr (held, known, faults, prints)) = false≢true (known.answered top_one (inl is_top) top_askable)
+
+-- ---- the device failed on a file that is not due
+
+module _ (asked : List (Name × Reply)) (one : Name) (not_due : IsDue main None asked one → ⊥) where
+  not_stopped_undue : (outcome : Outcome) → IsStopped main None (answers asked (one ∷ [])) outcome → ⊥
+  not_stopped_undue outcome (too_many told unfailed is) = cc unfailed
+  not_stopped_undue outcome (device name due failed is) =
+      let same : one ≡ name = cc failed in not_due (subst (IsDue main None asked) (sym same) due)
+  not_stopped_undue outcome (faulty held first others known are is) = cc known.none_failed
+
+  not_ended_undue : (outcome : Outcome) → IsOutcomeOver (PrintsList None None) main None (answers asked (one ∷ [])) outcome → ⊥
+  not_ended_undue outcome (inl stopped) = not_stopped_undue outcome stopped
+  not_ended_undue outcome (inr (held, known, faults, prints)) = cc known.none_failed
+
+path_in : Name → List ℕ
+path_in (mod_file path version) = path
+path_in (folder_file text) = []
+path_in (list_file path) = []
+
+names_differ : top_name ≡ low_name → ⊥
+unfolding path_in
+names_differ e = let letter : 116 ≡ 108 = first_byte 116 108 _ _ (ap path_in e) in omega (arith, letter)
+
+abbrev Silent : Held → Type 0
+Silent held = (x : ModuleVersion) → vertex_requirements main (readings_by main held) x ≡ []
+
+low_unneeded : (held : Held) → Silent held → IsNeeded main (readings_by main held) low_name → ⊥
+low_unneeded held silent (x, opens, is, askable) = names_differ (ap (file_of main) (sym (opened_is held silent x opens)) ∙ is)
+
+low_not_due : IsDue main None [] low_name → ⊥
+low_not_due ((held, tells, needed), unanswered) = low_unneeded held (unheld_silent held tells) needed
+
+top_not_due : IsDue main None ((top_name, absent) ∷ []) top_name → ⊥
+top_not_due (told, unanswered) = cc unanswered
+
+-- ---- two files are answered to be missing
+
+ok_is_missing : (file : Dependency) → ◌≡◌ {A = Result Dependency Class} (Ok file) (Err Missing) → ⊥
+ok_is_missing file e = cc e
+
+two_say : (first second askable : Bool) (x : ModuleVersion) (name : Name) (said : Option (Result Dependency Class))
+    → IsTold None name (if first then Some absent else (if second then Some absent else None)) said
+    → requirements_in main (said_in (reading_if askable main x said)) ≡ []
+two_say first second false x name said told = refl
+two_say first second true x name None told = refl
+two_say first second true x name (Some (Err class)) told = refl
+two_say true second true x name (Some (Ok file)) told = absurd (ok_is_missing file told)
+two_say false true true x name (Some (Ok file)) told = absurd (ok_is_missing file told)
+two_say false false true x name (Some (Ok file)) told = absurd told
+
+module _ (second : Name) (not_asked : (held : Held) → Silent held → AreAsked main (readings_by main held) (top_name ∷ second ∷ []) → ⊥) where
+  abbrev two : List (Name × Reply)
+  two = (top_name, absent) ∷ (second, absent) ∷ []
+
+  two_silent : (held : Held) → Tells None two held → Silent held
+  two_silent held tells x = two_say (same_name (file_of main x) top_name) (same_name (file_of main x) second) (is_askable (file_of main x))
+      x (file_of main x) (held (file_of main x)) (tells (file_of main x))
+
+  not_known_two : (held : Held) → AreKnown main None (answers two []) held → ⊥
+  not_known_two held known = not_asked held (two_silent held known.tells) known.asked
+
+  not_stopped_two : (outcome : Outcome) → IsStopped main None (answers two []) outcome → ⊥
+  not_stopped_two outcome (too_many (held, tells, many) unfailed is) = not_too_many held (two_silent held tells) many
+  not_stopped_two outcome (device name due failed is) = cc failed
+  not_stopped_two outcome (faulty held first others known are is) = not_known_two held known
+
+  not_ended_two : (outcome : Outcome) → IsOutcomeOver (PrintsList None None) main None (answers two []) outcome → ⊥
+  not_ended_two outcome (inl stopped) = not_stopped_two outcome stopped
+  not_ended_two outcome (inr (held, known, faults, prints)) = not_known_two held known
+
+low_not_asked : (held : Held) → Silent held → AreAsked main (readings_by main held) (top_name ∷ low_name ∷ []) → ⊥
+low_not_asked held silent asked = low_unneeded held silent ((asked.each low_name).0 (1, omega arith, refl))
+
+top_not_twice : (held : Held) → Silent held → AreAsked main (readings_by main held) (top_name ∷ top_name ∷ []) → ⊥
+top_not_twice held silent asked = false≢true (sym (IsDistinct-head same_name top_name (top_name ∷ []) asked.once).0)
 
 -- ---- the answer is that there is no file
 
@@ -259,4 +355,8 @@ required_is_asked = record {
     inl (device top_name ((nothing, nothing_told, (top_one, inl is_top, refl, top_askable)), refl) refl refl),
   );
   unasked = not_ended;
+  undue = not_ended_undue [] low_name low_not_due;
+  answered = not_ended_undue ((top_name, absent) ∷ []) top_name top_not_due;
+  no_more = not_ended_two low_name low_not_asked;
+  not_twice = not_ended_two top_name top_not_twice;
 }

@@ -13,6 +13,7 @@ use Rattle.gm_name.specs.Version.{parts_in}
 use Rattle.gm_name.proofs.NameTests.{path-tested, version-tested}
 use Rattle.gm_syntax.specs.Document.{Line, Entry, AreLines, ReadsLines, Whole, start}
 use Rattle.gm_syntax.specs.Layout.{initial_state, layout, layout_from, layout_lines}
+use Rattle.gm_syntax.specs.LineViews.{plain_lines}
 use Rattle.gm_syntax.specs.Lines.{lines_of}
 use Rattle.gm_syntax.specs.Parsed.{IsParsedAs}
 use Rattle.gm_syntax.specs.Spelling.{IsWord}
@@ -22,14 +23,15 @@ use Rattle.gm_syntax.proofs.OneText.{reading_parsed}
 use Rattle.gm_syntax.proofs.Readings.{reading_of}
 use Rattle.gm_syntax.proofs.Stable.{is_stable}
 use Rattle.gm_file.specs.declared.fault.DirectiveKind.TheVariants.{NoModule}
-use Rattle.gm_file.specs.Directives.{Strict, directive_of, item_at}
+use Rattle.gm_file.specs.Directives.{Lax, Strict, directive_of, item_at}
 use Rattle.gm_file.specs.Faults.{directive_kinds, fault_of, faults}
+use Rattle.gm_file.specs.Fields.{dependency_of}
 use Rattle.gm_graph_cache.specs.Main.{main_of}
 use Rattle.gm_graph_cache.specs.declared.class.Misreading.TheVariants as misreading
 use Rattle.gm_graph_listing.specs.Outcomes.{IsMalformedMain}
 use Rattle.gm_graph_listing.proofs.ListLines.{lacks}
 use Rattle.gomod_laws.specs.ExampleRuns.{FilesAreRead, alone, main_requiring, requiring}
-use Rattle.gomod_laws.specs.ExampleWorld.{top_one}
+use Rattle.gomod_laws.specs.ExampleWorld.{saying, top_one}
 use Rattle.gomod_laws.proofs.Contradicted.{m_is_path}
 use Rattle.gomod_laws.proofs.FormattingRead.{placeless}
 use Rattle.gomod_laws.proofs.KnownVersions.{Parts, one_zero_is, one_zero_parts}
@@ -135,6 +137,14 @@ requiring_has_no_fault : fault_of Strict requiring_lines ≡ None
 unfolding fault_of faults item_at directive_of directive_kinds
 requiring_has_no_fault = rw (m_path, top_path, one_zero_version, one_zero_fits_top) refl
 
+requiring_has_no_lax_fault : fault_of Lax (plain_lines (placeless requiring_lines)) ≡ None
+unfolding fault_of faults item_at directive_of directive_kinds
+requiring_has_no_lax_fault = rw (m_path, top_path, one_zero_version, one_zero_fits_top) refl
+
+requiring_says_as_module : dependency_of (plain_lines (placeless requiring_lines)) ≡ saying (Some (codes "m")) (1, 16) (top_one ∷ [])
+unfolding item_at directive_of
+requiring_says_as_module = refl
+
 alone_says : main_of (doc (codes "m")) ≡ main_requiring []
 unfolding item_at directive_of
 alone_says = refl
@@ -150,6 +160,7 @@ pub files_are_read : FilesAreRead
 files_are_read = record {
   one = (doc (codes "m"), (alone_parsed, alone_has_no_fault), alone_says);
   two = (placeless requiring_lines, (requiring_parsed, requiring_has_no_fault), requiring_says);
+  answered = (placeless requiring_lines, requiring_parsed, requiring_has_no_lax_fault, requiring_says_as_module);
 }
 
 -- ---- the empty file

@@ -1,11 +1,12 @@
 -- Whole runs of `list` over the bytes of small files, on which the definitions of an outcome are tried.
-use Rattle.std.specs.Prelude.{◌≡◌, ℕ, List, [], ◌∷◌, None, codes}
+use Rattle.std.specs.Prelude.{◌≡◌, ℕ, List, [], ◌∷◌, Some, None, Ok, codes}
 use Rattle.gm_name.specs.ModuleVersion.{ModuleVersion}
-use Rattle.gm_store.specs.Asked.{Name, Reply, mod_file, absent}
+use Rattle.gm_store.specs.Asked.{Name, Reply, mod_file, absent, bytes}
 use Rattle.gm_graph_cache.specs.Main.{Main}
-use Rattle.gm_graph_listing.specs.Outcomes.{Given, IsListOutcome, IsMainFile, IsOutcomeOver, PrintsList, answers, given}
+use Rattle.gm_graph_cache.specs.Reading.{IsFileReading}
+use Rattle.gm_graph_listing.specs.Outcomes.{Answers, Given, IsListOutcome, IsMainFile, IsOutcomeOver, PrintsList, answers, given}
 use Rattle.gm_report.specs.Outcome.{Outcome, failed, printed, refused}
-use Rattle.gomod_laws.specs.ExampleWorld.{top_one}
+use Rattle.gomod_laws.specs.ExampleWorld.{saying, top_one}
 
 abbrev pub alone : List ℕ
 alone = codes "module m\n"
@@ -15,6 +16,9 @@ requiring = codes "module m\nrequire top.org v1.0.0\n"
 
 abbrev pub top_name : Name
 top_name = mod_file (codes "top.org") (codes "v1.0.0")
+
+abbrev pub low_name : Name
+low_name = mod_file (codes "low.org") (codes "v1.0.0")
 
 -- a run over these bytes without a go.sum
 abbrev pub run_of : List ℕ → List (Name × Reply) → List Name → Given
@@ -29,6 +33,8 @@ main_requiring requirements =
 pub record FilesAreRead : Type 0 where
   pub one : IsMainFile alone (main_requiring [])
   pub two : IsMainFile requiring (main_requiring (top_one ∷ []))
+  -- as a module's file too: an answer's bytes have a reading, before its path is compared
+  pub answered : IsFileReading None top_name (bytes requiring) (Ok (saying (Some (codes "m")) (1, 16) (top_one ∷ [])))
 
 -- A module that requires nothing is listed alone, and nothing else is an outcome.
 pub record IsListedAlone : Type 0 where
@@ -40,6 +46,21 @@ pub record IsListedAlone : Type 0 where
 abbrev pub EmptyIsRefused : Type 0
 EmptyIsRefused = IsListOutcome None None (run_of [] [] []) (refused (codes "go.mod:0: NoModule\n"))
 
+-- a run over `alone` and a go.sum with a line of two fields
+abbrev pub run_with_bad_sum : Given
+run_with_bad_sum = given alone (Some (codes "a b\n")) (answers [] [])
+
+-- The line is reported, and nothing else is an outcome: a bad go.sum is refused, though no file needs it.
+pub record BadSumIsRefused : Type 0 where
+  pub reported : IsListOutcome None None run_with_bad_sum (refused (codes "go.sum:1: BadSum\n"))
+  pub only : (outcome : Outcome) → IsListOutcome None None run_with_bad_sum outcome
+      → outcome ≡ refused (codes "go.sum:1: BadSum\n")
+
+-- given these answers, the main module that requires top.org has no outcome
+abbrev pub HasNoOutcome : Answers → Type 0
+HasNoOutcome told = (outcome : Outcome)
+    → ¬ (IsOutcomeOver (PrintsList None None) (main_requiring (top_one ∷ [])) None told outcome)
+
 -- If the required file is missing, that is reported; if the device failed on it, that is. If it was not asked for,
 -- there is no outcome.
 pub record RequiredIsAsked : Type 0 where
@@ -47,5 +68,10 @@ pub record RequiredIsAsked : Type 0 where
       (refused (codes "top.org@v1.0.0: Missing\n"))
   pub device : IsListOutcome None None (run_of requiring [] (top_name ∷ []))
       (failed (codes "gomod: device at top.org@v1.0.0\n"))
-  pub unasked : (outcome : Outcome)
-      → ¬ (IsOutcomeOver (PrintsList None None) (main_requiring (top_one ∷ [])) None (answers [] []) outcome)
+  pub unasked : HasNoOutcome (answers [] [])
+  -- nor if the device failed on a file that no opened module has, or on one that was answered: `IsDue` asks for both
+  pub undue : HasNoOutcome (answers [] (low_name ∷ []))
+  pub answered : HasNoOutcome (answers ((top_name, absent) ∷ []) (top_name ∷ []))
+  -- nor if another file was asked for as well, or the same one twice: `AreAsked` allows neither
+  pub no_more : HasNoOutcome (answers ((top_name, absent) ∷ (low_name, absent) ∷ []) [])
+  pub not_twice : HasNoOutcome (answers ((top_name, absent) ∷ (top_name, absent) ∷ []) [])

@@ -3,10 +3,10 @@
 //!
 //! The main module m (go 1.17) requires top.org v1.0.0 and mid.org v1.0.0, excludes low.org v1.1.0, and replaces
 //! mid.org v1.1.0 by the folder ./mid. The file of top.org (go 1.16) requires mid.org v1.1.0 and low.org v1.1.0, that
-//! of mid.org v1.0.0 (go 1.17) requires low.org v1.0.0, and the folder's requires nothing. The last three functions are
+//! of mid.org v1.0.0 (go 1.17) requires low.org v1.0.0, and the folder's requires nothing. The last four functions are
 //! about runs over the bytes of smaller files.
 
-ghost use Rattle.gomod_laws.specs.ExampleRuns.{EmptyIsRefused, FilesAreRead, IsListedAlone, RequiredIsAsked};
+ghost use Rattle.gomod_laws.specs.ExampleRuns.{BadSumIsRefused, EmptyIsRefused, FilesAreRead, IsListedAlone, RequiredIsAsked};
 ghost use Rattle.gomod_laws.specs.ExampleSums.{SumsSay};
 ghost use Rattle.gomod_laws.specs.ExampleWorld.{AnswersTell, FaultsAreClassed, FilesHaveNames, FourEdgesLead, ListIsPrinted, OneFaultIsReported, OnlyListIsPrinted, PrunedFrom17, ReplacementsApply, RequirementsAreLeft, RowsAreFour, ThreeAreOpened};
 
@@ -84,7 +84,8 @@ pub fn one_fault_is_reported()
     ensures { OneFaultIsReported }
 {}
 
-/// `IsMainFile`: `module m`, alone or with `require top.org v1.0.0`, is read as what it says.
+/// `IsMainFile`, `IsFileReading`: `module m`, alone or with `require top.org v1.0.0`, is read as what it says, the
+/// latter also as a module's file.
 pub fn files_are_read()
     ensures { FilesAreRead }
 {}
@@ -96,8 +97,16 @@ pub fn one_is_listed()
     ensures empty { EmptyIsRefused }
 {}
 
-/// `IsDue`, `AreKnown`, `IsStopped`, `IsOutcomeOver`: on the two lines `list` reports `top.org@v1.0.0: Missing` if that
-/// is the answer, and `gomod: device at top.org@v1.0.0` if the device failed. Without either it has no outcome.
+/// `IsRefusedRead`, `AreInvalidSums`, `IsFirstInvalid`: beside a go.sum that is the line `a b`, `list` on `module m`
+/// alone reports `go.sum:1: BadSum` and nothing else.
+pub fn bad_sum_is_refused()
+    ensures { BadSumIsRefused }
+{}
+
+/// `IsDue`, `AreKnown`, `AreAsked`, `IsStopped`, `IsOutcomeOver`: on the two lines `list` reports
+/// `top.org@v1.0.0: Missing` if that is the answer, and `gomod: device at top.org@v1.0.0` if the device failed. Without
+/// either it has no outcome; nor has it one if the device failed on another file, or on one that was answered, or if
+/// another file was asked for as well, or the same one twice.
 pub fn required_is_asked()
     ensures { RequiredIsAsked }
 {}
