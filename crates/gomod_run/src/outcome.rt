@@ -22,7 +22,7 @@ use gm_store::Files;
 use gomod_words::Command;
 use std::alloc::Global;
 
-/// What a command ends with over the main file, a go.sum where one is given, and a store that has not been asked yet:
+/// What a command ends with over the main file, a go.sum if one is given, and a store that has not been asked yet:
 /// a text or a report.
 pub(crate) fn outcome<'c, F: Files>(
     alloc: Global,

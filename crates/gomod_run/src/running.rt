@@ -20,7 +20,7 @@ use gm_store::{Files, Sink};
 use gomod_words::Command;
 use std::alloc::Global;
 
-/// Runs a command over the bytes of a main file, those of a go.sum where one is given, and a store that has not
+/// Runs a command over the bytes of a main file, those of a go.sum if one is given, and a store that has not
 /// been asked yet, and writes its outcome: either a text to `out`, with the status `Done`, or a report to `report`,
 /// with another status. `sums` must be `None` for `fmt`, `edit` and `versions`, which check no hashes.
 ///
@@ -46,11 +46,11 @@ use std::alloc::Global;
 /// | `gomod: device at NAME` | `Device` | the store's device fails at a needed file |
 /// | `gomod: no memory` | `Device` | memory runs out |
 ///
-/// Memory may run out in place of any of these but the report of the store's device and the reports of `versions` that
-/// there is no list to read. No report takes memory.
+/// If memory runs out, `gomod: no memory` may replace any of these except the report of the store's device and the
+/// reports of `versions` that there is no list to read. No report takes memory.
 ///
 /// `edit`: each operation applies to what those before it left, and the first that is refused is reported. A version
-/// must fit its path where the operation requires or excludes it, or has it on the left of its replace (go help mod
+/// must fit its path if the operation requires or excludes it, or has it on the left of its replace (go help mod
 /// edit; that a refusal prints nothing is this program's own rule). With no operation the text is the layout of the
 /// file.
 ///

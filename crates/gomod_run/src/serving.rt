@@ -1,4 +1,4 @@
-//! Running a command whose words have been read: over proxy folders, or over a store in memory where the words name
+//! Running a command whose words have been read: over proxy folders, or over a store in memory if the arguments name
 //! none.
 
 ghost use Rattle.std.specs.Prelude.{◌≡◌, IfErr, IfOk, None, Some};

@@ -1,4 +1,4 @@
-//! The store of a command: proxy folders on disk, or a store in memory where the words name none.
+//! The store of a command: proxy folders on disk, or a store in memory if the arguments name none.
 
 ghost use Rattle.std.specs.Prelude.{◌≡◌, ℕ, IfErr, IfOk, Some, [], codes};
 ghost use Rattle.std.specs.Global.{Vec};

@@ -54,7 +54,7 @@ fn versions_line(
     Ok(line)
 }
 
-/// The path and all versions on one line. This takes no list of those that are shown.
+/// The path and all versions on one line. It needs no list of the versions to show.
 fn all_line(
     alloc: Global,
     path: &ModPath,
