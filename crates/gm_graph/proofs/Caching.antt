@@ -4,7 +4,7 @@ use Rattle.std.specs.Result.{OnOk}
 use Rattle.gm_name.specs.ModuleVersion.{ModuleVersion, module_at}
 use Rattle.gm_name_table.specs.Listed.{BeginsWith}
 use Rattle.gm_store.specs.Asked.{Name, Reply}
-use Rattle.gm_store_sums.specs.declared.sum_table.SumTable.{SumTable}
+use Rattle.gm_store_sums.specs.Sums.{Sums}
 use Rattle.gm_graph_cache.specs.declared.cache.Cache.{Cache}
 use Rattle.gm_graph_cache.specs.declared.depth.Turn.{Turn}
 use Rattle.gm_graph_cache.specs.Cached.{AddsTurn, Knows, LentSame, held_of, main_in, modules_in, numbered}
@@ -57,7 +57,7 @@ module _ (old mid : Cache) (builder : GraphBuilder) (one : NumberedTurn) (number
       → OverflowsAt old pairs (turns_of (modules_in old) builder) (numbered old one.number) one.depth
   overflows_at pairs lent grows knows over = (
     held_of mid,
-    subst (λ (s : Option SumTable). Tells s pairs (held_of mid)) lent.sums knows.tells,
+    subst (λ (s : Option Sums). Tells s pairs (held_of mid)) lent.sums knows.tells,
     grows,
     subst (λ (m : Main). VisitOverflows m (readings_by m (held_of mid)) (turns_of (modules_in old) builder) (numbered old one.number) one.depth) (ap main_of lent.main)
         (subst (λ (ts : List Turn). VisitOverflows (main_in mid) (readings_in mid) ts (numbered old one.number) one.depth) (turns_over (modules_in old) (modules_in mid) builder is numbered_by)

@@ -4,7 +4,7 @@ use Rattle.std.specs.Result.{IsErr}
 use Rattle.std.proofs.lemmas.List.{take_more, take-append-le}
 use Rattle.gm_name.specs.ModuleVersion.{ModuleVersion}
 use Rattle.gm_store.specs.Asked.{Name, Reply, answer_in}
-use Rattle.gm_store_sums.specs.declared.sum_table.SumTable.{SumTable}
+use Rattle.gm_store_sums.specs.Sums.{Sums}
 use Rattle.gm_graph_cache.specs.declared.cache.Cache.{Cache}
 use Rattle.gm_graph_cache.specs.declared.depth.Depth.{Depth}
 use Rattle.gm_graph_cache.specs.declared.depth.Turn.{Turn}
@@ -21,7 +21,7 @@ use Rattle.gm_graph.specs.Turns.{AllValidTurns, VisitOverflows}
 use Rattle.gm_graph.proofs.Queueing.{many_followed}
 use Rattle.gm_graph.proofs.Rounds.{opened_from}
 
-pub asks_nothing : (main : Main) (sums : Option SumTable) (pairs : List (Name × Reply)) → pairs ≡ [] → AsksInTurn main sums pairs
+pub asks_nothing : (main : Main) (sums : Option Sums) (pairs : List (Name × Reply)) → pairs ≡ [] → AsksInTurn main sums pairs
 asks_nothing main sums pairs e = subst (λ (ps : List (Name × Reply)). AsksInTurn main sums ps) (sym e) nothing
 
 pub knows_nothing : (cache : Cache) (pairs : List (Name × Reply)) → pairs ≡ [] → Knows cache [] → Knows cache pairs
@@ -34,11 +34,11 @@ AddsFile main old new x = (new ≡ old)
     × ((reply : Reply) × (new ≡ old ++ (file_of main x, reply) ∷ [])))
 
 -- The vertex of a turn in the worklist is opened, so its file may be asked for.
-module _ (main : Main) (sums : Option SumTable) (cache : Cache) (main_is : main_in cache ≡ main) (sums_are : sums_in cache ≡ sums) (old : List (Name × Reply)) (knows : Knows cache old)
+module _ (main : Main) (sums : Option Sums) (cache : Cache) (main_is : main_in cache ≡ main) (sums_are : sums_in cache ≡ sums) (old : List (Name × Reply)) (knows : Knows cache old)
     (turns : List Turn) (at : ℕ) (x : ModuleVersion) (depth : Depth) (sound : AllValidTurns main (readings_by main (held_of cache)) turns) (below : at < length turns) (here : get_or turns at (turn x depth) ≡ turn x depth) where
   due : (name : Name) → file_of main x ≡ name → is_askable name ≡ true → answer_in old name ≡ None → IsDue main sums old name
   due name is askable fresh = (
-    (held_of cache, subst (λ (s : Option SumTable). Tells s old (held_of cache)) sums_are knows.tells, (x, opened_from main (readings_by main (held_of cache)) x depth (sound (turn x depth) (at, below, here)), is, askable)),
+    (held_of cache, subst (λ (s : Option Sums). Tells s old (held_of cache)) sums_are knows.tells, (x, opened_from main (readings_by main (held_of cache)) x depth (sound (turn x depth) (at, below, here)), is, askable)),
     fresh,
   )
 
@@ -57,7 +57,7 @@ module _ (main : Main) (sums : Option SumTable) (cache : Cache) (main_is : main_
   many_here new over =
       let held = over.0 in (
         held,
-        subst (λ (s : Option SumTable). Tells s new held) sums_are over.1,
+        subst (λ (s : Option Sums). Tells s new held) sums_are over.1,
         many_followed main (readings_by main (held_of cache)) (readings_by main held) turns at x depth sound (readings_stay main (held_of cache) held over.2) below here
             (subst (λ (m : Main). VisitOverflows m (readings_by m held) turns x depth) main_is over.3),
       )

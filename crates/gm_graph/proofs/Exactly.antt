@@ -12,7 +12,7 @@ use Rattle.std.proofs.lemmas.List.Elements.{Contains-push_cases}
 use Rattle.gm_name.specs.ModuleVersion.{ModuleVersion, pair_eq-Decides, pairs-equivalence}
 use Rattle.gm_file.specs.Fields.{Dependency}
 use Rattle.gm_store.specs.Asked.{Name, Reply, answer_in, names_in, same_name, mod_file, folder_file, list_file}
-use Rattle.gm_store_sums.specs.declared.sum_table.SumTable.{SumTable}
+use Rattle.gm_store_sums.specs.Sums.{Sums}
 use Rattle.gm_graph_cache.specs.declared.class.Class.{Class}
 use Rattle.gm_graph_cache.specs.declared.depth.Turn.{Turn}
 use Rattle.gm_graph_cache.specs.declared.depth.Depth.{Depth}
@@ -70,7 +70,7 @@ some_named : (pairs : List (Name × Reply)) (n : Name) → IsSome (answer_in pai
 some_named [] n h = absurd (false≢true h)
 some_named (pair ∷ pairs) n h = named_if (same_name n pair.0) pair (names_in pairs) n (answer_in pairs n) refl h (λ s. some_named pairs n s)
 
-asked_once : (main : Main) (sums : Option SumTable) {pairs : List (Name × Reply)} → AsksInTurn main sums pairs → IsDistinct same_name (names_in pairs)
+asked_once : (main : Main) (sums : Option Sums) {pairs : List (Name × Reply)} → AsksInTurn main sums pairs → IsDistinct same_name (names_in pairs)
 unfolding IsDistinct
 asked_once main sums nothing = tt
 asked_once main sums (more {pairs} {name} reply asks due) =
@@ -80,7 +80,7 @@ asked_once main sums (more {pairs} {name} reply asks due) =
 needed_kept : (main : Main) (a b : Readings) → Keeps a b → (n : Name) → IsNeeded main a n → IsNeeded main b n
 needed_kept main a b keeps n (x, opened, is, askable) = (x, opened_kept main a b keeps x opened, is, askable)
 
-asked_only : (main : Main) (sums : Option SumTable) {pairs : List (Name × Reply)} → AsksInTurn main sums pairs → (held : Held) → Tells sums pairs held → (n : Name) → Contains (names_in pairs) n → IsNeeded main (readings_by main held) n
+asked_only : (main : Main) (sums : Option Sums) {pairs : List (Name × Reply)} → AsksInTurn main sums pairs → (held : Held) → Tells sums pairs held → (n : Name) → Contains (names_in pairs) n → IsNeeded main (readings_by main held) n
 asked_only main sums nothing held tells n h = absurd (omega (arith, h.1))
 asked_only main sums (more {pairs} {name} reply asks due) held tells n h =
     let before = due.0.0 in
@@ -95,17 +95,17 @@ known_held true main x None e h = absurd (false≢true h)
 known_held true main x (Some r) e h = refl
 known_held false main x o e h = absurd (false≢true e)
 
-told_answered : (sums : Option SumTable) (name : Name) (a : Option Reply) (o : Option (Result Dependency Class)) → IsTold sums name a o → IsSome o → IsSome a
+told_answered : (sums : Option Sums) (name : Name) (a : Option Reply) (o : Option (Result Dependency Class)) → IsTold sums name a o → IsSome o → IsSome a
 told_answered sums name None None told h = absurd (false≢true h)
 told_answered sums name None (Some r) told h = absurd told
 told_answered sums name (Some reply) o told h = refl
 
 -- A vertex about which something is known was answered.
-pub answered : (main : Main) (sums : Option SumTable) (pairs : List (Name × Reply)) (held : Held) → Tells sums pairs held → (x : ModuleVersion) → IsSome (readings_by main held x) → IsAnswered main pairs x
+pub answered : (main : Main) (sums : Option Sums) (pairs : List (Name × Reply)) (held : Held) → Tells sums pairs held → (x : ModuleVersion) → IsSome (readings_by main held x) → IsAnswered main pairs x
 answered main sums pairs held tells x known askable =
     told_answered sums (file_of main x) (answer_in pairs (file_of main x)) (held (file_of main x)) (tells (file_of main x)) (known_held (is_askable (file_of main x)) main x (held (file_of main x)) askable known)
 
-pub asked_exactly : (main : Main) (sums : Option SumTable) (pairs : List (Name × Reply)) (held : Held) → Tells sums pairs held → AsksInTurn main sums pairs → ((x : ModuleVersion) → IsOpened main (readings_by main held) x → IsSome (readings_by main held x)) → AreAsked main (readings_by main held) (names_in pairs)
+pub asked_exactly : (main : Main) (sums : Option Sums) (pairs : List (Name × Reply)) (held : Held) → Tells sums pairs held → AsksInTurn main sums pairs → ((x : ModuleVersion) → IsOpened main (readings_by main held) x → IsSome (readings_by main held x)) → AreAsked main (readings_by main held) (names_in pairs)
 asked_exactly main sums pairs held tells asks known = record {
   once = asked_once main sums asks;
   each = λ n. (

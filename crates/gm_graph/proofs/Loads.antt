@@ -3,7 +3,7 @@ use Rattle.std.proofs.Common.{◌≡◌, ◌↔◌, List, [], None, map, Option,
 use Rattle.gm_name.specs.ModuleVersion.{ModuleVersion, pair_cmp}
 use Rattle.std.specs.BTreeMap as tree
 use Rattle.gm_store.specs.Asked.{Name, Reply}
-use Rattle.gm_store_sums.specs.declared.sum_table.SumTable.{SumTable}
+use Rattle.gm_store_sums.specs.Sums.{Sums}
 use Rattle.gm_graph_cache.specs.declared.cache.Cache.{Cache}
 use Rattle.gm_graph_cache.specs.declared.depth.Turn.{Turn}
 use Rattle.gm_graph_cache.specs.Cached.{held_of, main_in, modules_in, sums_in, turns_in}
@@ -78,17 +78,17 @@ module _ (old new : Cache) (pairs : List (Name × Reply)) (builder : GraphBuilde
   )
 
 -- the same for the main file and the go.sum that the cache was created with
-pub loads_of : (old new : Cache) (pairs : List (Name × Reply)) (builder : GraphBuilder) → IsOpenedIn old new pairs builder → (main : Main) (sums : Option SumTable) → main_in old ≡ main → sums_in old ≡ sums
+pub loads_of : (old new : Cache) (pairs : List (Name × Reply)) (builder : GraphBuilder) → IsOpenedIn old new pairs builder → (main : Main) (sums : Option Sums) → main_in old ≡ main → sums_in old ≡ sums
     → (loaded : LoadedGraph) → AsksInTurn (main_in old) (sums_in old) pairs → loaded.main ≡ main.path → loaded.faults ≡ map (λ e. fault e.0 e.1) builder.faults.entries → tree.IsOrdered pair_cmp builder.faults
     → IsAscending edge_cmp loaded.edges → HaveSame (edges_in (modules_in new) builder) loaded.edges → IsBuildList main.path main.replaces (among loaded.edges) loaded.rows → loaded.turns ≡ turns_in new
     → Told main sums pairs (IsLoaded main pairs loaded)
 loads_of old new pairs builder opened main sums main_is sums_are loaded asks path_is faults ordered ascending same rows turns =
-    subst (λ (m : Main). Told m sums pairs (IsLoaded m pairs loaded)) main_is (subst (λ (s : Option SumTable). Told (main_in old) s pairs (IsLoaded (main_in old) pairs loaded)) sums_are
+    subst (λ (m : Main). Told m sums pairs (IsLoaded m pairs loaded)) main_is (subst (λ (s : Option Sums). Told (main_in old) s pairs (IsLoaded (main_in old) pairs loaded)) sums_are
     (loads old new pairs builder opened loaded asks (path_is ∙ ap (λ (m : Main). m.path) (sym main_is)) faults ordered ascending same
     (subst (λ (m : Main). IsBuildList m.path m.replaces (among loaded.edges) loaded.rows) (sym main_is) rows) turns))
 
 -- Nothing was asked for, and the main file requires too many vertices.
-pub too_many_first : (main : Main) (sums : Option SumTable) (pairs : List (Name × Reply)) → pairs ≡ [] → OverflowsWith [] (without_excluded main main.requirements) → Told main sums pairs (AreTooMany main)
+pub too_many_first : (main : Main) (sums : Option Sums) (pairs : List (Name × Reply)) → pairs ≡ [] → OverflowsWith [] (without_excluded main main.requirements) → Told main sums pairs (AreTooMany main)
 too_many_first main sums pairs none over =
     subst (λ (ps : List (Name × Reply)). Told main sums ps (AreTooMany main)) (sym none)
     ((λ n. None), (λ n. tt), many_first main (readings_by main (λ n. None)) over)

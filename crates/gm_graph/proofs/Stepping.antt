@@ -4,7 +4,7 @@ use Rattle.std.proofs.lemmas.List.{get_or-map, length-map, take_all}
 use Rattle.std.proofs.lemmas.List.Elements.{All-contains}
 use Rattle.gm_name.specs.ModuleVersion.{ModuleVersion}
 use Rattle.gm_store.specs.Asked.{Name, Reply}
-use Rattle.gm_store_sums.specs.declared.sum_table.SumTable.{SumTable}
+use Rattle.gm_store_sums.specs.Sums.{Sums}
 use Rattle.gm_graph_cache.specs.declared.cache.Cache.{Cache}
 use Rattle.gm_graph_cache.specs.declared.depth.Depth.{Depth}
 use Rattle.gm_graph_cache.specs.declared.depth.Depth.TheVariants.{Top}
@@ -51,7 +51,7 @@ abbrev pub built_by : Cache → GraphBuilder → Built
 built_by cache builder = built (modules_in cache) builder
 
 -- The turns before this position were visited.
-pub record IsAt (main : Main) (sums : Option SumTable) (cache : Cache) (pairs : List (Name × Reply)) (builder : GraphBuilder) (at : ℕ) : Type 0 where
+pub record IsAt (main : Main) (sums : Option Sums) (cache : Cache) (pairs : List (Name × Reply)) (builder : GraphBuilder) (at : ℕ) : Type 0 where
   pub place : at ≤ length (built_by cache builder).turns
   pub builder_is : IsBuilder (modules_in cache) builder
   pub main_is : main_in cache ≡ main
@@ -79,7 +79,7 @@ first_step cache pairs builder none knows lent first =
       asks = asks_nothing _ _ _ none;
     }
 
-pub step : (main : Main) (sums : Option SumTable) (old new : Cache) (pairs longer : List (Name × Reply)) (before after : GraphBuilder) (at : ℕ) (x : ModuleVersion) (depth : Depth)
+pub step : (main : Main) (sums : Option Sums) (old new : Cache) (pairs longer : List (Name × Reply)) (before after : GraphBuilder) (at : ℕ) (x : ModuleVersion) (depth : Depth)
     → IsAt main sums old pairs before at → at < length (built_by old before).turns → get_or (built_by old before).turns at (turn x depth) ≡ turn x depth
     → Knows new longer → Continues old new → turns_in new ≡ turns_in old ++ turn x depth ∷ [] → IsBuilder (modules_in new) after → IsVisited (main_in new) (readings_in new) (built_by old before) (built_by new after) x depth → AddsFile (main_in old) pairs longer x
     → IsAt main sums new longer after (at + 1)
@@ -128,7 +128,7 @@ last_step old new pairs builder at is past =
     let all = queue_all main r made.turns at past is.queue in
     record {
       main = is.main_is;
-      tells = subst (λ (s : Option SumTable). Tells s pairs (held_of new)) is.sums_are is.knows.tells;
+      tells = subst (λ (s : Option Sums). Tells s pairs (held_of new)) is.sums_are is.knows.tells;
       lent = is.lent ∙ take_all at made.turns past;
       is_builder = is.builder_is;
       turns = are_turns main r opened made.turns of all;

@@ -5,7 +5,7 @@ use Rattle.gm_name.specs.Version.{version_cmp}
 use Rattle.gm_name.specs.ModuleVersion.{ModuleVersion}
 use Rattle.gm_file.specs.Directives.{Right}
 use Rattle.gm_store.specs.Asked.{Name, Reply}
-use Rattle.gm_store_sums.specs.declared.sum_table.SumTable.{SumTable}
+use Rattle.gm_store_sums.specs.Sums.{Sums}
 use Rattle.gm_graph_cache.specs.Main.{Main, is_pruned_by}
 use Rattle.gm_graph_cache.specs.Reading.{Readings, vertex_requirements}
 use Rattle.gm_graph_select.specs.declared.step.Step.{Step}
@@ -50,6 +50,6 @@ OneAnswer = (main : Main) (pairs : List (Name × Reply)) (a b : LoadedGraph) (re
 
 -- So do the main file, the go.sum and the store's answers.
 abbrev pub OneLoading : Type 0
-OneLoading = (main : Main) (sums : Option SumTable) (pairs : List (Name × Reply)) (a b : LoadedGraph)
+OneLoading = (main : Main) (sums : Option Sums) (pairs : List (Name × Reply)) (a b : LoadedGraph)
     → Told main sums pairs (IsLoaded main pairs a) → Told main sums pairs (IsLoaded main pairs b)
     → (a.faults ≡ b.faults) × (a.edges ≡ b.edges) × (a.rows ≡ b.rows)

@@ -3,7 +3,7 @@ use Rattle.std.specs.Prelude.{◌≡◌, ◌↔◌, ◌≤◌, ◌<◌, true, Li
 use Rattle.std.specs.List.{IsDistinct}
 use Rattle.gm_name.specs.ModuleVersion.{ModuleVersion, pair_eq}
 use Rattle.gm_store.specs.Asked.{Name, Reply, answer_in, same_name}
-use Rattle.gm_store_sums.specs.declared.sum_table.SumTable.{SumTable}
+use Rattle.gm_store_sums.specs.Sums.{Sums}
 use Rattle.gm_graph_cache.specs.declared.depth.Depth.{Depth}
 use Rattle.gm_graph_cache.specs.declared.depth.Turn.{Turn}
 use Rattle.gm_graph_cache.specs.Main.{Main}
@@ -13,7 +13,7 @@ use Rattle.gm_graph.specs.Turns.{same_turn}
 use Rattle.gm_graph_cache.specs.Turns.{turn}
 
 -- This holds for the readings of the answered files.
-abbrev pub Told : Main → Option SumTable → List (Name × Reply) → (Readings → Type 0) → Type 0
+abbrev pub Told : Main → Option Sums → List (Name × Reply) → (Readings → Type 0) → Type 0
 Told main sums pairs P = (held : Held) × Tells sums pairs held × P (readings_by main held)
 
 -- The file of a vertex was answered, unless it is not asked for.
@@ -26,12 +26,12 @@ IsNeeded main readings name = (x : ModuleVersion) × IsOpened main readings x ×
     × (is_askable name ≡ true)
 
 -- By these answers the name is needed, and it is not among them.
-abbrev pub IsDue : Main → Option SumTable → List (Name × Reply) → Name → Type 0
+abbrev pub IsDue : Main → Option Sums → List (Name × Reply) → Name → Type 0
 IsDue main sums pairs name = Told main sums pairs (λ readings. IsNeeded main readings name)
     × (answer_in pairs name ≡ None)
 
 -- Each name was due by the answers before it.
-pub data AsksInTurn (main : Main) (sums : Option SumTable) : List (Name × Reply) → Type 0 where
+pub data AsksInTurn (main : Main) (sums : Option Sums) : List (Name × Reply) → Type 0 where
   nothing : AsksInTurn main sums []
   more : {pairs : List (Name × Reply)} {name : Name} (reply : Reply) → AsksInTurn main sums pairs
       → IsDue main sums pairs name → AsksInTurn main sums (pairs ++ (name, reply) ∷ [])

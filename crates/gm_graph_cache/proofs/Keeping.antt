@@ -4,7 +4,7 @@ use Rattle.std.specs.Prelude.{IsErrAnd, OnErr, slice_get}
 use Rattle.std.specs.Option.{option_map}
 use Rattle.gm_file.specs.Fields.{Dependency}
 use Rattle.gm_store.specs.Asked.{Name, Reply, answer_in, same_name}
-use Rattle.gm_store_sums.specs.declared.sum_table.SumTable.{SumTable}
+use Rattle.gm_store_sums.specs.Sums.{Sums}
 use Rattle.gm_graph_cache.specs.declared.class.Class.{Class}
 use Rattle.std.proofs.Math.Path.{fun_ext}
 use Rattle.gm_name.specs.ModuleVersion.{ModuleVersion}
@@ -28,7 +28,7 @@ use Rattle.gm_graph_cache.proofs.Spans.{kept_still, readings_still}
 
 -- ---- readings are unique
 
-one_at : (sums : Option SumTable) (name : Name) (reply : Option Reply) (a b : Option (Result Dependency Class)) → IsTold sums name reply a → IsTold sums name reply b → a ≡ b
+one_at : (sums : Option Sums) (name : Name) (reply : Option Reply) (a b : Option (Result Dependency Class)) → IsTold sums name reply a → IsTold sums name reply b → a ≡ b
 one_at sums name None None None is other = refl
 one_at sums name None None (Some r) is other = absurd other
 one_at sums name None (Some r) b is other = absurd is
@@ -36,7 +36,7 @@ one_at sums name (Some reply) None b is other = absurd is
 one_at sums name (Some reply) (Some r) None is other = absurd other
 one_at sums name (Some reply) (Some r) (Some s) is other = ap Some (one_reading sums name reply r s is other)
 
-pub one_told : (sums : Option SumTable) (pairs : List (Name × Reply)) (a b : Held) → Tells sums pairs a → Tells sums pairs b → (name : Name) → a name ≡ b name
+pub one_told : (sums : Option Sums) (pairs : List (Name × Reply)) (a b : Held) → Tells sums pairs a → Tells sums pairs b → (name : Name) → a name ≡ b name
 one_told sums pairs a b is other name = one_at sums name (answer_in pairs name) (a name) (b name) (is name) (other name)
 
 -- ---- answers stay when more is asked for
@@ -49,7 +49,7 @@ answer_stays (pair ∷ pairs) more name reply e =
       | false ↦ λ h. answer_stays pairs more name reply h
     ] e
 
-told_stays_at : (sums : Option SumTable) (name : Name) (first all : Option Reply) (old new : Option (Result Dependency Class)) (reading : Result Dependency Class)
+told_stays_at : (sums : Option Sums) (name : Name) (first all : Option Reply) (old new : Option (Result Dependency Class)) (reading : Result Dependency Class)
     → ((reply : Reply) → first ≡ Some reply → all ≡ Some reply) → IsTold sums name first old → IsTold sums name all new → old ≡ Some reading → new ≡ Some reading
 told_stays_at sums name None all old new reading stays is other e = absurd (nothing old is e)
   where
@@ -59,7 +59,7 @@ told_stays_at sums name None all old new reading stays is other e = absurd (noth
 told_stays_at sums name (Some reply) all old new reading stays is other e =
     sym (one_at sums name (Some reply) old new is (subst (λ (o : Option Reply). IsTold sums name o new) (stays reply refl) other)) ∙ e
 
-pub earlier_readings_stay : (sums : Option SumTable) (pairs more : List (Name × Reply)) (old new : Held) → Tells sums pairs old → Tells sums (pairs ++ more) new → KeepsHeld old new
+pub earlier_readings_stay : (sums : Option Sums) (pairs more : List (Name × Reply)) (old new : Held) → Tells sums pairs old → Tells sums (pairs ++ more) new → KeepsHeld old new
 earlier_readings_stay sums pairs more old new is other name reading e =
     told_stays_at sums name (answer_in pairs name) (answer_in (pairs ++ more) name) (old name) (new name) reading (λ reply f. answer_stays pairs more name reply f) (is name) (other name) e
 
@@ -72,14 +72,14 @@ only_if (Some a) held = held
 abbrev pub held_first : List (Name × Reply) → Held → Held
 held_first pairs held name = only_if (answer_in pairs name) (held name)
 
-first_at : (sums : Option SumTable) (name : Name) (first all : Option Reply) (held : Option (Result Dependency Class)) → ((reply : Reply) → first ≡ Some reply → all ≡ Some reply) → IsTold sums name all held → IsTold sums name first (only_if first held)
+first_at : (sums : Option Sums) (name : Name) (first all : Option Reply) (held : Option (Result Dependency Class)) → ((reply : Reply) → first ≡ Some reply → all ≡ Some reply) → IsTold sums name all held → IsTold sums name first (only_if first held)
 first_at sums name None all held stays is = tt
 first_at sums name (Some reply) all held stays is = subst (λ (o : Option Reply). IsTold sums name o held) (stays reply refl) is
 
-pub first_told : (sums : Option SumTable) (pairs more : List (Name × Reply)) (held : Held) → Tells sums (pairs ++ more) held → Tells sums pairs (held_first pairs held)
+pub first_told : (sums : Option Sums) (pairs more : List (Name × Reply)) (held : Held) → Tells sums (pairs ++ more) held → Tells sums pairs (held_first pairs held)
 first_told sums pairs more held is name = first_at sums name (answer_in pairs name) (answer_in (pairs ++ more) name) (held name) (λ reply f. answer_stays pairs more name reply f) (is name)
 
-pub prefix_has_readings : (sums : Option SumTable) (pairs more : List (Name × Reply)) (new : Held) → Tells sums (pairs ++ more) new → (old : Held) × Tells sums pairs old × KeepsHeld old new
+pub prefix_has_readings : (sums : Option Sums) (pairs more : List (Name × Reply)) (new : Held) → Tells sums (pairs ++ more) new → (old : Held) × Tells sums pairs old × KeepsHeld old new
 prefix_has_readings sums pairs more new is =
     let first = first_told sums pairs more new is in
     (held_first pairs new, first, earlier_readings_stay sums pairs more (held_first pairs new) new first is)
@@ -133,7 +133,7 @@ held_same old new same = fun_ext same.held
 -- A cache that holds the same knows the same.
 pub knows_still : (old new : Cache) (pairs : List (Name × Reply)) → HoldsSame old new → Knows old pairs → Knows new pairs
 knows_still old new pairs same knows = record {
-  tells = subst (λ (s : Option SumTable). Tells s pairs (held_of new)) (sym same.sums) (subst (λ (h : Held). Tells (sums_in old) pairs h) (sym (held_same old new same)) knows.tells);
+  tells = subst (λ (s : Option Sums). Tells s pairs (held_of new)) (sym same.sums) (subst (λ (h : Held). Tells (sums_in old) pairs h) (sym (held_same old new same)) knows.tells);
   lends = same.lends knows.lends;
 }
 

@@ -10,7 +10,7 @@ use Rattle.gm_file.specs.Directives.{Lax}
 use Rattle.gm_file.specs.Faults.{Fault, fault_of}
 use Rattle.gm_file.specs.Fields.{Dependency, dependency_of}
 use Rattle.gm_store.specs.Asked.{Name, Reply, bytes, absent, too_long}
-use Rattle.gm_store_sums.specs.declared.sum_table.SumTable.{SumTable}
+use Rattle.gm_store_sums.specs.Sums.{Sums}
 use Rattle.gm_graph_cache.specs.declared.class.Class.{Class}
 use Rattle.gm_graph_cache.specs.declared.class.Class.TheVariants.{NotFetchable, Missing, TooLong, NoSum, SumDiffers, Malformed, WrongPath}
 use Rattle.gm_graph_cache.specs.declared.class.Misreading.TheVariants as misreading
@@ -68,7 +68,7 @@ one_unless : (o : Option Class) (content : List ℕ) (a b : Result Dependency Cl
 one_unless None content a b is other = one_content content a b is other
 one_unless (Some class) content a b is other = is ∙ sym other
 
-pub one_reading : (sums : Option SumTable) (name : Name) (reply : Reply) (a b : Result Dependency Class) → IsFileReading sums name reply a → IsFileReading sums name reply b → a ≡ b
+pub one_reading : (sums : Option Sums) (name : Name) (reply : Reply) (a b : Result Dependency Class) → IsFileReading sums name reply a → IsFileReading sums name reply b → a ≡ b
 one_reading sums name absent a b is other = is ∙ sym other
 one_reading sums name too_long a b is other = is ∙ sym other
 one_reading sums name (bytes content) a b is other = one_unless (sum_fault sums name content) content a b is other

@@ -4,7 +4,7 @@ use Rattle.std.specs.Option.{option_map}
 use Rattle.gm_name.specs.ModuleVersion.{ModuleVersion}
 use Rattle.gm_file.specs.Fields.{Dependency}
 use Rattle.gm_store.specs.Asked.{Name, Reply, answer_in, same_name}
-use Rattle.gm_store_sums.specs.declared.sum_table.SumTable.{SumTable}
+use Rattle.gm_store_sums.specs.Sums.{Sums}
 use Rattle.gm_store.proofs.NameOrder.{names_equal, name_itself}
 use Rattle.gm_name_table.specs.Listed.{BeginsWith, NumberedList, listed}
 use Rattle.gm_graph_cache.specs.declared.class.Class.{Class}
@@ -18,7 +18,7 @@ use Rattle.gm_graph_cache.specs.Summaries.{IsKept, summary_reading}
 use Rattle.gm_graph_cache.specs.Cached.{HoldsSame, KeepsSound, Knows, LentSame, held_of, main_in, modules_in, summary_at, sums_in}
 
 -- If no reading is held, the name was not answered.
-none_told : (sums : Option SumTable) (name : Name) (a : Option Reply) (h : Option (Result Dependency Class)) → IsTold sums name a h → h ≡ None → a ≡ None
+none_told : (sums : Option Sums) (name : Name) (a : Option Reply) (h : Option (Result Dependency Class)) → IsTold sums name a h → h ≡ None → a ≡ None
 none_told sums name None h told e = refl
 none_told sums name (Some reply) None told e = absurd told
 none_told sums name (Some reply) (Some reading) told e = absurd cc
@@ -44,11 +44,11 @@ answer_elsewhere : (pairs : List (Name × Reply)) (name other : Name) (reply : R
 answer_elsewhere [] name other reply e = ap (λ (b : Bool). cond b (Some reply) None) e
 answer_elsewhere (pair ∷ pairs) name other reply e = ap (λ (o : Option Reply). cond (same_name other pair.0) (Some pair.1) o) (answer_elsewhere pairs name other reply e)
 
-told_along : (sums : Option SumTable) (name : Name) (a b : Option Reply) (h k : Option (Result Dependency Class)) → a ≡ b → h ≡ k → IsTold sums name b k → IsTold sums name a h
+told_along : (sums : Option Sums) (name : Name) (a b : Option Reply) (h k : Option (Result Dependency Class)) → a ≡ b → h ≡ k → IsTold sums name b k → IsTold sums name a h
 told_along sums name a b h k e f told = subst (λ (x : Option Reply). IsTold sums name x h) (sym e) (subst (λ (y : Option (Result Dependency Class)). IsTold sums name b y) (sym f) told)
 
 -- what is held with one more reading, at one name
-told_with : (b : Bool) (sums : Option SumTable) (pairs : List (Name × Reply)) (old new : Held) (name : Name) (reply : Reply) (reading : Result Dependency Class) (other : Name)
+told_with : (b : Bool) (sums : Option Sums) (pairs : List (Name × Reply)) (old new : Held) (name : Name) (reply : Reply) (reading : Result Dependency Class) (other : Name)
     → (b ≡ same_name other name) → Tells sums pairs old → answer_in pairs name ≡ None → IsFileReading sums name reply reading → new other ≡ cond b (Some reading) (old other)
     → IsTold sums other (answer_in (pairs ++ (name, reply) ∷ []) other) (new other)
 told_with true sums pairs old new name reply reading other is tells fresh reads e =
@@ -61,7 +61,7 @@ told_with false sums pairs old new name reply reading other is tells fresh reads
     (answer_elsewhere pairs name other reply (sym is)) e (tells other)
 
 -- With the reading of one more reply added, what is held has the readings of all pairs.
-pub tells_more : (sums : Option SumTable) (pairs : List (Name × Reply)) (old new : Held) (name : Name) (reply : Reply) (reading : Result Dependency Class)
+pub tells_more : (sums : Option Sums) (pairs : List (Name × Reply)) (old new : Held) (name : Name) (reply : Reply) (reading : Result Dependency Class)
     → Tells sums pairs old → answer_in pairs name ≡ None → IsFileReading sums name reply reading → ((other : Name) → new other ≡ cond (same_name other name) (Some reading) (old other))
     → Tells sums (pairs ++ (name, reply) ∷ []) new
 tells_more sums pairs old new name reply reading tells fresh reads e other = told_with (same_name other name) sums pairs old new name reply reading other refl tells fresh reads (e other)
@@ -90,7 +90,7 @@ pub knows_more : (old new : Cache) (pairs : List (Name × Reply)) (name : Name) 
     → PutsFile (modules_in old) old.files new.files name one → IsFileReading (sums_in old) name reply (summary_reading (listed old.modules) one) → IsKept (main_in old) (listed old.modules) one
     → Knows new (pairs ++ (name, reply) ∷ [])
 knows_more old new pairs name reply one knows none same_main same_sums modules keeps reads is = record {
-  tells = subst (λ (s : Option SumTable). Tells s (pairs ++ (name, reply) ∷ []) (held_of new)) (sym same_sums)
+  tells = subst (λ (s : Option Sums). Tells s (pairs ++ (name, reply) ∷ []) (held_of new)) (sym same_sums)
       (tells_more (sums_in old) pairs (held_of old) (held_of new) name reply (summary_reading (listed old.modules) one) knows.tells none reads (held_with old new name one modules keeps));
   lends = λ other some e. subst (λ (m : Main). IsKept m (listed new.modules) some) (ap main_of (sym same_main))
       (subst (λ (list : NumberedList). IsKept (main_in old) (listed list) some) (sym modules)
@@ -105,7 +105,7 @@ pub knows_read : (old mid new : Cache) (pairs all : List (Name × Reply)) (name 
 knows_read old mid new pairs all name reply one knows same lent modules none adds e reads is =
     subst (λ (ps : List (Name × Reply)). Knows new ps) (sym e)
     (knows_more mid new pairs name reply one (knows_still old mid pairs same knows) (not_asked old pairs name knows none) lent.main lent.sums modules adds
-    (subst (λ (s : Option SumTable). IsFileReading s name reply (summary_reading (listed mid.modules) one)) (sym same.sums) reads)
+    (subst (λ (s : Option Sums). IsFileReading s name reply (summary_reading (listed mid.modules) one)) (sym same.sums) reads)
     (subst (λ (m : Main). IsKept m (listed mid.modules) one) (sym (main_same old mid same)) is))
 
 stays : {R : Type 0} (b : Bool) (v r : R) (old new : Option R) → new ≡ cond b (Some v) old → (b ≡ true → old ≡ None) → old ≡ Some r → new ≡ Some r

@@ -7,7 +7,7 @@ use Rattle.gm_name.specs.ModuleVersion.{ModuleVersion, module_at}
 use Rattle.gm_name_table.specs.Listed.{BeginsWith, listed}
 use Rattle.gm_file.specs.Fields.{Dependency}
 use Rattle.gm_store.specs.Asked.{Name, Reply}
-use Rattle.gm_store_sums.specs.declared.sum_table.SumTable.{SumTable}
+use Rattle.gm_store_sums.specs.Sums.{Sums}
 use Rattle.gm_graph_cache.specs.declared.class.Class.{Class}
 use Rattle.gm_graph_cache.specs.declared.depth.Turn.{Turn}
 use Rattle.gm_graph_cache.specs.declared.finding.Finding.{Finding}
@@ -26,7 +26,7 @@ abbrev pub main_in : Cache → Main
 main_in cache = main_of cache.main.now
 
 -- the go.sum of a cache, if it has one
-abbrev pub sums_in : Cache → Option SumTable
+abbrev pub sums_in : Cache → Option Sums
 sums_in cache = option_copied cache.sums
 
 -- the turns whose requirements were requested

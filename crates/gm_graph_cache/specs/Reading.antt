@@ -14,9 +14,8 @@ use Rattle.gm_file.specs.Faults.{fault_of}
 use Rattle.gm_file.specs.DepLines.{IsDependencyIn}
 use Rattle.gm_file.specs.Fields.{Dependency}
 use Rattle.gm_store.specs.Asked.{Name, Reply, mod_file, folder_file, list_file, bytes, absent, too_long, answer_in}
-use Rattle.gm_store_sums.specs.Sums.{check_in}
+use Rattle.gm_store_sums.specs.Sums.{Sums, check_in}
 use Rattle.gm_store_sums.specs.Hash.{file_hash}
-use Rattle.gm_store_sums.specs.declared.sum_table.SumTable.{SumTable}
 use Rattle.gm_store_sums.specs.declared.sum_table.Sum.{Sum}
 use Rattle.gm_store_sums.specs.declared.sum_table.Sum.TheVariants.{Good, Unlisted, Differs}
 use Rattle.gm_graph_cache.specs.declared.class.Class.{Class}
@@ -51,7 +50,7 @@ class_of_sum Differs = Some SumDiffers
 
 -- What a go.sum, if there is one, finds wrong with the bytes of a proxy file, under that file's own path and
 -- version.
-abbrev pub sum_fault : Option SumTable → Name → List ℕ → Option Class
+abbrev pub sum_fault : Option Sums → Name → List ℕ → Option Class
 sum_fault None name content = None
 sum_fault (Some table) (mod_file path version) content = class_of_sum (check_in table path version (file_hash content))
 sum_fault (Some table) (folder_file text) content = None
@@ -79,7 +78,7 @@ IsReadUnless (Some class) content reading = reading ≡ Err class
 IsReadUnless None content reading = IsContentReading content reading
 
 -- What the reply to a name says, or what is wrong with it: the first that applies.
-abbrev pub IsFileReading : Option SumTable → Name → Reply → Result Dependency Class → Type 0
+abbrev pub IsFileReading : Option Sums → Name → Reply → Result Dependency Class → Type 0
 IsFileReading sums name absent reading = reading ≡ Err Missing
 IsFileReading sums name too_long reading = reading ≡ Err TooLong
 IsFileReading sums name (bytes content) reading = IsReadUnless (sum_fault sums name content) content reading
@@ -90,18 +89,18 @@ IsFileReading sums name (bytes content) reading = IsReadUnless (sum_fault sums n
 abbrev pub Held : Type 0
 Held = Name → Option (Result Dependency Class)
 
-abbrev pub IsTold : Option SumTable → Name → Option Reply → Option (Result Dependency Class) → Type 0
+abbrev pub IsTold : Option Sums → Name → Option Reply → Option (Result Dependency Class) → Type 0
 IsTold sums name None None = ⊤
 IsTold sums name (Some reply) (Some reading) = IsFileReading sums name reply reading
 IsTold sums name _ _ = ⊥
 
 -- What is held of the file of each name is what the reply to it says, checked against the go.sum if there is one.
 -- Nothing is held if there is no reply.
-abbrev pub HeldByAnswers : Option SumTable → (Name → Option Reply) → Held → Type 0
+abbrev pub HeldByAnswers : Option Sums → (Name → Option Reply) → Held → Type 0
 HeldByAnswers sums answers held = (name : Name) → IsTold sums name (answers name) (held name)
 
 -- What is held is what the replies to the requested names say, and nothing about any other name.
-abbrev pub Tells : Option SumTable → List (Name × Reply) → Held → Type 0
+abbrev pub Tells : Option Sums → List (Name × Reply) → Held → Type 0
 Tells sums pairs held = HeldByAnswers sums (answer_in pairs) held
 
 -- What is held stays.

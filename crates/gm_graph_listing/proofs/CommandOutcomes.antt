@@ -6,7 +6,7 @@ use Rattle.gm_syntax.specs.Tokens.{Placed}
 use Rattle.gm_store.specs.Asked.{Name, Reply, name_of}
 use Rattle.gm_store.specs.States.{StoreState}
 use Rattle.gm_store.specs.declared.files.FileName.{FileName}
-use Rattle.gm_store_sums.specs.declared.sum_table.SumTable.{SumTable}
+use Rattle.gm_store_sums.specs.Sums.{Sums}
 use Rattle.gm_graph_cache.specs.Main.{Main, main_of}
 use Rattle.gm_graph_cache.specs.Reading.{Held, Readings, Tells, readings_by}
 use Rattle.gm_graph_cache.specs.Refusals.{refused_in, refused_names}
@@ -40,12 +40,12 @@ rest_printed main rows rest path limit outcome is (inl says) = inl (inl (rest, i
 rest_printed main rows rest path limit outcome is (inr none) = inr none
 
 -- the outcome when both files are valid, with the names on which the store's device failed
-abbrev pub Answered : Query → Main → Option SumTable → StoreState → StoreState → Outcome → Type 0
+abbrev pub Answered : Query → Main → Option Sums → StoreState → StoreState → Outcome → Type 0
 Answered query main table old new outcome =
     (failed : List Name) × (new.refused ≡ old.refused ++ failed) × IsOutcomeOver (PrintsFor query) main table (answers new.asked failed) outcome
 
 -- the files of the opened modules are known
-pub known : (main : Main) (table : Option SumTable) (asked : List (Name × Reply)) (loaded : Loaded) (held : Held) → Tells table asked held
+pub known : (main : Main) (table : Option Sums) (asked : List (Name × Reply)) (loaded : Loaded) (held : Held) → Tells table asked held
     → IsLoaded main asked loaded (readings_by main held) → AreKnown main table (answers asked []) held
 known main table asked loaded held tells is = record { tells = tells; answered = is.answered; asked = is.asked; few = is.few; none_failed = refl }
 
@@ -58,7 +58,7 @@ prints_for (Chain path) main asked loaded readings outcome is (inl (s, steps, en
     (loaded.rows, is.rows, inl (s, steps, entry, same_chain (among loaded.edges) (IsEdge main readings) (λ t y. is.edges.each (edge t y)) chain, says))
 prints_for (Chain path) main asked loaded readings outcome is (inr unlisted) = (loaded.rows, is.rows, inr unlisted)
 
-pub by_faults : (query : Query) (main : Main) (table : Option SumTable) (old new : StoreState) (loaded : Loaded) (faults : List Fault) (outcome : Outcome)
+pub by_faults : (query : Query) (main : Main) (table : Option Sums) (old new : StoreState) (loaded : Loaded) (faults : List Fault) (outcome : Outcome)
     → Told main table new.asked (IsLoaded main new.asked loaded) → new.refused ≡ old.refused ++ [] → faults ≡ loaded.faults
     → ReportsFaultsOr faults (PrintsFound query main loaded outcome) outcome → Answered query main table old new outcome
 by_faults query main table old new loaded [] outcome (held, tells, is) failed same told = (
@@ -93,14 +93,14 @@ main_told file sums r told stops match = refused_main (subst (IsMainRead file) s
 abbrev pub AreReported : Option (List ℕ) → Outcome → Type 0
 AreReported sums outcome = (report : List ℕ) × AreInvalidSums sums report × (outcome ≡ refused report)
 
-abbrev pub AreSumsRead : Option (List ℕ) → Result (Option SumTable) Report → Type 0
+abbrev pub AreSumsRead : Option (List ℕ) → Result (Option Sums) Report → Type 0
 AreSumsRead sums r = MatchResult r (λ table. AreSums sums table) (λ told. OrNoMemory (AreReported sums) (report_outcome told))
 
-pub sums_ok : (sums : Option (List ℕ)) (r : Result (Option SumTable) Report) (table : Option SumTable) → r ≡ Ok table → AreSumsRead sums r → AreSums sums table
+pub sums_ok : (sums : Option (List ℕ)) (r : Result (Option Sums) Report) (table : Option Sums) → r ≡ Ok table → AreSumsRead sums r → AreSums sums table
 sums_ok sums r table is match = subst (AreSumsRead sums) is match
 
 -- a go.sum that was not read refuses both, after a main module's file that was read
-pub sums_told : (file : List ℕ) (sums : Option (List ℕ)) (main : Main) (r : Result (Option SumTable) Report) (told : Report) → IsMainFile file main → r ≡ Err told → AreSumsRead sums r
+pub sums_told : (file : List ℕ) (sums : Option (List ℕ)) (main : Main) (r : Result (Option Sums) Report) (told : Report) → IsMainFile file main → r ≡ Err told → AreSumsRead sums r
     → OrNoMemory (IsRefusedRead file sums) (report_outcome told)
 sums_told file sums main r told is stops match = refused_sums (subst (AreSumsRead sums) stops match)
   where
@@ -108,7 +108,7 @@ sums_told file sums main r told is stops match = refused_sums (subst (AreSumsRea
     refused_sums (inl (report, misread, says)) = inl (inr (main, report, is, misread, says))
     refused_sums (inr none) = inr none
 
-pub both_read : (file : List ℕ) (sums : Option (List ℕ)) (r : Result (List (Line Placed)) Report) (s : Result (Option SumTable) Report) (lines : List (Line Placed)) (table : Option SumTable)
+pub both_read : (file : List ℕ) (sums : Option (List ℕ)) (r : Result (List (Line Placed)) Report) (s : Result (Option Sums) Report) (lines : List (Line Placed)) (table : Option Sums)
     → r ≡ Ok lines → IsMainRead file r → s ≡ Ok table → AreSumsRead sums s → FilesReadAs file sums (main_of lines) table
 both_read file sums r s lines table is main are read = record { main_file = main_ok file r lines is main; sums = sums_ok sums s table are read }
 
@@ -130,7 +130,7 @@ refused_read query file sums state r told none stops read = refused_run (subst (
     refused_run (inr ended) = inr ended
 
 -- both files are valid, and loading was refused
-pub not_loaded : (query : Query) (file : List ℕ) (sums : Option (List ℕ)) (main : Main) (table : Option SumTable) (old new : StoreState) (result : Result Loaded LoadFault) (fault : LoadFault)
+pub not_loaded : (query : Query) (file : List ℕ) (sums : Option (List ℕ)) (main : Main) (table : Option Sums) (old new : StoreState) (result : Result Loaded LoadFault) (fault : LoadFault)
     → result ≡ Err fault → FilesReadAs file sums main table → (result ≡ Err load.TooMany → Told main table new.asked (AreTooMany main))
     → ((name : FileName) → result ≡ Err (load.Device name) → IsDue main table new.asked (name_of name))
     → new.refused ≡ old.refused ++ refused_in result → OrNoMemory (IsAnswerOver (PrintsFor query) file sums old new) (report_outcome (report_by_load fault))
@@ -143,7 +143,7 @@ not_loaded query file sums main table old new result (load.Device name) is read 
     inl (name_of name ∷ [], one, inr (main, table, read, inl (device (name_of name) (due name is) refl refl)))
 
 -- both files are valid, and loading found a graph
-pub answered : (query : Query) (file : List ℕ) (sums : Option (List ℕ)) (main : Main) (table : Option SumTable) (old new : StoreState) (result : Result Loaded LoadFault) (loaded : Loaded)
+pub answered : (query : Query) (file : List ℕ) (sums : Option (List ℕ)) (main : Main) (table : Option Sums) (old new : StoreState) (result : Result Loaded LoadFault) (loaded : Loaded)
     (outcome : Outcome) → result ≡ Ok loaded → FilesReadAs file sums main table → IfOk result (λ loaded. Told main table new.asked (IsLoaded main new.asked loaded))
     → new.refused ≡ old.refused ++ refused_in result → OrNoMemory (IsOutcomeOfFound query main loaded) outcome → OrNoMemory (IsAnswerOver (PrintsFor query) file sums old new) outcome
 answered query file sums main table old new result loaded outcome ok read is grown (inl told) =

@@ -3,7 +3,7 @@ use Rattle.std.proofs.Common.{◌≡◌, ◌∙◌, ◌++◌, ◌∷◌, ℕ, Li
 use Rattle.gm_store.specs.Asked.{Name, Reply, answer_in, name_of}
 use Rattle.gm_store.specs.States.{StoreState}
 use Rattle.gm_store.specs.declared.files.FileName.{FileName}
-use Rattle.gm_store_sums.specs.declared.sum_table.SumTable.{SumTable}
+use Rattle.gm_store_sums.specs.Sums.{Sums}
 use Rattle.gm_graph_cache.specs.Main.{Main}
 use Rattle.gm_graph_cache.specs.Refusals.{refused_in}
 use Rattle.gm_graph_cache.specs.declared.load_fault.LoadFault.{LoadFault}
@@ -33,7 +33,7 @@ asked_after_more needs before (one ∷ later) pair behind wanted =
     let there : IsWanted needs pair.0 ((before ++ one ∷ []) ++ later) = subst (IsWanted needs pair.0) (sym (append_assoc before (one ∷ []) later)) wanted in
     (behind.0, behind.1, asked_after_more needs (before ++ one ∷ []) later pair behind.2 there)
 
-module _ (file : List ℕ) (sums : Option (List ℕ)) (main : Main) (table : Option SumTable) (read : FilesReadAs file sums main table) where
+module _ (file : List ℕ) (sums : Option (List ℕ)) (main : Main) (table : Option Sums) (read : FilesReadAs file sums main table) where
   -- a file that is due is needed
   due_needed : (asked : Pairs) (name : Name) → IsDue main table asked name → IsWanted (GraphNeeds file sums) name asked
   due_needed asked name due = (

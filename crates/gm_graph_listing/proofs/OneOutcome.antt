@@ -1,7 +1,7 @@
 -- A run has exactly one outcome.
 use Rattle.std.proofs.Common.{◌≡◌, ◌∙◌, ◌≤◌, ℕ, List, [], ◌∷◌, length, Option, Some, sym, ap, refl, subst, arith, inl, inr}
 use Rattle.gm_store.specs.Asked.{Name, Reply}
-use Rattle.gm_store_sums.specs.declared.sum_table.SumTable.{SumTable}
+use Rattle.gm_store_sums.specs.Sums.{Sums}
 use Rattle.gm_graph_cache.specs.Main.{Main}
 use Rattle.gm_graph_cache.specs.Reading.{Held, Tells, readings_by}
 use Rattle.gm_graph_select.proofs.Same.{AreSame}
@@ -21,20 +21,20 @@ use Rattle.gm_graph_listing.proofs.OneStore.{Agrees, alike_back, same_edges, sto
 -- ---- when both files are valid
 
 -- loading finds too many modules, or its store's device fails, or the files of the opened modules are known
-data LoadingEnd (prints : Prints) (main : Main) (table : Option SumTable) (told : Answers) (outcome : Outcome) : Type 0 where
+data LoadingEnd (prints : Prints) (main : Main) (table : Option Sums) (told : Answers) (outcome : Outcome) : Type 0 where
   many : Told main table told.asked (AreTooMany main) → told.failed ≡ [] → outcome ≡ refused too_many_line → LoadingEnd prints main table told outcome
   broken : (name : Name) → told.failed ≡ name ∷ [] → outcome ≡ failed (device_line name) → LoadingEnd prints main table told outcome
   known : (held : Held) (faults : List Fault) → AreKnown main table told held → AreFaults main (readings_by main held) faults
       → ReportsFaultsOr faults (prints main (readings_by main held) outcome) outcome → LoadingEnd prints main table told outcome
 
-loading_end : (prints : Prints) (main : Main) (table : Option SumTable) (told : Answers) (outcome : Outcome) → IsOutcomeOver prints main table told outcome → LoadingEnd prints main table told outcome
+loading_end : (prints : Prints) (main : Main) (table : Option Sums) (told : Answers) (outcome : Outcome) → IsOutcomeOver prints main table told outcome → LoadingEnd prints main table told outcome
 loading_end prints main table told outcome (inl (too_many overflows none says)) = many overflows none says
 loading_end prints main table told outcome (inl (device name due one says)) = broken name one says
 loading_end prints main table told outcome (inl (faulty held first others are faults says)) = known held (first ∷ others) are faults says
 loading_end prints main table told outcome (inr (held, are, faults, says)) = known held [] are faults says
 
 -- two tables that find the same can be exchanged
-loading_end_alike : (prints : Prints) (main : Main) (a b : Option SumTable) (told : Answers) (outcome : Outcome) → FindSame a b → LoadingEnd prints main a told outcome → LoadingEnd prints main b told outcome
+loading_end_alike : (prints : Prints) (main : Main) (a b : Option Sums) (told : Answers) (outcome : Outcome) → FindSame a b → LoadingEnd prints main a told outcome → LoadingEnd prints main b told outcome
 loading_end_alike prints main a b told outcome same (many (held, tells, overflows) none says) = many (held, tells_alike a b same told.asked held tells, overflows) none says
 loading_end_alike prints main a b told outcome same (broken name one says) = broken name one says
 loading_end_alike prints main a b told outcome same (known held faults are be says) =
@@ -46,7 +46,7 @@ one_told : (faults : List Fault) (prints others : Outcome → Type 0) (a b : Out
 one_told [] prints others a b once is other = once is other
 one_told (first ∷ faults) prints others a b once is other = is ∙ sym other
 
-module _ (main : Main) (table : Option SumTable) where
+module _ (main : Main) (table : Option Sums) where
   -- what is known of the opened modules does not depend on the run
   agree : (one other : Answers) (a b : Held) → AnswerAlike one.asked other.asked → Tells table one.asked a → AreKnown main table other b → Agrees main (readings_by main a) (readings_by main b)
   agree one other a b alike tells are = stores_agree main table one.asked other.asked a b alike tells are.tells are.answered
@@ -63,7 +63,7 @@ not_broken names name some none = let same : name ∷ [] ≡ [] = sym some ∙ n
 one_failure : (names : List Name) (n m : Name) → names ≡ n ∷ [] → names ≡ m ∷ [] → n ≡ m
 one_failure names n m is other = let same : n ∷ [] ≡ m ∷ [] = sym is ∙ other in cc same
 
-module _ (prints : Prints) (once : PrintsOnce prints) (main : Main) (table : Option SumTable) where
+module _ (prints : Prints) (once : PrintsOnce prints) (main : Main) (table : Option Sums) where
   one_loading_end : (one other : Answers) (a b : Outcome) → AnswerAlike one.asked other.asked → one.failed ≡ other.failed → LoadingEnd prints main table one a → LoadingEnd prints main table other b → a ≡ b
   one_loading_end one other a b alike failing (many over none says) (many others nothing tells) = says ∙ sym tells
   one_loading_end one other a b alike failing (many over none says) (broken name some tells) = absurd (not_broken other.failed name some (sym failing ∙ none))
@@ -91,11 +91,11 @@ one_refusal file sums a b (inl (here, misread, says)) (inr (main, report, is, ot
 one_refusal file sums a b (inr (main, report, is, misread, says)) (inl (there, other, tells)) = absurd (misread_or_main file there main other is)
 one_refusal file sums a b (inr (main, report, is, misread, says)) (inr (again, line, be, other, tells)) = says ∙ ap refused (one_misreport sums report line misread other) ∙ sym tells
 
-not_refused : (run : Given) (outcome : Outcome) (main : Main) (table : Option SumTable) → IsRefusedRead run.file run.sums outcome → FilesReadAs run.file run.sums main table → ⊥
+not_refused : (run : Given) (outcome : Outcome) (main : Main) (table : Option Sums) → IsRefusedRead run.file run.sums outcome → FilesReadAs run.file run.sums main table → ⊥
 not_refused run outcome main table (inl (place, misread, says)) are = misread_or_main run.file place main misread are.main_file
 not_refused run outcome main table (inr (other, report, is, misread, says)) are = misread_or_sums run.sums report table misread are.sums
 
-read_alike : (one other : Given) (main : Main) (table : Option SumTable) → AreAlike one other → FilesReadAs one.file one.sums main table → FilesReadAs other.file other.sums main table
+read_alike : (one other : Given) (main : Main) (table : Option Sums) → AreAlike one other → FilesReadAs one.file one.sums main table → FilesReadAs other.file other.sums main table
 read_alike one other main table alike are = record {
   main_file = subst (λ (bytes : List ℕ). IsMainFile bytes main) alike.file are.main_file;
   sums = subst (λ (sums : Option (List ℕ)). AreSums sums table) alike.sums are.sums;

@@ -12,10 +12,9 @@ use Rattle.gm_file.specs.Faults.{Fault, fault_of}
 use Rattle.gm_file.specs.Fields.{Dependency, module_of, go_of, requirements_of, excludes_of, replaces_of}
 use Rattle.gm_store.specs.Asked.{Name, Reply, answer_in, mod_file, folder_file, list_file, bytes, absent, too_long}
 use Rattle.gm_store_sums.specs.Hash.{file_hash}
-use Rattle.gm_store_sums.specs.Sums.{ReadsAs, Says, check_in}
+use Rattle.gm_store_sums.specs.Sums.{ReadsAs, Says, Sums, check_in}
 use Rattle.gm_store_sums.specs.declared.sum_table.Sum.{Sum}
 use Rattle.gm_store_sums.specs.declared.sum_table.Sum.TheVariants.{Good, Unlisted, Differs}
-use Rattle.gm_store_sums.specs.declared.sum_table.SumTable.{SumTable}
 use Rattle.gm_graph_cache.specs.Main.{Main}
 use Rattle.gm_graph_cache.specs.Reading.{Held, IsFileReading, IsReadUnless, IsTold, Tells, class_of_sum, sum_fault}
 use Rattle.gm_graph_cache.specs.declared.class.Class.{Class}
@@ -137,7 +136,7 @@ one_misreport (Some text) a b (inl is) (inr other) = absurd (omega (arith, is.0,
 one_misreport (Some text) a b (inr is) (inl other) = absurd (omega (arith, is.0, other.0))
 one_misreport (Some text) a b (inr is) (inr other) = is.3 ∙ ap bad_sum_line (is.2.1 ∙ sym other.2.1) ∙ sym other.3
 
-pub misread_or_sums : (sums : Option (List ℕ)) (report : List ℕ) (table : Option SumTable) → AreInvalidSums sums report → AreSums sums table → ⊥
+pub misread_or_sums : (sums : Option (List ℕ)) (report : List ℕ) (table : Option Sums) → AreInvalidSums sums report → AreSums sums table → ⊥
 misread_or_sums None report table is other = is
 misread_or_sums (Some text) report None is other = other
 misread_or_sums (Some text) report (Some table) (inl is) other = omega (arith, is.0, other.0)
@@ -156,17 +155,17 @@ one_says text path version hash Good Differs is other = absurd (other.2 (is.1 ot
 one_says text path version hash Good Good is other = refl
 
 -- for every file, the tables find the same fault with its bytes
-abbrev pub FindSame : Option SumTable → Option SumTable → Type 0
+abbrev pub FindSame : Option Sums → Option Sums → Type 0
 FindSame a b = (name : Name) (content : List ℕ) → sum_fault a name content ≡ sum_fault b name content
 
-same_found : (text : List ℕ) (a b : SumTable) → ReadsAs a text → ReadsAs b text → FindSame (Some a) (Some b)
+same_found : (text : List ℕ) (a b : Sums) → ReadsAs a text → ReadsAs b text → FindSame (Some a) (Some b)
 same_found text a b is other (mod_file path version) content =
     let hash = file_hash content in
     ap class_of_sum (one_says text path version hash (check_in a path version hash) (check_in b path version hash) (is path version hash) (other path version hash))
 same_found text a b is other (folder_file folder) content = refl
 same_found text a b is other (list_file path) content = refl
 
-pub one_finding : (sums : Option (List ℕ)) (a b : Option SumTable) → AreSums sums a → AreSums sums b → FindSame a b
+pub one_finding : (sums : Option (List ℕ)) (a b : Option Sums) → AreSums sums a → AreSums sums b → FindSame a b
 one_finding None None None is other = λ name content. refl
 one_finding None None (Some b) is other = absurd other
 one_finding None (Some a) b is other = absurd is
@@ -176,7 +175,7 @@ one_finding (Some text) (Some a) (Some b) is other = same_found text a b is.2 ot
 
 -- ---- what the files of modules say is the same with either of these tables
 
-module _ (a b : Option SumTable) (same : FindSame a b) where
+module _ (a b : Option Sums) (same : FindSame a b) where
   read_alike : (name : Name) (reply : Reply) (reading : Result Dependency Class) → IsFileReading a name reply reading → IsFileReading b name reply reading
   read_alike name absent reading is = is
   read_alike name too_long reading is = is

@@ -5,7 +5,7 @@ use Rattle.std.proofs.lemmas.Bool.{false≢true}
 use Rattle.gm_name.specs.ModuleVersion.{ModuleVersion}
 use Rattle.gm_file.specs.Fields.{Dependency}
 use Rattle.gm_store.specs.Asked.{Name, Reply, answer_in}
-use Rattle.gm_store_sums.specs.declared.sum_table.SumTable.{SumTable}
+use Rattle.gm_store_sums.specs.Sums.{Sums}
 use Rattle.gm_graph_cache.specs.declared.class.Class.{Class}
 use Rattle.gm_graph_cache.specs.Main.{Main, replacement_in}
 use Rattle.gm_graph_cache.specs.Reading.{Held, IsTold, Readings, Tells, fault_in, vertex_fault, file_of, is_askable, is_unpruned_in, readings_by, requirements_in, vertex_requirements, said_in, with_right_path}
@@ -21,7 +21,7 @@ use Rattle.gm_graph_listing.specs.Laws.{AnswerAlike}
 
 -- ---- two answers to a name say the same
 
-same_told : (table : Option SumTable) (name : Name) (one other : Option Reply) (a b : Option (Result Dependency Class)) → IsTold table name one a → IsTold table name other b
+same_told : (table : Option Sums) (name : Name) (one other : Option Reply) (a b : Option (Result Dependency Class)) → IsTold table name one a → IsTold table name other b
     → ((x y : Reply) → one ≡ Some x → other ≡ Some y → x ≡ y) → IsSome other → (reading : Result Dependency Class) → a ≡ Some reading → b ≡ Some reading
 same_told table name one None a b told tells alike has reading e = absurd (false≢true has)
 same_told table name None (Some y) None b told tells alike has reading e = cc e
@@ -44,7 +44,7 @@ same_reading false main x a b same reading e = e
 abbrev pub Agrees : Main → Readings → Readings → Type 0
 Agrees main a b = (x : ModuleVersion) → IsOpened main b x → (reading : Result Dependency Class) → a x ≡ Some reading → b x ≡ Some reading
 
-pub stores_agree : (main : Main) (table : Option SumTable) (one other : List (Name × Reply)) (a b : Held) → AnswerAlike one other → Tells table one a → Tells table other b
+pub stores_agree : (main : Main) (table : Option Sums) (one other : List (Name × Reply)) (a b : Held) → AnswerAlike one other → Tells table one a → Tells table other b
     → ((x : ModuleVersion) → IsOpened main (readings_by main b) x → IsAnswered main other x) → Agrees main (readings_by main a) (readings_by main b)
 stores_agree main table one other a b alike tells told answered x opened =
     let name = file_of main x in

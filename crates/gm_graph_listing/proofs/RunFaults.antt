@@ -7,10 +7,9 @@ use Rattle.gm_file.specs.Directives.{Right}
 use Rattle.gm_file.specs.Fields.{Dependency}
 use Rattle.gm_store.specs.Asked.{Name, Reply, absent, answer_in, bytes, folder_file, list_file, mod_file, too_long}
 use Rattle.gm_store_sums.specs.Hash.{file_hash}
-use Rattle.gm_store_sums.specs.Sums.{check_in}
+use Rattle.gm_store_sums.specs.Sums.{Sums, check_in}
 use Rattle.gm_store_sums.specs.declared.sum_table.Sum.{Sum}
 use Rattle.gm_store_sums.specs.declared.sum_table.Sum.TheVariants.{Good, Unlisted, Differs}
-use Rattle.gm_store_sums.specs.declared.sum_table.SumTable.{SumTable}
 use Rattle.gm_graph_cache.specs.declared.class.Class.{Class}
 use Rattle.gm_graph_cache.specs.declared.class.Class.TheVariants.{NotFetchable, Missing, TooLong, NoSum, SumDiffers, Malformed, WrongPath}
 use Rattle.gm_graph_cache.specs.declared.class.Misreading.TheVariants as misreading
@@ -35,7 +34,7 @@ sum_class Good class is = absurd (cc is)
 sum_class Unlisted class is = let same : NoSum ≡ class = cc is in subst IsProperClass same tt
 sum_class Differs class is = let same : SumDiffers ≡ class = cc is in subst IsProperClass same tt
 
-sum_sound : (table : Option SumTable) (name : Name) (content : List ℕ) (class : Class) → sum_fault table name content ≡ Some class → IsProperClass class
+sum_sound : (table : Option Sums) (name : Name) (content : List ℕ) (class : Class) → sum_fault table name content ≡ Some class → IsProperClass class
 sum_sound None name content class is = absurd (cc is)
 sum_sound (Some table) (mod_file path version) content class is = sum_class (check_in table path version (file_hash content)) class is
 sum_sound (Some table) (folder_file text) content class is = absurd (cc is)
@@ -58,12 +57,12 @@ unless_sound : (o : Option Class) (content : List ℕ) (reading : Result Depende
 unless_sound (Some class) content reading proper is = sound_fault reading class (proper class refl) is
 unless_sound None content reading proper is = content_sound content reading is
 
-file_sound : (table : Option SumTable) (name : Name) (reply : Reply) (reading : Result Dependency Class) → IsFileReading table name reply reading → IsSound (Some reading)
+file_sound : (table : Option Sums) (name : Name) (reply : Reply) (reading : Result Dependency Class) → IsFileReading table name reply reading → IsSound (Some reading)
 file_sound table name absent reading is = sound_fault reading Missing tt is
 file_sound table name too_long reading is = sound_fault reading TooLong tt is
 file_sound table name (bytes content) reading is = unless_sound (sum_fault table name content) content reading (sum_sound table name content) is
 
-told_sound : (table : Option SumTable) (name : Name) (reply : Option Reply) (h : Option (Result Dependency Class)) → IsTold table name reply h → IsSound h
+told_sound : (table : Option Sums) (name : Name) (reply : Option Reply) (h : Option (Result Dependency Class)) → IsTold table name reply h → IsSound h
 told_sound table name None None is = tt
 told_sound table name None (Some reading) is = absurd is
 told_sound table name (Some reply) None is = absurd is

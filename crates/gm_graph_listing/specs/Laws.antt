@@ -7,7 +7,7 @@ use Rattle.std.specs.Ordering.{is_gt}
 use Rattle.gm_name.specs.Version.{version_cmp}
 use Rattle.gm_name.specs.ModuleVersion.{ModuleVersion}
 use Rattle.gm_store.specs.Asked.{Name, Reply, answer_in}
-use Rattle.gm_store_sums.specs.declared.sum_table.SumTable.{SumTable}
+use Rattle.gm_store_sums.specs.Sums.{Sums}
 use Rattle.gm_graph_cache.specs.Main.{Main}
 use Rattle.gm_graph_cache.specs.Reading.{Held, Readings, readings_by}
 use Rattle.gm_graph_select.specs.declared.step.Edge.{Edge}
@@ -75,7 +75,7 @@ AlikeChains = (path : List ℕ) (one other : Given) (a b : Outcome) → AreAlike
 -- Both files are valid, and the files of the opened modules were asked for, each once, are known, and have no
 -- faults.
 pub record AllFilesAreValid (run : Given) (main : Main) (held : Held) : Type 0 where
-  pub table : Option SumTable
+  pub table : Option Sums
   pub read : FilesReadAs run.file run.sums main table
   pub known : AreKnown main table run.told held
   pub sound : AreFaults main (readings_by main held) []

@@ -3,7 +3,7 @@
 use Rattle.std.specs.Prelude.{◌≡◌, ◌⊎◌, ◌++◌, ◌∷◌, ℕ, List, [], Option, Some, None}
 use Rattle.gm_store.specs.Asked.{Name, Reply, answer_in}
 use Rattle.gm_store.specs.States.{StoreState}
-use Rattle.gm_store_sums.specs.declared.sum_table.SumTable.{SumTable}
+use Rattle.gm_store_sums.specs.Sums.{Sums}
 use Rattle.gm_graph_cache.specs.Main.{Main}
 use Rattle.gm_graph_cache.specs.Reading.{Held, HeldByAnswers, readings_by}
 use Rattle.gm_graph.specs.Loading.{IsNeeded}
@@ -45,7 +45,7 @@ FailsInTurn needs old new =
 -- the go.sum is invalid, no file is needed.
 pub record GraphNeeds (file : List ℕ) (sums : Option (List ℕ)) (answers : AnswersByName) (name : Name) : Type 0 where
   pub main : Main
-  pub table : Option SumTable
+  pub table : Option Sums
   pub held : Held
   pub read : FilesReadAs file sums main table
   pub files_read : HeldByAnswers table answers held

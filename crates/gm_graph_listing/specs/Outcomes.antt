@@ -10,8 +10,7 @@ use Rattle.gm_file.specs.Directives.{Strict}
 use Rattle.gm_file.specs.Faults.{fault_of}
 use Rattle.gm_store.specs.Asked.{Name, Reply, names_in}
 use Rattle.gm_store.specs.States.{StoreState}
-use Rattle.gm_store_sums.specs.Sums.{HasValidLines, IsFirstInvalid, ReadsAs}
-use Rattle.gm_store_sums.specs.declared.sum_table.SumTable.{SumTable}
+use Rattle.gm_store_sums.specs.Sums.{HasValidLines, IsFirstInvalid, ReadsAs, Sums}
 use Rattle.gm_graph_cache.specs.Main.{Main, main_of}
 use Rattle.gm_name.specs.ModuleVersion.{ModuleVersion}
 use Rattle.gm_graph_cache.specs.Reading.{Held, IsMisreadAt, Readings, Tells, readings_by}
@@ -79,7 +78,7 @@ IsMalformedMain bytes (number, misreading.Directive kind) =
     × (fault_of Strict (plain_lines lines) ≡ Some (number, kind))
 
 -- The go.sum is valid, and the table is what it says; or no go.sum is given, and there is no table.
-abbrev pub AreSums : Option (List ℕ) → Option SumTable → Type 0
+abbrev pub AreSums : Option (List ℕ) → Option Sums → Type 0
 AreSums None None = ⊤
 AreSums None (Some table) = ⊥
 AreSums (Some text) None = ⊥
@@ -94,7 +93,7 @@ AreInvalidSums (Some text) report =
 
 -- both files are valid, and this is what they say
 pub record FilesReadAs (file : List ℕ) (sums_text : Option (List ℕ)) (main : Main)
-    (table : Option SumTable) : Type 0 where
+    (table : Option Sums) : Type 0 where
   pub main_file : IsMainFile file main
   pub sums : AreSums sums_text table
 
@@ -106,7 +105,7 @@ IsUnasked told = (told.asked ≡ []) × (told.failed ≡ [])
 
 -- Of the files of the opened modules, those that may be asked for were asked for, each once, and no other
 -- file was. This is what the files say. At most 65,536 modules are opened, and the device did not fail.
-pub record AreKnown (main : Main) (table : Option SumTable) (told : Answers) (held : Held) : Type 0 where
+pub record AreKnown (main : Main) (table : Option Sums) (told : Answers) (held : Held) : Type 0 where
   pub tells : Tells table told.asked held
   pub answered : (x : ModuleVersion) → IsOpened main (readings_by main held) x → IsAnswered main told.asked x
   pub asked : AreAsked main (readings_by main held) (names_in told.asked)
@@ -114,7 +113,7 @@ pub record AreKnown (main : Main) (table : Option SumTable) (told : Answers) (he
   pub none_failed : told.failed ≡ []
 
 -- Why nothing is printed although both files are valid; no two of these apply.
-pub data IsStopped (main : Main) (table : Option SumTable) (told : Answers) (outcome : Outcome) : Type 0 where
+pub data IsStopped (main : Main) (table : Option Sums) (told : Answers) (outcome : Outcome) : Type 0 where
   -- more than 65,536 modules are opened, and the device did not fail
   too_many : Told main table told.asked (AreTooMany main) → told.failed ≡ []
       → outcome ≡ refused too_many_line → IsStopped main table told outcome
@@ -133,7 +132,7 @@ Prints = Main → Readings → Outcome → Type 0
 
 -- The outcome of a run when both files are valid: either loading stops or finds faults, or the files of the
 -- opened modules are known, none has a fault, and the command prints.
-abbrev pub IsOutcomeOver : Prints → Main → Option SumTable → Answers → Outcome → Type 0
+abbrev pub IsOutcomeOver : Prints → Main → Option Sums → Answers → Outcome → Type 0
 IsOutcomeOver prints main table told outcome =
     IsStopped main table told outcome
     ⊎ ((held : Held) × AreKnown main table told held × AreFaults main (readings_by main held) []
@@ -151,7 +150,7 @@ IsRefusedRead file sums outcome =
 abbrev pub IsOutcome : Prints → Given → Outcome → Type 0
 IsOutcome prints run outcome =
     (IsRefusedRead run.file run.sums outcome × IsUnasked run.told)
-    ⊎ ((main : Main) × (table : Option SumTable) × FilesReadAs run.file run.sums main table
+    ⊎ ((main : Main) × (table : Option Sums) × FilesReadAs run.file run.sums main table
     × IsOutcomeOver prints main table run.told outcome)
 
 -- ---- graph

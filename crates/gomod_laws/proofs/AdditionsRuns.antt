@@ -5,7 +5,7 @@ use Rattle.gm_name.specs.ModuleVersion.{ModuleVersion}
 use Rattle.gm_file.specs.Directives.{Right}
 use Rattle.gm_file.specs.Fields.{Dependency}
 use Rattle.gm_store.specs.Asked.{Name}
-use Rattle.gm_store_sums.specs.declared.sum_table.SumTable.{SumTable}
+use Rattle.gm_store_sums.specs.Sums.{Sums}
 use Rattle.gm_graph_cache.specs.declared.class.Class.{Class}
 use Rattle.gm_graph_cache.specs.Main.{Main, replacement_in}
 use Rattle.gm_graph_cache.specs.Reading.{Held, Tells, fault_in, file_named, file_of, is_askable, readings_by, with_right_path}
@@ -45,7 +45,7 @@ module _ (run next : Given) (first second : Main) (held : Held) (found : AllFile
     (says : IsMainFile run.file first) (sums : run.sums ≡ next.sums) where
   -- what the first run knows of the modules that the second opens is what the second knows
   abbrev pub AgreesSoFar : Type 0
-  AgreesSoFar = (table : Option SumTable) → AreSums run.sums table → (a : Held) → Tells table run.told.asked a
+  AgreesSoFar = (table : Option Sums) → AreSums run.sums table → (a : Held) → Tells table run.told.asked a
       → Agrees second (readings_by first a) (readings_by second held)
 
   -- whatever the first run knows, what it opens is opened by the second
@@ -54,7 +54,7 @@ module _ (run next : Given) (first second : Main) (held : Held) (found : AllFile
       → IsOpened first (readings_by first a) x → IsOpened second (readings_by second held) x
 
   module _ (agreed : AgreesSoFar) (sound : run.told.failed ≡ []) (opens : OpensNoMore) (outcome : Outcome) where
-    faultless : (table : Option SumTable) → AreSums run.sums table → (a : Held) → AreKnown first table run.told a
+    faultless : (table : Option Sums) → AreSums run.sums table → (a : Held) → AreKnown first table run.told a
         → (one : Fault) (others : List Fault) → AreFaults first (readings_by first a) (one ∷ others) → ⊥
     faultless table are a known one others faults =
         let into = agreed table are a known.tells in
@@ -63,7 +63,7 @@ module _ (run next : Given) (first second : Main) (held : Held) (found : AllFile
         let read = into one.vertex too (Err one.class) (fault_reading (readings_by first a one.vertex) one.class has) in
         no_member one ((found.sound.each one).1 (too, ap fault_in read))
 
-    not_stopped : (table : Option SumTable) → AreSums run.sums table → IsStopped first table run.told outcome → ⊥
+    not_stopped : (table : Option Sums) → AreSums run.sums table → IsStopped first table run.told outcome → ⊥
     not_stopped table are (too_many (a, tells, (all, long, once, each)) none text) =
         let into = agreed table are a tells in
         let few : length all ≤ 65536 = found.known.few all once (λ x there. opens a into x (each x there)) in
@@ -75,7 +75,7 @@ module _ (run next : Given) (first second : Main) (held : Held) (found : AllFile
     abbrev pub PrintsBy : Prints → Type 0
     PrintsBy prints = (a : Held) × AllFilesAreValid run first a × prints first (readings_by first a) outcome
 
-    by_end : (prints : Prints) (table : Option SumTable) → AreSums run.sums table
+    by_end : (prints : Prints) (table : Option Sums) → AreSums run.sums table
         → IsOutcomeOver prints first table run.told outcome → PrintsBy prints
     by_end prints table are (inl stopped) = absurd (not_stopped table are stopped)
     by_end prints table are (inr (a, known, faults, shows)) =

@@ -4,7 +4,7 @@ use Rattle.std.proofs.lemmas.Bool.{false≢true}
 use Rattle.gm_name.specs.ModuleVersion.{ModuleVersion}
 use Rattle.gm_file.specs.Fields.{Dependency}
 use Rattle.gm_store.specs.Asked.{Name, Reply, answer_in, absent, bytes, too_long}
-use Rattle.gm_store_sums.specs.declared.sum_table.SumTable.{SumTable}
+use Rattle.gm_store_sums.specs.Sums.{Sums}
 use Rattle.gm_graph_cache.specs.declared.class.Class.{Class}
 use Rattle.gm_graph_cache.specs.declared.class.Class.TheVariants.{WrongPath}
 use Rattle.gm_graph_cache.specs.Main.{Main, is_pruned_by, replacement_in, without_excluded}
@@ -24,7 +24,7 @@ use Rattle.gomod_laws.proofs.OwnReadings.{no_class, read_well, right_reading}
 same_file : (r : Result Dependency Class) (file : Dependency) → Some r ≡ Some (Ok file) → r ≡ Ok file
 same_file r file e = cc e
 
-told_bytes : (table : Option SumTable) (name : Name) (answer : Option Reply) (said : Option (Result Dependency Class))
+told_bytes : (table : Option Sums) (name : Name) (answer : Option Reply) (said : Option (Result Dependency Class))
     (file : Dependency) → IsTold table name answer said → said ≡ Some (Ok file)
     → (content : List ℕ) × (answer ≡ Some (bytes content)) × IsDependencyIn content file
 told_bytes table name None None file told e = cc e
@@ -52,7 +52,7 @@ held_file true main x (Some (Ok said)) file e =
     let same : said ≡ file = right_file (is_right_path x (replacement_in main x) said.declared) said file e in cc same
 held_file false main x said file e = cc e
 
-pub answered_with : (main : Main) (table : Option SumTable) (asked : List (Name × Reply)) (held : Held) → Tells table asked held
+pub answered_with : (main : Main) (table : Option Sums) (asked : List (Name × Reply)) (held : Held) → Tells table asked held
     → (x : ModuleVersion) (file : Dependency) → readings_by main held x ≡ Some (Ok file) → IsAnsweredWith main asked x file
 answered_with main table asked held tells x file e =
     let name = file_of main x in
@@ -61,7 +61,7 @@ answered_with main table asked held tells x file e =
 
 -- ---- the file of an opened module
 
-known_if : (askable : Bool) (main : Main) (x : ModuleVersion) (table : Option SumTable) (name : Name) (answer : Option Reply)
+known_if : (askable : Bool) (main : Main) (x : ModuleVersion) (table : Option Sums) (name : Name) (answer : Option Reply)
     (said : Option (Result Dependency Class)) → (askable ≡ true → IsSome answer) → IsTold table name answer said
     → fault_in (reading_if askable main x said) ≡ None → (file : Dependency) × (reading_if askable main x said ≡ Some (Ok file))
 known_if false main x table name answer said has told sound = cc sound

@@ -5,7 +5,7 @@ use Rattle.std.proofs.lemmas.Bool.{false≢true}
 use Rattle.gm_name.specs.ModuleVersion.{ModuleVersion}
 use Rattle.gm_file.specs.Fields.{Dependency}
 use Rattle.gm_store.specs.Asked.{Name, Reply}
-use Rattle.gm_store_sums.specs.declared.sum_table.SumTable.{SumTable}
+use Rattle.gm_store_sums.specs.Sums.{Sums}
 use Rattle.gm_graph_cache.specs.declared.class.Class.{Class}
 use Rattle.gm_graph_cache.specs.Main.{Main, replacement_in, without_excluded}
 use Rattle.gm_graph_cache.specs.Reading.{IsTold, Readings, is_unpruned_in, requirements_in, said_in, vertex_requirements, with_right_path}
@@ -22,7 +22,7 @@ Known = Option (Result Dependency Class)
 
 -- ---- two answers to a name say the same
 
-pub told_kept : (table : Option SumTable) (name : Name) (one other : Option Reply) (a b : Known) → IsTold table name one a → IsTold table name other b
+pub told_kept : (table : Option Sums) (name : Name) (one other : Option Reply) (a b : Known) → IsTold table name one a → IsTold table name other b
     → ((x y : Reply) → one ≡ Some x → other ≡ Some y → x ≡ y) → IsSome other → (reading : Result Dependency Class) → a ≡ Some reading → b ≡ Some reading
 told_kept table name one None a b told tells alike has reading e = absurd (false≢true has)
 told_kept table name None (Some y) None b told tells alike has reading e = cc e

@@ -4,7 +4,7 @@ use Rattle.gm_name.specs.ModuleVersion.{ModuleVersion}
 use Rattle.gm_file.specs.Directives.{Replacing}
 use Rattle.gm_file.specs.Fields.{Dependency, replacement_of}
 use Rattle.gm_store.specs.Asked.{Name, Reply, absent, mod_file}
-use Rattle.gm_store_sums.specs.declared.sum_table.SumTable.{SumTable}
+use Rattle.gm_store_sums.specs.Sums.{Sums}
 use Rattle.gm_graph_cache.specs.declared.class.Class.{Class}
 use Rattle.gm_graph_cache.specs.declared.class.Class.TheVariants.{Missing}
 use Rattle.gm_graph_cache.specs.Main.{Main}
@@ -71,7 +71,7 @@ module _ (main : Main) (readings : Readings) (only : main.requirements ≡ a_one
 abbrev Known : Type 0
 Known = Option (Result Dependency Class)
 
-held_missing : (table : Option SumTable) (name : Name) (held : Known) → IsTold table name (Some absent) held → held ≡ Some (Err Missing)
+held_missing : (table : Option Sums) (name : Name) (held : Known) → IsTold table name (Some absent) held → held ≡ Some (Err Missing)
 held_missing table name None told = absurd told
 held_missing table name (Some reading) told = ap (λ (r : Result Dependency Class). Some r) told
 
@@ -79,7 +79,7 @@ nothing_said : (main : Main) (askable : Bool) (held : Known) → held ≡ Some (
 nothing_said main true held is = rw is refl
 nothing_said main false held is = refl
 
-missing_requires_nothing : (before : Given) (main : Main) (table : Option SumTable) (held : Held) → MissesA before main → Tells table before.told.asked held
+missing_requires_nothing : (before : Given) (main : Main) (table : Option Sums) (held : Held) → MissesA before main → Tells table before.told.asked held
     → vertex_requirements main (readings_by main held) a_one ≡ []
 missing_requires_nothing before main table held misses tells =
     let own : Name = mod_file a_one.0 a_one.1 in

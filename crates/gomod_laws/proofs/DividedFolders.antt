@@ -2,7 +2,7 @@
 use Rattle.std.proofs.Common.{◌≡◌, ◌≢◌, ◌∙◌, ◌++◌, ◌∷◌, ℕ, Bool, List, [], Option, Some, Contains, ap, append-nil, inl, inr, refl, subst, sym}
 use Rattle.std.proofs.lemmas.List.{append_cancel_left}
 use Rattle.gm_store.specs.Asked.{Name, answer_in, bytes, list_file, names_in}
-use Rattle.gm_store_sums.specs.declared.sum_table.SumTable.{SumTable}
+use Rattle.gm_store_sums.specs.Sums.{Sums}
 use Rattle.gm_graph_cache.specs.Main.{Main}
 use Rattle.gm_graph_cache.specs.Reading.{Held, Tells, readings_by}
 use Rattle.gm_graph_select.proofs.Ascending.{no_member}
@@ -29,7 +29,7 @@ use Rattle.gomod_laws.proofs.PrintedRuns.{Pairs, query_by_answers}
 -- what a query asked for: nothing, or the files of all opened modules
 data Loading (run : Given) (outcome : Outcome) : Type 0 where
   unread : IsRefusedRead run.file run.sums outcome → run.told.asked ≡ [] → Loading run outcome
-  loaded : (main : Main) (table : Option SumTable) (held : Held) → FilesReadAs run.file run.sums main table → AreKnown main table run.told held → Loading run outcome
+  loaded : (main : Main) (table : Option Sums) (held : Held) → FilesReadAs run.file run.sums main table → AreKnown main table run.told held → Loading run outcome
 
 failed_nowhere : (names : List Name) (name : Name) → names ≡ [] → names ≡ name ∷ [] → ⊥
 failed_nowhere names name none some = let same : name ∷ [] ≡ [] = sym some ∙ none in cc same
@@ -41,17 +41,17 @@ loading prints run outcome sound few (inr (main, table, read, inl (device name d
 loading prints run outcome sound few (inr (main, table, read, inl (faulty held first others known faults is))) = loaded main table held read known
 loading prints run outcome sound few (inr (main, table, read, inr (held, known, faults, says))) = loaded main table held read known
 
-not_both : (run : Given) (outcome : Outcome) (main : Main) (table : Option SumTable) → IsRefusedRead run.file run.sums outcome → FilesReadAs run.file run.sums main table → ⊥
+not_both : (run : Given) (outcome : Outcome) (main : Main) (table : Option Sums) → IsRefusedRead run.file run.sums outcome → FilesReadAs run.file run.sums main table → ⊥
 not_both run outcome main table (inl (place, misread, says)) read = misread_or_main run.file place main misread read.main_file
 not_both run outcome main table (inr (other, report, is, misread, says)) read = misread_or_sums run.sums report table misread read.sums
 
-read_as : (file : List ℕ) (sums : Option (List ℕ)) (asked told : Pairs) (main : Main) (table : Option SumTable) → FilesReadAs file sums main table
+read_as : (file : List ℕ) (sums : Option (List ℕ)) (asked told : Pairs) (main : Main) (table : Option Sums) → FilesReadAs file sums main table
     → FilesReadAs file sums main table
 read_as file sums asked told main table read = record { main_file = read.main_file; sums = read.sums }
 
 module _ (file : List ℕ) (sums : Option (List ℕ)) (asked told : Pairs) (alike : AnswerAlike asked told) where
   -- runs over answers that are alike ask for the same files
-  known_names : (main again : Main) (table next : Option SumTable) (held other : Held)
+  known_names : (main again : Main) (table next : Option Sums) (held other : Held)
       → FilesReadAs file sums main table → AreKnown main table (answers asked []) held
       → FilesReadAs file sums again next → AreKnown again next (answers told []) other
       → (name : Name) → Contains (names_in asked) name → Contains (names_in told) name

@@ -7,7 +7,7 @@ use Rattle.gm_file.specs.Fields.{Dependency}
 use Rattle.gm_store.specs.Asked.{Name, Reply, absent, answer_in, bytes, list_file, mod_file, names_in, too_long}
 use Rattle.gm_store.specs.Latest.{IsLatest}
 use Rattle.gm_store.specs.Listed.{AreListed}
-use Rattle.gm_store_sums.specs.declared.sum_table.SumTable.{SumTable}
+use Rattle.gm_store_sums.specs.Sums.{Sums}
 use Rattle.gm_graph_cache.specs.declared.class.Class.{Class}
 use Rattle.gm_graph_cache.specs.Main.{Main}
 use Rattle.gm_graph_cache.specs.Reading.{Held, IsFileReading, IsTold, Tells, fault_in, file_of, is_askable, readings_by, vertex_fault}
@@ -74,7 +74,7 @@ same_bytes one other e = cc e
 abbrev pub IsFile : Reply → Type 0
 IsFile reply = (content : List ℕ) × (reply ≡ bytes content)
 
-read_is_file : (sums : Option SumTable) (name : Name) (reply : Reply) (file : Dependency) → IsFileReading sums name reply (Ok file) → IsFile reply
+read_is_file : (sums : Option Sums) (name : Name) (reply : Reply) (file : Dependency) → IsFileReading sums name reply (Ok file) → IsFile reply
 read_is_file sums name absent file is = cc is
 read_is_file sums name too_long file is = cc is
 read_is_file sums name (bytes content) file is = (content, refl)

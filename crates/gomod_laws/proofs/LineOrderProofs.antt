@@ -4,7 +4,7 @@ use Rattle.gm_name.specs.ModuleVersion.{ModuleVersion}
 use mathlib.Core.Path.{fun_ext}
 use Rattle.gm_file.specs.Directives.{Right}
 use Rattle.gm_store.specs.Asked.{names_in}
-use Rattle.gm_store_sums.specs.declared.sum_table.SumTable.{SumTable}
+use Rattle.gm_store_sums.specs.Sums.{Sums}
 use Rattle.gm_graph_cache.specs.Main.{Main}
 use Rattle.gm_graph_cache.specs.Reading.{Held, Readings, readings_by}
 use Rattle.gm_graph_select.specs.declared.step.Step.TheVariants.{Of}
@@ -60,7 +60,7 @@ chain_moves path m n readings outcome same (rows, are, inr unlisted) = (rows, ro
 
 -- ---- a run whose files are valid
 
-module _ (m k : Main) (same : SayTheSame m k) (table : Option SumTable) (told : Answers) where
+module _ (m k : Main) (same : SayTheSame m k) (table : Option Sums) (told : Answers) where
   along : (P : Readings → Type 0) (held : Held) → P (readings_by m held) → P (readings_by k held)
   along P held is = subst P (readings_same m k same held) is
 
@@ -83,7 +83,7 @@ module _ (m k : Main) (same : SayTheSame m k) (table : Option SumTable) (told : 
       device name ((held, tells, along (λ (r : Readings). IsNeeded k r name) held (needed m k same (readings_by m held) name need)), unanswered) one says
   stopped_moves outcome (faulty held first others are found says) = faulty held first others (known_moves held are) (faults_move held (first ∷ others) found) says
 
-over_moves : (prints : Prints) → Moves prints → (m n : Main) → SayTheSame m (with_path m.path n) → (table : Option SumTable) (told : Answers) (outcome : Outcome)
+over_moves : (prints : Prints) → Moves prints → (m n : Main) → SayTheSame m (with_path m.path n) → (table : Option Sums) (told : Answers) (outcome : Outcome)
     → IsOutcomeOver prints m table told outcome → IsOutcomeOver prints (with_path m.path n) table told outcome
 over_moves prints moves m n same table told outcome (inl stopped) = inl (stopped_moves m (with_path m.path n) same table told outcome stopped)
 over_moves prints moves m n same table told outcome (inr (held, are, none, says)) =

@@ -6,7 +6,7 @@ use Rattle.gm_file.specs.Fields.{Dependency, replacement_of}
 use Rattle.gm_file.specs.Directives.{Replacing, Right}
 use Rattle.gm_store.specs.Asked.{Name, Reply, answer_in, bytes, mod_file}
 use Rattle.gm_store.proofs.NameOrder.{bytes_itself}
-use Rattle.gm_store_sums.specs.declared.sum_table.SumTable.{SumTable}
+use Rattle.gm_store_sums.specs.Sums.{Sums}
 use Rattle.gm_graph_cache.specs.declared.class.Class.{Class}
 use Rattle.gm_graph_cache.specs.declared.class.Class.TheVariants.{NotFetchable}
 use Rattle.gm_graph_cache.specs.Main.{Main, replacement_in, without_excluded}
@@ -42,7 +42,7 @@ same_module x y e =
 
 -- ---- a file that requires nothing
 
-listed_sound : (sums : Option (List ℕ)) (table : Option SumTable) → AreSums sums table → (x : ModuleVersion) (content : List ℕ) → IsSummed sums x content
+listed_sound : (sums : Option (List ℕ)) (table : Option Sums) → AreSums sums table → (x : ModuleVersion) (content : List ℕ) → IsSummed sums x content
     → sum_fault table (mod_file x.0 x.1) content ≡ None
 listed_sound None None are x content listed = refl
 listed_sound None (Some table) are x content listed = absurd are
@@ -59,7 +59,7 @@ right_reading x file e = rw (declared_own x.0 file.declared e) refl
 abbrev IsEmptyReading : Result Dependency Class → Type 0
 IsEmptyReading reading = (file : Dependency) × (reading ≡ Ok file) × (file.requirements ≡ [])
 
-module _ (sums : Option (List ℕ)) (table : Option SumTable) (are : AreSums sums table) (x : ModuleVersion) where
+module _ (sums : Option (List ℕ)) (table : Option Sums) (are : AreSums sums table) (x : ModuleVersion) where
   file_mended : (reply : Reply) (known : Result Dependency Class) → IsFileReading table (mod_file x.0 x.1) reply known → RequiresNothing sums x reply
       → (reading : Result Dependency Class) → with_right_path x None known ≡ reading → IsEmptyReading reading
   file_mended reply known told (content, file, is, listed, reads, declared, empty) reading e =
@@ -83,7 +83,7 @@ askable_by false main x known class e other = absurd (other (let same : class �
 
 -- ---- two runs
 
-module _ (main : Main) (sums : Option (List ℕ)) (table : Option SumTable) (are : AreSums sums table) (faults : List Fault) (asked told : List (Name × Reply))
+module _ (main : Main) (sums : Option (List ℕ)) (table : Option Sums) (are : AreSums sums table) (faults : List Fault) (asked told : List (Name × Reply))
     (held next : Held) (none : main.replaces ≡ []) (known : AreKnown main table (answers asked []) held) (found : AreFaults main (readings_by main held) faults)
     (tells : Tells table told next) (fetchable : (one : Fault) → Contains faults one → one.class ≢ NotFetchable)
     (mended : (one : Fault) (reply : Reply) → Contains faults one → answer_in told (mod_file one.vertex.0 one.vertex.1) ≡ Some reply → RequiresNothing sums one.vertex reply)

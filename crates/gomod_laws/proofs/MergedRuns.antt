@@ -1,7 +1,7 @@
 -- A merge has what its parts have.
 use Rattle.std.proofs.Common.{◌≡◌, ◌∙◌, ◌⊎◌, ◌≤◌, ℕ, List, [], ◌∷◌, length, Option, None, Some, Contains, ap, arith, refl, subst, sym, inl, inr}
 use Rattle.gm_name.specs.ModuleVersion.{ModuleVersion}
-use Rattle.gm_store_sums.specs.declared.sum_table.SumTable.{SumTable}
+use Rattle.gm_store_sums.specs.Sums.{Sums}
 use Rattle.gm_graph_cache.specs.Main.{Main}
 use Rattle.gm_graph_cache.specs.Reading.{Held, Readings, Tells, readings_by}
 use Rattle.gm_graph_select.specs.declared.step.Edge.{Edge}
@@ -35,7 +35,7 @@ use Rattle.gomod_laws.proofs.MergedRows.{higher_rows}
 -- The go.sum is valid, and the files of the opened modules are known. With faults they are reported, and without the
 -- command prints.
 pub record IsKnown (prints : Prints) (run : Given) (main : Main) (outcome : Outcome) : Type 0 where
-  pub table : Option SumTable
+  pub table : Option Sums
   pub held : Held
   pub faults : List Fault
   pub read : FilesReadAs run.file run.sums main table
@@ -46,13 +46,13 @@ pub record IsKnown (prints : Prints) (run : Given) (main : Main) (outcome : Outc
 data RunEnd (prints : Prints) (run : Given) (main : Main) (outcome : Outcome) : Type 0 where
   misread : (report : List ℕ) → AreInvalidSums run.sums report → outcome ≡ refused report
       → RunEnd prints run main outcome
-  many : (table : Option SumTable) → AreSums run.sums table → Told main table run.told.asked (AreTooMany main)
+  many : (table : Option Sums) → AreSums run.sums table → Told main table run.told.asked (AreTooMany main)
       → outcome ≡ refused too_many_line → RunEnd prints run main outcome
   known : IsKnown prints run main outcome → RunEnd prints run main outcome
 
 module _ (prints : Prints) (run : Given) (main : Main) (outcome : Outcome) (says : IsMainFile run.file main)
     (sound : run.told.failed ≡ []) where
-  over_end : (table : Option SumTable) → AreSums run.sums table → IsOutcomeOver prints main table run.told outcome
+  over_end : (table : Option Sums) → AreSums run.sums table → IsOutcomeOver prints main table run.told outcome
       → RunEnd prints run main outcome
   over_end table are (inl (too_many told none text)) = many table are told text
   over_end table are (inl (device name due one text)) =
@@ -75,7 +75,7 @@ module _ (prints : Prints) (run next : Given) (first second : Main) (outcome : O
     (found : IsKnown prints next second outcome) (sums : run.sums ≡ next.sums)
     (alike : AnswerAlike run.told.asked next.told.asked) (same : ReplaceAlike first second) where
   -- what the first run knows of the modules that the second opens is what the second knows
-  agree : (table : Option SumTable) → AreSums run.sums table → (a : Held) → Tells table run.told.asked a
+  agree : (table : Option Sums) → AreSums run.sums table → (a : Held) → Tells table run.told.asked a
       → Agrees second (readings_by first a) (readings_by second found.held)
   agree table are a tells x opened reading e =
       let there : AreSums next.sums table = subst (λ (s : Option (List ℕ)). AreSums s table) sums are in
@@ -127,7 +127,7 @@ module _ (command : Command) (sums : Option (List ℕ)) (prints : Prints) where
       end_of : (run : RunOf command sums) → Ends run
       end_of run = run_end prints (over run) run.main run.outcome run.says refl (is run)
 
-      valid_sums : (run : RunOf command sums) → HasPrinted run.outcome → Ends run → (table : Option SumTable) × AreSums sums table
+      valid_sums : (run : RunOf command sums) → HasPrinted run.outcome → Ends run → (table : Option Sums) × AreSums sums table
       valid_sums run done (misread report invalid text) = absurd (not_refused report run.outcome text done)
       valid_sums run done (many table are told text) = (table, are)
       valid_sums run done (known its) = (its.table, its.read.sums)
@@ -137,7 +137,7 @@ module _ (command : Command) (sums : Option (List ℕ)) (prints : Prints) where
       printed_known run done (many table are told text) = absurd (not_refused too_many_line run.outcome text done)
       printed_known run done (known its) = its
 
-      few_known : (run : RunOf command sums) (table : Option SumTable) → AreSums sums table → ¬ (ReportsTooMany run.outcome)
+      few_known : (run : RunOf command sums) (table : Option Sums) → AreSums sums table → ¬ (ReportsTooMany run.outcome)
           → Ends run → Known run
       few_known run table are few (misread report invalid text) = absurd (misread_or_sums sums report table invalid are)
       few_known run table are few (many next been told text) = absurd (few text)

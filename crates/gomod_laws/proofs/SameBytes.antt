@@ -8,7 +8,7 @@ use Rattle.gm_file.specs.Directives.{Left, Replacing, Right, Folder, Module, lef
 use Rattle.gm_file.specs.Faults.{is_same_left}
 use Rattle.gm_file.specs.Fields.{Dependency, replacement_of, right_for}
 use Rattle.gm_store.specs.Asked.{Name, Reply, absent, answer_in, bytes, mod_file, too_long}
-use Rattle.gm_store_sums.specs.declared.sum_table.SumTable.{SumTable}
+use Rattle.gm_store_sums.specs.Sums.{Sums}
 use Rattle.gm_graph_cache.specs.declared.class.Class.{Class}
 use Rattle.gm_graph_cache.specs.declared.class.Class.TheVariants.{NotFetchable, WrongPath}
 use Rattle.gm_graph_cache.specs.Main.{Main, is_pruned_by, replacement_in}
@@ -117,7 +117,7 @@ accepted x (Folder text) file is = refl
 accepted x (Module path version) file is = ap (λ (b : Bool). cond (b || declares path file.declared) (Ok file) (Err WrongPath)) is
 
 -- a go.sum with the right hash finds nothing wrong with the bytes of the replacing file
-nothing_found : (sums : Option (List ℕ)) (table : Option SumTable) → AreSums sums table → (x : ModuleVersion) (right : Right) (content : List ℕ) → HasHashFor sums right content
+nothing_found : (sums : Option (List ℕ)) (table : Option Sums) → AreSums sums table → (x : ModuleVersion) (right : Right) (content : List ℕ) → HasHashFor sums right content
     → sum_fault table (file_named x (Some right)) content ≡ None
 nothing_found None None are x right content has = refl
 nothing_found None (Some table) are x right content has = absurd are
@@ -267,5 +267,5 @@ module _ (file changed : List ℕ) (sums : Option (List ℕ)) (main other : Main
       next prints ends in
       (then, found, same_edges then (same_tells found.table found.read.sums then found.known.tells) found.known.answered, shows)
     where
-      same_tells : (table : Option SumTable) → AreSums sums table → (a : Held) → Tells table told a → Tells valid.table told a
+      same_tells : (table : Option Sums) → AreSums sums table → (a : Held) → Tells table told a → Tells valid.table told a
       same_tells table are a tells = tells_alike table valid.table (one_finding sums table valid.table are valid.read.sums) told a tells

@@ -2,7 +2,7 @@
 use Rattle.std.proofs.Common.{◌≡◌, ◌∙◌, ◌≤◌, ◌∷◌, ℕ, List, [], length, Option, arith, inl, inr, refl, subst, sym, true}
 use Rattle.std.proofs.lemmas.Bool.{false≢true}
 use Rattle.gm_name.specs.ModuleVersion.{ModuleVersion}
-use Rattle.gm_store_sums.specs.declared.sum_table.SumTable.{SumTable}
+use Rattle.gm_store_sums.specs.Sums.{Sums}
 use Rattle.gm_graph_cache.specs.Main.{Main}
 use Rattle.gm_graph_cache.specs.Reading.{Held, Tells, readings_by}
 use Rattle.gm_graph.specs.Graph.{IsVertex}
@@ -49,7 +49,7 @@ module _ (prints : PrintsBy) (moves : Moves prints) (once : IsOnce prints) (file
     finish : IsOutcome prints (given file sums (answers told [])) b → a ≡ b
     finish also = once (given file sums (answers asked [])) (given file sums (answers told [])) a b (record { file = refl; sums = refl; answers = alike; failed = refl }) run also
 
-  module _ (table next : Option SumTable) (sums_read : AreSums sums table) (sums_too : AreSums sums next) where
+  module _ (table next : Option Sums) (sums_read : AreSums sums table) (sums_too : AreSums sums next) where
     -- the run over the main file opens too many modules, so the one over the changed file does too
     not_few : (held : Held) → Tells table asked held → AreTooMany main (readings_by main held) → (then : Held) → AreKnown Other next (answers told []) then → ⊥
     not_few held tells many then known =
@@ -84,14 +84,14 @@ module _ (prints : PrintsBy) (moves : Moves prints) (once : IsOnce prints) (file
           let at = at_each then were.tells in
           inr (then, known_back main other then at next (answers told []) were, faults_back main other then at [] sound, moves main other then at b is)
 
-  over_both : (next : Option SumTable) → AreSums sums next → IsOutcomeOver prints Other next (answers told []) b → IsOutcome prints (given file sums (answers asked [])) a → a ≡ b
+  over_both : (next : Option Sums) → AreSums sums next → IsOutcomeOver prints Other next (answers told []) b → IsOutcome prints (given file sums (answers asked [])) a → a ≡ b
   over_both next sums_too over run = by run
     where
-      known_ends : (table : Option SumTable) → AreSums sums table → (held : Held) → AreKnown main table (answers asked []) held → a ≡ b
+      known_ends : (table : Option Sums) → AreSums sums table → (held : Held) → AreKnown main table (answers asked []) held → a ≡ b
       known_ends table sums_read held known =
           finish run (inr (main, next, record { main_file = reads; sums = sums_too }, moved table next sums_read sums_too held known over))
 
-      ends : (table : Option SumTable) → AreSums sums table → IsOutcomeOver prints main table (answers asked []) a → a ≡ b
+      ends : (table : Option Sums) → AreSums sums table → IsOutcomeOver prints main table (answers asked []) a → a ≡ b
       ends table sums_read (inl (too_many (held, tells, many) none is)) = too_many_both table next sums_read sums_too held tells many is over
       ends table sums_read (inl (device name due some is)) = absurd (none_is_one name some)
       ends table sums_read (inl (faulty held first others known faults is)) = known_ends table sums_read held known

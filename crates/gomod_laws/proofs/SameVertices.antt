@@ -6,7 +6,7 @@ use Rattle.gm_name.specs.ModuleVersion.{ModuleVersion}
 use Rattle.gm_file.specs.Directives.{Right}
 use Rattle.gm_file.specs.Fields.{Dependency}
 use Rattle.gm_store.specs.Asked.{Name, answer_in}
-use Rattle.gm_store_sums.specs.declared.sum_table.SumTable.{SumTable}
+use Rattle.gm_store_sums.specs.Sums.{Sums}
 use Rattle.gm_graph_cache.specs.declared.class.Class.{Class}
 use Rattle.gm_graph_cache.specs.declared.class.Class.TheVariants.{NotFetchable}
 use Rattle.gm_graph_cache.specs.Main.{Main, is_pruned_by, replacement_in}
@@ -139,7 +139,7 @@ module _ (main other : Main) (held : Held) (same : SaysTheSameOf main other held
     );
   }
 
-  pub known_back : (table : Option SumTable) (told : Answers) → AreKnown Changed table told held → AreKnown main table told held
+  pub known_back : (table : Option Sums) (told : Answers) → AreKnown Changed table told held → AreKnown main table told held
   known_back table told are = record {
     tells = are.tells;
     answered = λ x opens.

@@ -4,10 +4,9 @@ use Rattle.std.proofs.lemmas.Bool.{false≢true}
 use Rattle.gm_store.specs.Asked.{Name, Reply, absent, answer_in, bytes, folder_file, list_file, mod_file, too_long}
 use Rattle.gm_store.specs.States.{StoreState}
 use Rattle.gm_store_sums.specs.Hash.{file_hash}
-use Rattle.gm_store_sums.specs.Sums.{IsSum, ReadsAs, Says, check_in}
+use Rattle.gm_store_sums.specs.Sums.{IsSum, ReadsAs, Says, Sums, check_in}
 use Rattle.gm_store_sums.specs.declared.sum_table.Sum.{Sum}
 use Rattle.gm_store_sums.specs.declared.sum_table.Sum.TheVariants.{Differs, Good, Unlisted}
-use Rattle.gm_store_sums.specs.declared.sum_table.SumTable.{SumTable}
 use Rattle.gm_graph_cache.specs.declared.class.Class.{Class}
 use Rattle.gm_graph_cache.specs.Main.{Main}
 use Rattle.gm_graph_cache.specs.Reading.{Held, IsReadUnless, IsTold, Tells, class_of_sum, file_of, is_askable, readings_by, sum_fault}
@@ -61,7 +60,7 @@ HaveSameFor one other (mod_file path version) = HaveSame one other path version
 HaveSameFor one other (folder_file folder) = Unit {0}
 HaveSameFor one other (list_file path) = Unit {0}
 
-same_fault : (one other : List ℕ) (t u : SumTable) → ReadsAs t one → ReadsAs u other → (name : Name) (content : List ℕ) → HaveSameFor one other name
+same_fault : (one other : List ℕ) (t u : Sums) → ReadsAs t one → ReadsAs u other → (name : Name) (content : List ℕ) → HaveSameFor one other name
     → sum_fault (Some t) name content ≡ sum_fault (Some u) name content
 same_fault one other t u reads tells (mod_file path version) content same =
     let hash = file_hash content in
@@ -72,7 +71,7 @@ same_fault one other t u reads tells (folder_file folder) content same = refl
 same_fault one other t u reads tells (list_file path) content same = refl
 
 -- what an answer says, with the other go.sum
-told_with : (t u : SumTable) (name : Name) (reply : Option Reply) (known : Known) → IsTold (Some t) name reply known
+told_with : (t u : Sums) (name : Name) (reply : Option Reply) (known : Known) → IsTold (Some t) name reply known
     → ((content : List ℕ) → sum_fault (Some t) name content ≡ sum_fault (Some u) name content) → IsTold (Some u) name reply known
 told_with t u name None None told same = told
 told_with t u name None (Some reading) told same = told
@@ -85,7 +84,7 @@ told_with t u name (Some (bytes content)) (Some reading) told same = subst (λ (
 
 module _ (prints : PrintsOver) (once : PrintsOnce prints) (main one other : List ℕ) (asked others : List (Name × Reply)) (a b : Outcome)
     (alike : AnswerAlike asked others) (are : HaveSameSums main one other asked) where
-  module _ (said : Main) (is_main : IsMainFile main said) (t u : SumTable) (reads : AreSums (Some one) (Some t)) (tells : AreSums (Some other) (Some u)) where
+  module _ (said : Main) (is_main : IsMainFile main said) (t u : Sums) (reads : AreSums (Some one) (Some t)) (tells : AreSums (Some other) (Some u)) where
     -- of a file that the first run needs the two find the same
     finds_same : (held : Held) → Tells (Some t) asked held → (name : Name) → IsNeeded said (readings_by said held) name
         → (content : List ℕ) → sum_fault (Some t) name content ≡ sum_fault (Some u) name content
@@ -142,8 +141,8 @@ module _ (prints : PrintsOver) (once : PrintsOnce prints) (main one other : List
       one_outcome prints once (given main (Some other) (answers asked [])) (given main (Some other) (answers others [])) a b
       (record { file = refl; sums = refl; answers = alike; failed = refl }) is be
 
-  module _ (said : Main) (is_main : IsMainFile main said) (t : SumTable) (reads : AreSums (Some one) (Some t)) (be : IsOutcome prints (given main (Some other) (answers others [])) b) where
-    ends : (u : SumTable) → AreSums (Some other) (Some u) → IsOutcomeOver prints said (Some t) (answers asked []) a → a ≡ b
+  module _ (said : Main) (is_main : IsMainFile main said) (t : Sums) (reads : AreSums (Some one) (Some t)) (be : IsOutcome prints (given main (Some other) (answers others [])) b) where
+    ends : (u : Sums) → AreSums (Some other) (Some u) → IsOutcomeOver prints said (Some t) (answers asked []) a → a ≡ b
     ends u tells (inl (too_many (held, told, many) none says)) = by_other be
       where
         by_other : IsOutcome prints (given main (Some other) (answers others [])) b → a ≡ b

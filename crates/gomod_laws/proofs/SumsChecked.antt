@@ -6,10 +6,9 @@ use Rattle.gm_file.specs.Fields.{Dependency}
 use Rattle.gm_store.specs.Asked.{Name, Reply, absent, answer_in, bytes, folder_file, list_file, mod_file, names_in, same_name, too_long}
 use Rattle.gm_store.proofs.NameOrder.{names_equal}
 use Rattle.gm_store_sums.specs.Hash.{file_hash}
-use Rattle.gm_store_sums.specs.Sums.{ReadsAs, Says, check_in}
+use Rattle.gm_store_sums.specs.Sums.{ReadsAs, Says, Sums, check_in}
 use Rattle.gm_store_sums.specs.declared.sum_table.Sum.{Sum}
 use Rattle.gm_store_sums.specs.declared.sum_table.Sum.TheVariants.{Differs, Good, Unlisted}
-use Rattle.gm_store_sums.specs.declared.sum_table.SumTable.{SumTable}
 use Rattle.gm_graph_cache.specs.declared.class.Class.{Class}
 use Rattle.gm_graph_cache.specs.Main.{Main}
 use Rattle.gm_graph_cache.specs.Reading.{Held, IsContentReading, IsFileReading, IsReadUnless, IsTold, Readings, Tells, class_of_sum, fault_in, file_of, is_askable, is_unpruned_in, readings_by, requirements_in, said_in, sum_fault, vertex_fault}
@@ -44,13 +43,13 @@ content_read : (found : Option Class) (content : List ℕ) (file : Dependency) �
 content_read None content file is = is
 content_read (Some class) content file is = let never : Ok file ≡ Err class = is in cc never
 
-file_read : (table : Option SumTable) (name : Name) (reply : Reply) (file : Dependency)
+file_read : (table : Option Sums) (name : Name) (reply : Reply) (file : Dependency)
     → IsFileReading table name reply (Ok file) → IsFileReading None name reply (Ok file)
 file_read table name absent file is = is
 file_read table name too_long file is = is
 file_read table name (bytes content) file is = content_read (sum_fault table name content) content file is
 
-unchecked_told : (table : Option SumTable) (name : Name) (reply : Option Reply)
+unchecked_told : (table : Option Sums) (name : Name) (reply : Option Reply)
     (held : Option (Result Dependency Class)) → IsTold table name reply held
     → ((answer : Reply) (class : Class) → reply ≡ Some answer → held ≡ Some (Err class) → ⊥)
     → IsTold None name reply held
@@ -60,7 +59,7 @@ unchecked_told table name (Some reply) None told sound = told
 unchecked_told table name (Some reply) (Some (Err class)) told sound = absurd (sound reply class refl refl)
 unchecked_told table name (Some reply) (Some (Ok file)) told sound = file_read table name reply file told
 
-module _ (main : Main) (table : Option SumTable) (told : Answers) (held : Held) (known : AreKnown main table told held)
+module _ (main : Main) (table : Option Sums) (told : Answers) (held : Held) (known : AreKnown main table told held)
     (none : AreFaults main (readings_by main held) []) where
   held_sound : (name : Name) (reply : Reply) (class : Class) → answer_in told.asked name ≡ Some reply
       → held name ≡ Some (Err class) → ⊥
@@ -97,7 +96,7 @@ IsRightFor text (mod_file path version) content = Says text path version (file_h
 IsRightFor text (folder_file folder) content = Unit {0}
 IsRightFor text (list_file path) content = Unit {0}
 
-pub no_sum_fault : (table : SumTable) (text : List ℕ) → ReadsAs table text → (name : Name) (content : List ℕ)
+pub no_sum_fault : (table : Sums) (text : List ℕ) → ReadsAs table text → (name : Name) (content : List ℕ)
     → IsRightFor text name content → sum_fault (Some table) name content ≡ None
 no_sum_fault table text reads (mod_file path version) content right =
     let hash = file_hash content in
@@ -111,7 +110,7 @@ read_checked : (found : Option Class) (content : List ℕ) (reading : Result Dep
 read_checked found content reading none is =
     subst (λ (o : Option Class). IsReadUnless o content reading) (sym none) is
 
-pub checked_told : (table : SumTable) (name : Name) (reply : Option Reply) (held : Option (Result Dependency Class))
+pub checked_told : (table : Sums) (name : Name) (reply : Option Reply) (held : Option (Result Dependency Class))
     → IsTold None name reply held
     → ((content : List ℕ) → reply ≡ Some (bytes content) → sum_fault (Some table) name content ≡ None)
     → IsTold (Some table) name reply held
@@ -129,18 +128,18 @@ abbrev reading_unless : Option Class → Result Dependency Class → Result Depe
 reading_unless None reading = reading
 reading_unless (Some class) reading = Err class
 
-abbrev checked_reading : SumTable → Name → Reply → Result Dependency Class → Result Dependency Class
+abbrev checked_reading : Sums → Name → Reply → Result Dependency Class → Result Dependency Class
 checked_reading table name absent reading = reading
 checked_reading table name too_long reading = reading
 checked_reading table name (bytes content) reading = reading_unless (sum_fault (Some table) name content) reading
 
-abbrev checked_for : SumTable → Name → Option Reply → Option (Result Dependency Class)
+abbrev checked_for : Sums → Name → Option Reply → Option (Result Dependency Class)
     → Option (Result Dependency Class)
 checked_for table name None held = held
 checked_for table name (Some reply) held = option_map (checked_reading table name reply) held
 
 -- what is held with the go.sum, by what is held without one
-abbrev pub checked_held : SumTable → List (Name × Reply) → Held → Held
+abbrev pub checked_held : Sums → List (Name × Reply) → Held → Held
 checked_held table pairs held name = checked_for table name (answer_in pairs name) (held name)
 
 read_unless : (found : Option Class) (content : List ℕ) (reading : Result Dependency Class)
@@ -148,7 +147,7 @@ read_unless : (found : Option Class) (content : List ℕ) (reading : Result Depe
 read_unless None content reading is = is
 read_unless (Some class) content reading is = refl
 
-told_for : (table : SumTable) (name : Name) (reply : Option Reply) (held : Option (Result Dependency Class))
+told_for : (table : Sums) (name : Name) (reply : Option Reply) (held : Option (Result Dependency Class))
     → IsTold None name reply held → IsTold (Some table) name reply (checked_for table name reply held)
 told_for table name None None told = told
 told_for table name None (Some reading) told = told
@@ -158,7 +157,7 @@ told_for table name (Some too_long) (Some reading) told = told
 told_for table name (Some (bytes content)) (Some reading) told =
     read_unless (sum_fault (Some table) name content) content reading told
 
-pub tells_checked : (table : SumTable) (pairs : List (Name × Reply)) (held : Held) → Tells None pairs held
+pub tells_checked : (table : Sums) (pairs : List (Name × Reply)) (held : Held) → Tells None pairs held
     → Tells (Some table) pairs (checked_held table pairs held)
 tells_checked table pairs held tells name = told_for table name (answer_in pairs name) (held name) (tells name)
 
@@ -167,7 +166,7 @@ reading_stays : (found : Option Class) (reading : Result Dependency Class) → f
 reading_stays None reading none = refl
 reading_stays (Some class) reading none = cc none
 
-held_stays : (table : SumTable) (name : Name) (reply : Option Reply) (held : Option (Result Dependency Class))
+held_stays : (table : Sums) (name : Name) (reply : Option Reply) (held : Option (Result Dependency Class))
     → ((content : List ℕ) → reply ≡ Some (bytes content) → sum_fault (Some table) name content ≡ None)
     → held ≡ checked_for table name reply held
 held_stays table name None held right = refl
@@ -202,7 +201,7 @@ module _ (main : Main) (a b : Readings) (same : (x : ModuleVersion) → IsOpened
   opened_too x (inr below) = inr (deep_too below)
 
 -- A module that is opened without the go.sum is opened with it, if it finds nothing wrong with a needed file.
-module _ (main : Main) (table : SumTable) (pairs : List (Name × Reply)) (held : Held)
+module _ (main : Main) (table : Sums) (pairs : List (Name × Reply)) (held : Held)
     (right : (name : Name) (content : List ℕ) → IsNeeded main (readings_by main held) name
     → answer_in pairs name ≡ Some (bytes content) → sum_fault (Some table) name content ≡ None) where
   same_opened : (x : ModuleVersion) → IsOpened main (readings_by main held) x

@@ -1,8 +1,7 @@
 -- The laws of a go.sum hold.
 use Rattle.std.proofs.Common.{◌≡◌, ◌≤◌, ℕ, List, [], ◌∷◌, length, Some, None, sym, refl, arith, inl, inr}
 use Rattle.gm_store.specs.Asked.{Name, Reply, answer_in, bytes, folder_file, list_file, mod_file}
-use Rattle.gm_store_sums.specs.Sums.{HasValidLines}
-use Rattle.gm_store_sums.specs.declared.sum_table.SumTable.{SumTable}
+use Rattle.gm_store_sums.specs.Sums.{HasValidLines, Sums}
 use Rattle.gm_graph_cache.specs.Main.{Main}
 use Rattle.gm_graph_cache.specs.Reading.{Held, Tells, readings_by, sum_fault}
 use Rattle.gm_graph.specs.Loading.{AreTooMany, IsNeeded, Told}
@@ -73,7 +72,7 @@ only_refuses (Chain path) main sums asked others one other alike is be ends =
 pub sum_table : (prints : PrintsOver) (main sums : List ℕ) (asked : List (Name × Reply)) (outcome : Outcome) (said : Main)
     → length sums ≤ longest → HasValidLines sums → IsMainFile main said
     → IsOutcome prints (given main (Some sums) (answers asked [])) outcome
-    → (table : SumTable) × AreSums (Some sums) (Some table)
+    → (table : Sums) × AreSums (Some sums) (Some table)
 sum_table prints main sums asked outcome said short valid is (inl (inl (place, misread, says), none)) =
     absurd (misread_or_main main place said misread is)
 sum_table prints main sums asked outcome said short valid is (inl (inr (other, report, reads, inl long, says), none)) =
@@ -85,7 +84,7 @@ sum_table prints main sums asked outcome said short valid is (inr (other, Some t
     (table, reads.sums)
 
 module _ (main sums : List ℕ) (asked : List (Name × Reply)) (right : AreRight main sums asked) (said : Main)
-    (is_main : IsMainFile main said) (table : SumTable) (reads : AreSums (Some sums) (Some table)) where
+    (is_main : IsMainFile main said) (table : Sums) (reads : AreSums (Some sums) (Some table)) where
   right_for : (name : Name) (content : List ℕ) → GraphNeeds main None (answer_in asked) name
       → answer_in asked name ≡ Some (bytes content) → IsRightFor sums name content
   right_for (mod_file path version) content needs answered = right.listed path version content needs answered

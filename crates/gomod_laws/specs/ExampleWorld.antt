@@ -6,7 +6,7 @@ use Rattle.gm_file.specs.Directives.{Folder, Module, Replacing, Right, left_with
 use Rattle.gm_file.specs.Fields.{Dependency}
 use Rattle.gm_store.specs.Asked.{Name, Reply, mod_file, folder_file, absent, too_long, same_name}
 use Rattle.gm_store_sums.specs.declared.sum_table.Sum.TheVariants.{Good, Unlisted, Differs}
-use Rattle.gm_store_sums.specs.declared.sum_table.SumTable.{SumTable}
+use Rattle.gm_store_sums.specs.Sums.{Sums}
 use Rattle.gm_graph_cache.specs.Main.{Main, is_pruned_by, replacement_in}
 use Rattle.gm_graph_cache.specs.Reading.{Held, IsFileReading, Readings, Tells, class_of_sum, file_of, is_askable, is_right_path, is_unpruned, readings_by, vertex_fault, vertex_requirements}
 use Rattle.gm_graph_cache.specs.declared.class.Class.{Class}
@@ -151,7 +151,7 @@ pub record AnswersTell : Type 0 where
   -- so not everything tells something, and no answer tells anything of another name
   pub only : (held : Held) → Tells None absent_folder held → (name : Name) → held name ≡ held_of_absent name
   -- A file that is too long is a fault of its own, with and without a go.sum.
-  pub long : (sums : Option SumTable) (reading : Result Dependency Class)
+  pub long : (sums : Option Sums) (reading : Result Dependency Class)
       → IsFileReading sums (mod_file (codes "top.org") (codes "v1.0.0")) too_long reading ↔ (reading ≡ Err TooLong)
   -- What a go.sum finds wrong with a file is a fault, by what it finds.
   pub unlisted : class_of_sum Unlisted ≡ Some NoSum

@@ -5,7 +5,7 @@ use Rattle.gm_name.specs.Version.{version_cmp}
 use Rattle.gm_name.specs.ModuleVersion.{ModuleVersion}
 use Rattle.gm_file.specs.Directives.{Right}
 use Rattle.gm_store.specs.Asked.{Name, Reply}
-use Rattle.gm_store_sums.specs.declared.sum_table.SumTable.{SumTable}
+use Rattle.gm_store_sums.specs.Sums.{Sums}
 use Rattle.gm_graph_cache.specs.Main.{Main}
 use Rattle.gm_graph_cache.specs.Reading.{Held, readings_by}
 use Rattle.gm_graph_select.specs.declared.step.Edge.{Edge}
@@ -128,7 +128,7 @@ ReportsThese (first ∷ others) outcome = outcome ≡ refused (faults_text (firs
 -- These are all faults of the modules that the run opens. If there are none, it prints; otherwise it reports them.
 pub record ShowsFaults (run : Given) (main : Main) (faults : List Fault) (outcome : Outcome) : Type 0 where
   pub held : Held
-  pub table : Option SumTable
+  pub table : Option Sums
   pub read : FilesReadAs run.file run.sums main table
   pub known : AreKnown main table run.told held
   pub are : AreFaults main (readings_by main held) faults
@@ -146,7 +146,7 @@ ShowsFaultsOfBoth command sums one other both = (faults : List Fault) × (others
 -- If the go.sum is valid, or none is given, and at most 65,536 modules are opened, `list` and `graph` report a fault
 -- over the merged main file exactly if they report it over one of the two.
 abbrev pub MergedReportIsUnion : Type 0
-MergedReportIsUnion = (command : Command) (sums : Option (List ℕ)) (table : Option SumTable)
+MergedReportIsUnion = (command : Command) (sums : Option (List ℕ)) (table : Option Sums)
     (one other both : RunOf command sums) → IsOfWhole command → AreSums sums table
     → AreMerged command sums one other both → ¬ (ReportsTooMany both.outcome)
     → ShowsFaultsOfBoth command sums one other both

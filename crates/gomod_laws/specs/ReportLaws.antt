@@ -4,9 +4,8 @@ use Rattle.gm_name.specs.ModuleVersion.{ModuleVersion}
 use Rattle.gm_file.specs.Fields.{Dependency}
 use Rattle.gm_store.specs.Asked.{Name, Reply, answer_in, bytes, mod_file}
 use Rattle.gm_store_sums.specs.Hash.{file_hash}
-use Rattle.gm_store_sums.specs.Sums.{Says}
+use Rattle.gm_store_sums.specs.Sums.{Says, Sums}
 use Rattle.gm_store_sums.specs.declared.sum_table.Sum.TheVariants.{Good}
-use Rattle.gm_store_sums.specs.declared.sum_table.SumTable.{SumTable}
 use Rattle.gm_graph_cache.specs.Main.{Main}
 use Rattle.gm_graph_cache.specs.Reading.{Held, readings_by}
 use Rattle.gm_file.specs.DepLines.{IsDependencyIn}
@@ -73,7 +72,7 @@ pub record AreMended (Files : FilesFor) (command again : Command) (file : List â
 -- These rows are the build list of what the files of the run say, in which a module with a fault requires nothing.
 pub record AreRowsBy (run : Given) (main : Main) (rows : List Entry) : Type 0 where
   pub held : Held
-  pub table : Option SumTable
+  pub table : Option Sums
   pub read : FilesReadAs run.file run.sums main table
   pub known : AreKnown main table run.told held
   pub are : AreRows main (readings_by main held) rows
@@ -81,7 +80,7 @@ pub record AreRowsBy (run : Given) (main : Main) (rows : List Entry) : Type 0 wh
 -- the same for the edges of the module graph
 pub record AreEdgesBy (run : Given) (main : Main) (edges : List Edge) : Type 0 where
   pub held : Held
-  pub table : Option SumTable
+  pub table : Option Sums
   pub read : FilesReadAs run.file run.sums main table
   pub known : AreKnown main table run.told held
   pub are : AreEdges main (readings_by main held) edges

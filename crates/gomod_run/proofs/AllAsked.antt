@@ -4,7 +4,7 @@ use Rattle.gm_name.specs.ModuleVersion.{ModuleVersion}
 use mathlib.Core.Path.{fun_ext}
 use Rattle.gm_file.specs.Fields.{Dependency}
 use Rattle.gm_store.specs.Asked.{Name, Reply, absent, answer_in, bytes, too_long}
-use Rattle.gm_store_sums.specs.declared.sum_table.SumTable.{SumTable}
+use Rattle.gm_store_sums.specs.Sums.{Sums}
 use Rattle.gm_graph_cache.proofs.OneReading.{one_reading}
 use Rattle.gm_graph_cache.specs.declared.class.Class.{Class}
 use Rattle.gm_graph_cache.specs.Main.{Main}
@@ -25,7 +25,7 @@ use Rattle.gm_store.specs.Taken.{SinkState}
 
 -- ---- what was read is unique
 
-module _ (one other : Option SumTable) (same : FindSame one other) where
+module _ (one other : Option Sums) (same : FindSame one other) where
   same_reading : (name : Name) (reply : Reply) (a b : Result Dependency Class) → IsFileReading one name reply a → IsFileReading other name reply b → a ≡ b
   same_reading name absent a b is is' = is ∙ sym is'
   same_reading name too_long a b is is' = is ∙ sym is'
@@ -46,7 +46,7 @@ some_reply : (answer : Option Reply) → IsSome answer → (reply : Reply) × (a
 some_reply None is = cc is
 some_reply (Some reply) is = (reply, refl)
 
-module _ (file : List ℕ) (sums : Option (List ℕ)) (asked : List (Name × Reply)) (main : Main) (table : Option SumTable) (held : Held)
+module _ (file : List ℕ) (sums : Option (List ℕ)) (asked : List (Name × Reply)) (main : Main) (table : Option Sums) (held : Held)
     (main_reads : IsMainFile file main) (sums_read : AreSums sums table) (tells : Tells table asked held)
     (answered : (x : ModuleVersion) → IsOpened main (readings_by main held) x → IsAnswered main asked x) where
   needed_answered : (name : Name) → IsNeeded main (readings_by main held) name → (reply : Reply) × (answer_in asked name ≡ Some reply)

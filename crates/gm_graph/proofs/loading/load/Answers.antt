@@ -3,7 +3,7 @@ use Rattle.std.specs.List.{IsDistinct}
 use Rattle.std.specs.Option.{option_copied}
 use Rattle.gm_name.specs.ModuleVersion.{ModuleVersion}
 use Rattle.gm_store.specs.Asked.{name_of}
-use Rattle.gm_store_sums.specs.declared.sum_table.SumTable.{SumTable}
+use Rattle.gm_store_sums.specs.Sums.{Sums}
 use Rattle.gm_graph_cache.specs.Cached.{main_in}
 use Rattle.gm_graph_cache.specs.Main.{Main, main_of}
 use Rattle.gm_graph_select.specs.declared.step.Step.TheVariants.{Of}
@@ -33,14 +33,14 @@ pub returns-in_err-visit_all-clause-device : goal.returns-in_err-visit_all-claus
 returns-in_err-visit_all-clause-device g c = λ name e.
     let pairs = (g.F.Files.state c.visit_all.new.files).asked in
     subst (λ (m : Main). IsDue m (option_copied c.args.sums) pairs (name_of name)) c.in_ok-cache.ensures.main
-    (subst (λ (s : Option SumTable). IsDue (main_in c.in_ok-cache.cache) s pairs (name_of name)) c.in_ok-cache.ensures.sums
+    (subst (λ (s : Option Sums). IsDue (main_in c.in_ok-cache.cache) s pairs (name_of name)) c.in_ok-cache.ensures.sums
     (c.in_err-visit_all.ensures.device name (ap Err (sym (rw e at c.from_residual-in_err-visit_all.ensures.1)))))
 
 pub returns-in_err-visit_all-clause-too_many : goal.returns-in_err-visit_all-clause-too_many
 returns-in_err-visit_all-clause-too_many g c = λ e.
     let pairs = (g.F.Files.state c.visit_all.new.files).asked in
     subst (λ (m : Main). Told m (option_copied c.args.sums) pairs (AreTooMany m)) c.in_ok-cache.ensures.main
-    (subst (λ (s : Option SumTable). Told (main_in c.in_ok-cache.cache) s pairs (AreTooMany (main_in c.in_ok-cache.cache))) c.in_ok-cache.ensures.sums
+    (subst (λ (s : Option Sums). Told (main_in c.in_ok-cache.cache) s pairs (AreTooMany (main_in c.in_ok-cache.cache))) c.in_ok-cache.ensures.sums
     (c.in_err-visit_all.ensures.too_many (ap Err (sym (rw e at c.from_residual-in_err-visit_all.ensures.1)))))
 
 pub assemble-requires : goal.assemble-requires
