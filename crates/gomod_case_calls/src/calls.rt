@@ -62,7 +62,6 @@ fn about_file(alloc: Global, name: &str, bytes: &[u8]) -> Result<String, CallFau
         "spans" => file_calls::spans(alloc, bytes),
         "strict" => file_calls::strict(alloc, bytes),
         "lax" => file_calls::lax(alloc, bytes),
-        "copy" => edit_calls::copy(alloc, bytes),
         "hash" => store_calls::hash(alloc, bytes),
         _ => Err(CallFault::NoCall),
     }
