@@ -7,26 +7,18 @@ ghost use Rattle.gomod_run.specs.Runs.{is_query};
 use crate::counting::Count;
 use crate::outcomes::{Outcome, Room};
 use crate::parsing::{Parsed, ParsedRun};
-use crate::stores::{Folders, StoreForm};
+use crate::stores::Folders;
 use gm_name::ModPath;
 use gm_store::{FileName, Files, MemoryFiles, ProxyList, copy_name};
 use gomod_case_files::{STDIN, View};
 use gomod_run::{Command, run};
 use std::alloc::{AllocError, Global};
 
-/// A file that a store was asked for.
-#[derive(Drop)]
-pub(crate) struct Asked {
-    pub(crate) name: FileName,
-    /// Its name in a report.
-    pub(crate) label: String,
-}
-
 /// The result of a command line over a store in memory, and the files that the store was asked for, in order.
 #[derive(Drop)]
 pub(crate) struct InMemory {
     pub(crate) outcome: Outcome,
-    pub(crate) asked: Vec<Asked>,
+    pub(crate) asked: Vec<FileName>,
 }
 
 /// The files of a case in memory.
@@ -38,19 +30,19 @@ pub(crate) struct Memory<'a> {
 }
 
 impl Memory<'_> {
-    /// Runs a command line over stores in memory. The result is none where a file that its words name is not in the
-    /// case.
+    /// Runs a command line over stores in memory, whose device fails at the broken file, if there is one. The result is
+    /// none if a file that its words name is not in the case.
     pub(crate) fn outcome(
         &self,
         parsed: &Parsed,
-        form: StoreForm<'_>,
+        broken: Option<&FileName>,
         room: Room,
     ) -> Result<Option<InMemory>, AllocError> {
         match &parsed.command {
-            Command::Versions { path, .. } => self.over_lists(parsed, path, form, room),
+            Command::Versions { path, .. } => self.over_lists(parsed, path, broken, room),
             Command::Fmt | Command::Edit(_) => self.over_main(parsed, room),
             Command::Graph | Command::List { .. } | Command::Chain(_) => {
-                self.over_graph(parsed, form, room)
+                self.over_graph(parsed, broken, room)
             }
         }
     }
@@ -62,7 +54,7 @@ impl Memory<'_> {
         room: Room,
     ) -> Result<Option<InMemory>, AllocError> {
         match &parsed_run.parsed {
-            Some(parsed) => self.outcome(parsed, StoreForm::Named, room),
+            Some(parsed) => self.outcome(parsed, None, room),
             None => Ok(None),
         }
     }
@@ -102,10 +94,10 @@ impl Memory<'_> {
         &self,
         parsed: &Parsed,
         path: &ModPath,
-        form: StoreForm<'_>,
+        broken: Option<&FileName>,
         room: Room,
     ) -> Result<Option<InMemory>, AllocError> {
-        let folders = self.list_folders(path, &parsed.proxy, form)?;
+        let folders = self.list_folders(path, &parsed.proxy, broken)?;
         self.over_folders(&parsed.command, b"", None, folders, room)
     }
 
@@ -114,10 +106,10 @@ impl Memory<'_> {
         &self,
         path: &ModPath,
         proxy: &Option<ProxyList>,
-        form: StoreForm<'_>,
+        broken: Option<&FileName>,
     ) -> Result<Folders, AllocError> {
         let mut folders = Folders::new(self.alloc);
-        self.put_lists(&mut folders, path, proxy, form)?;
+        self.put_lists(&mut folders, path, proxy, broken)?;
         Ok(folders)
     }
 
@@ -127,20 +119,20 @@ impl Memory<'_> {
         folders: &mut Folders,
         path: &ModPath,
         proxy: &Option<ProxyList>,
-        form: StoreForm<'_>,
+        broken: Option<&FileName>,
     ) -> Result<(), AllocError> {
         match proxy {
-            Some(list) => folders.put_proxies(self.alloc, &self.view, list, form)?,
+            Some(list) => folders.put_proxies(self.alloc, &self.view, list)?,
             None => folders.put_list(self.alloc, path, self.view.named(STDIN).unwrap_or(b""))?,
         }
-        folders.break_at(self.alloc, form)
+        folders.break_at(self.alloc, broken)
     }
 
     /// Runs `graph`, `list` or `chain`.
     fn over_graph(
         &self,
         parsed: &Parsed,
-        form: StoreForm<'_>,
+        broken: Option<&FileName>,
         room: Room,
     ) -> Result<Option<InMemory>, AllocError>
         requires { is_query parsed.now.command ≡ true }
@@ -158,7 +150,7 @@ impl Memory<'_> {
             }
             None => None,
         };
-        let folders = self.graph_folders(parsed.main.as_str(), main, list, form)?;
+        let folders = self.graph_folders(parsed.main.as_str(), main, list, broken)?;
         self.over_folders(command, main, sums, folders, room)
     }
 
@@ -169,10 +161,10 @@ impl Memory<'_> {
         place: &str,
         main: &[u8],
         list: &ProxyList,
-        form: StoreForm<'_>,
+        broken: Option<&FileName>,
     ) -> Result<Folders, AllocError> {
         let mut folders = Folders::new(self.alloc);
-        self.put_graph(&mut folders, place, main, list, form)?;
+        self.put_graph(&mut folders, place, main, list, broken)?;
         Ok(folders)
     }
 
@@ -183,11 +175,11 @@ impl Memory<'_> {
         place: &str,
         main: &[u8],
         list: &ProxyList,
-        form: StoreForm<'_>,
+        broken: Option<&FileName>,
     ) -> Result<(), AllocError> {
-        folders.put_proxies(self.alloc, &self.view, list, form)?;
+        folders.put_proxies(self.alloc, &self.view, list)?;
         folders.put_replacements(self.alloc, &self.view, place, main)?;
-        folders.break_at(self.alloc, form)
+        folders.break_at(self.alloc, broken)
     }
 
     /// Runs a command over folders.
@@ -256,39 +248,15 @@ impl Memory<'_> {
 }
 
 /// The files that a store was asked for.
-fn asked_of<F: Files>(alloc: Global, files: &F) -> Result<Vec<Asked>, AllocError> {
+fn asked_of<F: Files>(alloc: Global, files: &F) -> Result<Vec<FileName>, AllocError> {
     let mut asked = Vec::new(alloc);
     for i in 0..files.count() {
-        push_asked(alloc, &mut asked, files.name(i))?;
+        push_copy(alloc, &mut asked, files.name(i))?;
     }
     Ok(asked)
 }
 
-/// Adds a file that a store was asked for by a name.
-fn push_asked(alloc: Global, asked: &mut Vec<Asked>, name: &FileName) -> Result<(), AllocError> {
-    let one = asked_for(alloc, name)?;
-    Ok(asked.push(one)?)
-}
-
-/// A file that a store was asked for by a name.
-fn asked_for(alloc: Global, name: &FileName) -> Result<Asked, AllocError> {
-    let label = label_of(alloc, name)?;
-    let name = copy_name(alloc, name)?;
-    Ok(Asked { name, label })
-}
-
-/// The name of a file in a report.
-fn label_of(alloc: Global, name: &FileName) -> Result<String, AllocError> {
-    let mut label = String::new(alloc);
-    push_label(&mut label, name)?;
-    Ok(label)
-}
-
-/// Appends the name of a file in a report.
-fn push_label(label: &mut String, name: &FileName) -> Result<(), AllocError> {
-    match name {
-        FileName::Mod(path, version) => write!(label, "{path}@{version}"),
-        FileName::Folder(folder) => label.push_str(folder.as_str()),
-        FileName::List(path) => write!(label, "{path} list"),
-    }
+/// Adds a copy of a name.
+fn push_copy(alloc: Global, names: &mut Vec<FileName>, name: &FileName) -> Result<(), AllocError> {
+    Ok(names.push(copy_name(alloc, name)?)?)
 }

@@ -1,13 +1,12 @@
-//! Command lines over files that can't be opened, over a store that fails at a file, and over a proxy folder whose
-//! files are divided between two.
+//! Command lines over files that can't be opened, and over a store that fails at a file.
 
 use crate::checking::room_for;
 use crate::differences::Differences;
-use crate::memory::{Asked, InMemory, Memory};
+use crate::memory::InMemory;
 use crate::outcomes::Room;
 use crate::parsing::Parsed;
-use crate::stores::StoreForm;
 use crate::workspace::{Real, Workspace};
+use gm_store::FileName;
 use gomod_case_files::Run;
 use std::alloc::{AllocError, Global};
 
@@ -17,8 +16,7 @@ const A_LINE: Room = Room {
     report: 65_536,
 };
 
-/// Runs a command that looks into one proxy folder at most over files that can't be opened, over a store that fails,
-/// and over a folder that is divided.
+/// Runs a command that looks into one proxy folder at most over files that can't be opened, and a store that fails.
 pub(crate) fn sweep_asks(
     workspace: &Workspace<'_>,
     run: &Run<'_>,
@@ -27,32 +25,30 @@ pub(crate) fn sweep_asks(
 ) -> Result<(), AllocError> {
     // a file may be looked for in several folders
     if parsed.folder_count() <= 1 {
-        let found = workspace
-            .memory()
-            .outcome(parsed, StoreForm::Named, room_for(run))?;
-        if let Some(wanted) = &found {
-            sweep_asked(workspace, run, parsed, wanted, differences)?;
+        let found = workspace.memory().outcome(parsed, None, room_for(run))?;
+        if let Some(found) = &found {
+            sweep_asked(workspace, run, parsed, found.asked.as_slice(), differences)?;
         }
     }
     Ok(())
 }
 
-/// Does so by the result that the command has over a store that doesn't fail.
+/// Does so by the files that the command asks for over a store that doesn't fail.
 fn sweep_asked(
     workspace: &Workspace<'_>,
     run: &Run<'_>,
     parsed: &Parsed,
-    wanted: &InMemory,
+    asked: &[FileName],
     differences: &mut Differences,
 ) -> Result<(), AllocError> {
     // a list on standard input is asked for but not opened
-    if parsed.folder_count() == 0 {
-        sweep_opens(workspace, run, &[], differences)?;
+    let opened = if parsed.folder_count() == 0 {
+        &[]
     } else {
-        sweep_opens(workspace, run, wanted.asked.as_slice(), differences)?;
-    }
-    sweep_refusals(workspace, run, parsed, wanted, differences)?;
-    sweep_division(workspace, run, parsed, wanted, differences)
+        asked
+    };
+    sweep_opens(workspace, run, opened, differences)?;
+    sweep_refusals(workspace, run, parsed, asked, differences)
 }
 
 /// Runs a command once for each of its files, which can't be opened then. It must write nothing, and report that file.
@@ -60,7 +56,7 @@ fn sweep_asked(
 fn sweep_opens(
     workspace: &Workspace<'_>,
     run: &Run<'_>,
-    asked: &[Asked],
+    asked: &[FileName],
     differences: &mut Differences,
 ) -> Result<(), AllocError> {
     let real = workspace.outcome(run, room_for(run))?;
@@ -71,7 +67,7 @@ fn sweep_opens(
 fn sweep_opened(
     workspace: &Workspace<'_>,
     run: &Run<'_>,
-    asked: &[Asked],
+    asked: &[FileName],
     opened: &[String],
     differences: &mut Differences,
 ) -> Result<(), AllocError> {
@@ -106,7 +102,7 @@ fn check_failing(
 }
 
 /// The report of a command that can't open a file: one that the store was asked for, or one that its words name.
-fn report_of(alloc: Global, asked: Option<&Asked>, name: &str) -> Result<String, AllocError> {
+fn report_of(alloc: Global, asked: Option<&FileName>, name: &str) -> Result<String, AllocError> {
     match asked {
         Some(asked) => report_of_device(alloc, asked),
         None => format!(in alloc; "gomod: cannot read {name}\n"),
@@ -114,12 +110,23 @@ fn report_of(alloc: Global, asked: Option<&Asked>, name: &str) -> Result<String,
 }
 
 /// The report of a command whose store fails at a file.
-fn report_of_device(alloc: Global, asked: &Asked) -> Result<String, AllocError> {
-    let label = asked.label.as_str();
-    format!(in alloc; "gomod: device at {label}\n")
+fn report_of_device(alloc: Global, asked: &FileName) -> Result<String, AllocError> {
+    let mut report = String::from_str(alloc, "gomod: device at ")?;
+    push_label(&mut report, asked)?;
+    report.push('\n')?;
+    Ok(report)
 }
 
-/// Reports the result that a command had where a file can't be opened.
+/// Appends the name of a file in a report.
+fn push_label(report: &mut String, name: &FileName) -> Result<(), AllocError> {
+    match name {
+        FileName::Mod(path, version) => write!(report, "{path}@{version}"),
+        FileName::Folder(folder) => report.push_str(folder.as_str()),
+        FileName::List(path) => write!(report, "{path} list"),
+    }
+}
+
+/// Reports the result that a command had when a file couldn't be opened.
 fn report_failing(run: &Run<'_>, failing: &Real, report: &str, differences: &mut Differences) {
     differences.command(run, "where its last file can't be opened");
     differences.opened(failing.opened.as_slice());
@@ -128,84 +135,52 @@ fn report_failing(run: &Run<'_>, failing: &Real, report: &str, differences: &mut
     differences.text("!", report.as_bytes());
 }
 
-/// Whether the files that were asked for are these.
-fn are_asked(asked: &[Asked], wanted: &[Asked]) -> bool {
-    asked.len() == wanted.len()
-        && asked
-            .iter()
-            .zip(wanted)
-            .all(|(one, other)| one.label == other.label)
-}
-
 /// Makes the store fail at each file that a command asks for, one at a time. The command must write nothing, report
 /// that file, and ask for the files before it and no other.
 fn sweep_refusals(
     workspace: &Workspace<'_>,
     run: &Run<'_>,
     parsed: &Parsed,
-    wanted: &InMemory,
+    asked: &[FileName],
     differences: &mut Differences,
 ) -> Result<(), AllocError> {
-    let memory = workspace.memory();
-    let asked = wanted.asked.as_slice();
     for index in 0..asked.len() {
-        let refused = &asked[index];
-        if !is_refused(&memory, parsed, refused, &asked[..index])? {
-            differences.command(run, "over a store that fails at a file");
-            differences.line(refused.label.as_str());
-            return Ok(());
+        if differences.is_empty() {
+            check_refused(
+                workspace,
+                run,
+                parsed,
+                &asked[index],
+                &asked[..index],
+                differences,
+            )?;
         }
     }
     Ok(())
 }
 
-/// Whether a command over a store that fails at a file reports that file, and asks for those before it and no other.
-fn is_refused(
-    memory: &Memory<'_>,
-    parsed: &Parsed,
-    refused: &Asked,
-    before: &[Asked],
-) -> Result<bool, AllocError> {
-    let report = report_of_device(memory.alloc, refused)?;
-    let found = memory.outcome(parsed, StoreForm::Broken(&refused.name), A_LINE)?;
-    Ok(fails_after(&found, report.as_str(), before))
-}
-
-/// Whether a command failed with this report, after it asked for these files.
-fn fails_after(found: &Option<InMemory>, report: &str, before: &[Asked]) -> bool {
-    match found {
-        Some(found) => {
-            found.outcome.is_failure(report) && are_asked(found.asked.as_slice(), before)
-        }
-        None => false,
-    }
-}
-
-/// Divides the files of one proxy folder between two. The command must have the same result, and ask for the same
-/// files.
-fn sweep_division(
+/// Runs a command over a store that fails at a file. It must report that file, and ask for those before it alone.
+fn check_refused(
     workspace: &Workspace<'_>,
     run: &Run<'_>,
     parsed: &Parsed,
-    wanted: &InMemory,
+    refused: &FileName,
+    before: &[FileName],
     differences: &mut Differences,
 ) -> Result<(), AllocError> {
-    let found = workspace
-        .memory()
-        .outcome(parsed, StoreForm::Divided, room_for(run))?;
-    if !is_as_found(&found, wanted) {
-        differences.command(run, "over files that are divided between two folders");
+    let report = report_of_device(workspace.alloc(), refused)?;
+    let found = workspace.memory().outcome(parsed, Some(refused), A_LINE)?;
+    if !fails_after(&found, report.as_str(), before) {
+        differences.command(run, "over a store that fails at a file");
+        differences.text("!", report.as_bytes());
     }
     Ok(())
 }
 
-/// Whether a command had this result, and asked for the same files.
-fn is_as_found(found: &Option<InMemory>, wanted: &InMemory) -> bool {
+/// Whether a command failed with this report, after it asked for these files.
+fn fails_after(found: &Option<InMemory>, report: &str, before: &[FileName]) -> bool {
     match found {
-        Some(found) => {
-            found.outcome.is_same(&wanted.outcome)
-                && are_asked(found.asked.as_slice(), wanted.asked.as_slice())
-        }
+        Some(found) => found.outcome.is_failure(report) && found.asked.as_slice() == before,
         None => false,
     }
 }

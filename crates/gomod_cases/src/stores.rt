@@ -13,17 +13,6 @@ use gm_syntax::Doc;
 use gomod_case_files::{CaseFile, View, tidied};
 use std::alloc::{AllocError, Global};
 
-/// How stores in memory represent the proxy folders of a command.
-#[derive(Clone, Copy)]
-pub(crate) enum StoreForm<'a> {
-    /// One folder in memory for each that the words name, with the marks between them.
-    Named,
-    /// The files of the one folder that the words name, divided between two, with `,` between them.
-    Divided,
-    /// As `Named`, but the device fails at one file.
-    Broken(&'a FileName),
-}
-
 /// The folders of a store while it is filled.
 #[derive(Drop)]
 pub(crate) struct Folders {
@@ -60,42 +49,14 @@ impl Folders {
         alloc: Global,
         view: &View<'_>,
         list: &ProxyList,
-        form: StoreForm<'_>,
     ) -> Result<(), AllocError> {
-        if let (StoreForm::Divided, [folder]) = (form, list.folders()) {
-            return self.put_divided(alloc, view, folder.as_str());
-        }
         for folder in list.folders() {
-            self.put_proxy(alloc, view, folder.as_str(), None)?;
+            self.proxies.push(filled(alloc, view, folder.as_str())?)?;
         }
         for mark in list.marks() {
             self.marks.push(*mark)?;
         }
         Ok(())
-    }
-
-    /// Adds two folders, with the files of one divided between them.
-    fn put_divided(
-        &mut self,
-        alloc: Global,
-        view: &View<'_>,
-        folder: &str,
-    ) -> Result<(), AllocError> {
-        self.put_proxy(alloc, view, folder, Some(0))?;
-        self.put_proxy(alloc, view, folder, Some(1))?;
-        Ok(self.marks.push(Mark::Comma)?)
-    }
-
-    /// Adds a folder with all files that a case has in it, or of each two the first or the second.
-    fn put_proxy(
-        &mut self,
-        alloc: Global,
-        view: &View<'_>,
-        folder: &str,
-        part: Option<usize>,
-    ) -> Result<(), AllocError> {
-        let shelf = filled(alloc, view, folder, part)?;
-        Ok(self.proxies.push(shelf)?)
     }
 
     /// The folder that a file is put into: the first proxy folder, or the folder of the main file.
@@ -114,13 +75,13 @@ impl Folders {
         }
     }
 
-    /// Makes the device fail at a file.
+    /// Makes the device fail at a file, if one is given.
     pub(crate) fn break_at(
         &mut self,
         alloc: Global,
-        form: StoreForm<'_>,
+        broken: Option<&FileName>,
     ) -> Result<(), AllocError> {
-        if let StoreForm::Broken(name) = form {
+        if let Some(name) = broken {
             self.put(copy_name(alloc, name)?, Held::Broken)?;
         }
         Ok(())
@@ -215,53 +176,40 @@ impl Folders {
     }
 }
 
-/// The files of a case in a proxy folder: all of them, or of each two the first or the second.
-fn filled(
-    alloc: Global,
-    view: &View<'_>,
-    folder: &str,
-    part: Option<usize>,
-) -> Result<MemoryFolder, AllocError> {
+/// The files of a case in a proxy folder.
+fn filled(alloc: Global, view: &View<'_>, folder: &str) -> Result<MemoryFolder, AllocError> {
     let folder = tidied(alloc, folder)?;
     let mut shelf = MemoryFolder::new(alloc);
-    fill(alloc, view, folder.as_str(), part, &mut shelf)?;
+    fill(alloc, view, folder.as_str(), &mut shelf)?;
     Ok(shelf)
 }
 
-/// Adds the files of a case in a proxy folder: all of them, or of each two the first or the second.
+/// Adds the files of a case in a proxy folder.
 fn fill(
     alloc: Global,
     view: &View<'_>,
     folder: &str,
-    part: Option<usize>,
     shelf: &mut MemoryFolder,
 ) -> Result<(), AllocError> {
-    let mut count = 0usize;
     for file in &view.case.files {
         if let Some(bytes) = view.bytes(file) {
-            put_file(alloc, shelf, folder, file, bytes, part, &mut count)?;
+            put_file(alloc, shelf, folder, file, bytes)?;
         }
     }
     Ok(())
 }
 
-/// Adds a file with these bytes, if it is in the proxy folder and, by the count of those that are, in this part.
+/// Adds a file with these bytes, if it is in the proxy folder.
 fn put_file(
     alloc: Global,
     shelf: &mut MemoryFolder,
     folder: &str,
     file: &CaseFile,
     bytes: &[u8],
-    part: Option<usize>,
-    count: &mut usize,
 ) -> Result<(), AllocError> {
-    let Some(name) = name_in(alloc, folder, file.name.as_str()) else {
-        return Ok(());
-    };
-    *count = count.saturating_add(1);
-    match part {
-        Some(part) if part != *count % 2 => Ok(()),
-        _ => put_content(alloc, shelf, name, bytes),
+    match name_in(alloc, folder, file.name.as_str()) {
+        Some(name) => put_content(alloc, shelf, name, bytes),
+        None => Ok(()),
     }
 }
 
