@@ -6,7 +6,8 @@
 #                                           a cache/download folder, and a go.mod with random edits (100)
 #   tools/compare-go.sh --go COMMAND ..     with this go, as /usr/lib/go-1.19/bin/go
 #
-# A world is a proxy folder with some modules, pruned and unpruned, a main file with or without excludes, replacements
+# First a module that `go mod tidy` and `go mod download` made ready, with packages, is compared; it isn't counted. A
+# world is a proxy folder with some modules, pruned and unpruned, a main file with or without excludes, replacements
 # by modules and folders, retractions and a go.sum, and now and then a missing or faulty file, made from its number
 # alone. Both programs are asked for list, graph, versions (with and without retracted ones), edit and fmt, and each
 # chain of gomod is looked up in the graph of go. go runs without a network, with its module cache, its GOPATH and all

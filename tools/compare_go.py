@@ -10,7 +10,7 @@ import subprocess
 import sys
 import tempfile
 
-from go_worlds import UNFETCHABLE, World, escaped, fits, operations, order_of, read, write
+from go_worlds import UNFETCHABLE, World, escaped, fits, lay_tidy_world, operations, order_of, read, write
 
 TOP = os.path.dirname(os.path.dirname(os.path.abspath(__file__)))
 GOMOD = os.path.join(TOP, "bin", "gomod")
@@ -443,36 +443,52 @@ def compare_world(go, seed, room, found):
     at.compare_graph(world.main, world.sums != "none")
 
 
-def lay_cache(cache, proxy):
-    """A proxy of the .mod files and lists of a cache, with an .info beside each file; and the paths with a list."""
-    paths = []
+def lay_cache(cache, proxy, named):
+    """A proxy of the .mod files and lists of a cache, and the paths with a list. It has an .info for each named version
+    and for each that these files name: go asks for that of every module which it lists, a pruned-out one too, and
+    `go mod download` doesn't fetch it."""
+    paths, named = [], set(named)
     for folder, _, files in os.walk(cache):
         if os.path.basename(folder) != "@v":
             continue
         base = os.path.join(proxy, os.path.relpath(folder, cache))
         os.makedirs(base)
+        path = unescaped(os.path.dirname(os.path.relpath(folder, cache)))
         for name in files:
             if name.endswith(".mod") or name == "list":
                 shutil.copy(os.path.join(folder, name), base)
             if name.endswith(".mod"):
-                version = re.sub("!([a-z])", lambda it: it[1].upper(), name.removesuffix(".mod"))
-                info = {"Version": version, "Time": "2020-01-01T00:00:00Z"}
-                write(f"{base}/{name.removesuffix('.mod')}.info", json.dumps(info))
+                named.add((path, unescaped(name.removesuffix(".mod"))))
+                with open(os.path.join(folder, name), encoding="utf-8", errors="replace") as file:
+                    named |= named_versions(file.read())
         if "list" in files:
-            escaped_path = os.path.dirname(os.path.relpath(folder, cache))
-            paths.append(re.sub("!([a-z])", lambda it: it[1].upper(), escaped_path))
+            paths.append(path)
+    for path, version in named:
+        info = {"Version": version, "Time": "2020-01-01T00:00:00Z"}
+        write(f"{proxy}/{escaped(path)}/@v/{escaped(version)}.info", json.dumps(info))
     return sorted(paths)
+
+
+def unescaped(name):
+    return re.sub("!([a-z])", lambda it: it[1].upper(), name)
+
+
+def named_versions(text):
+    """The pairs of path and version that the text of a go.mod requires or replaces by."""
+    pairs = {args[-2:] for verb, args, _ in pieces_of(text)[0] if verb in ("require", "replace")}
+    element = r"[\w~+-][\w.~+-]*"  # none begins with a dot, so no name leads out of the proxy
+    return {it for it in pairs if re.fullmatch(rf"{element}(/{element})* v\d+\.\d+\.\d+[\w.+-]*", " ".join(it))}
 
 
 def compare_cache(go, cache, mod, edits, seed, room, found):
     """The same on a cache and a main file. The go.mod files of folders that replace modules are copied."""
     proxy, main, some = f"{room}/proxy", f"{room}/1/2/3/4/5/6/7/8/main", random.Random(seed)
-    paths, text = lay_cache(cache, proxy), read(mod)
+    text = read(mod)
     write(f"{main}/go.mod", text)
     sums = os.path.join(os.path.dirname(os.path.abspath(mod)), "go.sum")
     if os.path.exists(sums):
         shutil.copy(sums, main)
-    requires, replaces, excludes = {}, {}, []
+    requires, replaces, excludes, named = {}, {}, [], named_versions(text)
     for verb, args, _ in pieces_of(text)[0]:
         if verb == "require":
             requires[args[0]] = args[1]
@@ -483,12 +499,26 @@ def compare_cache(go, cache, mod, edits, seed, room, found):
             folder = os.path.join(os.path.dirname(os.path.abspath(mod)), args[-1])
             if re.match(r"\.{1,2}(/|$)", args[-1]) and os.path.exists(f"{folder}/go.mod"):
                 write(os.path.normpath(f"{main}/{args[-1]}/go.mod"), read(f"{folder}/go.mod"))
+                named |= named_versions(read(f"{folder}/go.mod"))
+    paths = lay_cache(cache, proxy, named)
     at = Comparison(mod, Commands(go, room, proxy), found)
     for _ in range(edits):
         at.compare_edit(main, operations(some, requires, replaces, excludes))
     at.compare_layout(main, False)
     at.compare_versions(f"{room}/asker", some.sample(paths, min(len(paths), 100)), [])
     at.compare_graph(main, os.path.exists(sums))
+
+
+def compare_tidy(go, room, found):
+    """The same on a module that go tidied, with the cache that `go mod download` filled for it."""
+    proxy, main = f"{room}/source", f"{room}/tidied"
+    lay_tidy_world(proxy, main)
+    for words in ["tidy"], ["download"]:
+        commands = Commands(go, f"{room}/{words[0]}", proxy)
+        ran = commands.ask_go(main, "mod", *words, mod="mod")
+        if ran.status:
+            raise SystemExit(f"compare-go: go mod {words[0]} failed: {ran.err}")
+    compare_cache(go, f"{commands.cache}/cache/download", f"{main}/go.mod", 0, 1, room, found)
 
 
 def in_scratch(compare, *words):
@@ -517,6 +547,9 @@ def main():
     if asked.cache:
         in_scratch(compare_cache, go, asked.cache, asked.mod, asked.worlds, asked.seed, found)
     else:
+        tidy = Differences()
+        in_scratch(compare_tidy, go, tidy)
+        found.unexplained += tidy.unexplained
         for seed in range(asked.seed, asked.seed + asked.worlds):
             in_scratch(compare_world, go, seed, found)
     found.print()

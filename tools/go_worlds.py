@@ -6,6 +6,7 @@ import json
 import os
 import random
 import re
+import zipfile
 
 RELEASES = ["v0.1.0", "v0.2.0", "v1.0.0", "v1.1.0", "v1.2.0-rc.1", "v1.2.0", "v1.10.0"]
 PSEUDO = ["v0.0.0-20200101000000-0123456789ab", "v1.2.0-rc.1.0.20200102000000-0123456789ab",
@@ -60,6 +61,39 @@ def fits(path, version):
     if suffix:
         return suffix[1] == major and "+" not in version
     return ("+incompatible" in version) == (int(major) > 1)
+
+
+# A module that go can tidy: each module has a package by which it is imported, and one that imports what it needs alone.
+TIDY = {
+    "example.com/Used": ("1.17", ["example.com/far", "example.com/needed"], ["example.com/needed"]),
+    "example.com/needed": ("1.17", ["example.com/far", "example.com/old"], ["example.com/old"]),
+    "example.com/old": ("1.16", ["example.com/older"], []),
+    "example.com/older": ("1.16", [], []),
+    "example.com/far": ("1.17", ["example.com/farther"], []),
+    "example.com/farther": ("1.17", [], []),
+}
+
+
+def lay_tidy_world(proxy, main):
+    """A proxy with packages, and a main module that imports one of them, so that go can tidy it: then its modules are
+    pruned, and it requires those that packages come from."""
+    for path, (go, needs, imports) in TIDY.items():
+        name = path.split("/")[1].lower()
+        text = f"module {path}\n\ngo {go}\n" + "".join(f"\nrequire {it} v1.0.0\n" for it in needs)
+        files = {
+            "go.mod": text,
+            f"{name}.go": f"package {name}\n" + "".join(f'import _ "{it}"\n' for it in imports),
+            "all/all.go": "package all\n" + "".join(f'import _ "{it}"\n' for it in needs),
+        }
+        base = f"{proxy}/{escaped(path)}/@v"
+        write(f"{base}/list", "v1.0.0\n")
+        write(f"{base}/v1.0.0.mod", text)
+        write(f"{base}/v1.0.0.info", json.dumps({"Version": "v1.0.0", "Time": "2020-01-01T00:00:00Z"}))
+        with zipfile.ZipFile(f"{base}/v1.0.0.zip", "w") as file:
+            for name, text in files.items():
+                file.writestr(f"{path}@v1.0.0/{name}", text)
+    write(f"{main}/go.mod", "module example.com/main\n\ngo 1.17\n")
+    write(f"{main}/main.go", 'package main\n\nimport _ "example.com/Used"\n\nfunc main() {}\n')
 
 
 class World:
