@@ -4,17 +4,23 @@
 #   tools/release.sh FOLDER              after .ci/run, which leaves the gate's last line in bin/gate.txt
 #   tools/release.sh FOLDER --gate LINE  after ./build; LINE is the last line of the gate on the same sources
 #                                        elsewhere, 'N passed, 0 failed'
+#   tools/release.sh --check             makes the archive of bin/gomod as it is, checks it and removes it
 #
 # Into FOLDER, which it makes if there is none, it writes gomod-VERSION-x86_64-linux.tar.gz and beside it a file with
 # its sha256. The archive has one folder with bin/ and share/, to be unpacked into a folder such as ~/.local (`tar
-# --strip-components=1`); share/doc/gomod/ has README.md, CHANGELOG.md, docs/MESSAGES.md, and RELEASE.txt: the version,
-# the commit, the gate's last line and the sha256 of the program. The same files give the same archive.
+# --strip-components=1`); share/doc/gomod/ has README.md, CHANGELOG.md, docs/, example/, and RELEASE.txt: the version, the
+# commit, the gate's last line, what the program needs and its sha256. In these documents a link to a file that isn't in
+# the archive is its text alone, and examples call `gomod`. The same files give the same archive.
 #
-# It refuses a program that is older than its sources or that isn't the one that the last proof left at
-# crates/gomod/out/gomod, a gate that failed or ran with another program, and changes that aren't committed.
+# Before it leaves an archive it unpacks it, follows all links of its documents and runs all their examples with its
+# program (tools/readme.sh), and compares the glibc that they name with the one that the program needs.
 #
-# It needs bin/gomod, git, GNU tar and gzip. It prints the names of the files, the gate's last line and the sha256. The
-# status is 1 if it refuses, and 2 for wrong arguments.
+# It refuses an archive that fails this check. Unless --check is given, it also refuses a program that is older than its
+# sources or that isn't the one that the last proof left at crates/gomod/out/gomod, a gate that failed or ran with
+# another program, and changes that aren't committed.
+#
+# It needs bin/gomod, git, GNU tar, gzip and python3. It prints what the check found, the names of the files, the gate's
+# last line and the sha256. The status is 1 if it refuses, and 2 for wrong arguments. .ci/run runs --check at its end.
 set -euo pipefail
 from=$PWD
 cd "$(dirname "$0")/.."
@@ -27,51 +33,110 @@ refuse() {
   exit 1
 }
 
-gate=
-case $#:${2-} in
-  1:) ;;
-  3:--gate) gate=$3 ;;
-  *) refuse_arguments tools/release.sh "it takes a folder, and possibly --gate and a line" ;;
+# The least version of glibc that a program needs: the greatest of those whose symbols it names.
+least_glibc() { grep -aoE 'GLIBC_[0-9]+(\.[0-9]+)+' "$1" | cut -d _ -f 2 | sort -uV | tail -n 1; }
+
+# Lays the files of a release below a folder: its version, the gate's last line.
+lay_release() {
+  local to=$1 documents=$1/share/doc/gomod glibc
+  install_files "$to" > /dev/null
+  install -D -m 644 -t "$documents" README.md CHANGELOG.md
+  cp -r docs example "$documents"
+  glibc=$(least_glibc bin/gomod) || refuse "bin/gomod names no version of glibc"
+  adapt_documents "$documents" "Release ${2%% *}, for x86-64 Linux with glibc $glibc or later."
+  {
+    echo "gomod $2"
+    echo "commit $(git rev-parse HEAD)"
+    echo "gate: $3"
+    echo "needs: x86-64 Linux, glibc $glibc or later"
+    sha256sum bin/gomod
+  } > "$documents/RELEASE.txt"
+  # what depends on the user is left out
+  find "$to" -type d -exec chmod 755 {} +
+  find "$documents" -type f -exec chmod 644 {} +
+  chmod 755 "$documents"/example/*.sh
+}
+
+# Makes the documents in a folder those of a release, which a sentence describes.
+adapt_documents() {
+  python3 - "$@" << 'PYTHON'
+import glob
+import os
+import re
+import sys
+
+os.chdir(sys.argv[1])
+NOTE = (f"{sys.argv[2]} With `bin/gomod` of the archive on the `PATH`, the examples run in this folder, "
+        "`share/doc/gomod`. Files that are named without a link are in the repository, at the commit of `RELEASE.txt`.")
+for name in ["README.md", "CHANGELOG.md", *glob.glob("docs/*.md")]:
+    def linked(found):
+        target = os.path.join(os.path.dirname(name), found[2].partition("#")[0])
+        return found[0] if re.match("#|[a-z]+:", found[2]) or os.path.exists(target) else found[1]
+
+    with open(name, encoding="utf-8") as it:
+        text = re.sub(r"\[([^\]]+)\]\(([^)\s]+)\)", linked, it.read())
+    text = re.sub(r"(?m)^    \$ .*", lambda it: it[0].replace("bin/gomod", "gomod"), text)
+    if name == "README.md":
+        head, _, rest = text.partition("\n")
+        text = f"{head}\n\n{NOTE}\n{rest}"
+    with open(name, "w", encoding="utf-8") as it:
+        it.write(text)
+PYTHON
+}
+
+# Unpacks an archive, and tries its documents with its program.
+check_archive() {
+  local top=$work/unpacked least said
+  mkdir "$top"
+  tar --extract --gzip --file "$1" --directory "$top" --strip-components=1
+  tools/readme.sh --archive "$top" || refuse "the archive has faulty links or examples"
+  least=$(least_glibc "$top/bin/gomod")
+  said=$(grep -rhoE 'glibc [0-9]+(\.[0-9]+)+' "$top/share/doc/gomod" | sort -u)
+  [ "$said" = "glibc $least" ] || refuse "the program needs glibc $least, and the documents say: ${said//$'\n'/, }"
+  echo "glibc: $least is the least"
+}
+
+to=$from gate='' check=''
+case $#:${1-}:${2-} in
+  1:--check:) check=yes ;;
+  1:*:) to=$1 ;;
+  3:*:--gate) to=$1 gate=$3 ;;
+  *) refuse_arguments tools/release.sh "it takes --check, or a folder and possibly --gate and a line" ;;
 esac
-case $1 in
-  -*) refuse_arguments tools/release.sh "unknown argument '$1'" ;;
-  /*) to=$1 ;;
-  *) to=$from/$1 ;;
+case $to in
+  -*) refuse_arguments tools/release.sh "unknown argument '$to'" ;;
+  /*) ;;
+  *) to=$from/$to ;;
 esac
 
 need_gomod tools/release.sh
-is_built || refuse "run ./build or .ci/run first"
-cmp -s bin/gomod crates/gomod/out/gomod ||
-  refuse "bin/gomod isn't the program that the last proof left at crates/gomod/out/gomod: run .ci/run"
-if [ -z "$gate" ]; then
-  [ -f bin/gate.txt ] || refuse "there is no bin/gate.txt: run .ci/run, or give the gate's last line with --gate"
-  gate=$(head -n 1 bin/gate.txt)
-  tail -n 1 bin/gate.txt | sha256sum --check --status || refuse "the gate of bin/gate.txt ran with another program"
+if [ -z "$check" ]; then
+  is_built || refuse "run ./build or .ci/run first"
+  cmp -s bin/gomod crates/gomod/out/gomod ||
+    refuse "bin/gomod isn't the program that the last proof left at crates/gomod/out/gomod: run .ci/run"
+  if [ -z "$gate" ]; then
+    [ -f bin/gate.txt ] || refuse "there is no bin/gate.txt: run .ci/run, or give the gate's last line with --gate"
+    gate=$(head -n 1 bin/gate.txt)
+    tail -n 1 bin/gate.txt | sha256sum --check --status || refuse "the gate of bin/gate.txt ran with another program"
+  fi
+  [[ $gate =~ ^[1-9][0-9]*\ passed,\ 0\ failed$ ]] || refuse "this is no gate that passed: '$gate'"
+  [ -z "$(git status --porcelain)" ] || refuse "there are changes that aren't committed"
 fi
-[[ $gate =~ ^[1-9][0-9]*\ passed,\ 0\ failed$ ]] || refuse "this is no gate that passed: '$gate'"
-[ -z "$(git status --porcelain)" ] || refuse "there are changes that aren't committed"
 
 version=$(bin/gomod --version)
-name=gomod-$(cut -d ' ' -f 2 <<< "$version")-x86_64-linux
+version=${version#gomod }
+name=gomod-${version%% *}-x86_64-linux
 work=$(mktemp -d)
 trap 'rm -rf "$work"' EXIT
-install_files "$work/$name" > /dev/null
-documents=$work/$name/share/doc/gomod
-install -D -m 644 -t "$documents" README.md CHANGELOG.md
-install -D -m 644 -t "$documents/docs" docs/MESSAGES.md
-{
-  echo "$version"
-  echo "commit $(git rev-parse HEAD)"
-  echo "gate: $gate"
-  sha256sum bin/gomod
-} > "$documents/RELEASE.txt"
-chmod 644 "$documents/RELEASE.txt"
+lay_release "$work/$name" "$version" "${gate:-none}"
+# what depends on the moment or the user is left out
+tar --create --directory "$work" --sort=name --owner=0 --group=0 --numeric-owner \
+  --mtime="@$(git log -1 --format=%ct)" "$name" | gzip -9n > "$work/$name.tar.gz"
+check_archive "$work/$name.tar.gz"
+[ -z "$check" ] || exit 0
 
 mkdir -p "$to"
-# what depends on the moment or the user is left out
-find "$work/$name" -type d -exec chmod 755 {} +
-tar --create --directory "$work" --sort=name --owner=0 --group=0 --numeric-owner \
-  --mtime="@$(git log -1 --format=%ct)" "$name" | gzip -9n > "$to/$name.tar.gz"
+cp "$work/$name.tar.gz" "$to"
 (cd "$to" && sha256sum "$name.tar.gz" > "$name.tar.gz.sha256")
 echo "$to/$name.tar.gz"
 echo "$to/$name.tar.gz.sha256"
