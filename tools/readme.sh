@@ -10,7 +10,8 @@
 # at the top of a scratch folder that has links to the files of the repository, so that files which an example writes
 # don't stay, and with bin/ on its PATH. A block is skipped if it, or a script that it runs, calls curl, dot, git or jq
 # and there is no such command. It also compares the pieces of code of docs/LIBRARY.md, fenced as rust, with the sources
-# of crates/library_example, and tests that each link of a document to a file of the repository leads to one.
+# of crates/library_example, and tests that each link of a document to a file of the repository, or to a heading of
+# one, leads there.
 #
 # Of a release the documents and the files of the examples are in share/doc/gomod, and no code is compared.
 #
@@ -119,15 +120,25 @@ def compare_code(name, text, tally):
             print(f"{name}:{number}: this code is in no source of crates/library_example")
 
 
+def anchors(path):
+    """The anchors of the headings of a document."""
+    if not path.endswith(".md"):
+        return set()
+    with open(path, encoding="utf-8") as it:
+        headings = re.findall(r"(?m)^#+ (.*)", re.sub(r"(?ms)^```.*?^```", "", it.read()))
+    return {re.sub(r"[^\w\- ]", "", it.lower()).replace(" ", "-") for it in headings}
+
+
 def follow_links(name, text, tally):
-    for found in re.finditer(r"\]\(([^)#\s]+)(#[^)]*)?\)", text):
+    for found in re.finditer(r"\]\(([^)#\s]*)(?:#([^)\s]*))?\)", text):
         if re.match(r"[a-z]+:", found[1]):
             continue
-        is_right = os.path.exists(os.path.join(os.path.dirname(name), found[1]))
+        path = os.path.join(os.path.dirname(name), found[1]) if found[1] else name
+        is_right = os.path.exists(path) and (found[2] is None or found[2] in anchors(path))
         tally["links"][is_right] += 1
         if not is_right:
             number = text.count("\n", 0, found.start()) + 1
-            print(f"{name}:{number}: there is no {found[1]}")
+            print(f"{name}:{number}: there is no {found[0][2:-1]}")
 
 
 def main(*names):
