@@ -1,7 +1,7 @@
 #!/usr/bin/env bash
 # Runs bin/gomod itself over the cases of command lines, and compares standard output, standard error and the status.
 #
-#   tools/program.sh                      the cases of crates/run_cases/data and crates/run_sizes/data
+#   tools/program.sh                      the cases of crates/run_cases/data and its folder sizes
 #   tools/program.sh FILE.txt.. TITLE..   those of these files, or those whose titles have one of these texts
 #
 # The merge gate runs the same cases inside a process, with outputs in memory; of the program itself it compares what
@@ -32,7 +32,7 @@ import subprocess
 import sys
 import tempfile
 
-DATA, SIZES = "crates/run_cases/data", "crates/run_sizes/data"
+DATA, SIZES = "crates/run_cases/data", "crates/run_cases/data/sizes"
 ESCAPE = re.compile(rb'\\(?:(n|r|t|0|\\|"|x[0-9a-fA-F]{2})|\*([0-9]+)\*(.))', re.S)
 SIMPLE = {b"n": b"\n", b"r": b"\r", b"t": b"\t", b"0": b"\0", b"\\": b"\\", b'"': b'"'}
 NO_LINE_END = b"\\ No newline at end of file"

@@ -16,4 +16,4 @@ mod stores;
 mod sweeping;
 mod workspace;
 
-pub use crate::program::{Stream, exit_code};
+pub use crate::program::exit_code;

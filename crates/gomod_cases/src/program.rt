@@ -10,15 +10,6 @@ use std::alloc::AllocError;
 use std::process::ExitCode;
 use std::{env, fs, io};
 
-/// Where differences are reported.
-#[derive(Clone, Copy)]
-pub enum Stream {
-    /// To standard error, for a program over cases that should all pass.
-    Stderr,
-    /// To standard output, where the gate compares them.
-    Stdout,
-}
-
 /// The ending of the words that name files of cases.
 const ENDING: &str = ".txt";
 
@@ -28,11 +19,11 @@ fn names_file(word: &str) -> bool {
 }
 
 /// The program. Its words that end in `.txt` name files of cases, and all others choose the cases whose titles
-/// contain one of them. It runs these cases, reports how each that fails differs, and prints how many passed and
-/// failed, and if all passed how many runs were made. The status is 0 if all passed, 1 if one failed, and 3 if a file
-/// of cases can't be read or the cases can't be run.
-pub fn exit_code(rt: &HostRuntime, stream: Stream) -> ExitCode {
-    match all_pass(rt, stream) {
+/// contain one of them. It runs these cases, reports on standard error how each that fails differs, and prints how many
+/// passed and failed, and if all passed how many runs were made. The status is 0 if all passed, 1 if one failed or a
+/// file of cases can't be read, and 3 if the cases can't be run.
+pub fn exit_code(rt: &HostRuntime) -> ExitCode {
+    match all_pass(rt) {
         Ok(true) => ExitCode::SUCCESS,
         Ok(false) => ExitCode::from(1),
         Err(error) => {
@@ -48,13 +39,12 @@ fn words(rt: &HostRuntime) -> io::Result<Vec<String>> {
 }
 
 /// Runs the cases, and says whether all passed.
-fn all_pass(rt: &HostRuntime, stream: Stream) -> io::Result<bool> {
+fn all_pass(rt: &HostRuntime) -> io::Result<bool> {
     let words = words(rt)?;
     let mut unmatched = Vec::new(rt.alloc());
     unmatched.resize(words.len(), true)?;
     let mut session = Session {
         system: *rt,
-        stream,
         words: words.as_slice(),
         unmatched,
         count: Count::new(),
@@ -69,7 +59,6 @@ fn all_pass(rt: &HostRuntime, stream: Stream) -> io::Result<bool> {
 #[derive(Drop)]
 struct Session<'a> {
     system: HostRuntime,
-    stream: Stream,
     words: &'a [String],
     /// For each word, whether it names no file and is in no title so far.
     unmatched: Vec<bool>,
@@ -241,12 +230,9 @@ impl<'a> Session<'a> {
         self.report(line)
     }
 
-    /// Reports a text.
+    /// Reports a text on standard error.
     fn report(&self, text: &str) -> io::Result<()> {
-        match self.stream {
-            Stream::Stderr => eprint!(&self.system; "{text}"),
-            Stream::Stdout => print!(&self.system; "{text}"),
-        }
+        eprint!(&self.system; "{text}")
     }
 }
 

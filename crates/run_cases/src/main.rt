@@ -1,10 +1,9 @@
 //! Runs the cases in the files that the command line names. docs/CASES.md has the form of these files.
 #![tactic(auto)]
 
-use gomod_cases::Stream;
 use std::process::ExitCode;
 
 /// Runs the cases, reports on standard error, and returns the exit status.
 fn main(rt: HostRuntime) -> ExitCode {
-    gomod_cases::exit_code(&rt, Stream::Stderr)
+    gomod_cases::exit_code(&rt)
 }

@@ -1,0 +1,113 @@
+#!/usr/bin/env bash
+# Runs run_cases on the cases with sizes and on those that are wrong on purpose, and compares what it writes.
+#
+#   tools/cases.sh              as both compilers built it for the merge gate, in crates/run_cases/out
+#   tools/cases.sh PROGRAM..    these executables
+#
+# The gate itself runs run_cases on the files that crates/run_cases/args names. What it leaves of the program runs here
+# on the folders sizes and wrong of crates/run_cases/data. In each of them `args` has the arguments, `stdout` and
+# `stderr` what the program has to write, and `status` its exit status: nothing and 0 without such a file.
+#
+# As in the gate, a program runs in a copy of the folder, as nobody if root starts it, and has 120 seconds. All programs
+# run side by side. What differs is printed, then how many runs passed and failed. The status is 1 if one failed, or if
+# a folder has a file of cases that its `args` doesn't name. .ci/run runs it after the gate.
+set -euo pipefail
+cd "$(dirname "$0")/.."
+# shellcheck source=tools/lib.sh
+. tools/lib.sh
+help_if_asked tools/cases.sh "$@"
+case ${1-} in
+  -*) refuse_arguments tools/cases.sh "there is no option $1" ;;
+esac
+
+readonly CRATE=crates/run_cases LIMIT=120 NOBODY=65534
+programs=("$@")
+[ $# -gt 0 ] || programs=("$CRATE/out/run_cases" "$CRATE/out/run_cases.by-rattle")
+for program in "${programs[@]}"; do
+  if [ ! -x "$program" ]; then
+    echo "cases: there is no program $program: rt ci leaves one by each compiler" >&2
+    exit 1
+  fi
+done
+
+work=$(mktemp -d)
+trap 'rm -rf "$work"' EXIT
+chmod 711 "$work"
+as_user=()
+if [ "$(id -u)" -eq 0 ]; then
+  as_user=(setpriv "--reuid=$NOBODY" "--regid=$NOBODY" --clear-groups --no-new-privs)
+fi
+
+# Prints the files of cases that a folder has, and the file of arguments doesn't name.
+unnamed() {
+  local folder=$1 file
+  for file in "$folder"/*.txt; do
+    grep -qxF -- "$(basename "$file")" "$2" || echo "cases: $2 doesn't name $(basename "$file")"
+  done
+}
+
+# Runs the program with this number on the cases of a folder, and leaves what it wrote, its status and its seconds.
+run_on() {
+  local name=$1 at=$work/$1.$2 status=0 begun=$SECONDS words
+  mkdir "$at"
+  cp -r "$CRATE/data/$name" "$at/data"
+  [ ${#as_user[@]} -eq 0 ] || chown -R "$NOBODY:$NOBODY" "$at/data"
+  mapfile -t words < "$at/data/args"
+  (
+    cd "$at/data"
+    exec env -i PATH=/usr/local/bin:/usr/bin:/bin HOME="$PWD" TMPDIR="$PWD" LANG=C.UTF-8 \
+      timeout "$LIMIT" "${as_user[@]}" "$work/program.$2" "${words[@]}"
+  ) < /dev/null > "$at/stdout" 2> "$at/stderr" || status=$?
+  echo "$status" > "$at/status"
+  echo "$((SECONDS - begun))" > "$at/seconds"
+}
+
+# The file of a folder that says what is wanted, or a file that says the same if there is none.
+wanted() {
+  local file=$CRATE/data/$1/$2
+  if [ -e "$file" ]; then
+    echo "$file"
+  elif [ "$2" = status ]; then
+    echo "$work/success"
+  else
+    echo /dev/null
+  fi
+}
+
+# Compares what a program left, prints the first lines that differ, and says whether none does.
+is_right() {
+  local name=$1 at=$work/$1.$2 part is_right=0
+  for part in status stdout stderr; do
+    if ! diff -u --label wanted --label got "$(wanted "$name" "$part")" "$at/$part" > "$at/difference"; then
+      echo "cases: $name, ${programs[$2]}: its $part differs"
+      head -n 40 "$at/difference"
+      is_right=1
+    fi
+  done
+  return "$is_right"
+}
+
+echo 0 > "$work/success"
+for number in "${!programs[@]}"; do
+  install -m 755 "${programs[$number]}" "$work/program.$number"
+done
+passed=0 failed=0
+lacking=$(unnamed "$CRATE/data" "$CRATE/args")
+for name in sizes wrong; do
+  lacking+=$(unnamed "$CRATE/data/$name" "$CRATE/data/$name/args")
+  for number in "${!programs[@]}"; do
+    run_on "$name" "$number" &
+  done
+  wait
+  for number in "${!programs[@]}"; do
+    if is_right "$name" "$number"; then
+      echo "cases: $name, ${programs[$number]}: $(cat "$work/$name.$number/stdout") ($(cat "$work/$name.$number/seconds") s)"
+      passed=$((passed + 1))
+    else
+      failed=$((failed + 1))
+    fi
+  done
+done
+[ -z "$lacking" ] || echo "$lacking"
+echo "$passed passed, $failed failed"
+[ "$failed" -eq 0 ] && [ -z "$lacking" ]
