@@ -1,7 +1,7 @@
 #!/usr/bin/env bash
 # Keeps the pages that show what `gomod list` is proved to print in step with the definitions and with docs/SPEC.md.
 #
-#   tools/headline.sh          writes the shown definitions into the pages anew: HEADLINE, REPORTS, BYTES, DIRECTIVES, EDITS
+#   tools/headline.sh          writes the shown definitions into the pages anew: HEADLINE, REPORTS, BYTES, DIRECTIVES, EDITS, NAMES
 #   tools/headline.sh --check  changes nothing, and tells which page is out of step
 #   tools/headline.sh --names  lists the names that stand in two files of specs/, and what each exported contract reaches
 #
@@ -37,7 +37,7 @@ import sys
 from collections import defaultdict
 
 CRATES = pathlib.Path("crates")
-PAGES = [pathlib.Path("docs") / name for name in ("HEADLINE.md", "REPORTS.md", "BYTES.md", "DIRECTIVES.md", "EDITS.md")]
+PAGES = [pathlib.Path("docs") / name for name in ("HEADLINE.md", "REPORTS.md", "BYTES.md", "DIRECTIVES.md", "EDITS.md", "NAMES.md")]
 RUNNING = "gomod_run/src/running.rt"
 LIST = [("Rattle.gm_graph_listing.specs.Outcomes", "IsListOutcome"), ("Rattle.gomod_run.specs.Written", "EndsAsStated")]
 HEAD = re.compile(r"(?:(?:abbrev|unfoldable|opaque)\s+)?(?:pub\s+)?(?:(record|data)\s+)?([^\s:({]+)")
