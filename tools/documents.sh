@@ -1,14 +1,16 @@
 #!/usr/bin/env bash
-# Checks what README.md and the documents of docs/ name: that each file, crate, function, clause, law, test, edit,
-# commit and title of a case is there, and that counts are right.
+# Checks what the documents name: that each file, crate, function, clause, law, test, edit, commit and title of a case
+# is there, and that counts are right. It also checks that no document has more words than its budget.
 #
-#   tools/documents.sh           README.md and all documents of docs/
-#   tools/documents.sh FILE..    these
+#   tools/documents.sh           README.md, all documents of docs/, crates/run_cases/MISTAKES.md, and the budgets
+#   tools/documents.sh FILE..    these, and no budgets
 #
 # What is looked at is what stands in the notation of docs/DEVELOPING.md ("What a document names"); anything else isn't.
-# It needs git and python3, but no program. In a clone without its whole history commits are not looked for, and it says
-# so. It prints each thing that isn't there, with its file and line, and how many of each kind it looked at. The status
-# is 1 if one was wrong. .ci/run runs it before the merge gate.
+# The budgets are a table below, of single documents and of several together. Words are what blanks separate, without
+# the bars of tables, fenced code and comments of HTML. It needs git and python3, but no program. In a clone without its
+# whole history commits are not looked for, and it says so. It prints each thing that isn't there, with its file and
+# line, each document that is too long or not there, and how many of each kind it looked at. The status is 1 if one was
+# wrong. .ci/run runs it before the merge gate.
 set -euo pipefail
 cd "$(dirname "$0")/.."
 # shellcheck source=tools/lib.sh
@@ -32,7 +34,20 @@ then_with thiserror
 """.split())
 # What a path of names may begin with that is none of ours.
 OTHER_ROOTS = set("Env Rc String Vec anyhow env mem std str A".split())
+# How many words documents may have together: a number, and the documents or patterns of their names.
+BUDGETS = """
+13000 docs/DEVELOPING.md docs/CASES.md docs/DECISIONS.md docs/PROOFS.md docs/BENCHMARKS.md docs/WALKS.md
+ 1800 docs/CASES.md
+ 3000 docs/DECISIONS.md
+ 4500 docs/PROOFS.md
+  800 docs/BENCHMARKS.md
+ 3000 docs/LIBRARY.md docs/CRATES.md
+ 1500 docs/CRATES.md
+ 1150 docs/GO.md
+"""
 NUMBERS = "one two three four five six seven eight nine ten eleven twelve".split()
+
+MISTAKES = "crates/run_cases/MISTAKES.md"
 
 TICKED = r"`([^`]+)`"
 LIST = r"`\w+`(?: \([^()]*\))?(?:(?:, and |, | and )`\w+`(?: \([^()]*\))?)*"
@@ -42,6 +57,13 @@ CALL = r"`(\w+(?:::\w+)*)`"
 def lines_of(path):
     with open(path, encoding="utf-8") as it:
         return it.read().split("\n")
+
+
+def words_of(path):
+    """How many words a document has, without the bars of tables, fenced code and comments."""
+    text = re.sub(r"(?ms)^```.*?^```$|<!--.*?-->", "", "\n".join(lines_of(path)))
+    rows = re.sub(r"(?m)^\|[-:| ]+\|$", "", text).split("\n")
+    return sum(len((re.sub(r"(?<!\\)\|", " ", it) if it.startswith("|") else it).split()) for it in rows)
 
 
 def git(*words):
@@ -292,17 +314,17 @@ class Document:
 
     def read_names(self, line):
         sources = self.sources
-        is_inner = self.name == "docs/PROOFS.md" or "proofs/" in line
+        is_inner = os.path.basename(self.name) == "PROOFS.md" or "proofs/" in line
         for found in re.finditer(TICKED, line):
             text = found[1]
             if re.fullmatch(r"\w+(?:::\w+)+", text):
                 if text.split("::")[0] not in OTHER_ROOTS:
-                    is_public = self.name in ("README.md", "docs/LIBRARY.md")
+                    is_public = os.path.basename(self.name) in ("README.md", "LIBRARY.md")
                     is_right = sources.leads(text, sources.crates, is_public)
                     self.tell("paths of names", is_right, f"`{text}` leads to nothing")
             elif re.fullmatch(r"[a-z]\w*_\w*|[A-Z][a-z]\w*[A-Z]\w*", text):
                 self.tell("names", sources.is_name(text, is_inner), f"there is no `{text}`")
-            elif self.name == "docs/PROOFS.md" and re.fullmatch(r"[a-z]\w*(?:-\w+)+", text):
+            elif os.path.basename(self.name) == "PROOFS.md" and re.fullmatch(r"[a-z]\w*(?:-\w+)+", text):
                 self.tell("names", sources.is_name(text, True), f"there is no `{text}`")
         for found in re.finditer(r"(?<![\w/.@])(?:gm|gomod)_\w+", line):
             self.tell("crates", sources.is_declared(found[0]), f"there is no crate {found[0]}")
@@ -379,7 +401,8 @@ class Document:
 
     def read_cell(self, name, cell, line):
         sources = self.sources
-        if re.search(r"\bCalls?\b|\bLaws?\b|\bClause\b|\bCarried by\b", name) and self.name != "docs/CASES.md":
+        is_looked_up = re.search(r"\bCalls?\b|\bLaws?\b|\bClause\b|\bCarried by\b", name)
+        if is_looked_up and os.path.basename(self.name) != "CASES.md":
             for text in re.findall(r"`([a-z]+|[A-Z][a-z]+)`", re.sub(r"\([^()]*\)", "", cell)):
                 is_right = text in ("ensures", "requires") or sources.is_declared(text)
                 self.tell("names", is_right, f"there is no `{text}`")
@@ -395,10 +418,25 @@ SOURCES = Sources()
 COUNTS = SOURCES.counts()
 
 
+def budgets():
+    """Whether each budget holds; it prints those that don't."""
+    for budget, *patterns in (it.split() for it in BUDGETS.strip().split("\n")):
+        found = [sorted(glob.glob(it)) for it in patterns]
+        missing = [pattern for pattern, names in zip(patterns, found) if not names]
+        count = sum(map(words_of, set().union(*found)))
+        for it in missing:
+            print(f"{it}: it has a budget, but isn't there")
+        if count > int(budget):
+            print(f"{' '.join(patterns)}: {count:,} words, {int(budget):,} are allowed")
+        yield not missing and count <= int(budget)
+
+
 def main(*names):
     tally = collections.defaultdict(lambda: {True: 0, False: 0})
-    for name in names or ["README.md", *sorted(glob.glob("docs/*.md"))]:
+    for name in names or ["README.md", *sorted(glob.glob("docs/**/*.md", recursive=True)), MISTAKES]:
         Document(name, SOURCES, tally).read()
+    for is_right in [] if names else budgets():
+        tally["budgets"][is_right] += 1
     for what, counts in tally.items():
         print(f"{what}: {counts[True]} right, {counts[False]} wrong")
     return 1 if any(it[False] for it in tally.values()) else 0
