@@ -1,6 +1,8 @@
 #!/usr/bin/env bash
 # Checks what the documents name: that each file, crate, function, clause, law, test, edit, commit and title of a case
-# is there, and that counts are right. It also checks that no document has more words than its budget.
+# is there, and that counts are right. It also checks that no document has more words than its budget: README.md has at
+# most 800 words outside examples and tables, and names at most eight sentences on what is verified, of at most 30 words
+# each; a release has at most 500 words in CHANGELOG.md.
 #
 #   tools/documents.sh           README.md, all documents of docs/, crates/run_cases/MISTAKES.md, and the budgets
 #   tools/documents.sh FILE..    these, and no budgets
@@ -431,12 +433,43 @@ def budgets():
         yield not missing and count <= int(budget)
 
 
+def words_in(lines):
+    """How many words these lines have, outside examples and tables."""
+    return sum(len(it.split()) for it in lines if not it.startswith(("    ", "|")))
+
+
+def sections_of(path):
+    """The lines of each section of a document, by its heading."""
+    sections, heading = collections.defaultdict(list), ""
+    for line in lines_of(path):
+        heading = line[3:] if line.startswith("## ") else heading
+        sections[heading].append(line)
+    return sections
+
+
+def keep_budgets(tally):
+    """Whether README.md and CHANGELOG.md are as short as they should be."""
+    readme = sections_of("README.md")
+    sentences = [it[2:] for it in readme["What is verified"] if it.startswith("- ")]
+    budgets = [("README.md", sum(map(words_in, readme.values())), 800, "words"),
+               ("README.md, What is verified", len(sentences), 8, "sentences")]
+    budgets += [(f"README.md, '{it}'", len(it.split()), 30, "words") for it in sentences]
+    budgets += [(f"CHANGELOG.md, {heading}", words_in(lines), 500, "words")
+                for heading, lines in sections_of("CHANGELOG.md").items()]
+    for what, number, most, unit in budgets:
+        tally["budgets"][number <= most] += 1
+        if number > most:
+            print(f"{what}: there are {number} {unit}, and at most {most} should be")
+
+
 def main(*names):
     tally = collections.defaultdict(lambda: {True: 0, False: 0})
     for name in names or ["README.md", *sorted(glob.glob("docs/**/*.md", recursive=True)), MISTAKES]:
         Document(name, SOURCES, tally).read()
-    for is_right in [] if names else budgets():
-        tally["budgets"][is_right] += 1
+    if not names:
+        keep_budgets(tally)
+        for is_right in budgets():
+            tally["budgets"][is_right] += 1
     for what, counts in tally.items():
         print(f"{what}: {counts[True]} right, {counts[False]} wrong")
     return 1 if any(it[False] for it in tally.values()) else 0
