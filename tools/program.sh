@@ -10,7 +10,8 @@
 # permission for root are left out.
 #
 # Of a case with sizes it runs the greatest, each command with an address space of 64 MiB and a hundred times the bytes
-# of the files of the case, which is the bound of README.md: a command that reserves more runs out of memory.
+# of the files of the case, which is the bound of README.md: a command that reserves more runs out of memory. All
+# commands run with the stack that README.md names, and room for their arguments.
 #
 # If REFUSE_MEMORY names the library that tools/refuse-memory.sh makes, each command runs again with each of its
 # allocations refused in turn: it then has to say that memory ran out, or to have the result of the case.
@@ -41,6 +42,8 @@ NO_MEMORY = b"", b"gomod: no memory\n", 3
 PASSED = b"all allocations passed\n"
 # the address space that a command may have beside FACTOR times the bytes of its files
 SPARE, FACTOR = 64 << 20, 100
+with open("README.md", encoding="utf-8") as file:
+    STACK = 1024 * int(re.search(r"`ulimit -s (\d+)`", file.read())[1])
 
 
 def meant(escape):
@@ -86,6 +89,13 @@ def sized(lines):
     return text.split(b"\n"), True
 
 
+def stack_with(words, environment):
+    """The stack for a command. Its arguments lie there too, and Linux gives them no more than a fourth of it."""
+    texts = [*words, *map(os.fsencode, environment), *map(os.fsencode, environment.values())]
+    size = sum(len(it) + 10 for it in texts)
+    return max(STACK + size, 4 * size)
+
+
 class Run:
     refusals = 0  # how many runs had an allocation refused
 
@@ -114,15 +124,15 @@ class Run:
         return self.out, self.report, self.status
 
     def comes_to(self, program, folder, stdin, refused=0, most=resource.RLIM_INFINITY):
-        refusing = {**os.environ, "LD_PRELOAD": REFUSE_MEMORY, "REFUSE_AT": str(refused)} if refused else None
-        got = subprocess.run(
-            [program, *self.words[1:]],
-            cwd=folder,
-            input=stdin,
-            capture_output=True,
-            env=refusing,
-            preexec_fn=lambda: resource.setrlimit(resource.RLIMIT_AS, (most, most)),
-        )
+        environment = {**os.environ, "LD_PRELOAD": REFUSE_MEMORY, "REFUSE_AT": str(refused)} if refused else os.environ
+        words = [os.fsencode(program), *self.words[1:]]
+        stack = stack_with(words, environment)
+
+        def limit():
+            resource.setrlimit(resource.RLIMIT_AS, (most, most))
+            resource.setrlimit(resource.RLIMIT_STACK, (stack, stack))
+
+        got = subprocess.run(words, cwd=folder, input=stdin, capture_output=True, env=environment, preexec_fn=limit)
         return got.stdout, got.stderr, got.returncode
 
     def refused(self, program, folder, stdin):
