@@ -9,10 +9,11 @@
 #
 # What is looked at is what stands in the notation of docs/DEVELOPING.md ("What a document names"); anything else isn't.
 # The budgets are a table below, of single documents and of several together. Words are what blanks separate, without
-# the bars of tables, fenced code and comments of HTML. It needs git and python3, but no program. In a clone without its
-# whole history commits are not looked for, and it says so. It prints each thing that isn't there, with its file and
-# line, each document that is too long or not there, and how many of each kind it looked at. The status is 1 if one was
-# wrong. .ci/run runs it before the merge gate.
+# the bars of tables, fenced code and comments of HTML, and without what other files say: quotes (lines that begin with
+# `>`), and what tools/headline.sh writes between its marks. It needs git and python3, but no program. In a clone
+# without its whole history commits are not looked for, and it says so. It prints each thing that isn't there, with its
+# file and line, each document that is too long or not there, and how many of each kind it looked at. The status is 1 if
+# one was wrong. .ci/run runs it before the merge gate.
 set -euo pipefail
 cd "$(dirname "$0")/.."
 # shellcheck source=tools/lib.sh
@@ -43,6 +44,7 @@ BUDGETS = """
  3000 docs/DECISIONS.md
  4500 docs/PROOFS.md
   800 docs/BENCHMARKS.md
+10500 docs/PROVED.md docs/SPEC.md docs/HEADLINE.md docs/NAMES.md docs/REPORTS.md docs/BYTES.md docs/DIRECTIVES.md docs/EDITS.md
  3000 docs/LIBRARY.md docs/CRATES.md
  1500 docs/CRATES.md
  1150 docs/GO.md
@@ -54,6 +56,7 @@ MISTAKES = "crates/run_cases/MISTAKES.md"
 TICKED = r"`([^`]+)`"
 LIST = r"`\w+`(?: \([^()]*\))?(?:(?:, and |, | and )`\w+`(?: \([^()]*\))?)*"
 CALL = r"`(\w+(?:::\w+)*)`"
+SHOWN = r"^<!-- show [^\n]*? -->\n.*?^<!-- end -->$"
 
 
 def lines_of(path):
@@ -62,8 +65,8 @@ def lines_of(path):
 
 
 def words_of(path):
-    """How many words a document has, without the bars of tables, fenced code and comments."""
-    text = re.sub(r"(?ms)^```.*?^```$|<!--.*?-->", "", "\n".join(lines_of(path)))
+    """How many words a document has, without bars of tables, fenced code, comments, and what other files say."""
+    text = re.sub(rf"(?ms)^```.*?^```$|{SHOWN}|<!--.*?-->|^>[^\n]*$", "", "\n".join(lines_of(path)))
     rows = re.sub(r"(?m)^\|[-:| ]+\|$", "", text).split("\n")
     return sum(len((re.sub(r"(?<!\\)\|", " ", it) if it.startswith("|") else it).split()) for it in rows)
 
