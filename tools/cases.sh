@@ -58,6 +58,7 @@ run_on() {
     exec env -i PATH=/usr/local/bin:/usr/bin:/bin HOME="$PWD" TMPDIR="$PWD" LANG=C.UTF-8 \
       timeout "$LIMIT" "${as_user[@]}" "$work/program.$2" "${words[@]}"
   ) < /dev/null > "$at/stdout" 2> "$at/stderr" || status=$?
+  [ "$status" -ne 124 ] || echo "It had not ended after $LIMIT seconds." >> "$at/stderr"
   echo "$status" > "$at/status"
   echo "$((SECONDS - begun))" > "$at/seconds"
 }
