@@ -1,7 +1,7 @@
 //! Which function a call is of.
 
 use crate::call_faults::CallFault;
-use crate::{edit_calls, file_calls, name_calls, store_calls};
+use crate::{file_calls, main_calls, name_calls, store_calls};
 use gomod_case_files::View;
 use std::alloc::{AllocError, Global};
 
@@ -58,10 +58,8 @@ fn file<'a>(view: &View<'a>, name: &str) -> Result<&'a [u8], CallFault> {
 /// What a call about a file alone gives.
 fn about_file(alloc: Global, name: &str, bytes: &[u8]) -> Result<String, CallFault> {
     match name {
-        "document" => file_calls::document(alloc, bytes),
-        "spans" => file_calls::spans(alloc, bytes),
-        "strict" => file_calls::strict(alloc, bytes),
-        "lax" => file_calls::lax(alloc, bytes),
+        "document" | "spans" | "lax" => file_calls::about_text(alloc, name, bytes),
+        "strict" => main_calls::strict(alloc, bytes),
         "hash" => store_calls::hash(alloc, bytes),
         _ => Err(CallFault::NoCall),
     }
@@ -81,7 +79,7 @@ fn about_two(
         "precedence" => name_calls::precedence(alloc, first, second),
         "step" => store_calls::step(alloc, first, second),
         "relative_name" => store_calls::place_named(alloc, first, second),
-        "apply" => edit_calls::apply(alloc, file(view, first)?, second),
+        "apply" => main_calls::apply(alloc, file(view, first)?, second),
         _ => about_list(alloc, name, first, file(view, second)?),
     }
 }
@@ -89,8 +87,7 @@ fn about_two(
 /// What a call about a module's list of versions gives.
 fn about_list(alloc: Global, name: &str, path: &str, bytes: &[u8]) -> Result<String, CallFault> {
     match name {
-        "listed" => store_calls::listed(alloc, path, bytes),
-        "latest" => store_calls::latest(alloc, path, bytes),
+        "listed" | "latest" => store_calls::about_list(alloc, name, path, bytes),
         _ => Err(CallFault::NoCall),
     }
 }
@@ -104,8 +101,8 @@ fn about_three(
     pair: (&str, &str),
 ) -> Result<String, CallFault> {
     match (name, first) {
-        ("replacement", _) => file_calls::replacement(alloc, file(view, first)?, pair),
-        ("excluded", _) => file_calls::excluded(alloc, file(view, first)?, pair),
+        ("replacement", _) => main_calls::replacement(alloc, file(view, first)?, pair),
+        ("excluded", _) => main_calls::excluded(alloc, file(view, first)?, pair),
         ("relative_name", "mod") => store_calls::place_of_version(alloc, pair),
         _ => Err(CallFault::NoCall),
     }

@@ -1,8 +1,7 @@
 //! Calls about what a go.mod says: its lines, its words, and its directives.
 
 use crate::call_faults::CallFault;
-use crate::name_calls;
-use crate::name_calls::{line_of, yes_or_no};
+use crate::name_calls::line_of;
 use gm_file::{DepFile, Interval, MainFile, Replace, Right};
 use gm_name::{ModPath, ModVer};
 use gm_syntax::{Doc, Line, Token};
@@ -10,10 +9,20 @@ use std::alloc::{AllocError, Global};
 use std::borrow::CowStr;
 use std::slice;
 
-/// What some bytes say as a main file.
-pub(crate) fn main_file<'a>(alloc: Global, bytes: &'a [u8]) -> Result<MainFile<'a>, CallFault> {
+/// What a call about the text of a file gives.
+pub(crate) fn about_text(alloc: Global, name: &str, bytes: &[u8]) -> Result<String, CallFault> {
     let doc = Doc::parse(alloc, bytes)?;
-    Ok(MainFile::read(alloc, doc)?)
+    about_document(alloc, name, &doc)
+}
+
+/// What a call about a document gives.
+fn about_document(alloc: Global, name: &str, doc: &Doc) -> Result<String, CallFault> {
+    match name {
+        "document" => text_of_lines(alloc, doc.lines()),
+        "spans" => places_in(alloc, doc.lines()),
+        "lax" => lax_text(alloc, doc),
+        _ => Err(CallFault::NoCall),
+    }
 }
 
 /// Appends a word or a comment after a space.
@@ -84,12 +93,6 @@ fn text_of_lines(alloc: Global, lines: &[Line]) -> Result<String, CallFault> {
     Ok(text)
 }
 
-/// What the lines of a file are.
-pub(crate) fn document(alloc: Global, bytes: &[u8]) -> Result<String, CallFault> {
-    let doc = Doc::parse(alloc, bytes)?;
-    text_of_lines(alloc, doc.lines())
-}
-
 /// Appends the place of a word, and the word.
 fn push_place(text: &mut String, word: &Token) -> Result<(), AllocError> {
     let Some(span) = word.span() else {
@@ -121,12 +124,6 @@ fn places_in(alloc: Global, lines: &[Line]) -> Result<String, CallFault> {
     let mut text = String::new(alloc);
     push_places_in(&mut text, lines)?;
     Ok(text)
-}
-
-/// The places of the words of a file.
-pub(crate) fn spans(alloc: Global, bytes: &[u8]) -> Result<String, CallFault> {
-    let doc = Doc::parse(alloc, bytes)?;
-    places_in(alloc, doc.lines())
 }
 
 /// The word with a value, or none if the value has a line feed.
@@ -211,16 +208,10 @@ fn push_main(text: &mut String, file: &MainFile) -> Result<(), AllocError> {
 }
 
 /// What a main file says.
-fn text_of_main(alloc: Global, file: &MainFile) -> Result<String, CallFault> {
+pub(crate) fn text_of_main(alloc: Global, file: &MainFile) -> Result<String, CallFault> {
     let mut text = String::new(alloc);
     push_main(&mut text, file)?;
     Ok(text)
-}
-
-/// What a file says as a main file.
-pub(crate) fn strict(alloc: Global, bytes: &[u8]) -> Result<String, CallFault> {
-    let file = main_file(alloc, bytes)?;
-    text_of_main(alloc, &file)
 }
 
 /// Appends what a dependency's file says.
@@ -240,21 +231,10 @@ fn text_of_dependency(alloc: Global, file: &DepFile) -> Result<String, CallFault
     Ok(text)
 }
 
-/// A document read as a dependency's file.
-fn dependency(alloc: Global, doc: &Doc) -> Result<DepFile, CallFault> {
-    Ok(DepFile::read(alloc, doc)?)
-}
-
 /// What a document says as a dependency's file.
 fn lax_text(alloc: Global, doc: &Doc) -> Result<String, CallFault> {
-    let file = dependency(alloc, doc)?;
+    let file = DepFile::read(alloc, doc)?;
     text_of_dependency(alloc, &file)
-}
-
-/// What a file says as a dependency's file.
-pub(crate) fn lax(alloc: Global, bytes: &[u8]) -> Result<String, CallFault> {
-    let doc = Doc::parse(alloc, bytes)?;
-    lax_text(alloc, &doc)
 }
 
 /// Appends a right side, or that there is none.
@@ -267,40 +247,8 @@ fn push_found(text: &mut String, right: Option<&Right>) -> Result<(), AllocError
 }
 
 /// The line with a right side, or that there is none.
-fn line_of_right(alloc: Global, right: Option<&Right>) -> Result<String, CallFault> {
+pub(crate) fn line_of_right(alloc: Global, right: Option<&Right>) -> Result<String, CallFault> {
     let mut text = String::new(alloc);
     push_found(&mut text, right)?;
     Ok(text)
-}
-
-/// The replacement of a version in a main file.
-pub(crate) fn replacement(
-    alloc: Global,
-    bytes: &[u8],
-    pair: (&str, &str),
-) -> Result<String, CallFault> {
-    let pair = name_calls::pair(alloc, pair)?;
-    replacement_of(alloc, bytes, &pair)
-}
-
-/// The replacement of a pair in a main file.
-fn replacement_of(alloc: Global, bytes: &[u8], pair: &ModVer) -> Result<String, CallFault> {
-    let file = main_file(alloc, bytes)?;
-    line_of_right(alloc, file.replacement(pair))
-}
-
-/// Whether a main file excludes a version.
-pub(crate) fn excluded(
-    alloc: Global,
-    bytes: &[u8],
-    pair: (&str, &str),
-) -> Result<String, CallFault> {
-    let pair = name_calls::pair(alloc, pair)?;
-    excludes(alloc, bytes, &pair)
-}
-
-/// Whether a main file excludes a pair.
-fn excludes(alloc: Global, bytes: &[u8], pair: &ModVer) -> Result<String, CallFault> {
-    let file = main_file(alloc, bytes)?;
-    yes_or_no(alloc, file.excluded(pair))
 }

@@ -5,8 +5,8 @@
 
 mod call_faults;
 mod calls;
-mod edit_calls;
 mod file_calls;
+mod main_calls;
 mod name_calls;
 mod store_calls;
 

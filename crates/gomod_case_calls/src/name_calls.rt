@@ -10,10 +10,18 @@ pub(crate) fn line_of(alloc: Global, text: &str) -> Result<String, CallFault> {
     Ok(format!(in alloc; "{text}\n")?)
 }
 
+/// The path and the version that two texts spell.
+pub(crate) fn path_and_version(
+    alloc: Global,
+    pair: (&str, &str),
+) -> Result<(ModPath, ModVersion), CallFault> {
+    let path = ModPath::parse(alloc, pair.0)?;
+    Ok((path, ModVersion::parse(alloc, pair.1)?))
+}
+
 /// The path and the version that two texts spell, if the version fits the path.
 pub(crate) fn pair(alloc: Global, pair: (&str, &str)) -> Result<ModVer, CallFault> {
-    let path = ModPath::parse(alloc, pair.0)?;
-    let version = ModVersion::parse(alloc, pair.1)?;
+    let (path, version) = path_and_version(alloc, pair)?;
     match ModVer::pair(path, version) {
         Some(pair) => Ok(pair),
         None => Err(CallFault::Misfit),
@@ -46,8 +54,7 @@ pub(crate) fn version(alloc: Global, version: &str) -> Result<String, CallFault>
 
 /// Whether a version fits a path.
 pub(crate) fn fits(alloc: Global, path: &str, version: &str) -> Result<String, CallFault> {
-    let path = ModPath::parse(alloc, path)?;
-    let version = ModVersion::parse(alloc, version)?;
+    let (path, version) = path_and_version(alloc, (path, version))?;
     yes_or_no(alloc, gm_name::fits(&path, &version))
 }
 
@@ -97,17 +104,25 @@ fn ordering(alloc: Global, ordering: Ordering) -> Result<String, CallFault> {
     line_of(alloc, order)
 }
 
+/// The versions that two texts spell.
+fn two_versions(
+    alloc: Global,
+    one: &str,
+    other: &str,
+) -> Result<(ModVersion, ModVersion), CallFault> {
+    let one = ModVersion::parse(alloc, one)?;
+    Ok((one, ModVersion::parse(alloc, other)?))
+}
+
 /// The order of two versions, by their precedence and then by their texts.
 pub(crate) fn order(alloc: Global, version: &str, other: &str) -> Result<String, CallFault> {
-    let version = ModVersion::parse(alloc, version)?;
-    let other = ModVersion::parse(alloc, other)?;
+    let (version, other) = two_versions(alloc, version, other)?;
     ordering(alloc, version.cmp(&other))
 }
 
 /// The order of two versions by their precedence alone.
 pub(crate) fn precedence(alloc: Global, version: &str, other: &str) -> Result<String, CallFault> {
-    let version = ModVersion::parse(alloc, version)?;
-    let other = ModVersion::parse(alloc, other)?;
+    let (version, other) = two_versions(alloc, version, other)?;
     ordering(alloc, version.precedence(&other))
 }
 

@@ -1,10 +1,10 @@
 //! Calls about hashes and sums, lists of versions, and the places of files.
 
 use crate::call_faults::CallFault;
-use crate::name_calls::line_of;
+use crate::name_calls::{line_of, path_and_version};
 use gm_name::{BorrowedVersion, ModPath, ModVersion};
-use gm_store::{FileName, Looked, Mark};
-use gm_store_sums::SumTable;
+use gm_store::{FileName, Looked, Mark, Next};
+use gm_store_sums::{Sum, SumTable};
 use std::alloc::{AllocError, Global};
 
 /// The hash of a file as the go.mod of a module.
@@ -20,19 +20,56 @@ pub(crate) fn check(
     pair: (&str, &str),
     hash: &str,
 ) -> Result<String, CallFault> {
-    let path = ModPath::parse(alloc, pair.0)?;
-    let version = ModVersion::parse(alloc, pair.1)?;
+    let (path, version) = path_and_version(alloc, pair)?;
+    check_of(alloc, bytes, &path, &version, hash)
+}
+
+/// What a go.sum says of the hash of a version.
+fn check_of(
+    alloc: Global,
+    bytes: &[u8],
+    path: &ModPath,
+    version: &ModVersion,
+    hash: &str,
+) -> Result<String, CallFault> {
     let table = SumTable::read(alloc, bytes)?;
-    let sum = table.check(&path, &version, hash);
+    line_of_sum(alloc, table.check(path, version, hash))
+}
+
+/// The line with what a go.sum says.
+fn line_of_sum(alloc: Global, sum: Sum) -> Result<String, CallFault> {
     Ok(format!(in alloc; "{sum:?}\n")?)
 }
 
-/// The versions of a list file.
-pub(crate) fn listed(alloc: Global, path: &str, bytes: &[u8]) -> Result<String, CallFault> {
+/// What a call about a module's list of versions gives.
+pub(crate) fn about_list(
+    alloc: Global,
+    name: &str,
+    path: &str,
+    bytes: &[u8],
+) -> Result<String, CallFault> {
     let path = ModPath::parse(alloc, path)?;
-    let versions = gm_store::versions_of(alloc, &path, bytes)?;
+    about_list_of(alloc, name, &path, bytes)
+}
+
+/// What a call about the list of versions of a path gives.
+fn about_list_of(
+    alloc: Global,
+    name: &str,
+    path: &ModPath,
+    bytes: &[u8],
+) -> Result<String, CallFault> {
+    let versions = gm_store::versions_of(alloc, path, bytes)?;
+    match name {
+        "listed" => text_of_versions(alloc, versions.as_slice()),
+        _ => latest_of(alloc, versions.as_slice()),
+    }
+}
+
+/// The text of versions, one a line.
+fn text_of_versions(alloc: Global, versions: &[BorrowedVersion<'_>]) -> Result<String, CallFault> {
     let mut text = String::new(alloc);
-    push_versions(&mut text, versions.as_slice())?;
+    push_versions(&mut text, versions)?;
     Ok(text)
 }
 
@@ -43,13 +80,6 @@ fn push_versions(text: &mut String, versions: &[BorrowedVersion<'_>]) -> Result<
         writeln!(text, "{version}")?;
     }
     Ok(())
-}
-
-/// The latest version of a list file.
-pub(crate) fn latest(alloc: Global, path: &str, bytes: &[u8]) -> Result<String, CallFault> {
-    let path = ModPath::parse(alloc, path)?;
-    let versions = gm_store::versions_of(alloc, &path, bytes)?;
-    latest_of(alloc, versions.as_slice())
 }
 
 /// The line with the latest of these versions.
@@ -68,8 +98,7 @@ fn place(alloc: Global, name: &FileName) -> Result<String, CallFault> {
 
 /// The place of the .mod file of a version.
 pub(crate) fn place_of_version(alloc: Global, pair: (&str, &str)) -> Result<String, CallFault> {
-    let path = ModPath::parse(alloc, pair.0)?;
-    let version = ModVersion::parse(alloc, pair.1)?;
+    let (path, version) = path_and_version(alloc, pair)?;
     place(alloc, &FileName::Mod(path, version))
 }
 
@@ -121,11 +150,15 @@ fn mark_named(name: &str) -> Option<Option<Mark>> {
     }
 }
 
+/// The line with what follows a lookup.
+fn line_of_next(alloc: Global, next: Next) -> Result<String, CallFault> {
+    Ok(format!(in alloc; "{next:?}\n")?)
+}
+
 /// What follows a lookup in a folder.
 pub(crate) fn step(alloc: Global, looked: &str, mark: &str) -> Result<String, CallFault> {
     let (Some(looked), Some(mark)) = (looked_named(alloc, looked), mark_named(mark)) else {
         return Err(CallFault::NoCall);
     };
-    let next = gm_store::step(&looked, mark);
-    Ok(format!(in alloc; "{next:?}\n")?)
+    line_of_next(alloc, gm_store::step(&looked, mark))
 }
