@@ -1,7 +1,7 @@
 //! Cases: commands over a few files, and the results they must have.
 
+use crate::words::texts_of;
 use std::alloc::{AllocError, Global};
-use std::str;
 
 /// The name of the file that commands read from standard input.
 pub const STDIN: &str = "stdin";
@@ -105,14 +105,7 @@ impl<'a> Run<'a> {
 
     /// Its words as texts, or none if one of them is not UTF-8.
     pub fn texts(&self, alloc: Global) -> Result<Option<Vec<&str>>, AllocError> {
-        let mut texts = Vec::new(alloc);
-        for word in &self.words {
-            let Ok(text) = str::from_utf8(word.as_slice()) else {
-                return Ok(None);
-            };
-            texts.push(text)?;
-        }
-        Ok(Some(texts))
+        texts_of(alloc, self.words.as_slice())
     }
 }
 

@@ -5,7 +5,7 @@ use crate::escapes::push_unescaped;
 use crate::faults::{CaseFault, CaseLineFault};
 use crate::numbering::{NUMBER, count_of, numbered, push_line, push_numbered};
 use crate::places::tidied;
-use crate::words::texts_of_line;
+use crate::words::{texts_of, words_of_line};
 use std::alloc::{AllocError, Global};
 
 /// The last line of a file that does not end in a line end.
@@ -61,11 +61,11 @@ fn mode_of(text: &str) -> Option<u32> {
 }
 
 /// What the words of a header after the name say.
-fn kind_of(words: &[String]) -> Option<HeaderKind<'_>> {
+fn kind_of<'a>(words: &[&'a str]) -> Option<HeaderKind<'a>> {
     match words {
         [] => Some(HeaderKind::Lines(LineForm::Plain)),
-        [verb] => kind_alone(verb.as_str()),
-        [verb, argument] => kind_with(verb.as_str(), argument.as_str()),
+        [verb] => kind_alone(verb),
+        [verb, argument] => kind_with(verb, argument),
         _ => None,
     }
 }
@@ -117,15 +117,15 @@ fn is_place(alloc: Global, name: &str) -> Result<bool, AllocError> {
 }
 
 /// The name and the kind in the words of a header.
-fn read_header(
+fn read_header<'a>(
     alloc: Global,
     line: usize,
-    words: &[String],
-) -> Result<(&str, HeaderKind<'_>), CaseFault> {
+    words: &[&'a str],
+) -> Result<(&'a str, HeaderKind<'a>), CaseFault> {
     if let Some((name, rest)) = words.split_first() {
         if let Some(kind) = kind_of(rest) {
-            if is_place(alloc, name.as_str())? {
-                return Ok((name.as_str(), kind));
+            if is_place(alloc, name)? {
+                return Ok((*name, kind));
             }
         }
     }
@@ -135,12 +135,15 @@ fn read_header(
 impl CasePiece {
     /// The piece that a header begins.
     pub(crate) fn begin(alloc: Global, line: usize, text: &str) -> Result<CasePiece, CaseFault> {
-        let words = texts_of_line(alloc, line, text)?;
-        CasePiece::of_words(alloc, line, words.as_slice())
+        let words = words_of_line(alloc, line, text)?;
+        match texts_of(alloc, words.as_slice())? {
+            Some(texts) => CasePiece::of_words(alloc, line, texts.as_slice()),
+            None => Err(CaseFault::Line(line, CaseLineFault::BadWords)),
+        }
     }
 
     /// The piece that the words of a header begin.
-    fn of_words(alloc: Global, line: usize, words: &[String]) -> Result<CasePiece, CaseFault> {
+    fn of_words(alloc: Global, line: usize, words: &[&str]) -> Result<CasePiece, CaseFault> {
         let (name, kind) = read_header(alloc, line, words)?;
         Ok(CasePiece::new(alloc, line, name, kind)?)
     }

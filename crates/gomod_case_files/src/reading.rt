@@ -314,10 +314,10 @@ fn take_opened<'a>(
     number: usize,
     rest: &'a str,
 ) -> Result<(), CaseFault> {
-    let said_none = matches!(&run.opened, Some(opened) if opened.is_empty());
-    let said_some = matches!(&run.opened, Some(opened) if !opened.is_empty());
-    if said_none || said_some && rest.is_empty() {
-        return Err(CaseFault::Line(number, CaseLineFault::SaidBefore));
+    if let Some(opened) = &run.opened {
+        if opened.is_empty() || rest.is_empty() {
+            return Err(CaseFault::Line(number, CaseLineFault::SaidBefore));
+        }
     }
     let opened = run.opened.get_or_insert(Vec::new(alloc));
     if rest.is_empty() {

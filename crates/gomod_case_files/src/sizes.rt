@@ -3,7 +3,6 @@
 use crate::faults::{CaseFault, CaseLineFault};
 use crate::numbering::count_of;
 use std::alloc::{AllocError, Global};
-use std::mem;
 
 /// What the title of a case begins with.
 const TITLE: &str = "=== ";
@@ -60,9 +59,20 @@ impl<'a> CaseText<'a> {
         }
     }
 
-    /// Takes the next line.
-    fn take(&mut self, line: &str) -> Result<(), AllocError> {
-        self.text.push_str(line)?;
+    /// Takes the line after this many others of the file. One with the sizes stands directly below the title.
+    fn take(
+        &mut self,
+        index: usize,
+        line: &'a str,
+        is_below_title: bool,
+    ) -> Result<(), AllocError> {
+        match line.strip_prefix(SIZES) {
+            Some(text) if is_below_title => {
+                let number = index.saturating_add(1);
+                self.sizes = Some(SizesLine { number, text });
+            }
+            _ => self.text.push_str(line)?,
+        }
         self.text.push('\n')
     }
 
@@ -122,68 +132,48 @@ fn sizes_between(alloc: Global, least: usize, most: usize) -> Result<Vec<usize>,
     Ok(sizes)
 }
 
-/// Takes the lines of a text, and divides them by cases.
-#[derive(Drop)]
-struct Divider<'a> {
-    alloc: Global,
-    /// The cases before the last one.
-    cases: Vec<CaseText<'a>>,
-    /// The case that the next line belongs to, unless that is a title.
-    last: CaseText<'a>,
-    /// Whether the line before the next one is a title.
-    is_below_title: bool,
-}
-
 /// The cases of a text, in order, each as text. What stands before the first title belongs to the first of them.
 pub fn case_texts<'a>(alloc: Global, text: &'a str) -> Result<Vec<CaseText<'a>>, AllocError> {
-    let mut divider = Divider {
-        alloc,
-        cases: Vec::new(alloc),
-        last: CaseText::new(alloc, 0),
-        is_below_title: false,
-    };
-    divider.take_text(text)?;
-    let Divider { cases, last, .. } = divider;
-    let mut cases = cases;
-    cases.push(last)?;
+    let mut cases = Vec::new(alloc);
+    push_cases(alloc, &mut cases, text)?;
     Ok(cases)
 }
 
-impl<'a> Divider<'a> {
-    /// Takes a whole text.
-    fn take_text(&mut self, text: &'a str) -> Result<(), AllocError> {
-        // what follows the last line end of a text is not a line
-        let text = text.strip_suffix('\n').unwrap_or(text);
-        for (index, line) in text.split('\n').enumerate() {
-            self.take(index, line)?;
+/// Adds the cases of a text.
+fn push_cases<'a>(
+    alloc: Global,
+    cases: &mut Vec<CaseText<'a>>,
+    text: &'a str,
+) -> Result<(), AllocError> {
+    cases.push(CaseText::new(alloc, 0))?;
+    let mut is_below_title = false;
+    // what follows the last line end of a text is not a line
+    let text = text.strip_suffix('\n').unwrap_or(text);
+    for (index, line) in text.split('\n').enumerate() {
+        let title = line.strip_prefix(TITLE);
+        if let Some(title) = title {
+            begin_case(alloc, cases, index, title)?;
         }
-        Ok(())
+        if let Some(last) = cases.last_mut() {
+            last.take(index, line, is_below_title)?;
+        }
+        is_below_title = title.is_some();
     }
+    Ok(())
+}
 
-    /// Takes the line after this many others.
-    fn take(&mut self, index: usize, line: &'a str) -> Result<(), AllocError> {
-        if let Some(title) = line.strip_prefix(TITLE) {
-            return self.begin_case(index, line, title);
-        }
-        let is_below_title = mem::replace(&mut self.is_below_title, false);
-        match line.strip_prefix(SIZES) {
-            Some(text) if is_below_title => {
-                let number = index.saturating_add(1);
-                self.last.sizes = Some(SizesLine { number, text });
-                self.last.take("")
-            }
-            _ => self.last.take(line),
-        }
+/// Begins the case with a title, which is the line after this many others.
+fn begin_case<'a>(
+    alloc: Global,
+    cases: &mut Vec<CaseText<'a>>,
+    index: usize,
+    title: &'a str,
+) -> Result<(), AllocError> {
+    if cases.last().is_some_and(|last| last.title.is_some()) {
+        cases.push(CaseText::new(alloc, index))?;
     }
-
-    /// Begins the case with a title, which is the line after this many others.
-    fn begin_case(&mut self, index: usize, line: &str, title: &'a str) -> Result<(), AllocError> {
-        if self.last.title.is_some() {
-            let case = mem::replace(&mut self.last, CaseText::new(self.alloc, index));
-            self.cases.push(case)?;
-        }
-        self.last.title = Some(title);
-        self.is_below_title = true;
-        self.last.take(line)
+    if let Some(last) = cases.last_mut() {
+        last.title = Some(title);
     }
+    Ok(())
 }

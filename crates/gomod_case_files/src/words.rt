@@ -3,7 +3,7 @@
 use crate::escapes::Unescaper;
 use crate::faults::{CaseFault, CaseLineFault, TextFault};
 use crate::numbering::{count_of, numbered};
-use std::alloc::Global;
+use std::alloc::{AllocError, Global};
 use std::{mem, str};
 
 /// Where a byte is in the words.
@@ -133,39 +133,28 @@ fn several(word: &str) -> Option<(usize, &str)> {
     Some((count_of(count)?, text))
 }
 
-/// The words of a text.
-fn words_of(alloc: Global, text: &str) -> Result<Vec<Vec<u8>>, TextFault> {
-    let mut cutter = Cutter::new(alloc);
-    cutter.take_text(text)?;
-    let Cutter { words, .. } = cutter;
-    Ok(words)
-}
-
 /// The words of a text in the line of this number.
 pub(crate) fn words_of_line(
     alloc: Global,
     number: usize,
     text: &str,
 ) -> Result<Vec<Vec<u8>>, CaseFault> {
-    match words_of(alloc, text) {
-        Ok(words) => Ok(words),
+    let mut cutter = Cutter::new(alloc);
+    match cutter.take_text(text) {
+        Ok(()) => Ok(cutter.words),
         Err(TextFault::NoMemory) => Err(CaseFault::NoMemory),
         Err(TextFault::Invalid) => Err(CaseFault::Line(number, CaseLineFault::BadWords)),
     }
 }
 
-/// The words of a text in the line of this number, each of which has to be UTF-8.
-pub(crate) fn texts_of_line(
-    alloc: Global,
-    number: usize,
-    text: &str,
-) -> Result<Vec<String>, CaseFault> {
+/// Words as texts, or none if one of them is not UTF-8.
+pub(crate) fn texts_of(alloc: Global, words: &[Vec<u8>]) -> Result<Option<Vec<&str>>, AllocError> {
     let mut texts = Vec::new(alloc);
-    for word in words_of_line(alloc, number, text)? {
-        let Ok(word) = String::from_utf8(word) else {
-            return Err(CaseFault::Line(number, CaseLineFault::BadWords));
+    for word in words {
+        let Ok(text) = str::from_utf8(word.as_slice()) else {
+            return Ok(None);
         };
-        texts.push(word)?;
+        texts.push(text)?;
     }
-    Ok(texts)
+    Ok(Some(texts))
 }
