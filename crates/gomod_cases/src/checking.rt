@@ -65,7 +65,15 @@ fn check_below(
 /// Checks the commands of a case in its workspace.
 fn check_in(workspace: &Workspace<'_>, differences: &mut Differences) -> io::Result<()> {
     let runs = parsed_runs(workspace.alloc(), workspace.case)?;
-    let runs = runs.as_slice();
+    check_parsed(workspace, runs.as_slice(), differences)
+}
+
+/// Checks the commands of a case, and if all pass also over what fails and what is cut off.
+fn check_parsed(
+    workspace: &Workspace<'_>,
+    runs: &[ParsedRun<'_>],
+    differences: &mut Differences,
+) -> io::Result<()> {
     check_runs(workspace, runs, differences)?;
     if differences.is_empty() && !workspace.case.is_large {
         sweep(workspace, runs, differences)?;

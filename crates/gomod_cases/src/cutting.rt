@@ -80,9 +80,21 @@ fn check_run_over_cut(
     differences: &mut Differences,
 ) -> Result<(), AllocError> {
     let found = cut_memory(workspace, cut).found_outcome(parsed_run, AMPLE)?;
-    check_found(parsed_run, cut, layout, &found, differences);
+    check_both(workspace, parsed_run, cut, layout, &found, differences)
+}
+
+/// Checks the result of a command in memory, and runs it over real files if the real file is cut off.
+fn check_both(
+    workspace: &Workspace<'_>,
+    parsed_run: &ParsedRun<'_>,
+    cut: &CutFile<'_>,
+    layout: &Option<Outcome>,
+    found: &Option<Outcome>,
+    differences: &mut Differences,
+) -> Result<(), AllocError> {
+    check_found(parsed_run, cut, layout, found, differences);
     if differences.is_empty() && cut.is_real {
-        check_real(workspace, parsed_run, cut, layout, &found, differences)?;
+        check_real(workspace, parsed_run, cut, layout, found, differences)?;
     }
     Ok(())
 }
@@ -112,14 +124,13 @@ fn check_real(
     found: &Option<Outcome>,
     differences: &mut Differences,
 ) -> Result<(), AllocError> {
-    let real = workspace.outcome(parsed_run.run, AMPLE)?;
-    let real = &real.outcome;
+    let real = workspace.result(parsed_run.run, AMPLE)?;
     let fault = match found {
-        Some(found) => otherwise(found, real),
-        None => unsound(layout, parsed_run, cut, real),
+        Some(found) => otherwise(found, &real),
+        None => unsound(layout, parsed_run, cut, &real),
     };
     if let Some(fault) = fault {
-        report_cut(parsed_run.run, fault, cut, real, differences);
+        report_cut(parsed_run.run, fault, cut, &real, differences);
     }
     Ok(())
 }

@@ -47,6 +47,18 @@ impl Memory<'_> {
         }
     }
 
+    /// The files that a command line asks for over a store whose device doesn't fail, or none as above.
+    pub(crate) fn asked(
+        &self,
+        parsed: &Parsed,
+        room: Room,
+    ) -> Result<Option<Vec<FileName>>, AllocError> {
+        match self.outcome(parsed, None, room)? {
+            Some(found) => Ok(Some(found.asked)),
+            None => Ok(None),
+        }
+    }
+
     /// Runs a command of the case over stores in memory, if it can be run there.
     pub(crate) fn found(
         &self,
@@ -86,7 +98,7 @@ impl Memory<'_> {
             return Ok(None);
         };
         let mut files = MemoryFiles::new(self.alloc);
-        Ok(Some(self.run_over(&parsed.command, main, None, &mut files, room)?))
+        self.run_over(&parsed.command, main, None, &mut files, room)
     }
 
     /// Runs `versions`.
@@ -97,23 +109,12 @@ impl Memory<'_> {
         broken: Option<&FileName>,
         room: Room,
     ) -> Result<Option<InMemory>, AllocError> {
-        let folders = self.list_folders(path, &parsed.proxy, broken)?;
+        let mut folders = Folders::new(self.alloc);
+        self.put_lists(&mut folders, path, &parsed.proxy, broken)?;
         self.over_folders(&parsed.command, b"", None, folders, room)
     }
 
-    /// The folders of `versions`: those that the words name, or one with the list on standard input.
-    fn list_folders(
-        &self,
-        path: &ModPath,
-        proxy: &Option<ProxyList>,
-        broken: Option<&FileName>,
-    ) -> Result<Folders, AllocError> {
-        let mut folders = Folders::new(self.alloc);
-        self.put_lists(&mut folders, path, proxy, broken)?;
-        Ok(folders)
-    }
-
-    /// Adds the folders of `versions`.
+    /// Adds the folders of `versions`: those that the words name, or one with the list on standard input.
     fn put_lists(
         &self,
         folders: &mut Folders,
@@ -150,25 +151,13 @@ impl Memory<'_> {
             }
             None => None,
         };
-        let folders = self.graph_folders(parsed.main.as_str(), main, list, broken)?;
+        let mut folders = Folders::new(self.alloc);
+        self.put_graph(&mut folders, parsed.main.as_str(), main, list, broken)?;
         self.over_folders(command, main, sums, folders, room)
     }
 
-    /// The folders of a command over a graph: those that the words name, and those by which the main file replaces
+    /// Adds the folders of a command over a graph: those that the words name, and those by which the main file replaces
     /// modules.
-    fn graph_folders(
-        &self,
-        place: &str,
-        main: &[u8],
-        list: &ProxyList,
-        broken: Option<&FileName>,
-    ) -> Result<Folders, AllocError> {
-        let mut folders = Folders::new(self.alloc);
-        self.put_graph(&mut folders, place, main, list, broken)?;
-        Ok(folders)
-    }
-
-    /// Adds the folders of a command over a graph.
     fn put_graph(
         &self,
         folders: &mut Folders,
@@ -196,10 +185,10 @@ impl Memory<'_> {
         let Some(mut files) = folders.into_store(self.alloc) else {
             return Ok(None);
         };
-        Ok(Some(self.run_over(command, main, sums, &mut files, room)?))
+        self.run_over(command, main, sums, &mut files, room)
     }
 
-    /// Runs a command over a store that was asked for nothing yet.
+    /// Runs a command over a store that was asked for nothing yet. There is always a result.
     fn run_over<F: Files>(
         &self,
         command: &Command,
@@ -207,13 +196,13 @@ impl Memory<'_> {
         sums: Option<&[u8]>,
         files: &mut F,
         room: Room,
-    ) -> Result<InMemory, AllocError>
+    ) -> Result<Option<InMemory>, AllocError>
         requires unasked { (F.state files.old).asked ≡ [] }
         requires no_sums { is_query command.now ≡ false → option_map (λ sums. sums.now) sums ≡ None }
     {
         let outcome = self.outcome_over(command, main, sums, files, room)?;
         let asked = asked_of(self.alloc, files)?;
-        Ok(InMemory { outcome, asked })
+        Ok(Some(InMemory { outcome, asked }))
     }
 
     /// The result of a command over a store that was asked for nothing yet.

@@ -149,12 +149,13 @@ fn outcome_within(
     room: Room,
     is_real: bool,
 ) -> Result<Outcome, AllocError> {
-    if !is_real {
-        if let Some(outcome) = workspace.memory().found_outcome(parsed_run, room)? {
-            return Ok(outcome);
-        }
+    if is_real {
+        return workspace.result(parsed_run.run, room);
     }
-    Ok(workspace.outcome(parsed_run.run, room)?.outcome)
+    match workspace.memory().found_outcome(parsed_run, room)? {
+        Some(outcome) => Ok(outcome),
+        None => workspace.result(parsed_run.run, room),
+    }
 }
 
 /// Reports the result that a command had over an output that was full.

@@ -74,12 +74,6 @@ pub(crate) struct ParsedRun<'a> {
 }
 
 impl<'a> ParsedRun<'a> {
-    /// A command of a case.
-    fn of(alloc: Global, run: &'a Run<'a>) -> Result<ParsedRun<'a>, AllocError> {
-        let parsed = parsed_words(alloc, run)?;
-        Ok(ParsedRun { run, parsed })
-    }
-
     /// Whether the command reads the file in this place as a main file.
     pub(crate) fn reads_main(&self, place: &str) -> bool {
         match &self.parsed {
@@ -107,7 +101,8 @@ pub(crate) fn parsed_runs<'a>(
 ) -> Result<Vec<ParsedRun<'a>>, AllocError> {
     let mut parsed_runs = Vec::new(alloc);
     for run in &case.runs {
-        parsed_runs.push(ParsedRun::of(alloc, run)?)?;
+        let parsed = parsed_words(alloc, run)?;
+        parsed_runs.push(ParsedRun { run, parsed })?;
     }
     Ok(parsed_runs)
 }

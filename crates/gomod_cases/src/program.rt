@@ -6,7 +6,6 @@ use crate::differences::Differences;
 use gomod_case_files::{
     Case, CaseFault, CaseFile, CaseLineFault, CaseText, Content, case_texts, read_cases,
 };
-use std::alloc::AllocError;
 use std::process::ExitCode;
 use std::{env, fs, io};
 
@@ -41,18 +40,22 @@ fn words(rt: &HostRuntime) -> io::Result<Vec<String>> {
 /// Runs the cases, and says whether all passed.
 fn all_pass(rt: &HostRuntime) -> io::Result<bool> {
     let words = words(rt)?;
+    all_chosen_pass(rt, words.as_slice())
+}
+
+/// Runs the cases that words name and choose, and says whether all passed.
+fn all_chosen_pass(rt: &HostRuntime, words: &[String]) -> io::Result<bool> {
     let mut unmatched = Vec::new(rt.alloc());
     unmatched.resize(words.len(), true)?;
     let mut session = Session {
         system: *rt,
-        words: words.as_slice(),
+        words,
         unmatched,
         count: Count::new(),
         passed: 0,
         failed: 0,
     };
-    session.run_files()?;
-    Ok(session.failed == 0)
+    session.run_files()
 }
 
 /// What the program was asked for, and how many cases passed and failed so far.
@@ -68,37 +71,30 @@ struct Session<'a> {
 }
 
 impl<'a> Session<'a> {
-    /// Runs the cases of all files, and prints how many passed.
-    fn run_files(&mut self) -> io::Result<()> {
+    /// Runs the cases of all files, prints how many passed, and says whether all did.
+    fn run_files(&mut self) -> io::Result<bool> {
         for word in self.words {
             if names_file(word.as_str()) {
                 self.run_file(word.as_str())?;
             }
         }
         self.fail_unmatched()?;
-        self.report_tally()
-    }
-
-    /// The words that were to choose cases and chose none.
-    fn unmatched_words(&self) -> Result<Vec<&'a str>, AllocError> {
-        let words = self.words;
-        let mut found = Vec::new(self.system.alloc());
-        for (word, is_unmatched) in words.iter().zip(&self.unmatched) {
-            if *is_unmatched && !names_file(word.as_str()) {
-                found.push(word.as_str())?;
-            }
-        }
-        Ok(found)
+        self.report_tally()?;
+        Ok(self.failed == 0)
     }
 
     /// Fails for each word that was to choose cases and chose none, and if no case was run at all.
     fn fail_unmatched(&mut self) -> io::Result<()> {
-        for word in self.unmatched_words()? {
-            let line = format!(in self.system.alloc(); "no title has {word}\n")?;
-            self.fail(line.as_str())?;
+        let words = self.words;
+        for (index, word) in words.iter().enumerate() {
+            if self.unmatched.get(index) == Some(&true) && !names_file(word.as_str()) {
+                self.count_failure();
+                eprintln!(&self.system; "no title has {word}")?;
+            }
         }
         if self.passed == 0 && self.failed == 0 {
-            return self.fail("no case was run\n");
+            self.count_failure();
+            eprintln!(&self.system; "no case was run")?;
         }
         Ok(())
     }
@@ -124,8 +120,8 @@ impl<'a> Session<'a> {
 
     /// Reports a file of cases that can't be read.
     fn fail_unread(&mut self, name: &str, error: &io::Error) -> io::Result<()> {
-        let line = format!(in self.system.alloc(); "{name}: {error}\n")?;
-        self.fail(line.as_str())
+        self.count_failure();
+        eprintln!(&self.system; "{name}: {error}")
     }
 
     /// Runs the cases of a text.
@@ -169,7 +165,7 @@ impl<'a> Session<'a> {
         is_greatest: Option<bool>,
     ) -> io::Result<()> {
         match read_cases(self.system.alloc(), lines_before, text) {
-            Ok(cases) => self.run_copied(name, cases, is_greatest),
+            Ok(mut cases) => self.run_cases(name, cases.as_mut_slice(), is_greatest),
             Err(fault) => self.fail_case(name, fault),
         }
     }
@@ -184,22 +180,21 @@ impl<'a> Session<'a> {
 
     /// Reports a line that belongs to no case.
     fn fail_line(&mut self, name: &str, number: usize, fault: CaseLineFault) -> io::Result<()> {
-        let line = format!(in self.system.alloc(); "{name}:{number}: {fault}\n")?;
-        self.fail(line.as_str())
+        self.count_failure();
+        eprintln!(&self.system; "{name}:{number}: {fault}")
     }
 
     /// Runs those of the cases that the words choose, after it reads the files that they copy.
-    fn run_copied(
+    fn run_cases(
         &mut self,
         name: &str,
-        cases: Vec<Case<'_>>,
+        cases: &mut [Case<'_>],
         is_greatest: Option<bool>,
     ) -> io::Result<()> {
         for case in cases {
-            let mut case = case;
             if is_greatest.is_some() || is_chosen(case.title, self.words, &mut self.unmatched) {
-                prepare(&self.system, &mut case, is_greatest)?;
-                self.run_case(name, &case)?;
+                prepare(&self.system, case, is_greatest)?;
+                self.run_case(name, case)?;
             }
         }
         Ok(())
@@ -209,30 +204,29 @@ impl<'a> Session<'a> {
     fn run_case(&mut self, name: &str, case: &Case<'_>) -> io::Result<()> {
         let mut differences = Differences::new(self.system.alloc());
         check_case(&self.system, case, &self.count, &mut differences)?;
-        self.end_case(name, case, differences.finished()?)
+        self.end_case(name, case, &differences)
     }
 
     /// Counts a case, and reports how it differs, if it does.
-    fn end_case(&mut self, name: &str, case: &Case<'_>, differences: &str) -> io::Result<()> {
+    fn end_case(
+        &mut self,
+        name: &str,
+        case: &Case<'_>,
+        differences: &Differences,
+    ) -> io::Result<()> {
+        let differences = differences.finished()?;
         if differences.is_empty() {
             self.passed = self.passed.saturating_add(1);
             return Ok(());
         }
+        self.count_failure();
         let (line, title) = (case.line, case.title);
-        let head = format!(in self.system.alloc(); "{name}:{line}: {title}\n")?;
-        self.fail(head.as_str())?;
-        self.report(differences)
+        eprint!(&self.system; "{name}:{line}: {title}\n{differences}")
     }
 
-    /// Counts a failure, and reports it.
-    fn fail(&mut self, line: &str) -> io::Result<()> {
+    /// Counts a failure, which its caller reports.
+    fn count_failure(&mut self) {
         self.failed = self.failed.saturating_add(1);
-        self.report(line)
-    }
-
-    /// Reports a text on standard error.
-    fn report(&self, text: &str) -> io::Result<()> {
-        eprint!(&self.system; "{text}")
     }
 }
 

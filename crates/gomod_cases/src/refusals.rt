@@ -24,13 +24,13 @@ pub(crate) fn sweep_asks(
     differences: &mut Differences,
 ) -> Result<(), AllocError> {
     // a file may be looked for in several folders
-    if parsed.folder_count() <= 1 {
-        let found = workspace.memory().outcome(parsed, None, room_for(run))?;
-        if let Some(found) = &found {
-            sweep_asked(workspace, run, parsed, found.asked.as_slice(), differences)?;
-        }
+    if parsed.folder_count() > 1 {
+        return Ok(());
     }
-    Ok(())
+    match workspace.memory().asked(parsed, room_for(run))? {
+        Some(asked) => sweep_asked(workspace, run, parsed, asked.as_slice(), differences),
+        None => Ok(()),
+    }
 }
 
 /// Does so by the files that the command asks for over a store that doesn't fail.

@@ -39,8 +39,8 @@ impl Folders {
         bytes: &[u8],
     ) -> Result<(), AllocError> {
         self.proxies.push(MemoryFolder::new(alloc))?;
-        let content = Held::Content(copied(alloc, bytes)?);
-        self.put(FileName::List(path.copy(alloc)?), content)
+        let bytes = copied(alloc, bytes)?;
+        self.put(FileName::List(path.copy(alloc)?), Held::Content(bytes))
     }
 
     /// Adds the folders that the words name, with the files that a case has in them.
@@ -51,7 +51,7 @@ impl Folders {
         list: &ProxyList,
     ) -> Result<(), AllocError> {
         for folder in list.folders() {
-            self.proxies.push(filled(alloc, view, folder.as_str())?)?;
+            self.put_proxy(alloc, view, folder.as_str())?;
         }
         for mark in list.marks() {
             self.marks.push(*mark)?;
@@ -59,20 +59,29 @@ impl Folders {
         Ok(())
     }
 
-    /// The folder that a file is put into: the first proxy folder, or the folder of the main file.
-    fn shelf_of(&mut self, name: &FileName) -> Option<&mut MemoryFolder> {
-        match name {
-            FileName::Folder(_) => Some(&mut self.beside),
-            _ => self.proxies.first_mut(),
+    /// Adds a proxy folder, with the files that a case has in it.
+    fn put_proxy(
+        &mut self,
+        alloc: Global,
+        view: &View<'_>,
+        folder: &str,
+    ) -> Result<(), AllocError> {
+        self.proxies.push(MemoryFolder::new(alloc))?;
+        let folder = tidied(alloc, folder)?;
+        match self.proxies.last_mut() {
+            Some(shelf) => fill(alloc, view, folder.as_str(), shelf),
+            None => Ok(()),
         }
     }
 
-    /// Adds a file to the first proxy folder, or to the folder of the main file.
+    /// Adds a file to the first proxy folder, if there is one, or to the folder of the main file.
     fn put(&mut self, name: FileName, held: Held) -> Result<(), AllocError> {
-        match self.shelf_of(&name) {
-            Some(shelf) => shelf.put(name, held),
-            None => Ok(()),
+        if !matches!(name, FileName::Folder(_)) {
+            if let Some(shelf) = self.proxies.first_mut() {
+                return shelf.put(name, held);
+            }
         }
+        self.beside.put(name, held)
     }
 
     /// Makes the device fail at a file, if one is given.
@@ -81,10 +90,10 @@ impl Folders {
         alloc: Global,
         broken: Option<&FileName>,
     ) -> Result<(), AllocError> {
-        if let Some(name) = broken {
-            self.put(copy_name(alloc, name)?, Held::Broken)?;
+        match broken {
+            Some(name) => self.put(copy_name(alloc, name)?, Held::Broken),
+            None => Ok(()),
         }
-        Ok(())
     }
 
     /// Adds the go.mod files of the folders by which a main file replaces modules, if it can be read.
@@ -174,14 +183,6 @@ impl Folders {
             None
         }
     }
-}
-
-/// The files of a case in a proxy folder.
-fn filled(alloc: Global, view: &View<'_>, folder: &str) -> Result<MemoryFolder, AllocError> {
-    let folder = tidied(alloc, folder)?;
-    let mut shelf = MemoryFolder::new(alloc);
-    fill(alloc, view, folder.as_str(), &mut shelf)?;
-    Ok(shelf)
 }
 
 /// Adds the files of a case in a proxy folder.

@@ -45,6 +45,12 @@ impl<'a> Workspace<'a> {
         self.logged(run, room, &log)
     }
 
+    /// The result of a command over outputs with this room.
+    pub(crate) fn result(&self, run: &Run<'_>, room: Room) -> Result<Outcome, AllocError> {
+        let log = Log::new(self.alloc(), None);
+        self.outcome_of_words(run.words.as_slice(), room, &log)
+    }
+
     /// Runs a command that can open this many files, and not the next one.
     pub(crate) fn failing_after(
         &self,
