@@ -35,7 +35,12 @@ fn print_file(rt: &impl Print, file: &MainFile<'_>) -> io::Result<()> {
 /// Applies an operation of `gomod edit` to a file.
 fn edit(alloc: Global, file: &mut MainFile<'_>, operation: &str) -> anyhow::Result<()> {
     let op = Op::parse(alloc, operation)?;
-    apply(alloc, file, &op).map_err(anyhow::Error::from)
+    edit_by(alloc, file, &op)
+}
+
+/// Applies an operation that was read to a file.
+fn edit_by(alloc: Global, file: &mut MainFile<'_>, op: &Op) -> anyhow::Result<()> {
+    Ok(apply(alloc, file, op)?)
 }
 
 /// Prints the layout of the example.

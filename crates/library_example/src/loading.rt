@@ -75,13 +75,21 @@ fn print_graph(rt: HostRuntime, main: &MainFile<'_>, graph: &Loaded) -> anyhow::
     Ok(())
 }
 
-/// Loads the example from its proxy folder, and from a folder that isn't there.
+/// Loads the graph of a main module from a list of proxy folders, and prints it.
+fn show_from(rt: HostRuntime, main: &MainFile<'_>, proxies: &str) -> anyhow::Result<()> {
+    let graph = graph(rt, main, proxies)?;
+    print_graph(rt, main, &graph)
+}
+
+/// Loads the graph of a main module from its proxy folder, and from a folder that isn't there.
+fn show_over(rt: HostRuntime, main: &MainFile<'_>) -> anyhow::Result<()> {
+    show_from(rt, main, "proxy")?;
+    show_from(rt, main, "elsewhere")
+}
+
+/// Loads the example, whose main file is one of its files.
 pub(crate) fn show(rt: HostRuntime) -> anyhow::Result<()> {
     let bytes = bytes_of(rt, MAIN)?;
     let main = main_file(rt.alloc(), &bytes)?;
-    for proxies in ["proxy", "elsewhere"] {
-        let graph = graph(rt, &main, proxies)?;
-        print_graph(rt, &main, &graph)?;
-    }
-    Ok(())
+    show_over(rt, &main)
 }
