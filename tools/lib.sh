@@ -42,6 +42,96 @@ need_gomod() {
   [ -z "$newer" ] || echo "$name: bin/gomod is older than $newer: ./build makes it anew" >&2
 }
 
+# A folder that stands for / where the next functions read /proc and /sys: a test gives one with its own files.
+GOMOD_MACHINE=${GOMOD_MACHINE:-}
+
+# Prints the folder of this process's control group, and those of the groups above it, for a controller (memory or cpu),
+# in both versions.
+control_groups() {
+  local kinds path top tops
+  [ -r "$GOMOD_MACHINE/proc/self/cgroup" ] || return 0
+  while IFS=: read -r _ kinds path; do
+    case ,$kinds, in
+      ,,) tops=("" /unified) ;;
+      *",$1,"*) tops=("/$1") ;;
+      *) continue ;;
+    esac
+    path=${path%/}
+    # A container may see only the top of these folders, which is then its own group.
+    while true; do
+      for top in "${tops[@]}"; do
+        [ ! -d "$GOMOD_MACHINE/sys/fs/cgroup$top$path" ] || echo "$GOMOD_MACHINE/sys/fs/cgroup$top$path"
+      done
+      [ -n "$path" ] || break
+      path=${path%/*}
+    done
+  done < "$GOMOD_MACHINE/proc/self/cgroup"
+}
+
+# How many MB the control group in a folder may still take: its limit less what it has in use, but for the pages of
+# files, which it can give back. Prints nothing if it has no limit.
+group_memory_mb() {
+  local limit used=$1/memory.current
+  [ -r "$used" ] || used=$1/memory.usage_in_bytes
+  for limit in "$1/memory.max" "$1/memory.high" "$1/memory.limit_in_bytes"; do
+    [ ! -r "$limit" ] || [ ! -r "$used" ] || cat "$limit" "$used" "$1/memory.stat" | awk '
+      NR == 1 { limit = $1 }
+      NR == 2 { used = $1 }
+      /^(in)?active_file / { own += $2 }
+      /^total_(in)?active_file / { total += $2 }
+      END { if (limit ~ /^[0-9]+$/) printf "%d\n", (limit - used + (total ? total : own)) / 1048576 }'
+  done
+}
+
+system_memory_mb() { awk '/^MemAvailable:/ { print int($2 / 1024) }' "$GOMOD_MACHINE/proc/meminfo"; }
+
+# How many MB of memory can be had: what the system has available, or less if a control group leaves less.
+free_memory_mb() {
+  local group
+  {
+    system_memory_mb
+    control_groups memory | while read -r group; do group_memory_mb "$group"; done
+  } | sort -n | head -n 1
+}
+
+free_disk_mb() { df -Pk . | awk 'NR == 2 { print int($4 / 1024) }'; }
+
+# How many processors there are to use, at least 1: those of this process, or fewer by the quota of a control group.
+processors() {
+  local group
+  {
+    nproc
+    control_groups cpu | while read -r group; do
+      cat "$group/cpu.max" 2> /dev/null ||
+        paste "$group/cpu.cfs_quota_us" "$group/cpu.cfs_period_us" 2> /dev/null || true
+    done | awk '$1 ~ /^[0-9]+$/ && $2 > 0 { print $1 < $2 ? 1 : int($1 / $2) }'
+  } | sort -n | head -n 1
+}
+
+# Says what something that needs the toolchain, so many MB of memory and so many of disk lacks here, or nothing.
+lacking() {
+  local memory disk where=
+  memory=$(free_memory_mb) disk=$(free_disk_mb)
+  [ "$memory" -ge "$(system_memory_mb)" ] || where=" in this control group"
+  if [ "$(uname -sm)" != "Linux x86_64" ]; then
+    echo "x86-64 Linux, where the toolchain of Rattle runs, and this is $(uname -sm)"
+  elif ! command -v rt > /dev/null; then
+    echo "the command rt: install the toolchain of Rattle and put its bin/ on the PATH"
+  elif [ "$memory" -lt "$1" ]; then
+    echo "$1 MB of memory, and $memory MB are free$where"
+  elif [ "$disk" -lt "$2" ]; then
+    echo "$2 MB of disk, and $disk MB are free"
+  fi
+}
+
+# Whether a command of rt was killed, or what it said, in the file of the second argument, has that of what it started.
+# 247 is how rt ends if a check is killed. In both cases memory was most likely short.
+was_killed() {
+  local by_rt='was killed, most likely|\(SIGKILL\)|stopped by signal 9\b'
+  local by_tools='memory allocation of .* failed|out of memory$'
+  [ "$1" -eq 137 ] || [ "$1" -eq 247 ] || grep -qE "$by_rt|$by_tools" "$2"
+}
+
 # Copies the program, its man page and its completions to their usual places below a folder, and prints each.
 install_files() {
   local to=$1 mode from place
