@@ -346,3 +346,7 @@ def operations(some, requires, replaces, excludes):
             *[f"require={one}@v1.2", f"replace={one}=./a@b"] * is_rare(0.2),
         ]))
     return found
+
+
+if __name__ == "__main__":
+    print(__doc__)
