@@ -57,14 +57,3 @@ kept_more first second excludes xs ys x more there =
     let (among, passes) = from_filtered (λ y. not (is_excluded first y)) xs x there in
     in_filtered (λ y. not (is_excluded second y)) ys x (more among)
     (still_passes (is_excluded first x) (is_excluded second x) (excluded_more first second excludes x) passes)
-
--- A member that is kept is one of the list.
-pub kept_of : (main : Main) (xs : List ModuleVersion) (x : ModuleVersion) → Contains (without_excluded main xs) x
-    → Contains xs x
-kept_of main xs x there = (from_filtered (λ y. not (is_excluded main y)) xs x there).0
-
--- A module that one main file keeps is kept in any list by one that excludes less.
-pub kept_there : (first second : Main) → ((x : ModuleVersion) → Contains second.excludes x → Contains first.excludes x)
-    → (xs ys : List ModuleVersion) (x : ModuleVersion) → Contains (without_excluded first xs) x → Contains ys x
-    → Contains (without_excluded second ys) x
-kept_there first second excludes xs ys x there among = kept_more first second excludes xs ys x (λ h. among) there

@@ -9,18 +9,9 @@ use Rattle.gm_graph_cache.specs.Reading.{Readings, is_unpruned, is_unpruned_in, 
 use Rattle.gm_graph_select.specs.declared.step.Step.{Step}
 use Rattle.gm_graph_select.specs.declared.step.Step.TheVariants.{Main as FromMain, Of}
 use Rattle.gm_graph_select.proofs.Ascending.{no_member}
-use Rattle.gm_graph.specs.Graph.{IsDeep, IsEdge, IsOpened, IsTop, IsVertex, from_deep, from_main, from_top}
+use Rattle.gm_graph.specs.Graph.{IsDeep, IsEdge, IsOpened, IsTop, from_deep, from_main, from_top}
 use Rattle.gm_graph_listing.proofs.OneStore.{Agrees}
 use Rattle.gomod_laws.proofs.AdditionsKept.{kept_more}
-
--- ---- an opened module is a vertex
-
-pub opened_vertex : (main : Main) (readings : Readings) (x : ModuleVersion) → IsOpened main readings x
-    → IsVertex main readings x
-opened_vertex main readings x (inl top) = (FromMain, top)
-opened_vertex main readings x (inr (from_main unpruned top)) = (FromMain, top)
-opened_vertex main readings x (inr (from_top {x = above} top unpruned there)) = (Of above, (inl top, there))
-opened_vertex main readings x (inr (from_deep {x = above} deep there)) = (Of above, (inr deep, there))
 
 -- ---- what a file says, by two main files
 
@@ -77,10 +68,6 @@ module _ (first second : Main) (a b : Readings)
   pub opened_too : (x : ModuleVersion) → IsOpened first a x → IsOpened second b x
   opened_too x (inl top) = tops x top
   opened_too x (inr deep) = inr (deep_too deep)
-
-  pub vertex_too : (y : ModuleVersion) → IsVertex first a y → IsVertex second b y
-  vertex_too y (FromMain, top) = opened_vertex second b y (tops y top)
-  vertex_too y (Of x, (is, there)) = let too = opened_too x is in (Of x, (too, required x y too there))
 
   -- and so are the edges, if the second requires what the first requires
   pub edge_too : ((x : ModuleVersion) → IsTop first x → IsTop second x) → (s : Step) (y : ModuleVersion)

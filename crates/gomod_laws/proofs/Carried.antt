@@ -11,10 +11,8 @@ use Rattle.gm_graph_cache.specs.Main.{Main, replacement_in, without_excluded}
 use Rattle.gm_graph_cache.specs.Reading.{IsTold, Readings, is_unpruned_in, requirements_in, said_in, vertex_requirements, with_right_path}
 use Rattle.gm_graph_cache.proofs.ReadingIf.{reading_if}
 use Rattle.gm_graph_cache.proofs.OneReading.{one_reading}
-use Rattle.gm_graph_select.specs.declared.step.Step.{Step}
-use Rattle.gm_graph_select.specs.declared.step.Step.TheVariants.{Main as FromMain, Of}
 use Rattle.gm_graph_select.proofs.Ascending.{no_member}
-use Rattle.gm_graph.specs.Graph.{IsDeep, IsEdge, IsOpened, from_deep, from_main, from_top}
+use Rattle.gm_graph.specs.Graph.{IsDeep, IsOpened, from_deep, from_main, from_top}
 
 -- what is known of a file, or is not
 abbrev pub Known : Type 0
@@ -70,7 +68,3 @@ module _ (main : Main) (a b : Readings) (same : IsCarried main a b) where
   pub opened_too : (x : ModuleVersion) → IsOpened main a x → IsOpened main b x
   opened_too x (inl top) = inl top
   opened_too x (inr below) = inr (deep_too below)
-
-  pub edge_too : (s : Step) (y : ModuleVersion) → IsEdge main a s y → IsEdge main b s y
-  edge_too FromMain y top = top
-  edge_too (Of x) y (is, there) = let be = opened_too x is in (be, required_too x y is be there)

@@ -13,7 +13,7 @@ use Rattle.gm_graph_select.proofs.Ascending.{member_cases, member_head, no_membe
 use Rattle.gm_graph_listing.specs.Outcomes.{Given}
 use Rattle.gm_report.specs.Outcome.{Outcome, printed}
 use Rattle.gm_graph_listing.specs.Texts.{edge_text}
-use Rattle.gomod_laws.specs.CounterAdditions.{ChainIsByNoLine, ChainIsToAnother, LineIsLost, NeitherPrints, RowIsHigher, RowIsLower, ShowA, UnlistedIsShown, chain_by_b, chain_to_b}
+use Rattle.gomod_laws.specs.CounterAdditions.{ChainIsByNoLine, ChainIsToAnother, LineIsLost, RowIsLower, ShowA, UnlistedIsShown, chain_by_b, chain_to_b}
 use Rattle.gomod_laws.specs.Counterexamples.{a_one}
 use Rattle.gomod_laws.specs.RowLaws.{IsExplained, LeadsTo, further, here, text_of}
 use Rattle.gomod_laws.proofs.Contradicted.{edge_to, edges_are, list_main, only_row, row_there}
@@ -45,20 +45,10 @@ line_is_lost run later first second (edges, others, shows, also, kept) =
       | inr none ↦ no_member (edge_to one_zero) none
     ]
 
--- ---- requirements
+-- ---- a chain that takes no line of a graph
 
 first_byte : (a b : ℕ) (x y : List ℕ) → a ∷ x ≡ b ∷ y → a ≡ b
 first_byte a b x y e = cc e
-
-pub row_is_higher : RowIsHigher
-row_is_higher (prints, same) =
-    let text = same_text (codes "m\na.b v1.1.0\n") (codes "m\na.b v1.0.0\n") same in
-    let digit : 49 ≡ 48 = first_byte 49 48 _ _ (ap (drop 9) text) in omega (arith, digit)
-
-pub neither_prints : NeitherPrints
-neither_prints report (prints, same) = let code : 1 ≡ 0 = prints in omega (arith, code)
-
--- ---- a chain that takes no line of a graph
 
 abbrev the_line : List ℕ
 the_line = codes "m a.b@v1.0.0"

@@ -1,12 +1,9 @@
--- What the laws of `versions` conclude is false of outputs that contradict them.
+-- What the law of `versions` concludes is false of outputs that contradict it.
 use Rattle.std.proofs.Common.{◌≡◌, ◌∙◌, ◌∷◌, ℕ, true, false, List, [], Some, None, Result, Ok, Contains, ap, codes, inl, inr, not, refl, subst, sym}
-use Rattle.std.specs.List.Sorted.{IsStrictlySortedBy}
 use Rattle.std.specs.Ordering.{is_gt}
 use Rattle.std.specs.declared.cmp.Ordering.{Ordering}
-use Rattle.std.specs.declared.cmp.Ordering.TheVariants.{Less, Greater}
 use Rattle.std.proofs.lemmas.Bool.{false≢true}
-use Rattle.gm_name.specs.Version.{IsVersion, version_cmp}
-use Rattle.gm_name.specs.VersionOrder.{version_total}
+use Rattle.gm_name.specs.Version.{IsVersion}
 use Rattle.gm_file.specs.Directives.{VersionInterval, pair}
 use Rattle.gm_file.specs.Fields.{Dependency}
 use Rattle.gm_file_retract.specs.Shown.{is_at_most, is_retracted, shown_of}
@@ -15,14 +12,14 @@ use Rattle.gm_store.specs.Listed.{IsListed}
 use Rattle.gm_graph_cache.specs.declared.class.Class.{Class}
 use Rattle.gm_graph_cache.specs.Reading.{IsFileReading}
 use Rattle.gm_graph_cache.proofs.OneReading.{one_reading}
-use Rattle.gm_graph_select.proofs.Ascending.{less_itself, member_cases, member_head, no_member}
+use Rattle.gm_graph_select.proofs.Ascending.{member_cases, member_head, no_member}
 use Rattle.gm_report.specs.Outcome.{Outcome, printed}
 use Rattle.gomod_run.specs.Versions.{versions_line}
 use Rattle.gomod_run.proofs.Uniqueness.{latest_once}
-use Rattle.gomod_laws.specs.CounterVersions.{ListedIsMissing, RetractedIsShown, UnretractedIsLeftOut, VersionDoesNotFit, VersionIsUnlisted, VersionStandsTwice, VersionsDescend, both_of_a}
-use Rattle.gomod_laws.specs.VersionLaws.{AreUnretracted, LeavesOutRetracted, Retracts, ShowsVersions}
+use Rattle.gomod_laws.specs.CounterVersions.{ListedIsMissing, RetractedIsShown, UnretractedIsLeftOut, both_of_a}
+use Rattle.gomod_laws.specs.VersionLaws.{AreUnretracted, LeavesOutRetracted, Retracts}
 use Rattle.gomod_laws.proofs.AdditionsKept.{from_filtered, in_filtered}
-use Rattle.gomod_laws.proofs.KnownVersions.{both_listed, one_one, one_one_is, one_one_is_above, one_one_is_latest, one_zero, one_zero_is, one_zero_listed, one_zero_unlisted, same_precedence, two_zero, two_zero_is, two_zero_misfits, versions_differ}
+use Rattle.gomod_laws.proofs.KnownVersions.{both_listed, one_one, one_one_is, one_one_is_latest, one_zero, one_zero_is, one_zero_listed, same_precedence, versions_differ}
 use Rattle.gomod_laws.proofs.ShownTexts.{same_text}
 use Rattle.gomod_laws.proofs.VersionLines.{line_says_versions}
 
@@ -42,50 +39,10 @@ two_known v w p q version there = elim (member_cases v version (w ∷ []) there)
   | inr later ↦ one_known w q version later
 ]
 
--- ---- versions of a.b
-
-shown_are : (asked : List (Name × Reply)) (versions known : List (List ℕ)) (outcome : Outcome) → AreVersions known → ShowsVersions asked (codes "a.b") versions outcome
-    → outcome ≡ printed (versions_line (codes "a.b") known) → versions ≡ known
-shown_are asked versions known outcome are shows is =
-    line_says_versions (codes "a.b") versions known (λ version there. (shows.each version there).listable.canonical) are
-    (same_text (versions_line (codes "a.b") versions) (versions_line (codes "a.b") known) (sym shows.prints ∙ is))
-
-ascends : (xs ys : List (List ℕ)) → IsStrictlySortedBy version_cmp xs → xs ≡ ys → IsStrictlySortedBy version_cmp ys
-ascends xs ys up is = subst (IsStrictlySortedBy version_cmp) is up
-
-not_twice : (v : List ℕ) → IsStrictlySortedBy version_cmp (v ∷ v ∷ []) → ⊥
-unfolding IsStrictlySortedBy
-not_twice v up = less_itself version_total v up.0.0
-
-pub version_stands_twice : VersionStandsTwice
-version_stands_twice asked versions shows =
-    let are = shown_are asked versions (one_zero ∷ one_zero ∷ []) (printed (codes "a.b v1.0.0 v1.0.0\n")) (two_known one_zero one_zero one_zero_is one_zero_is) shows refl in
-    not_twice one_zero (ascends versions (one_zero ∷ one_zero ∷ []) shows.ascending are)
-
-not_down : IsStrictlySortedBy version_cmp (one_one ∷ one_zero ∷ []) → ⊥
-unfolding IsStrictlySortedBy
-not_down up = let less : Greater ≡ Less = sym one_one_is_above ∙ up.0.0 in cc less
-
-pub versions_descend : VersionsDescend
-versions_descend asked versions shows =
-    let are = shown_are asked versions (one_one ∷ one_zero ∷ []) (printed (codes "a.b v1.1.0 v1.0.0\n")) (two_known one_one one_zero one_one_is one_zero_is) shows refl in
-    not_down (ascends versions (one_one ∷ one_zero ∷ []) shows.ascending are)
-
-pub version_does_not_fit : VersionDoesNotFit
-version_does_not_fit asked versions shows =
-    let are = shown_are asked versions (two_zero ∷ []) (printed (codes "a.b v2.0.0\n")) (one_known two_zero two_zero_is) shows refl in
-    let there : Contains versions two_zero = subst (λ (vs : List (List ℕ)). Contains vs two_zero) (sym are) (member_head two_zero []) in
-    two_zero_misfits (shows.each two_zero there).listable.fit
+-- ---- what is answered
 
 same_bytes : (a b : List ℕ) → Some (bytes a) ≡ Some (bytes b) → a ≡ b
 same_bytes a b e = cc e
-
-pub version_is_unlisted : VersionIsUnlisted
-version_is_unlisted asked versions answered shows =
-    let are = shown_are asked versions (one_zero ∷ []) (printed (codes "a.b v1.0.0\n")) (one_known one_zero one_zero_is) shows refl in
-    let there : Contains versions one_zero = subst (λ (vs : List (List ℕ)). Contains vs one_zero) (sym are) (member_head one_zero []) in
-    let list : shows.list ≡ codes "v1.1.0\n" = same_bytes shows.list (codes "v1.1.0\n") (sym shows.answered ∙ answered) in
-    one_zero_unlisted (subst (λ (text : List ℕ). IsListed (codes "a.b") text one_zero) list (shows.each one_zero there))
 
 -- ---- retracted versions
 

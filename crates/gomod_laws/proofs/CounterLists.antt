@@ -52,9 +52,6 @@ row_at x = (Of x, None)
 a_proper : IsProperRow (row_at a_one)
 a_proper = (a_is_path, one_zero_is, tt)
 
-two_proper : IsProperRow (row_at a_two)
-two_proper = (a_is_path, one_one_is, tt)
-
 b_proper : IsProperRow (row_at b_one)
 b_proper = (b_is_path, one_zero_is, tt)
 

@@ -11,26 +11,21 @@ use Rattle.gm_syntax.specs.Parsed.{IsParsedAs}
 use Rattle.gm_syntax.specs.Tokens.{Placed}
 use Rattle.gm_file_edit.specs.Edited.{edited}
 use Rattle.gm_file_edit.specs.Kinds.{is_fit}
-use Rattle.gm_file_edit.specs.Edits.{Edit as Operation, Set, ModuleIs, GoIs, RequireAt, Drop, AnyRequire, Add, Exclude, AnyExclude, ReplaceWith, AnyReplace, Retract, AnyRetract, edit_in}
+use Rattle.gm_file_edit.specs.Edits.{Edit as Operation, edit_in}
 use Rattle.gm_file_edit.specs.Laws.{IsEditOf, directives_of}
-use Rattle.gm_file_edit.proofs.SaidAfter.{others-stay}
-use Rattle.gm_graph_cache.specs.Main.{Main, main_of}
-use Rattle.gm_graph_select.proofs.Ascending.{member_head, member_tail}
+use Rattle.gm_graph_cache.specs.Main.{Main}
 use Rattle.gm_graph_listing.specs.Outcomes.{IsMainFile, IsMainOf, longest}
 use Rattle.gm_report.specs.Outcome.{Outcome, printed}
 use Rattle.gm_report.specs.Reports.{main_line, edit_line}
 use Rattle.gm_graph_listing.proofs.OneRead.{one_main}
 use Rattle.gomod_words.specs.Usage.{texts_in}
 use Rattle.gomod_run.specs.Editing.{IsEditOutcome, edited_in_turn, edits_outcome, refusal_of, refusals_from}
-use Rattle.gomod_laws.specs.EditListLaws.{AreRetractions, PrintsAfter, RetractionsChangeNoBuild, is_retraction}
-use Rattle.gomod_laws.specs.FormattingLaws.{IsEdited}
-use Rattle.gomod_laws.proofs.EditListSaid.{main_without_retractions}
+use Rattle.gomod_laws.specs.EditListLaws.{PrintsAfter}
+use Rattle.gomod_laws.specs.Runs.{IsEdited}
 use Rattle.gomod_laws.proofs.FormattingBlanks.{main_said, no_fault_again, same_said}
 use Rattle.gomod_laws.proofs.FormattingEdits.{lines_good}
-use Rattle.gomod_laws.proofs.FormattingProofs.{AreSoundLines, edit_states, edited_sound, no_refusal, not_printed, numbered, read_sound, says_itself, texts_utf8}
+use Rattle.gomod_laws.proofs.FormattingProofs.{AreSoundLines, edit_states, edited_sound, no_refusal, not_printed, numbered, read_sound, texts_utf8}
 use Rattle.gomod_laws.proofs.FormattingRead.{layout_read}
-use Rattle.gomod_laws.proofs.LineOrderProofs.{queries_move}
-use Rattle.gomod_laws.proofs.LineOrderRuns.{same_outcome}
 
 -- ---- what `edit` prints
 
@@ -70,58 +65,6 @@ text_main lines text sound is short = let (doc, main, same) = text_lines lines t
 
 pub is_edit : (text : List ℕ) (operation : Operation) (lines : List (Line Placed)) → edit_in text ≡ Some operation → is_fit operation ≡ true → AreSoundLines lines → IsEditOf operation lines
 is_edit text operation lines written fit sound = ((text, written), fit, sound.document, sound.faultless)
-
-retraction_stays : (text : List ℕ) (operation : Operation) (lines : List (Line Placed)) → edit_in text ≡ Some operation → is_fit operation ≡ true → AreSoundLines lines → is_retraction operation ≡ true
-    → main_said (directives_of (edited operation lines)) ≡ main_said (directives_of lines)
-retraction_stays text (Add (Retract ends)) lines written fit sound is =
-    main_without_retractions ends (directives_of (edited (Add (Retract ends)) lines)) (directives_of lines) (others-stay (Add (Retract ends)) lines (is_edit text (Add (Retract ends)) lines written fit sound))
-retraction_stays text (Drop (AnyRetract ends)) lines written fit sound is =
-    main_without_retractions ends (directives_of (edited (Drop (AnyRetract ends)) lines)) (directives_of lines) (others-stay (Drop (AnyRetract ends)) lines (is_edit text (Drop (AnyRetract ends)) lines written fit sound))
-retraction_stays text (Set (ModuleIs path)) lines written fit sound is = absurd cc
-retraction_stays text (Set (GoIs go)) lines written fit sound is = absurd cc
-retraction_stays text (Set (RequireAt p)) lines written fit sound is = absurd cc
-retraction_stays text (Drop (AnyRequire path)) lines written fit sound is = absurd cc
-retraction_stays text (Add (Exclude p)) lines written fit sound is = absurd cc
-retraction_stays text (Drop (AnyExclude p)) lines written fit sound is = absurd cc
-retraction_stays text (Set (ReplaceWith r)) lines written fit sound is = absurd cc
-retraction_stays text (Drop (AnyReplace left)) lines written fit sound is = absurd cc
-
--- ---- operations in turn
-
--- what retractions in turn leave
-record AreLeft (texts : List (List ℕ)) (lines : List (Line Placed)) : Type 0 where
-  pub sound : AreSoundLines (edited_in_turn (filter_map edit_in texts) lines)
-  pub same : main_said (directives_of (edited_in_turn (filter_map edit_in texts) lines)) ≡ main_said (directives_of lines)
-
--- the first operation, given what the others leave of any lines
-first_stays : (number : ℕ) (text : List ℕ) (texts : List (List ℕ)) (lines : List (Line Placed)) (operation : Operation) → IsUtf8 text → edit_in text ≡ Some operation → is_retraction operation ≡ true
-    → option_to_list (option_map (numbered number) (refusal_of (edit_in text))) ++ refusals_from (number + 1) texts ≡ [] → AreSoundLines lines
-    → (refusals_from (number + 1) texts ≡ [] → AreSoundLines (edited operation lines) → AreLeft texts (edited operation lines)) → AreLeft (text ∷ texts) lines
-first_stays number text texts lines operation utf8 written is refused sound others =
-    let said : option_to_list (option_map (numbered number) (refusal_of (Some operation))) ++ refusals_from (number + 1) texts ≡ [] =
-    subst (λ (x : Option Operation). option_to_list (option_map (numbered number) (refusal_of x)) ++ refusals_from (number + 1) texts ≡ []) written refused in
-    let fit = no_refusal number operation (refusals_from (number + 1) texts) said in
-    let next = others fit.1 (edited_sound text operation lines utf8 written fit.0 sound) in
-    let turn : filter_map edit_in (text ∷ texts) ≡ operation ∷ filter_map edit_in texts = rw written refl in
-    record {
-      sound = subst (λ (os : List Operation). AreSoundLines (edited_in_turn os lines)) (sym turn) next.sound;
-      same = ap (λ (os : List Operation). main_said (directives_of (edited_in_turn os lines))) turn ∙ next.same ∙ retraction_stays text operation lines written fit.0 sound is;
-    }
-
-retractions_stay : (number : ℕ) (texts : List (List ℕ)) (lines : List (Line Placed)) → AllByRecursion IsUtf8 texts → refusals_from number texts ≡ [] → AreRetractions texts → AreSoundLines lines → AreLeft texts lines
-retractions_stay number [] lines utf8 none each sound = record { sound = sound; same = refl }
-retractions_stay number (text ∷ texts) lines utf8 none each sound =
-    let (operation, written, is) = each text (member_head text texts) in
-    first_stays number text texts lines operation utf8.0 written is none sound
-    (λ rest now. retractions_stay (number + 1) texts (edited operation lines) utf8.1 rest (λ t there. each t (member_tail text t texts there)) now)
-
-pub retractions_change_no_build : RetractionsChangeNoBuild
-retractions_change_no_build command operations file text sums asked answered before after query each edited short alike one two =
-    let found = edited_from operations file text edited in
-    let left = retractions_stay 1 (texts_in operations) found.lines (texts_utf8 operations.items) found.none each found.sound in
-    let main : Main = main_of found.lines in
-    let also : IsMainFile text main = subst (IsMainFile text) left.same (text_main (edited_in_turn (filter_map edit_in (texts_in operations)) found.lines) text left.sound found.text_is short) in
-    same_outcome command file text sums asked answered before after query (queries_move file text sums main main (found.lines, found.is_main, refl) also (says_itself main)) alike one two
 
 -- ---- the last operation
 

@@ -28,8 +28,7 @@ use Rattle.gm_graph_listing.proofs.OneRead.{misread_or_lines, same_lines}
 use Rattle.gomod_words.specs.declared.usage.Command.TheVariants.{Fmt}
 use Rattle.gomod_run.specs.Editing.{IsEditOutcome, edited_in_turn, edits_outcome, refusal_of, refusals_from}
 use Rattle.gomod_run.proofs.Sameness.{in_turn_same}
-use Rattle.gomod_laws.specs.EditPairLaws.{EitherOrderChangesNoBuild, UndoneIsFormatted}
-use Rattle.gomod_laws.specs.FormattingLaws.{PrintTheSame}
+use Rattle.gomod_laws.specs.EditPairLaws.{EitherOrderChangesNoBuild, PrintTheSame, UndoneIsFormatted}
 use Rattle.gomod_laws.specs.LineOrderLaws.{HoldTheSame}
 use Rattle.gomod_laws.specs.Runs.{HasOutcome}
 use Rattle.gomod_laws.proofs.EditListSteps.{edited_from, is_edit, text_lines}

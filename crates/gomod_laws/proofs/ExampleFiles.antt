@@ -35,7 +35,7 @@ use Rattle.gomod_laws.specs.ExampleWorld.{saying, top_one}
 use Rattle.gomod_laws.proofs.Contradicted.{m_is_path}
 use Rattle.gomod_laws.proofs.FormattingRead.{placeless}
 use Rattle.gomod_laws.proofs.KnownVersions.{Parts, one_zero_is, one_zero_parts}
-use Rattle.gomod_laws.proofs.ModuleLines.{ascii, bare, doc, lines, no_arrow, no_comment_before, parsed, word_bytes, words}
+use Rattle.gomod_laws.proofs.ExampleLines.{ascii, bare, doc, lines, no_arrow, no_comment_before, parsed, word_bytes, words}
 
 -- ---- words
 

@@ -23,22 +23,22 @@ use Rattle.gm_file_edit.proofs.Written.{written-sound}
 use Rattle.gm_graph_cache.specs.Main.{Main}
 use Rattle.gm_graph_listing.specs.Outcomes.{IsMainFile, IsMainOf, longest}
 use Rattle.gm_report.specs.Outcome.{Outcome, printed, refused}
-use Rattle.gm_report.specs.Reports.{main_line, edit_line}
-use Rattle.gm_graph_listing.proofs.OneRead.{misread_or_main, same_lines}
+use Rattle.gm_report.specs.Reports.{main_line}
+use Rattle.gm_graph_listing.proofs.OneRead.{same_lines}
 use Rattle.gomod_words.specs.Usage.{texts_in}
 use Rattle.gomod_words.specs.declared.usage.Command.TheVariants.{Fmt, Edit}
-use Rattle.gomod_run.specs.Editing.{IsEditOutcome, edited_in_turn, edits_outcome, refusal_of, refusals_from}
+use Rattle.gomod_run.specs.Editing.{IsEditOutcome, edited_in_turn, refusal_of, refusals_from}
 use Rattle.gomod_run.specs.Runs.{IsFmtOutcome}
 use Rattle.gomod_run.proofs.Sameness.{one_outcome}
-use Rattle.gomod_laws.specs.FormattingLaws.{EditOfNothingFormats, EditsAreFormatted, FormattingChangesNoBuild, IsFormatted, LayoutsAreFormatted}
-use Rattle.gomod_laws.specs.LineOrderLaws.{SayTheSame}
+use Rattle.gomod_laws.specs.FormattingLaws.{FormattingChangesNoBuild, IsFormatted, LayoutsAreFormatted}
 use Rattle.gomod_laws.specs.Runs.{HasOutcome}
 use Rattle.gomod_laws.proofs.FormattingBlanks.{main_said, no_fault_again, same_said}
-use Rattle.gomod_laws.proofs.FormattingEdits.{AreGood, edited_good, good_lines, lines_good}
-use Rattle.gomod_laws.proofs.FormattingRead.{layout_read, parsed_layout, read_document}
+use Rattle.gomod_laws.proofs.FormattingEdits.{AreGood, edited_good, good_lines}
+use Rattle.gomod_laws.proofs.FormattingRead.{parsed_layout, read_document}
 use Rattle.gomod_laws.proofs.FormattingUtf8.{read_utf8}
 use Rattle.gomod_laws.proofs.LineOrderProofs.{queries_move}
 use Rattle.gomod_laws.proofs.LineOrderRuns.{same_outcome}
+use Rattle.gomod_laws.proofs.LineOrderSame.{SayTheSame}
 
 -- ---- what a main file says
 
@@ -97,24 +97,13 @@ layouts_are_formatted file text formatted first short again =
     let parsed : IsParsedAs text (Ok read.doc) = subst (λ (t : List ℕ). IsParsedAs t (Ok read.doc)) (sym found.text_is) read.parsed in
     sym (fmt_is text read.doc formatted parsed again) ∙ ap printed (read.same_layout ∙ sym found.text_is)
 
--- ---- `edit` without an operation
+-- ---- what `edit` prints
 
 pub edit_states : (operations : Vec (String Global)) (file : List ℕ) (outcome : Outcome) → HasOutcome (Edit operations) file None [] outcome → IsEditOutcome (texts_in operations) file outcome
 edit_states operations file outcome has = elim has.run [
   | inl stated ↦ stated.0
   | inr stopped ↦ absurd stopped.2
 ]
-
-edit_of_nothing : (file : List ℕ) (main : Main) (edited formatted : Outcome) → IsMainFile file main → IsEditOutcome [] file edited → HasOutcome Fmt file None [] formatted
-    → (edited ≡ formatted) × (text : List ℕ) × (edited ≡ printed text)
-edit_of_nothing file main edited formatted is (inl (place, malformed, says)) has = absurd (misread_or_main file place main malformed is)
-edit_of_nothing file main edited formatted is (inr (lines, (parsed, sound), says)) has = (says ∙ fmt_is file lines formatted parsed has, layout (plain_lines lines), says)
-
-pub edit_of_nothing_formats : EditOfNothingFormats
-edit_of_nothing_formats operations file main edited formatted none is one other =
-    edit_of_nothing file main edited formatted is (subst (λ (texts : List (List ℕ)). IsEditOutcome texts file edited) none (edit_states operations file edited one)) other
-
--- ---- what `edit` prints
 
 -- what is known of lines between two operations
 pub record AreSoundLines (lines : List (Line Placed)) : Type 0 where
@@ -158,25 +147,3 @@ in_turn_sound number (text ∷ texts) lines utf8 none are = by_edit (edit_in tex
 pub texts_utf8 : (texts : List (String Global)) → AllByRecursion IsUtf8 (map string_bytes texts)
 texts_utf8 [] = tt
 texts_utf8 (text ∷ texts) = (IsUtf8-string_bytes text, texts_utf8 texts)
-
--- `edit` prints the layout of sound lines
-record IsEditLayout (text : List ℕ) : Type 0 where
-  pub lines : List (Line Placed)
-  pub sound : AreSoundLines lines
-  pub text_is : text ≡ layout (plain_lines lines)
-
-edit_printed : (texts : List (List ℕ)) (file text : List ℕ) → AllByRecursion IsUtf8 texts → IsEditOutcome texts file (printed text) → IsEditLayout text
-edit_printed texts file text utf8 (inl (place, malformed, says)) = absurd (not_printed text (main_line place) says)
-edit_printed texts file text utf8 (inr (lines, (parsed, faultless), says)) = by_refusals (refusals_from 1 texts) refl says
-  where
-    by_refusals : (found : List (ℕ × List ℕ)) → refusals_from 1 texts ≡ found → printed text ≡ edits_outcome found (edited_in_turn (filter_map edit_in texts) lines) → IsEditLayout text
-    by_refusals [] none is = record { lines = edited_in_turn (filter_map edit_in texts) lines; sound = in_turn_sound 1 texts lines utf8 none (read_sound file lines (parsed, faultless)); text_is = ap (λ (o : Outcome). o.text) is }
-    by_refusals (first ∷ others) some is = absurd (not_printed text (edit_line first) is)
-
-pub edits_are_formatted : EditsAreFormatted
-edits_are_formatted operations file text formatted first short again =
-    let found = edit_printed (texts_in operations) file text (texts_utf8 operations.items) (edit_states operations file (printed text) first) in
-    let low : length (layout (plain_lines found.lines)) ≤ longest = subst (λ (t : List ℕ). length t ≤ longest) found.text_is short in
-    let read = layout_read (plain_lines found.lines) found.sound.document (lines_good found.lines found.sound.utf8) low in
-    let parsed : IsParsedAs text (Ok read.doc) = subst (λ (t : List ℕ). IsParsedAs t (Ok read.doc)) (sym found.text_is) read.parsed in
-    sym (fmt_is text read.doc formatted parsed again) ∙ ap printed (read.same_layout ∙ sym found.text_is)

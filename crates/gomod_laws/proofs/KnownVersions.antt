@@ -1,4 +1,4 @@
--- The path a.b and the versions v1.0.0, v1.1.0 and v2.0.0, of which the counterexamples are.
+-- The path a.b and the versions v1.0.0 and v1.1.0, of which the counterexamples are.
 use Rattle.std.proofs.Common.{◌≡◌, ◌∙◌, ◌∷◌, ◌++◌, ◌+◌, ◌<◌, ◌==◌, ℕ, true, false, List, [], ap, ap₂, arith, codes, drop, inl, inr, length, length-append, lit<, refl, subst, sym}
 use Rattle.std.specs.Cmp.Lexicographic.{slice_cmp}
 use Rattle.std.specs.Fmt.{decimal}
@@ -9,7 +9,7 @@ use Rattle.std.proofs.lemmas.Fmt.{decimal_digit}
 use Rattle.gm_name.specs.Fit.{Fits}
 use Rattle.gm_name.specs.Path.{HasMajor, IsUnderGopkg}
 use Rattle.gm_name.specs.Version.{IsVersion, parts_in, precedence, version_cmp, version_text}
-use Rattle.gm_name.specs.declared.major.Major.TheVariants.{NoSuffix, Slash, Dot}
+use Rattle.gm_name.specs.declared.major.Major.TheVariants.{NoSuffix}
 use Rattle.gm_name.proofs.BaseVersions.{parts-spelled}
 use Rattle.gm_name.specs.VersionOrder.{version_total}
 use Rattle.gm_store.specs.Latest.{IsLatest, counts}
@@ -26,9 +26,6 @@ one_zero = codes "v1.0.0"
 abbrev pub one_one : List ℕ
 one_one = codes "v1.1.0"
 
-abbrev pub two_zero : List ℕ
-two_zero = codes "v2.0.0"
-
 -- ---- versions by their digits
 
 digits : (x y z : List ℕ) (a b c : ℕ) → x ≡ a ∷ [] → y ≡ b ∷ [] → z ≡ c ∷ []
@@ -40,9 +37,6 @@ zero_is = decimal_digit 0 (lit< tt)
 
 one_is : decimal 1 ≡ 49 ∷ []
 one_is = decimal_digit 1 (lit< tt)
-
-two_is : decimal 2 ≡ 50 ∷ []
-two_is = decimal_digit 2 (lit< tt)
 
 one_zero_text : one_zero ≡ version_text (1, 0, 0, [], [])
 one_zero_text = digits (decimal 1) (decimal 0) (decimal 0) 49 48 48 one_is zero_is zero_is
@@ -61,15 +55,6 @@ one_one_is = ((1, 1, 0, [], []), (lit< tt, lit< tt, lit< tt, refl, refl), inl re
 
 pub one_one_parts : parts_in one_one ≡ (1, 1, 0, [], [])
 one_one_parts = parts-spelled one_one (1, 1, 0, [], []) (lit< tt, lit< tt, lit< tt, refl, refl) one_one_text
-
-two_zero_text : two_zero ≡ version_text (2, 0, 0, [], [])
-two_zero_text = digits (decimal 2) (decimal 0) (decimal 0) 50 48 48 two_is zero_is zero_is
-
-pub two_zero_is : IsVersion two_zero
-two_zero_is = ((2, 0, 0, [], []), (lit< tt, lit< tt, lit< tt, refl, refl), inl refl, two_zero_text)
-
-pub two_zero_parts : parts_in two_zero ≡ (2, 0, 0, [], [])
-two_zero_parts = parts-spelled two_zero (2, 0, 0, [], []) (lit< tt, lit< tt, lit< tt, refl, refl) two_zero_text
 
 -- ---- their order
 
@@ -141,15 +126,6 @@ no_pseudo (form, time, revision, (front, is, stamp)) =
 pub one_zero_listable : IsListable (codes "a.b") one_zero
 one_zero_listable = record { canonical = one_zero_is; fit = one_zero_fits; no_pseudo = no_pseudo }
 
-pub two_zero_misfits : Fits (codes "a.b") two_zero → ⊥
-two_zero_misfits (Slash n, (apart, low, high, (front, is)), fits) = no_slash front (decimal n) is
-two_zero_misfits (Dot n, (under, high, ends), fits) = not_gopkg under
-two_zero_misfits (NoSuffix, own, inl (low, none)) =
-    let major : (parts_in two_zero).0 ≡ 2 = ap (λ (p : Parts). p.0) two_zero_parts in omega (arith, major, low)
-two_zero_misfits (NoSuffix, own, inr (high, marked)) =
-    let none : (parts_in two_zero).4 ≡ [] = ap (λ (p : Parts). p.4) two_zero_parts in
-    let wrong : [] ≡ codes "incompatible" = sym none ∙ marked in cc wrong
-
 -- ---- lists
 
 abbrev pub both_listed : List ℕ
@@ -173,13 +149,3 @@ one_one_is_latest = inl (record {
     ]
   ];
 })
-
--- a list of v1.1.0 alone does not name v1.0.0
-pub one_zero_unlisted : IsListed (codes "a.b") (codes "v1.1.0\n") one_zero → ⊥
-one_zero_unlisted is = elim (member_cases one_one one_zero ([] ∷ []) is.named) [
-  | inl same ↦ versions_differ (sym same)
-  | inr later ↦ elim (member_cases [] one_zero [] later) [
-    | inl same ↦ (let wrong : [] ≡ one_zero = same in cc wrong)
-    | inr none ↦ no_member one_zero none
-  ]
-]

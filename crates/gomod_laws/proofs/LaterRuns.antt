@@ -12,7 +12,7 @@ use Rattle.gomod_words.specs.declared.usage.Command.TheVariants.{Fmt, Edit, Vers
 use Rattle.gomod_run.specs.Runs.{StatesOutcome, is_query}
 use Rattle.gomod_run.specs.Versions.{IsOutcomeByList, IsVersionsOutcome, VersionsNeed}
 use Rattle.gomod_run.proofs.Sameness.{one_outcome}
-use Rattle.gomod_laws.specs.LaterLaws.{LaterAsksTheSame, LaterPrintsTheSame, OnlyAddsFiles}
+use Rattle.gomod_laws.specs.LaterLaws.{LaterAsksTheSame, LaterPrintsTheSame, OnlyAddsAnswers}
 use Rattle.gomod_laws.specs.Runs.{HasOutcome, HasPrinted}
 use Rattle.gomod_laws.proofs.FolderRuns.{IsFile, each_is_file, names_in_other, needed_again, needed_is_file, query_is_file, same_outcome}
 use Rattle.gomod_laws.proofs.PrintedRuns.{Pairs}
@@ -20,14 +20,14 @@ use Rattle.gomod_laws.proofs.VersionRuns.{by_answers}
 
 -- ---- a file stays
 
-file_stays : (asked later : Pairs) → OnlyAddsFiles asked later → (name : Name) (a b : Reply) → IsFile a → answer_in asked name ≡ Some a → answer_in later name ≡ Some b → b ≡ a
+file_stays : (asked later : Pairs) → OnlyAddsAnswers asked later → (name : Name) (a b : Reply) → IsFile a → answer_in asked name ≡ Some a → answer_in later name ≡ Some b → b ≡ a
 file_stays asked later adds name a b (content, is) e f = elim (adds name a b e f) [
   | inl same ↦ same
   | inr none ↦ (let isnt : bytes content ≡ absent = sym is ∙ none in cc isnt)
 ]
 
 -- where each answer was a file, no answer changed
-files_stay : (asked later : Pairs) → OnlyAddsFiles asked later → ((name : Name) (reply : Reply) → answer_in asked name ≡ Some reply → IsFile reply) → AnswerAlike asked later
+files_stay : (asked later : Pairs) → OnlyAddsAnswers asked later → ((name : Name) (reply : Reply) → answer_in asked name ≡ Some reply → IsFile reply) → AnswerAlike asked later
 files_stay asked later adds files name a b e f = sym (file_stays asked later adds name a b (files name a e) e f)
 
 -- ---- `versions`
@@ -59,7 +59,7 @@ second_kept : (a b : Option Reply) (reply : Reply) → ((before : Reply) → a �
 second_kept (Some x) b reply same e = ap Some (sym (same x refl))
 second_kept None b reply same e = e
 
-module _ (path : List ℕ) (all : Bool) (main : List ℕ) (sums : Option (List ℕ)) (asked later : Pairs) (one other : Outcome) (prints : HasPrinted one) (adds : OnlyAddsFiles asked later)
+module _ (path : List ℕ) (all : Bool) (main : List ℕ) (sums : Option (List ℕ)) (asked later : Pairs) (one other : Outcome) (prints : HasPrinted one) (adds : OnlyAddsAnswers asked later)
     (states : IsVersionsOutcome path all (answer_in asked) one) where
   abbrev both : AnswersByName
   both name = first_of (answer_in asked name) (answer_in later name)

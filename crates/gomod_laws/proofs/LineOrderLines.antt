@@ -20,10 +20,11 @@ use Rattle.gm_file.specs.Fields.{as_exclusion, as_go, as_module, as_replacing, a
 use Rattle.gm_file_edit.proofs.Sound.{nil-parts}
 use Rattle.gm_graph_cache.specs.Main.{is_excluded, is_pruned_by, main_of}
 use Rattle.gm_graph_select.proofs.Ascending.{member_cases, member_head, member_tail, no_member}
-use Rattle.gomod_laws.specs.LineOrderLaws.{HoldTheSame, LinesInAnyOrder, SayTheSame}
+use Rattle.gomod_laws.specs.LineOrderLaws.{HoldTheSame, LinesInAnyOrder}
 use Rattle.gomod_laws.proofs.FormattingBlanks.{AreFaultless, faultless_lines, main_said, seat_of}
-use Rattle.gomod_laws.proofs.LineOrderProofs.{order_does_not_matter}
-use Rattle.gomod_laws.proofs.LineOrderSame.{same_any}
+use Rattle.gomod_laws.proofs.LineOrderProofs.{queries_move}
+use Rattle.gomod_laws.proofs.LineOrderRuns.{same_outcome}
+use Rattle.gomod_laws.proofs.LineOrderSame.{SayTheSame, same_any}
 
 -- ---- directives in turn
 
@@ -356,5 +357,5 @@ say_the_same lines also none nothing hold =
 
 pub lines_in_any_order : LinesInAnyOrder
 lines_in_any_order command file other lines also sums asked answered a b query is too hold alike one two =
-    order_does_not_matter command file other (main_of lines) (main_of also) sums asked answered a b query (lines, is, refl) (also, too, refl)
-    (say_the_same lines also is.1 too.1 hold) alike one two
+    same_outcome command file other sums asked answered a b query
+    (queries_move file other sums (main_of lines) (main_of also) (lines, is, refl) (also, too, refl) (say_the_same lines also is.1 too.1 hold)) alike one two

@@ -1,4 +1,4 @@
--- The proofs of the laws of the order of lines.
+-- Two main files that say the same come to the same.
 use Rattle.std.proofs.Common.{◌≡◌, ◌∙◌, ℕ, List, [], ◌∷◌, map, Option, Some, None, sym, ap, refl, subst, inl, inr}
 use Rattle.gm_name.specs.ModuleVersion.{ModuleVersion}
 use mathlib.Core.Path.{fun_ext}
@@ -20,9 +20,8 @@ use Rattle.gm_graph_listing.proofs.OneRead.{misread_or_main, one_main}
 use Rattle.gomod_words.specs.declared.usage.Command.{Command}
 use Rattle.gomod_words.specs.declared.usage.Command.TheVariants.{Fmt, Edit, Versions, Graph, List as Rows, Chain}
 use Rattle.gomod_run.specs.Queries.{PrintsOf}
-use Rattle.gomod_laws.specs.LineOrderLaws.{OrderDoesNotMatter, SayTheSame}
-use Rattle.gomod_laws.proofs.LineOrderRuns.{QueriesMove, same_outcome}
-use Rattle.gomod_laws.proofs.LineOrderSame.{answered, asked, edges, faults, few, needed, opened, readings_same, same_back, same_edges, too_many as many}
+use Rattle.gomod_laws.proofs.LineOrderRuns.{QueriesMove}
+use Rattle.gomod_laws.proofs.LineOrderSame.{SayTheSame, answered, asked, edges, faults, few, needed, opened, readings_same, same_back, same_edges, too_many as many}
 
 abbrev with_path : List ℕ → Main → Main
 with_path path main = record main { path = path }
@@ -121,7 +120,3 @@ module _ (file other : List ℕ) (sums : Option (List ℕ)) (m n : Main) (is : I
 
   pub queries_move : QueriesMove file other sums
   queries_move command told outcome run = moved (PrintsOf command) (query_moves command) told outcome run
-
-pub order_does_not_matter : OrderDoesNotMatter
-order_does_not_matter command file other main also sums asked answered a b query is be same alike one two =
-    same_outcome command file other sums asked answered a b query (queries_move file other sums main also is be same) alike one two

@@ -10,7 +10,7 @@ use Rattle.gm_file.specs.Fields.{Dependency}
 use Rattle.gm_store.specs.Asked.{Name, Reply, answer_in}
 use Rattle.gm_graph_cache.specs.declared.class.Class.{Class}
 use Rattle.gm_graph_cache.specs.declared.class.Class.TheVariants.{NotFetchable}
-use Rattle.gm_graph_cache.specs.Main.{Main, is_excluded, replacement_in, without_excluded}
+use Rattle.gm_graph_cache.specs.Main.{Main, is_excluded, is_pruned_by, replacement_in, without_excluded}
 use Rattle.gm_graph_cache.specs.Reading.{Held, Readings, file_named, file_of, is_askable, readings_by, requirements_in, said_in, vertex_requirements, with_right_path}
 use Rattle.gm_graph_cache.proofs.ReadingIf.{reading_if}
 use Rattle.gm_graph_select.specs.declared.step.Edge.{Edge}
@@ -19,10 +19,22 @@ use Rattle.gm_graph_select.specs.declared.step.Step.TheVariants.{Main as FromMai
 use Rattle.gm_graph_select.proofs.Ascending.{member_cases, member_head, member_tail, no_member}
 use Rattle.gm_graph_select.proofs.Same.{AreSame}
 use Rattle.gm_graph.specs.declared.fault.Fault.{Fault}
-use Rattle.gm_graph.specs.Graph.{IsDeep, IsEdge, IsOpened, from_deep, from_main, from_top}
+use Rattle.gm_graph.specs.Graph.{IsDeep, IsEdge, IsOpened, IsTop, from_deep, from_main, from_top}
 use Rattle.gm_graph.specs.Loading.{AreAsked, AreFew, AreTooMany, IsAnswered, IsNeeded}
 use Rattle.gm_graph.specs.Outcome.{AreEdges, AreFaults}
-use Rattle.gomod_laws.specs.LineOrderLaws.{SayTheSame}
+
+-- Two main files say the same, wherever and however often.
+pub record SayTheSame (one other : Main) : Type 0 where
+  -- they declare the same module
+  pub path : one.path ≡ other.path
+  -- both have a go version of at least 1.17, or neither has
+  pub pruned : is_pruned_by one.go ≡ is_pruned_by other.go
+  -- less what they exclude, they require the same modules at the same versions
+  pub required : (x : ModuleVersion) → IsTop one x ↔ IsTop other x
+  -- they exclude the same modules at the same versions
+  pub excluded : (x : ModuleVersion) → Contains one.excludes x ↔ Contains other.excludes x
+  -- they replace each module at each version by the same: `./x` and `./x/` are not the same
+  pub replaced : (x : ModuleVersion) → replacement_in one x ≡ replacement_in other x
 
 back : {A B : Type 0} → A ↔ B → B ↔ A
 back h = (h.1, h.0)

@@ -4,7 +4,7 @@ use Rattle.std.proofs.lemmas.Bool.{false≢true}
 use Rattle.gm_store.specs.Asked.{Name, Reply, absent, answer_in, bytes, folder_file, list_file, mod_file, too_long}
 use Rattle.gm_store.specs.States.{StoreState}
 use Rattle.gm_store_sums.specs.Hash.{file_hash}
-use Rattle.gm_store_sums.specs.Sums.{IsSum, ReadsAs, Says, Sums, check_in}
+use Rattle.gm_store_sums.specs.Sums.{HasValidLines, IsSum, ReadsAs, Says, Sums, check_in}
 use Rattle.gm_store_sums.specs.declared.sum_table.Sum.{Sum}
 use Rattle.gm_store_sums.specs.declared.sum_table.Sum.TheVariants.{Differs, Good, Unlisted}
 use Rattle.gm_graph_cache.specs.declared.class.Class.{Class}
@@ -12,7 +12,7 @@ use Rattle.gm_graph_cache.specs.Main.{Main}
 use Rattle.gm_graph_cache.specs.Reading.{Held, IsReadUnless, IsTold, Tells, class_of_sum, file_of, is_askable, readings_by, sum_fault}
 use Rattle.gm_graph.specs.Loading.{AreTooMany, IsNeeded}
 use Rattle.gm_graph_listing.specs.Laws.{AnswerAlike}
-use Rattle.gm_graph_listing.specs.Outcomes.{AreKnown, AreSums, IsMainFile, IsOutcome, IsOutcomeOver, Prints as PrintsOver, PrintsChain, PrintsGraph, PrintsList, answers, device, faulty, given, too_many}
+use Rattle.gm_graph_listing.specs.Outcomes.{AreKnown, AreSums, IsMainFile, IsOutcome, IsOutcomeOver, Prints as PrintsOver, PrintsChain, PrintsGraph, PrintsList, answers, device, faulty, given, longest, too_many}
 use Rattle.gm_graph_listing.specs.Needs.{GraphNeeds}
 use Rattle.gm_report.specs.Outcome.{Outcome, refused}
 use Rattle.gm_report.specs.Reports.{too_many_line}
@@ -24,7 +24,7 @@ use Rattle.gomod_words.specs.declared.usage.Command.TheVariants.{Fmt, Edit, Vers
 use Rattle.gomod_run.specs.Queries.{RunsTo}
 use Rattle.gomod_run.proofs.OneStore.{one_for_stores}
 use Rattle.gomod_laws.specs.Runs.{HasOutcome}
-use Rattle.gomod_laws.specs.SumLaws.{HasNeedlessLines, HasSumLine, HaveSameLines, HaveSameSums, NeedlessLinesChangeNothing, SameSumsChangeNothing, SumLinesInAnyOrder}
+use Rattle.gomod_laws.specs.SumLaws.{HasNeedlessLines, HasSumLine, NeedlessLinesChangeNothing, SumLinesInAnyOrder}
 use Rattle.gomod_laws.proofs.Carried.{IsCarried, Known, opened_too, reading_kept, told_kept}
 use Rattle.gomod_laws.proofs.SumsChecked.{answered_name}
 use Rattle.gomod_laws.proofs.PrintedRuns.{query_by_answers}
@@ -81,6 +81,16 @@ told_with t u name (Some too_long) (Some reading) told same = told
 told_with t u name (Some (bytes content)) (Some reading) told same = subst (λ (o : Option Class). IsReadUnless o content reading) (same content) told
 
 -- ---- runs of a query
+
+-- Both go.sums are valid. For each file of a proxy that a run with these answers and the first go.sum needs, they have
+-- the same hashes, right or wrong.
+record HaveSameSums (main one other : List ℕ) (asked : List (Name × Reply)) : Type 0 where
+  short : length one ≤ longest
+  valid : HasValidLines one
+  other_short : length other ≤ longest
+  other_valid : HasValidLines other
+  same : (path version hash : List ℕ) → GraphNeeds main (Some one) (answer_in asked) (mod_file path version)
+      → IsSum one path version hash ↔ IsSum other path version hash
 
 module _ (prints : PrintsOver) (once : PrintsOnce prints) (main one other : List ℕ) (asked others : List (Name × Reply)) (a b : Outcome)
     (alike : AnswerAlike asked others) (are : HaveSameSums main one other asked) where
@@ -178,7 +188,8 @@ module _ (command : Command) (main one other : List ℕ) (asked others : List (N
 
 -- ---- the laws
 
-pub same_sums_change_nothing : SameSumsChangeNothing
+same_sums_change_nothing : (command : Command) (main one other : List ℕ) (asked others : List (Name × Reply)) (a b : Outcome) → AnswerAlike asked others → HaveSameSums main one other asked
+    → HasOutcome command main (Some one) asked a → HasOutcome command main (Some other) others b → a ≡ b
 same_sums_change_nothing Fmt main one other asked others a b alike are is be = same_unread Fmt main one other asked others a b alike (λ old new run. run) is be
 same_sums_change_nothing (Edit operations) main one other asked others a b alike are is be =
     same_unread (Edit operations) main one other asked others a b alike (λ old new run. run) is be
@@ -193,22 +204,6 @@ same_sums_change_nothing (Rows after limit) main one other asked others a b alik
 same_sums_change_nothing (Chain path) main one other asked others a b alike are is be =
     same_runs (PrintsChain path) (chain_once path) main one other asked others a b alike are
     (query_by_answers (Chain path) main (Some one) asked a refl is) (query_by_answers (Chain path) main (Some other) others b refl be)
-
-by_lines : (main one other : List ℕ) (asked : List (Name × Reply)) → HaveSameLines one other → HaveSameSums main one other asked
-by_lines main one other asked are = record {
-  short = are.short;
-  valid = are.valid;
-  other_short = are.other_short;
-  other_valid = are.other_valid;
-  same = λ path version hash needs. (
-    (λ is. record { line = (are.same path (version ++ codes "/go.mod") hash).0 is.line; kind = is.kind }),
-    (λ is. record { line = (are.same path (version ++ codes "/go.mod") hash).1 is.line; kind = is.kind }),
-  );
-}
-
-pub sum_lines_in_any_order : SumLinesInAnyOrder
-sum_lines_in_any_order command main one other asked others a b alike are is be =
-    same_sums_change_nothing command main one other asked others a b alike (by_lines main one other asked are) is be
 
 by_needed : (main one other : List ℕ) (asked : List (Name × Reply)) → HasNeedlessLines main one other asked → HaveSameSums main one other asked
 by_needed main one other asked are = record {
@@ -233,3 +228,17 @@ by_needed main one other asked are = record {
 pub needless_lines_change_nothing : NeedlessLinesChangeNothing
 needless_lines_change_nothing command main one other asked others a b alike are is be =
     same_sums_change_nothing command main one other asked others a b alike (by_needed main one other asked are) is be
+
+-- lines in another order are needless lines, of which there are none
+pub sum_lines_in_any_order : SumLinesInAnyOrder
+sum_lines_in_any_order command main one other asked others a b alike are is be =
+    needless_lines_change_nothing command main one other asked others a b alike
+    (record {
+      short = are.short;
+      valid = are.valid;
+      other_short = are.other_short;
+      other_valid = are.other_valid;
+      kept = λ path version hash there. (are.same path version hash).0 there;
+      needless = λ path version hash there. inl ((are.same path version hash).1 there);
+    })
+    is be

@@ -1,19 +1,12 @@
--- What `versions` prints, with all versions and without the retracted ones.
-use Rattle.std.proofs.Common.{◌≡◌, ◌⊎◌, ◌∙◌, ◌++◌, ◌∷◌, ℕ, Bool, List, [], Option, Some, None, Result, Ok, Err, Contains, ap, append-nil, false, inl, inr, not, refl, subst, sym, true}
+-- What `versions` prints, with and without the retracted versions.
+use Rattle.std.proofs.Common.{◌≡◌, ◌∙◌, ◌++◌, ◌∷◌, ℕ, Bool, List, [], Option, Some, None, Result, Ok, Err, ap, append-nil, false, inl, inr, refl, subst, sym, true}
 use Rattle.std.proofs.lemmas.Bool.{false≢true}
 use Rattle.std.proofs.lemmas.List.{append_cancel_left}
-use Rattle.std.proofs.lemmas.List.Elements.{All-contains, All-contains_itself, All-filter}
-use Rattle.std.proofs.lemmas.List.Kept.{IsStrictlySortedBy-filter}
-use Rattle.std.specs.List.{filter}
-use Rattle.gm_name.specs.Version.{version_cmp}
 use Rattle.gm_name.specs.Path.{is_fetchable}
-use Rattle.gm_file.specs.Directives.{VersionInterval}
 use Rattle.gm_file.specs.Fields.{Dependency}
-use Rattle.gm_file_retract.specs.Shown.{is_retracted, shown_of}
+use Rattle.gm_file_retract.specs.Shown.{shown_of}
 use Rattle.gm_store.specs.Asked.{Name, Reply, absent, answer_in, bytes, list_file, mod_file, too_long}
-use Rattle.gm_store.specs.Latest.{IsLatest}
-use Rattle.std.specs.List.Sorted.{IsStrictlySortedBy}
-use Rattle.gm_store.specs.Listed.{AreListed, IsListed}
+use Rattle.gm_store.specs.Listed.{AreListed}
 use Rattle.gm_graph_cache.specs.declared.class.Class.{Class}
 use Rattle.gm_graph_cache.specs.Reading.{IsFileReading}
 use Rattle.gm_report.specs.Outcome.{Outcome, printed, refused}
@@ -23,7 +16,7 @@ use Rattle.gomod_run.specs.Runs.{IsRunOutcome, Needs, StatesOutcome}
 use Rattle.gomod_run.specs.Versions.{IsListedOutcome, IsOutcomeByList, IsVersionsOutcome, shown_by, versions_line}
 use Rattle.gomod_run.proofs.Uniqueness.{listed_once}
 use Rattle.gomod_laws.specs.Runs.{HasOutcome, HasPrinted}
-use Rattle.gomod_laws.specs.VersionLaws.{AreUnretracted, PrintsVersionsOfPath, RetractedAreLeftOut, Retracts}
+use Rattle.gomod_laws.specs.VersionLaws.{AreUnretracted, RetractedAreLeftOut}
 
 abbrev Pairs : Type 0
 Pairs = List (Name × Reply)
@@ -69,58 +62,18 @@ list_answered path all answers outcome prints (inr (reply, fetchable, answered, 
     by too_long answered says = absurd (refusal_prints_nothing outcome _ says prints)
     by (bytes list) answered (versions, listed, is) = (versions, record { fetchable = fetchable; list = list; answered = answered; listed = listed }, is)
 
--- of the versions, these are shown: all, or those that the latest one's file does not retract
-abbrev AreShown : List ℕ → Bool → Pairs → List (List ℕ) → List (List ℕ) → Type 0
-AreShown path all asked versions shown =
-    (((all ≡ true) ⊎ (versions ≡ [])) × (shown ≡ versions))
-    ⊎ ((all ≡ false) × (latest : List ℕ) × (intervals : List VersionInterval)
-    × IsLatest versions latest
-    × Retracts asked path latest intervals
-    × (shown ≡ shown_of intervals versions))
-
-shown_printed : (path : List ℕ) (all : Bool) (asked : Pairs) (versions : List (List ℕ)) (outcome : Outcome) → HasPrinted outcome → IsListedOutcome path all (answer_in asked) versions outcome
-    → (shown : List (List ℕ)) × AreShown path all asked versions shown × (outcome ≡ printed (versions_line path shown))
-shown_printed path all asked versions outcome prints (inl (every, says)) = (versions, inl (every, refl), says)
-shown_printed path all asked versions outcome prints (inr (latest, reply, some, is, answered, shows)) = by shows.reading shows.says shows.outcome_is
+-- without `--retracted`, those that are not retracted are printed
+shown_printed : (path : List ℕ) (asked : Pairs) (versions : List (List ℕ)) (outcome : Outcome) → HasPrinted outcome → IsListedOutcome path false (answer_in asked) versions outcome
+    → (shown : List (List ℕ)) × AreUnretracted asked path versions shown × (outcome ≡ printed (versions_line path shown))
+shown_printed path asked versions outcome prints (inl (inl every, says)) = absurd (false≢true every)
+shown_printed path asked versions outcome prints (inl (inr none, says)) = (versions, inl (none, none), says)
+shown_printed path asked versions outcome prints (inr (latest, reply, some, is, answered, shows)) = by shows.reading shows.says shows.outcome_is
   where
     by : (reading : Result Dependency Class) → IsFileReading None (mod_file path latest) reply reading → outcome ≡ shown_by path versions latest reading
-        → (shown : List (List ℕ)) × AreShown path all asked versions shown × (outcome ≡ printed (versions_line path shown))
+        → (shown : List (List ℕ)) × AreUnretracted asked path versions shown × (outcome ≡ printed (versions_line path shown))
     by (Ok file) says outcome_is =
-        (shown_of file.retracts versions, inr (some, latest, file.retracts, is, (reply, file, answered, says, refl), refl), outcome_is)
+        (shown_of file.retracts versions, inr (latest, file.retracts, is, (reply, file, answered, says, refl), refl), outcome_is)
     by (Err class) says outcome_is = absurd (refusal_prints_nothing outcome _ outcome_is prints)
-
--- ---- each version fits the path
-
-kept_member : {X : Type 0} (p : X → Bool) (xs : List X) (x : X) → Contains (filter p xs) x → Contains xs x
-kept_member p xs x there = All-contains (Contains xs) (filter p xs) x (All-filter p (Contains xs) xs (All-contains_itself xs)) there
-
--- versions that ascend, each of which the list names
-record AreNamed (path list : List ℕ) (versions : List (List ℕ)) : Type 0 where
-  pub ascending : IsStrictlySortedBy version_cmp versions
-  pub each : (version : List ℕ) → Contains versions version → IsListed path list version
-
-listed_are_named : (path list : List ℕ) (versions : List (List ℕ)) → AreListed path list versions → AreNamed path list versions
-listed_are_named path list versions are = record { ascending = are.ascending; each = λ version there. (are.members version).0 there }
-
-unretracted_are_named : (path list : List ℕ) (intervals : List VersionInterval) (versions : List (List ℕ)) → AreNamed path list versions → AreNamed path list (shown_of intervals versions)
-unretracted_are_named path list intervals versions are = record {
-  ascending = IsStrictlySortedBy-filter version_cmp (λ version. not (is_retracted intervals version)) versions are.ascending;
-  each = λ version there. are.each version (kept_member (λ one. not (is_retracted intervals one)) versions version there);
-}
-
-are_named : (path list : List ℕ) (all : Bool) (asked : Pairs) (versions shown : List (List ℕ)) → AreNamed path list versions → AreShown path all asked versions shown → AreNamed path list shown
-are_named path list all asked versions shown are (inl (every, is)) = subst (AreNamed path list) (sym is) are
-are_named path list all asked versions shown are (inr (some, latest, intervals, greatest, says, is)) =
-    subst (AreNamed path list) (sym is) (unretracted_are_named path list intervals versions are)
-
-pub prints_versions_of_path : PrintsVersionsOfPath
-prints_versions_of_path path all main sums asked outcome run prints =
-    let (versions, is, follows) = list_answered path all (answer_in asked) outcome prints (by_answers path all main sums asked outcome run) in
-    let (shown, are, says) = shown_printed path all asked versions outcome prints follows in
-    let named = are_named path is.list all asked versions shown (listed_are_named path is.list versions is.listed) are in
-    (shown, record { list = is.list; answered = is.answered; ascending = named.ascending; each = named.each; prints = says })
-
--- ---- with `--retracted` and without
 
 -- with `--retracted`, each listed version is printed
 all_listed : (path : List ℕ) (answers : AnswersByName) (versions : List (List ℕ)) (outcome : Outcome) → IsListedOutcome path true answers versions outcome
@@ -140,22 +93,16 @@ all_printed : (path : List ℕ) (answers : AnswersByName) (list : List ℕ) (ver
 all_printed path answers list versions outcome fetchable listed same (inl (isnt, says)) = absurd (false≢true (sym isnt ∙ fetchable))
 all_printed path answers list versions outcome fetchable listed same (inr (reply, may, answered, is)) = all_by_list path answers list versions reply outcome listed (same reply answered) is
 
--- without `--retracted`, those that are not retracted
-are_unretracted : (path : List ℕ) (asked : Pairs) (versions shown : List (List ℕ)) → AreShown path false asked versions shown → AreUnretracted asked path versions shown
-are_unretracted path asked versions shown (inl (inl every, is)) = absurd (false≢true every)
-are_unretracted path asked versions shown (inl (inr none, is)) = inl (none, is ∙ none)
-are_unretracted path asked versions shown (inr (some, latest, intervals, greatest, says, is)) = inr (latest, intervals, greatest, says, is)
-
 pub retracted_are_left_out : RetractedAreLeftOut
 retracted_are_left_out path main sums asked told one other run prints also alike =
     let (versions, is, follows) = list_answered path false (answer_in asked) one prints (by_answers path false main sums asked one run) in
-    let (shown, are, says) = shown_printed path false asked versions one prints follows in
+    let (shown, are, says) = shown_printed path asked versions one prints follows in
     let same : (reply : Reply) → answer_in told (list_file path) ≡ Some reply → reply ≡ bytes is.list = λ reply answered. sym (alike (list_file path) (bytes is.list) reply is.answered answered) in
     record {
       versions = versions;
       shown = shown;
       listed = record { list = is.list; answered = is.answered; are = is.listed };
-      unretracted = are_unretracted path asked versions shown are;
+      unretracted = are;
       one_prints = says;
       other_prints = all_printed path (answer_in told) is.list versions other is.fetchable is.listed same (by_answers path true main sums told other also);
     }

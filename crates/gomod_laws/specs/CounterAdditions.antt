@@ -1,14 +1,13 @@
 -- What the laws of two runs of queries conclude is false of pairs of outputs that contradict them.
-use Rattle.std.specs.Prelude.{ℕ, List, None, codes, map}
+use Rattle.std.specs.Prelude.{List, None, codes, map}
 use Rattle.gm_graph_cache.specs.Main.{Main}
 use Rattle.gm_graph_select.specs.declared.step.Edge.{Edge}
 use Rattle.gm_graph_select.specs.BuildList.{Entry}
 use Rattle.gm_graph_listing.specs.Outcomes.{Given}
-use Rattle.gm_report.specs.Outcome.{Outcome, printed, refused}
+use Rattle.gm_report.specs.Outcome.{Outcome, printed}
 use Rattle.gm_graph_listing.specs.Texts.{edge_text}
 use Rattle.gomod_laws.specs.AdditionLaws.{KeepsLines, LowersNothing}
 use Rattle.gomod_laws.specs.Counterexamples.{graph_of_a, list_of_a}
-use Rattle.gomod_laws.specs.RequirableLaws.{PrintsAndStays}
 use Rattle.gomod_laws.specs.RowLaws.{IsExplained}
 use Rattle.gomod_laws.specs.Shown.{ShowsEdges, ShowsRows}
 
@@ -19,22 +18,13 @@ higher_list = printed (codes "m\na.b v1.1.0\n")
 abbrev pub other_graph : Outcome
 other_graph = printed (codes "m a.b@v1.1.0\n")
 
--- `ListLowersNothing`, `NoRowIsLower`, `UpgradeLowersNoRow`, `LaterVersionsLowerNoRow` and `RequireLaterLowersNoRow` if
--- `list` shows a.b v1.1.0 first and then a.b v1.0.0
+-- `ListLowersNothing`, if `list` shows a.b v1.1.0 first and then a.b v1.0.0
 abbrev pub RowIsLower : Type 0
 RowIsLower = (run later : Given) (first second : Main) → ¬ (LowersNothing run later first second higher_list list_of_a)
 
--- `GraphKeepsLines` if `graph` shows a line first and then another one in its place
+-- `GraphKeepsLines`, if `graph` shows a line first and then another one in its place
 abbrev pub LineIsLost : Type 0
 LineIsLost = (run later : Given) (first second : Main) → ¬ (KeepsLines run later first second graph_of_a other_graph)
-
--- `VerticesCanBeRequired` and `OpenedCanBeRequired` if a row is higher then,
-abbrev pub RowIsHigher : Type 0
-RowIsHigher = ¬ (PrintsAndStays list_of_a higher_list)
-
--- or if both refuse
-abbrev pub NeitherPrints : Type 0
-NeitherPrints = (report : List ℕ) → ¬ (PrintsAndStays (refused report) (refused report))
 
 -- a chain to a.b v1.0.0 by b.c v1.0.0, and one to b.c v1.0.0
 abbrev pub chain_by_b : Outcome

@@ -7,8 +7,7 @@ use Rattle.gomod_laws.specs.FolderLaws.{AskForTheSame}
 abbrev pub asks_for_a : List (Name × Reply)
 asks_for_a = (mod_file (codes "a.b") (codes "v1.0.0"), bytes (codes "module a.b\n")) ∷ []
 
--- `MoreFoldersChangeNothing`, `DividedFoldersChangeNothing`, `LaterAsksTheSame` and `MendedAsksForTheSame`: such a run
--- does not ask for the same files as one that asks for none, and one that asks for none does not ask for the same as
--- such a run.
+-- `MoreFoldersChangeNothing` and `LaterAsksTheSame`: such a run does not ask for the same files as one that asks for
+-- none, and one that asks for none does not ask for the same as such a run.
 abbrev pub FileIsAskedForInOne : Type 0
 FileIsAskedForInOne = ¬ (AskForTheSame asks_for_a []) × ¬ (AskForTheSame [] asks_for_a)

@@ -1,16 +1,12 @@
 -- What the laws of gm_graph_listing conclude of `list`, `graph` and `chain` is false of outputs that contradict them.
-use Rattle.std.specs.Prelude.{◌≡◌, ℕ, List, [], Option, None, Some, Contains, codes}
+use Rattle.std.specs.Prelude.{◌≡◌, ℕ, List, [], Option, None, Some, codes}
 use Rattle.gm_name.specs.ModuleVersion.{ModuleVersion}
-use Rattle.gm_syntax.specs.Lines.{lines_of}
-use Rattle.gm_graph_cache.specs.declared.class.Class.TheVariants.{Missing}
 use Rattle.gm_graph_cache.specs.Main.{Main}
-use Rattle.gm_graph.specs.declared.fault.Fault.{Fault}
 use Rattle.gm_graph.specs.Graph.{IsTop}
 use Rattle.gm_graph_listing.specs.Laws.{JoinsPages, ShowOneGraph, ShowsBuildList, ShowsPart, ShowsShortestWalk}
 use Rattle.gm_graph_listing.specs.Outcomes.{Given, IsListOutcome, IsMainFile}
 use Rattle.gm_report.specs.Outcome.{Outcome, printed}
-use Rattle.gm_graph_listing.specs.PrintedLines.{fault_text}
-use Rattle.gomod_laws.specs.Counterexamples.{a_one, chain_to_a, fault_of_a, graph_of_a, list_of_a}
+use Rattle.gomod_laws.specs.Counterexamples.{a_one, chain_to_a, graph_of_a, list_of_a}
 
 abbrev pub a_two : ModuleVersion
 a_two = (codes "a.b", codes "v1.1.0")
@@ -104,13 +100,3 @@ ListIsOfAnotherGraph = (path : List ℕ) (run : Given) (chain : Outcome)
 abbrev pub ChainIsOfAnotherGraph : Type 0
 ChainIsOfAnotherGraph = (after : Option (List ℕ)) (limit : Option ℕ) (path : List ℕ) (run : Given) (list : Outcome)
     → ¬ (ShowOneGraph after limit path run graph_of_a list (printed (codes "m\nb.c@v1.0.0\n")))
-
--- ---- `NoFaultIsNoLine`
-
--- the fault of a.b v1.0.0 that its file is missing
-abbrev pub a_is_missing : Fault
-a_is_missing = record { vertex = a_one; class = Missing }
-
--- the report of that fault has its line
-abbrev pub FaultIsALine : Type 0
-FaultIsALine = Contains (lines_of fault_of_a.report) (fault_text a_is_missing)

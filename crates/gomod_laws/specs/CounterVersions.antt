@@ -1,33 +1,13 @@
--- What the laws of `versions` conclude is false of outputs that contradict them.
+-- What the law of `versions` concludes is false of outputs that contradict it.
 use Rattle.std.specs.Prelude.{◌≡◌, ◌∷◌, ℕ, List, [], Some, codes}
 use Rattle.gm_store.specs.Asked.{Name, Reply, answer_in, bytes, list_file}
 use Rattle.gm_file.specs.Directives.{pair}
 use Rattle.gm_report.specs.Outcome.{Outcome, printed}
-use Rattle.gomod_laws.specs.VersionLaws.{LeavesOutRetracted, Retracts, ShowsVersions}
+use Rattle.gomod_laws.specs.VersionLaws.{LeavesOutRetracted, Retracts}
 
 -- the store answered with this list file of a.b
 abbrev pub HasListFile : List (Name × Reply) → List ℕ → Type 0
 HasListFile asked list = answer_in asked (list_file (codes "a.b")) ≡ Some (bytes list)
-
--- `PrintsVersionsOfPath` for a.b, if a version stands twice,
-abbrev pub VersionStandsTwice : Type 0
-VersionStandsTwice = (asked : List (Name × Reply)) (versions : List (List ℕ))
-    → ¬ (ShowsVersions asked (codes "a.b") versions (printed (codes "a.b v1.0.0 v1.0.0\n")))
-
--- if they do not ascend,
-abbrev pub VersionsDescend : Type 0
-VersionsDescend = (asked : List (Name × Reply)) (versions : List (List ℕ))
-    → ¬ (ShowsVersions asked (codes "a.b") versions (printed (codes "a.b v1.1.0 v1.0.0\n")))
-
--- if one doesn't fit the path,
-abbrev pub VersionDoesNotFit : Type 0
-VersionDoesNotFit = (asked : List (Name × Reply)) (versions : List (List ℕ))
-    → ¬ (ShowsVersions asked (codes "a.b") versions (printed (codes "a.b v2.0.0\n")))
-
--- and if the list does not name one
-abbrev pub VersionIsUnlisted : Type 0
-VersionIsUnlisted = (asked : List (Name × Reply)) (versions : List (List ℕ)) → HasListFile asked (codes "v1.1.0\n")
-    → ¬ (ShowsVersions asked (codes "a.b") versions (printed (codes "a.b v1.0.0\n")))
 
 -- both versions of a.b
 abbrev pub both_of_a : Outcome

@@ -13,13 +13,12 @@ use Rattle.gm_file_edit.specs.Undone.{undone_by}
 use Rattle.gm_store.specs.Asked.{Name, Reply}
 use Rattle.gm_graph_listing.specs.Laws.{AnswerAlike}
 use Rattle.gm_graph_listing.specs.Outcomes.{IsMainOf, longest}
-use Rattle.gm_report.specs.Outcome.{Outcome}
+use Rattle.gm_report.specs.Outcome.{Outcome, printed}
 use Rattle.gomod_words.specs.Usage.{texts_in}
 use Rattle.gomod_words.specs.declared.usage.Command.{Command}
 use Rattle.gomod_words.specs.declared.usage.Command.TheVariants.{Fmt, Edit}
 use Rattle.gomod_run.specs.Runs.{is_query}
-use Rattle.gomod_laws.specs.FormattingLaws.{IsEdited, PrintTheSame}
-use Rattle.gomod_laws.specs.Runs.{HasOutcome}
+use Rattle.gomod_laws.specs.Runs.{HasOutcome, IsEdited}
 
 -- ---- an operation undone
 
@@ -38,6 +37,10 @@ pub record TargetsNone (operation : Operation) (file : List ℕ) : Type 0 where
   pub lines : List (Line Placed)
   pub is_main : IsMainOf file lines
   pub none : list_any (about operation) (directives_of lines) ≡ false
+
+-- both print, and the same
+abbrev pub PrintTheSame : Outcome → Outcome → Type 0
+PrintTheSame one other = (one ≡ other) × (text : List ℕ) × (one ≡ printed text)
 
 -- With two such operations, of which the first targets nothing in the file, `edit` prints what `fmt` prints, if the
 -- versions that the first puts in fit their paths.

@@ -1,14 +1,11 @@
--- Laws of proxy folders in memory: Go Modules Reference, GOPROXY ("falls back to the next").
-use Rattle.std.specs.Prelude.{◌≡◌, ◌≢◌, ◌↔◌, ◌++◌, ◌∷◌, ℕ, suc, All, List, [], Option, Some, Contains, length, map, slice_get}
+-- A law of proxy folders in memory: Go Modules Reference, GOPROXY ("falls back to the next").
+use Rattle.std.specs.Prelude.{◌≡◌, ◌↔◌, ◌++◌, ◌∷◌, ℕ, List, [], Option, Some, Contains, slice_get}
 use Rattle.gm_store.specs.declared.folders.in_memory.FoldersInMemory.{FoldersInMemory}
 use Rattle.gm_store.specs.declared.folders.memory_folder.MemoryFolder.{MemoryFolder}
 use Rattle.gm_store.specs.declared.fallback.proxy_list.Mark.{Mark}
-use Rattle.gm_store.specs.Asked.{Name, Reply, list_file, mod_file, names_in}
+use Rattle.gm_store.specs.Asked.{Name, Reply, names_in}
 use Rattle.gm_store.specs.FolderLookups.{MayAnswerFrom, lookup_results}
-use Rattle.gm_store.specs.FoldersInMemory.{result_at}
-use Rattle.gm_store.specs.Steps.{Seen, absent}
-use Rattle.gm_report.specs.Outcome.{Outcome, refused}
-use Rattle.gm_report.specs.Reports.{too_many_line}
+use Rattle.gm_report.specs.Outcome.{Outcome}
 use Rattle.gm_graph_listing.specs.Needs.{AskedInTurn}
 use Rattle.gomod_words.specs.declared.usage.Command.{Command}
 use Rattle.gomod_run.specs.Runs.{Needs}
@@ -48,37 +45,3 @@ MoreFoldersChangeNothing = (command : Command) (main : List ℕ) (sums : Option 
     → RunsOver command main sums folders marks asked one → HasPrinted one
     → RunsOver command main sums others more told other
     → (other ≡ one) × AskForTheSame asked told
-
--- ---- files divided among proxy folders
-
--- one of the results is this one, and each of the others is that there is no such file
-pub record IsTheOnlyOne (result : Seen) (results : List Seen) : Type 0 where
-  pub before : List Seen
-  pub after : List Seen
-  pub in_order : results ≡ before ++ result ∷ after
-  pub others : All (λ seen. seen ≡ absent) (before ++ after)
-
--- One of the folders has under this name what the single folder has, and none of the others has a file of that name.
--- So if the single folder has none, none of them has one.
-abbrev pub IsInOneOf : List MemoryFolder → MemoryFolder → Name → Type 0
-IsInOneOf shelves single name = IsTheOnlyOne (result_at single name) (map (λ shelf. result_at shelf name) shelves)
-
--- The files of modules and the version lists of the one proxy folder of `whole` are divided among the proxy folders
--- of `folders`, each two of which have a mark between them. Beside the main file both have the same folder.
-pub record AreDivided (whole folders : FoldersInMemory) (marks : List Mark) : Type 0 where
-  pub single : MemoryFolder
-  pub one_folder : whole.proxies.items ≡ single ∷ []
-  pub files : (path version : List ℕ) → IsInOneOf folders.proxies.items single (mod_file path version)
-  pub lists : (path : List ℕ) → IsInOneOf folders.proxies.items single (list_file path)
-  pub marks_between : length folders.proxies.items ≡ suc (length marks)
-  pub beside : whole.beside ≡ folders.beside
-
--- A command has the same outcome over folders among which the files of one folder are divided and over that folder.
--- It asks for the same files, unless more than 65,536 modules are opened.
-abbrev pub DividedFoldersChangeNothing : Type 0
-DividedFoldersChangeNothing = (command : Command) (main : List ℕ) (sums : Option (List ℕ))
-    (whole folders : FoldersInMemory) (marks : List Mark) (asked told : List (Name × Reply)) (one other : Outcome)
-    → AreDivided whole folders marks
-    → RunsOver command main sums whole [] asked one
-    → RunsOver command main sums folders marks told other
-    → (other ≡ one) × (one ≢ refused too_many_line → AskForTheSame asked told)

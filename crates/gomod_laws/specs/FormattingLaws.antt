@@ -1,24 +1,18 @@
 -- What formatting a file leaves as it is.
-use Rattle.std.specs.Prelude.{◌≡◌, ◌≤◌, ℕ, List, [], Option, None, length, true, String}
-use Rattle.std.specs.Global.{Global, Vec}
+use Rattle.std.specs.Prelude.{◌≡◌, ◌≤◌, ℕ, List, [], Option, None, length, true}
 use Rattle.gm_store.specs.Asked.{Name, Reply}
 use Rattle.gm_graph_cache.specs.Main.{Main}
 use Rattle.gm_graph_listing.specs.Laws.{AnswerAlike}
 use Rattle.gm_graph_listing.specs.Outcomes.{IsMainFile, longest}
 use Rattle.gm_report.specs.Outcome.{Outcome, printed}
-use Rattle.gomod_words.specs.Usage.{texts_in}
 use Rattle.gomod_words.specs.declared.usage.Command.{Command}
-use Rattle.gomod_words.specs.declared.usage.Command.TheVariants.{Fmt, Edit}
+use Rattle.gomod_words.specs.declared.usage.Command.TheVariants.{Fmt}
 use Rattle.gomod_run.specs.Runs.{is_query}
 use Rattle.gomod_laws.specs.Runs.{HasOutcome}
 
 -- `fmt` prints this text of a file with these bytes
 abbrev pub IsFormatted : List ℕ → List ℕ → Type 0
 IsFormatted file text = HasOutcome Fmt file None [] (printed text)
-
--- `edit` with these operations prints this text of a file with these bytes
-abbrev pub IsEdited : Vec (String Global) → List ℕ → List ℕ → Type 0
-IsEdited operations file text = HasOutcome (Edit operations) file None [] (printed text)
 
 -- `list`, `graph` and `chain` come to the same over a valid main file and over what `fmt` prints of it, if that has at
 -- most 16,777,216 bytes. More can't be read, and a layout can have more bytes than its file.
@@ -30,24 +24,7 @@ FormattingChangesNoBuild = (command : Command) (file text : List ℕ) (main : Ma
     → HasOutcome command file sums asked before → HasOutcome command text sums answered after
     → before ≡ after
 
--- both print, and the same
-abbrev pub PrintTheSame : Outcome → Outcome → Type 0
-PrintTheSame one other = (one ≡ other) × (text : List ℕ) × (one ≡ printed text)
-
--- `edit` without an operation prints what `fmt` prints, if the file is a valid main file.
-abbrev pub EditOfNothingFormats : Type 0
-EditOfNothingFormats = (operations : Vec (String Global)) (file : List ℕ) (main : Main) (edited formatted : Outcome)
-    → texts_in operations ≡ [] → IsMainFile file main
-    → HasOutcome (Edit operations) file None [] edited → HasOutcome Fmt file None [] formatted
-    → PrintTheSame edited formatted
-
--- `fmt` of what `edit` prints is that text, if that has at most 16,777,216 bytes.
-abbrev pub EditsAreFormatted : Type 0
-EditsAreFormatted = (operations : Vec (String Global)) (file text : List ℕ) (formatted : Outcome)
-    → IsEdited operations file text → length text ≤ longest → HasOutcome Fmt text None [] formatted
-    → formatted ≡ printed text
-
--- the same for what `fmt` prints
+-- `fmt` of what `fmt` prints is that text, if that has at most 16,777,216 bytes.
 abbrev pub LayoutsAreFormatted : Type 0
 LayoutsAreFormatted = (file text : List ℕ) (formatted : Outcome)
     → IsFormatted file text → length text ≤ longest → HasOutcome Fmt text None [] formatted

@@ -1,4 +1,4 @@
--- What is published later changes nothing that is printed.
+-- What a store has only later changes nothing that is printed.
 use Rattle.std.specs.Prelude.{◌≡◌, ◌⊎◌, ℕ, List, Option, Some}
 use Rattle.gm_store.specs.Asked.{Name, Reply, absent, answer_in}
 use Rattle.gm_report.specs.Outcome.{Outcome}
@@ -8,17 +8,18 @@ use Rattle.gomod_run.specs.Runs.{Needs}
 use Rattle.gomod_laws.specs.FolderLaws.{AskForTheSame}
 use Rattle.gomod_laws.specs.Runs.{HasOutcome, HasPrinted}
 
--- For each file that both stores were asked for, the later answer is the earlier one, or there was no such file.
-abbrev pub OnlyAddsFiles : List (Name × Reply) → List (Name × Reply) → Type 0
-OnlyAddsFiles asked later = (name : Name) (before after : Reply)
+-- For each name that both stores were asked for, the later one answered what the earlier one did, or the earlier one
+-- answered that there is no such file.
+abbrev pub OnlyAddsAnswers : List (Name × Reply) → List (Name × Reply) → Type 0
+OnlyAddsAnswers asked later = (name : Name) (before after : Reply)
     → answer_in asked name ≡ Some before → answer_in later name ≡ Some after
     → (after ≡ before) ⊎ (before ≡ absent)
 
--- Where a command prints, it prints the same over a store in which files that were absent now exist.
+-- Where a command prints, it prints the same over the later store.
 abbrev pub LaterPrintsTheSame : Type 0
 LaterPrintsTheSame = (command : Command) (main : List ℕ) (sums : Option (List ℕ)) (asked later : List (Name × Reply))
     (one other : Outcome)
-    → HasOutcome command main sums asked one → HasPrinted one → OnlyAddsFiles asked later
+    → HasOutcome command main sums asked one → HasPrinted one → OnlyAddsAnswers asked later
     → HasOutcome command main sums later other
     → other ≡ one
 
@@ -32,6 +33,6 @@ pub record RunsInTurn (command : Command) (main : List ℕ) (sums : Option (List
 abbrev pub LaterAsksTheSame : Type 0
 LaterAsksTheSame = (command : Command) (main : List ℕ) (sums : Option (List ℕ)) (asked later : List (Name × Reply))
     (one other : Outcome)
-    → RunsInTurn command main sums asked one → HasPrinted one → OnlyAddsFiles asked later
+    → RunsInTurn command main sums asked one → HasPrinted one → OnlyAddsAnswers asked later
     → RunsInTurn command main sums later other
     → AskForTheSame asked later

@@ -1,49 +1,24 @@
 -- What the order of the lines of a main file leaves as it is.
 use Rattle.std.specs.Prelude.{◌≡◌, ◌↔◌, ℕ, List, Option, Contains, true}
-use Rattle.gm_name.specs.ModuleVersion.{ModuleVersion}
 use Rattle.gm_syntax.specs.Document.{Line}
 use Rattle.gm_syntax.specs.LineViews.{plain_lines}
 use Rattle.gm_syntax.specs.Tokens.{Placed}
 use Rattle.gm_syntax.specs.Words.{Word}
 use Rattle.gm_file.specs.Directives.{Directive, Strict, directives}
 use Rattle.gm_store.specs.Asked.{Name, Reply}
-use Rattle.gm_graph.specs.Graph.{IsTop}
-use Rattle.gm_graph_cache.specs.Main.{Main, is_pruned_by, replacement_in}
 use Rattle.gm_graph_listing.specs.Laws.{AnswerAlike}
-use Rattle.gm_graph_listing.specs.Outcomes.{IsMainFile, IsMainOf}
+use Rattle.gm_graph_listing.specs.Outcomes.{IsMainOf}
 use Rattle.gm_report.specs.Outcome.{Outcome}
 use Rattle.gomod_words.specs.declared.usage.Command.{Command}
 use Rattle.gomod_run.specs.Runs.{is_query}
 use Rattle.gomod_laws.specs.Runs.{HasOutcome}
-
--- Two main files say the same, wherever and however often.
-pub record SayTheSame (one other : Main) : Type 0 where
-  -- they declare the same module
-  pub path : one.path ≡ other.path
-  -- both have a go version of at least 1.17, or neither has
-  pub pruned : is_pruned_by one.go ≡ is_pruned_by other.go
-  -- less what they exclude, they require the same modules at the same versions
-  pub required : (x : ModuleVersion) → IsTop one x ↔ IsTop other x
-  -- they exclude the same modules at the same versions
-  pub excluded : (x : ModuleVersion) → Contains one.excludes x ↔ Contains other.excludes x
-  -- they replace each module at each version by the same: `./x` and `./x/` are not the same
-  pub replaced : (x : ModuleVersion) → replacement_in one x ≡ replacement_in other x
-
--- `list`, `graph` and `chain` come to the same over two valid main files that say the same.
-abbrev pub OrderDoesNotMatter : Type 0
-OrderDoesNotMatter = (command : Command) (file other : List ℕ) (main also : Main) (sums : Option (List ℕ))
-    (asked answered : List (Name × Reply)) (a b : Outcome)
-    → is_query command ≡ true → IsMainFile file main → IsMainFile other also → SayTheSame main also
-    → AnswerAlike asked answered
-    → HasOutcome command file sums asked a → HasOutcome command other sums answered b
-    → a ≡ b
 
 -- Two main files hold the same directives, in whatever order, in whatever blocks, and however often.
 abbrev pub HoldTheSame : List (Line Word) → List (Line Word) → Type 0
 HoldTheSame one other = (directive : Directive)
     → Contains (directives Strict one) directive ↔ Contains (directives Strict other) directive
 
--- So `list`, `graph` and `chain` come to the same over two valid main files that hold the same directives.
+-- `list`, `graph` and `chain` come to the same over two valid main files that hold the same directives.
 abbrev pub LinesInAnyOrder : Type 0
 LinesInAnyOrder = (command : Command) (file other : List ℕ) (lines also : List (Line Placed))
     (sums : Option (List ℕ)) (asked answered : List (Name × Reply)) (a b : Outcome)

@@ -1,8 +1,10 @@
 -- Runs of commands, as the laws speak of them.
-use Rattle.std.specs.Prelude.{◌≡◌, ℕ, List, Option}
+use Rattle.std.specs.Prelude.{◌≡◌, ℕ, List, [], Option, None, String}
+use Rattle.std.specs.Global.{Global, Vec}
 use Rattle.gm_store.specs.Asked.{Name, Reply}
-use Rattle.gm_report.specs.Outcome.{Outcome}
+use Rattle.gm_report.specs.Outcome.{Outcome, printed}
 use Rattle.gomod_words.specs.declared.usage.Command.{Command}
+use Rattle.gomod_words.specs.declared.usage.Command.TheVariants.{Edit}
 use Rattle.gomod_run.specs.Queries.{RunsTo}
 use Rattle.gm_store.specs.States.{StoreState}
 
@@ -19,3 +21,7 @@ pub record HasOutcome (command : Command) (main : List ℕ) (sums : Option (List
 -- the command prints: its status is 0, and nothing is reported
 abbrev pub HasPrinted : Outcome → Type 0
 HasPrinted outcome = outcome.status ≡ 0
+
+-- `edit` with these operations prints this text of a file with these bytes
+abbrev pub IsEdited : Vec (String Global) → List ℕ → List ℕ → Type 0
+IsEdited operations file text = HasOutcome (Edit operations) file None [] (printed text)

@@ -4,7 +4,7 @@ use Rattle.std.specs.List.{starts_with}
 use Rattle.gm_store.specs.Asked.{Name, Reply, answer_in, bytes, mod_file}
 use Rattle.gm_name.specs.Lines.{fields, lines}
 use Rattle.gm_store_sums.specs.Hash.{file_hash}
-use Rattle.gm_store_sums.specs.Sums.{HasValidLines, IsSum, Says}
+use Rattle.gm_store_sums.specs.Sums.{HasValidLines, Says}
 use Rattle.gm_store_sums.specs.declared.sum_table.Sum.TheVariants.{Good}
 use Rattle.gm_graph_listing.specs.Laws.{AnswerAlike}
 use Rattle.gm_graph_listing.specs.Outcomes.{longest}
@@ -37,23 +37,6 @@ RightSumsChangeNothing = (command : Command) (main sums : List ℕ) (asked other
     → checked ≡ unchecked
 
 -- ---- two go.sums
-
--- Both go.sums are valid. For each file of a proxy that a run with these answers and the first go.sum needs, they have
--- the same hashes, right or wrong. A hash of another algorithm than `h1` doesn't count (`IsSum`).
-pub record HaveSameSums (main one other : List ℕ) (asked : List (Name × Reply)) : Type 0 where
-  pub short : length one ≤ longest
-  pub valid : HasValidLines one
-  pub other_short : length other ≤ longest
-  pub other_valid : HasValidLines other
-  pub same : (path version hash : List ℕ) → GraphNeeds main (Some one) (answer_in asked) (mod_file path version)
-      → IsSum one path version hash ↔ IsSum other path version hash
-
--- With either of two such go.sums a command comes to the same.
-abbrev pub SameSumsChangeNothing : Type 0
-SameSumsChangeNothing = (command : Command) (main one other : List ℕ) (asked others : List (Name × Reply))
-    (a b : Outcome) → AnswerAlike asked others → HaveSameSums main one other asked
-    → HasOutcome command main (Some one) asked a → HasOutcome command main (Some other) others b
-    → a ≡ b
 
 -- a line of the go.sum has these three fields
 abbrev pub HasSumLine : List ℕ → List ℕ → List ℕ → List ℕ → Type 0

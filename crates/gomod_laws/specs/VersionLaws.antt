@@ -1,13 +1,13 @@
--- Laws of `versions`, over the answers of a store: Go Modules Reference, GOPROXY protocol and retract directive.
-use Rattle.std.specs.Prelude.{◌≡◌, ◌⊎◌, ℕ, Bool, List, [], Option, None, Some, Ok, Contains, false, true}
-use Rattle.std.specs.List.Sorted.{IsStrictlySortedBy}
-use Rattle.gm_name.specs.Version.{IsVersion, version_cmp}
+-- Laws of `versions` and of its line, over the answers of a store: Go Modules Reference, GOPROXY protocol and retract
+-- directive.
+use Rattle.std.specs.Prelude.{◌≡◌, ◌⊎◌, ℕ, List, [], Option, None, Some, Ok, Contains, false, true}
+use Rattle.gm_name.specs.Version.{IsVersion}
 use Rattle.gm_file.specs.Directives.{VersionInterval}
 use Rattle.gm_file.specs.Fields.{Dependency}
 use Rattle.gm_file_retract.specs.Shown.{shown_of}
 use Rattle.gm_store.specs.Asked.{Name, Reply, answer_in, bytes, list_file, mod_file}
 use Rattle.gm_store.specs.Latest.{IsLatest}
-use Rattle.gm_store.specs.Listed.{AreListed, IsListed}
+use Rattle.gm_store.specs.Listed.{AreListed}
 use Rattle.gm_graph_cache.specs.Reading.{IsFileReading}
 use Rattle.gm_graph_listing.specs.Laws.{AnswerAlike}
 use Rattle.gm_report.specs.Outcome.{Outcome, printed}
@@ -21,23 +21,6 @@ pub record HasList (asked : List (Name × Reply)) (path : List ℕ) (versions : 
   pub list : List ℕ
   pub answered : answer_in asked (list_file path) ≡ Some (bytes list)
   pub are : AreListed path list versions
-
--- What is printed are the path and these versions of it. They ascend, so each stands once. The list that the store
--- answered names each, and each is canonical, fits the path and is no pseudo-version.
-pub record ShowsVersions (asked : List (Name × Reply)) (path : List ℕ) (versions : List (List ℕ))
-    (outcome : Outcome) : Type 0 where
-  pub list : List ℕ
-  pub answered : answer_in asked (list_file path) ≡ Some (bytes list)
-  pub ascending : IsStrictlySortedBy version_cmp versions
-  pub each : (version : List ℕ) → Contains versions version → IsListed path list version
-  pub prints : outcome ≡ printed (versions_line path versions)
-
--- What `versions` prints, with `--retracted` or without, are the path and such versions of it.
-abbrev pub PrintsVersionsOfPath : Type 0
-PrintsVersionsOfPath = (path : List ℕ) (all : Bool) (main : List ℕ) (sums : Option (List ℕ))
-    (asked : List (Name × Reply)) (outcome : Outcome)
-    → HasOutcome (Versions path all) main sums asked outcome → HasPrinted outcome
-    → (versions : List (List ℕ)) × ShowsVersions asked path versions outcome
 
 -- The line that is printed says which versions they are.
 abbrev pub LineSaysVersions : Type 0

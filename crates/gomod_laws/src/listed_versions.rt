@@ -1,12 +1,6 @@
-//! Laws of `versions`.
+//! A law of `versions`.
 
-ghost use Rattle.gomod_laws.specs.VersionLaws.{PrintsVersionsOfPath, RetractedAreLeftOut};
-
-/// Each version that `versions` prints stands in the list file that the store answered with, is canonical, fits the
-/// path and is no pseudo-version. They ascend, so each stands once.
-pub fn versions_fit_their_path()
-    ensures { PrintsVersionsOfPath }
-{}
+ghost use Rattle.gomod_laws.specs.VersionLaws.{RetractedAreLeftOut};
 
 /// Retracted versions are left out, and no others. If `versions` prints without `--retracted`, it prints with it, over
 /// a store that answers no file differently. With it, it prints all versions that the list file names. Without it, it

@@ -1,8 +1,8 @@
-//! Laws of several proxy folders.
+//! A law of several proxy folders.
 
 ghost use Rattle.gm_store.specs.Asked.{Name, Reply};
 ghost use Rattle.gm_store.specs.Views.{folders_under, marks_between};
-ghost use Rattle.gomod_laws.specs.FolderLaws.{DividedFoldersChangeNothing, FolderMayAnswer, MoreFoldersChangeNothing};
+ghost use Rattle.gomod_laws.specs.FolderLaws.{FolderMayAnswer, MoreFoldersChangeNothing};
 
 use gm_store::{Files, MemoryFallback};
 
@@ -13,16 +13,8 @@ pub fn more_folders_change_nothing()
     ensures { MoreFoldersChangeNothing }
 {}
 
-/// Files divided among proxy folders give what one folder with all of them gives. Over folders in memory, a command
-/// has the same outcome, refusals included, over several proxy folders, each two separated by `,` or `|`, as over one
-/// proxy folder with all their files. It asks for the same files, unless more than 65,536 modules are opened. Each file
-/// and each version list is in one of the folders alone: of two files of one name the first in order is read.
-pub fn divided_folders_change_nothing()
-    ensures { DividedFoldersChangeNothing }
-{}
-
-/// Each answer that a store over folders in memory may give is one that its folders may give, in the words of the two
-/// laws above. So they speak of each run of a command over such a store.
+/// Each answer that a store over folders in memory may give is one that its folders may give, in the words of the law
+/// above. So it speaks of each run of a command over such a store.
 pub fn folders_in_memory_may_answer(store: &MemoryFallback)
     ensures { (name : Name) (reply : Reply) → ⟦<MemoryFallback as Files>⟧.may_answer store.now name reply
         → FolderMayAnswer (folders_under store.now) (marks_between store.now) name reply }

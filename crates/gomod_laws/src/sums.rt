@@ -1,6 +1,6 @@
 //! Laws of a go.sum: it can refuse what would be printed, and change nothing else.
 
-ghost use Rattle.gomod_laws.specs.SumLaws.{NeedlessLinesChangeNothing, OnlyRefuses, RightSumsChangeNothing, SameSumsChangeNothing, SumLinesInAnyOrder};
+ghost use Rattle.gomod_laws.specs.SumLaws.{NeedlessLinesChangeNothing, OnlyRefuses, RightSumsChangeNothing, SumLinesInAnyOrder};
 
 /// A go.sum only refuses: what `list`, `graph` or `chain` prints with a go.sum, it prints without one.
 pub fn only_refuses()
@@ -13,15 +13,11 @@ pub fn right_sums_change_nothing()
     ensures { RightSumsChangeNothing }
 {}
 
-/// Two valid go.sums that have the same hashes of each needed file of a proxy, right or wrong, are one: `list`, `graph`
-/// and `chain` come to the same with either, refusals included.
-pub fn the_same_sums_change_nothing()
-    ensures { SameSumsChangeNothing }
-{}
-
-/// So neither the order of a go.sum's lines nor repeats of them change anything, nor do lines on files that are not
-/// needed or with hashes of other algorithms.
+/// The order of the lines of a go.sum doesn't matter. `list`, `graph` and `chain` come to the same with either of two
+/// valid go.sums, refusals included.
 pub fn sum_lines_in_any_order()
+    // if they have the same lines, in whatever order and however often
     ensures order { SumLinesInAnyOrder }
+    // if one has more lines, each on a file that is not needed or with a hash of another algorithm
     ensures needless { NeedlessLinesChangeNothing }
 {}

@@ -1,19 +1,12 @@
 //! What the laws of two runs of queries conclude, tried on pairs of outputs.
 
-ghost use Rattle.gomod_laws.specs.CounterAdditions.{ChainIsByNoLine, ChainIsToAnother, LineIsLost, NeitherPrints, RowIsHigher, RowIsLower, UnlistedIsShown};
+ghost use Rattle.gomod_laws.specs.CounterAdditions.{ChainIsByNoLine, ChainIsToAnother, LineIsLost, RowIsLower, UnlistedIsShown};
 
 /// That an addition lowers nothing is false of a list with a.b v1.1.0 and one with a.b v1.0.0 after it. That it loses
 /// no line is false of a graph with one line and one with another line after it.
 pub fn an_addition_can_lower()
     ensures row { RowIsLower }
     ensures line { LineIsLost }
-{}
-
-/// That `list` prints and stays as it is, is false of a list with a.b v1.0.0 and one with a.b v1.1.0 after it, and of
-/// two refusals.
-pub fn a_requirement_can_change()
-    ensures row { RowIsHigher }
-    ensures refusal { NeitherPrints }
 {}
 
 /// Let `list` print `m` and `a.b v1.0.0`, and `graph` print `m a.b@v1.0.0`. That each row is explained is false if

@@ -1,5 +1,5 @@
-//! What the laws on proxy folders, on later files and on complete reports conclude of the files that are asked for,
-//! tried on two runs of which one asks for a file and the other does not.
+//! What the laws on proxy folders and on later stores conclude of the files that are asked for, tried on two runs of
+//! which one asks for a file and the other does not.
 
 ghost use Rattle.gomod_laws.specs.CounterFolders.{FileIsAskedForInOne};
 

@@ -1,6 +1,6 @@
-//! What the laws of gm_graph_listing conclude, tried on outputs of `list`, `graph` and `chain` and on a report.
+//! What the laws of gm_graph_listing conclude, tried on outputs of `list`, `graph` and `chain`.
 
-ghost use Rattle.gomod_laws.specs.CounterListings.{ChainBeginsElsewhere, ChainEndsElsewhere, ChainIsOfAnotherGraph, ChainIsTooLong, FaultIsALine, ListIsOfAnotherGraph, MainIsMissing, PageHasAnotherRow, PageIsMissing, PartHasAnotherRow, PartIsTheWhole, PartIsTooLong, PathIsTwice, RequiredHasNoRow, RowIsNotRequired, RowIsTooLow, RowsAreUnordered};
+ghost use Rattle.gomod_laws.specs.CounterListings.{ChainBeginsElsewhere, ChainEndsElsewhere, ChainIsOfAnotherGraph, ChainIsTooLong, ListIsOfAnotherGraph, MainIsMissing, PageHasAnotherRow, PageIsMissing, PartHasAnotherRow, PartIsTheWhole, PartIsTooLong, PathIsTwice, RequiredHasNoRow, RowIsNotRequired, RowIsTooLow, RowsAreUnordered};
 
 /// A list is no build list if a path has two rows, if the rows are not in path order, or if the main module is missing.
 /// Nor is it one if a row is below what the main module requires, if what that requires has no row, or if it requires
@@ -39,9 +39,4 @@ pub fn a_chain_can_be_no_shortest()
 pub fn outputs_can_be_of_two_graphs()
     ensures list { ListIsOfAnotherGraph }
     ensures chain { ChainIsOfAnotherGraph }
-{}
-
-/// A fault that is reported is a line: `a.b@v1.0.0: Missing`.
-pub fn a_reported_fault_is_a_line()
-    ensures { FaultIsALine }
 {}

@@ -1,15 +1,8 @@
-use Rattle.gomod_laws.proofs.Contradicted.{arrow_at_path_is_missing, arrow_is_missing, row_is_excluded, row_is_missing}
-use Rattle.gomod_laws.proofs.PrintedRow.{row_is_a_row}
+use Rattle.gomod_laws.proofs.Contradicted.{arrow_at_path_is_missing, arrow_is_missing, row_is_excluded}
 use Rattle.gomod_laws.proofs.counterexamples.queries.a_list_can_contradict.Goals as goal
-
-pub returns-clause-row : goal.returns-clause-row
-returns-clause-row c = row_is_a_row
 
 pub returns-clause-excluded : goal.returns-clause-excluded
 returns-clause-excluded c = row_is_excluded
-
-pub returns-clause-missing : goal.returns-clause-missing
-returns-clause-missing c = row_is_missing
 
 pub returns-clause-arrow : goal.returns-clause-arrow
 returns-clause-arrow c = arrow_is_missing

@@ -1,5 +1,5 @@
 use Rattle.gomod_laws.proofs.ContradictedOthers.{formats_another, neither_formats}
-use Rattle.gomod_laws.proofs.counterexamples.others.nothing_can_be_formatted.Goals as goal
+use Rattle.gomod_laws.proofs.counterexamples.others.an_undone_operation_can_differ.Goals as goal
 
 pub returns-clause-prints : goal.returns-clause-prints
 returns-clause-prints c = formats_another

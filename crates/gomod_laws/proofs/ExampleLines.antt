@@ -1,15 +1,13 @@
--- The line `module PATH` reads as a dependency's file that declares the path and requires nothing.
-use Rattle.std.proofs.Common.{◌≡◌, ◌≢◌, ◌∙◌, ◌<◌, ◌≤◌, ◌++◌, ◌∷◌, ℕ, Bool, true, false, IsTrue, IsUtf8, List, [], None, Some, Ok, ap, append-nil, arith, codes, get_or, inl, inr, length, lit<, refl, subst, suc, sym, zero}
+-- The line `module PATH`, and how it is read.
+use Rattle.std.proofs.Common.{◌≡◌, ◌≢◌, ◌∙◌, ◌<◌, ◌≤◌, ◌++◌, ◌∷◌, ℕ, Bool, true, false, IsTrue, IsUtf8, List, [], None, Ok, ap, append-nil, arith, codes, get_or, inl, inr, length, lit<, refl, subst, suc, sym, zero}
 use Rattle.std.specs.List.{AllByRecursion, join_with_byte, list_all}
 use Rattle.std.proofs.lemmas.Bool.{false≢true}
 use Rattle.std.proofs.lemmas.Bool.Decides.{nat_tests}
 use Rattle.std.proofs.lemmas.Str.{IsUtf8-from_ascii}
 use Rattle.std.specs.Cmp.{first_so, second_so}
 use Rattle.gm_name.specs.Element.{is_dotted_name, is_element, is_path_byte}
-use Rattle.gm_name.specs.Names.{is_path}
 use Rattle.gm_name.specs.Path.{IsPath, is_byte_of_path}
 use Rattle.gm_name.proofs.Bytes.{path-bytes}
-use Rattle.gm_name.proofs.NameTests.{path-tested}
 use Rattle.gm_name.proofs.Paths.{element-bytes}
 use Rattle.gm_syntax.specs.declared.word.Kind.TheVariants.{Bare}
 use Rattle.gm_syntax.specs.Bytes.{is_bad, is_blank, is_bracket_or_comma, is_quote, is_word_byte}
@@ -24,13 +22,8 @@ use Rattle.gm_syntax.proofs.Changes.{entry_stands}
 use Rattle.gm_syntax.proofs.OneText.{reading_parsed}
 use Rattle.gm_syntax.proofs.Readings.{reading_of}
 use Rattle.gm_syntax.proofs.Stable.{is_stable}
-use Rattle.gm_file.specs.Directives.{Lax, directive_of, item_at}
-use Rattle.gm_file.specs.Faults.{directive_kinds, fault_of, faults}
-use Rattle.gm_file.specs.Fields.{Dependency, dependency_of}
-use Rattle.gm_file.specs.DepLines.{IsDependencyIn}
 use Rattle.gm_graph_listing.specs.Outcomes.{longest}
 use Rattle.gm_graph_listing.proofs.ListLines.{Lacks, lacks, path_has_no_feed}
-use Rattle.gomod_laws.specs.ReportLaws.{module_line}
 use Rattle.gomod_laws.proofs.FormattingRead.{placeless}
 
 -- ---- a path is a bare word
@@ -144,6 +137,10 @@ document path is = (
 
 -- ---- its text
 
+-- the line `module PATH`
+abbrev pub module_line : List ℕ → List ℕ
+module_line path = codes "module " ++ path ++ codes "\n"
+
 pub layout_is : (path : List ℕ) → layout (lines path) ≡ module_line path
 unfolding layout_from
 layout_is path = append-nil ((codes "module " ++ path) ++ [] ++ codes "\n") ∙ ap (λ (t : List ℕ). t ++ codes "\n") (append-nil (codes "module " ++ path))
@@ -180,21 +177,3 @@ parsed path is short =
     let same : ReadsLines start (lines_of (layout (lines path))) (lines path) Whole = subst (λ (ls : List (Line Word)). ReadsLines start (lines_of (layout (lines path))) ls Whole) (laid_is path) laid in
     let reads : ReadsLines start (lines_of (module_line path)) (lines path) Whole = subst (λ (t : List ℕ). ReadsLines start (lines_of t) (lines path) Whole) (layout_is path) same in
     reading_parsed (module_line path) (Ok (doc path)) ((short, line_utf8 path is), reading_of (module_line path) (lines path) Whole reads)
-
-no_fault : (path : List ℕ) → is_path path ≡ true → fault_of Lax (lines path) ≡ None
-unfolding fault_of faults item_at directive_of directive_kinds
-no_fault path is = rw is refl
-
-pub line_declares : (path : List ℕ) → (dependency_of (lines path)).declared ≡ Some path
-unfolding item_at directive_of
-line_declares path = refl
-
-pub line_requires_nothing : (path : List ℕ) → (dependency_of (lines path)).requirements ≡ []
-unfolding item_at directive_of
-line_requires_nothing path = refl
-
-abbrev pub line_file : List ℕ → Dependency
-line_file path = dependency_of (lines path)
-
-pub line_reads : (path : List ℕ) → IsPath path → length (module_line path) ≤ longest → IsDependencyIn (module_line path) (line_file path)
-line_reads path is short = (doc path, parsed path is short, no_fault path ((path-tested path).1 is), refl)
