@@ -1,5 +1,5 @@
 -- What is known about the words at each fault.
-use Rattle.std.proofs.Common.{◌≡◌, ◌≢◌, ◌∙◌, List, [], Option, None, Result, Ok, Err, IfErr, IfOk, true, sym, subst, inl, inr, refl}
+use Rattle.std.proofs.Common.{◌≡◌, ◌≢◌, ◌∙◌, Bool, List, [], Option, None, Result, Ok, Err, IfErr, IfOk, IsOk, true, sym, subst, inl, inr, refl}
 use Rattle.clap.specs.Walk.{Row, Text}
 use Rattle.clap.specs.Simple.{App, HasMatchesOf, is_simple, subcommand_of, subcommand_rows_of}
 use Rattle.clap.specs.Faults.{fault_of, is_simple_and_free}
@@ -11,7 +11,7 @@ use Rattle.clap.specs.declared.parser.matches.ArgMatches.{ArgMatches}
 use Rattle.clap.specs.declared.error.kind.ErrorKind.{ErrorKind}
 use Rattle.clap.specs.declared.error.kind.ErrorKind.TheVariants.{DisplayHelp, DisplayVersion, OutOfMemory}
 use Rattle.gomod_words.specs.Dashed.{dashed_in}
-use Rattle.gomod_words.specs.Usage.{AreRecognized, AreAccepted, AskFor, HasBadPath, HasBadProxy, IsEntriesFault, IsFaultBy, IsFaultOf, IsMeant, IsParserFault, IsReadFault, gomod_app}
+use Rattle.gomod_words.specs.Usage.{AreRecognized, AreAccepted, AskFor, AskForSomething, HasBadPath, HasBadProxy, IsEntriesFault, IsFaultBy, IsFaultOf, IsMeant, IsParserFault, IsReadFault, gomod_app}
 use Rattle.gomod_words.specs.declared.usage.Command.{Command}
 use Rattle.gomod_words.specs.declared.usage.Places.{Places}
 use Rattle.gomod_words.specs.declared.usage.UsageFault.{UsageFault}
@@ -51,6 +51,16 @@ pub entries_read : (words : List Text) (entered : Option (Text × List Row)) (re
 entries_read words entered (Ok read) undashed taken same known =
     let P : Option (Text × List Row) → Type 0 = λ o. IsMeant o read.0 read.1 in record { undashed = undashed; taken = taken; meant = subst P same known }
 entries_read words entered (Err fault) undashed taken same known = tt
+
+some_asked : (words : List Text) (result : Result (Command × Places) UsageFault) → IfOk result (λ read. AskFor words read.0 read.1) → IsOk result → AskForSomething words
+some_asked words (Ok read) asked ok = (read.0, read.1, asked)
+some_asked words (Err fault) asked ok = cc ok
+
+-- words that are found to be read ask for a command
+pub read_asks : {E : Type 0} (words : List Text) (result : Result (Command × Places) UsageFault) (is : Result Bool E) → IfOk result (λ read. AskFor words read.0 read.1)
+    → IfOk is (λ b. b ≡ true → IsOk result) → IfOk is (λ b. b ≡ true → AskForSomething words)
+read_asks words result (Ok b) asked known = λ yes. some_asked words result asked (known yes)
+read_asks words result (Err e) asked known = tt
 
 -- an error whose kind is not that memory ran out has a kind that applies to the words
 kind_among : (words : List Text) (error : Error) → HasKind (fault_of gomod_app words) error → kind_of error ≢ OutOfMemory

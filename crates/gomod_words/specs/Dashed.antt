@@ -1,6 +1,6 @@
--- Operations of `edit` that are written with a dash in front, as after `go mod edit`.
-use Rattle.std.specs.Prelude.{◌||◌, ◌==◌, ◌∷◌, if◌then◌else◌, Bool, false, nat_eq, List, Option, Some, None, codes}
-use Rattle.std.specs.List.{find, starts_with}
+-- Operations of `edit` that are written with a dash in front, as after `go mod edit`, and what to type instead.
+use Rattle.std.specs.Prelude.{◌&&◌, ◌||◌, ◌==◌, ◌∷◌, not, if◌then◌else◌, Bool, false, nat_eq, List, [], Option, Some, None, codes, is_some, unwrap_or}
+use Rattle.std.specs.List.{filter_map, find, starts_with}
 use Rattle.std.specs.Option.{option_and_then}
 use Rattle.std.specs.Str.{bytes_eq}
 use Rattle.clap.specs.Lexer.{without_minus}
@@ -11,15 +11,22 @@ abbrev pub begins_with_dash : Text → Bool
 begins_with_dash (first ∷ second ∷ rest) = first == 45
 begins_with_dash _ = false
 
--- The words with a dash that `edit` takes: `--`, after which no word is an option; and `--help`, and `-h` with whatever
--- follows in the word, with which help is asked for.
-abbrev pub edit_takes : Text → Bool
-edit_takes word =
-    bytes_eq word (codes "--") || (bytes_eq word (codes "--help") || starts_with nat_eq word (codes "-h"))
+-- the word without one dash or two in front
+abbrev pub without_dashes : Text → Text
+without_dashes word = without_minus (without_minus word)
 
--- the operation that a word with a dash stands for, without one dash or two, if `edit` does not take the word
+-- the text begins with the name of an operation and `=`
+abbrev pub is_operation : Text → Bool
+is_operation text =
+    starts_with nat_eq text (codes "module=") || (starts_with nat_eq text (codes "go=")
+    || (starts_with nat_eq text (codes "require=") || (starts_with nat_eq text (codes "droprequire=")
+    || (starts_with nat_eq text (codes "exclude=") || (starts_with nat_eq text (codes "dropexclude=")
+    || (starts_with nat_eq text (codes "replace=") || (starts_with nat_eq text (codes "dropreplace=")
+    || (starts_with nat_eq text (codes "retract=") || starts_with nat_eq text (codes "dropretract=")))))))))
+
+-- the operation that a word is, with one dash or two in front or with none
 abbrev pub operation_in : Text → Option Text
-operation_in word = if edit_takes word then None else Some (without_minus (without_minus word))
+operation_in word = if is_operation (without_dashes word) then Some (without_dashes word) else None
 
 -- The operation with a dash in front that the words after `edit` have, if any. The first word with a dash decides.
 abbrev pub dashed_among : List Text → Option Text
@@ -30,3 +37,26 @@ dashed_among words = option_and_then operation_in (find begins_with_dash words)
 abbrev pub dashed_in : List Text → Option Text
 dashed_in (program ∷ name ∷ words) = if bytes_eq name (codes "edit") then dashed_among words else None
 dashed_in _ = None
+
+-- the name of an option that takes a value
+abbrev pub names_value : Text → Bool
+names_value name = bytes_eq name (codes "proxy") || (bytes_eq name (codes "mod") || (bytes_eq name (codes "sum")
+    || (bytes_eq name (codes "after") || bytes_eq name (codes "limit"))))
+
+-- an option, with one dash or two, that takes the next word as its value
+abbrev pub takes_value : Text → Bool
+takes_value word = begins_with_dash word && names_value (without_dashes word)
+
+-- a word that is no operation and does not begin with a dash
+abbrev pub is_free : Text → Bool
+is_free word = not (begins_with_dash word) && not (is_some (operation_in word))
+
+-- the first free word that is not the value of an option, where the flag says that the first word is one
+abbrev pub free_from : Bool → List Text → Option Text
+free_from is_value [] = None
+free_from is_value (word ∷ words) =
+    if not is_value && is_free word then Some word else free_from (takes_value word) words
+
+-- what to type after `edit`: the file, which is `go.mod` if the words name none, then the operations without dashes
+abbrev pub edit_words : List Text → List Text
+edit_words words = unwrap_or (free_from false words) (codes "go.mod") ∷ filter_map operation_in words

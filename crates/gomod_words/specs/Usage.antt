@@ -21,8 +21,9 @@ use Rattle.clap.specs.declared.error.kind.ErrorKind.TheVariants.{DisplayHelp, Di
 use Rattle.gm_name.specs.Path.{IsPath}
 use Rattle.gm_store.specs.Proxies.{folders_in, folders_of, is_folder, marks_in, marks_of}
 use Rattle.gm_store.specs.declared.fallback.proxy_list.ProxyList.{ProxyList}
-use Rattle.gomod_words.specs.Dashed.{dashed_in}
+use Rattle.gomod_words.specs.Dashed.{dashed_in, edit_words}
 use Rattle.gomod_words.specs.Limits.{limit_of}
+use Rattle.gomod_words.specs.Typed.{typed_words}
 use Rattle.gomod_words.specs.declared.usage.Command.{Command}
 use Rattle.gomod_words.specs.declared.usage.Command.TheVariants.{Versions, Fmt, Edit, Graph, List as Rows, Chain}
 use Rattle.gomod_words.specs.declared.usage.Places.{Places}
@@ -258,20 +259,36 @@ IsLineOf text NoMemory = Unit {0}
 IsLineOf text (Line line) = string_bytes line ≡ text
 IsLineOf text _ = ⊥
 
--- the usage error of an operation that was written with a dash in front
-abbrev pub dashed_text : List ℕ → List ℕ
-dashed_text operation =
-    usage_text (codes "error: operations have no dash: " ++ operation) (codes "gomod edit <FILE> <OP>...")
+-- what is wrong with an operation that was written with a dash in front, among these words after `edit`, and what to
+-- type instead
+abbrev pub dashed_message : List ℕ → List Text → List ℕ
+dashed_message operation words =
+    codes "error: operations have no dash: " ++ operation
+    ++ codes "\n\n  tip: gomod edit" ++ typed_words (edit_words words)
+
+-- the words after the program's name and a command's
+abbrev pub words_after : List Text → List Text
+words_after (program ∷ name ∷ words) = words
+words_after _ = []
+
+-- the usage error of an operation that was written with a dash in front, among these words
+abbrev pub dashed_text : List ℕ → List Text → List ℕ
+dashed_text operation words =
+    usage_text (dashed_message operation (words_after words)) (codes "gomod edit <FILE> <OP>...")
 
 -- what a fault says about words with this operation with a dash in front, or with none
 abbrev pub IsFaultBy : Option Text → List Text → UsageFault → Type 0
-IsFaultBy (Some operation) words fault = IsLineOf (dashed_text operation) fault
+IsFaultBy (Some operation) words fault = IsLineOf (dashed_text operation words) fault
 IsFaultBy None words fault = IsReadFault words fault
 
 -- What a fault says about the words: an operation of `edit` has a dash in front; or none has, and the parser reads the
 -- words.
 abbrev pub IsFaultOf : List Text → UsageFault → Type 0
 IsFaultOf words fault = IsFaultBy (dashed_in words) words fault
+
+-- the words ask for a command
+abbrev pub AskForSomething : List Text → Type 0
+AskForSomething words = (command : Command) × (places : Places) × AskFor words command places
 
 -- the fault that a parser's error stands for
 abbrev pub IsParserFault : Error → UsageFault → Type 0

@@ -1,30 +1,24 @@
-//! Operations of `edit` that are written with a dash in front, as after `go mod edit`. The parser would take such a
-//! word for an option that is unknown, and its tip leads nowhere.
+//! Operations of `edit` that are written with a dash in front, as after `go mod edit`, and what to type instead. The
+//! parser would take such a word for an option that is unknown.
 
-ghost use Rattle.std.specs.Prelude.{◌≡◌, map};
-ghost use Rattle.std.specs.List.{find};
+ghost use Rattle.std.specs.Prelude.{◌≡◌, ◌∷◌, ◌++◌, IfOk, IfSome, OnOk, codes, false, is_some, map, unwrap_or};
+ghost use Rattle.std.specs.List.{filter_map, find};
 ghost use Rattle.std.specs.Option.{option_copied};
+ghost use Rattle.std.specs.String.{string_bytes};
 ghost use Rattle.clap.specs.Lexer.{strip_byte, without_minus};
-ghost use Rattle.gomod_words.specs.Usage.{IsLineOf, dashed_text};
-ghost use Rattle.gomod_words.specs.Dashed.{begins_with_dash, dashed_in, edit_takes, operation_in};
+ghost use Rattle.gomod_words.specs.Usage.{IsLineOf, dashed_message, dashed_text, words_after};
+ghost use Rattle.gomod_words.specs.Dashed.{begins_with_dash, dashed_in, edit_words, free_from, is_free, is_operation, names_value, operation_in, takes_value, without_dashes};
 
 use crate::help::EDIT_USAGE;
+use crate::typed::push_all_typed;
 use crate::usage::{UsageFault, line};
-use std::alloc::Global;
+use std::alloc::{AllocError, Global};
 
 /// Whether a word begins with a dash and is more than that.
-fn begins_with_dash(word: &str) -> bool
+pub(crate) fn begins_with_dash(word: &str) -> bool
     ensures { result ≡ begins_with_dash word.now }
 {
     matches!(word.as_bytes(), [b'-', _, ..])
-}
-
-/// Whether a word that begins with a dash is for the parser: `--`, after which no word is an option, and `-h` and
-/// `--help`.
-fn edit_takes(word: &str) -> bool
-    ensures { result ≡ edit_takes word.now }
-{
-    word == "--" || word == "--help" || word.as_bytes().starts_with(b"-h")
 }
 
 /// What follows a first dash.
@@ -44,15 +38,36 @@ fn without_dash(word: &str) -> &str
     }
 }
 
-/// The operation that a word with a dash stands for, or `None` if it is for the parser.
-fn operation_in(word: &str) -> Option<&str>
+/// The word without one dash or two in front.
+pub(crate) fn without_dashes(word: &str) -> &str
+    ensures { result.now ≡ without_dashes word.now }
+{
+    without_dash(without_dash(word))
+}
+
+/// Whether a text begins with the name of an operation and `=`.
+fn is_operation(text: &str) -> bool
+    ensures { result ≡ is_operation text.now }
+{
+    let text = text.as_bytes();
+    text.starts_with(b"module=")
+        || text.starts_with(b"go=")
+        || text.starts_with(b"require=")
+        || text.starts_with(b"droprequire=")
+        || text.starts_with(b"exclude=")
+        || text.starts_with(b"dropexclude=")
+        || text.starts_with(b"replace=")
+        || text.starts_with(b"dropreplace=")
+        || text.starts_with(b"retract=")
+        || text.starts_with(b"dropretract=")
+}
+
+/// The operation that a word is, with one dash or two in front or with none.
+pub(crate) fn operation_in(word: &str) -> Option<&str>
     ensures { option_copied result ≡ operation_in word.now }
 {
-    if edit_takes(word) {
-        None
-    } else {
-        Some(without_dash(without_dash(word)))
-    }
+    let text = without_dashes(word);
+    if is_operation(text) { Some(text) } else { None }
 }
 
 /// The first word that begins with a dash and is more than that.
@@ -76,11 +91,84 @@ pub(crate) fn dashed_in<'a>(words: &[&'a str]) -> Option<&'a str>
     operation_in(first_with_dash(rest)?)
 }
 
-/// The usage error of an operation that was written with a dash in front.
-pub(crate) fn dashed(alloc: Global, operation: &str) -> UsageFault
-    ensures { IsLineOf (dashed_text operation.now) result }
+/// Whether this is the name of an option that takes a value.
+fn names_value(name: &str) -> bool
+    ensures { result ≡ names_value name.now }
 {
-    match format!(in alloc; "error: operations have no dash: {operation}") {
+    name == "proxy" || name == "mod" || name == "sum" || name == "after" || name == "limit"
+}
+
+/// Whether a word is an option, with one dash or two, that takes the next word as its value.
+fn takes_value(word: &str) -> bool
+    ensures { result ≡ takes_value word.now }
+{
+    begins_with_dash(word) && names_value(without_dashes(word))
+}
+
+/// Whether a word is no operation and does not begin with a dash.
+fn is_free(word: &str) -> bool
+    ensures { result ≡ is_free word.now }
+{
+    !begins_with_dash(word) && operation_in(word).is_none()
+}
+
+/// The first word that is neither an operation, nor an option or its value.
+pub(crate) fn free_word<'a>(words: &[&'a str]) -> Option<&'a str>
+    ensures { option_copied result ≡ free_from false (map (λ word. word.now) words.now) }
+{
+    let mut is_value = false;
+    for word in words {
+        if !is_value && is_free(word) {
+            return Some(*word);
+        }
+        is_value = takes_value(word);
+    }
+    None
+}
+
+/// What to type after `edit` in place of these words: the file, then the operations.
+pub(crate) fn edit_words<'a>(alloc: Global, words: &[&'a str]) -> Result<Vec<&'a str>, AllocError>
+    ensures { IfOk result (λ typed. map (λ word. word.now) typed.items ≡ edit_words (map (λ word. word.now) words.now)) }
+{
+    let mut typed = Vec::new(alloc);
+    typed.push(free_word(words).unwrap_or("go.mod"))?;
+    for word in words {
+        if let Some(operation) = operation_in(word) {
+            typed.push(operation)?;
+        }
+    }
+    Ok(typed)
+}
+
+/// The words after the program's name and a command's.
+pub(crate) fn words_after<'w, 'a>(words: &'w [&'a str]) -> &'w [&'a str]
+    ensures { map (λ word. word.now) result.now ≡ words_after (map (λ word. word.now) words.now) }
+{
+    match words {
+        [_, _, rest @ ..] => rest,
+        _ => &[],
+    }
+}
+
+/// What is wrong with an operation that was written with a dash in front, among these words after `edit`, and what to
+/// type instead.
+fn dashed_message(alloc: Global, operation: &str, words: &[&str]) -> Result<String, AllocError>
+    ensures { IfOk result (λ message. string_bytes message
+        ≡ dashed_message operation.now (map (λ word. word.now) words.now)) }
+{
+    let mut message = format!(in alloc;
+        "error: operations have no dash: {operation}\n\n  tip: gomod edit"
+    )?;
+    let typed = edit_words(alloc, words)?;
+    push_all_typed(&mut message, typed.as_slice())?;
+    Ok(message)
+}
+
+/// The usage error of an operation that was written with a dash in front, among these words.
+pub(crate) fn dashed(alloc: Global, operation: &str, words: &[&str]) -> UsageFault
+    ensures { IsLineOf (dashed_text operation.now (map (λ word. word.now) words.now)) result }
+{
+    match dashed_message(alloc, operation, words_after(words)) {
         Ok(message) => line(alloc, message.as_str(), EDIT_USAGE),
         Err(_) => UsageFault::NoMemory,
     }

@@ -59,9 +59,11 @@ Examples:
 
 Exit status:
   0  success
-  1  a file, a list or an operation is faulty, or a module is not in the build list
+  1  a file, a list or an operation is faulty, a file of a module is missing, or a module is not
+     in the build list
   2  usage error
-  3  a file can't be read, the output can't be written, or memory runs out
+  3  a file can't be read, the main file or the go.sum is missing, the output can't be written,
+     or memory runs out
 
 After an error standard error says what is wrong, unless it is a failed write.
 'gomod <COMMAND> --help' explains the errors of each command.";
@@ -101,9 +103,9 @@ macro_rules! query_about {
             "
 
 The go.mod files of other modules are read from the proxy folders, or from the folders that
-replace directives name. A cache that only go build filled may lack some of them. They are then
-Missing, and 'go mod download' in the folder of the main module adds them to the cache, and their
-hashes to its go.sum."
+replace directives name. The go.mod of a replaced module is that of its replacement. A cache that
+only go build filled may lack some of them. They are then Missing, and 'go mod download' in the
+folder of the main module adds them to the cache, and their hashes to its go.sum."
         )
     };
 }
@@ -143,10 +145,10 @@ the go.mod of the latest one retracts are left out. Pseudo-versions, versions th
 path and other words are skipped.";
 
 /// The help of FILE of `fmt`.
-pub(crate) const FMT_FILE: &str = "The go.mod file to format";
+pub(crate) const FMT_FILE: &str = "The go.mod file to format, such as go.mod or /dev/stdin";
 
 /// The help of FILE of `edit`.
-pub(crate) const EDIT_FILE: &str = "The go.mod file to edit";
+pub(crate) const EDIT_FILE: &str = "The go.mod file to edit, such as go.mod or /dev/stdin";
 
 /// The help of OP.
 pub(crate) const OPERATION: &str = "An operation, such as go=1.22, without a dash in front";
@@ -224,7 +226,7 @@ macro_rules! file_end {
   go.mod:0: TooMany                the file has more than 16777216 bytes",
             $own,
             "
-  gomod: cannot read FILE          the file can't be read (status 3)
+  gomod: cannot read FILE          the file is missing or can't be read (status 3)
   gomod: no memory                 memory ran out (status 3)"
         )
     };
@@ -272,7 +274,7 @@ macro_rules! query_end {
   go.mod:LINE: KIND                  the main file is faulty; 'gomod edit --help' explains KIND
   go.sum:LINE: BadSum                not a path, a version and a hash
   go.sum:0: TooMany                  the file has more than 16777216 bytes
-  PATH@VERSION: Missing              its go.mod is in none of the folders
+  PATH@VERSION: Missing              its go.mod, or its replacement's, is in none of the folders
   PATH@VERSION: NotFetchable         no proxy can have its path, and no folder replaces it
   PATH@VERSION: NoSum                the go.sum has no hash of its go.mod
   PATH@VERSION: SumDiffers           the go.sum has another hash of its go.mod
@@ -283,7 +285,7 @@ macro_rules! query_end {
             $own,
             "
   gomod: bad proxy DIR               a folder is empty, 'direct' or 'off' (status 2)
-  gomod: cannot read FILE            the main file or the go.sum can't be read (status 3)
+  gomod: cannot read FILE            the main file or the go.sum is missing or unreadable (status 3)
   gomod: device at PATH@VERSION      its go.mod is there, but can't be read (status 3)
   gomod: device at FOLDER            likewise of a module that a folder replaces (status 3)
   gomod: no memory                   memory ran out (status 3)"

@@ -11,11 +11,13 @@
 //! and no go.sum. With `--limit 0` it is a `UsageFault::Line`.
 #![tactic(auto)]
 
+mod advice;
 mod command;
 mod dashed;
 mod help;
 pub mod laws;
 mod query;
+mod typed;
 mod usage;
 
 pub use crate::usage::{Command, Places, UsageFault, read_words, unreadable};

@@ -3,18 +3,19 @@
 //! Every usage error reads the same, whether the parser finds it or this crate: what is wrong, the usage line, and how
 //! to get help.
 
-ghost use Rattle.std.specs.Prelude.{◌≡◌, ◌++◌, IfErr, IfOk, OnOk, Some, codes, encode_utf8_all, map, true};
+ghost use Rattle.std.specs.Prelude.{◌≡◌, ◌++◌, IfErr, IfOk, IsOk, OnOk, Some, codes, encode_utf8_all, false, map, true};
 ghost use Rattle.std.specs.Option.{option_copied, option_map};
 ghost use Rattle.clap.specs.Words.{all_of, first_of, found_of, rows_of, subcommand_rows_of};
 ghost use Rattle.std.specs.Char.Escape.{escape_ascii};
 ghost use Rattle.std.specs.String.{string_bytes};
-ghost use Rattle.gomod_words.specs.Usage.{AskFor, IsEntriesFault, IsFaultOf, IsLineOf, IsMeant, IsParserFault, IsPathFault, IsProxy, IsProxyFault, IsVersionLine, Means, is_given, is_line_or_memory, shown_bytes, texts_in, unreadable_text, usage_text};
+ghost use Rattle.gomod_words.specs.Usage.{AskFor, AskForSomething, IsEntriesFault, IsFaultOf, IsLineOf, IsMeant, IsParserFault, IsPathFault, IsProxy, IsProxyFault, IsVersionLine, Means, is_given, is_line_or_memory, shown_bytes, texts_in, unreadable_text, usage_text};
 ghost use Rattle.gm_name.specs.Path.{IsPath};
 ghost use Rattle.gomod_words.specs.declared.usage.UsageFault.TheVariants.{NoMemory};
 
+use crate::advice::advised;
 use crate::command::gomod_command;
 use crate::dashed::{dashed, dashed_in};
-use crate::help::{self, EDIT_USAGE, FMT_USAGE, GOMOD_USAGE, TRY_HELP, VERSION, VERSIONS_USAGE};
+use crate::help::{EDIT_USAGE, FMT_USAGE, GOMOD_USAGE, TRY_HELP, VERSION, VERSIONS_USAGE};
 use crate::query::{read_chain, read_graph, read_list};
 use clap::ArgMatches;
 use clap::error::ErrorKind;
@@ -109,8 +110,9 @@ impl From<AllocError> for UsageFault {
 /// - `Line` if the words do not match any command, or a command has too few or too many words. It holds the
 ///   parser's message. It also comes if the value of `--limit` is not one or more ASCII digits that form a
 ///   number from 1 to 4,294,967,295. Without a word after the program's name it holds the help. It comes before
-///   anything else if the first word after `edit` that begins with a dash and is more than that is neither `--` nor
-///   `--help` and does not begin with `-h`: such a word is taken for an operation, which has no dash.
+///   anything else if the first word after `edit` that begins with a dash and is more than that is an operation after
+///   one dash or two, which has none: the name of one, `=` and more. The text then has the command to type. Otherwise
+///   it has a command to type only if that asks for a command, or if it is one of go.
 /// - `BadPath` if all of that is valid, but PATH of `versions` or `chain`, or the value of `--after` of
 ///   `list`, is not a module path. It holds that text.
 /// - `BadProxy` if all of that is valid, but the value of `--proxy` has an empty piece between its `,` and
@@ -125,18 +127,53 @@ pub fn read_words<'a>(alloc: Global, words: &'a [&'a str]) -> Result<(Command, P
     ensures fault { IfErr result (IsFaultOf (map (λ word. word.now) words.entry.now)) }
 {
     if let Some(operation) = dashed_in(words) {
-        return Err(dashed(alloc, operation));
+        return Err(dashed(alloc, operation, words));
     }
     let command = gomod_command(alloc)?;
     match command.try_get_matches_from(words) {
         Ok(matches) => read_matches(alloc, &matches),
-        Err(error) => Err(fault_of(alloc, &error, help::usage_of(words))),
+        Err(error) => Err(fault_of(alloc, &error, words)),
     }
 }
 
-/// The fault that a parser's error stands for, if the words name the command with this usage line. The error must be
-/// turned into text here, so memory can run out.
-fn fault_of(alloc: Global, error: &clap::Error, usage: &str) -> UsageFault
+/// Whether these words ask for a command, so that they can be shown as what to type.
+pub(crate) fn is_command<'a>(alloc: Global, words: &'a [&'a str]) -> Result<bool, AllocError>
+    ensures { IfOk result (λ is. is ≡ true → AskForSomething (map (λ word. word.now) words.entry.now)) }
+{
+    if let Some(_) = dashed_in(words) {
+        return Ok(false);
+    }
+    let command = gomod_command(alloc)?;
+    match command.try_get_matches_from(words) {
+        Ok(matches) => is_read(read_matches(alloc, &matches)),
+        Err(error) => is_taken(error.kind()),
+    }
+}
+
+/// Whether there is a command, unless memory ran out.
+fn is_read(read: Result<(Command, Places), UsageFault>) -> Result<bool, AllocError>
+    ensures { IfOk result (λ is. is ≡ true → IsOk read) }
+{
+    match read {
+        Ok(_) => Ok(true),
+        Err(UsageFault::NoMemory) => Err(AllocError),
+        Err(_) => Ok(false),
+    }
+}
+
+/// `false`, since the parser refuses the words, unless memory ran out.
+fn is_taken(kind: ErrorKind) -> Result<bool, AllocError>
+    ensures { IfOk result (λ is. is ≡ false) }
+{
+    match kind {
+        ErrorKind::OutOfMemory => Err(AllocError),
+        _ => Ok(false),
+    }
+}
+
+/// The fault that a parser's error on these words stands for. The error must be turned into text here, so memory can
+/// run out.
+fn fault_of(alloc: Global, error: &clap::Error, words: &[&str]) -> UsageFault
     ensures { IsParserFault error.now result }
 {
     let kind = error.kind();
@@ -151,8 +188,8 @@ fn fault_of(alloc: Global, error: &clap::Error, usage: &str) -> UsageFault
     };
     if matches!(kind, ErrorKind::DisplayHelp) {
         UsageFault::Help(text)
-    } else if matches!(kind, ErrorKind::InvalidValue) {
-        with_usage(alloc, text, usage)
+    } else if text.as_str().starts_with("error: ") {
+        advised(alloc, kind, text.as_str(), words)
     } else {
         UsageFault::Line(text)
     }
@@ -165,16 +202,6 @@ fn version(alloc: Global) -> UsageFault
     match format!(in alloc; "gomod {VERSION}\n") {
         Ok(line) => UsageFault::Version(line),
         Err(_) => UsageFault::NoMemory,
-    }
-}
-
-/// The parser's text on an option without its value, with the usage line, which the parser leaves out there.
-fn with_usage(alloc: Global, text: String, usage: &str) -> UsageFault
-    ensures { is_line_or_memory result ≡ true }
-{
-    match text.as_str().strip_suffix(TRY_HELP) {
-        Some(message) => line(alloc, message, usage),
-        None => UsageFault::Line(text),
     }
 }
 
