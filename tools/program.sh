@@ -13,6 +13,8 @@
 # of the files of the case, which is the bound of README.md: a command that reserves more runs out of memory. All
 # commands run with the stack that README.md names, and room for their arguments.
 #
+# Each command is called by a name that is not UTF-8, which it may not look at.
+#
 # If REFUSE_MEMORY names the library that tools/refuse-memory.sh makes, each command runs again with each of its
 # allocations refused in turn: it then has to say that memory ran out, or to have the result of the case.
 #
@@ -38,6 +40,8 @@ ESCAPE = re.compile(rb'\\(?:(n|r|t|0|\\|"|x[0-9a-fA-F]{2})|\*([0-9]+)\*(.))', re
 SIMPLE = {b"n": b"\n", b"r": b"\r", b"t": b"\t", b"0": b"\0", b"\\": b"\\", b'"': b'"'}
 NO_LINE_END = b"\\ No newline at end of file"
 REFUSE_MEMORY = os.environ.pop("REFUSE_MEMORY", None)
+# the name that each command is called by, as from a folder whose name is not UTF-8
+NAME = b"b\xff/gomod"
 NO_MEMORY = b"", b"gomod: no memory\n", 3
 PASSED = b"all allocations passed\n"
 # the address space that a command may have beside FACTOR times the bytes of its files
@@ -125,14 +129,22 @@ class Run:
 
     def comes_to(self, program, folder, stdin, refused=0, most=resource.RLIM_INFINITY):
         environment = {**os.environ, "LD_PRELOAD": REFUSE_MEMORY, "REFUSE_AT": str(refused)} if refused else os.environ
-        words = [os.fsencode(program), *self.words[1:]]
+        words = [NAME, *self.words[1:]]
         stack = stack_with(words, environment)
 
         def limit():
             resource.setrlimit(resource.RLIMIT_AS, (most, most))
             resource.setrlimit(resource.RLIMIT_STACK, (stack, stack))
 
-        got = subprocess.run(words, cwd=folder, input=stdin, capture_output=True, env=environment, preexec_fn=limit)
+        got = subprocess.run(
+            words,
+            executable=program,
+            cwd=folder,
+            input=stdin,
+            capture_output=True,
+            env=environment,
+            preexec_fn=limit,
+        )
         return got.stdout, got.stderr, got.returncode
 
     def refused(self, program, folder, stdin):

@@ -68,6 +68,9 @@ pub struct CaseRuntime<'a> {
     pub log: &'a Log,
 }
 
+/// The name that the program is called by. It is not UTF-8, since the name may have any bytes.
+const PROGRAM: &[u8] = b"b\xff/gomod";
+
 fn unsupported<T>() -> io::Result<T> {
     Err(io::Error::from(ErrorKind::Unsupported))
 }
@@ -101,10 +104,11 @@ impl Env for CaseRuntime<'_> {
         let Some(word) = self.words.get(i) else {
             return Err(FillError::NotPresent);
         };
+        let word = if i == 0 { PROGRAM } else { word.as_slice() };
         let Some(room) = buf.get_mut(..word.len()) else {
             return Err(FillError::TooLong);
         };
-        room.copy_from_slice(word.as_slice());
+        room.copy_from_slice(word);
         Ok(word.len())
     }
 

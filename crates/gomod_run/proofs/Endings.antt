@@ -47,11 +47,12 @@ pub fault_ends : (may_open : List ℕ → Opening → Type 0) (words : List (Lis
 fault_ends may_open words fault out out' report report' status is ends =
     ends_weaken (λ outcome. outcome ≡ usage_outcome fault) (IsWordsOutcome may_open words) out out' report report' status (λ outcome same. inl (fault, is, same)) ends
 
--- an end of some words is an end of the program
-pub program_ends : (may_open : List ℕ → Opening → Type 0) (words : List (List ℕ)) (out out' report report' : SinkState) (status : ℕ) → EndsAsStated (IsWordsOutcome may_open words) out out' report report' status
-    → EndsAsStated (IsProgramOutcome may_open) out out' report report' status
-program_ends may_open words out out' report report' status ends =
-    ends_weaken (IsWordsOutcome may_open words) (IsProgramOutcome may_open) out out' report report' status (λ outcome stated. inl (words, stated)) ends
+-- an end of some words after the program's name is an end of the program
+pub program_ends : (may_open : List ℕ → Opening → Type 0) (named words : List (List ℕ)) (out out' report report' : SinkState) (status : ℕ) → named ≡ codes "gomod" ∷ words
+    → EndsAsStated (IsWordsOutcome may_open named) out out' report report' status → EndsAsStated (IsProgramOutcome may_open) out out' report report' status
+program_ends may_open named words out out' report report' status is ends =
+    ends_weaken (IsWordsOutcome may_open named) (IsProgramOutcome may_open) out out' report report' status
+    (λ outcome stated. inl (words, subst (λ (ws : List (List ℕ)). IsWordsOutcome may_open ws outcome) is stated)) ends
 
 -- the usage error of a word which is not UTF-8
 pub unreadable_word : (word : List ℕ) (fault : UsageFault) → ¬ (IsUtf8 word) → IsLineOf (unreadable_text word) fault → IsUnreadableWords fault

@@ -1,5 +1,5 @@
 -- The outcomes of the whole program, from its words to its exit status.
-use Rattle.std.specs.Prelude.{◌≡◌, ◌⊎◌, ◌++◌, ℕ, Contains, List, [], Option, Some, None, Result, Ok, Err, codes, option_map, if◌then◌else◌}
+use Rattle.std.specs.Prelude.{◌≡◌, ◌⊎◌, ◌++◌, ◌∷◌, ℕ, Contains, List, [], Option, Some, None, Result, Ok, Err, codes, option_map, if◌then◌else◌}
 use Rattle.std.specs.Global.{Vec}
 use Rattle.std.specs.Str.{IsUtf8}
 use Rattle.std.specs.String.{string_bytes}
@@ -148,10 +148,11 @@ IsUnreadableWords (usage.Line text) =
     (word : List ℕ) × ¬ (IsUtf8 word) × (string_bytes text ≡ unreadable_text word)
 IsUnreadableWords fault = ⊥
 
--- the outcome of the program: that of its words, or the error if one of them is not UTF-8
+-- the outcome of the program: that of the words after its own name, whatever that is, or the error if one of these
+-- words is not UTF-8
 abbrev pub IsProgramOutcome : (List ℕ → Opening → Type 0) → Outcome → Type 0
 IsProgramOutcome may_open outcome =
-    ((words : List (List ℕ)) × IsWordsOutcome may_open words outcome)
+    ((words : List (List ℕ)) × IsWordsOutcome may_open (codes "gomod" ∷ words) outcome)
     ⊎ ((fault : UsageFault) × IsUnreadableWords fault × (outcome ≡ usage_outcome fault))
 
 -- the exit status of an ending

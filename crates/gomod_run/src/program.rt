@@ -1,7 +1,7 @@
 //! The program itself: from the words of the command line to the exit status. It is generic over the runtime and
 //! the two sinks, so that whole runs can be checked without a process.
 
-ghost use Rattle.std.specs.Prelude.{◌≡◌, IfErr, IfOk, MatchResult, map};
+ghost use Rattle.std.specs.Prelude.{◌≡◌, ◌∷◌, IfErr, IfOk, MatchResult, codes, map};
 ghost use Rattle.std.specs.Process.{exit_status};
 ghost use Rattle.std.specs.String.{string_bytes};
 ghost use Rattle.gomod_run.specs.Program.{IsProgramOutcome, IsProgramStatus, IsUnreadableWords, IsWordsOutcome, anything, ending_code, usage_outcome};
@@ -22,6 +22,10 @@ use std::str;
 /// The room for a word of the command line that is tried first.
 const FIRST_ROOM: usize = 256;
 
+/// The program's name in the words that are read, whatever the program was called by. No command uses that name, so it
+/// may have any bytes.
+const PROGRAM: &str = "gomod";
+
 /// The whole program: reads the words of the command line and runs the command, with standard output and standard
 /// error as the two sinks.
 ///
@@ -35,8 +39,9 @@ pub fn exit_code(rt: &HostRuntime) -> ExitCode
     ExitCode::from(ending_of(rt, &mut out, &mut report).code())
 }
 
-/// Reads the words of the command line and does what `ending_of_words` does with them. If a word is not UTF-8, the
-/// report is a usage error that shows the first such word with its bytes escaped, and the status is 2.
+/// Reads the words of the command line after the program's own name, and does what `ending_of_words` does with them
+/// after the name `gomod`. If a word is not UTF-8, the report is a usage error that shows the first such word with its
+/// bytes escaped, and the status is 2. The program's own name is not looked at.
 pub fn ending_of<S: Env + Input + FileSystem + Copy + Drop + Alloc<A = Global>, O: Sink, R: Sink>(
     rt: &S,
     out: &mut O,
@@ -72,7 +77,7 @@ pub fn ending_of<S: Env + Input + FileSystem + Copy + Drop + Alloc<A = Global>, 
 /// | 0 | help on `out` | the words ask for help |
 /// | 0 | the version on `out` | the words ask for the version |
 /// | 2 | the usage error on `report` | the words are invalid (`gomod_words::read_words` says which error) |
-/// | 3 | `gomod: cannot read NAME` on `report` | a file or standard input, whose name is `-`, can't be read |
+/// | 3 | `gomod: cannot read NAME` on `report` | a named file can't be read, or for `versions` standard input (`-`) |
 ///
 /// The first file that can't be read is reported, and no go.mod is parsed then. At most 16,777,217 bytes of a file
 /// or of standard input are read: one more than a command accepts, so that the command sees that there are too
@@ -94,25 +99,26 @@ pub fn ending_of_words<S: Input + FileSystem + Copy + Drop + Alloc<A = Global>, 
     }
 }
 
-/// The words as string slices, all of them and in order.
+/// The program's name, then the words as string slices, all of them and in order.
 fn texts_of(alloc: Global, words: &[String]) -> Result<Vec<&str>, AllocError>
-    ensures { IfOk result (λ texts. map (λ text. text.now) texts.items ≡ map string_bytes words.now) }
+    ensures { IfOk result (λ texts. map (λ text. text.now) texts.items ≡ codes "gomod" ∷ map string_bytes words.now) }
 {
     let mut texts = Vec::new(alloc);
+    texts.push(PROGRAM)?;
     for word in words {
         texts.push(word.as_str())?;
     }
     Ok(texts)
 }
 
-/// The words of the command line. A word that is not UTF-8 is a usage error.
+/// The words of the command line after the program's own name. A word that is not UTF-8 is a usage error.
 ///
 /// `env::args` does not say which word that is, so the words are read as bytes.
 fn words_of<S: Env + Alloc<A = Global>>(rt: &S) -> Result<Vec<String>, UsageFault>
     ensures { IfErr result IsUnreadableWords }
 {
     let mut words = Vec::new(rt.alloc());
-    for number in 0..usize::MAX {
+    for number in 1..usize::MAX {
         let Some(word) = word_of(rt, number)? else {
             break;
         };

@@ -6,7 +6,7 @@ use Rattle.gomod_run.proofs.WrittenTexts.{ends_with}
 use Rattle.gomod_run.proofs.program.ending_of.Goals as goal
 
 pub returns-in-Ok-texts_of : goal.returns-in-Ok-texts_of
-returns-in-Ok-texts_of g c = program_ends (g.S.FileSystem.may_open c.args.rt.now) _ _ _ _ _ _ c.ending_of_words.ensures
+returns-in-Ok-texts_of g c = program_ends (g.S.FileSystem.may_open c.args.rt.now) _ _ _ _ _ _ _ c.in-Ok-texts_of.ensures c.ending_of_words.ensures
 
 pub returns-in-Err : goal.returns-in-Err
 returns-in-Err g c =
