@@ -1,7 +1,7 @@
 -- Operations of `edit` that are written with a dash in front, as after `go mod edit`, and what to type instead.
 use Rattle.std.specs.Prelude.{◌&&◌, ◌||◌, ◌==◌, ◌∷◌, not, if◌then◌else◌, Bool, false, nat_eq, List, [], Option, Some, None, codes, is_some, unwrap_or}
-use Rattle.std.specs.List.{filter_map, find, starts_with}
-use Rattle.std.specs.Option.{option_and_then}
+use Rattle.std.specs.List.{find, flat_map, starts_with}
+use Rattle.std.specs.Option.{option_and_then, option_map_or}
 use Rattle.std.specs.Str.{bytes_eq}
 use Rattle.clap.specs.Lexer.{without_minus}
 use Rattle.clap.specs.Walk.{Text}
@@ -15,14 +15,25 @@ begins_with_dash _ = false
 abbrev pub without_dashes : Text → Text
 without_dashes word = without_minus (without_minus word)
 
+-- the text begins with the name of an operation that sets something, and `=`
+abbrev pub is_setting : Text → Bool
+is_setting text =
+    starts_with nat_eq text (codes "module=") || (starts_with nat_eq text (codes "go=")
+    || (starts_with nat_eq text (codes "require=") || starts_with nat_eq text (codes "replace=")))
+
+-- the same of one that adds something
+abbrev pub is_adding : Text → Bool
+is_adding text = starts_with nat_eq text (codes "exclude=") || starts_with nat_eq text (codes "retract=")
+
+-- the same of one that drops something
+abbrev pub is_drop : Text → Bool
+is_drop text =
+    starts_with nat_eq text (codes "droprequire=") || (starts_with nat_eq text (codes "dropexclude=")
+    || (starts_with nat_eq text (codes "dropreplace=") || starts_with nat_eq text (codes "dropretract=")))
+
 -- the text begins with the name of an operation and `=`
 abbrev pub is_operation : Text → Bool
-is_operation text =
-    starts_with nat_eq text (codes "module=") || (starts_with nat_eq text (codes "go=")
-    || (starts_with nat_eq text (codes "require=") || (starts_with nat_eq text (codes "droprequire=")
-    || (starts_with nat_eq text (codes "exclude=") || (starts_with nat_eq text (codes "dropexclude=")
-    || (starts_with nat_eq text (codes "replace=") || (starts_with nat_eq text (codes "dropreplace=")
-    || (starts_with nat_eq text (codes "retract=") || starts_with nat_eq text (codes "dropretract=")))))))))
+is_operation text = is_setting text || (is_adding text || is_drop text)
 
 -- the operation that a word is, with one dash or two in front or with none
 abbrev pub operation_in : Text → Option Text
@@ -57,6 +68,10 @@ free_from is_value [] = None
 free_from is_value (word ∷ words) =
     if not is_value && is_free word then Some word else free_from (takes_value word) words
 
+-- the operation that a word is, if it is one
+abbrev pub operations_in : Text → List Text
+operations_in word = option_map_or (λ operation. operation ∷ []) (operation_in word) []
+
 -- what to type after `edit`: the file, which is `go.mod` if the words name none, then the operations without dashes
 abbrev pub edit_words : List Text → List Text
-edit_words words = unwrap_or (free_from false words) (codes "go.mod") ∷ filter_map operation_in words
+edit_words words = unwrap_or (free_from false words) (codes "go.mod") ∷ flat_map operations_in words

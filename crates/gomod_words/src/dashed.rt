@@ -7,7 +7,7 @@ ghost use Rattle.std.specs.Option.{option_copied};
 ghost use Rattle.std.specs.String.{string_bytes};
 ghost use Rattle.clap.specs.Lexer.{strip_byte, without_minus};
 ghost use Rattle.gomod_words.specs.Usage.{IsLineOf, dashed_message, dashed_text, words_after};
-ghost use Rattle.gomod_words.specs.Dashed.{begins_with_dash, dashed_in, edit_words, free_from, is_free, is_operation, names_value, operation_in, takes_value, without_dashes};
+ghost use Rattle.gomod_words.specs.Dashed.{begins_with_dash, dashed_in, edit_words, free_from, is_adding, is_drop, is_free, is_operation, is_setting, names_value, operation_in, operations_in, takes_value, without_dashes};
 
 use crate::help::EDIT_USAGE;
 use crate::typed::push_all_typed;
@@ -45,21 +45,38 @@ pub(crate) fn without_dashes(word: &str) -> &str
     without_dash(without_dash(word))
 }
 
-/// Whether a text begins with the name of an operation and `=`.
-fn is_operation(text: &str) -> bool
-    ensures { result ≡ is_operation text.now }
+/// Whether a text begins with the name of an operation that sets something, and `=`.
+fn is_setting(text: &[u8]) -> bool
+    ensures { result ≡ is_setting text.now }
 {
-    let text = text.as_bytes();
     text.starts_with(b"module=")
         || text.starts_with(b"go=")
         || text.starts_with(b"require=")
-        || text.starts_with(b"droprequire=")
-        || text.starts_with(b"exclude=")
-        || text.starts_with(b"dropexclude=")
         || text.starts_with(b"replace=")
+}
+
+/// Whether a text begins with the name of an operation that adds something, and `=`.
+fn is_adding(text: &[u8]) -> bool
+    ensures { result ≡ is_adding text.now }
+{
+    text.starts_with(b"exclude=") || text.starts_with(b"retract=")
+}
+
+/// Whether a text begins with the name of an operation that drops something, and `=`.
+fn is_drop(text: &[u8]) -> bool
+    ensures { result ≡ is_drop text.now }
+{
+    text.starts_with(b"droprequire=")
+        || text.starts_with(b"dropexclude=")
         || text.starts_with(b"dropreplace=")
-        || text.starts_with(b"retract=")
         || text.starts_with(b"dropretract=")
+}
+
+/// Whether a text begins with the name of an operation and `=`.
+fn is_operation(text: &[u8]) -> bool
+    ensures { result ≡ is_operation text.now }
+{
+    is_setting(text) || is_adding(text) || is_drop(text)
 }
 
 /// The operation that a word is, with one dash or two in front or with none.
@@ -67,7 +84,11 @@ pub(crate) fn operation_in(word: &str) -> Option<&str>
     ensures { option_copied result ≡ operation_in word.now }
 {
     let text = without_dashes(word);
-    if is_operation(text) { Some(text) } else { None }
+    if is_operation(text.as_bytes()) {
+        Some(text)
+    } else {
+        None
+    }
 }
 
 /// The first word that begins with a dash and is more than that.
@@ -126,6 +147,17 @@ pub(crate) fn free_word<'a>(words: &[&'a str]) -> Option<&'a str>
     None
 }
 
+/// Appends the operation that a word is, if it is one.
+fn push_operation<'a>(typed: &mut Vec<&'a str>, word: &'a str) -> Result<(), AllocError>
+    ensures { OnOk result (map (λ word. word.now) typed.new.items
+        ≡ map (λ word. word.now) typed.old.items ++ operations_in word.now) }
+{
+    if let Some(operation) = operation_in(word) {
+        typed.push(operation)?;
+    }
+    Ok(())
+}
+
 /// What to type after `edit` in place of these words: the file, then the operations.
 pub(crate) fn edit_words<'a>(alloc: Global, words: &[&'a str]) -> Result<Vec<&'a str>, AllocError>
     ensures { IfOk result (λ typed. map (λ word. word.now) typed.items ≡ edit_words (map (λ word. word.now) words.now)) }
@@ -133,9 +165,7 @@ pub(crate) fn edit_words<'a>(alloc: Global, words: &[&'a str]) -> Result<Vec<&'a
     let mut typed = Vec::new(alloc);
     typed.push(free_word(words).unwrap_or("go.mod"))?;
     for word in words {
-        if let Some(operation) = operation_in(word) {
-            typed.push(operation)?;
-        }
+        push_operation(&mut typed, *word)?;
     }
     Ok(typed)
 }
