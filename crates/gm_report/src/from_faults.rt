@@ -66,7 +66,7 @@ impl<'a> From<SumFault> for Report<'a> {
         match fault {
             SumFault::NoMemory => Report::NoMemory,
             SumFault::TooMany => Report::LongSums,
-            SumFault::BadSum(line) => Report::Sums(line),
+            SumFault::BadSum { line } => Report::Sums(line),
         }
     }
 }

@@ -80,7 +80,7 @@ pub(crate) fn fault_of(text: &[u8]) -> SumFault
     ensures no_memory { result ≡ SumFault.NoMemory → HasValidLines text.now }
 {
     match first_invalid_line(text) {
-        Some(before) => SumFault::BadSum(before + 1),
+        Some(before) => SumFault::BadSum { line: before + 1 },
         None => SumFault::NoMemory,
     }
 }

@@ -31,9 +31,12 @@ pub enum SumFault {
     /// The text has more than 16,777,216 bytes (`MAX_BYTES`).
     #[error("too many bytes")]
     TooMany,
-    /// The line of this number, counted from 1, is the first that is neither blank nor three fields of UTF-8.
-    #[error("line {0} does not have three UTF-8 fields")]
-    BadSum(usize),
+    /// A line is neither blank nor three fields of UTF-8.
+    #[error("line {line} does not have three UTF-8 fields")]
+    BadSum {
+        /// The number of the first such line, counted from 1.
+        line: usize,
+    },
 }
 
 impl From<AllocError> for SumFault {

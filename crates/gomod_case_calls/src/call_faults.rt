@@ -120,7 +120,7 @@ impl From<SumFault> for CallFault {
         match fault {
             SumFault::NoMemory => CallFault::NoMemory,
             SumFault::TooMany => CallFault::TooMany,
-            SumFault::BadSum(line) => CallFault::BadSum(line),
+            SumFault::BadSum { line } => CallFault::BadSum(line),
         }
     }
 }
