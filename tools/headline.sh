@@ -221,6 +221,8 @@ def clauses_at(lines, at):
     for line in lines[at + 1:]:
         line = line.removeprefix(margin)
         head = re.match(r"    (?:requires|ensures) (?:(\w+) )?\{", line)
+        is_last = bool(head or name is not None) and line.endswith("};")  # of a function that a trait declares
+        line = line.removesuffix(";") if is_last else line
         is_end = re.match(r"[{}]|.*;$", line)
         if head or is_end or line.startswith("    //"):
             if name is not None:
@@ -233,6 +235,9 @@ def clauses_at(lines, at):
             name, text, comment = head[1] or "", [*comment, line[4:]], []
         elif name is not None:
             text.append(line[4:])
+        if is_last:
+            clauses[name] = "\n".join(text)
+            break
     return clauses
 
 

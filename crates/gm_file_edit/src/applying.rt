@@ -1,8 +1,8 @@
-//! Applying operations to the go.mod file of a main module.
+//! Applying operations to the lines of a go.mod file.
 //!
 //! Whatever may run out of memory comes before any change of the lines, so that a failed edit leaves them unchanged.
 
-ghost use Rattle.std.specs.Prelude.{◌≡◌, ◌↔◌, ◌<◌, not, length, take_while, IsErrOf, OnErr, OnOk, None, false};
+ghost use Rattle.std.specs.Prelude.{◌≡◌, ◌<◌, not, length, take_while, OnErr, OnOk, None};
 ghost use Rattle.gm_syntax.specs.Document.{IsDocument};
 ghost use Rattle.gm_syntax.specs.LineViews.{plain_lines};
 ghost use Rattle.gm_file.specs.Directives.{Strict};
@@ -20,18 +20,15 @@ ghost use Rattle.gm_file_edit.specs.Sound.{IsSoundEdit};
 ghost use Rattle.gm_file_edit.specs.Views.{addition_of, edit_of, setting_of};
 
 use crate::adding::{AddedVerb, add, add_go};
-use crate::editor::Editor;
-use crate::fault::EditFault;
 use crate::keyed_lines::KeyedLines;
 use crate::marking::{first_mark, marks};
 use crate::new_words::{interval_words, pair_words, replace_words};
-use crate::op::{Addition, Change, Op, Setting};
+use crate::op::{Addition, Change, Setting};
 use crate::packing::pack;
 use crate::renewing::{new_line, renew};
-use gm_file::{MainFile, does_left_fit};
+use gm_file::does_left_fit;
 use gm_name::{ModPath, ModVersion, fits};
 use std::alloc::{AllocError, Global};
-use std::mem;
 
 /// Whether a version fits its path.
 fn does_fit(path: &ModPath, version: &ModVersion) -> bool
@@ -185,28 +182,4 @@ pub(crate) fn edit_lines<'a>(
         return change_lines(alloc, change, lines, marks, first);
     }
     put_in(alloc, change, lines)
-}
-
-/// Applies an operation to a file (go help mod edit). The file then holds the new lines and the fields that strict
-/// reading gives for them.
-///
-/// Fails with `Misfit` if and only if a version doesn't fit its path. This concerns a version that the operation
-/// requires or excludes, or the one in the left side of a `replace`. The right side of a `replace` isn't checked. The
-/// check comes before any allocation.
-///
-/// Fails with `NoMemory` if memory runs out. On any failure the file is unchanged.
-///
-/// The whole file is read again. For more than one operation an `Editor` reads nothing between them.
-pub fn apply<'a>(alloc: Global, file: &mut MainFile<'a>, op: &Op) -> Result<(), EditFault>
-    ensures ok { OnOk result (file.new ≡ edited op.now file.old) }
-    ensures err { OnErr result (file.new ≡ file.old) }
-    ensures misfit { IsErrOf result EditFault.Misfit ↔ is_fit op.now ≡ false }
-{
-    if !is_fit(&op.change) {
-        return Err(EditFault::Misfit);
-    }
-    let mut editor = Editor::new(alloc, file)?;
-    editor.apply(op)?;
-    let _before = mem::replace(file, editor.into_file()?);
-    Ok(())
 }

@@ -1,7 +1,7 @@
 //! Edits of a main module's go.mod file: the flags of `go mod edit` as operations.
 //!
 //! `go help mod edit` says what the flags do. An operation is written as a name, `=` and an argument. `Op::parse`
-//! parses one, and `apply` applies it to a parsed file. An `Editor` applies several in turn to the lines of a file,
+//! parses one, and `Apply::apply` applies it to a parsed file. An `Editor` applies several in turn to the lines of a file,
 //! without reading the file again between them. Entries that an operation doesn't target stay as they are, and so do
 //! their comments and blocks.
 //!
@@ -12,6 +12,7 @@
 
 mod about;
 mod adding;
+mod apply;
 mod applying;
 mod editor;
 mod fault;
@@ -26,7 +27,7 @@ mod part;
 mod renewing;
 mod targeting;
 
-pub use crate::applying::apply;
+pub use crate::apply::Apply;
 pub use crate::editor::Editor;
 pub use crate::fault::{EditFault, OpFault};
 pub use crate::op::Op;

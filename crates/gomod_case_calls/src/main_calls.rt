@@ -4,7 +4,7 @@ use crate::call_faults::CallFault;
 use crate::file_calls::{line_of_right, text_of_main};
 use crate::name_calls::{pair, yes_or_no};
 use gm_file::MainFile;
-use gm_file_edit::Op;
+use gm_file_edit::{Apply, Op};
 use gm_name::ModVer;
 use gm_syntax::Doc;
 use std::alloc::Global;
@@ -46,7 +46,7 @@ fn answer(
 
 /// The layout of a main file after an operation.
 fn layout_after(alloc: Global, file: &mut MainFile<'_>, op: &Op) -> Result<String, CallFault> {
-    gm_file_edit::apply(alloc, file, op)?;
+    file.apply(alloc, op)?;
     Ok(file.doc().format()?)
 }
 

@@ -1,7 +1,7 @@
 //! Formatting, reading and editing a go.mod.
 
 use gm_file::MainFile;
-use gm_file_edit::{Op, apply};
+use gm_file_edit::{Apply, Op};
 use gm_syntax::{Doc, SyntaxFault};
 use std::alloc::Global;
 use std::io;
@@ -40,7 +40,7 @@ fn edit(alloc: Global, file: &mut MainFile<'_>, operation: &str) -> anyhow::Resu
 
 /// Applies an operation that was read to a file.
 fn edit_by(alloc: Global, file: &mut MainFile<'_>, op: &Op) -> anyhow::Result<()> {
-    Ok(apply(alloc, file, op)?)
+    Ok(file.apply(alloc, op)?)
 }
 
 /// Prints the layout of the example.
