@@ -25,7 +25,6 @@ gm_name/src/borrowed_version.rt to_version: a text that is a version was refused
 gm_name/src/version.rt read: the parser says so
 gm_name/src/version.rt with: a text that is a pre-release was refused
 gm_name_table/src/module_table.rt put: the list has the greatest size
-gm_store/src/fallback/walk.rt walk: the look-up in a folder says so
 gm_store_sums/src/sum_lines.rt fault_of: no line is invalid, so reading stopped for memory
 gomod_run/src/program.rt words_of: the list of words could not grow
 gomod_run/src/program.rt word_at: the buffer has the greatest size

@@ -2,15 +2,15 @@
 use Rattle.std.proofs.Common.{◌≡◌, ◌∙◌, ◌<◌, ◌≤◌, ◌^◌, ◌⊎◌, inl, inr, ℕ, List, arith}
 use Rattle.std.proofs.lemmas.Bool.{cases_lt}
 use Rattle.gm_store.specs.declared.fallback.proxy_list.Mark.{Mark}
-use Rattle.gm_store.specs.Steps.{HasCounted, Seen, counted_up}
+use Rattle.gm_store.specs.Steps.{Counts, HasCounted, Seen, counted_up}
 
 -- a count doesn't fall
 pub count_rises : (old new failures : ℕ) → new ≡ counted_up old failures → old < 2 ^ 64 → old ≤ new
 count_rises old new failures grown small = omega arith
 
-pub counted_rises : (may_find : ℕ → Seen → Type 0) (marks : List Mark) (old new : ℕ) → HasCounted may_find marks old new
-    → old < 2 ^ 64 → old ≤ new
-counted_rises may_find marks old new (looks, made, grown) small = count_rises old new _ grown small
+pub counted_rises : (may_find : ℕ → Seen → Type 0) (marks : List Mark) (old new : Counts) → HasCounted may_find marks old new
+    → old.failures < 2 ^ 64 → old.failures ≤ new.failures
+counted_rises may_find marks old new (looks, made, grown) small = count_rises old.failures new.failures _ grown.1 small
 
 pub later_both : (a b c : ℕ) → a ≤ b → b ≤ c → a ≤ c
 later_both a b c h k = omega arith

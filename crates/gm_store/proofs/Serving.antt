@@ -1,5 +1,5 @@
 -- What several requests do to a store, one after another.
-use Rattle.std.proofs.Common.{◌≡◌, ◌∙◌, ◌-◌, List, [], Contains, Result, Ok, Err, append-nil, arith, refl, subst, inl, inr}
+use Rattle.std.proofs.Common.{◌≡◌, ◌∙◌, List, [], Contains, Result, Ok, Err, append-nil, arith, refl, subst, inl, inr}
 use Rattle.std.proofs.lemmas.List.Elements.{Contains-push_cases}
 use Rattle.gm_store.specs.Asked.{Name, Reply}
 use Rattle.gm_store.specs.Requests.{IsRequest}

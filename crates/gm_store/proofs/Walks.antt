@@ -9,17 +9,16 @@ use Rattle.gm_store.specs.declared.fallback.proxy_list.Mark.TheVariants.{Comma, 
 use Rattle.gm_store.specs.declared.fallback.step.Next.{Next}
 use Rattle.gm_store.specs.declared.fallback.step.Next.TheVariants.{Take, Go, Fail}
 use Rattle.gm_store.specs.Asked.{Reply}
-use Rattle.gm_store.specs.Steps.{HasCounted, HasFallenBack, MayStop, Seen, absent, counted_up, failed, found, has_failed, outcome_of, step_of, too_long}
+use Rattle.gm_store.specs.Steps.{AreCounted, Counts, HasCounted, MayStop, Seen, absent, counted_up, failed, found, has_failed, outcome_of, step_of, too_long}
 
--- the request fell back from the first `at` folders; `passed` has the results there, and their failures are
--- counted
-pub record HasPassed (may_find : ℕ → Seen → Type 0) (marks : List Mark) (at old new : ℕ) : Type 0 where
+-- the request fell back from the first `at` folders; `passed` has the results there, which are counted
+pub record HasPassed (may_find : ℕ → Seen → Type 0) (marks : List Mark) (at : ℕ) (old new : Counts) : Type 0 where
   pub passed : List Seen
   pub many : length passed ≡ at
   pub within : at ≤ length marks
   pub seen : (k : ℕ) (look : Seen) → slice_get passed k ≡ Some look → may_find k look
   pub goes : (k : ℕ) (look : Seen) → slice_get passed k ≡ Some look → step_of look (slice_get marks k) ≡ Go
-  pub counted : new ≡ counted_up old (count_by has_failed passed)
+  pub counted : AreCounted passed old new
 
 saturates : (x b m : ℕ) → min (min x m + b) m ≡ min (x + b) m
 saturates x b m = omega arith
@@ -50,22 +49,29 @@ get_within (m ∷ ms) (suc k) e = let rest = get_within ms k e in omega arith
 count-append : (xs ys : List Seen) → count_by has_failed (xs ++ ys) ≡ count_by has_failed xs + count_by has_failed ys
 count-append xs ys = sum_by-append (λ look. cond (has_failed look) 1 0) xs ys
 
+-- some lookups are counted, and then more
+counted_both : (xs ys : List Seen) (old mid new : Counts) → AreCounted xs old mid → AreCounted ys mid new → AreCounted (xs ++ ys) old new
+counted_both xs ys old mid new one two = (
+  two.0 ∙ ap (λ n. counted_up n (length ys)) one.0 ∙ counted-more old.lookups _ _ ∙ ap (counted_up old.lookups) (sym (length-append xs ys)),
+  two.1 ∙ ap (λ n. counted_up n (count_by has_failed ys)) one.1 ∙ counted-more old.failures _ _ ∙ ap (counted_up old.failures) (sym (count-append xs ys)),
+)
+
 -- the request falls back from one more folder
-pub one_more : (may_find : ℕ → Seen → Type 0) (marks : List Mark) (at old new newer : ℕ) (look : Seen) → HasPassed may_find marks at old new
-    → may_find at look → Go ≡ step_of look (slice_get marks at) → newer ≡ counted_up new (count_by has_failed (look ∷ [])) → HasPassed may_find marks (at + 1) old newer
+pub one_more : (may_find : ℕ → Seen → Type 0) (marks : List Mark) (at : ℕ) (old new newer : Counts) (look : Seen) → HasPassed may_find marks at old new
+    → may_find at look → Go ≡ step_of look (slice_get marks at) → AreCounted (look ∷ []) new newer → HasPassed may_find marks (at + 1) old newer
 one_more may_find marks at old new newer look so_far seen goes grown = record {
   passed = so_far.passed ++ look ∷ [];
   many = length-append so_far.passed (look ∷ []) ∙ ap (λ n. n + 1) so_far.many;
   within = let marked = get_within marks at (go_marked look (slice_get marks at) (sym goes)) in omega arith;
   seen = get_more so_far.passed look may_find so_far.seen (subst (λ k. may_find k look) (sym so_far.many) seen);
   goes = get_more so_far.passed look (λ k look. step_of look (slice_get marks k) ≡ Go) so_far.goes (ap (λ k. step_of look (slice_get marks k)) so_far.many ∙ sym goes);
-  counted = grown ∙ ap (λ n. counted_up n (count_by has_failed (look ∷ []))) so_far.counted ∙ counted-more old _ _ ∙ ap (counted_up old) (sym (count-append so_far.passed (look ∷ [])));
+  counted = counted_both so_far.passed (look ∷ []) old new newer so_far.counted grown;
 }
 
 -- the walk stops
-pub walk_ends : (may_find : ℕ → Seen → Type 0) (marks : List Mark) (at old new newer : ℕ) (look : Seen) (next : Next) (outcome : Option Reply) → HasPassed may_find marks at old new
-    → may_find at look → next ≡ step_of look (slice_get marks at) → (next ≡ Go → ⊥) → outcome ≡ outcome_of look next → newer ≡ counted_up new (count_by has_failed (look ∷ []))
-    → (failures : ℕ) × MayStop may_find marks outcome failures × (newer ≡ counted_up old failures)
+pub walk_ends : (may_find : ℕ → Seen → Type 0) (marks : List Mark) (at : ℕ) (old new newer : Counts) (look : Seen) (next : Next) (outcome : Option Reply) → HasPassed may_find marks at old new
+    → may_find at look → next ≡ step_of look (slice_get marks at) → (next ≡ Go → ⊥) → outcome ≡ outcome_of look next → AreCounted (look ∷ []) new newer
+    → (failures : ℕ) × MayStop may_find marks outcome failures × (newer.failures ≡ counted_up old.failures failures)
 walk_ends may_find marks at old new newer look next outcome so_far seen stops ends answers grown =
     let here : step_of look (slice_get marks (length so_far.passed)) ≡ next = ap (λ k. step_of look (slice_get marks k)) so_far.many ∙ sym stops in (
       count_by has_failed (so_far.passed ++ look ∷ []),
@@ -83,7 +89,7 @@ walk_ends may_find marks at old new newer look next outcome so_far seen stops en
           counted = refl;
         },
       ),
-      grown ∙ ap (λ n. counted_up n (count_by has_failed (look ∷ []))) so_far.counted ∙ counted-more old _ _ ∙ ap (counted_up old) (sym (count-append so_far.passed (look ∷ []))),
+      (counted_both so_far.passed (look ∷ []) old new newer so_far.counted grown).1,
     )
 
 -- if `step` takes a result, the device didn't fail
@@ -98,29 +104,33 @@ take_sound failed (Some Bar) e = cc e
 pub fail_outcome : (look : Seen) → None ≡ outcome_of look Fail
 fail_outcome look = refl
 
-pub none_passed : (may_find : ℕ → Seen → Type 0) (marks : List Mark) (old : ℕ) → old < 2 ^ 64 → HasPassed may_find marks 0 old old
-none_passed may_find marks old small = record {
+pub none_passed : (may_find : ℕ → Seen → Type 0) (marks : List Mark) (old : Counts) → old.lookups < 2 ^ 64 → old.failures < 2 ^ 64 → HasPassed may_find marks 0 old old
+none_passed may_find marks old few small = record {
   passed = [];
   many = refl;
   within = omega arith;
   seen = λ k look e. cc e;
   goes = λ k look e. cc e;
-  counted = omega arith;
+  counted = (omega arith, omega arith);
 }
 
 above : (m old new n : ℕ) → new ≡ min (min (old + n) m + 1) m → old ≤ m → (old < new) ⊎ (old ≡ m)
 above m old new n e h = elim (cases_lt old m) [ inl less ↦ inl (omega arith) | inr more ↦ inr (omega arith) ]
 
 -- a failure of the device at which the walk stops is counted
-pub fail_counts : (look : Seen) (mark : Option Mark) (old new newer at : ℕ) {may_find : ℕ → Seen → Type 0} {marks : List Mark} → HasPassed may_find marks at old new
-    → Fail ≡ step_of look mark → newer ≡ counted_up new (count_by has_failed (look ∷ [])) → old < 2 ^ 64 → (old < newer) ⊎ (old ≡ 2 ^ 64 - 1)
-fail_counts failed mark old new newer at so_far fails grown small = above (2 ^ 64 - 1) old newer (count_by has_failed so_far.passed) (grown ∙ ap (λ n. min (n + 1) (2 ^ 64 - 1)) so_far.counted) (omega arith)
+pub fail_counts : (look : Seen) (mark : Option Mark) (old new newer : Counts) (at : ℕ) {may_find : ℕ → Seen → Type 0} {marks : List Mark} → HasPassed may_find marks at old new
+    → Fail ≡ step_of look mark → AreCounted (look ∷ []) new newer → old.failures < 2 ^ 64 → (old.failures < newer.failures) ⊎ (old.failures ≡ 2 ^ 64 - 1)
+fail_counts failed mark old new newer at so_far fails grown small =
+    above (2 ^ 64 - 1) old.failures newer.failures (count_by has_failed so_far.passed) (grown.1 ∙ ap (λ n. min (n + 1) (2 ^ 64 - 1)) so_far.counted.1) (omega arith)
 fail_counts (found content) mark old new newer at so_far fails grown small = cc fails
 fail_counts too_long mark old new newer at so_far fails grown small = cc fails
 fail_counts absent None old new newer at so_far fails grown small = cc fails
 fail_counts absent (Some mark) old new newer at so_far fails grown small = cc fails
 
-pub passed_counts : {may_find : ℕ → Seen → Type 0} {marks : List Mark} {at old new : ℕ} → HasPassed may_find marks at old new → HasCounted may_find marks old new
+-- ---- what was counted
+
+-- memory ran out in a lookup
+pub passed_counts : {may_find : ℕ → Seen → Type 0} {marks : List Mark} {at : ℕ} {old new : Counts} → HasPassed may_find marks at old new → HasCounted may_find marks old new
 passed_counts so_far = (
   so_far.passed,
   record {
@@ -130,45 +140,20 @@ passed_counts so_far = (
   so_far.counted,
 )
 
-pub passed_falls : {may_find : ℕ → Seen → Type 0} {marks : List Mark} {at old new : ℕ} → HasPassed may_find marks at old new → HasFallenBack may_find marks at old new
-passed_falls so_far = record {
-  looks = so_far.passed;
-  one_each = so_far.many;
-  possible = so_far.seen;
-  goes = so_far.goes;
-  counted = so_far.counted;
-}
-
--- the elements of a prefix of a list
-get_front : (p : List Seen) (x : Seen) (r : List Seen) (k : ℕ) (look : Seen) → slice_get (p ++ x ∷ []) k ≡ Some look → slice_get (p ++ x ∷ r) k ≡ Some look
-get_front [] x r zero look e = e
-get_front [] x r (suc k) look e = cc e
-get_front (a ∷ p) x r zero look e = e
-get_front (a ∷ p) x r (suc k) look e = get_front p x r k look e
-
 -- an element before the last one
 get_before : (p : List Seen) (x : Seen) (k : ℕ) (look : Seen) → slice_get (p ++ x ∷ []) k ≡ Some look → k + 1 < length (p ++ x ∷ []) → slice_get p k ≡ Some look
 get_before [] x k look e more = let less : k + 1 < 1 = more in absurd (omega arith)
 get_before (a ∷ p) x zero look e more = e
 get_before (a ∷ p) x (suc k) look e more = let less : suc k + 1 < suc (length (p ++ x ∷ [])) = more in get_before p x k look e (omega arith)
 
-pub stop_counts : (may_find : ℕ → Seen → Type 0) (marks : List Mark) (outcome : Option Reply) (failures old new : ℕ) → MayStop may_find marks outcome failures → new ≡ counted_up old failures
-    → HasCounted may_find marks old new
-stop_counts may_find marks outcome failures old new (looks, seen, stop) grown = (
-  stop.passed ++ stop.last ∷ [],
+-- the walk stopped
+pub stop_counts : (may_find : ℕ → Seen → Type 0) (marks : List Mark) (at : ℕ) (old new newer : Counts) (look : Seen) → HasPassed may_find marks at old new → may_find at look
+    → AreCounted (look ∷ []) new newer → HasCounted may_find marks old newer
+stop_counts may_find marks at old new newer look so_far seen grown = (
+  so_far.passed ++ look ∷ [],
   record {
-    possible = λ k look e. seen k look (ap (λ looks. slice_get looks k) stop.in_order ∙ get_front stop.passed stop.last stop.rest k look e);
-    fell_back = λ k look e more. stop.goes k look (get_before stop.passed stop.last k look e more);
+    possible = get_more so_far.passed look may_find so_far.seen (subst (λ k. may_find k look) (sym so_far.many) seen);
+    fell_back = λ k back e more. so_far.goes k back (get_before so_far.passed look k back e more);
   },
-  grown ∙ ap (counted_up old) stop.counted,
-)
-
-pub none_counted : (may_find : ℕ → Seen → Type 0) (marks : List Mark) (old : ℕ) → old < 2 ^ 64 → HasCounted may_find marks old old
-none_counted may_find marks old small = (
-  [],
-  record {
-    possible = λ k look e. cc e;
-    fell_back = λ k look e more. cc e;
-  },
-  omega arith,
+  counted_both so_far.passed (look ∷ []) old new newer so_far.counted grown,
 )

@@ -1,3 +1,4 @@
+pub mod Counted
 pub mod Cutting
 pub mod DiskAnswers
 pub mod Failing

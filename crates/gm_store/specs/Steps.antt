@@ -87,15 +87,17 @@ pub record AreLookups (may_find : ℕ → Seen → Type 0) (marks : List Mark) (
   pub fell_back : (k : ℕ) (seen : Seen) → slice_get looks k ≡ Some seen → k + 1 < length looks
       → step_of seen (slice_get marks k) ≡ Go
 
--- zero or more lookups were made, and those of them that failed were counted, and nothing else
-abbrev pub HasCounted : (ℕ → Seen → Type 0) → List Mark → ℕ → ℕ → Type 0
-HasCounted may_find marks before after = (looks : List Seen) × AreLookups may_find marks looks
-    × (after ≡ counted_up before (count_by has_failed looks))
+-- how often folders were looked into, and how often the device failed in that
+pub record Counts : Type 0 where
+  pub lookups : ℕ
+  pub failures : ℕ
 
--- the request fell back from the first `many` folders, and those of the lookups in them that failed were counted
-pub record HasFallenBack (may_find : ℕ → Seen → Type 0) (marks : List Mark) (many before after : ℕ) : Type 0 where
-  pub looks : List Seen
-  pub one_each : length looks ≡ many
-  pub possible : (k : ℕ) (seen : Seen) → slice_get looks k ≡ Some seen → may_find k seen
-  pub goes : (k : ℕ) (seen : Seen) → slice_get looks k ≡ Some seen → step_of seen (slice_get marks k) ≡ Go
-  pub counted : after ≡ counted_up before (count_by has_failed looks)
+-- lookups with these results were counted, those of them that failed as failures too, and nothing else
+abbrev pub AreCounted : List Seen → Counts → Counts → Type 0
+AreCounted looks before after = (after.lookups ≡ counted_up before.lookups (length looks))
+    × (after.failures ≡ counted_up before.failures (count_by has_failed looks))
+
+-- a request made zero or more lookups, and exactly these were counted
+abbrev pub HasCounted : (ℕ → Seen → Type 0) → List Mark → Counts → Counts → Type 0
+HasCounted may_find marks before after = (looks : List Seen) × AreLookups may_find marks looks
+    × AreCounted looks before after

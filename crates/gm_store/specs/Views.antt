@@ -1,15 +1,17 @@
--- Views of a fallback store: its folders and marks, its requests with their answers, and its refusals.
+-- Views of a fallback store: its folders and marks, its requests with their answers, its refusals, and its counts.
 use Rattle.std.specs.Prelude.{ℕ, List, map}
 use Rattle.gm_store.specs.declared.fallback.store.FallbackStore.{FallbackStore}
 use Rattle.gm_store.specs.declared.fallback.proxy_list.Mark.{Mark}
 use Rattle.gm_store.specs.declared.folders.FolderList.{Ghosts}
 use Rattle.gm_store.specs.Asked.{Name, Reply, name_of}
+use Rattle.gm_store.specs.Counted.{counts_in, inside}
 use Rattle.gm_store.specs.Memory.{pairs}
 use Rattle.gm_store.specs.States.{StoreState}
+use Rattle.gm_store.specs.Steps.{Counts}
 
 -- the folders that requests are looked up in
 abbrev pub folders_under : {F : Type 0} {g : Ghosts F} → FallbackStore F g → F
-folders_under store = store.folders
+folders_under store = inside store.folders
 
 -- the marks between the proxy folders
 abbrev pub marks_between : {F : Type 0} {g : Ghosts F} → FallbackStore F g → List Mark
@@ -23,9 +25,15 @@ asked_by store = pairs store.asked.items
 abbrev pub refused_by : {F : Type 0} {g : Ghosts F} → FallbackStore F g → List Name
 refused_by store = map name_of store.refused.items
 
--- how often the device has failed
+-- how often folders were looked into, and how often the device failed in that
+abbrev pub counts_of : {F : Type 0} {g : Ghosts F} → FallbackStore F g → Counts
+counts_of store = counts_in store.folders
+
+abbrev pub lookups_of : {F : Type 0} {g : Ghosts F} → FallbackStore F g → ℕ
+lookups_of store = (counts_of store).lookups
+
 abbrev pub faults_of : {F : Type 0} {g : Ghosts F} → FallbackStore F g → ℕ
-faults_of store = store.faults
+faults_of store = (counts_of store).failures
 
 -- what is known of it
 abbrev pub fallback_state : {F : Type 0} {g : Ghosts F} → FallbackStore F g → StoreState

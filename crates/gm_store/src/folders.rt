@@ -3,6 +3,7 @@
 //! A list of folders has the trait `FolderList`, so the fallback over them is the same for both kinds.
 
 pub(crate) mod buffers;
+pub(crate) mod counted;
 pub(crate) mod in_memory;
 mod lookup_paths;
 mod lookup_result;

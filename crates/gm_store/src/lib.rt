@@ -7,7 +7,7 @@
 //!
 //! - `Files` is the trait of stores. It keeps its answers, so no file is answered twice.
 //! - `FallbackStore` is the GOPROXY fallback: `ProxyList` has the folders and the marks between them, `step` decides
-//!   after each lookup whether to stop. `MemoryFallback` has the folders in memory, `DiskFallback` on a file system.
+//!   after each lookup whether to stop. `MemoryFolders` has the folders in memory, `FolderFiles` on a file system.
 //! - `MemoryFiles` is a map of files in memory, and `FailingFiles` adds one device failure to it, for tests.
 //! - `versions_of` reads a list file, and `latest` selects from its versions.
 //! - `read_limited` reads a file or stream up to a limit. `Sink` takes output, in memory or to a writer.
@@ -25,8 +25,8 @@ mod reading;
 mod sinks;
 mod versions;
 
-pub use crate::fallback::in_memory::MemoryFallback;
-pub use crate::fallback::on_disk::DiskFallback;
+pub use crate::fallback::in_memory::MemoryFolders;
+pub use crate::fallback::on_disk::FolderFiles;
 pub use crate::fallback::proxy_list::{Mark, ProxyFault, ProxyList};
 pub use crate::fallback::step::{Next, step};
 pub use crate::fallback::store::FallbackStore;

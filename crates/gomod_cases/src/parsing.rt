@@ -39,7 +39,7 @@ impl Parsed {
     /// How many proxy folders it names.
     pub(crate) fn folder_count(&self) -> usize {
         match &self.proxy {
-            Some(list) => list.folders().len(),
+            Some(list) => list.folders.len(),
             None => 0,
         }
     }

@@ -6,7 +6,7 @@ ghost use Rattle.gm_store.specs.Views.{asked_by};
 use gm_file::{MainFile, Replace, Right};
 use gm_name::{ModPath, ModVersion, unescape};
 use gm_store::{
-    FileName, Held, Mark, MemoryFallback, MemoryFolder, ProxyList, copy_name, folder_of,
+    FileName, Held, Mark, MemoryFolder, MemoryFolders, ProxyList, copy_name, folder_of,
     relative_name,
 };
 use gm_syntax::Doc;
@@ -50,10 +50,10 @@ impl Folders {
         view: &View<'_>,
         list: &ProxyList,
     ) -> Result<(), AllocError> {
-        for folder in list.folders() {
+        for folder in &list.folders {
             self.put_proxy(alloc, view, folder.as_str())?;
         }
-        for mark in list.marks() {
+        for mark in &list.marks {
             self.marks.push(*mark)?;
         }
         Ok(())
@@ -169,7 +169,7 @@ impl Folders {
     }
 
     /// The store over these folders, if there is one more folder than marks.
-    pub(crate) fn into_store(self, alloc: Global) -> Option<MemoryFallback>
+    pub(crate) fn into_store(self, alloc: Global) -> Option<MemoryFolders>
         ensures { IfSome result (λ store. asked_by store ≡ []) }
     {
         let Folders {
@@ -178,7 +178,7 @@ impl Folders {
             beside,
         } = self;
         if proxies.len() > 0 && proxies.len() - 1 == marks.len() {
-            Some(MemoryFallback::in_memory(alloc, proxies, marks, beside))
+            Some(MemoryFolders::in_memory(alloc, proxies, marks, beside))
         } else {
             None
         }

@@ -14,7 +14,7 @@ use crate::inputs::unread_report;
 use gm_name::{ModPath, NoMemory};
 use gm_report::Report;
 use gm_store::{
-    DiskFallback, FileName, FileSystem, Files, MemoryFiles, ProxyList, folder_of, read_limited,
+    FileName, FileSystem, Files, FolderFiles, MemoryFiles, ProxyList, folder_of, read_limited,
 };
 use gomod_words::Command;
 use std::alloc::Global;
@@ -47,13 +47,13 @@ pub(crate) fn folders_of<S: FileSystem + Copy + Drop + Alloc<A = Global>>(
     rt: &S,
     main: String,
     folders: ProxyList,
-) -> DiskFallback<S>
+) -> FolderFiles<S>
     ensures asked { pairs result.asked.items ≡ [] }
     ensures answers { (name : Name) (reply : Reply)
-        → ⟦<DiskFallback<S> as Files>⟧.may_answer result name reply
+        → ⟦<FolderFiles<S> as Files>⟧.may_answer result name reply
         → MayBeTold (S.may_open rt.now) (string_bytes main) (Some folders) name reply }
 {
-    DiskFallback::new(*rt, rt.alloc(), main, folders)
+    FolderFiles::new(*rt, rt.alloc(), main, folders)
 }
 
 /// A store that has the list of a module and nothing else.

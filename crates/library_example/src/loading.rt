@@ -6,7 +6,7 @@ use crate::files::main_file;
 use gm_file::MainFile;
 use gm_graph::{Fault, Loaded, Row, Step, load};
 use gm_name::ModPath;
-use gm_store::{DiskFallback, ProxyList, folder_of, read_limited};
+use gm_store::{FolderFiles, ProxyList, folder_of, read_limited};
 use std::{fs, io};
 
 /// The main module's file.
@@ -23,7 +23,7 @@ fn graph(rt: HostRuntime, main: &MainFile<'_>, proxies: &str) -> anyhow::Result<
     let alloc = rt.alloc();
     let folder = folder_of(alloc, MAIN)?;
     let proxies = ProxyList::read(alloc, proxies)?;
-    let mut store = DiskFallback::new(rt, alloc, folder, proxies);
+    let mut store = FolderFiles::new(rt, alloc, folder, proxies);
     Ok(load(alloc, main, &mut store, None)?)
 }
 

@@ -9,11 +9,11 @@ use crate::folders::memory_folder::MemoryFolder;
 use std::alloc::Global;
 
 /// A store over folders in memory.
-pub type MemoryFallback = FallbackStore<FoldersInMemory>;
+pub type MemoryFolders = FallbackStore<FoldersInMemory>;
 
 impl FallbackStore<FoldersInMemory> {
     ghost use Rattle.std.specs.Prelude.{◌≡◌, ◌+◌, [], length};
-    ghost use Rattle.gm_store.specs.Views.{asked_by, faults_of, folders_under, marks_between, refused_by};
+    ghost use Rattle.gm_store.specs.Views.{asked_by, faults_of, folders_under, lookups_of, marks_between, refused_by};
 
     /// A store over the folders `proxies`, with `marks` between them, and over `beside`. Nothing has been
     /// requested from it yet.
@@ -26,13 +26,14 @@ impl FallbackStore<FoldersInMemory> {
         proxies: Vec<MemoryFolder>,
         marks: Vec<Mark>,
         beside: MemoryFolder,
-    ) -> MemoryFallback
+    ) -> MemoryFolders
         requires { length proxies.items ≡ length marks.items + 1 }
         ensures proxies { (folders_under result).proxies ≡ proxies }
         ensures beside { (folders_under result).beside ≡ beside }
         ensures marks { marks_between result ≡ marks.items }
         ensures asked { asked_by result ≡ [] }
         ensures refused { refused_by result ≡ [] }
+        ensures lookups { lookups_of result ≡ 0 }
         ensures faults { faults_of result ≡ 0 }
     {
         FallbackStore::over(alloc, FoldersInMemory { proxies, beside }, marks)

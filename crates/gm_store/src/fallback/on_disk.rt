@@ -8,7 +8,7 @@ use crate::folders::on_disk::FoldersOnDisk;
 use std::alloc::Global;
 
 /// A store over folders of a file system.
-pub type DiskFallback<S> = FallbackStore<FoldersOnDisk<S>>;
+pub type FolderFiles<S> = FallbackStore<FoldersOnDisk<S>>;
 
 impl<S: FileSystem> FallbackStore<FoldersOnDisk<S>> {
     ghost use Rattle.std.specs.Prelude.{◌≡◌, [], string_bytes};
@@ -16,7 +16,7 @@ impl<S: FileSystem> FallbackStore<FoldersOnDisk<S>> {
     ghost use Rattle.gm_store.specs.DiskAnswers.{MayAnswer};
     ghost use Rattle.gm_store.specs.Proxies.{folders_in, marks_in};
     ghost use Rattle.gm_store.specs.FoldersOnDisk.{main_folder, proxy_folders, system_of};
-    ghost use Rattle.gm_store.specs.Views.{asked_by, faults_of, folders_under, marks_between, refused_by};
+    ghost use Rattle.gm_store.specs.Views.{asked_by, faults_of, folders_under, lookups_of, marks_between, refused_by};
 
     /// A store over the folders of `proxy` and the main file's folder `main`. Nothing has been requested from it
     /// yet.
@@ -25,20 +25,24 @@ impl<S: FileSystem> FallbackStore<FoldersOnDisk<S>> {
     /// is looked up once, relative to `main` unless the folder's text is absolute. A file that the system doesn't
     /// find is absent. Every other error of the system is a failure of the device, except running out of memory.
     /// At most `LIMIT + 1` bytes of a file are read. No file is opened before the first request.
-    pub fn new(system: S, alloc: Global, main: String, proxy: ProxyList) -> DiskFallback<S>
+    pub fn new(system: S, alloc: Global, main: String, proxy: ProxyList) -> FolderFiles<S>
         ensures system { system_of (folders_under result) ≡ system }
         ensures main { main_folder (folders_under result) ≡ string_bytes main }
         ensures proxies { proxy_folders (folders_under result) ≡ folders_in proxy }
         ensures marks { marks_between result ≡ marks_in proxy }
         ensures asked { asked_by result ≡ [] }
         ensures refused { refused_by result ≡ [] }
+        ensures lookups { lookups_of result ≡ 0 }
         ensures faults { faults_of result ≡ 0 }
         // An answer is that of the file at the path of the name in one of these folders.
         ensures answers { (name : Name) (reply : Reply)
             → ⟦<FallbackStore<FoldersOnDisk<S>> as Files>⟧.may_answer result name reply
             → MayAnswer (S.may_open system) (string_bytes main) (folders_in proxy) (marks_in proxy) name reply }
     {
-        let (proxies, marks) = proxy.into_parts();
+        let ProxyList {
+            folders: proxies,
+            marks,
+        } = proxy;
         let places = FoldersOnDisk {
             system,
             alloc,

@@ -43,14 +43,15 @@ impl From<AllocError> for ProxyFault {
 #[derive(Debug, Drop, PartialEq, Eq)]
 pub struct ProxyList {
     /// The folders, in order; at least one.
-    pub(crate) folders: Vec<String>,
-    /// The marks between them; one fewer.
-    pub(crate) marks: Vec<Mark>,
+    pub folders: Vec<String>,
+    /// The marks between them, in order; one fewer.
+    pub marks: Vec<Mark>,
+    // A mark stands between each two folders.
     ghost between: { length folders.items ≡ length marks.items + 1 },
 }
 
 impl ProxyList {
-    ghost use Rattle.std.specs.Prelude.{false, map, string_bytes, true, IfOk, OnOk};
+    ghost use Rattle.std.specs.Prelude.{false, true, IfOk, OnOk};
     ghost use Rattle.std.specs.List.{list_all};
     ghost use Rattle.gm_store.specs.Proxies.{folders_in, folders_of, is_folder, marks_in, marks_of};
 
@@ -70,30 +71,5 @@ impl ProxyList {
         } else {
             Err(ProxyFault::BadProxy)
         }
-    }
-
-    /// The folders, in order; at least one.
-    pub fn folders(&self) -> &[String]
-        ensures { map string_bytes result.now ≡ folders_in self.now }
-    {
-        &self.folders
-    }
-
-    /// The marks between the folders, in order; one fewer.
-    pub fn marks(&self) -> &[Mark]
-        ensures marks { result.now ≡ marks_in self.now }
-        ensures between { length (folders_in self.now) ≡ length (marks_in self.now) + 1 }
-    {
-        &self.marks
-    }
-
-    /// Takes the list apart into its folders and marks.
-    pub(crate) fn into_parts(self) -> (Vec<String>, Vec<Mark>)
-        ensures between { length result.0.items ≡ length result.1.items + 1 }
-        ensures folders { map string_bytes result.0.items ≡ folders_in self }
-        ensures marks { result.1.items ≡ marks_in self }
-    {
-        let ProxyList { folders, marks } = self;
-        (folders, marks)
     }
 }

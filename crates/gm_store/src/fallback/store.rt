@@ -5,6 +5,7 @@
 
 ghost use Rattle.std.specs.Prelude.{◌≡◌, ◌<◌, length};
 ghost use Rattle.gm_store.specs.Asked.{Name, name_of};
+ghost use Rattle.gm_store.specs.Counted.{inside};
 ghost use Rattle.gm_store.specs.FolderLookups.{marks_for};
 
 use crate::fallback::proxy_list::Mark;
@@ -13,19 +14,20 @@ use crate::files::keeping::{keep_answer, keep_name};
 use crate::files::{Answer, Answered, AskFault, FileName, Files};
 use crate::folders::FolderList;
 use crate::folders::buffers::Buffers;
+use crate::folders::counted::CountedFolders;
 use std::alloc::Global;
 
-/// A store over several folders. `MemoryFallback` has them in memory, `DiskFallback` on a device.
+/// A store over several folders. `MemoryFolders` has them in memory, `FolderFiles` on a device.
 ///
-/// The answer to a request is that of the folder at which `step` stops. Each failure of the device is counted,
-/// even if the lookup then falls back to the next folder. Running out of memory stops a request at once; the
-/// failures until then are still counted.
+/// The answer to a request is that of the folder at which `step` stops. Each lookup in a folder is counted, and each
+/// failure of the device, even if the request then falls back to the next folder. Running out of memory stops a
+/// request at once; the lookups until then, and their failures, are still counted.
 #[derive(Drop)]
 pub struct FallbackStore<F: FolderList> {
     /// The allocator for the kept names and answers.
     alloc: Global,
-    /// The folders.
-    folders: F,
+    /// The folders, and how often they were looked into.
+    folders: CountedFolders<F>,
     /// The buffers for lookups.
     buffers: Buffers,
     /// The marks between the proxy folders, one fewer than these.
@@ -34,15 +36,13 @@ pub struct FallbackStore<F: FolderList> {
     asked: Vec<Answered>,
     /// The names whose requests were refused because the device failed, in order.
     refused: Vec<FileName>,
-    /// How often the device has failed. The count saturates.
-    faults: u64,
     // A folder follows each mark, for each name, so the walk can't leave the list.
-    ghost between: { (name : Name) → length (marks_for name marks.items) < F.count_for folders name },
+    ghost between: { (name : Name) → length (marks_for name marks.items) < F.count_for (inside folders) name },
 }
 
 impl<F: FolderList> FallbackStore<F> {
     ghost use Rattle.std.specs.Prelude.{[]};
-    ghost use Rattle.gm_store.specs.Views.{asked_by, faults_of, folders_under, marks_between, refused_by};
+    ghost use Rattle.gm_store.specs.Views.{asked_by, faults_of, folders_under, lookups_of, marks_between, refused_by};
 
     /// A store over these folders, with the marks between the proxy folders. Nothing has been requested from it
     /// yet.
@@ -54,17 +54,24 @@ impl<F: FolderList> FallbackStore<F> {
         ensures marks { marks_between result ≡ marks.items }
         ensures asked { asked_by result ≡ [] }
         ensures refused { refused_by result ≡ [] }
+        ensures lookups { lookups_of result ≡ 0 }
         ensures faults { faults_of result ≡ 0 }
     {
         FallbackStore {
             alloc,
-            folders,
+            folders: CountedFolders::new(folders),
             buffers: Buffers::new(alloc),
             marks,
             asked: Vec::new(alloc),
             refused: Vec::new(alloc),
-            faults: 0,
         }
+    }
+
+    /// How often the store has looked into a folder. The count saturates at the greatest `u64`.
+    pub fn lookups(&self) -> u64
+        ensures { result ≡ lookups_of self.now }
+    {
+        self.folders.lookups()
     }
 }
 
@@ -75,7 +82,7 @@ impl<F: FolderList> Files for FallbackStore<F> {
     ghost use Rattle.gm_store.specs.Requests.{IsRequest};
     ghost use Rattle.gm_store.specs.States.{AddsAnswer};
     ghost use Rattle.gm_store.specs.Steps.{HasCounted, MayStop, counted_up};
-    ghost use Rattle.gm_store.specs.Views.{fallback_state as state_of, folders_under, marks_between};
+    ghost use Rattle.gm_store.specs.Views.{counts_of, fallback_state as state_of, folders_under, marks_between};
 
     ghost state = { state_of };
 
@@ -100,21 +107,14 @@ impl<F: FolderList> Files for FallbackStore<F> {
             → (failures : ℕ) × MayStop (λ k seen. F.may_find (folders_under self.old) k (name_of name.now) seen)
             (marks_for (name_of name.now) (marks_between self.old)) None failures
             × ((state_of self.new).faults ≡ counted_up (state_of self.old).faults failures) }
-        ensures no_memory { result ≡ Err AskFault.NoMemory
-            → HasCounted (λ k seen. F.may_find (folders_under self.old) k (name_of name.now) seen)
-            (marks_for (name_of name.now) (marks_between self.old))
-            (state_of self.old).faults (state_of self.new).faults }
+        // Exactly the lookups that were made are counted, and those of them that failed, also if memory ran out.
+        ensures lookups { HasCounted (λ k seen. F.may_find (folders_under self.old) k (name_of name.now) seen)
+            (marks_for (name_of name.now) (marks_between self.old)) (counts_of self.old) (counts_of self.new) }
     {
         // This read puts the count's range into the proof, also for the early return when memory runs out.
-        let _faults = self.faults;
+        let _faults = self.folders.failures();
         let marks = marks_for(name, &self.marks);
-        let outcome = walk(
-            &self.folders,
-            &mut self.buffers,
-            marks,
-            name,
-            &mut self.faults,
-        )?;
+        let outcome = walk(&mut self.folders, &mut self.buffers, marks, name)?;
         match outcome {
             Some(answer) => {
                 keep_answer(self.alloc, &mut self.asked, name, answer)?;
@@ -140,7 +140,7 @@ impl<F: FolderList> Files for FallbackStore<F> {
     }
 
     fn faults(&self) -> u64 {
-        self.faults
+        self.folders.failures()
     }
 }
 

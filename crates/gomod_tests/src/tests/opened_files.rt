@@ -1,7 +1,7 @@
 //! Which files a store over folders of the file system opens, how often, and which failures it counts.
 
 use super::{OUT_OF_MEMORY, assert_same, path};
-use gm_store::{AskFault, DiskFallback, FileName, Files, ProxyList};
+use gm_store::{AskFault, FileName, Files, FolderFiles, ProxyList};
 use std::alloc::{AllocError, Allocator};
 use std::cell::RefCell;
 use std::fs::{File, Metadata, OpenOptions};
@@ -113,8 +113,9 @@ struct Request {
     opened: &'static str,
     /// How the request ends.
     ended: Ended,
-    /// How many failures of the device are counted. They are counted too if memory runs out after them.
-    faults: u64,
+    /// How many lookups are counted, and how many failures of the device. They are counted too if memory runs out
+    /// after them; the lookup in which it does is not.
+    counts: (u64, u64),
 }
 
 /// Requests over one folder or more.
@@ -123,73 +124,77 @@ const REQUESTS: &'static [Request] = &[
         folders: "full",
         opened: "full/p.io/@v/list ",
         ended: Ok(()),
-        faults: 0,
+        counts: (1, 0),
     },
     Request {
         folders: "full,empty",
         opened: "full/p.io/@v/list ",
         ended: Ok(()),
-        faults: 0,
+        counts: (1, 0),
     },
     Request {
         folders: "empty,full",
         opened: "empty/p.io/@v/list full/p.io/@v/list ",
         ended: Ok(()),
-        faults: 0,
+        counts: (2, 0),
     },
     Request {
         folders: "empty|empty",
         opened: "empty/p.io/@v/list empty/p.io/@v/list ",
         ended: Ok(()),
-        faults: 0,
+        counts: (2, 0),
     },
     Request {
         folders: "broken",
         opened: "broken/p.io/@v/list ",
         ended: Err(AskFault::Device),
-        faults: 1,
+        counts: (1, 1),
     },
     Request {
         folders: "broken,full",
         opened: "broken/p.io/@v/list ",
         ended: Err(AskFault::Device),
-        faults: 1,
+        counts: (1, 1),
     },
     Request {
         folders: "broken|full",
         opened: "broken/p.io/@v/list full/p.io/@v/list ",
         ended: Ok(()),
-        faults: 1,
+        counts: (2, 1),
     },
     Request {
         folders: "starved|full",
         opened: "starved/p.io/@v/list ",
         ended: Err(AskFault::NoMemory),
-        faults: 0,
+        counts: (0, 0),
     },
     Request {
         folders: "broken|starved",
         opened: "broken/p.io/@v/list starved/p.io/@v/list ",
         ended: Err(AskFault::NoMemory),
-        faults: 1,
+        counts: (1, 1),
     },
     Request {
         folders: "broken|empty,broken|starved",
         opened: "broken/p.io/@v/list empty/p.io/@v/list broken/p.io/@v/list starved/p.io/@v/list ",
         ended: Err(AskFault::NoMemory),
-        faults: 2,
+        counts: (3, 2),
     },
 ];
 
-/// Asks a store over these folders for the list of a module. Says how the request ends, and how many failures of
-/// the device are counted.
-fn ask_for_list(rt: &impl Abort, system: RecordingSystem<'_>, folders: &str) -> (Ended, u64) {
+/// Asks a store over these folders for the list of a module. Says how the request ends, and how many lookups and
+/// failures of the device are counted.
+fn ask_for_list(
+    rt: &impl Abort,
+    system: RecordingSystem<'_>,
+    folders: &str,
+) -> (Ended, (u64, u64)) {
     let alloc = system.system.alloc();
     let proxy = ProxyList::read(alloc, folders).expect(rt, OUT_OF_MEMORY);
     let name = FileName::List(path(rt, alloc, "p.io"));
-    let mut store = DiskFallback::new(system, alloc, String::new(alloc), proxy);
+    let mut store = FolderFiles::new(system, alloc, String::new(alloc), proxy);
     let ended = store.ask(&name);
-    (ended, store.faults())
+    (ended, (store.lookups(), store.faults()))
 }
 
 /// Makes a request, and compares what comes of it.
@@ -199,10 +204,10 @@ fn make(rt: &impl Abort, host: HostRuntime, request: &Request) {
         system: host,
         opened: &opened,
     };
-    let (ended, faults) = ask_for_list(rt, system, request.folders);
+    let (ended, counts) = ask_for_list(rt, system, request.folders);
     let opened = opened.into_inner();
-    let got = (opened.as_str(), ended, faults);
-    let wanted = (request.opened, request.ended, request.faults);
+    let got = (opened.as_str(), ended, counts);
+    let wanted = (request.opened, request.ended, request.counts);
     assert_same(rt, request.folders, &got, &wanted);
 }
 

@@ -1,0 +1,11 @@
+-- Views of folders whose lookups are counted.
+use Rattle.gm_store.specs.declared.folders.counted.CountedFolders.{CountedFolders}
+use Rattle.gm_store.specs.Steps.{Counts}
+
+-- the folders
+abbrev pub inside : {F : Type 0} → CountedFolders F → F
+inside folders = folders.folders
+
+-- how often they were looked into, and how often that failed
+abbrev pub counts_in : {F : Type 0} → CountedFolders F → Counts
+counts_in folders = record { lookups = folders.lookups; failures = folders.failures }
