@@ -3,7 +3,7 @@
 # replaces of one path and retractions, and on one of a single line, and `go mod edit` beside it if there is a go
 # command.
 #
-#   bench/edit.sh            what docs/BENCHMARKS.md has
+#   bench/edit.sh            what docs/dev/BENCHMARKS.md has
 #   bench/edit.sh --small    2,000 lines and fewer operations, to see in seconds whether it runs
 #
 # It needs bin/gomod (./build makes it), python3, and 12 MB for temporary files. It prints for each command, of three

@@ -2,7 +2,7 @@
 # Times `gomod fmt` on a go.mod of 400,000 requires, and beside it `cat`, and `go mod edit -fmt` if there is a go
 # command.
 #
-#   bench/fmt.sh            what docs/BENCHMARKS.md has
+#   bench/fmt.sh            what docs/dev/BENCHMARKS.md has
 #   bench/fmt.sh --small    10,000 requires, to see in seconds whether it runs
 #
 # It needs bin/gomod (./build makes it), python3, awk, and 16 MB for temporary files. It prints the size of the file,

@@ -5,7 +5,7 @@
 # if there is a Rust compiler, a plain Rust program (plain.rs), and if there is a go command, `go list -m all` with a
 # cold module cache (one run) and with a warm one, and whether they print the same bytes.
 #
-#   bench/graph.sh            what docs/BENCHMARKS.md has
+#   bench/graph.sh            what docs/dev/BENCHMARKS.md has
 #   bench/graph.sh --small    the same seven graphs with 50 to 500 modules, each command once and without valgrind, to
 #                             see in seconds whether it runs
 #

@@ -3,7 +3,7 @@
 # short lines, of one line again and again, and of line ends; and beside each `sort -u` of the same file. Without --sum
 # the ten modules take next to nothing, so what is shown is the reading of the go.sum.
 #
-#   bench/sums.sh            what docs/BENCHMARKS.md has
+#   bench/sums.sh            what docs/dev/BENCHMARKS.md has
 #   bench/sums.sh --small    go.sum files of 1 MiB, to see in seconds whether it runs
 #
 # It needs bin/gomod (./build makes it), python3, awk and sort of GNU coreutils, and 70 MB for temporary files. It

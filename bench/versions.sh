@@ -4,7 +4,7 @@
 # retraction, with `go list -m -versions` beside it if there is a go command, and on three lists of 16 MiB without a
 # version.
 #
-#   bench/versions.sh            what docs/BENCHMARKS.md has
+#   bench/versions.sh            what docs/dev/BENCHMARKS.md has
 #   bench/versions.sh --small    20,000 lines and retractions and lists of 1 MiB, to see in seconds whether it runs
 #
 # It needs bin/gomod (./build makes it), python3, awk and sort of GNU coreutils, 130 MB for temporary files and 700 MB

@@ -13,9 +13,9 @@
 # chain of gomod is looked up in the graph of go. go runs without a network, with its module cache, its GOPATH and all
 # that it writes in a scratch folder. If go updates the main file, gomod reads what that leaves.
 #
-# It prints the version of go, each difference that docs/GO.md does not name in full, with the number of its world, and
+# It prints the version of go, each difference that docs/use/GO.md does not name in full, with the number of its world, and
 # for each command how many results were the same, refused by both, or differ in a way that has a row in the table of
-# docs/GO.md; a result can differ in several. The status is 1 if there is a difference without a name.
+# docs/use/GO.md; a result can differ in several. The status is 1 if there is a difference without a name.
 #
 # It needs bin/gomod (./build makes it), a go command of 1.19 or later (in Debian: apt-get install golang-go) and
 # python3. 300 worlds take about 35 s of CPU time.

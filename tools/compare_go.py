@@ -37,22 +37,22 @@ IN_ONE_CALL = ("`retract` of what is there already; `dropretract`, or `droprepla
 
 
 class Differences:
-    """Counts by command and kind. A kind that isn't SAME or BOTH is the first field of a row of docs/GO.md."""
+    """Counts by command and kind. A kind that isn't SAME or BOTH is the first field of a row of docs/use/GO.md."""
 
     def __init__(self):
-        with open(os.path.join(TOP, "docs", "GO.md"), encoding="utf-8") as file:
+        with open(os.path.join(TOP, "docs", "use", "GO.md"), encoding="utf-8") as file:
             self.names = {line.split("|")[1].strip() for line in file if line.startswith("| ")}
         self.counts = collections.defaultdict(collections.Counter)
         self.unexplained = 0
 
     def count(self, command, kind, number=1):
         if kind not in (SAME, BOTH) and kind not in self.names:
-            raise SystemExit(f"compare-go: docs/GO.md has no row '{kind}'")
+            raise SystemExit(f"compare-go: docs/use/GO.md has no row '{kind}'")
         self.counts[command][kind] += number
 
     def report(self, where, command, came, wanted, note=""):
         self.unexplained += 1
-        print(f"{where}: {command}: a difference that docs/GO.md does not name{note and ': ' + note}")
+        print(f"{where}: {command}: a difference that docs/use/GO.md does not name{note and ': ' + note}")
         for what, text in (("gomod", came), ("go", wanted)):
             print(f"  {what}:")
             for line in text.splitlines() or ["(nothing)"]:
@@ -64,7 +64,7 @@ class Differences:
             print(f"{command}:")
             for kind, number in sorted(kinds.items(), key=lambda it: (it[0] not in (SAME, BOTH), -it[1], it[0])):
                 print(f"  {number:6} {kind}")
-        print(f"differences that docs/GO.md does not name: {self.unexplained}")
+        print(f"differences that docs/use/GO.md does not name: {self.unexplained}")
 
 
 class Result:

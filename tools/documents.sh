@@ -7,7 +7,7 @@
 #   tools/documents.sh           README.md, all documents of docs/, crates/run_cases/MISTAKES.md, and the budgets
 #   tools/documents.sh FILE..    these, and no budgets
 #
-# What is looked at is what stands in the notation of docs/DEVELOPING.md ("What a document names"); anything else isn't.
+# What is looked at is what stands in the notation of docs/dev/DEVELOPING.md ("What a document names"); anything else isn't.
 # The budgets are a table below, of single documents and of several together. Words are what blanks separate, without
 # the bars of tables, fenced code and comments of HTML, and without what other files say: quotes (lines that begin with
 # `>`), and what tools/headline.sh writes between its marks. It needs git and python3, but no program. In a clone
@@ -39,15 +39,15 @@ then_with thiserror
 OTHER_ROOTS = set("Env Rc String Vec anyhow env mem std str A".split())
 # How many words documents may have together: a number, and the documents or patterns of their names.
 BUDGETS = """
-13000 docs/DEVELOPING.md docs/CASES.md docs/DECISIONS.md docs/PROOFS.md docs/BENCHMARKS.md docs/WALKS.md
- 1800 docs/CASES.md
- 3000 docs/DECISIONS.md
- 4500 docs/PROOFS.md
-  800 docs/BENCHMARKS.md
-10500 docs/PROVED.md docs/SPEC.md docs/HEADLINE.md docs/NAMES.md docs/REPORTS.md docs/BYTES.md docs/DIRECTIVES.md docs/EDITS.md
- 3000 docs/LIBRARY.md docs/CRATES.md
- 1500 docs/CRATES.md
- 1150 docs/GO.md
+13000 docs/dev/DEVELOPING.md docs/dev/CASES.md docs/dev/DECISIONS.md docs/dev/PROOFS.md docs/dev/BENCHMARKS.md docs/dev/WALKS.md
+ 1800 docs/dev/CASES.md
+ 3000 docs/dev/DECISIONS.md
+ 4500 docs/dev/PROOFS.md
+  800 docs/dev/BENCHMARKS.md
+10500 docs/proof/PROVED.md docs/proof/SPEC.md docs/proof/HEADLINE.md docs/proof/NAMES.md docs/proof/REPORTS.md docs/proof/BYTES.md docs/proof/DIRECTIVES.md docs/proof/EDITS.md
+ 3000 docs/lib/LIBRARY.md docs/lib/CRATES.md
+ 1500 docs/lib/CRATES.md
+ 1150 docs/use/GO.md
 """
 NUMBERS = "one two three four five six seven eight nine ten eleven twelve".split()
 

@@ -1,5 +1,5 @@
 #!/usr/bin/env bash
-# Keeps the pages that show what `gomod list` is proved to print in step with the definitions and with docs/SPEC.md.
+# Keeps the pages that show what `gomod list` is proved to print in step with the definitions and with docs/proof/SPEC.md.
 #
 #   tools/headline.sh          writes the shown definitions into the pages anew: HEADLINE, REPORTS, BYTES, DIRECTIVES, EDITS, NAMES
 #   tools/headline.sh --check  changes nothing, and tells which page is out of step
@@ -12,7 +12,7 @@
 #   show worlds                 which functions of gomod_laws/src/example_world.rt try which definition
 #   show names                  each name that the page uses and doesn't define, and its file
 #
-# All other text of a page is written by hand. A quote (a line that begins with `>`) must stand in docs/SPEC.md word by
+# All other text of a page is written by hand. A quote (a line that begins with `>`) must stand in docs/proof/SPEC.md word by
 # word. The same definition stands on one page only.
 #
 # The last lines count what one reads to believe a contract: that of `gomod_run::run`, and of all functions that the
@@ -37,7 +37,7 @@ import sys
 from collections import defaultdict
 
 CRATES = pathlib.Path("crates")
-PAGES = [pathlib.Path("docs") / name for name in ("HEADLINE.md", "REPORTS.md", "BYTES.md", "DIRECTIVES.md", "EDITS.md", "NAMES.md")]
+PAGES = [pathlib.Path("docs/proof") / name for name in ("HEADLINE.md", "REPORTS.md", "BYTES.md", "DIRECTIVES.md", "EDITS.md", "NAMES.md")]
 RUNNING = "gomod_run/src/running.rt"
 LIST = [("Rattle.gm_graph_listing.specs.Outcomes", "IsListOutcome"), ("Rattle.gomod_run.specs.Written", "EndsAsStated")]
 HEAD = re.compile(r"(?:(?:abbrev|unfoldable|opaque)\s+)?(?:pub\s+)?(?:(record|data)\s+)?([^\s:({]+)")
@@ -265,7 +265,7 @@ def shown(file, names):
         sys.exit(f"headline: {file} has no {' '.join(missing)}")
     found = [definitions[name] for name in names]
     texts = [f"{one.comment}\n{one.text}".strip() for one in found]
-    return found, f"[{file}](../crates/{file}):\n" + code("\n\n".join(texts))
+    return found, f"[{file}](../../crates/{file}):\n" + code("\n\n".join(texts))
 
 
 def worlds():
@@ -274,7 +274,7 @@ def worlds():
     text, rows = (CRATES / file).read_text(), []
     for comment, name in re.findall(r"((?:^///.*\n)+)(?:^#\[.*\n)*^pub fn (\w+)", text, re.M):
         rows.append((name, " ".join(it[3:].strip() for it in comment.strip().split("\n"))))
-    return f"[{file}](../crates/{file}):\n\n" + "".join(f"- `{name}`: {what}\n" for name, what in rows)
+    return f"[{file}](../../crates/{file}):\n\n" + "".join(f"- `{name}`: {what}\n" for name, what in rows)
 
 
 class Page:
@@ -329,7 +329,7 @@ class Page:
             elif order.startswith("contract "):
                 (file, function), names = order.split(":")[0].split()[1:], order.split(":")[1].split()
                 clauses = clauses_named(file, function, names)
-                body = f"[{file}](../crates/{file}), `{function}`:\n" + code("\n".join(clauses))
+                body = f"[{file}](../../crates/{file}), `{function}`:\n" + code("\n".join(clauses))
             else:
                 file, names = order.split(":")
                 body = shown(file, names.split())[1]
@@ -424,7 +424,7 @@ def counts(option):
 def main():
     option, wrong = (sys.argv[1:] or [""])[0], 0
     pages = [Page(path) for path in PAGES if path.exists()]
-    spec = " ".join(pathlib.Path("docs/SPEC.md").read_text().split())
+    spec = " ".join(pathlib.Path("docs/proof/SPEC.md").read_text().split())
     seen = {}
     for page in pages:
         for at in page.defined:
@@ -434,7 +434,7 @@ def main():
             seen[at] = page.path
         for quote in page.quotes():
             if quote not in spec:
-                print(f"{page.path}: docs/SPEC.md does not say: {quote}")
+                print(f"{page.path}: docs/proof/SPEC.md does not say: {quote}")
                 wrong += 1
     for page in pages:
         new = page.renewed([it for it in pages if it is not page])

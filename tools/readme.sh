@@ -9,7 +9,7 @@
 # command of a shell, and the lines up to the next one are what it prints, on both streams. A block runs in one shell,
 # at the top of a scratch folder that has links to the files of the repository, so that files which an example writes
 # don't stay, and with bin/ on its PATH. A block is skipped if it, or a script that it runs, calls curl, dot, git or jq
-# and there is no such command. It also compares the pieces of code of docs/LIBRARY.md, fenced as rust, with the sources
+# and there is no such command. It also compares the pieces of code of docs/lib/LIBRARY.md, fenced as rust, with the sources
 # of crates/library_example, and tests that each link of a document to a file of the repository, or to a heading of
 # one, leads there.
 #
@@ -149,7 +149,7 @@ def main(*names):
         names = ()
     tally = {it: {True: 0, False: 0} for it in ("examples", "pieces of code", "links")}
     skipped = collections.Counter()
-    for name in names or ["README.md", "CHANGELOG.md", *sorted(glob.glob("docs/*.md"))]:
+    for name in names or ["README.md", "CHANGELOG.md", *sorted(glob.glob("docs/*/*.md"))]:
         with open(name, encoding="utf-8") as it:
             text = it.read()
         run_examples(name, text.split("\n"), program, tally, skipped)

@@ -1,5 +1,5 @@
 #!/usr/bin/env bash
-# Prints the two walks of docs/WALKS.md call by call: how many functions are on the stack when the last one is called, and
+# Prints the two walks of docs/dev/WALKS.md call by call: how many functions are on the stack when the last one is called, and
 # each with its file and line.
 #
 #   tools/walks.sh          prints both walks

@@ -1,6 +1,6 @@
 //! Commands of a case that call a function of a library below the command line.
 //!
-//! They are for rules that no command line shows by itself. docs/CASES.md says what each of them gives.
+//! They are for rules that no command line shows by itself. docs/dev/CASES.md says what each of them gives.
 #![tactic(auto)]
 
 mod call_faults;

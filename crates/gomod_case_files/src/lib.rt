@@ -1,7 +1,7 @@
 //! Cases, worked examples of a command line, as text, and the folders they run in.
 //!
 //! A case has a title, commands with the results that they must have, and the files that they run over.
-//! docs/CASES.md describes the whole form. For example, this text has one case:
+//! docs/dev/CASES.md describes the whole form. For example, this text has one case:
 //!
 //! ```text
 //! === Several blanks between words are laid out as one

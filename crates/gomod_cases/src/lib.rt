@@ -1,5 +1,5 @@
-//! Runs the program over cases in text files, and reports those whose results differ. docs/CASES.md describes the form
-//! of the files.
+//! Runs the program over cases in text files, and reports those whose results differ. docs/dev/CASES.md describes the
+//! form of the files.
 #![tactic(auto)]
 
 mod checking;

@@ -1,5 +1,5 @@
 //! An example of gomod's libraries. It formats, reads and edits a go.mod, selects the build list of a small module
-//! graph, loads another from folders, and orders versions. docs/LIBRARY.md explains each step.
+//! graph, loads another from folders, and orders versions. docs/lib/LIBRARY.md explains each step.
 //!
 //! `loading` reads the files of `data/`. What the other modules work on are their constants.
 #![tactic(auto)]

@@ -1,4 +1,4 @@
-//! Runs the cases in the files that the command line names. docs/CASES.md has the form of these files.
+//! Runs the cases in the files that the command line names. docs/dev/CASES.md has the form of these files.
 #![tactic(auto)]
 
 use std::process::ExitCode;
