@@ -4,14 +4,14 @@ use Rattle.gm_store.specs.declared.fallback.store.FallbackStore.{FallbackStore}
 use Rattle.gm_store.specs.declared.fallback.proxy_list.Mark.{Mark}
 use Rattle.gm_store.specs.declared.folders.FolderList.{Ghosts}
 use Rattle.gm_store.specs.Asked.{Name, Reply, name_of}
-use Rattle.gm_store.specs.Counted.{counts_in, inside}
+use Rattle.gm_store.specs.Counted.{counts_in, underlying}
 use Rattle.gm_store.specs.Memory.{pairs}
 use Rattle.gm_store.specs.States.{StoreState}
 use Rattle.gm_store.specs.Steps.{Counts}
 
 -- the folders that requests are looked up in
 abbrev pub folders_under : {F : Type 0} {g : Ghosts F} → FallbackStore F g → F
-folders_under store = inside store.folders
+folders_under store = underlying store.folders
 
 -- the marks between the proxy folders
 abbrev pub marks_between : {F : Type 0} {g : Ghosts F} → FallbackStore F g → List Mark

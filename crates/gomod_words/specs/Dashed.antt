@@ -26,14 +26,14 @@ abbrev pub is_adding : Text → Bool
 is_adding text = starts_with nat_eq text (codes "exclude=") || starts_with nat_eq text (codes "retract=")
 
 -- the same of one that drops something
-abbrev pub is_drop : Text → Bool
-is_drop text =
+abbrev pub is_dropping : Text → Bool
+is_dropping text =
     starts_with nat_eq text (codes "droprequire=") || (starts_with nat_eq text (codes "dropexclude=")
     || (starts_with nat_eq text (codes "dropreplace=") || starts_with nat_eq text (codes "dropretract=")))
 
 -- the text begins with the name of an operation and `=`
 abbrev pub is_operation : Text → Bool
-is_operation text = is_setting text || (is_adding text || is_drop text)
+is_operation text = is_setting text || (is_adding text || is_dropping text)
 
 -- the operation that a word is, with one dash or two in front or with none
 abbrev pub operation_in : Text → Option Text

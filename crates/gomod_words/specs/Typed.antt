@@ -6,8 +6,8 @@ use Rattle.std.specs.Str.{chars}
 use Rattle.clap.specs.Walk.{Text}
 
 -- a byte that a shell takes as it is: a letter, a digit, or one of `+ , - . /` (43 to 47) and `: = @ _ ~`
-abbrev pub is_plain : ℕ → Bool
-is_plain b = is_ascii_alphanumeric b || (nat_le 43 b && nat_le b 47)
+abbrev pub is_unquoted_byte : ℕ → Bool
+is_unquoted_byte b = is_ascii_alphanumeric b || (nat_le 43 b && nat_le b 47)
     || b == 58 || b == 61 || b == 64 || b == 95 || b == 126
 
 -- a character between two `'`; `'` itself (39) is written `'\''`
@@ -20,7 +20,7 @@ quoted word = codes "'" ++ flat_map quoted_char (chars word) ++ codes "'"
 
 -- a word: as it is if a shell takes all of it as it is, otherwise between two `'`
 abbrev pub typed_word : Text → List ℕ
-typed_word word = if nat_lt 0 (length word) && list_all is_plain word then word else quoted word
+typed_word word = if nat_lt 0 (length word) && list_all is_unquoted_byte word then word else quoted word
 
 -- words after others: a space before each
 abbrev pub typed_words : List Text → List ℕ

@@ -7,7 +7,7 @@ ghost use Rattle.std.specs.Option.{option_copied};
 ghost use Rattle.std.specs.String.{string_bytes};
 ghost use Rattle.clap.specs.Lexer.{strip_byte, without_minus};
 ghost use Rattle.gomod_words.specs.Usage.{IsLineOf, dashed_message, dashed_text, words_after};
-ghost use Rattle.gomod_words.specs.Dashed.{begins_with_dash, dashed_in, edit_words, free_from, is_adding, is_drop, is_free, is_operation, is_setting, names_value, operation_in, operations_in, takes_value, without_dashes};
+ghost use Rattle.gomod_words.specs.Dashed.{begins_with_dash, dashed_in, edit_words, free_from, is_adding, is_dropping, is_free, is_operation, is_setting, names_value, operation_in, operations_in, takes_value, without_dashes};
 
 use crate::help::EDIT_USAGE;
 use crate::typed::push_all_typed;
@@ -63,8 +63,8 @@ fn is_adding(text: &[u8]) -> bool
 }
 
 /// Whether a text begins with the name of an operation that drops something, and `=`.
-fn is_drop(text: &[u8]) -> bool
-    ensures { result ≡ is_drop text.now }
+fn is_dropping(text: &[u8]) -> bool
+    ensures { result ≡ is_dropping text.now }
 {
     text.starts_with(b"droprequire=")
         || text.starts_with(b"dropexclude=")
@@ -76,7 +76,7 @@ fn is_drop(text: &[u8]) -> bool
 fn is_operation(text: &[u8]) -> bool
     ensures { result ≡ is_operation text.now }
 {
-    is_setting(text) || is_adding(text) || is_drop(text)
+    is_setting(text) || is_adding(text) || is_dropping(text)
 }
 
 /// The operation that a word is, with one dash or two in front or with none.

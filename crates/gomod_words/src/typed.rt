@@ -4,13 +4,13 @@ ghost use Rattle.std.specs.Prelude.{◌≡◌, ◌++◌, OnOk, flat_map, map};
 ghost use Rattle.std.specs.List.{list_all};
 ghost use Rattle.std.specs.Str.{chars};
 ghost use Rattle.std.specs.String.{string_bytes};
-ghost use Rattle.gomod_words.specs.Typed.{is_plain, quoted, quoted_char, typed_word, typed_words};
+ghost use Rattle.gomod_words.specs.Typed.{is_unquoted_byte, quoted, quoted_char, typed_word, typed_words};
 
 use std::alloc::AllocError;
 
 /// Whether a shell takes a byte as it is.
-fn is_plain(byte: u8) -> bool
-    ensures { result ≡ is_plain byte }
+fn is_unquoted_byte(byte: u8) -> bool
+    ensures { result ≡ is_unquoted_byte byte }
 {
     byte.is_ascii_alphanumeric()
         || (b'+' <= byte && byte <= b'/')
@@ -23,9 +23,9 @@ fn is_plain(byte: u8) -> bool
 
 /// Whether a shell takes every byte of a word as it is.
 fn has_only_plain_bytes(word: &[u8]) -> bool
-    ensures { result ≡ list_all is_plain word.now }
+    ensures { result ≡ list_all is_unquoted_byte word.now }
 {
-    word.iter().all(|b| is_plain(*b))
+    word.iter().all(|b| is_unquoted_byte(*b))
 }
 
 /// Appends a character as it is typed between two `'`.

@@ -5,7 +5,7 @@
 
 ghost use Rattle.std.specs.Prelude.{◌≡◌, ◌<◌, length};
 ghost use Rattle.gm_store.specs.Asked.{Name, name_of};
-ghost use Rattle.gm_store.specs.Counted.{inside};
+ghost use Rattle.gm_store.specs.Counted.{underlying};
 ghost use Rattle.gm_store.specs.FolderLookups.{marks_for};
 
 use crate::fallback::proxy_list::Mark;
@@ -37,7 +37,7 @@ pub struct FallbackStore<F: FolderList> {
     /// The names whose requests were refused because the device failed, in order.
     refused: Vec<FileName>,
     // A folder follows each mark, for each name, so the walk can't leave the list.
-    ghost between: { (name : Name) → length (marks_for name marks.items) < F.count_for (inside folders) name },
+    ghost between: { (name : Name) → length (marks_for name marks.items) < F.count_for (underlying folders) name },
 }
 
 impl<F: FolderList> FallbackStore<F> {

@@ -1,6 +1,6 @@
 use Rattle.std.proofs.Common.{◌∙◌, ap, arith, refl, subst, sym}
 use Rattle.gm_store.specs.Asked.{name_of}
-use Rattle.gm_store.specs.Counted.{counts_in, inside}
+use Rattle.gm_store.specs.Counted.{counts_in, underlying}
 use Rattle.gm_store.specs.Steps.{Counts, HasCounted, reply_in, result_of, step_of}
 use Rattle.gm_store.specs.declared.fallback.step.Next.TheVariants.{Take, Fail}
 use Rattle.gm_store.proofs.Limits.{same_limit}
@@ -50,4 +50,4 @@ returns-in-Fail-clause-lookups g c =
 
 pub returns-in_err-looked-clause-lookups : goal.returns-in_err-looked-clause-lookups
 returns-in_err-looked-clause-lookups g c =
-    subst (λ (counts : Counts). HasCounted (λ k seen. g.F.FolderList.may_find (inside c.args.folders.now) k (name_of c.args.name.now) seen) c.args.marks.now (counts_in c.args.folders.now) counts) (sym c.in_err-looked.ensures.no_memory) (passed_counts c.turns.invariant.1)
+    subst (λ (counts : Counts). HasCounted (λ k seen. g.F.FolderList.may_find (underlying c.args.folders.now) k (name_of c.args.name.now) seen) c.args.marks.now (counts_in c.args.folders.now) counts) (sym c.in_err-looked.ensures.no_memory) (passed_counts c.turns.invariant.1)
