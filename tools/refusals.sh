@@ -5,7 +5,7 @@
 #   tools/refusals.sh                     every edit of every crate
 #   tools/refusals.sh NAME.. NAME/EDIT..  those of these crates, or these edits alone
 #   tools/refusals.sh --only ..           checks for each edit and twin the function alone that `# clause:` names
-#   tools/refusals.sh --table ..          checks nothing, and prints what each edit does, its name, and its clause
+#   tools/refusals.sh --table ..          proves nothing, and prints what each edit does, its name, and its clause
 #
 # An edit, crates/NAME/must-fail/EDIT.edit, has lines that the merge gate passes over:
 #
@@ -19,7 +19,8 @@
 # its twin `twin proved` or `twin REFUSED`. The status is 1 if an edit was not refused at its clause, names none, or its
 # twin was not proved. A goal whose answer only names what the edit took away says nothing of the clause and does not
 # count. The merge gate itself asks only whether an edit is refused. With --table the status is 1 if an edit names no
-# clause or has no twin.
+# clause, has no twin, or changes more than src/: an edit that takes answers out of proofs/ may be refused for that
+# alone. .ci/run runs this table before the merge gate.
 #
 # It needs rt and python3, and the crates as ./build or `rt all check` leaves them (the libraries below a crate are
 # enough for `--only`), and takes about half a minute a check.
@@ -162,10 +163,14 @@ def print_table(edits_by_crate):
     for name, edits in edits_by_crate:
         for edit in edits:
             pairs, clause = read_edit(f"crates/{name}/must-fail/{edit}.edit")
-            has_twin = any(twin is not None for _, _, _, twin in pairs)
-            is_well &= clause is not None and has_twin
-            place = f"`{clause[1]}` of `{clause[0]}`" if clause else "none is named"
-            print(f"| {edit.replace('_', ' ')} | {name}/{edit} | {place}{'' if has_twin else '; no twin'} |")
+            lacks = ["no clause is named"] if clause is None else []
+            lacks += ["no twin"] if all(twin is None for _, _, _, twin in pairs) else []
+            lacks += [f"changes {path}" for path in dict.fromkeys(it[0] for it in pairs) if not path.startswith("src/")]
+            place = [f"`{clause[1]}` of `{clause[0]}`"] if clause else []
+            print(f"| {edit.replace('_', ' ')} | {name}/{edit} | {'; '.join(place + lacks)} |")
+            if lacks:
+                print(f"crates/{name}/must-fail/{edit}.edit: {', '.join(lacks)}", file=sys.stderr)
+            is_well &= not lacks
     return is_well
 
 
