@@ -28,6 +28,8 @@ gm_name_table/src/module_table.rt put: the list has the greatest size
 gm_store_sums/src/sum_lines.rt fault_of: no line is invalid, so reading stopped for memory
 gomod_run/src/program.rt words_of: the list of words could not grow
 gomod_run/src/program.rt word_at: the buffer has the greatest size
+gomod_words/src/advice.rt advised: what to type could not be made
+gomod_words/src/advice.rt with_tip: the message could not be made
 gomod_words/src/dashed.rt dashed: the message could not be made
 gomod_words/src/query.rt bad_limit: the message could not be made
 gomod_words/src/usage.rt fault_of: the parser says so, or its text could not be made
