@@ -7,13 +7,13 @@
 #   tools/documents.sh           README.md, all documents of docs/, crates/run_cases/MISTAKES.md, and the budgets
 #   tools/documents.sh FILE..    these, and no budgets
 #
-# What is looked at is what stands in the notation of docs/dev/DEVELOPING.md ("What a document names"); anything else isn't.
-# The budgets are a table below, of single documents and of several together. Words are what blanks separate, without
-# the bars of tables, fenced code and comments of HTML, and without what other files say: quotes (lines that begin with
-# `>`), and what tools/headline.sh writes between its marks. It needs git and python3, but no program. In a clone
-# without its whole history commits are not looked for, and it says so. It prints each thing that isn't there, with its
-# file and line, each document that is too long or not there, and how many of each kind it looked at. The status is 1 if
-# one was wrong. .ci/run runs it before the merge gate.
+# What is looked at is what stands in the notation of docs/dev/DEVELOPING.md ("What a document names"); anything else
+# isn't. The other budgets are a table below, of single documents and of several together. Their words are what blanks
+# separate, in indented examples too, without the bars of tables, fenced code and comments of HTML, and without what
+# other files say: quotes (lines that begin with `>`), and what tools/headline.sh writes between its marks. It needs git
+# and python3, but no program. In a clone without its whole history commits are not looked for, and it says so. It
+# prints each thing that isn't there, with its file and line, each document that is too long or not there, and how many
+# of each kind it looked at. The status is 1 if one was wrong. .ci/run runs it before the merge gate.
 set -euo pipefail
 cd "$(dirname "$0")/.."
 # shellcheck source=tools/lib.sh
@@ -39,15 +39,18 @@ then_with thiserror
 OTHER_ROOTS = set("Env Rc String Vec anyhow env mem std str A".split())
 # How many words documents may have together: a number, and the documents or patterns of their names.
 BUDGETS = """
-13000 docs/dev/DEVELOPING.md docs/dev/CASES.md docs/dev/DECISIONS.md docs/dev/PROOFS.md docs/dev/BENCHMARKS.md docs/dev/WALKS.md
+ 5750 docs/use/*.md
+ 1150 docs/use/GO.md
+10500 docs/proof/*.md
+ 5000 docs/proof/SPEC.md
+ 3000 docs/lib/*.md
+ 1500 docs/lib/LIBRARY.md
+ 1500 docs/lib/CRATES.md
+13000 docs/dev/*.md
  1800 docs/dev/CASES.md
  3000 docs/dev/DECISIONS.md
  4500 docs/dev/PROOFS.md
   800 docs/dev/BENCHMARKS.md
-10500 docs/proof/PROVED.md docs/proof/SPEC.md docs/proof/HEADLINE.md docs/proof/NAMES.md docs/proof/REPORTS.md docs/proof/BYTES.md docs/proof/DIRECTIVES.md docs/proof/EDITS.md
- 3000 docs/lib/LIBRARY.md docs/lib/CRATES.md
- 1500 docs/lib/CRATES.md
- 1150 docs/use/GO.md
 """
 NUMBERS = "one two three four five six seven eight nine ten eleven twelve".split()
 

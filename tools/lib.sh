@@ -1,5 +1,5 @@
 # shellcheck shell=bash
-# Functions that the scripts share. It is sourced at the top of the repository, and runs nothing by itself:
+# Functions that the scripts share. It is sourced in the root of the repository, and runs nothing by itself:
 #
 #   . tools/lib.sh
 

@@ -10,9 +10,9 @@
 # An edit, crates/NAME/must-fail/EDIT.edit, has lines that the merge gate passes over:
 #
 #   # clause: FUNCTION CLAUSE   the function and the clause of its contract at which the prover refuses the edit:
-#                               `returns` for a clause without a name, and in place of a clause a goal by its whole
+#                               `returns` for a clause without a name, and instead of a clause a goal by its whole
 #                               name, as `loop-step-preserved`
-#   # twin: TEXT                after a pair of `old:` and `new:`, a harmless text in place of that `new:`; a pair
+#   # twin: TEXT                after a pair of `old:` and `new:`, a harmless text instead of that `new:`; a pair
 #                               without one stays as it is in the crate
 #
 # For each edit it prints a line: `refused`, `other` with the goals where it was refused instead, or `PROVED`; and for

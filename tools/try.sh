@@ -1,6 +1,6 @@
 # shellcheck shell=bash disable=SC2154
-# Functions of ./build --try. It sources them at the top of the repository, after tools/lib.sh, with the caller's folder
-# in `from`, a folder for temporary files in `work`, and a function `refuse`.
+# Functions of ./build --try. It sources them in the root of the repository, after tools/lib.sh, with the caller's
+# folder in `from`, a folder for temporary files in `work`, and a function `refuse`.
 
 # clang takes 1.6 GB, and beside it rt has its own compiler and a check of names, with 0.8 GB each.
 readonly TRY_MEMORY_MB=3400 TRY_DISK_MB=500
