@@ -10,7 +10,7 @@
 # permission for root are left out.
 #
 # Of a case with sizes it runs the greatest, each command with an address space of 64 MiB and a hundred times the bytes
-# of the files of the case, which is the bound of README.md: a command that reserves more runs out of memory. All
+# of the files of the case, which is the bound of COMMANDS.md: a command that reserves more runs out of memory. All
 # commands run with the stack that README.md names, and room for their arguments.
 #
 # Each command is called by a name that is not UTF-8, which it may not look at.

@@ -35,12 +35,7 @@ fn print_file(rt: &impl Print, file: &MainFile<'_>) -> io::Result<()> {
 /// Applies an operation of `gomod edit` to a file.
 fn edit(alloc: Global, file: &mut MainFile<'_>, operation: &str) -> anyhow::Result<()> {
     let op = Op::parse(alloc, operation)?;
-    edit_by(alloc, file, &op)
-}
-
-/// Applies an operation that was read to a file.
-fn edit_by(alloc: Global, file: &mut MainFile<'_>, op: &Op) -> anyhow::Result<()> {
-    Ok(file.apply(alloc, op)?)
+    file.apply(alloc, &op).map_err(anyhow::Error::from)
 }
 
 /// Prints the layout of the example.
