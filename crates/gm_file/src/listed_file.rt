@@ -35,7 +35,7 @@ impl Model for ListedFile {
 
 impl ListedFile {
     /// The file with these fields and retractions. The list of modules that its requirements went to the end of is put
-    /// in place of this one.
+    /// instead of this one.
     pub(crate) fn of_fields(
         fields: Fields,
         retracts: Vec<Interval>,

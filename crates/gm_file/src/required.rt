@@ -130,7 +130,7 @@ impl Required {
         }
     }
 
-    /// Puts the list of modules, with the requirements at its end, in place of this one. This one stays if the
+    /// Puts the list of modules, with the requirements at its end, instead of this one. This one stays if the
     /// requirements are in a list of their own, which is dropped.
     pub(crate) fn give_back(self, modules: &mut ModuleList)
         ensures { (before : NumberedList) → self.before ≡ Some before → Appends before modules.new self.items }

@@ -17,7 +17,7 @@ directive_set (GoIs text) = DeclaresGo text
 directive_set (RequireAt p) = Requires p
 directive_set (ReplaceWith r) = Replaces r
 
--- the directive that an operation sets, in place of all that it targets
+-- the directive that an operation sets, instead of all that it targets
 abbrev pub set_by : Edit → Option Directive
 set_by (Set s) = Some (directive_set s)
 set_by (Add a) = None

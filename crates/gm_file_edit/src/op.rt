@@ -54,7 +54,7 @@ pub(crate) enum Target {
 /// What an operation does.
 #[derive(Drop)]
 pub(crate) enum Change {
-    /// Leaves one directive in place of all that the operation targets, and adds one if there is none. (A valid file
+    /// Leaves one directive instead of all that the operation targets, and adds one if there is none. (A valid file
     /// always declares its module.)
     Set(Setting),
     /// Adds a directive, unless it is there.

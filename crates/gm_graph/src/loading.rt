@@ -110,7 +110,7 @@ fn assemble(
 /// files of proxies are checked against it.
 ///
 /// `Device` is returned if the store's device fails when it is asked for that file, and `TooMany` only if more than
-/// 65,536 vertices are opened; with `Ok` at most that many are. `NoMemory` may be returned in place of any other
+/// 65,536 vertices are opened; with `Ok` at most that many are. `NoMemory` may be returned instead of any other
 /// result. After a refusal the store still holds the answers so far.
 pub fn load<F: Files>(
     alloc: Global,

@@ -64,7 +64,7 @@ fn read_files<'a, 'r>(
 /// answer is one that the store may give. Its device fails on at most one file, which is one of these, and
 /// only if the count of its failures rises or has reached its maximum. All this holds however the run ends.
 ///
-/// The store must not have been asked for anything before. If memory runs out, which can happen in place of any
+/// The store must not have been asked for anything before. If memory runs out, which can happen instead of any
 /// answer but the report of the store's device, the report is `NoMemory`.
 pub fn answer<'q, F: Files>(
     alloc: Global,

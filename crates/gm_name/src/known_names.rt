@@ -226,7 +226,7 @@ impl KnownNames {
     ///
     /// `BadPath` exactly when the first text isn't a module path. Otherwise `BadVersion` if the second isn't a
     /// version, and `Misfit` if both are names but the version doesn't fit the path. If the first text is a
-    /// path, `NoMemory` may come in place of any other result. A refused call may have kept names.
+    /// path, `NoMemory` may come instead of any other result. A refused call may have kept names.
     pub fn pair(&mut self, path: &str, version: &str) -> Result<ModVer, PairFault>
         ensures kept { KeepsAll self.old self.new }
         ensures within { IsWithinRoom self.new }

@@ -1,4 +1,4 @@
-//! Stores in memory in place of the proxy folders of a command.
+//! Stores in memory instead of the proxy folders of a command.
 
 ghost use Rattle.std.specs.Prelude.{◌≡◌, [], IfSome};
 ghost use Rattle.gm_store.specs.Views.{asked_by};

@@ -6,7 +6,7 @@
 //! been read already.
 //!
 //! For example, `gomod versions example.com/p` with the lines `v1.10.0` and `v1.9.0` on standard input prints
-//! `example.com/p v1.9.0 v1.10.0` and ends with status 0.
+//! `example.com/p v1.9.0 v1.10.0` and exits with status 0.
 #![tactic(auto)]
 
 mod asking;

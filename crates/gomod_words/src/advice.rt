@@ -1,4 +1,4 @@
-//! What to type in place of words that the parser refuses: for the go command's words for the same thing, and for
+//! What to type instead of words that the parser refuses: for the go command's words for the same thing, and for
 //! options and operands that a command does not take.
 
 ghost use Rattle.std.specs.Prelude.{◌≡◌, true};
@@ -124,7 +124,7 @@ fn similar_in(tips: &str) -> Option<&str> {
     }
 }
 
-/// What to type in place of these words. An option with a similar name is what was meant.
+/// What to type instead of these words. An option with a similar name is what was meant.
 fn tip_for(alloc: Global, kind: ErrorKind, refusal: Refusal<'_>, words: &[&str]) -> Tip {
     let similar = copied(alloc, refusal.similar)?;
     if !leads_on(kind, refusal.message)
@@ -159,7 +159,7 @@ fn leads_on(kind: ErrorKind, message: &str) -> bool {
     }
 }
 
-/// What to type in place of these words. `mod` in front of a command, as in `go mod graph`, goes.
+/// What to type instead of these words. `mod` in front of a command, as in `go mod graph`, goes.
 fn tip_by_words(alloc: Global, words: &[&str]) -> Tip {
     let [_, rest @ ..] = words else {
         return Ok(None);
@@ -171,7 +171,7 @@ fn tip_by_words(alloc: Global, words: &[&str]) -> Tip {
     }
 }
 
-/// What to type in place of a command, or of what was taken for one, with these words after it.
+/// What to type instead of a command, or of what was taken for one, with these words after it.
 fn tip_of(alloc: Global, name: &str, rest: &[&str]) -> Tip {
     match name {
         "edit" => edit_tip(alloc, rest),
@@ -187,7 +187,7 @@ fn tip_of(alloc: Global, name: &str, rest: &[&str]) -> Tip {
     }
 }
 
-/// What to type in place of a word that is no command of ours.
+/// What to type instead of a word that is no command of ours.
 fn other_tip(alloc: Global, name: &str, rest: &[&str]) -> Tip {
     match name {
         "tidy" => go_tip(alloc, "go mod tidy", rest),
@@ -307,7 +307,7 @@ fn listing<'a>(rest: &[&'a str]) -> &'a str {
     }
 }
 
-/// What to type in place of `go list` with these words after it.
+/// What to type instead of `go list` with these words after it.
 fn listing_tip(alloc: Global, rest: &[&str]) -> Tip {
     let command = listing(rest);
     query_tip(alloc, command, rest)

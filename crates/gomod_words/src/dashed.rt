@@ -158,7 +158,7 @@ fn push_operation<'a>(typed: &mut Vec<&'a str>, word: &'a str) -> Result<(), All
     Ok(())
 }
 
-/// What to type after `edit` in place of these words: the file, then the operations.
+/// What to type after `edit` instead of these words: the file, then the operations.
 pub(crate) fn edit_words<'a>(alloc: Global, words: &[&'a str]) -> Result<Vec<&'a str>, AllocError>
     ensures { IfOk result (λ typed. map (λ word. word.now) typed.items ≡ edit_words (map (λ word. word.now) words.now)) }
 {

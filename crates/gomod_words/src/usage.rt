@@ -117,7 +117,7 @@ impl From<AllocError> for UsageFault {
 ///   `list`, is not a module path. It holds that text.
 /// - `BadProxy` if all of that is valid, but the value of `--proxy` has an empty piece between its `,` and
 ///   `|`, or a piece that is `direct` or `off`. It holds that value.
-/// - `NoMemory` if memory runs out, which can happen in place of any result.
+/// - `NoMemory` if memory runs out, which can happen instead of any result.
 ///
 /// `versions` prints all versions if `--retracted` is given or `--proxy` is not. `graph`, `list` and `chain`
 /// require `--proxy`. Their main file is that of `--mod`, or `go.mod` by default, and their go.sum is that of
