@@ -1,5 +1,5 @@
 -- Facts about how the program ends.
-use Rattle.std.proofs.Common.{◌≡◌, ◌∙◌, ◌++◌, ◌∷◌, MatchBool, ℕ, Bool, List, [], Option, None, Some, Contains, ap, codes, false, inl, inr, subst, sym, true}
+use Rattle.std.proofs.Common.{◌≡◌, ◌∙◌, ◌++◌, ◌∷◌, MatchBool, ℕ, Bool, Bor, List, [], Option, None, Some, Contains, ap, codes, false, inl, inr, map, subst, sym, true}
 use Rattle.std.specs.Str.{IsUtf8}
 use Rattle.gm_store.specs.Asked.{Name, Reply, answer_in, list_file, reply_for}
 use Rattle.gm_store.specs.Memory.{may_give}
@@ -47,12 +47,13 @@ pub fault_ends : (may_open : List ℕ → Opening → Type 0) (words : List (Lis
 fault_ends may_open words fault out out' report report' status is ends =
     ends_weaken (λ outcome. outcome ≡ usage_outcome fault) (IsWordsOutcome may_open words) out out' report report' status (λ outcome same. inl (fault, is, same)) ends
 
--- an end of some words after the program's name is an end of the program
-pub program_ends : (may_open : List ℕ → Opening → Type 0) (named words : List (List ℕ)) (out out' report report' : SinkState) (status : ℕ) → named ≡ codes "gomod" ∷ words
-    → EndsAsStated (IsWordsOutcome may_open named) out out' report report' status → EndsAsStated (IsProgramOutcome may_open) out out' report report' status
-program_ends may_open named words out out' report report' status is ends =
-    ends_weaken (IsWordsOutcome may_open named) (IsProgramOutcome may_open) out out' report report' status
-    (λ outcome stated. inl (words, subst (λ (ws : List (List ℕ)). IsWordsOutcome may_open ws outcome) is stated)) ends
+-- an end of the program's name and some words, as a slice of texts, is an end of the program
+pub program_ends : (may_open : List ℕ → Opening → Type 0) (texts slice : List (Bor (List ℕ))) (words : List (List ℕ)) (out out' report report' : SinkState) (status : ℕ)
+    → map (λ text. text.now) texts ≡ codes "gomod" ∷ words → EndsAsStated (IsWordsOutcome may_open (map (λ text. text.now) slice)) out out' report report' status → slice ≡ texts
+    → EndsAsStated (IsProgramOutcome may_open) out out' report report' status
+program_ends may_open texts slice words out out' report report' status is ends same =
+    ends_weaken (IsWordsOutcome may_open (map (λ text. text.now) slice)) (IsProgramOutcome may_open) out out' report report' status
+    (λ outcome stated. inl (words, subst (λ (ws : List (List ℕ)). IsWordsOutcome may_open ws outcome) (ap (map (λ text. text.now)) same ∙ is) stated)) ends
 
 -- the usage error of a word which is not UTF-8
 pub unreadable_word : (word : List ℕ) (fault : UsageFault) → ¬ (IsUtf8 word) → IsLineOf (unreadable_text word) fault → IsUnreadableWords fault

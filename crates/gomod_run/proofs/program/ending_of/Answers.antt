@@ -1,4 +1,4 @@
-use Rattle.std.proofs.Common.{inr, refl}
+use Rattle.std.proofs.Common.{inr, refl, rules}
 use Rattle.gm_report.specs.Outcome.{out_of_memory}
 use Rattle.gomod_run.specs.Program.{usage_outcome}
 use Rattle.gomod_run.proofs.Endings.{program_ends, unreadable_ends}
@@ -6,7 +6,8 @@ use Rattle.gomod_run.proofs.WrittenTexts.{ends_with}
 use Rattle.gomod_run.proofs.program.ending_of.Goals as goal
 
 pub returns-in-Ok-texts_of : goal.returns-in-Ok-texts_of
-returns-in-Ok-texts_of g c = program_ends (g.S.FileSystem.may_open c.args.rt.now) _ _ _ _ _ _ _ c.in-Ok-texts_of.ensures c.ending_of_words.ensures
+returns-in-Ok-texts_of g c =
+    program_ends (g.S.FileSystem.may_open c.args.rt.now) _ _ _ _ _ _ _ _ c.in-Ok-texts_of.ensures c.ending_of_words.ensures (search rules)
 
 pub returns-in-Err : goal.returns-in-Err
 returns-in-Err g c =
