@@ -8,7 +8,7 @@
 # on the folders sizes and wrong of crates/run_cases/data. In each of them `args` has the arguments, `stdout` and
 # `stderr` what the program has to write, and `status` its exit status: nothing and 0 without such a file.
 #
-# As in the gate, a program runs in a copy of the folder, as nobody if root starts it, and has 120 seconds. All programs
+# As in the gate, a program runs in a copy of the folder, as nobody if root starts it, and has 400 seconds. All programs
 # run side by side. What differs is printed, then how many runs passed and failed. The status is 1 if one failed, or if
 # a folder has a file of cases that its `args` doesn't name. .ci/run runs it after the gate.
 set -euo pipefail
@@ -20,7 +20,7 @@ case ${1-} in
   -*) refuse_arguments tools/cases.sh "there is no option $1" ;;
 esac
 
-readonly CRATE=crates/run_cases LIMIT=120 NOBODY=65534
+readonly CRATE=crates/run_cases LIMIT=400 NOBODY=65534
 programs=("$@")
 [ $# -gt 0 ] || programs=("$CRATE/out/run_cases" "$CRATE/out/run_cases.by-rattle")
 for program in "${programs[@]}"; do
