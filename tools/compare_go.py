@@ -505,7 +505,7 @@ def compare_cache(go, cache, mod, edits, seed, room, found):
     for _ in range(edits):
         at.compare_edit(main, operations(some, requires, replaces, excludes))
     at.compare_layout(main, False)
-    at.compare_versions(f"{room}/asker", some.sample(paths, min(len(paths), 100)), [])
+    at.compare_versions(f"{room}/asker", sorted(some.sample(paths, min(len(paths), 100))), [])
     at.compare_graph(main, os.path.exists(sums))
 
 

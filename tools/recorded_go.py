@@ -1,0 +1,218 @@
+"""Runs tools/compare-go.sh with recorded answers of go, where there may be no go command.
+
+  python3 -B tools/recorded_go.py --check        what `tools/compare-go.sh --check` does
+  python3 -B tools/recorded_go.py --record GO    writes tools/go_answers.json anew, with the answers of a real go
+  python3 -B tools/recorded_go.py --answer FILE REAL WORDS..
+                                                 what stands in for go: prints the answer to these words that a file
+                                                 has, or, if REAL isn't empty, asks that go and adds its answer
+
+An answer holds for the words, GOFLAGS, the files of the current folder and those of the proxy folder, of zip files only
+the names. It has the status, what was printed, and the files that go then left: those of the folder, and in the module
+cache each .mod, .info and list.
+"""
+import hashlib
+import json
+import os
+import re
+import shlex
+import shutil
+import subprocess
+import sys
+import tempfile
+
+TOP = os.path.dirname(os.path.dirname(os.path.abspath(__file__)))
+ANSWERS = os.path.join(TOP, "tools", "go_answers.json")
+# What a comparison reads of the repository.
+FILES = [f"tools/{it}" for it in ("compare-go.sh", "compare_go.py", "go_worlds.py", "lib.sh")] + ["docs/use/GO.md"]
+SECONDS = 300
+# What lays the .info of modules that are pruned out, and a mistake in its place.
+LAID, NOT_LAID = "named |= named_versions(file.read())", "file.read()"
+
+
+def read(name):
+    with open(name, encoding="utf-8", newline="") as file:
+        return file.read()
+
+
+def write(name, text, mode=0o644):
+    os.makedirs(os.path.dirname(name), exist_ok=True)
+    with open(name, "w", encoding="utf-8", newline="") as file:
+        file.write(text)
+    os.chmod(name, mode)
+
+
+# The stand-in for go.
+
+
+def files_below(folder, endings=""):
+    """The text of each file, by its name."""
+    found = {}
+    for base, _, names in os.walk(folder):
+        for name in names:
+            at = os.path.join(base, name)
+            if re.search(endings, name):
+                found[os.path.relpath(at, folder)] = "" if name.endswith(".zip") else read(at)
+    return dict(sorted(found.items()))
+
+
+class Question:
+    """What go was asked, and where."""
+
+    def __init__(self, words):
+        self.words, self.flags = words, os.environ.get("GOFLAGS", "")
+        proxy = os.environ.get("GOPROXY", "").removeprefix("file://")
+        cache = os.path.join(os.environ.get("GOMODCACHE", "/none"), "cache", "download")
+        self.places = {"PROXY": proxy, "CACHE": cache, "FOLDER": os.getcwd()}
+
+    def key(self):
+        given = [self.words, self.flags, files_below(self.places["FOLDER"]), files_below(self.places["PROXY"])]
+        return hashlib.sha256(json.dumps(given).encode()).hexdigest()[:16]
+
+    def left(self):
+        """The files that an answer may have made."""
+        for kind, endings in ("FOLDER", ""), ("CACHE", r"^list$|\.(mod|info)$"):
+            for name, text in files_below(self.places[kind], endings).items():
+                yield f"{kind}/{name}", text
+
+    def without_places(self, text):
+        for name, place in self.places.items():
+            text = text.replace(place, f"<{name}>")
+        return text
+
+    def with_places(self, text):
+        for name, place in self.places.items():
+            text = text.replace(f"<{name}>", place)
+        return text
+
+    def ask(self, real):
+        """The answer of a real go."""
+        before = dict(self.left())
+        ran = subprocess.run([real, *self.words], capture_output=True, text=True, timeout=SECONDS, check=False)
+        files = {name: text for name, text in self.left() if before.get(name) != text}
+        return {"words": self.words, "flags": self.flags, "status": ran.returncode,
+                "out": self.without_places(ran.stdout), "err": self.without_places(ran.stderr), "files": files}
+
+    def lay(self, files):
+        for name, text in files.items():
+            kind, _, rest = name.partition("/")
+            write(os.path.join(self.places[kind], rest), text)
+
+
+def answer(file, real, *words):
+    """Stands in for go, and returns its status."""
+    recorded = json.loads(read(file))
+    if words == ("version",):
+        print(recorded["version"])
+        return 0
+    question = Question(words)
+    key = question.key()
+    if real:
+        given = question.ask(real)
+        recorded["answers"].setdefault(key, given)
+        write(file, json.dumps(recorded, indent=1) + "\n")
+    elif key in recorded["answers"]:
+        given = recorded["answers"][key]
+        question.lay(given["files"])
+    else:
+        print(f"no answer of go is recorded to `go {' '.join(words)}` with these files", file=sys.stderr)
+        return 1
+    sys.stdout.write(question.with_places(given["out"]))
+    sys.stderr.write(question.with_places(given["err"]))
+    return given["status"]
+
+
+# The check.
+
+
+class Check:
+    """Runs of tools/compare-go.sh in a scratch folder, and how many were right and wrong."""
+
+    def __init__(self, room, file, real=""):
+        self.room, self.right, self.wrong = room, 0, 0
+        stand_in = [sys.executable, "-B", os.path.abspath(__file__), "--answer", file, real]
+        write(f"{room}/go/go", f"#!/bin/sh\nexec {shlex.join(stand_in)} \"$@\"\n", 0o755)
+
+    def run(self, *words, gomod="", mistake=False):
+        """The status and the output of a comparison, with what a shell makes of the output of gomod, or with a mistake
+        in compare_go.py."""
+        top = tempfile.mkdtemp(dir=self.room)
+        for name in FILES:
+            write(f"{top}/{name}", read(f"{TOP}/{name}"), 0o755)
+        if mistake:
+            text = read(f"{top}/tools/compare_go.py")
+            if text.count(LAID) != 1:
+                sys.exit(f"compare-go: tools/compare_go.py hasn't once '{LAID}', which --check changes")
+            write(f"{top}/tools/compare_go.py", text.replace(LAID, NOT_LAID))
+        program = shlex.quote(f"{TOP}/bin/gomod")
+        write(f"{top}/bin/gomod", f"#!/usr/bin/env bash\nset -o pipefail\n{program} \"$@\" {gomod}\n", 0o755)
+        ran = subprocess.run([f"{top}/tools/compare-go.sh", "--go", f"{self.room}/go/go", *words], cwd=TOP, text=True,
+                             stdout=subprocess.PIPE, stderr=subprocess.STDOUT, timeout=SECONDS, check=False)
+        return ran.returncode, ran.stdout
+
+    def expect(self, what, ran, status, *texts):
+        """Whether a comparison ended with this status, and printed these texts."""
+        missing = [it for it in texts if it not in ran[1]]
+        if ran[0] == status and not missing:
+            self.right += 1
+            return
+        self.wrong += 1
+        print(f"{what}: status {ran[0]}, and {status} is right")
+        print("".join(f"  it doesn't print: {it}\n" for it in missing) + "  it prints:")
+        print("".join(f"    {line}\n" for line in ran[1].splitlines()), end="", flush=True)
+
+
+def run_all(check):
+    """The comparisons: of a module that go made tidy, with the cache that `go mod download` filled, of the example, of
+    its module with a module that is pruned out; then of a gomod with a fault, and by a script with a fault."""
+    cache = f"{check.room}/cache"
+    for name in "cache/download", "mirror":
+        shutil.copytree(f"{TOP}/example/{name}", cache, dirs_exist_ok=True)
+    write(f"{check.room}/main/go.mod", read(f"{TOP}/example/tidy.mod"))
+    example = ["--cache", "example/cache/download", "--mod", "example/go.mod", "0"]
+    commands = ("list", "graph", "chain", "versions", "fmt")
+    same = [f"{it}:\n{number:8} the same\n" for it, number in zip(commands, (1, 1, 3, 3, 1))]
+    none = "differences that docs/use/GO.md does not name: 0\n"
+    check.expect("a module that go made tidy", check.run("0"), 0, none)
+    check.expect("example/go.mod", check.run(*example), 0, *same, none)
+    tidy = check.run("--cache", cache, "--mod", f"{check.room}/main/go.mod", "0")
+    check.expect("example/tidy.mod", tidy, 0, *same[:3], same[4], none)
+    for command in commands:
+        ran = check.run(*example, gomod=f"| if [ $1 = {command} ]; then sed '/rsc.io.sampler/d'; else cat; fi")
+        check.expect(f"gomod {command} without a line", ran, 1, f": {command}", ": a difference that docs/use/GO.md does")
+    pruned = check.run("0", mistake=True)
+    check.expect("a proxy without the .info of a pruned-out module", pruned, 1, ": list: a difference", ".info: ")
+
+
+def real_go(command):
+    """The path of a go command, and what it says of its version."""
+    found = shutil.which(command)
+    if not found:
+        sys.exit(f"compare-go: there is no command '{command}'")
+    real = os.path.realpath(found)
+    return real, subprocess.run([real, "version"], capture_output=True, text=True, check=True).stdout.strip()
+
+
+def main(*words):
+    match words:
+        case ["--answer", file, real, *rest]:
+            return answer(file, real, *rest)
+        case ["--check"]:
+            real = ""
+        case ["--record", command]:
+            real, version = real_go(command)
+            write(ANSWERS, json.dumps({"version": version, "answers": {}}))
+        case ["-h" | "--help"]:
+            print(__doc__, end="")
+            return 0
+        case _:
+            print("compare-go: --check takes nothing, --record the name of a go command", file=sys.stderr)
+            return 2
+    with tempfile.TemporaryDirectory(prefix="gomod-recorded-") as room:
+        check = Check(room, ANSWERS, real)
+        run_all(check)
+    print(f"comparisons with recorded answers of go: {check.right} right, {check.wrong} wrong")
+    return 1 if check.wrong else 0
+
+
+if __name__ == "__main__":
+    sys.exit(main(*sys.argv[1:]))
