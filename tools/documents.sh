@@ -2,18 +2,20 @@
 # Checks what the documents name: that each file, crate, function, clause, law, test, edit, commit and title of a case
 # is there, and that counts are right. It also checks that no document has more words than its budget: README.md has at
 # most 800 words outside examples and tables, and names at most eight sentences on what is verified, of at most 30 words
-# each; a release has at most 500 words in CHANGELOG.md.
+# each; a release has at most 500 words in CHANGELOG.md. And it checks that each figure that README.md shows of speed is
+# the one of docs/dev/BENCHMARKS.md, and that both name the commit that was measured, which changed a source.
 #
-#   tools/documents.sh           README.md, all documents of docs/, crates/run_cases/MISTAKES.md, and the budgets
-#   tools/documents.sh FILE..    these, and no budgets
+#   tools/documents.sh           README.md, all documents of docs/, crates/run_cases/MISTAKES.md, budgets and figures
+#   tools/documents.sh FILE..    these, and neither budgets nor figures
 #
 # What is looked at is what stands in the notation of docs/dev/DEVELOPING.md ("What a document names"); anything else
 # isn't. The other budgets are a table below, of single documents and of several together. Their words are what blanks
 # separate, in indented examples too, without the bars of tables, fenced code and comments of HTML, and without what
-# other files say: quotes (lines that begin with `>`), and what tools/headline.sh writes between its marks. It needs git
+# other files say: quotes (lines that begin with `>`), and what scripts write between marks (`<!-- show`). It needs git
 # and python3, but no program. In a clone without its whole history commits are not looked for, and it says so. It
-# prints each thing that isn't there, with its file and line, each document that is too long or not there, and how many
-# of each kind it looked at. The status is 1 if one was wrong. .ci/run runs it before the merge gate.
+# prints each thing that isn't there, with its file and line, each document that is too long or not there, how many
+# commits changed a source since the figures were measured, and how many of each kind it looked at. The status is 1 if
+# one was wrong. .ci/run runs it before the merge gate.
 set -euo pipefail
 cd "$(dirname "$0")/.."
 # shellcheck source=tools/lib.sh
@@ -55,6 +57,7 @@ BUDGETS = """
 NUMBERS = "one two three four five six seven eight nine ten eleven twelve".split()
 
 MISTAKES = "crates/run_cases/MISTAKES.md"
+FIGURES = "docs/dev/BENCHMARKS.md"
 
 TICKED = r"`([^`]+)`"
 LIST = r"`\w+`(?: \([^()]*\))?(?:(?:, and |, | and )`\w+`(?: \([^()]*\))?)*"
@@ -440,8 +443,8 @@ def budgets():
 
 
 def words_in(lines):
-    """How many words these lines have, outside examples and tables."""
-    return sum(len(it.split()) for it in lines if not it.startswith(("    ", "|")))
+    """How many words these lines have, outside examples, tables and comments."""
+    return sum(len(it.split()) for it in lines if not it.startswith(("    ", "|", "<!--")))
 
 
 def sections_of(path):
@@ -468,12 +471,54 @@ def keep_budgets(tally):
             print(f"{what}: there are {number} {unit}, and at most {most} should be")
 
 
+def shown_in(path):
+    """The lines that a script wrote into a document."""
+    return [line for it in re.findall(f"(?ms){SHOWN}", "\n".join(lines_of(path))) for line in it.split("\n")[1:-1]]
+
+
+def cells_of(lines):
+    """The cells of tables, with the titles of their rows and columns."""
+    cells, head = set(), []
+    for line in lines:
+        row = [it.strip() for it in line.strip("|").split("|")] if line.startswith("|") else []
+        if not row or not head:
+            head = row
+        elif not set(line) <= set("|-: "):
+            cells |= {f"{row[0]}, {column}: {cell}" for column, cell in zip(head[1:], row[1:])}
+    return cells
+
+
+def keep_figures(tally):
+    """Whether README.md shows of speed what docs/dev/BENCHMARKS.md has, and both name a commit that was measured."""
+    readme, page = shown_in("README.md"), shown_in(FIGURES)
+    figures = [(it, it in cells_of(page)) for it in sorted(cells_of(readme))]
+    figures += [(it, it in page) for it in readme if it and not it.startswith("|")]
+    for what, is_right in figures:
+        tally["figures"][is_right] += 1
+        if not is_right:
+            print(f"README.md: {FIGURES} has no '{what}'; bench/tables.sh --write writes both")
+    for needed in "| `gomod list` |", "Measured at `":
+        tally["figures"][any(needed in it for it in readme)] += 1
+        if not any(needed in it for it in readme):
+            print(f"README.md: between its marks there is no '{needed}'")
+    for commit in re.findall(r"(?m)^Measured at `(\w+)`\.$", "\n".join(page)) if not IS_SHALLOW else []:
+        last = git("log", "-1", "--format=%H", commit, "--", "*.rt").stdout.strip()
+        is_right = last.startswith(commit)
+        tally["figures"][is_right] += 1
+        later = git("log", "--format=%h", f"{commit}..HEAD", "--", "*.rt").stdout.split()
+        if not is_right:
+            print(f"{FIGURES}: {commit} is no commit that changed a .rt file")
+        elif later:
+            print(f"{FIGURES}: measured at {commit}, before {len(later)} commits that changed .rt files")
+
+
 def main(*names):
     tally = collections.defaultdict(lambda: {True: 0, False: 0})
     for name in names or ["README.md", *sorted(glob.glob("docs/**/*.md", recursive=True)), MISTAKES]:
         Document(name, SOURCES, tally).read()
     if not names:
         keep_budgets(tally)
+        keep_figures(tally)
         for is_right in budgets():
             tally["budgets"][is_right] += 1
     for what, counts in tally.items():

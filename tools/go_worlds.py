@@ -63,7 +63,8 @@ def fits(path, version):
     return ("+incompatible" in version) == (int(major) > 1)
 
 
-# A module that go can tidy: each module has a package by which it is imported, and one that imports what it needs alone.
+# A module that go can tidy: each module has a package by which it is imported, and one that imports what it needs
+# alone.
 TIDY = {
     "example.com/Used": ("1.17", ["example.com/far", "example.com/needed"], ["example.com/needed"]),
     "example.com/needed": ("1.17", ["example.com/far", "example.com/old"], ["example.com/old"]),

@@ -148,23 +148,25 @@ FILES
 }
 
 # Begins a benchmark, the first argument, with its own arguments: it sets `small` if there is --small, `gomod` to the
-# program, `work` to a folder that is removed at the end, and how many runs there are of each command.
+# program, `work` to a folder that is removed at the end, and how many runs there are of each command. bench/tables.py
+# names another program and another number of runs.
 begin_benchmark() {
   help_if_asked "$@"
-  small='' runs=3
+  small='' runs=${BENCH_RUNS:-3}
   case $#:${2-} in
     1:) ;;
     2:--small) small=yes runs=1 ;;
     *) refuse_arguments "$1" "it takes --small or nothing" ;;
   esac
-  need_gomod "$1"
-  gomod=$PWD/bin/gomod
+  gomod=${BENCH_PROGRAM:-$PWD/bin/gomod}
+  [ -n "${BENCH_PROGRAM:-}" ] || need_gomod "$1"
   work=$(mktemp -d)
   trap 'rm -rf "$work"' EXIT
+  "${CC:-cc}" -O2 -o "$work/measure" bench/measure.c
 }
 
-# What bench/measure.py prints of the fastest run of a command.
+# What bench/measure.c prints of the fastest run of a command; the first argument is the file for standard input, or -.
 best() {
   local run
-  for ((run = 0; run < runs; run++)); do python3 bench/measure.py "$@"; done | sort -n | head -n 1
+  for ((run = 0; run < runs; run++)); do "$work/measure" "$1" - "${@:2}"; done | sort -n | head -n 1
 }

@@ -178,7 +178,7 @@ def run_all(check):
     check.expect("example/tidy.mod", tidy, 0, *same[:3], same[4], none)
     for command in commands:
         ran = check.run(*example, gomod=f"| if [ $1 = {command} ]; then sed '/rsc.io.sampler/d'; else cat; fi")
-        check.expect(f"gomod {command} without a line", ran, 1, f": {command}", ": a difference that docs/use/GO.md does")
+        check.expect(f"gomod {command} without a line", ran, 1, f": {command}", ": a difference that docs/use/GO.md")
     pruned = check.run("0", mistake=True)
     check.expect("a proxy without the .info of a pruned-out module", pruned, 1, ": list: a difference", ".info: ")
 
