@@ -1,6 +1,7 @@
 //! A runtime whose files are in one folder.
 
 use crate::places::is_near;
+use crate::standard_input::StandardInput;
 use std::alloc::{AllocError, Allocator, Global};
 use std::cell::{Cell, RefCell};
 use std::env::FillError;
@@ -9,12 +10,13 @@ use std::io;
 use std::io::{BufRead, ErrorKind, Lines};
 use std::rt::{Env, Files};
 
-/// The files that were opened, and which of them can't be opened.
+/// What was read: the files that were opened, which of them can't be opened, and whether standard input was taken.
 #[derive(Drop)]
 pub struct Log {
     opened: RefCell<Vec<String>>,
     /// How many files can be opened before the one that can't, if there is one.
     left: Cell<Option<usize>>,
+    takes_input: Cell<bool>,
 }
 
 impl Log {
@@ -23,6 +25,7 @@ impl Log {
         Log {
             opened: RefCell::new(Vec::new(alloc)),
             left: Cell::new(left),
+            takes_input: Cell::new(false),
         }
     }
 
@@ -50,10 +53,15 @@ impl Log {
             Err(_) => Vec::new(alloc),
         }
     }
+
+    /// Whether the reader of standard input was asked for.
+    pub fn takes_input(&self) -> bool {
+        self.takes_input.get()
+    }
 }
 
-/// A runtime whose files are in one real folder, whose standard input is some bytes, and whose command line has some
-/// words. All else that it can do is open a file.
+/// A runtime whose files are in one real folder, whose standard input is that of a case, and whose command line has
+/// some words. All else that it can do is open a file.
 #[derive(Clone, Copy)]
 pub struct CaseRuntime<'a> {
     /// The words of the command line, of which the first is the program's name.
@@ -62,9 +70,9 @@ pub struct CaseRuntime<'a> {
     pub system: HostRuntime,
     /// The real folder.
     pub folder: &'a str,
-    /// What standard input holds.
-    pub input: &'a [u8],
-    /// Where each file that is opened is recorded.
+    /// Standard input.
+    pub input: StandardInput<'a>,
+    /// Where each file that is opened is recorded, and each use of standard input.
     pub log: &'a Log,
 }
 
@@ -84,17 +92,18 @@ impl Alloc for CaseRuntime<'_> {
 }
 
 impl<'a> Input for CaseRuntime<'a> {
-    type Reader = &'a [u8];
+    type Reader = StandardInput<'a>;
 
     fn read_line<A: Allocator + Clone>(&self, buf: &mut String<A>) -> io::Result<usize> {
         self.reader().read_line(buf)
     }
 
-    fn lines<A: Allocator>(&self, alloc: A) -> Lines<&'a [u8], A> {
+    fn lines<A: Allocator>(&self, alloc: A) -> Lines<StandardInput<'a>, A> {
         self.reader().lines(alloc)
     }
 
-    fn reader(&self) -> &'a [u8] {
+    fn reader(&self) -> StandardInput<'a> {
+        self.log.takes_input.set(true);
         self.input
     }
 }

@@ -121,7 +121,7 @@ pub struct Case<'a> {
     pub files: Vec<CaseFile>,
     /// Whether one of its files is made by repetition. Such a case is run once.
     pub is_large: bool,
-    /// Whether those of its commands that run in memory run there alone, as they do at all sizes of a case but the
+    /// Whether those of its commands that run in memory run there alone, as they do at all sizes of a range but the
     /// greatest.
     pub is_in_memory_alone: bool,
     /// Whether its files and outputs are cut at every byte, however many runs that takes.

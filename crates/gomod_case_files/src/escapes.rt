@@ -1,8 +1,9 @@
 //! Escapes of bytes that a line of text can't show.
 
 use crate::faults::{CaseFault, CaseLineFault, TextFault};
-use crate::numbering::MOST;
+use crate::numbering::{MOST, push_numbered};
 use std::alloc::Global;
+use std::{mem, str};
 
 /// What the bytes so far end in.
 #[derive(Clone, Copy)]
@@ -18,19 +19,26 @@ enum EscapeState {
     Count(usize),
     /// A backslash and this number between two `*`: the next byte is repeated so often.
     Times(usize),
+    /// The same and an open parenthesis: what stands before the closed one is repeated so often, each with its number.
+    Group(usize),
 }
 
 /// Takes escaped text byte by byte, and keeps the bytes that it denotes.
 #[derive(Drop)]
 pub(crate) struct Unescaper {
+    alloc: Global,
     bytes: Vec<u8>,
+    /// The bytes so far of the parentheses that are open.
+    group: Vec<u8>,
     state: EscapeState,
 }
 
 impl Unescaper {
     pub(crate) fn new(alloc: Global) -> Unescaper {
         Unescaper {
+            alloc,
             bytes: Vec::new(alloc),
+            group: Vec::new(alloc),
             state: EscapeState::Plain,
         }
     }
@@ -71,7 +79,10 @@ impl Unescaper {
             },
             EscapeState::FirstDigit(first) => self.end(joined(first, byte))?,
             EscapeState::Count(count) => self.state = counted(count, byte)?,
+            EscapeState::Times(count) if byte == b'(' => self.state = EscapeState::Group(count),
             EscapeState::Times(count) => self.repeat(byte, count)?,
+            EscapeState::Group(count) if byte == b')' => self.repeat_group(count)?,
+            EscapeState::Group(_) => self.group.push(byte)?,
         }
         Ok(())
     }
@@ -80,6 +91,17 @@ impl Unescaper {
     fn repeat(&mut self, byte: u8, count: usize) -> Result<(), TextFault> {
         let length = self.bytes.len().saturating_add(count);
         self.bytes.resize(length, byte)?;
+        self.state = EscapeState::Plain;
+        Ok(())
+    }
+
+    /// Ends an escape with what stands in parentheses, so often, each time with its number.
+    fn repeat_group(&mut self, count: usize) -> Result<(), TextFault> {
+        let group = mem::replace(&mut self.group, Vec::new(self.alloc));
+        let Ok(text) = str::from_utf8(group.as_slice()) else {
+            return Err(TextFault::Invalid);
+        };
+        push_numbered(self.alloc, &mut self.bytes, text, count)?;
         self.state = EscapeState::Plain;
         Ok(())
     }

@@ -20,7 +20,8 @@
 //! the size, and `read_cases` reads what `CaseText::at` makes of it for each.
 //!
 //! `lay_files` writes the files of a case into a real folder. A `CaseRuntime` opens files in that folder alone,
-//! and records each in a `Log`. A `View` is the same files as bytes in memory, one of which may be cut off.
+//! and records each in a `Log`, as it does each use of `StandardInput`. A `View` is the same files as bytes in memory,
+//! one of which may be cut off.
 //!
 //! Nothing here depends on what the commands do.
 #![tactic(auto)]
@@ -35,6 +36,7 @@ mod pieces;
 mod places;
 mod reading;
 mod sizes;
+mod standard_input;
 mod views;
 mod words;
 
@@ -45,5 +47,6 @@ pub use crate::folders::{lay_files, make_folder};
 pub use crate::pieces::NO_LINE_END;
 pub use crate::places::tidied;
 pub use crate::reading::read_cases;
-pub use crate::sizes::{CaseText, case_texts};
+pub use crate::sizes::{CaseText, Sizes, case_texts};
+pub use crate::standard_input::StandardInput;
 pub use crate::views::View;

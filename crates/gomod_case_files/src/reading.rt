@@ -3,12 +3,11 @@
 use crate::cases::{Case, Run};
 use crate::escapes::push_unescaped;
 use crate::faults::{CaseFault, CaseLineFault};
-use crate::numbering::{count_of, push_numbered, push_repeated};
+use crate::numbering::{count_of, push_repeated};
 use crate::pieces::{CasePiece, header, take_line};
 use crate::sizes::has_place;
 use crate::words::words_of_line;
 use std::alloc::Global;
-use std::str;
 
 /// The line of a case that is cut at every byte.
 const EVERY_BYTE: &str = "% every byte";
@@ -273,33 +272,10 @@ fn take_repeated(
     let Some((count, line)) = repetition(rest) else {
         return Err(CaseFault::Line(number, CaseLineFault::NoMark));
     };
-    let (count, is_escaped) = match count.strip_suffix('\\') {
-        Some(count) => (count, true),
-        None => (count, false),
-    };
     let Some(count) = count_of(count) else {
         return Err(CaseFault::Line(number, CaseLineFault::BadCount));
     };
-    if is_escaped {
-        return push_repeated_unescaped(alloc, text, number, line, count);
-    }
     Ok(push_repeated(alloc, text, line, count)?)
-}
-
-/// Appends what an escaped text denotes this many times, each with its number.
-fn push_repeated_unescaped(
-    alloc: Global,
-    text: &mut Vec<u8>,
-    number: usize,
-    line: &str,
-    count: usize,
-) -> Result<(), CaseFault> {
-    let mut bytes = Vec::new(alloc);
-    push_unescaped(alloc, &mut bytes, number, line)?;
-    match str::from_utf8(bytes.as_slice()) {
-        Ok(line) => Ok(push_numbered(alloc, text, line, count)?),
-        Err(_) => Err(CaseFault::Line(number, CaseLineFault::BadEscape)),
-    }
 }
 
 /// The count of lines and the line after a mark and a `*`.

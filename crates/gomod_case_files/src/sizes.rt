@@ -25,8 +25,31 @@ const AFTER: &str = "{N+1}";
 /// How many times the size that precedes it a size is.
 const STEP: usize = 4;
 
-/// The greatest number of sizes of a case.
+/// The greatest number of sizes from one to another.
 const MOST_SIZES: usize = 16;
+
+/// What stands between the least and the greatest size.
+const TO: &str = " to ";
+
+/// What stands between sizes that are all named.
+const COMMA: &str = ", ";
+
+/// The sizes that a case is run at.
+#[derive(Drop)]
+pub struct Sizes {
+    /// In ascending order.
+    pub all: Vec<usize>,
+    /// Whether only the least and the greatest are named.
+    is_range: bool,
+}
+
+impl Sizes {
+    /// Whether a case is run in memory alone at the size after this many others. Where each size is named, it is run
+    /// over real files at each.
+    pub fn is_in_memory_alone(&self, index: usize) -> bool {
+        self.is_range && index.saturating_add(1) < self.all.len()
+    }
+}
 
 /// The line that says at which sizes a case is run.
 #[derive(Clone, Copy)]
@@ -77,13 +100,13 @@ impl<'a> CaseText<'a> {
     }
 
     /// The sizes that it is run at, or none if it is run as it stands.
-    pub fn sizes(&self, alloc: Global) -> Result<Option<Vec<usize>>, CaseFault> {
+    pub fn sizes(&self, alloc: Global) -> Result<Option<Sizes>, CaseFault> {
         let Some(line) = self.sizes else {
             return Ok(None);
         };
         let names_size = self.title.is_some_and(|title| title.contains(SIZE));
-        match range_of(line.text) {
-            Some((least, most)) if names_size => Ok(Some(sizes_between(alloc, least, most)?)),
+        match sizes_of(alloc, line.text)? {
+            Some(sizes) if names_size => Ok(Some(sizes)),
             _ => Err(CaseFault::Line(line.number, CaseLineFault::BadSizes)),
         }
     }
@@ -107,15 +130,45 @@ pub(crate) fn has_place(text: &str) -> bool {
     text.contains(PLACE)
 }
 
-/// The least and the greatest size that a text names.
-fn range_of(text: &str) -> Option<(usize, usize)> {
-    let (least, most) = text.split_once(" to ")?;
-    let (least, most) = (count_of(least)?, count_of(most)?);
-    if least < most {
-        Some((least, most))
+/// The sizes that a text names, if it is one of sizes.
+fn sizes_of(alloc: Global, text: &str) -> Result<Option<Sizes>, AllocError> {
+    let is_range = text.contains(TO);
+    let all = if is_range {
+        range_of(alloc, text)?
     } else {
-        None
+        list_of(alloc, text)?
+    };
+    Ok(all.map(|all| Sizes { all, is_range }))
+}
+
+/// The sizes from the least to the greatest that a text names.
+fn range_of(alloc: Global, text: &str) -> Result<Option<Vec<usize>>, AllocError> {
+    match ends_of(text) {
+        Some((least, most)) if least < most => Ok(Some(sizes_between(alloc, least, most)?)),
+        _ => Ok(None),
     }
+}
+
+/// The least and the greatest size that a text names.
+fn ends_of(text: &str) -> Option<(usize, usize)> {
+    let (least, most) = text.split_once(TO)?;
+    Some((count_of(least)?, count_of(most)?))
+}
+
+/// The sizes that a text lists, in ascending order.
+fn list_of(alloc: Global, text: &str) -> Result<Option<Vec<usize>>, AllocError> {
+    let mut sizes = Vec::new(alloc);
+    let mut last = 0;
+    for word in text.split(COMMA) {
+        match count_of(word) {
+            Some(size) if last < size => {
+                sizes.push(size)?;
+                last = size;
+            }
+            _ => return Ok(None),
+        }
+    }
+    Ok(Some(sizes))
 }
 
 /// The sizes from one to another: each four times the one before it, and the greatest.

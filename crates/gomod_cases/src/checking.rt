@@ -8,7 +8,7 @@ use crate::parsing::{ParsedRun, parsed_runs};
 use crate::sweeping::sweep;
 use crate::workspace::{Real, Workspace, are_opened, is_each_opened_once};
 use gomod_case_calls::call;
-use gomod_case_files::{Case, Run, View, lay_files, make_folder};
+use gomod_case_files::{Case, Run, StandardInput, View, lay_files, make_folder};
 use std::alloc::{AllocError, Global};
 use std::{fs, io};
 
@@ -56,7 +56,7 @@ fn check_below(
         system: *rt,
         folder,
         case,
-        input: case.input(),
+        input: StandardInput::of(case.input()),
         count,
     };
     check_in(&workspace, differences)
@@ -104,7 +104,7 @@ fn check_run(
         return check_call(workspace, run, differences);
     }
     if !workspace.case.is_in_memory_alone || parsed_run.parsed.is_none() {
-        check_real(workspace, run, differences)?;
+        check_real(workspace, parsed_run, differences)?;
     }
     check_in_memory(workspace, parsed_run, differences)
 }
@@ -148,14 +148,42 @@ fn check_text(run: &Run<'_>, text: &str, differences: &mut Differences) {
     }
 }
 
-/// Checks a command line over real files.
+/// Checks a command line over real files. One that takes standard input runs once more, over short reads.
 fn check_real(
+    workspace: &Workspace<'_>,
+    parsed_run: &ParsedRun<'_>,
+    differences: &mut Differences,
+) -> Result<(), AllocError> {
+    let run = parsed_run.run;
+    let real = workspace.outcome(run, room_for(run))?;
+    check_result(workspace.alloc(), run, &real, differences)?;
+    if real.takes_input != parsed_run.takes_input() {
+        differences.command(run, "over real files");
+        differences.line(if real.takes_input {
+            "  it reads standard input, and may not"
+        } else {
+            "  it does not read standard input"
+        });
+    }
+    if real.takes_input {
+        check_short_reads(workspace, run, differences)?;
+    }
+    Ok(())
+}
+
+/// Checks the result of a command line over real files if a read of standard input gives only a few bytes.
+fn check_short_reads(
     workspace: &Workspace<'_>,
     run: &Run<'_>,
     differences: &mut Differences,
 ) -> Result<(), AllocError> {
-    let real = workspace.outcome(run, room_for(run))?;
-    check_result(workspace.alloc(), run, &real, differences)
+    let workspace = workspace.with_input(workspace.input.in_short_reads());
+    let outcome = workspace.result(run, room_for(run))?;
+    if !is_wanted(run, &outcome) {
+        differences.command(run, "over short reads of standard input");
+        report_difference(run, &outcome, differences);
+    }
+    Ok(())
 }
 
 /// Checks the result of a command line over real files.

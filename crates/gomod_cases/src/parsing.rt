@@ -44,6 +44,11 @@ impl Parsed {
         }
     }
 
+    /// Whether it reads standard input: `versions` does so without proxy folders, and no other command.
+    fn takes_input(&self) -> bool {
+        matches!(self.command, Command::Versions { .. }) && self.proxy.is_none()
+    }
+
     /// Whether it reads the file in this place as a main file.
     fn reads_main(&self, place: &str) -> bool {
         !matches!(self.command, Command::Versions { .. }) && self.main.as_str() == place
@@ -74,6 +79,14 @@ pub(crate) struct ParsedRun<'a> {
 }
 
 impl<'a> ParsedRun<'a> {
+    /// Whether the command reads standard input.
+    pub(crate) fn takes_input(&self) -> bool {
+        match &self.parsed {
+            Some(parsed) => parsed.takes_input(),
+            None => false,
+        }
+    }
+
     /// Whether the command reads the file in this place as a main file.
     pub(crate) fn reads_main(&self, place: &str) -> bool {
         match &self.parsed {

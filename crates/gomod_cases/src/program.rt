@@ -4,7 +4,7 @@ use crate::checking::check_case;
 use crate::counting::Count;
 use crate::differences::Differences;
 use gomod_case_files::{
-    Case, CaseFault, CaseFile, CaseLineFault, CaseText, Content, case_texts, read_cases,
+    Case, CaseFault, CaseFile, CaseLineFault, CaseText, Content, Sizes, case_texts, read_cases,
 };
 use std::process::ExitCode;
 use std::{env, fs, io};
@@ -136,36 +136,41 @@ impl<'a> Session<'a> {
     fn run_case_text(&mut self, name: &str, case: &CaseText<'_>) -> io::Result<()> {
         match case.sizes(self.system.alloc()) {
             Ok(None) => self.run_read(name, case.lines_before, case.text.as_str(), None),
-            Ok(Some(sizes)) => self.run_sized(name, case, sizes.as_slice()),
+            Ok(Some(sizes)) => self.run_sized(name, case, &sizes),
             Err(fault) => self.fail_case(name, fault),
         }
     }
 
     /// Runs a case at each of its sizes, if the words choose it.
-    fn run_sized(&mut self, name: &str, case: &CaseText<'_>, sizes: &[usize]) -> io::Result<()> {
+    fn run_sized(&mut self, name: &str, case: &CaseText<'_>, sizes: &Sizes) -> io::Result<()> {
         let title = case.title.unwrap_or("");
         if !is_chosen(title, self.words, &mut self.unmatched) {
             return Ok(());
         }
-        for (index, size) in sizes.iter().enumerate() {
-            let is_greatest = index.saturating_add(1) == sizes.len();
+        for (index, size) in sizes.all.iter().enumerate() {
+            let is_in_memory_alone = sizes.is_in_memory_alone(index);
             let text = case.at(self.system.alloc(), *size)?;
-            self.run_read(name, case.lines_before, text.as_str(), Some(is_greatest))?;
+            self.run_read(
+                name,
+                case.lines_before,
+                text.as_str(),
+                Some(is_in_memory_alone),
+            )?;
         }
         Ok(())
     }
 
-    /// Runs the case of a text that follows this many lines. If it is one of several sizes, it is said whether that
-    /// is the greatest.
+    /// Runs the case of a text that follows this many lines. If it is one of several sizes, it is said whether it is
+    /// run in memory alone.
     fn run_read(
         &mut self,
         name: &str,
         lines_before: usize,
         text: &str,
-        is_greatest: Option<bool>,
+        sized: Option<bool>,
     ) -> io::Result<()> {
         match read_cases(self.system.alloc(), lines_before, text) {
-            Ok(mut cases) => self.run_cases(name, cases.as_mut_slice(), is_greatest),
+            Ok(mut cases) => self.run_cases(name, cases.as_mut_slice(), sized),
             Err(fault) => self.fail_case(name, fault),
         }
     }
@@ -189,11 +194,11 @@ impl<'a> Session<'a> {
         &mut self,
         name: &str,
         cases: &mut [Case<'_>],
-        is_greatest: Option<bool>,
+        sized: Option<bool>,
     ) -> io::Result<()> {
         for case in cases {
-            if is_greatest.is_some() || is_chosen(case.title, self.words, &mut self.unmatched) {
-                prepare(&self.system, case, is_greatest)?;
+            if sized.is_some() || is_chosen(case.title, self.words, &mut self.unmatched) {
+                prepare(&self.system, case, sized)?;
                 self.run_case(name, case)?;
             }
         }
@@ -230,11 +235,12 @@ impl<'a> Session<'a> {
     }
 }
 
-/// Reads the files that a case copies, and says how it is run if it is at one of several sizes.
-fn prepare(rt: &HostRuntime, case: &mut Case<'_>, is_greatest: Option<bool>) -> io::Result<()> {
-    if let Some(is_greatest) = is_greatest {
+/// Reads the files that a case copies. If it is at one of several sizes, it is run once, and in memory alone if that is
+/// said.
+fn prepare(rt: &HostRuntime, case: &mut Case<'_>, sized: Option<bool>) -> io::Result<()> {
+    if let Some(is_in_memory_alone) = sized {
         case.is_large = true;
-        case.is_in_memory_alone = !is_greatest;
+        case.is_in_memory_alone = is_in_memory_alone;
     }
     read_copies(rt, case)
 }

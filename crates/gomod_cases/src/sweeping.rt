@@ -6,7 +6,7 @@ use crate::outputs::sweep_outputs;
 use crate::parsing::ParsedRun;
 use crate::refusals::sweep_asks;
 use crate::workspace::Workspace;
-use gomod_case_files::{CaseFile, Content, STDIN};
+use gomod_case_files::{CaseFile, Content, STDIN, StandardInput};
 use std::alloc::AllocError;
 use std::{fs, io};
 
@@ -117,13 +117,7 @@ fn sweep_cut(
     if cut.name != STDIN {
         return Ok(check_cut(workspace, runs, cut, differences)?);
     }
-    let workspace = Workspace {
-        system: workspace.system,
-        folder: workspace.folder,
-        case: workspace.case,
-        input: cut.bytes,
-        count: workspace.count,
-    };
+    let workspace = workspace.with_input(StandardInput::of(cut.bytes));
     Ok(check_cut(&workspace, runs, cut, differences)?)
 }
 

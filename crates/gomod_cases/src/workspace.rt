@@ -3,7 +3,7 @@
 use crate::counting::Count;
 use crate::memory::Memory;
 use crate::outcomes::{Outcome, Room};
-use gomod_case_files::{Case, CaseRuntime, Log, Run, View, tidied};
+use gomod_case_files::{Case, CaseRuntime, Log, Run, StandardInput, View, tidied};
 use gomod_run::ending_of;
 use std::alloc::{AllocError, Global};
 
@@ -13,21 +13,35 @@ pub(crate) struct Workspace<'a> {
     pub(crate) system: HostRuntime,
     pub(crate) folder: &'a str,
     pub(crate) case: &'a Case<'a>,
-    pub(crate) input: &'a [u8],
+    pub(crate) input: StandardInput<'a>,
     pub(crate) count: &'a Count,
 }
 
-/// The result of a command over real files, and the names of the files that it opened, in order.
+/// The result of a command over real files, and what it read.
 #[derive(Drop)]
 pub(crate) struct Real {
     pub(crate) outcome: Outcome,
+    /// The names of the files that it opened, in order.
     pub(crate) opened: Vec<String>,
+    /// Whether it took standard input.
+    pub(crate) takes_input: bool,
 }
 
 impl<'a> Workspace<'a> {
     /// Where its texts and lists are.
     pub(crate) fn alloc(&self) -> Global {
         self.system.alloc()
+    }
+
+    /// The same with another standard input.
+    pub(crate) fn with_input(&self, input: StandardInput<'a>) -> Workspace<'a> {
+        Workspace {
+            system: self.system,
+            folder: self.folder,
+            case: self.case,
+            input,
+            count: self.count,
+        }
     }
 
     /// The files of the case in memory.
@@ -62,11 +76,15 @@ impl<'a> Workspace<'a> {
         self.logged(run, room, &log)
     }
 
-    /// Runs a command, with a record of the files that it opens.
+    /// Runs a command, with a record of what it reads.
     fn logged(&self, run: &Run<'_>, room: Room, log: &Log) -> Result<Real, AllocError> {
         let outcome = self.outcome_of_words(run.words.as_slice(), room, log)?;
         let opened = log.take(self.alloc());
-        Ok(Real { outcome, opened })
+        Ok(Real {
+            outcome,
+            opened,
+            takes_input: log.takes_input(),
+        })
     }
 
     /// Runs the program with these words.
