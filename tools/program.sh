@@ -1,7 +1,7 @@
 #!/usr/bin/env bash
 # Runs bin/gomod itself over the cases of command lines, and compares standard output, standard error and the status.
 #
-#   tools/program.sh                      the cases of crates/run_cases/data and its folder sizes
+#   tools/program.sh                      the cases of crates/run_cases/data and its folders sizes and program
 #   tools/program.sh FILE.txt.. TITLE..   those of these files, or those whose titles have one of these texts
 #
 # The merge gate runs the same cases inside a process, with outputs in memory; of the program itself it compares what
@@ -9,9 +9,13 @@
 # system. .ci/run runs it after the gate. Calls, cases with a file at the root of the system, and those of files without
 # permission for root are left out.
 #
-# Of a case with sizes it runs the greatest, each command with an address space of 64 MiB and a hundred times the bytes
-# of the files of the case, which is the bound of COMMANDS.md: a command that reserves more runs out of memory. All
-# commands run with the stack that README.md names, and room for their arguments.
+# Of a case with a range of sizes it runs the greatest, of one with a list each. Each command then has an address space
+# of 64 MiB and a hundred times the bytes of its words and of the files of the case, which is the bound of COMMANDS.md:
+# a command that reserves more runs out of memory. All commands run with the stack that README.md names, and room for
+# their arguments.
+#
+# The standard input of each command but `versions` without --proxy stays open, so one that reads it doesn't end. If a
+# command hasn't ended after 100 seconds, the script ends.
 #
 # Each command is called by a name that is not UTF-8, which it may not look at.
 #
@@ -35,8 +39,9 @@ import subprocess
 import sys
 import tempfile
 
-DATA, SIZES = "crates/run_cases/data", "crates/run_cases/data/sizes"
-ESCAPE = re.compile(rb'\\(?:(n|r|t|0|\\|"|x[0-9a-fA-F]{2})|\*([0-9]+)\*(.))', re.S)
+DATA = "crates/run_cases/data"
+FOLDERS = DATA, os.path.join(DATA, "sizes"), os.path.join(DATA, "program")
+ESCAPE = re.compile(rb'\\(?:(n|r|t|0|\\|"|x[0-9a-fA-F]{2})|\*([0-9]+)\*(?:\(([^)]*)\)|(.)))', re.S)
 SIMPLE = {b"n": b"\n", b"r": b"\r", b"t": b"\t", b"0": b"\0", b"\\": b"\\", b'"': b'"'}
 NO_LINE_END = b"\\ No newline at end of file"
 REFUSE_MEMORY = os.environ.pop("REFUSE_MEMORY", None)
@@ -44,16 +49,20 @@ REFUSE_MEMORY = os.environ.pop("REFUSE_MEMORY", None)
 NAME = b"b\xff/gomod"
 NO_MEMORY = b"", b"gomod: no memory\n", 3
 PASSED = b"all allocations passed\n"
-# the address space that a command may have beside FACTOR times the bytes of its files
+# how many seconds a command has
+LIMIT = 100
+# a standard input without a byte, which ends when this script does
+OPEN_INPUT, ITS_WRITER = os.pipe()
+# the address space that a command may have beside FACTOR times the bytes of its words and files
 SPARE, FACTOR = 64 << 20, 100
 with open("README.md", encoding="utf-8") as file:
     STACK = 1024 * int(re.search(r"`ulimit -s (\d+)`", file.read())[1])
 
 
 def meant(escape):
-    simple, count, byte = escape.groups()
+    simple, count, group, byte = escape.groups()
     if count:
-        return byte * int(count)
+        return b"".join(each_numbered(group, int(count))) if byte is None else byte * int(count)
     return SIMPLE[simple] if simple in SIMPLE else bytes([int(simple[1:], 16)])
 
 
@@ -80,17 +89,18 @@ def each_numbered(text, most):
     return (numbered(text, number, most) for number in range(1, most + 1))
 
 
-def sized(lines):
-    """The lines of a case at its greatest size, if it has sizes."""
-    found = lines[1:] and re.fullmatch(rb"% sizes \d+ to (\d+)", lines[1])
-    if not found:
-        return lines, False
-    size = int(found[1])
-    places = ((b"{N}", size), (b"{N-1}", size - 1), (b"{N+1}", size + 1))
+def sizes_of(lines):
+    """The sizes that a case is run at here: the greatest of a range, or each of a list."""
+    found = lines[1:] and re.fullmatch(rb"% sizes (?:\d+ to )?(\d+(?:, \d+)*)", lines[1])
+    return [int(it) for it in found[1].split(b", ")] if found else []
+
+
+def at_size(lines, size):
+    """The lines of a case at one of its sizes."""
     text = b"\n".join([lines[0], b"", *lines[2:]])
-    for place, number in places:
+    for place, number in ((b"{N}", size), (b"{N-1}", size - 1), (b"{N+1}", size + 1)):
         text = text.replace(place, b"%d" % number)
-    return text.split(b"\n"), True
+    return text.split(b"\n")
 
 
 def stack_with(words, environment):
@@ -127,24 +137,35 @@ class Run:
     def wanted(self):
         return self.out, self.report, self.status
 
-    def comes_to(self, program, folder, stdin, refused=0, most=resource.RLIM_INFINITY):
+    def reads_input(self):
+        return self.words[1:2] == [b"versions"] and not any(it.startswith(b"--proxy") for it in self.words)
+
+    def comes_to(self, program, folder, stdin, refused=0, file_bytes=None):
         environment = {**os.environ, "LD_PRELOAD": REFUSE_MEMORY, "REFUSE_AT": str(refused)} if refused else os.environ
         words = [NAME, *self.words[1:]]
         stack = stack_with(words, environment)
+        most = resource.RLIM_INFINITY
+        if file_bytes is not None:
+            most = SPARE + FACTOR * (file_bytes + sum(map(len, words)))
 
         def limit():
             resource.setrlimit(resource.RLIMIT_AS, (most, most))
             resource.setrlimit(resource.RLIMIT_STACK, (stack, stack))
 
-        got = subprocess.run(
-            words,
-            executable=program,
-            cwd=folder,
-            input=stdin,
-            capture_output=True,
-            env=environment,
-            preexec_fn=limit,
-        )
+        given = {"input": stdin} if self.reads_input() else {"stdin": OPEN_INPUT}
+        try:
+            got = subprocess.run(
+                words,
+                executable=program,
+                cwd=folder,
+                capture_output=True,
+                env=environment,
+                preexec_fn=limit,
+                timeout=LIMIT,
+                **given,
+            )
+        except subprocess.TimeoutExpired:
+            sys.exit(f"program: line {self.line} has not ended after {LIMIT} seconds: $ {self.text.decode()}")
         return got.stdout, got.stderr, got.returncode
 
     def refused(self, program, folder, stdin):
@@ -238,19 +259,25 @@ class Case:
             self.runs[-1].take(line)
 
 
+def case_of(first, lines, is_sized):
+    """The case of these lines, the first of which has this number."""
+    case = Case(first, lines[0][4:].decode())
+    case.is_sized = is_sized
+    for number, line in enumerate(lines[1:], first + 1):
+        case.take(number, line)
+    case.end()
+    return case
+
+
 def read_cases(path):
     cases = []
     with open(path, "rb") as file:
         lines = file.read().removesuffix(b"\n").split(b"\n")
     titles = [at for at, line in enumerate(lines) if line.startswith(b"=== ")]
     for begin, end in zip(titles, [*titles[1:], len(lines)]):
-        own, is_sized = sized(lines[begin:end])
-        case = Case(begin + 1, own[0][4:].decode())
-        case.is_sized = is_sized
-        for number, line in enumerate(own[1:], begin + 2):
-            case.take(number, line)
-        case.end()
-        cases.append(case)
+        sizes = sizes_of(lines[begin:end])
+        for own in [at_size(lines[begin:end], it) for it in sizes] or [lines[begin:end]]:
+            cases.append(case_of(begin + 1, own, bool(sizes)))
     return cases
 
 
@@ -276,11 +303,11 @@ def passes(program, path, case):
         for piece in case.pieces:
             if piece.name != b"stdin":
                 piece.lay(folder)
-        most = SPARE + FACTOR * (len(stdin) + bytes_below(folder)) if case.is_sized else resource.RLIM_INFINITY
+        file_bytes = len(stdin) + bytes_below(folder) if case.is_sized else None
         for run in case.runs:
             if run.words[0] != b"gomod":
                 continue
-            over, got = "", run.comes_to(program, folder, stdin, most=most)
+            over, got = "", run.comes_to(program, folder, stdin, file_bytes=file_bytes)
             if got == run.wanted() and REFUSE_MEMORY and not case.is_sized:
                 number, got = run.refused(program, folder, stdin) or (0, got)
                 over = f", allocation {number} refused"
@@ -299,7 +326,7 @@ def passes(program, path, case):
 def main(program, *words):
     files = [it for it in words if it.endswith(".txt")]
     files = files or [
-        os.path.join(data, it) for data in (DATA, SIZES) for it in sorted(os.listdir(data)) if it.endswith(".txt")
+        os.path.join(data, it) for data in FOLDERS for it in sorted(os.listdir(data)) if it.endswith(".txt")
     ]
     titles = [it for it in words if not it.endswith(".txt")]
     counts = {True: 0, False: 0}
