@@ -114,7 +114,7 @@ class Sources:
                 self.read_code(crate, path)
             elif path.endswith(".antt") and crate:
                 self.read_definitions(path)
-            elif re.fullmatch(r"crates/run_cases/data/(sizes/)?\w+\.txt", path):
+            elif re.fullmatch(r"crates/run_cases/data/(sizes/|program/)?\w+\.txt", path):
                 self.titles[os.path.basename(path)] |= {it[4:] for it in lines_of(path) if it.startswith("=== ")}
 
     def read_code(self, crate, path):
