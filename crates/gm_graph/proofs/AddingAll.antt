@@ -73,7 +73,7 @@ adds_number modules old mid new numbers i d below before one =
 
 pub keeps_both : (old mid new : GraphBuilder) → KeepsGraph old mid → KeepsGraph mid new → KeepsGraph old new
 keeps_both old mid new first then' = record {
-  leaving = then'.leaving ∙ first.leaving;
+  edges = then'.edges ∙ first.edges;
   faults = then'.faults ∙ first.faults;
 }
 

@@ -7,10 +7,9 @@ use Rattle.gm_name.specs.ModuleVersion.{ModuleVersion, module_at, pair_cmp, pair
 use Rattle.gm_graph_cache.specs.declared.class.Class.{Class}
 use Rattle.gm_graph_cache.specs.declared.finding.Finding.{Finding}
 use Rattle.gm_graph_cache.specs.declared.finding.Finding.TheVariants.{Fault}
-use Rattle.gm_graph_select.specs.declared.adjacency.Adjacency.{Adjacency}
 use Rattle.gm_graph_select.specs.declared.step.Edge.{Edge}
 use Rattle.gm_graph_select.specs.declared.step.Step.{Step}
-use Rattle.gm_graph_select.specs.Adjacency.{edges_from, edges_of, left_by}
+use Rattle.gm_graph_select.specs.Adjacency.{StepEdges, edges_from, edges_of, left_by}
 use Rattle.gm_graph_select.specs.Graph.{edge}
 use Rattle.gm_graph.specs.Building.{found_fault, noted}
 
@@ -26,20 +25,20 @@ fault_put old new x v class found e f puts q =
     ∙ ap (λ (w : ModuleVersion). if pair_eq w q then Some class else tree.get pair_cmp old q) f
     ∙ ap (λ (n : Finding). noted (found_fault n) x (λ y. tree.get pair_cmp old y) q) (sym e)
 
--- the edges of an adjacency list
+-- the edges that leave one step
 from_numbers : (vertices : List ModuleVersion) (step : Step) (numbers : List ℕ)
     → map (λ number. edge step (module_at vertices number)) numbers ≡ map (edge step) (map (module_at vertices) numbers)
 from_numbers vertices step [] = refl
 from_numbers vertices step (number ∷ numbers) = ap (λ (es : List Edge). edge step (module_at vertices number) ∷ es)
     (from_numbers vertices step numbers)
 
--- the edges of one more
-pub edges_push : (vertices : List ModuleVersion) (all : List Adjacency) (one : Adjacency)
+-- the edges that leave one step more
+pub edges_push : (vertices : List ModuleVersion) (all : List StepEdges) (one : StepEdges)
     → edges_of vertices (all ++ one ∷ [])
-    ≡ edges_of vertices all ++ map (edge (left_by vertices one)) (map (module_at vertices) one.to.items)
+    ≡ edges_of vertices all ++ map (edge (left_by vertices one)) (map (module_at vertices) one.to)
 edges_push vertices [] one = append-nil (edges_from vertices one)
-    ∙ from_numbers vertices (left_by vertices one) one.to.items
+    ∙ from_numbers vertices (left_by vertices one) one.to
 edges_push vertices (first ∷ all) one =
     ap (λ (es : List Edge). edges_from vertices first ++ es) (edges_push vertices all one)
     ∙ sym (append_assoc (edges_from vertices first) (edges_of vertices all)
-    (map (edge (left_by vertices one)) (map (module_at vertices) one.to.items)))
+    (map (edge (left_by vertices one)) (map (module_at vertices) one.to)))

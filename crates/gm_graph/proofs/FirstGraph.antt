@@ -7,13 +7,13 @@ use Rattle.gm_graph_cache.specs.declared.class.Class.{Class}
 use Rattle.gm_graph_cache.specs.declared.depth.Depth.{Depth}
 use Rattle.gm_graph_cache.specs.declared.depth.Turn.{Turn}
 use Rattle.gm_graph_cache.specs.Main.{Main, is_pruned_by, without_excluded}
-use Rattle.gm_graph_select.specs.declared.adjacency.Adjacency.{Adjacency}
 use Rattle.gm_graph_select.specs.declared.step.Step.TheVariants.{Main as FromMain}
-use Rattle.gm_graph_select.specs.Adjacency.{edges_of, sources_of}
+use Rattle.gm_graph_select.specs.Adjacency.{StepEdges, edges_of, sources_of}
 use Rattle.gm_graph_select.specs.Graph.{edge}
 use Rattle.gm_graph.specs.declared.graph_builder.GraphBuilder.{GraphBuilder}
 use Rattle.gm_graph.specs.declared.graph_builder.NumberedTurn.{NumberedTurn}
 use Rattle.gm_graph.specs.Builder.{IsBuilder, KeepsGraph, KeepsTurns, edges_in, faults_by_vertex, sources_in, turn_of, turns_of}
+use Rattle.gm_graph.specs.EdgeLists.{steps_in}
 use Rattle.gm_graph.specs.Turns.{AddsAll, OverflowsWith, depth_by}
 use Rattle.gm_graph.specs.Visiting.{IsFirstGraph}
 use Rattle.gm_graph.proofs.Rounds.{first_turns_are}
@@ -40,7 +40,7 @@ module _ (main : Main) (modules xs : List ModuleVersion) (none : GraphBuilder) (
       (subst (λ (ys : List ModuleVersion). OverflowsWith (turns_of modules none) ys) are over)
 
   -- Their turns and the edges to them were added.
-  pub is_first : (turned made : GraphBuilder) (depth : Depth) → none.leaving.items ≡ [] → none.faults.entries ≡ []
+  pub is_first : (turned made : GraphBuilder) (depth : Depth) → steps_in none.edges ≡ [] → none.faults.entries ≡ []
       → depth ≡ depth_by (is_pruned_by main.go) → AddsAll (turns_of modules none) (turns_of modules turned) xs depth
       → KeepsGraph none turned → IsBuilder modules made → KeepsTurns turned made
       → edges_in modules made ≡ edges_in modules turned ++ map (edge FromMain) xs
@@ -49,7 +49,7 @@ module _ (main : Main) (modules xs : List ModuleVersion) (none : GraphBuilder) (
   is_first turned made depth no_edges no_faulty by adds kept builder still edges sources faults =
       let old = turns_of modules none in
       let same = ap (λ (ts : List NumberedTurn). map (turn_of modules) ts) still in
-      let leaving = kept.leaving ∙ no_edges in
+      let nothing = ap steps_in kept.edges ∙ no_edges in
       record {
         is_builder = builder;
         turns = first_turns_are main old (turns_of modules made) none_turned
@@ -58,8 +58,8 @@ module _ (main : Main) (modules xs : List ModuleVersion) (none : GraphBuilder) (
             (subst (λ (ts : List Turn). AddsAll old ts xs depth) (sym same) adds)));
         gathered = λ readings.
             main_gathered main readings (edges_in modules turned) (edges_in modules made) (faults_by_vertex made) xs
-            (ap (λ (all : List Adjacency). edges_of modules all) leaving) edges are
+            (ap (λ (all : List StepEdges). edges_of modules all) nothing) edges are
             (no_faults made (ap (λ fs. fs.entries) (faults ∙ kept.faults) ∙ no_faulty));
         sources = sources
-            ∙ ap (λ (all : List Adjacency). sources_of modules all ++ FromMain ∷ []) leaving;
+            ∙ ap (λ (all : List StepEdges). sources_of modules all ++ FromMain ∷ []) nothing;
       }

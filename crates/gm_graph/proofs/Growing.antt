@@ -12,16 +12,16 @@ use Rattle.gm_graph_cache.specs.declared.depth.Depth.{Depth}
 use Rattle.gm_graph_cache.specs.declared.depth.Depth.TheVariants.{Deep, Top}
 use Rattle.gm_graph_cache.specs.declared.depth.Turn.{Turn}
 use Rattle.gm_graph_cache.specs.Turns.{turn}
-use Rattle.gm_graph_select.specs.declared.adjacency.Adjacency.{Adjacency}
 use Rattle.gm_graph_select.specs.declared.step.Edge.{Edge}
 use Rattle.gm_graph_select.specs.declared.step.Step.{Step}
 use Rattle.gm_graph_select.specs.declared.step.Step.TheVariants.{Of}
-use Rattle.gm_graph_select.specs.Adjacency.{HaveNumbers, IsBelow, IsNumbered, edges_from, edges_of, left_by, sources_of, step_with}
+use Rattle.gm_graph_select.specs.Adjacency.{HaveNumbers, IsBelow, IsNumbered, StepEdges, edges_from, edges_of, left_by, sources_of, step_with}
 use Rattle.gm_graph_select.specs.Graph.{edge}
 use Rattle.gm_graph.specs.declared.graph_builder.GraphBuilder.{GraphBuilder}
 use Rattle.gm_graph.specs.declared.graph_builder.NumberedTurn.{NumberedTurn}
 use Rattle.gm_graph.specs.declared.marks.Marks.{Marks}
 use Rattle.gm_graph.specs.Builder.{marks_at, AreMarks, Built, IsBuilder, built, edges_in, faults_by_vertex, sources_in, turn_of, turns_of}
+use Rattle.gm_graph.specs.EdgeLists.{steps_in}
 use Rattle.gm_graph.specs.Marks.{is_marked}
 use Rattle.gm_graph.specs.Turns.{AreTurnsOf, same_depth, same_turn}
 
@@ -57,21 +57,21 @@ module _ (modules more : List ModuleVersion) where
       (ap (edge step) (vertex_stays number (All-head (IsUnder (length modules)) number numbers h)))
       (ends_stay step numbers (All-tail (IsUnder (length modules)) number numbers h))
 
-  edges_from_stay : (one : Adjacency) → IsNumbered (length modules) one
+  edges_from_stay : (one : StepEdges) → IsNumbered (length modules) one
       → edges_from (modules ++ more) one ≡ edges_from modules one
   edges_from_stay one is =
-      ap (λ (s : Step). map (λ number. edge s (module_at (modules ++ more) number)) one.to.items)
+      ap (λ (s : Step). map (λ number. edge s (module_at (modules ++ more) number)) one.to)
       (step_stays one.from is.from)
-      ∙ ends_stay (left_by modules one) one.to.items is.to
+      ∙ ends_stay (left_by modules one) one.to is.to
 
-  sources_stay : (all : List Adjacency) → HaveNumbers (length modules) all
+  sources_stay : (all : List StepEdges) → HaveNumbers (length modules) all
       → sources_of (modules ++ more) all ≡ sources_of modules all
   sources_stay [] h = refl
   sources_stay (one ∷ all) h = ap₂ (λ (s : Step) (ss : List Step). s ∷ ss)
       (step_stays one.from (All-head (IsNumbered (length modules)) one all h).from)
       (sources_stay all (All-tail (IsNumbered (length modules)) one all h))
 
-  edges_stay : (all : List Adjacency) → HaveNumbers (length modules) all
+  edges_stay : (all : List StepEdges) → HaveNumbers (length modules) all
       → edges_of (modules ++ more) all ≡ edges_of modules all
   edges_stay [] h = refl
   edges_stay (one ∷ all) h = ap₂ (λ (es fs : List Edge). es ++ fs)
@@ -93,10 +93,10 @@ module _ (count more : ℕ) (grows : count ≤ more) where
   turned_more turns h =
       All-weaker (IsOneBelow count) (IsOneBelow more) (λ one below. omega (arith, grows, below)) turns h
 
-  numbered_more : (all : List Adjacency) → HaveNumbers count all → HaveNumbers more all
+  numbered_more : (all : List StepEdges) → HaveNumbers count all → HaveNumbers more all
   numbered_more all h = All-weaker (IsNumbered count) (IsNumbered more) (λ one is. record {
     from = below_more one.from is.from;
-    to = under_more one.to.items is.to;
+    to = under_more one.to is.to;
   }) all h
 
 -- ---- the new modules
@@ -145,11 +145,11 @@ module _ (old new : List ModuleVersion) (builder : GraphBuilder) (is : IsBuilder
 
   edges_over : edges_in new builder ≡ edges_in old builder
   edges_over = ap (λ (ms : List ModuleVersion). edges_in ms builder) begins.1
-      ∙ edges_stay old begins.0 builder.leaving.items is.numbered
+      ∙ edges_stay old begins.0 (steps_in builder.edges) is.numbered
 
   sources_over : sources_in new builder ≡ sources_in old builder
   sources_over = ap (λ (ms : List ModuleVersion). sources_in ms builder) begins.1
-      ∙ sources_stay old begins.0 builder.leaving.items is.numbered
+      ∙ sources_stay old begins.0 (steps_in builder.edges) is.numbered
 
   -- It is the same graph.
   pub built_over : built new builder ≡ built old builder
@@ -193,7 +193,8 @@ module _ (old new : List ModuleVersion) (builder : GraphBuilder) (is : IsBuilder
   builder_over distinct = record {
     distinct = distinct;
     turned = turned_more (length old) (length new) grows builder.turns.items is.turned;
-    numbered = numbered_more (length old) (length new) grows builder.leaving.items is.numbered;
+    numbered = numbered_more (length old) (length new) grows (steps_in builder.edges) is.numbered;
+    lists = is.lists;
     marked = omega (arith, is.marked, grows);
     marks = subst (λ (ts : List Turn). AreMarks new builder.marks.items ts) (sym turns_over)
         (subst (λ (ms : List ModuleVersion). AreMarks ms builder.marks.items (turns_of old builder)) (sym begins.1)

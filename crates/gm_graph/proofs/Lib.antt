@@ -12,6 +12,9 @@ pub mod Turning
 pub mod Visited
 pub mod FirstGraph
 pub mod Caching
+pub mod FilledPlaces
+pub mod PushedEdges
+pub mod FileLists
 pub mod Queueing
 pub mod BuiltEdges
 pub mod Dues

@@ -13,13 +13,14 @@ use Rattle.gm_graph_cache.specs.declared.depth.Depth.{Depth}
 use Rattle.gm_graph_cache.specs.declared.depth.Depth.TheVariants.{Deep, Top}
 use Rattle.gm_graph_cache.specs.declared.depth.Turn.{Turn}
 use Rattle.gm_graph_cache.specs.Turns.{turn}
-use Rattle.gm_graph_select.specs.declared.adjacency.Adjacency.{Adjacency}
-use Rattle.gm_graph_select.specs.Adjacency.{HaveNumbers, IsNumbered}
+use Rattle.gm_graph_select.specs.Adjacency.{HaveNumbers, IsNumbered, StepEdges}
 use Rattle.gm_graph.specs.declared.graph_builder.GraphBuilder.{GraphBuilder}
 use Rattle.gm_graph.specs.declared.graph_builder.NumberedTurn.{NumberedTurn}
 use Rattle.gm_graph.specs.declared.marks.Marks.{Marks}
 use Rattle.gm_graph.specs.Builder.{AreMarks, IsBuilder, marks_at, turn_of, turns_of}
+use Rattle.gm_graph.specs.EdgeLists.{AreLists, steps_in}
 use Rattle.gm_graph.specs.Marks.{is_marked}
+use Rattle.gm_graph.specs.declared.edge_lists.EdgeLists.{EdgeLists}
 use Rattle.gm_graph.specs.Turns.{AreTurnsOf, OverflowsWith, same_depth, same_turn}
 use Rattle.gm_graph.proofs.Adding.{more_turn, new_turn, no_turns, overflow_one}
 use Rattle.gm_graph.proofs.Growing.{unmarked}
@@ -27,13 +28,14 @@ use Rattle.gm_graph.proofs.Sameness.{exact_turn, turns_equivalence}
 
 -- the empty builder
 pub no_builder : (modules : List ModuleVersion) (made : GraphBuilder) → IsDistinct pair_eq modules
-    → made.marks.items ≡ [] → made.turns.items ≡ [] → made.opened ≡ 0 → made.leaving.items ≡ [] → IsBuilder modules made
-no_builder modules made distinct marks turns opened leaving = record {
+    → made.marks.items ≡ [] → made.turns.items ≡ [] → made.opened ≡ 0 → steps_in made.edges ≡ [] → AreLists made.edges → IsBuilder modules made
+no_builder modules made distinct marks turns opened none lists = record {
   distinct = distinct;
   turned = subst (λ (ts : List NumberedTurn). All (λ one. one.number < length modules) ts) (sym turns)
       (All-nil (λ (one : NumberedTurn). one.number < length modules));
-  numbered = subst (λ (all : List Adjacency). HaveNumbers (length modules) all) (sym leaving)
+  numbered = subst (λ (all : List StepEdges). HaveNumbers (length modules) all) (sym none)
       (All-nil (IsNumbered (length modules)));
+  lists = lists;
   marked = omega (arith, ap length marks);
   marks = λ number d below.
       unmarked made.marks.items number d (omega (arith, ap length marks))
@@ -76,8 +78,8 @@ same_marks (one ∷ marks) more (suc number) = same_marks marks more number
 pub builder_filled : (modules : List ModuleVersion) (old new : GraphBuilder) (none : Marks) (count more : ℕ)
     → IsBuilder modules old → ((d : Depth) → is_marked none d ≡ false) → length old.marks.items ≤ count
     → length new.marks.items ≤ length modules → new.marks.items ≡ take count old.marks.items ++ replicate more none
-    → new.turns ≡ old.turns → new.leaving ≡ old.leaving → new.opened ≡ old.opened → IsBuilder modules new
-builder_filled modules old new none count more is has_none fewer fits marks turns leaving opened =
+    → new.turns ≡ old.turns → new.edges ≡ old.edges → new.opened ≡ old.opened → IsBuilder modules new
+builder_filled modules old new none count more is has_none fewer fits marks turns edges opened =
     let filled : new.marks.items ≡ old.marks.items ++ replicate more no_marks =
     marks ∙ ap₂ (λ (ms : List Marks) (n : Marks). ms ++ replicate more n)
     (take_all count old.marks.items fewer) (is_none none has_none) in
@@ -85,7 +87,8 @@ builder_filled modules old new none count more is has_none fewer fits marks turn
     record {
       distinct = is.distinct;
       turned = subst (λ all. All (λ one. one.number < length modules) all.items) (sym turns) is.turned;
-      numbered = subst (λ all. HaveNumbers (length modules) all.items) (sym leaving) is.numbered;
+      numbered = subst (λ (edges : EdgeLists). HaveNumbers (length modules) (steps_in edges)) (sym edges) is.numbered;
+      lists = subst AreLists (sym edges) is.lists;
       marked = fits;
       marks = λ number d below.
           ap (λ (ms : List Marks). is_marked (marks_at ms number) d) filled
@@ -246,12 +249,12 @@ module _ (modules : List ModuleVersion) (old : GraphBuilder) (number : ℕ) (dep
   -- a new turn, and its mark
   pub builder_with : (new : GraphBuilder) (more : Marks) → new.marks.items ≡ set old.marks.items number more
       → new.turns.items ≡ old.turns.items ++ record { number = number; depth = depth } ∷ []
-      → new.leaving ≡ old.leaving
+      → new.edges ≡ old.edges
       → ((d : Depth) → is_marked more d ≡ (same_depth d depth || is_marked marks d))
       → false ≡ is_marked marks depth
       → new.opened ≡ (if marks.top || marks.deep then old.opened else old.opened + 1) → new.opened ≤ 65536
       → IsBuilder modules new
-  builder_with new more marks' turns leaving with' unmarked counts few =
+  builder_with new more marks' turns edges with' unmarked counts few =
       let one : NumberedTurn = record { number = number; depth = depth } in
       let (list, are, counted) = opened_more new.opened counts few (sym (unmarked ∙ marked depth)) in
       let turns' : turns_of modules new ≡ turns_with =
@@ -261,7 +264,8 @@ module _ (modules : List ModuleVersion) (old : GraphBuilder) (number : ℕ) (dep
         distinct = is.distinct;
         turned = subst (λ (ts : List NumberedTurn). All (λ one. one.number < length modules) ts) (sym turns)
             (All-push (λ (one : NumberedTurn). one.number < length modules) old.turns.items one is.turned below);
-        numbered = subst (λ all. HaveNumbers (length modules) all.items) (sym leaving) is.numbered;
+        numbered = subst (λ (edges : EdgeLists). HaveNumbers (length modules) (steps_in edges)) (sym edges) is.numbered;
+        lists = subst AreLists (sym edges) is.lists;
         marked = omega (arith, ap length marks', length-set old.marks.items number more, is.marked);
         marks = subst (λ (ts : List Turn). AreMarks modules new.marks.items ts) (sym turns')
             (subst (λ (ms : List Marks). AreMarks modules ms turns_with) (sym marks') (marks_with more with'));

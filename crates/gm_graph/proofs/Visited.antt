@@ -16,6 +16,8 @@ use Rattle.gm_graph_select.specs.declared.step.Step.{Step}
 use Rattle.gm_graph_select.specs.declared.step.Step.TheVariants.{Of}
 use Rattle.gm_graph_select.specs.Adjacency.{edges_of, sources_of}
 use Rattle.gm_graph_select.specs.Graph.{edge}
+use Rattle.gm_graph.specs.EdgeLists.{steps_in}
+use Rattle.gm_graph.specs.declared.edge_lists.EdgeLists.{EdgeLists}
 use Rattle.gm_graph.specs.declared.graph_builder.GraphBuilder.{GraphBuilder}
 use Rattle.gm_graph.specs.declared.graph_builder.NumberedTurn.{NumberedTurn}
 use Rattle.gm_graph.specs.Builder.{Built, KeepsGraph, KeepsTurns, built, turn_of, turns_of}
@@ -78,25 +80,25 @@ module _ (modules : List ModuleVersion) (old new : GraphBuilder) where
   same_turns : KeepsTurns old new → turns_of modules new ≡ turns_of modules old
   same_turns keeps = ap (λ (ts : List NumberedTurn). map (turn_of modules) ts) keeps
 
-  same_edges : new.leaving.items ≡ old.leaving.items → (built modules new).edges ≡ (built modules old).edges
-  same_edges keeps = ap (edges_of modules) keeps
+  same_edges : new.edges ≡ old.edges → (built modules new).edges ≡ (built modules old).edges
+  same_edges keeps = ap (λ (edges : EdgeLists). edges_of modules (steps_in edges)) keeps
 
-  same_sources : new.leaving.items ≡ old.leaving.items → (built modules new).sources ≡ (built modules old).sources
-  same_sources keeps = ap (sources_of modules) keeps
+  same_sources : new.edges ≡ old.edges → (built modules new).sources ≡ (built modules old).sources
+  same_sources keeps = ap (λ (edges : EdgeLists). sources_of modules (steps_in edges)) keeps
 
   same_faults : new.faults ≡ old.faults → (y : ModuleVersion) → (built modules new).faults y ≡ (built modules old).faults y
   same_faults keeps y = ap (λ (faults : tree.BTreeMap ModuleVersion Class). tree.get pair_cmp faults y) keeps
 
-  pub notes_fault : (x : ModuleVersion) (f : Finding) → KeepsTurns old new → new.leaving.items ≡ old.leaving.items → ((y : ModuleVersion) → (built modules new).faults y ≡ with_fault (found_fault f) x (built modules old).faults y)
+  pub notes_fault : (x : ModuleVersion) (f : Finding) → KeepsTurns old new → new.edges ≡ old.edges → ((y : ModuleVersion) → (built modules new).faults y ≡ with_fault (found_fault f) x (built modules old).faults y)
       → Notes (built modules old) (built modules new) x f
-  notes_fault x f turns leaving faults = record { turns = same_turns turns; edges = same_edges leaving; sources = same_sources leaving; faults = faults }
+  notes_fault x f turns kept faults = record { turns = same_turns turns; edges = same_edges kept; sources = same_sources kept; faults = faults }
 
   pub adds_nothing : (adds : Bool) (x : ModuleVersion) (ys : List ModuleVersion) → adds ≡ false → new ≡ old → AddsIf adds (built modules old) (built modules new) x ys
   adds_nothing adds x ys not_so same =
-      let leaving = ap (λ (b : GraphBuilder). b.leaving.items) same in
+      let kept = ap (λ (b : GraphBuilder). b.edges) same in
       record {
-        edges = ((λ so. absurd (false≢true (sym not_so ∙ so))), (λ _. same_edges leaving));
-        source = adds_no_source adds _ _ x not_so (same_sources leaving);
+        edges = ((λ so. absurd (false≢true (sym not_so ∙ so))), (λ _. same_edges kept));
+        source = adds_no_source adds _ _ x not_so (same_sources kept);
         turns = same_turns (ap (λ (b : GraphBuilder). b.turns.items) same);
         faults = same_faults (ap (λ (b : GraphBuilder). b.faults) same);
       }
@@ -112,7 +114,7 @@ module _ (modules : List ModuleVersion) (old new : GraphBuilder) where
 
   module _ (main : Main) (readings : Readings) (x : ModuleVersion) (d : Depth) (known : IsSome (readings x)) where
     opens_by : KeepsGraph old new → Visits main readings (turns_of modules old) (turns_of modules new) (turn x d) → Opens main readings (built modules old) (built modules new) x d
-    opens_by kept follows = record { follows = follows; edges = same_edges kept.leaving; sources = same_sources kept.leaving; faults = same_faults kept.faults }
+    opens_by kept follows = record { follows = follows; edges = same_edges kept.edges; sources = same_sources kept.edges; faults = same_faults kept.faults }
 
     -- a turn that leads on
     pub opens_all : leads_on readings x d ≡ true → KeepsGraph old new → AddsAll (turns_of modules old) (turns_of modules new) (vertex_requirements main readings x) Deep → Opens main readings (built modules old) (built modules new) x d
@@ -121,5 +123,5 @@ module _ (modules : List ModuleVersion) (old new : GraphBuilder) where
     -- a turn that leads no further
     pub opens_none : leads_on readings x d ≡ false → new ≡ old → Opens main readings (built modules old) (built modules new) x d
     opens_none stops same =
-        opens_by (record { leaving = ap (λ (b : GraphBuilder). b.leaving.items) same; faults = ap (λ (b : GraphBuilder). b.faults) same })
+        opens_by (record { edges = ap (λ (b : GraphBuilder). b.edges) same; faults = ap (λ (b : GraphBuilder). b.faults) same })
         (subst (λ (b : GraphBuilder). Visits main readings (turns_of modules old) (turns_of modules b) (turn x d)) (sym same) (follows_nothing main readings (turns_of modules old) x d known stops))

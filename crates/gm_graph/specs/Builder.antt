@@ -10,6 +10,7 @@ use Rattle.gm_graph_select.specs.declared.step.Edge.{Edge}
 use Rattle.gm_graph_select.specs.declared.step.Step.{Step}
 use Rattle.gm_graph_select.specs.Adjacency.{HaveNumbers, edges_of, sources_of}
 use Rattle.gm_graph.specs.Building.{Faults}
+use Rattle.gm_graph.specs.EdgeLists.{AreLists, steps_in}
 use Rattle.gm_graph.specs.Marks.{is_marked}
 use Rattle.gm_graph.specs.Turns.{AreTurnsOf, same_turn}
 use Rattle.gm_graph.specs.declared.graph_builder.GraphBuilder.{GraphBuilder}
@@ -28,11 +29,11 @@ turns_of modules builder = map (turn_of modules) builder.turns.items
 
 -- the edges
 abbrev pub edges_in : List ModuleVersion → GraphBuilder → List Edge
-edges_in modules builder = edges_of modules builder.leaving.items
+edges_in modules builder = edges_of modules (steps_in builder.edges)
 
--- the steps that adjacency lists leave
+-- the steps that edges leave
 abbrev pub sources_in : List ModuleVersion → GraphBuilder → List Step
-sources_in modules builder = sources_of modules builder.leaving.items
+sources_in modules builder = sources_of modules (steps_in builder.edges)
 
 -- the fault of each vertex that has one
 abbrev pub faults_by_vertex : GraphBuilder → Faults
@@ -69,16 +70,17 @@ AreMarks modules marks turns = (number : ℕ) (d : Depth) → number < length mo
 pub record IsBuilder (modules : List ModuleVersion) (builder : GraphBuilder) : Type 0 where
   pub distinct : IsDistinct pair_eq modules
   pub turned : All (λ one. one.number < length modules) builder.turns.items
-  pub numbered : HaveNumbers (length modules) builder.leaving.items
+  pub numbered : HaveNumbers (length modules) (steps_in builder.edges)
+  pub lists : AreLists builder.edges
   pub marked : length builder.marks.items ≤ length modules
   pub marks : AreMarks modules builder.marks.items (turns_of modules builder)
   pub opened : List ModuleVersion
   pub turns : AreTurnsOf opened (turns_of modules builder)
   pub counted : builder.opened ≡ length opened
 
--- The adjacency lists and the faults are the same.
+-- The edges and the faults are the same.
 pub record KeepsGraph (old new : GraphBuilder) : Type 0 where
-  pub leaving : new.leaving.items ≡ old.leaving.items
+  pub edges : new.edges ≡ old.edges
   pub faults : new.faults ≡ old.faults
 
 -- The turns are the same.

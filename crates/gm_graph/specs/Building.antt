@@ -71,7 +71,7 @@ pub record AreGathered (main : Main) (readings : Readings) (edges : List Edge) (
   pub known : (x : ModuleVersion) (class : Class) → faults x ≡ Some class
       → IsOpened main readings x × (readings x ≡ Some (Err class))
 
--- An adjacency list that leaves this vertex was added, or nothing.
+-- This vertex was added to the steps that edges leave, or nothing was.
 abbrev pub AddsSource : Bool → List Step → List Step → ModuleVersion → Type 0
 AddsSource true old new x = new ≡ old ++ Of x ∷ []
 AddsSource false old new x = new ≡ old

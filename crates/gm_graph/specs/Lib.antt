@@ -5,6 +5,8 @@ pub mod WorklistFaults
 pub mod Loading
 pub mod Building
 pub mod Builder
+pub mod EdgeLists
 pub mod Visiting
+pub mod FileLists
 pub mod Outcome
 pub mod Laws

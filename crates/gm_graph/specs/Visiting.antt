@@ -64,7 +64,7 @@ pub record IsFirstGraph (main : Main) (modules : List ModuleVersion) (builder : 
 
 -- The whole worklist was visited. The cache knows the readings of the answers, and its list of turns is the
 -- worklist's. The turns are those of the opened vertices, whose edges and faults are in the graph builder, with one
--- adjacency list for each.
+-- source for each.
 pub record IsOpenedIn (old new : Cache) (pairs : List (Name × Reply)) (builder : GraphBuilder) : Type 0 where
   pub main : main_in new ≡ main_in old
   pub tells : Tells (sums_in old) pairs (held_of new)

@@ -5,7 +5,7 @@
 //! holds turns, each of a vertex and a depth, and each vertex has a mark for each depth, so that each turn comes once.
 //! worklist.rt adds turns.
 
-ghost use Rattle.std.specs.Prelude.{◌≡◌, ◌≤◌, ◌++◌, ◌∷◌, [], IfOk, List, OnOk, length, map};
+ghost use Rattle.std.specs.Prelude.{◌≡◌, ◌≤◌, ◌++◌, ◌∷◌, [], ℕ, IfOk, List, OnOk, Some, length, map};
 ghost use Rattle.std.specs.BTreeMap as tree;
 ghost use Rattle.std.specs.List.{IsDistinct};
 ghost use Rattle.gm_name.specs.ModuleVersion.{ModuleVersion, pair_cmp, pair_eq};
@@ -14,10 +14,10 @@ ghost use Rattle.gm_graph_select.specs.Adjacency.{IsBelow, step_with};
 ghost use Rattle.gm_graph_select.specs.Graph.{edge};
 ghost use Rattle.gm_graph.specs.Building.{fault, found_fault, noted};
 
+use crate::edge_lists::EdgeLists;
 use crate::fault::Fault;
 use crate::marks::Marks;
 use gm_graph_cache::{Class, Depth, Finding, Lent};
-use gm_graph_select::Adjacency;
 use gm_name::ModVer;
 use std::alloc::{AllocError, Global};
 use std::collections::BTreeMap;
@@ -42,9 +42,8 @@ pub(crate) struct GraphBuilder {
     pub(crate) turns: Vec<NumberedTurn>,
     /// How many vertices have a turn.
     pub(crate) opened: usize,
-    /// The edges, in one adjacency list for the main module and one for each visited vertex, also if nothing is
-    /// required of it, in the order of the visits.
-    pub(crate) leaving: Vec<Adjacency>,
+    /// The edges from the main module and the visited vertices.
+    pub(crate) edges: EdgeLists,
     /// The faults of the visited vertices that have one.
     pub(crate) faults: BTreeMap<ModVer, Class>,
     ghost few: { opened ≤ 65536 },
@@ -52,13 +51,17 @@ pub(crate) struct GraphBuilder {
 
 impl GraphBuilder {
     ghost use Rattle.gm_graph.specs.Builder.{IsBuilder, KeepsTurns, edges_in, faults_by_vertex, sources_in};
+    ghost use Rattle.gm_graph.specs.EdgeLists.{numbers_of, steps_in};
+    ghost use Rattle.gm_graph.specs.FileLists.{AddsFileList, HasNumbersOf};
 
     /// A graph with nothing in it, and with room for the marks of so many modules.
     pub(crate) fn new(alloc: Global, count: usize) -> Result<GraphBuilder, AllocError>
         ensures builder { IfOk result (λ builder. (modules : List ModuleVersion) → IsDistinct pair_eq modules
             → IsBuilder modules builder) }
         ensures turns { IfOk result (λ builder. builder.turns.items ≡ []) }
-        ensures edges { IfOk result (λ builder. builder.leaving.items ≡ []) }
+        ensures edges { IfOk result (λ builder. steps_in builder.edges ≡ []) }
+        ensures files { IfOk result (λ builder. (file : ℕ) (numbers : List ℕ)
+            → numbers_of builder.edges file ≡ Some numbers → ⊥) }
         ensures faults { IfOk result (λ builder. builder.faults.entries ≡ []) }
     {
         Ok(GraphBuilder {
@@ -66,7 +69,7 @@ impl GraphBuilder {
             marks: Vec::with_capacity(alloc, count)?,
             turns: Vec::new(alloc),
             opened: 0,
-            leaving: Vec::new(alloc),
+            edges: EdgeLists::new(alloc),
             faults: BTreeMap::new(alloc),
         })
     }
@@ -78,7 +81,7 @@ impl GraphBuilder {
         ensures faults { OnOk result ((x : ModuleVersion) → faults_by_vertex self.new x
             ≡ noted (found_fault finding.now) vertex.now (faults_by_vertex self.old) x) }
         ensures turns { OnOk result (KeepsTurns self.old self.new) }
-        ensures leaving { OnOk result (self.new.leaving.items ≡ self.old.leaving.items) }
+        ensures edges { OnOk result (self.new.edges ≡ self.old.edges) }
     {
         if let Finding::Fault(class) = finding {
             self.faults.insert(vertex.copy(self.alloc)?, *class)?;
@@ -86,10 +89,17 @@ impl GraphBuilder {
         Ok(())
     }
 
-    /// Adds the edges from the main module, or from the vertex with a number, to these modules, as one adjacency list.
-    pub(crate) fn add_edges(&mut self, from: Option<u32>, list: Lent<'_>) -> Result<(), AllocError>
+    /// Adds the edges from the main module, or from the vertex with a number, to these modules, which the file at a
+    /// place in the cache requires.
+    pub(crate) fn add_edges(
+        &mut self,
+        from: Option<u32>,
+        file: Option<u32>,
+        list: Lent<'_>,
+    ) -> Result<(), AllocError>
         requires builder { IsBuilder (lent_table list) self.old }
         requires from { IsBelow (length (lent_table list)) from }
+        requires file { HasNumbersOf self.old.edges file (lent_table list) (lent_modules list) }
         ensures builder { OnOk result (IsBuilder (lent_table list.entry) self.new) }
         ensures edges { OnOk result (edges_in (lent_table list.entry) self.new
             ≡ edges_in (lent_table list.entry) self.old
@@ -98,10 +108,10 @@ impl GraphBuilder {
             ≡ sources_in (lent_table list.entry) self.old ++ step_with (lent_table list.entry) from ∷ []) }
         ensures turns { OnOk result (KeepsTurns self.old self.new) }
         ensures faults { OnOk result (self.new.faults ≡ self.old.faults) }
+        ensures files { OnOk result (AddsFileList self.old.edges self.new.edges file
+            (lent_table list.entry) (lent_modules list.entry)) }
     {
-        let mut to = Vec::new(self.alloc);
-        to.extend_from_slice(list.numbers())?;
-        self.leaving.push(Adjacency { from, to })?;
+        self.edges.add(self.alloc, from, file, list.numbers())?;
         Ok(())
     }
 }

@@ -17,12 +17,14 @@
 //! for, each once.
 #![tactic(auto)]
 
+mod edge_lists;
 mod fault;
 mod graph_builder;
 pub mod laws;
 mod loaded;
 mod loading;
 mod marks;
+mod places;
 mod rows;
 mod starting;
 mod visiting;

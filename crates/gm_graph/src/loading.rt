@@ -19,6 +19,7 @@ ghost use Rattle.std.specs.BTreeMap as tree;
 ghost use Rattle.std.specs.List.{IsDistinct};
 ghost use Rattle.gm_graph.specs.Builder.{IsBuilder, edges_in, sources_in};
 ghost use Rattle.gm_graph.specs.Building.{fault};
+ghost use Rattle.gm_graph.specs.FileLists.{HaveFiles};
 ghost use Rattle.gm_graph.specs.Loading.{AreTooMany, AsksInTurn, IsDue, Told};
 ghost use Rattle.gm_graph.specs.Outcome.{IsLoaded};
 ghost use Rattle.gm_graph.specs.Visiting.{IsFirstGraph, IsOpenedIn};
@@ -46,6 +47,7 @@ fn visit_all<F: Files>(
     requires knows { Knows cache.old [] }
     requires lent { turns_in cache.old ≡ [] }
     requires first { IsFirstGraph (main_in cache.old) (modules_in cache.old) builder.old }
+    requires files { HaveFiles cache.old builder.old.edges }
     ensures opened { OnOk result (IsOpenedIn cache.old cache.new (F.state files.new).asked builder.new) }
     ensures too_many { result ≡ Err LoadFault.TooMany
         → Told (main_in cache.old) (sums_in cache.old) (F.state files.new).asked (AreTooMany (main_in cache.old)) }
@@ -90,13 +92,9 @@ fn assemble(
         IsBuildList (main_of main.now).path (main_of main.now).replaces (among loaded.edges) loaded.rows) }
     ensures turns { IfOk result (λ loaded. loaded.turns ≡ turns.items) }
 {
-    let GraphBuilder {
-        leaving,
-        faults,
-        ..
-    } = builder;
+    let GraphBuilder { edges, faults, .. } = builder;
     let faults = fault_list(alloc, faults)?;
-    let graph = Graph::new(alloc, modules, leaving)?;
+    let graph = Graph::new(alloc, modules, edges.lists, edges.sources)?;
     let rows = build_list(alloc, main, &graph)?;
     let path = main_path(main).copy(alloc)?;
     Ok(Loaded::new(path, faults, graph, rows, turns))

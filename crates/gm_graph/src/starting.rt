@@ -4,6 +4,7 @@ ghost use Rattle.std.specs.Prelude.{◌≡◌, [], IfOk, Err};
 ghost use Rattle.gm_graph_cache.specs.Cached.{main_in, modules_in};
 ghost use Rattle.gm_graph_cache.specs.Main.{is_pruned_by, without_excluded, main_of};
 ghost use Rattle.gm_graph_cache.specs.Refusals.{refused_in};
+ghost use Rattle.gm_graph.specs.FileLists.{HaveFiles};
 ghost use Rattle.gm_graph.specs.Turns.{OverflowsWith, depth_by};
 ghost use Rattle.gm_graph.specs.Visiting.{IsFirstGraph};
 
@@ -33,6 +34,7 @@ pub(crate) fn first_graph(
 ) -> Result<GraphBuilder, LoadFault>
     requires { main_in cache.now ≡ main_of main.now }
     ensures first { IfOk result (IsFirstGraph (main_of main.now) (modules_in cache.now)) }
+    ensures files { IfOk result (λ builder. HaveFiles cache.now builder.edges) }
     ensures too_many { result ≡ Err LoadFault.TooMany
         → OverflowsWith [] (without_excluded (main_of main.now) (main_of main.now).requirements) }
     ensures not_refused { refused_in result ≡ [] }
@@ -40,6 +42,6 @@ pub(crate) fn first_graph(
     let required = cache.first_requirements();
     let mut builder = GraphBuilder::new(alloc, required.module_count())?;
     builder.add_all(required, first_depth(main))?;
-    builder.add_edges(None, required)?;
+    builder.add_edges(None, None, required)?;
     Ok(builder)
 }

@@ -9,6 +9,7 @@ ghost use Rattle.gm_graph_cache.specs.Asking.{AsksFor, StillLacks};
 ghost use Rattle.gm_graph_cache.specs.Cached.{AddsTurn, IsFinding, Knows, LendsKept, main_in, modules_in, numbered, turns_in};
 ghost use Rattle.gm_graph_cache.specs.Refusals.{refused_in};
 ghost use Rattle.gm_graph.specs.Builder.{IsBuilder, built, turn_of, turns_of};
+ghost use Rattle.gm_graph.specs.FileLists.{HaveFiles};
 ghost use Rattle.gm_graph.specs.Turns.{VisitOverflows, leads_on};
 ghost use Rattle.gm_graph.specs.Visiting.{Continues, IsVisited, OverflowsAt, lender_of, readings_in};
 
@@ -53,7 +54,9 @@ fn add_requirements(
     requires builder { IsBuilder (modules_in cache.old) builder.old }
     requires below { one.number < length (modules_in cache.old) }
     requires finding { IsFinding cache.old (numbered cache.old one.number) finding.now }
+    requires files { HaveFiles cache.old builder.old.edges }
     ensures builder { OnOk result (IsBuilder (modules_in cache.old) builder.new) }
+    ensures files { OnOk result (HaveFiles cache.old builder.new.edges) }
     ensures followed { OnOk result (IsVisited (main_in cache.old) (readings_in cache.old)
         (built (modules_in cache.old) builder.old) (built (modules_in cache.old) builder.new)
         (numbered cache.old one.number) one.depth) }
@@ -66,12 +69,13 @@ fn add_requirements(
     let leads = leads_on(cache, one.depth, finding);
     let gathers = builder.gathers(one);
     builder.note(cache.module(one.number), finding)?;
-    let required = cache.lend(one.number, one.depth, lender(finding))?;
+    let file = lender(finding);
+    let required = cache.lend(one.number, one.depth, file)?;
     if leads {
         builder.add_all(required, Depth::Deep)?;
     }
     if gathers {
-        builder.add_edges(Some(one.number), required)?;
+        builder.add_edges(Some(one.number), file, required)?;
     }
     Ok(())
 }
@@ -90,11 +94,13 @@ pub(crate) fn visit<F: Files>(
     requires knows { Knows cache.old (F.state files.old).asked }
     requires builder { IsBuilder (modules_in cache.old) builder.old }
     requires below { one.number < length (modules_in cache.old) }
+    requires files { HaveFiles cache.old builder.old.edges }
     ensures knows { OnOk result (Knows cache.new (F.state files.new).asked) }
     ensures continues { OnOk result (Continues cache.old cache.new) }
     ensures turns { OnOk result (turns_in cache.new
         ≡ turns_in cache.old ++ turn_of (modules_in cache.old) one ∷ []) }
     ensures builder { OnOk result (IsBuilder (modules_in cache.new) builder.new) }
+    ensures files { OnOk result (HaveFiles cache.new builder.new.edges) }
     ensures followed { OnOk result (IsVisited (main_in cache.new) (readings_in cache.new)
         (built (modules_in cache.old) builder.old) (built (modules_in cache.new) builder.new)
         (numbered cache.old one.number) one.depth) }

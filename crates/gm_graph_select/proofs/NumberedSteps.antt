@@ -5,6 +5,7 @@ use Rattle.std.specs.declared.cmp.Ordering.{Ordering}
 use Rattle.std.specs.declared.cmp.Ordering.TheVariants.{Less, Equal, Greater}
 use Rattle.std.specs.Cmp.{IsTotalOrder}
 use Rattle.std.specs.FinMap.{nat_cmp-IsAntisymmetric}
+use Rattle.std.specs.Global.{Vec}
 use Rattle.std.specs.List.Sorted.{IsNonDecreasingBy, IsPartitionPoint, IsSortedBy}
 use Rattle.std.specs.Option.{option_cmp}
 use Rattle.std.specs.Ordering.{is_lt, nat_cmp, ordering_index, ordering_reverse}
@@ -15,11 +16,11 @@ use Rattle.std.proofs.lemmas.List.Elements.{All-contains, Contains-get_or}
 use Rattle.std.proofs.lemmas.List.Kept.{AllPairs-cons}
 use Rattle.std.proofs.lemmas.List.Sorted.{searchable_from_sorted}
 use Rattle.gm_name.specs.ModuleVersion.{ModuleVersion, module_at, pair_cmp, pair_total}
-use Rattle.gm_graph_select.specs.declared.adjacency.Adjacency.{Adjacency}
+use Rattle.gm_graph_select.specs.declared.adjacency.Source.{Source}
 use Rattle.gm_graph_select.specs.declared.step.Edge.{Edge}
 use Rattle.gm_graph_select.specs.declared.step.Step.{Step}
 use Rattle.gm_graph_select.specs.declared.step.Step.TheVariants.{Main, Of}
-use Rattle.gm_graph_select.specs.Adjacency.{AreRanked, GraphView, IsBelow, IsNumbered, edges_from, edges_of, left_by, step_with}
+use Rattle.gm_graph_select.specs.Adjacency.{AreRanked, GraphView, IsBelow, IsNumbered, StepEdges, by_step, edges_from, edges_of, left_by, list_at, step_edges, step_with}
 use Rattle.gm_graph_select.specs.Graph.{edge, step_cmp}
 use Rattle.gm_graph_select.specs.Numbering.{AreLeaving, IsGraph, number_left, number_with, step_at, steps_of}
 use Rattle.gm_graph_select.specs.Order.{IsAscending}
@@ -107,13 +108,17 @@ module _ {X K : Type 0} {cmp : K → K → Ordering} (total : IsTotalOrder cmp) 
 
 -- ---- a graph by ranks
 
-module _ (vertices : List ModuleVersion) (all : List Adjacency) (are : AreRanked vertices all) where
+-- the number of the step that edges leave
+abbrev left_number : StepEdges → ℕ
+left_number one = number_with one.from
+
+module _ (vertices : List ModuleVersion) (all : List StepEdges) (are : AreRanked vertices all) where
   -- the step that a list leaves has the list's number
   its_number : (from : Option ℕ) → IsBelow (length vertices) from → (number_with from < length (Main ∷ map Of vertices)) × (step_at (Main ∷ map Of vertices) (number_with from) ≡ step_with vertices from)
   its_number None within = (omega arith, refl)
   its_number (Some rank) within = (let count : length (map Of vertices) ≡ length vertices = length-map vertices Of in omega (arith, within, count), step_of_rank vertices rank within)
 
-  numbered_list : (one : Adjacency) → Contains all one → IsNumbered (length vertices) one
+  numbered_list : (one : StepEdges) → Contains all one → IsNumbered (length vertices) one
   numbered_list one there = All-contains (IsNumbered (length vertices)) all one are.numbered there
 
   pub is_graph : IsGraph (record { vertices = vertices; edges = edges_of vertices all })
@@ -121,13 +126,13 @@ module _ (vertices : List ModuleVersion) (all : List Adjacency) (are : AreRanked
     ascending = are.vertices_ascend;
     left = λ e h.
         let (one, there, at) = edges_only vertices all e h in
-        let (rank, held, is) = from_mapped (λ (n : ℕ). edge (left_by vertices one) (module_at vertices n)) one.to.items e at in
+        let (rank, held, is) = from_mapped (λ (n : ℕ). edge (left_by vertices one) (module_at vertices n)) one.to e at in
         let (inside, same) = its_number one.from (numbered_list one there).from in
-        subst (λ (s : Step). Contains (Main ∷ map Of vertices) s) (same ∙ ap (λ (f : Edge). f.from) is) (Contains-at (Main ∷ map Of vertices) (number_left one) inside);
+        subst (λ (s : Step). Contains (Main ∷ map Of vertices) s) (same ∙ ap (λ (f : Edge). f.from) is) (Contains-at (Main ∷ map Of vertices) (left_number one) inside);
     ends = λ e h.
         let (one, there, at) = edges_only vertices all e h in
-        let (rank, held, is) = from_mapped (λ (n : ℕ). edge (left_by vertices one) (module_at vertices n)) one.to.items e at in
-        subst (λ (y : ModuleVersion). Contains vertices y) (ap (λ (f : Edge). f.to) is) (Contains-get_or vertices rank ([], []) (All-contains (λ (n : ℕ). n < length vertices) one.to.items rank (numbered_list one there).to held));
+        let (rank, held, is) = from_mapped (λ (n : ℕ). edge (left_by vertices one) (module_at vertices n)) one.to e at in
+        subst (λ (y : ModuleVersion). Contains vertices y) (ap (λ (f : Edge). f.to) is) (Contains-get_or vertices rank ([], []) (All-contains (λ (n : ℕ). n < length vertices) one.to rank (numbered_list one there).to held));
   }
     where
       Contains-at : (steps : List Step) (i : ℕ) → i < length steps → Contains steps (step_at steps i)
@@ -140,16 +145,16 @@ module _ (vertices : List ModuleVersion) (all : List Adjacency) (are : AreRanked
   lower_with (Some a) (Some b) e = let low = lower_number a b e in omega (arith, low)
 
   -- Two lists that leave one step are the same.
-  one_list : (a b : Adjacency) → Contains all a → Contains all b → number_left a ≡ number_left b → a ≡ b
+  one_list : (a b : StepEdges) → Contains all a → Contains all b → left_number a ≡ left_number b → a ≡ b
   one_list a b (i, inside, at) (j, below, is) same = elim (cases_lt i j) [
     | inl lt ↦ absurd (let low = lower_with (get_or all i a).from (get_or all j a).from (are.lists_ascend i j a lt below) in
-        let left : number_left (get_or all i a) ≡ number_left a = ap (λ (o : Adjacency). number_left o) at in
-        let right : number_left (get_or all j a) ≡ number_left b = ap (λ (o : Adjacency). number_left o) (get_or_default all j a b below ∙ is) in
+        let left : left_number (get_or all i a) ≡ left_number a = ap (λ (o : StepEdges). left_number o) at in
+        let right : left_number (get_or all j a) ≡ left_number b = ap (λ (o : StepEdges). left_number o) (get_or_default all j a b below ∙ is) in
         omega (arith, low, left, right, same))
     | inr ge ↦ elim (cases_lt j i) [
       | inl lt ↦ absurd (let low = lower_with (get_or all j a).from (get_or all i a).from (are.lists_ascend j i a lt inside) in
-          let left : number_left (get_or all i a) ≡ number_left a = ap (λ (o : Adjacency). number_left o) at in
-          let right : number_left (get_or all j a) ≡ number_left b = ap (λ (o : Adjacency). number_left o) (get_or_default all j a b below ∙ is) in
+          let left : left_number (get_or all i a) ≡ left_number a = ap (λ (o : StepEdges). left_number o) at in
+          let right : left_number (get_or all j a) ≡ left_number b = ap (λ (o : StepEdges). left_number o) (get_or_default all j a b below ∙ is) in
           omega (arith, low, left, right, same))
       | inr le ↦ (let equal : i ≡ j = omega (arith, ge, le) in sym at ∙ ap (λ (n : ℕ). get_or all n a) equal ∙ get_or_default all j a b below ∙ is)
     ]
@@ -157,55 +162,72 @@ module _ (vertices : List ModuleVersion) (all : List Adjacency) (are : AreRanked
 
   -- An edge from the step with a number is in the list with that number.
   list_with : (number : ℕ) → number < length (Main ∷ map Of vertices) → (y : ModuleVersion) → Contains (edges_of vertices all) (edge (step_at (Main ∷ map Of vertices) number) y)
-      → (one : Adjacency) × Contains all one × (number_left one ≡ number) × Contains (edges_from vertices one) (edge (step_at (Main ∷ map Of vertices) number) y)
+      → (one : StepEdges) × Contains all one × (left_number one ≡ number) × Contains (edges_from vertices one) (edge (step_at (Main ∷ map Of vertices) number) y)
   list_with number below y h =
       let steps = Main ∷ map Of vertices in
       let (one, there, at) = edges_only vertices all (edge (step_at steps number) y) h in
-      let (rank, held, is) = from_mapped (λ (n : ℕ). edge (left_by vertices one) (module_at vertices n)) one.to.items (edge (step_at steps number) y) at in
+      let (rank, held, is) = from_mapped (λ (n : ℕ). edge (left_by vertices one) (module_at vertices n)) one.to (edge (step_at steps number) y) at in
       let (inside, same) = its_number one.from (numbered_list one there).from in
-      let alike : step_at steps (number_left one) ≡ step_at steps number = same ∙ ap (λ (f : Edge). f.from) is in
-      (one, there, same_number steps (all_steps_ascend vertices are.vertices_ascend) (number_left one) number inside below alike, at)
+      let alike : step_at steps (left_number one) ≡ step_at steps number = same ∙ ap (λ (f : Edge). f.from) is in
+      (one, there, same_number steps (all_steps_ascend vertices are.vertices_ascend) (left_number one) number inside below alike, at)
 
   -- The list with that number has the edges.
-  pub list_leaves : (one : Adjacency) (number : ℕ) → Contains all one → number_left one ≡ number → number < length (steps_of (record { vertices = vertices; edges = edges_of vertices all })) → AreLeaving (record { vertices = vertices; edges = edges_of vertices all }) number one.to.items
+  pub list_leaves : (one : StepEdges) (number : ℕ) → Contains all one → left_number one ≡ number → number < length (steps_of (record { vertices = vertices; edges = edges_of vertices all })) → AreLeaving (record { vertices = vertices; edges = edges_of vertices all }) number one.to
   list_leaves one number there is below = record {
     within = (numbered_list one there).to;
-    only = λ k d inside. edges_each vertices all one (edge (step_at (Main ∷ map Of vertices) number) (module_at vertices (get_or one.to.items k d))) there
-        (subst (λ (s : Step). Contains (edges_from vertices one) (edge s (module_at vertices (get_or one.to.items k d)))) left
-        (in_mapped (λ (n : ℕ). edge (left_by vertices one) (module_at vertices n)) one.to.items (get_or one.to.items k d) (Contains-get_or one.to.items k d inside)));
+    only = λ k d inside. edges_each vertices all one (edge (step_at (Main ∷ map Of vertices) number) (module_at vertices (get_or one.to k d))) there
+        (subst (λ (s : Step). Contains (edges_from vertices one) (edge s (module_at vertices (get_or one.to k d)))) left
+        (in_mapped (λ (n : ℕ). edge (left_by vertices one) (module_at vertices n)) one.to (get_or one.to k d) (Contains-get_or one.to k d inside)));
     all = λ y h.
         let (other, found, number_is, at) = list_with number below y h in
         let same : other ≡ one = one_list other one found there (number_is ∙ sym is) in
-        subst (λ (s : Step). Contains (map (λ (n : ℕ). edge s (module_at vertices n)) one.to.items) (edge (step_at (Main ∷ map Of vertices) number) y)) left
-        (subst (λ (o : Adjacency). Contains (edges_from vertices o) (edge (step_at (Main ∷ map Of vertices) number) y)) same at);
+        subst (λ (s : Step). Contains (map (λ (n : ℕ). edge s (module_at vertices n)) one.to) (edge (step_at (Main ∷ map Of vertices) number) y)) left
+        (subst (λ (o : StepEdges). Contains (edges_from vertices o) (edge (step_at (Main ∷ map Of vertices) number) y)) same at);
   }
     where
       left : left_by vertices one ≡ step_at (Main ∷ map Of vertices) number
       left = sym (its_number one.from (numbered_list one there).from).1 ∙ ap (step_at (Main ∷ map Of vertices)) is
 
   -- Without such a list no edge leaves the step.
-  pub none_leave : (number : ℕ) → ((one : Adjacency) → Contains all one → number_left one ≡ number → ⊥) → number < length (steps_of (record { vertices = vertices; edges = edges_of vertices all })) → AreLeaving (record { vertices = vertices; edges = edges_of vertices all }) number []
+  pub none_leave : (number : ℕ) → ((one : StepEdges) → Contains all one → left_number one ≡ number → ⊥) → number < length (steps_of (record { vertices = vertices; edges = edges_of vertices all })) → AreLeaving (record { vertices = vertices; edges = edges_of vertices all }) number []
   none_leave number none below = record {
     within = λ k d inside. absurd (omega (arith, inside));
     only = λ k d inside. absurd (omega (arith, inside));
     all = λ y h. absurd (let (one, there, is, at) = list_with number below y h in none one there is);
   }
 
-  pub lists_rise : AllPairs (λ (a b : Adjacency). nat_cmp (number_left a) (number_left b) ≡ Less) all
-  lists_rise i j d lt below = less_number_cmp (number_left (get_or all i d)) (number_left (get_or all j d)) (lower_with (get_or all i d).from (get_or all j d).from (are.lists_ascend i j d lt below))
+-- ---- sources by ranks
+
+module _ (vertices : List ModuleVersion) (lists : List (Vec ℕ)) (sources : List Source) (are : AreRanked vertices (by_step lists sources)) where
+  abbrev its_graph : GraphView
+  its_graph = record { vertices = vertices; edges = edges_of vertices (by_step lists sources) }
+
+  sources_rise : AllPairs (λ (a b : Source). nat_cmp (number_left a) (number_left b) ≡ Less) sources
+  sources_rise i j d lt below =
+      let all = by_step lists sources in
+      let count : length all ≡ length sources = length-map sources (step_edges lists) in
+      let first = get_or-map (step_edges lists) sources i d (step_edges lists d) (omega (arith, lt, below)) in
+      let second = get_or-map (step_edges lists) sources j d (step_edges lists d) below in
+      let low = lower_with vertices all are (get_or all i (step_edges lists d)).from (get_or all j (step_edges lists d)).from (are.lists_ascend i j (step_edges lists d) lt (omega (arith, below, count))) in
+      less_number_cmp (number_left (get_or sources i d)) (number_left (get_or sources j d))
+      (omega (arith, low, ap (λ (o : StepEdges). number_with o.from) first, ap (λ (o : StepEdges). number_with o.from) second))
     where
       less_number_cmp : (a b : ℕ) → a < b → nat_cmp a b ≡ Less
       less_number_cmp a b lt = cond-true (nat_lt a b) Less _ (lt-ltb a b lt)
 
-  -- A binary search found the list with that number.
-  pub list_found : (number place : ℕ) (one : Adjacency) → place < length all → one ≡ get_or all place one → nat_cmp (number_left one) number ≡ Equal → number < length (steps_of (record { vertices = vertices; edges = edges_of vertices all })) → AreLeaving (record { vertices = vertices; edges = edges_of vertices all }) number one.to.items
-  list_found number place one inside is e below = list_leaves one number (place, inside, sym is) (nat_cmp-IsAntisymmetric (number_left one) number e) below
+  -- A binary search found the source with that number.
+  pub source_found : (number place : ℕ) (one : Source) → place < length sources → one ≡ get_or sources place one → nat_cmp (number_left one) number ≡ Equal → number < length (steps_of its_graph) → AreLeaving its_graph number (list_at lists one.list)
+  source_found number place one inside is e below =
+      list_leaves vertices (by_step lists sources) are (step_edges lists one) number (in_mapped (step_edges lists) sources one (place, inside, sym is)) (nat_cmp-IsAntisymmetric (number_left one) number e) below
 
   -- It found none.
-  pub list_not_found : (number i : ℕ) → (IsNonDecreasingBy (λ (y : Adjacency). ordering_index (nat_cmp (number_left y) number)) all → IsPartitionPoint (λ (y : Adjacency). nat_cmp (number_left y) number ≡ Less) (λ (y : Adjacency). nat_cmp (number_left y) number ≡ Greater) all i)
-      → number < length (steps_of (record { vertices = vertices; edges = edges_of vertices all })) → AreLeaving (record { vertices = vertices; edges = edges_of vertices all }) number []
-  list_not_found number i says below = none_leave number
-      (λ one there is. nothing_found nat_cmp_total (λ (y : Adjacency). number_left y) all lists_rise number i says one there (ap (λ (n : ℕ). nat_cmp n number) is ∙ tied_itself nat_cmp_total number))
+  pub source_not_found : (number i : ℕ) → (IsNonDecreasingBy (λ (y : Source). ordering_index (nat_cmp (number_left y) number)) sources → IsPartitionPoint (λ (y : Source). nat_cmp (number_left y) number ≡ Less) (λ (y : Source). nat_cmp (number_left y) number ≡ Greater) sources i)
+      → number < length (steps_of its_graph) → AreLeaving its_graph number []
+  source_not_found number i says below = none_leave vertices (by_step lists sources) are number
+      (λ edges there is.
+      let (one, found, same) = from_mapped (step_edges lists) sources edges there in
+      let number_is : number_left one ≡ number = ap (λ (o : StepEdges). left_number o) same ∙ is in
+      nothing_found nat_cmp_total (λ (y : Source). number_left y) sources sources_rise number i says one found (ap (λ (n : ℕ). nat_cmp n number) number_is ∙ tied_itself nat_cmp_total number))
       below
 
 -- A binary search found no such vertex.

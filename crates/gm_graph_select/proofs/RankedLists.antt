@@ -1,4 +1,4 @@
--- Adjacency lists by ranks: they have the same edges, in ascending order.
+-- Lists and sources by ranks: they have the same edges, in ascending order.
 use Rattle.std.proofs.Common.{◌≡◌, ◌+◌, ◌<◌, ℕ, zero, suc, Bool, true, false, List, [], ◌∷◌, ◌++◌, Option, Some, None, length, map, set, take, drop, get_or, Contains, ap, ap₂, ◌∙◌, sym, refl, subst, inl, inr, arith}
 use Rattle.std.specs.Prelude.{⊤, All, AllPairs}
 use Rattle.std.specs.declared.cmp.Ordering.{Ordering}
@@ -6,6 +6,7 @@ use Rattle.std.specs.declared.cmp.Ordering.TheVariants.{Less, Equal, Greater}
 use Rattle.std.specs.Cmp.{IsTotalOrder, nat_cmp_total, on_total}
 use Rattle.std.specs.Cmp.Lexicographic.{options_total}
 use Rattle.std.specs.FinMap.{nat_cmp-IsAntisymmetric}
+use Rattle.std.specs.Global.{Vec}
 use Rattle.std.specs.List.{AllZip, IsDistinct}
 use Rattle.std.specs.List.Sorted.{IsPermutation, IsSortedByKey}
 use Rattle.std.specs.Option.{option_cmp, option_map}
@@ -15,14 +16,14 @@ use Rattle.std.proofs.lemmas.Cmp.{ranked}
 use Rattle.std.proofs.lemmas.List.{drop-drop, drop-set-lt, drop_more, get_or-map, get_or_default, length-map, take_more_set}
 use Rattle.std.proofs.lemmas.List.Elements.{All-cons, All-contains, All-head, All-nil, All-tail, AllZip-get_or, all_zip_more, Contains-append_cases, Contains-append_left, Contains-append_right, Contains-get_or, length_all_zip}
 use Rattle.std.proofs.lemmas.List.Kept.{AllPairs-cons}
-use Rattle.std.proofs.lemmas.List.Sorted.{All-permutation, Contains-permutation, IsPermutation-sym}
+use Rattle.std.proofs.lemmas.List.Sorted.{All-permutation, Contains-permutation, IsPermutation-map, IsPermutation-sym}
 use Rattle.std.proofs.lemmas.Map.Keys.{IsDistinct-IsPermutation, IsDistinct-from_apart, apart_from_distinct}
 use Rattle.gm_name.specs.ModuleVersion.{ModuleVersion, module_at, pair_cmp}
-use Rattle.gm_graph_select.specs.declared.adjacency.Adjacency.{Adjacency}
+use Rattle.gm_graph_select.specs.declared.adjacency.Source.{Source}
 use Rattle.gm_graph_select.specs.declared.step.Edge.{Edge}
 use Rattle.gm_graph_select.specs.declared.step.Step.{Step}
 use Rattle.gm_graph_select.specs.declared.step.Step.TheVariants.{Of}
-use Rattle.gm_graph_select.specs.Adjacency.{AreByRanks, HaveNumbers, AreRanked, HasRanks, IsBelow, IsNumbered, LeavesLower, edges_from, edges_of, left_by, rank_of, same_step, step_with}
+use Rattle.gm_graph_select.specs.Adjacency.{AreRanked, AreSourcesByRanks, HaveNumbers, IsBelow, IsByRanks, IsNumbered, LeavesLower, StepEdges, by_step, edges_from, edges_of, left_by, list_at, rank_of, same_step, source_by_ranks, step_edges, step_with}
 use Rattle.gm_graph_select.specs.Graph.{edge, edge_cmp, step_cmp}
 use Rattle.gm_graph_select.specs.Marking.{HasMark}
 use Rattle.gm_graph_select.specs.Order.{HaveSame, IsAscending}
@@ -43,28 +44,28 @@ from_mapped f (x ∷ xs) y (zero, below, is) = (x, (0, omega arith, refl), is)
 from_mapped f (x ∷ xs) y (suc k, below, is) = let (z, (j, under, at), e) = from_mapped f xs y (k, omega arith, is) in (z, (suc j, omega arith, at), e)
 
 -- the edge of a number
-abbrev leading : List ModuleVersion → Adjacency → ℕ → Edge
+abbrev leading : List ModuleVersion → StepEdges → ℕ → Edge
 leading vertices one number = edge (left_by vertices one) (module_at vertices number)
 
--- ---- the edges of adjacency lists
+-- ---- the edges of steps
 
-pub edges_each : (vertices : List ModuleVersion) (all : List Adjacency) (one : Adjacency) (e : Edge) → Contains all one → Contains (edges_from vertices one) e → Contains (edges_of vertices all) e
+pub edges_each : (vertices : List ModuleVersion) (all : List StepEdges) (one : StepEdges) (e : Edge) → Contains all one → Contains (edges_from vertices one) e → Contains (edges_of vertices all) e
 edges_each vertices [] one e there h = absurd (omega (arith, there.1))
-edges_each vertices (first ∷ all) one e (zero, below, is) h = Contains-append_left (edges_from vertices first) (edges_of vertices all) e (subst (λ (o : Adjacency). Contains (edges_from vertices o) e) (sym is) h)
+edges_each vertices (first ∷ all) one e (zero, below, is) h = Contains-append_left (edges_from vertices first) (edges_of vertices all) e (subst (λ (o : StepEdges). Contains (edges_from vertices o) e) (sym is) h)
 edges_each vertices (first ∷ all) one e (suc k, below, is) h = Contains-append_right (edges_from vertices first) (edges_of vertices all) e (edges_each vertices all one e (k, omega arith, is) h)
 
-pub edges_only : (vertices : List ModuleVersion) (all : List Adjacency) (e : Edge) → Contains (edges_of vertices all) e → (one : Adjacency) × Contains all one × Contains (edges_from vertices one) e
+pub edges_only : (vertices : List ModuleVersion) (all : List StepEdges) (e : Edge) → Contains (edges_of vertices all) e → (one : StepEdges) × Contains all one × Contains (edges_from vertices one) e
 edges_only vertices [] e h = absurd (omega (arith, h.1))
 edges_only vertices (first ∷ all) e h = elim (Contains-append_cases (edges_from vertices first) (edges_of vertices all) e h) [
   | inl here ↦ (first, (0, omega arith, refl), here)
   | inr later ↦ (let (one, (k, below, is), at) = edges_only vertices all e later in (one, (suc k, omega arith, is), at))
 ]
 
--- Adjacency lists in another order have the same edges.
-edges_permuted : (vertices : List ModuleVersion) (old new : List Adjacency) → IsPermutation old new → HaveSame (edges_of vertices old) (edges_of vertices new)
+-- StepEdges lists in another order have the same edges.
+edges_permuted : (vertices : List ModuleVersion) (old new : List StepEdges) → IsPermutation old new → HaveSame (edges_of vertices old) (edges_of vertices new)
 edges_permuted vertices old new same e = (along old new same, along new old (IsPermutation-sym old new same))
   where
-    along : (a b : List Adjacency) → IsPermutation a b → Contains (edges_of vertices a) e → Contains (edges_of vertices b) e
+    along : (a b : List StepEdges) → IsPermutation a b → Contains (edges_of vertices a) e → Contains (edges_of vertices b) e
     along a b is h = let (one, there, at) = edges_only vertices a e h in edges_each vertices b one e (Contains-permutation a b one is there) at
 
 same_append : {T : Type 0} (xs ys us vs : List T) → HaveSame xs ys → HaveSame us vs → HaveSame (xs ++ us) (ys ++ vs)
@@ -113,30 +114,30 @@ module _ (vertices : List ModuleVersion) (up : IsAscending pair_cmp vertices) wh
   lower_step (Some a) None within e = absurd (cc e)
   lower_step (Some a) (Some b) within e = up a b ([], []) (lower_number a b e) within
 
-  edges_ascend : (all : List Adjacency) → HaveNumbers (length vertices) all → AllPairs LeavesLower all → All (λ (one : Adjacency). IsAscending nat_cmp one.to.items) all → IsAscending edge_cmp (edges_of vertices all)
+  edges_ascend : (all : List StepEdges) → HaveNumbers (length vertices) all → AllPairs LeavesLower all → All (λ (one : StepEdges). IsAscending nat_cmp one.to) all → IsAscending edge_cmp (edges_of vertices all)
   edges_ascend [] numbered lower each = λ i j d lt below. absurd (omega (arith, below))
   edges_ascend (one ∷ all) numbered lower each =
       pairs_append (λ (a b : Edge). edge_cmp a b ≡ Less) (edges_from vertices one) (edges_of vertices all)
-      (to_ascends (left_by vertices one) one.to.items (All-head (λ (o : Adjacency). IsAscending nat_cmp o.to.items) one all each) (All-head (IsNumbered (length vertices)) one all numbered).to)
-      (edges_ascend all (All-tail (IsNumbered (length vertices)) one all numbered) (pairs_tail LeavesLower one all lower) (All-tail (λ (o : Adjacency). IsAscending nat_cmp o.to.items) one all each))
+      (to_ascends (left_by vertices one) one.to (All-head (λ (o : StepEdges). IsAscending nat_cmp o.to) one all each) (All-head (IsNumbered (length vertices)) one all numbered).to)
+      (edges_ascend all (All-tail (IsNumbered (length vertices)) one all numbered) (pairs_tail LeavesLower one all lower) (All-tail (λ (o : StepEdges). IsAscending nat_cmp o.to) one all each))
       between
     where
       between : (a b : Edge) → Contains (edges_from vertices one) a → Contains (edges_of vertices all) b → edge_cmp a b ≡ Less
       between a b h k =
-          let (n, there, is) = from_mapped (leading vertices one) one.to.items a h in
+          let (n, there, is) = from_mapped (leading vertices one) one.to a h in
           let (other, later, at) = edges_only vertices all b k in
-          let (m, found, same) = from_mapped (leading vertices other) other.to.items b at in
+          let (m, found, same) = from_mapped (leading vertices other) other.to b at in
           let numbers = All-contains (IsNumbered (length vertices)) all other (All-tail (IsNumbered (length vertices)) one all numbered) later in
           ap₂ edge_cmp (sym is) (sym same)
           ∙ ap (λ (o : Ordering). ordering_then o (pair_cmp (module_at vertices n) (module_at vertices m))) (lower_step one.from other.from numbers.from (pairs_head LeavesLower one other all lower later))
 
 -- The edges of a graph by ranks are in ascending order.
-pub ranked_edges_ascend : (vertices : List ModuleVersion) (all : List Adjacency) → AreRanked vertices all → IsAscending edge_cmp (edges_of vertices all)
+pub ranked_edges_ascend : (vertices : List ModuleVersion) (all : List StepEdges) → AreRanked vertices all → IsAscending edge_cmp (edges_of vertices all)
 ranked_edges_ascend vertices all are = edges_ascend vertices are.vertices_ascend all are.numbered are.lists_ascend are.each_ascends
 
 -- ---- sorted lists
 
-abbrev same_from : Adjacency → Adjacency → Bool
+abbrev same_from : StepEdges → StepEdges → Bool
 same_from a b = is_eq (option_cmp nat_cmp a.from b.from)
 
 later_list : (r : Ordering) → is_lt (ordering_reverse r) ≡ false → is_eq r ≡ false → r ≡ Less
@@ -147,10 +148,10 @@ later_list Greater e f = absurd (cc e)
 options : IsTotalOrder (option_cmp nat_cmp)
 options = options_total nat_cmp_total
 
-lists_order : IsTotalOrder (λ (a b : Adjacency). option_cmp nat_cmp a.from b.from)
-lists_order = on_total (λ (one : Adjacency). one.from) options
+lists_order : IsTotalOrder (λ (a b : StepEdges). option_cmp nat_cmp a.from b.from)
+lists_order = on_total (λ (one : StepEdges). one.from) options
 
-lists_ascend : (all : List Adjacency) → IsSortedByKey (λ (one : Adjacency). one.from) (option_cmp nat_cmp) all → IsDistinct same_from all → AllPairs LeavesLower all
+lists_ascend : (all : List StepEdges) → IsSortedByKey (λ (one : StepEdges). one.from) (option_cmp nat_cmp) all → IsDistinct same_from all → AllPairs LeavesLower all
 lists_ascend all sorted distinct = from_adjacent lists_order all (λ k d inside.
     let a = get_or all k d in
     let b = get_or all (k + 1) d in
@@ -163,7 +164,7 @@ eq_flips Less = refl
 eq_flips Equal = refl
 eq_flips Greater = refl
 
-from_flips : (a b : Adjacency) → same_from a b ≡ same_from b a
+from_flips : (a b : StepEdges) → same_from a b ≡ same_from b a
 from_flips a b = ap is_eq (options.antisymm a.from b.from) ∙ eq_flips (option_cmp nat_cmp b.from a.from)
 
 tie : (r : Ordering) → is_eq r ≡ true → r ≡ Equal
@@ -180,22 +181,70 @@ same_options (Some a) (Some b) e = ap Some (nat_cmp-IsAntisymmetric a b (tie (na
 -- ---- one more list with ranks
 
 -- A list that was not changed yet.
-pub same_here : (now old : List Adjacency) (i : ℕ) (d : Adjacency) → length now ≡ length old → i < length old → drop i now ≡ drop i old → get_or now i d ≡ get_or old i d
+pub same_here : (now old : List (Vec ℕ)) (i : ℕ) (d : Vec ℕ) → length now ≡ length old → i < length old → drop i now ≡ drop i old → get_or now i d ≡ get_or old i d
 same_here now old i d size inside rest =
     let first : i < length now = omega (arith, size) in
     first_is (get_or now i d) (get_or old i d) (drop (i + 1) now) (drop (i + 1) old) (sym (drop_more now i d first) ∙ rest ∙ drop_more old i d inside)
   where
-    first_is : (a b : Adjacency) (xs ys : List Adjacency) → a ∷ xs ≡ b ∷ ys → a ≡ b
+    first_is : (a b : Vec ℕ) (xs ys : List (Vec ℕ)) → a ∷ xs ≡ b ∷ ys → a ≡ b
     first_is a b xs ys e = cc
 
 -- Those after it.
-pub same_rest : (now old : List Adjacency) (i : ℕ) (new : Adjacency) → drop i now ≡ drop i old → drop (i + 1) (set now i new) ≡ drop (i + 1) old
-same_rest now old i new rest = drop-set-lt (i + 1) now i new (omega arith) ∙ sym (drop-drop 1 i now) ∙ ap (λ (all : List Adjacency). drop 1 all) rest ∙ drop-drop 1 i old
+pub same_rest : (now old : List (Vec ℕ)) (i : ℕ) (new : Vec ℕ) → drop i now ≡ drop i old → drop (i + 1) (set now i new) ≡ drop (i + 1) old
+same_rest now old i new rest = drop-set-lt (i + 1) now i new (omega arith) ∙ sym (drop-drop 1 i now) ∙ ap (λ (all : List (Vec ℕ)). drop 1 all) rest ∙ drop-drop 1 i old
 
-pub zip_step : (ranks : List ℕ) (old now : List Adjacency) (i : ℕ) (one new : Adjacency) → i < length old → i < length now → AllZip (HasRanks ranks) (take i old) (take i now) → HasRanks ranks (get_or old i one) new → AllZip (HasRanks ranks) (take (i + 1) old) (take (i + 1) (set now i new))
+pub zip_step : (ranks : List ℕ) (old now : List (Vec ℕ)) (i : ℕ) (one new : Vec ℕ) → i < length old → i < length now → AllZip (IsByRanks ranks) (take i old) (take i now) → IsByRanks ranks (get_or old i one) new → AllZip (IsByRanks ranks) (take (i + 1) old) (take (i + 1) (set now i new))
 zip_step ranks old now i one new inside within front has =
-    subst (λ (all : List Adjacency). AllZip (HasRanks ranks) (take (i + 1) old) all) (sym (take_more_set now i new within))
-    (all_zip_more (HasRanks ranks) old (take i now) i (get_or old i one) new inside (get_or_default old i one (get_or old i one) inside) front has)
+    subst (λ (all : List (Vec ℕ)). AllZip (IsByRanks ranks) (take (i + 1) old) all) (sym (take_more_set now i new within))
+    (all_zip_more (IsByRanks ranks) old (take i now) i (get_or old i one) new inside (get_or_default old i one (get_or old i one) inside) front has)
+
+-- ---- the edges of each step, from sources and lists
+
+-- The new edges have ranks in the places of the old ones' numbers, those of their ends in ascending order.
+pub record HasRanks (ranks : List ℕ) (old new : StepEdges) : Type 0 where
+  pub from : new.from ≡ option_map (rank_of ranks) old.from
+  pub ascending : IsAscending nat_cmp new.to
+  pub members : HaveSame (map (rank_of ranks) old.to) new.to
+
+-- All edges have ranks in the places of numbers, and are in ascending order of the steps that they leave.
+pub record AreByRanks (ranks : List ℕ) (old new : List StepEdges) : Type 0 where
+  pub lists : List StepEdges
+  pub each : AllZip (HasRanks ranks) old lists
+  pub permutation : IsPermutation lists new
+  pub sorted : IsSortedByKey (λ one. one.from) (option_cmp nat_cmp) new
+
+module _ (ranks : List ℕ) where
+  -- The same holds at each place, also past the end.
+  list_ranked : (olds news : List (Vec ℕ)) → AllZip (IsByRanks ranks) olds news → (place : ℕ) → IsAscending nat_cmp (list_at news place) × HaveSame (map (rank_of ranks) (list_at olds place)) (list_at news place)
+  list_ranked [] [] zip place = ((λ i j d lt below. absurd (omega (arith, below))), (λ x. ((λ h. h), (λ h. h))))
+  list_ranked [] (b ∷ news) zip place = absurd zip
+  list_ranked (a ∷ olds) [] zip place = absurd zip
+  list_ranked (a ∷ olds) (b ∷ news) (one, rest) zero = (one.ascending, one.members)
+  list_ranked (a ∷ olds) (b ∷ news) (one, rest) (suc place) = list_ranked olds news rest place
+
+  module _ (olds news : List (Vec ℕ)) (zip : AllZip (IsByRanks ranks) olds news) where
+    zip_steps : (sources : List Source) → AllZip (HasRanks ranks) (by_step olds sources) (by_step news (map (source_by_ranks ranks) sources))
+    zip_steps [] = tt
+    zip_steps (one ∷ sources) =
+        let (ascending, members) = list_ranked olds news zip one.list in
+        (record { from = refl; ascending = ascending; members = members }, zip_steps sources)
+
+    steps_sorted : (sources : List Source) → IsSortedByKey (λ (one : Source). one.from) (option_cmp nat_cmp) sources → IsSortedByKey (λ (one : StepEdges). one.from) (option_cmp nat_cmp) (by_step news sources)
+    steps_sorted sources sorted k d low high =
+        let none : Source = record { from = None; list = 0 } in
+        let count : length (by_step news sources) ≡ length sources = length-map sources (step_edges news) in
+        ap₂ (λ (a b : StepEdges). is_lt (option_cmp nat_cmp b.from a.from))
+        (get_or-map (step_edges news) sources k none d (omega (arith, count, high)))
+        (get_or-map (step_edges news) sources (k + 1) none d (omega (arith, count, high)))
+        ∙ sorted k none low (omega (arith, count, high))
+
+    pub steps_by_ranks : (old new : List Source) → AreSourcesByRanks ranks old new → AreByRanks ranks (by_step olds old) (by_step news new)
+    steps_by_ranks old new by = record {
+      lists = by_step news (map (source_by_ranks ranks) old);
+      each = zip_steps old;
+      permutation = IsPermutation-map (step_edges news) (map (source_by_ranks ranks) old) new by.permutation;
+      sorted = steps_sorted new by.sorted;
+    }
 
 -- ---- lists with ranks in the places of numbers
 
@@ -204,9 +253,9 @@ IsFromMarked marks None = ⊤
 IsFromMarked marks (Some number) = HasMark marks number
 
 -- Each number that the list names is marked.
-pub record NamesMarked (marks : List Bool) (one : Adjacency) : Type 0 where
+pub record NamesMarked (marks : List Bool) (one : StepEdges) : Type 0 where
   pub from : IsFromMarked marks one.from
-  pub to : All (HasMark marks) one.to.items
+  pub to : All (HasMark marks) one.to
 
 module _ (modules : List ModuleVersion) (marks : List Bool) (ordered : List ModuleVersion) (ranks : List ℕ) (are : AreRanks modules marks ordered ranks) where
   step_kept : (from : Option ℕ) → IsFromMarked marks from → step_with ordered (option_map (rank_of ranks) from) ≡ step_with modules from
@@ -217,38 +266,38 @@ module _ (modules : List ModuleVersion) (marks : List Bool) (ordered : List Modu
   below_kept None within = within
   below_kept (Some number) within = are.within number within
 
-  module _ (old new : Adjacency) (numbered : NamesMarked marks old) (has : HasRanks ranks old new) where
+  module _ (old new : StepEdges) (numbered : NamesMarked marks old) (has : HasRanks ranks old new) where
     left_kept : left_by ordered new ≡ left_by modules old
     left_kept = ap (λ (from : Option ℕ). step_with ordered from) has.from ∙ step_kept old.from numbered.from
 
-    edge_kept : (number : ℕ) → Contains old.to.items number → leading ordered new (rank_of ranks number) ≡ leading modules old number
-    edge_kept number held = ap₂ edge left_kept (are.same number (All-contains (HasMark marks) old.to.items number numbered.to held))
+    edge_kept : (number : ℕ) → Contains old.to number → leading ordered new (rank_of ranks number) ≡ leading modules old number
+    edge_kept number held = ap₂ edge left_kept (are.same number (All-contains (HasMark marks) old.to number numbered.to held))
 
     same_edges_from : HaveSame (edges_from modules old) (edges_from ordered new)
     same_edges_from e = (there, back)
       where
         there : Contains (edges_from modules old) e → Contains (edges_from ordered new) e
         there h =
-            let (number, held, is) = from_mapped (leading modules old) old.to.items e h in
-            let found = (has.members (rank_of ranks number)).0 (in_mapped (rank_of ranks) old.to.items number held) in
-            subst (λ (f : Edge). Contains (edges_from ordered new) f) (edge_kept number held ∙ is) (in_mapped (leading ordered new) new.to.items (rank_of ranks number) found)
+            let (number, held, is) = from_mapped (leading modules old) old.to e h in
+            let found = (has.members (rank_of ranks number)).0 (in_mapped (rank_of ranks) old.to number held) in
+            subst (λ (f : Edge). Contains (edges_from ordered new) f) (edge_kept number held ∙ is) (in_mapped (leading ordered new) new.to (rank_of ranks number) found)
 
         back : Contains (edges_from ordered new) e → Contains (edges_from modules old) e
         back h =
-            let (rank, held, is) = from_mapped (leading ordered new) new.to.items e h in
-            let (number, found, at) = from_mapped (rank_of ranks) old.to.items rank ((has.members rank).1 held) in
-            subst (λ (f : Edge). Contains (edges_from modules old) f) (sym (edge_kept number found) ∙ ap (λ (n : ℕ). leading ordered new n) at ∙ is) (in_mapped (leading modules old) old.to.items number found)
+            let (rank, held, is) = from_mapped (leading ordered new) new.to e h in
+            let (number, found, at) = from_mapped (rank_of ranks) old.to rank ((has.members rank).1 held) in
+            subst (λ (f : Edge). Contains (edges_from modules old) f) (sym (edge_kept number found) ∙ ap (λ (n : ℕ). leading ordered new n) at ∙ is) (in_mapped (leading modules old) old.to number found)
 
     numbered_kept : IsNumbered (length ordered) new
     numbered_kept = record {
       from = subst (λ (from : Option ℕ). IsBelow (length ordered) from) (sym has.from) (below_kept old.from numbered.from);
       to = λ k d below.
-          let rank = get_or new.to.items k d in
-          let (number, found, at) = from_mapped (rank_of ranks) old.to.items rank ((has.members rank).1 (Contains-get_or new.to.items k d below)) in
-          subst (λ (n : ℕ). n < length ordered) at (are.within number (All-contains (HasMark marks) old.to.items number numbered.to found));
+          let rank = get_or new.to k d in
+          let (number, found, at) = from_mapped (rank_of ranks) old.to rank ((has.members rank).1 (Contains-get_or new.to k d below)) in
+          subst (λ (n : ℕ). n < length ordered) at (are.within number (All-contains (HasMark marks) old.to number numbered.to found));
     }
 
-  all_same : (old new : List Adjacency) → All (NamesMarked marks) old → AllZip (HasRanks ranks) old new → HaveSame (edges_of modules old) (edges_of ordered new)
+  all_same : (old new : List StepEdges) → All (NamesMarked marks) old → AllZip (HasRanks ranks) old new → HaveSame (edges_of modules old) (edges_of ordered new)
   all_same [] [] numbered zip = λ e. ((λ h. h), (λ h. h))
   all_same [] (b ∷ news) numbered zip = absurd zip
   all_same (a ∷ olds) [] numbered zip = absurd zip
@@ -257,7 +306,7 @@ module _ (modules : List ModuleVersion) (marks : List Bool) (ordered : List Modu
       (same_edges_from a b (All-head (NamesMarked marks) a olds numbered) one)
       (all_same olds news (All-tail (NamesMarked marks) a olds numbered) rest)
 
-  all_numbered : (old new : List Adjacency) → All (NamesMarked marks) old → AllZip (HasRanks ranks) old new → HaveNumbers (length ordered) new
+  all_numbered : (old new : List StepEdges) → All (NamesMarked marks) old → AllZip (HasRanks ranks) old new → HaveNumbers (length ordered) new
   all_numbered [] [] numbered zip = All-nil (IsNumbered (length ordered))
   all_numbered [] (b ∷ news) numbered zip = absurd zip
   all_numbered (a ∷ olds) [] numbered zip = absurd zip
@@ -266,23 +315,23 @@ module _ (modules : List ModuleVersion) (marks : List Bool) (ordered : List Modu
       (numbered_kept a b (All-head (NamesMarked marks) a olds numbered) one)
       (all_numbered olds news (All-tail (NamesMarked marks) a olds numbered) rest)
 
-  each_ascends : (old new : List Adjacency) → AllZip (HasRanks ranks) old new → All (λ (one : Adjacency). IsAscending nat_cmp one.to.items) new
-  each_ascends [] [] zip = All-nil (λ (one : Adjacency). IsAscending nat_cmp one.to.items)
+  each_ascends : (old new : List StepEdges) → AllZip (HasRanks ranks) old new → All (λ (one : StepEdges). IsAscending nat_cmp one.to) new
+  each_ascends [] [] zip = All-nil (λ (one : StepEdges). IsAscending nat_cmp one.to)
   each_ascends [] (b ∷ news) zip = absurd zip
   each_ascends (a ∷ olds) [] zip = absurd zip
-  each_ascends (a ∷ olds) (b ∷ news) (one, rest) = All-cons (λ (one : Adjacency). IsAscending nat_cmp one.to.items) b news one.ascending (each_ascends olds news rest)
+  each_ascends (a ∷ olds) (b ∷ news) (one, rest) = All-cons (λ (one : StepEdges). IsAscending nat_cmp one.to) b news one.ascending (each_ascends olds news rest)
 
   -- Lists that leave different steps have different ranks.
-  same_left : (a b x y : Adjacency) → NamesMarked marks a → NamesMarked marks b → HasRanks ranks a x → HasRanks ranks b y → same_from x y ≡ true → same_step modules a b ≡ true
+  same_left : (a b x y : StepEdges) → NamesMarked marks a → NamesMarked marks b → HasRanks ranks a x → HasRanks ranks b y → same_from x y ≡ true → same_step modules a b ≡ true
   same_left a b x y of_a of_b to_x to_y e =
       let same : left_by modules a ≡ left_by modules b =
       sym (left_kept a x of_a to_x) ∙ ap (λ (from : Option ℕ). step_with ordered from) (same_options x.from y.from e) ∙ left_kept b y of_b to_y in
       ap (λ (s : Step). step_eq (left_by modules a) s) (sym same) ∙ step_equiv.refl (left_by modules a)
 
-  apart_kept : (old new : List Adjacency) → All (NamesMarked marks) old → AllZip (HasRanks ranks) old new → IsDistinct (same_step modules) old → IsDistinct same_from new
+  apart_kept : (old new : List StepEdges) → All (NamesMarked marks) old → AllZip (HasRanks ranks) old new → IsDistinct (same_step modules) old → IsDistinct same_from new
   apart_kept old new numbered zip distinct = IsDistinct-from_apart same_from new apart
     where
-      apart : (i j : ℕ) (d : Adjacency) → i < j → j < length new → same_from (get_or new i d) (get_or new j d) ≡ false
+      apart : (i j : ℕ) (d : StepEdges) → i < j → j < length new → same_from (get_or new i d) (get_or new j d) ≡ false
       apart i j d lt below =
           let inside : j < length old = omega (arith, below, length_all_zip (HasRanks ranks) old new zip) in
           elim (cases_Bool (same_from (get_or new i d) (get_or new j d))) [
@@ -292,7 +341,7 @@ module _ (modules : List ModuleVersion) (marks : List Bool) (ordered : List Modu
             | inr other ↦ other
           ]
 
-  module _ (old new : List Adjacency) (numbered : All (NamesMarked marks) old) (by : AreByRanks ranks old new) where
+  module _ (old new : List StepEdges) (numbered : All (NamesMarked marks) old) (by : AreByRanks ranks old new) where
     pub same_edges : HaveSame (edges_of modules old) (edges_of ordered new)
     same_edges e =
         let first = all_same old by.lists numbered by.each e in
@@ -304,5 +353,5 @@ module _ (modules : List ModuleVersion) (marks : List Bool) (ordered : List Modu
       vertices_ascend = up;
       numbered = All-permutation (IsNumbered (length ordered)) by.lists new by.permutation (all_numbered old by.lists numbered by.each);
       lists_ascend = lists_ascend new by.sorted (IsDistinct-IsPermutation same_from from_flips by.lists new by.permutation (apart_kept old by.lists numbered by.each distinct));
-      each_ascends = All-permutation (λ (one : Adjacency). IsAscending nat_cmp one.to.items) by.lists new by.permutation (each_ascends old by.lists by.each);
+      each_ascends = All-permutation (λ (one : StepEdges). IsAscending nat_cmp one.to) by.lists new by.permutation (each_ascends old by.lists by.each);
     }

@@ -1,31 +1,34 @@
--- The vertices of a graph: the modules that its adjacency lists name.
-use Rattle.std.proofs.Common.{◌≡◌, ◌⊎◌, ◌↔◌, ◌∙◌, ◌<◌, ℕ, Bool, List, Option, None, Some, Contains, get_or, length, ap, inl, inr, refl, subst, sym}
+-- The vertices of a graph: the modules that its sources and lists name.
+use Rattle.std.proofs.Common.{◌≡◌, ◌⊎◌, ◌↔◌, ◌∙◌, ◌<◌, ◌++◌, ◌∷◌, [], ℕ, zero, suc, Bool, List, Option, None, Some, Contains, get_or, length, ap, arith, inl, inr, refl, subst, sym}
 use Rattle.std.specs.Prelude.{All}
-use Rattle.std.specs.List.{IsDistinct}
-use Rattle.std.proofs.lemmas.List.Elements.{Contains-get_or}
+use Rattle.std.specs.Global.{Vec}
+use Rattle.std.specs.List.{AllZip, IsDistinct}
+use Rattle.std.specs.Option.{option_to_list}
+use Rattle.std.proofs.lemmas.List.{get_or-map, length-map}
+use Rattle.std.proofs.lemmas.List.Elements.{All-contains, Contains-append_cases, Contains-append_left, Contains-append_right, Contains-get_or}
 use Rattle.gm_name.specs.ModuleVersion.{ModuleVersion, module_at, pair_cmp}
-use Rattle.gm_graph_select.specs.declared.adjacency.Adjacency.{Adjacency}
+use Rattle.gm_graph_select.specs.declared.adjacency.Source.{Source}
 use Rattle.gm_graph_select.specs.declared.step.Edge.{Edge}
 use Rattle.gm_graph_select.specs.declared.step.Step.{Step}
 use Rattle.gm_graph_select.specs.declared.step.Step.TheVariants.{Main, Of}
-use Rattle.gm_graph_select.specs.Adjacency.{AreByRanks, AreRanked, edges_of, left_by, same_step, sources_of, step_with}
+use Rattle.gm_graph_select.specs.Adjacency.{AreRanked, AreSourcesByRanks, AreUsed, HaveNumbers, IsBelow, IsByRanks, IsNumbered, IsNumberedList, StepEdges, by_step, edges_of, left_by, list_at, same_step, sources_of, step_edges, step_with}
 use Rattle.gm_graph_select.specs.Graph.{IsEdgeEnd, among, edge}
-use Rattle.gm_graph_select.specs.Marking.{HasMark, named_by, numbers_named}
+use Rattle.gm_graph_select.specs.Marking.{HasMark, numbers_left, numbers_listed}
 use Rattle.gm_graph_select.specs.Order.{HaveSame, IsAscending}
 use Rattle.gm_graph_select.specs.Ranking.{AreRanks, IsMarkedModule}
-use Rattle.gm_graph_select.proofs.Marks.{marked_inside, named_from, named_only, names_from, names_only, names_to}
-use Rattle.gm_graph_select.proofs.RankedLists.{IsFromMarked, NamesMarked, edges_each, edges_only, from_mapped, in_mapped, lists_are_ranked, same_edges}
+use Rattle.gm_graph_select.proofs.Marks.{marked_inside, named_by, named_from, named_only, names_from, names_only, names_to, numbers_named}
+use Rattle.gm_graph_select.proofs.RankedLists.{AreByRanks, IsFromMarked, NamesMarked, edges_each, edges_only, from_mapped, in_mapped, lists_are_ranked, same_edges, steps_by_ranks}
 
-module _ (modules : List ModuleVersion) (marks : List Bool) (all : List Adjacency) (are : (number : ℕ) → HasMark marks number ↔ Contains (numbers_named all) number) where
+module _ (modules : List ModuleVersion) (marks : List Bool) (all : List StepEdges) (are : (number : ℕ) → HasMark marks number ↔ Contains (numbers_named all) number) where
   -- Each number that a list names is marked.
   all_named : All (NamesMarked marks) all
-  all_named k d below = record { from = from_of one.from refl; to = λ j e inside. marked (get_or one.to.items j e) (names_to one (get_or one.to.items j e) (Contains-get_or one.to.items j e inside)) }
+  all_named k d below = record { from = from_of one.from refl; to = λ j e inside. marked (get_or one.to j e) (names_to one (get_or one.to j e) (Contains-get_or one.to j e inside)) }
     where
-      one : Adjacency
+      one : StepEdges
       one = get_or all k d
 
       marked : (number : ℕ) → Contains (named_by one) number → HasMark marks number
-      marked number h = (are number).1 (named_from all one number (Contains-get_or all k d below) h)
+      marked number h = (are number).1 (named_from named_by all one number (Contains-get_or all k d below) h)
 
       from_of : (from : Option ℕ) → one.from ≡ from → IsFromMarked marks from
       from_of None is = tt
@@ -35,7 +38,7 @@ module _ (modules : List ModuleVersion) (marks : List Bool) (all : List Adjacenc
     -- A marked module is an end of an edge, or a list leaves it.
     end_or_source : (x : ModuleVersion) → IsMarkedModule modules marks x → IsEdgeEnd (among edges) x ⊎ Contains (sources_of modules all) (Of x)
     end_or_source x (number, below, marked, is) =
-        let (one, there, named) = named_only all number ((are number).0 marked) in
+        let (one, there, named) = named_only named_by all number ((are number).0 marked) in
         elim (names_only one number named) [
           | inl left ↦ inr (subst (λ (s : Step). Contains (sources_of modules all) s)
               (ap (λ (from : Option ℕ). step_with modules from) left ∙ ap Of is)
@@ -45,19 +48,19 @@ module _ (modules : List ModuleVersion) (marks : List Bool) (all : List Adjacenc
             (same (edge (left_by modules one) x)).0
                 (subst (λ (y : ModuleVersion). Contains (edges_of modules all) (edge (left_by modules one) y)) is
                 (edges_each modules all one (edge (left_by modules one) (module_at modules number)) there
-                (in_mapped (λ (n : ℕ). edge (left_by modules one) (module_at modules n)) one.to.items number found))),
+                (in_mapped (λ (n : ℕ). edge (left_by modules one) (module_at modules n)) one.to number found))),
           )
         ]
 
-    marked_module : length marks ≡ length modules → (x : ModuleVersion) → (one : Adjacency) → Contains all one → (number : ℕ) → Contains (named_by one) number → module_at modules number ≡ x → IsMarkedModule modules marks x
+    marked_module : length marks ≡ length modules → (x : ModuleVersion) → (one : StepEdges) → Contains all one → (number : ℕ) → Contains (named_by one) number → module_at modules number ≡ x → IsMarkedModule modules marks x
     marked_module count x one there number named is =
-        let marked : HasMark marks number = (are number).1 (named_from all one number there named) in
+        let marked : HasMark marks number = (are number).1 (named_from named_by all one number there named) in
         (number, subst (λ (n : ℕ). number < n) count (marked_inside marks number marked), marked, is)
 
     an_end : length marks ≡ length modules → (x : ModuleVersion) → IsEdgeEnd (among edges) x → IsMarkedModule modules marks x
     an_end count x (s, h) =
         let (one, there, at) = edges_only modules all (edge s x) ((same (edge s x)).1 h) in
-        let (number, found, is) = from_mapped (λ (n : ℕ). edge (left_by modules one) (module_at modules n)) one.to.items (edge s x) at in
+        let (number, found, is) = from_mapped (λ (n : ℕ). edge (left_by modules one) (module_at modules n)) one.to (edge s x) at in
         marked_module count x one there number (names_to one number found) (ap (λ (e : Edge). e.to) is)
 
     a_source : length marks ≡ length modules → (x : ModuleVersion) → Contains (sources_of modules all) (Of x) → IsMarkedModule modules marks x
@@ -68,7 +71,7 @@ module _ (modules : List ModuleVersion) (marks : List Bool) (all : List Adjacenc
         same_vertex : (y : ModuleVersion) → Of y ≡ Of x → y ≡ x
         same_vertex y e = cc
 
-        its_vertex : (one : Adjacency) → Contains all one → (from : Option ℕ) → one.from ≡ from → step_with modules one.from ≡ Of x → IsMarkedModule modules marks x
+        its_vertex : (one : StepEdges) → Contains all one → (from : Option ℕ) → one.from ≡ from → step_with modules one.from ≡ Of x → IsMarkedModule modules marks x
         its_vertex one there None is step = absurd (let main : Main ≡ Of x = sym (ap (λ (f : Option ℕ). step_with modules f) is) ∙ step in cc main)
         its_vertex one there (Some number) is step =
             marked_module count x one there number (names_from one number is)
@@ -80,42 +83,108 @@ module _ (modules : List ModuleVersion) (marks : List Bool) (all : List Adjacenc
       (λ so. elim so [ inl end ↦ an_end count x end | inr source ↦ a_source count x source ]),
     )
 
+-- ---- what sources and lists name
+
+listed_at : (lists : List (Vec ℕ)) (place number : ℕ) → Contains (list_at lists place) number → Contains (numbers_listed lists) number
+listed_at [] place number h = absurd (omega (arith, h.1))
+listed_at (first ∷ lists) zero number h = Contains-append_left first.items (numbers_listed lists) number h
+listed_at (first ∷ lists) (suc place) number h = Contains-append_right first.items (numbers_listed lists) number (listed_at lists place number h)
+
+module _ (lists : List (Vec ℕ)) (sources : List Source) where
+  -- A list that is used has the numbers that its sources lead to.
+  list_there : (place : ℕ) (d : Vec ℕ) (one : Source) → place < length lists → one.list ≡ place → list_at lists one.list ≡ (get_or lists place d).items
+  list_there place d one below is = ap (λ (n : ℕ). list_at lists n) is ∙ get_or-map (λ (list : Vec ℕ). list.items) lists place d [] below
+
+  -- If each list is used, they name what the edges of steps name.
+  steps_name : AreUsed lists sources → (number : ℕ) → Contains (numbers_left sources ++ numbers_listed lists) number ↔ Contains (numbers_named (by_step lists sources)) number
+  steps_name used number = (there, back)
+    where
+      named_by_source : (one : Source) → Contains sources one → Contains (option_to_list one.from ++ list_at lists one.list) number → Contains (numbers_named (by_step lists sources)) number
+      named_by_source one found at = named_from named_by (by_step lists sources) (step_edges lists one) number (in_mapped (step_edges lists) sources one found) at
+
+      there : Contains (numbers_left sources ++ numbers_listed lists) number → Contains (numbers_named (by_step lists sources)) number
+      there h = elim (Contains-append_cases (numbers_left sources) (numbers_listed lists) number h) [
+        | inl left ↦
+            (let (one, found, at) = named_only (λ (o : Source). option_to_list o.from) sources number left in
+            named_by_source one found (Contains-append_left (option_to_list one.from) (list_at lists one.list) number at))
+        | inr listed ↦
+            (let (list, (place, below, is), at) = named_only (λ (l : Vec ℕ). l.items) lists number listed in
+            let (one, found, same) = used place below in
+            named_by_source one found (Contains-append_right (option_to_list one.from) (list_at lists one.list) number
+            (subst (λ (ns : List ℕ). Contains ns number) (sym (list_there place list one below same ∙ ap (λ (l : Vec ℕ). l.items) is)) at)))
+      ]
+
+      back : Contains (numbers_named (by_step lists sources)) number → Contains (numbers_left sources ++ numbers_listed lists) number
+      back h =
+          let (edges, found, at) = named_only named_by (by_step lists sources) number h in
+          let (one, there_is, same) = from_mapped (step_edges lists) sources edges found in
+          elim (Contains-append_cases (option_to_list one.from) (list_at lists one.list) number (subst (λ (e : StepEdges). Contains (named_by e) number) (sym same) at)) [
+            | inl left ↦ Contains-append_left (numbers_left sources) (numbers_listed lists) number (named_from (λ (o : Source). option_to_list o.from) sources one number there_is left)
+            | inr listed ↦ Contains-append_right (numbers_left sources) (numbers_listed lists) number (listed_at lists one.list number listed)
+          ]
+
+  module _ (count : ℕ) (numbered : HaveNumbers count (by_step lists sources)) where
+    pub sources_below : All (λ (one : Source). IsBelow count one.from) sources
+    sources_below k d below =
+        let is = numbered k (step_edges lists d) (omega (arith, below, length-map sources (step_edges lists))) in
+        subst (λ (e : StepEdges). IsBelow count e.from) (get_or-map (step_edges lists) sources k d (step_edges lists d) below) is.from
+
+    pub lists_below : AreUsed lists sources → All (IsNumberedList count) lists
+    lists_below used k d below =
+        let (one, found, same) = used k below in
+        let is = All-contains (IsNumbered count) (by_step lists sources) (step_edges lists one) numbered (in_mapped (step_edges lists) sources one found) in
+        subst (λ (ns : List ℕ). All (λ n. n < count) ns) (list_there k d one below same) is.to
+
 -- ---- a graph that was made
 
--- The vertices are the modules that the old lists name, and the new lists have their edges.
-pub record IsGraphOf (modules : List ModuleVersion) (old : List Adjacency) (vertices : List ModuleVersion) (new : List Adjacency) : Type 0 where
+-- The vertices are the modules that the old edges name, and the new ones are the same edges.
+pub record IsGraphOf (modules : List ModuleVersion) (old : List StepEdges) (vertices : List ModuleVersion) (new : List StepEdges) : Type 0 where
   pub ranked : AreRanked vertices new
   pub vertices_are : (x : ModuleVersion) → Contains vertices x ↔ (IsEdgeEnd (among (edges_of vertices new)) x ⊎ Contains (sources_of modules old) (Of x))
   pub edges_are : HaveSame (edges_of modules old) (edges_of vertices new)
 
--- `all`, `is_vertex` and `places` are what the calls were given: the lists, the marks and the ranks.
-pub is_graph_of : (modules : List ModuleVersion) (marks is_vertex : List Bool) (vertices : List ModuleVersion) (ranks places : List ℕ) (old all new : List Adjacency) → all ≡ old → is_vertex ≡ marks → places ≡ ranks
-    → length marks ≡ length modules → ((number : ℕ) → HasMark marks number ↔ Contains (numbers_named all) number)
-    → ((x : ModuleVersion) → Contains vertices x ↔ IsMarkedModule modules is_vertex x) → IsAscending pair_cmp vertices → AreRanks modules is_vertex vertices ranks
-    → AreByRanks places old new → IsDistinct (same_step modules) old → IsGraphOf modules old vertices new
-is_graph_of modules marks is_vertex vertices ranks places old all new lists_is marks_is ranks_is count are contains up are_ranks are_by once = record {
+from_steps : (modules : List ModuleVersion) (marks : List Bool) (vertices : List ModuleVersion) (ranks : List ℕ) (old new : List StepEdges)
+    → length marks ≡ length modules → ((number : ℕ) → HasMark marks number ↔ Contains (numbers_named old) number)
+    → ((x : ModuleVersion) → Contains vertices x ↔ IsMarkedModule modules marks x) → IsAscending pair_cmp vertices → AreRanks modules marks vertices ranks
+    → AreByRanks ranks old new → IsDistinct (same_step modules) old → IsGraphOf modules old vertices new
+from_steps modules marks vertices ranks old new count are contains up ranked by once = record {
   ranked = lists_are_ranked modules marks vertices ranks ranked old new named by up once;
   vertices_are = λ x.
-      let marked = contains_marked x in
-      let ends = vertices_named modules marks old named_are (edges_of vertices new) same count x in
-      ((λ h. ends.0 (marked.0 h)), (λ h. marked.1 (ends.1 h)));
+      let ends = vertices_named modules marks old are (edges_of vertices new) same count x in
+      ((λ h. ends.0 ((contains x).0 h)), (λ h. (contains x).1 (ends.1 h)));
   edges_are = same;
 }
   where
-    named_are : (number : ℕ) → HasMark marks number ↔ Contains (numbers_named old) number
-    named_are = subst (λ (xs : List Adjacency). (number : ℕ) → HasMark marks number ↔ Contains (numbers_named xs) number) lists_is are
-
-    contains_marked : (x : ModuleVersion) → Contains vertices x ↔ IsMarkedModule modules marks x
-    contains_marked = subst (λ (bs : List Bool). (x : ModuleVersion) → Contains vertices x ↔ IsMarkedModule modules bs x) marks_is contains
-
-    ranked : AreRanks modules marks vertices ranks
-    ranked = subst (λ (bs : List Bool). AreRanks modules bs vertices ranks) marks_is are_ranks
-
-    by : AreByRanks ranks old new
-    by = subst (λ (ns : List ℕ). AreByRanks ns old new) ranks_is are_by
-
     named : All (NamesMarked marks) old
-    named = all_named modules marks old named_are
+    named = all_named modules marks old are
 
     same : HaveSame (edges_of modules old) (edges_of vertices new)
     same = same_edges modules marks vertices ranks ranked old new named by
+
+-- `lists`, `sources`, `is_vertex` and `places` are what the calls were given: the lists, the sources, the marks and the
+-- ranks.
+pub is_graph_of : (modules : List ModuleVersion) (marks is_vertex : List Bool) (vertices : List ModuleVersion) (ranks places others : List ℕ) (old_lists lists new_lists : List (Vec ℕ)) (old_sources sources new_sources : List Source)
+    → lists ≡ old_lists → sources ≡ old_sources → is_vertex ≡ marks → places ≡ ranks → others ≡ ranks → AreUsed old_lists old_sources
+    → length marks ≡ length modules → ((number : ℕ) → HasMark marks number ↔ Contains (numbers_left sources ++ numbers_listed lists) number)
+    → ((x : ModuleVersion) → Contains vertices x ↔ IsMarkedModule modules is_vertex x) → IsAscending pair_cmp vertices → AreRanks modules is_vertex vertices ranks
+    → AllZip (IsByRanks places) old_lists new_lists → AreSourcesByRanks others old_sources new_sources → IsDistinct (same_step modules) (by_step old_lists old_sources)
+    → IsGraphOf modules (by_step old_lists old_sources) vertices (by_step new_lists new_sources)
+is_graph_of modules marks is_vertex vertices ranks places others old_lists lists new_lists old_sources sources new_sources lists_are sources_are marks_are places_are others_are used count are contains up ranked zip by once =
+    from_steps modules marks vertices ranks (by_step old_lists old_sources) (by_step new_lists new_sources) count named
+    (subst (λ (bs : List Bool). (x : ModuleVersion) → Contains vertices x ↔ IsMarkedModule modules bs x) marks_are contains)
+    up
+    (subst (λ (bs : List Bool). AreRanks modules bs vertices ranks) marks_are ranked)
+    (steps_by_ranks ranks old_lists new_lists
+    (subst (λ (ns : List ℕ). AllZip (IsByRanks ns) old_lists new_lists) places_are zip) old_sources new_sources
+    (subst (λ (ns : List ℕ). AreSourcesByRanks ns old_sources new_sources) others_are by))
+    once
+  where
+    given : (number : ℕ) → HasMark marks number ↔ Contains (numbers_left old_sources ++ numbers_listed old_lists) number
+    given = subst (λ (ss : List Source). (number : ℕ) → HasMark marks number ↔ Contains (numbers_left ss ++ numbers_listed old_lists) number) sources_are
+        (subst (λ (ls : List (Vec ℕ)). (number : ℕ) → HasMark marks number ↔ Contains (numbers_left sources ++ numbers_listed ls) number) lists_are are)
+
+    named : (number : ℕ) → HasMark marks number ↔ Contains (numbers_named (by_step old_lists old_sources)) number
+    named number =
+        let first = given number in
+        let second = steps_name old_lists old_sources used number in
+        ((λ h. second.0 (first.0 h)), (λ h. first.1 (second.1 h)))

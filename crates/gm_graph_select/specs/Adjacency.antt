@@ -1,12 +1,12 @@
 -- Edges by numbers. The number of a vertex is its place in a list of vertices.
-use Rattle.std.specs.Prelude.{◌≡◌, ◌<◌, ◌++◌, ⊤, ℕ, Bool, All, AllPairs, List, [], ◌∷◌, Option, None, Some, length, map, slice_index_or}
-use Rattle.std.specs.List.{AllZip}
+use Rattle.std.specs.Prelude.{◌≡◌, ◌<◌, ◌++◌, ⊤, ℕ, Bool, All, AllPairs, Contains, List, [], ◌∷◌, Option, None, Some, length, map, slice_index_or}
+use Rattle.std.specs.Global.{Vec}
 use Rattle.std.specs.List.Sorted.{IsPermutation, IsSortedByKey}
 use Rattle.std.specs.Option.{option_cmp, option_map}
 use Rattle.std.specs.Ordering.{nat_cmp}
 use Rattle.std.specs.declared.cmp.Ordering.TheVariants.{Less}
 use Rattle.gm_name.specs.ModuleVersion.{ModuleVersion, module_at, pair_cmp}
-use Rattle.gm_graph_select.specs.declared.adjacency.Adjacency.{Adjacency}
+use Rattle.gm_graph_select.specs.declared.adjacency.Source.{Source}
 use Rattle.gm_graph_select.specs.declared.step.Edge.{Edge}
 use Rattle.gm_graph_select.specs.declared.step.Step.{Step}
 use Rattle.gm_graph_select.specs.declared.step.Step.TheVariants.{Main, Of}
@@ -14,30 +14,51 @@ use Rattle.gm_graph_select.specs.Graph.{edge}
 use Rattle.gm_graph_select.specs.Order.{HaveSame, IsAscending}
 use Rattle.gm_graph_select.specs.StepOrder.{step_eq}
 
+-- the edges that leave one step, by the numbers of the vertices that they lead to
+pub record StepEdges : Type 0 where
+  pub from : Option ℕ
+  pub to : List ℕ
+
+-- the list at a place: there is nothing at a place past the end
+abbrev pub list_at : List (Vec ℕ) → ℕ → List ℕ
+list_at lists place = slice_index_or (map (λ list. list.items) lists) place []
+
+-- the edges that leave the step of a source
+abbrev pub step_edges : List (Vec ℕ) → Source → StepEdges
+step_edges lists one = record { from = one.from; to = list_at lists one.list }
+
+-- the edges that leave the step of each source
+abbrev pub by_step : List (Vec ℕ) → List Source → List StepEdges
+by_step lists sources = map (step_edges lists) sources
+
+-- Each list is that of a source.
+abbrev pub AreUsed : List (Vec ℕ) → List Source → Type 0
+AreUsed lists sources = (place : ℕ) → place < length lists → (one : Source) × Contains sources one × (one.list ≡ place)
+
 -- the step with a number: the main module has none
 abbrev pub step_with : List ModuleVersion → Option ℕ → Step
 step_with vertices None = Main
 step_with vertices (Some number) = Of (module_at vertices number)
 
--- the step that an adjacency list leaves
-abbrev pub left_by : List ModuleVersion → Adjacency → Step
+-- the step that edges leave
+abbrev pub left_by : List ModuleVersion → StepEdges → Step
 left_by vertices one = step_with vertices one.from
 
--- the steps that adjacency lists leave
-abbrev pub sources_of : List ModuleVersion → List Adjacency → List Step
+-- the steps that edges leave
+abbrev pub sources_of : List ModuleVersion → List StepEdges → List Step
 sources_of vertices all = map (left_by vertices) all
 
--- the edges of an adjacency list
-abbrev pub edges_from : List ModuleVersion → Adjacency → List Edge
-edges_from vertices one = map (λ number. edge (left_by vertices one) (module_at vertices number)) one.to.items
+-- the edges that leave one step
+abbrev pub edges_from : List ModuleVersion → StepEdges → List Edge
+edges_from vertices one = map (λ number. edge (left_by vertices one) (module_at vertices number)) one.to
 
--- the edges of all adjacency lists
-abbrev pub edges_of : List ModuleVersion → List Adjacency → List Edge
+-- the edges that leave any of these steps
+abbrev pub edges_of : List ModuleVersion → List StepEdges → List Edge
 edges_of vertices [] = []
 edges_of vertices (one ∷ all) = edges_from vertices one ++ edges_of vertices all
 
--- Whether two adjacency lists leave the same step.
-abbrev pub same_step : List ModuleVersion → Adjacency → Adjacency → Bool
+-- Whether edges leave the same step.
+abbrev pub same_step : List ModuleVersion → StepEdges → StepEdges → Bool
 same_step vertices a b = step_eq (left_by vertices a) (left_by vertices b)
 
 -- A number, if there is one, is below this count.
@@ -46,11 +67,11 @@ IsBelow count None = ⊤
 IsBelow count (Some number) = number < count
 
 -- Each number is that of one of so many vertices.
-pub record IsNumbered (count : ℕ) (one : Adjacency) : Type 0 where
+pub record IsNumbered (count : ℕ) (one : StepEdges) : Type 0 where
   pub from : IsBelow count one.from
-  pub to : All (λ number. number < count) one.to.items
+  pub to : All (λ number. number < count) one.to
 
-abbrev pub HaveNumbers : ℕ → List Adjacency → Type 0
+abbrev pub HaveNumbers : ℕ → List StepEdges → Type 0
 HaveNumbers count all = All (IsNumbered count) all
 
 -- ---- ranks
@@ -59,30 +80,35 @@ HaveNumbers count all = All (IsNumbered count) all
 abbrev pub rank_of : List ℕ → ℕ → ℕ
 rank_of ranks number = slice_index_or ranks number 0
 
--- The new list has ranks in the places of the old one's numbers, those of its vertices in ascending order.
-pub record HasRanks (ranks : List ℕ) (old new : Adjacency) : Type 0 where
-  pub from : new.from ≡ option_map (rank_of ranks) old.from
-  pub ascending : IsAscending nat_cmp new.to.items
-  pub members : HaveSame (map (rank_of ranks) old.to.items) new.to.items
+-- Each number of a list is that of one of so many vertices.
+abbrev pub IsNumberedList : ℕ → Vec ℕ → Type 0
+IsNumberedList count list = All (λ number. number < count) list.items
 
--- The new lists have ranks in the places of the old ones' numbers, and are in ascending order of what they leave.
-pub record AreByRanks (ranks : List ℕ) (old new : List Adjacency) : Type 0 where
-  pub lists : List Adjacency
-  pub each : AllZip (HasRanks ranks) old lists
-  pub permutation : IsPermutation lists new
+-- The new list has ranks in the places of the old one's numbers, in ascending order.
+pub record IsByRanks (ranks : List ℕ) (old new : Vec ℕ) : Type 0 where
+  pub ascending : IsAscending nat_cmp new.items
+  pub members : HaveSame (map (rank_of ranks) old.items) new.items
+
+-- the source, with the rank of its step in the place of the number
+abbrev pub source_by_ranks : List ℕ → Source → Source
+source_by_ranks ranks one = record { from = option_map (rank_of ranks) one.from; list = one.list }
+
+-- The new sources have ranks in the places of the old ones' numbers, and are in ascending order of these.
+pub record AreSourcesByRanks (ranks : List ℕ) (old new : List Source) : Type 0 where
+  pub permutation : IsPermutation (map (source_by_ranks ranks) old) new
   pub sorted : IsSortedByKey (λ one. one.from) (option_cmp nat_cmp) new
 
--- A list leaves a lower step than another, if numbers are ranks: the main module comes first.
-abbrev pub LeavesLower : Adjacency → Adjacency → Type 0
+-- Edges leave a lower step than others, if numbers are ranks: the main module comes first.
+abbrev pub LeavesLower : StepEdges → StepEdges → Type 0
 LeavesLower a b = option_cmp nat_cmp a.from b.from ≡ Less
 
--- The vertices are in strictly ascending order, and so are the steps that the lists leave and the vertices that each
--- list leads to: numbers are ranks.
-pub record AreRanked (vertices : List ModuleVersion) (all : List Adjacency) : Type 0 where
+-- The vertices are in strictly ascending order, and so are the steps that edges leave and the vertices that those of
+-- each step lead to: numbers are ranks.
+pub record AreRanked (vertices : List ModuleVersion) (all : List StepEdges) : Type 0 where
   pub vertices_ascend : IsAscending pair_cmp vertices
   pub numbered : HaveNumbers (length vertices) all
   pub lists_ascend : AllPairs LeavesLower all
-  pub each_ascends : All (λ one. IsAscending nat_cmp one.to.items) all
+  pub each_ascends : All (λ one. IsAscending nat_cmp one.to) all
 
 -- a module graph, as contracts see it: its vertices, and its edges in strictly ascending order
 pub record GraphView : Type 0 where

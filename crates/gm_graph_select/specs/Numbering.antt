@@ -1,7 +1,7 @@
 -- Numbers for the steps of a module graph: 0 for the main module, and for each vertex one more than its rank.
 use Rattle.std.specs.Prelude.{◌<◌, ◌+◌, ℕ, All, Contains, List, ◌∷◌, Option, None, Some, length, map, slice_index_or}
 use Rattle.gm_name.specs.ModuleVersion.{ModuleVersion, module_at, pair_cmp}
-use Rattle.gm_graph_select.specs.declared.adjacency.Adjacency.{Adjacency}
+use Rattle.gm_graph_select.specs.declared.adjacency.Source.{Source}
 use Rattle.gm_graph_select.specs.declared.step.Edge.{Edge}
 use Rattle.gm_graph_select.specs.declared.step.Step.{Step}
 use Rattle.gm_graph_select.specs.declared.step.Step.TheVariants.{Main, Of}
@@ -30,8 +30,8 @@ abbrev pub number_with : Option ℕ → ℕ
 number_with None = 0
 number_with (Some rank) = rank + 1
 
--- the number of the step that an adjacency list leaves
-abbrev pub number_left : Adjacency → ℕ
+-- the number of the step that is a source
+abbrev pub number_left : Source → ℕ
 number_left one = number_with one.from
 
 -- the edge from the step with a number to the vertex with a rank

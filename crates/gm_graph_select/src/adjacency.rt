@@ -1,22 +1,33 @@
 //! Adjacency lists: edges by the numbers of the vertices, grouped by the step that they leave.
 //!
 //! A vertex may be as long as a file. While a graph is made a vertex is its number, which takes four bytes, and is
-//! compared at once.
+//! compared at once. Steps with the same requirements share a list of these, so that it is held and sorted once.
 
 ghost use Rattle.std.specs.Prelude.{◌≡◌, ◌<◌, All, length, map};
 ghost use Rattle.std.specs.List.{AllZip};
 ghost use Rattle.std.specs.Option.{option_map};
-ghost use Rattle.gm_graph_select.specs.Adjacency.{AreByRanks, HaveNumbers, HasRanks, IsBelow, IsNumbered, rank_of};
+ghost use Rattle.gm_graph_select.specs.Adjacency.{AreSourcesByRanks, IsBelow, IsByRanks, IsNumberedList, list_at, rank_of, source_by_ranks};
 
 use crate::sorting::put_in_order;
 
-/// The edges that leave one step, as an adjacency list. The number of a vertex is its place in a list of vertices.
-#[derive(Drop)]
-pub struct Adjacency {
+/// A step that edges leave, and where the vertices are that they lead to. The number of a vertex is its place in a list
+/// of vertices.
+#[derive(Clone, Copy, Debug, Drop, PartialEq, Eq)]
+pub struct Source {
     /// The number of the vertex that the edges leave, or `None` for the main module.
     pub from: Option<u32>,
-    /// The numbers of the vertices that they lead to.
-    pub to: Vec<u32>,
+    /// The place of the list of the vertices that they lead to, among lists of numbers. Sources may share a list.
+    pub list: usize,
+}
+
+/// The list at a place. There is nothing at a place past the end.
+pub(crate) fn list_at(lists: &[Vec<u32>], place: usize) -> &[u32]
+    ensures { result.now ≡ list_at lists.now place }
+{
+    match lists.get(place) {
+        None => &[],
+        Some(list) => list,
+    }
 }
 
 /// The rank at this number, if it is one.
@@ -40,35 +51,51 @@ fn put_ranks(numbers: &mut [u32], ranks: &[u32])
     }
 }
 
-impl Adjacency {
-    /// Puts ranks in the places of numbers, and the vertices that the edges lead to in ascending order, each once. It
-    /// takes no memory. For n numbers it takes n log n comparisons, or only n if the ranks come in ascending order.
-    fn rank(&mut self, ranks: &[u32])
-        requires { IsNumbered (length ranks.now) self.old }
-        ensures { HasRanks ranks.now self.old self.new }
-    {
-        self.from = rank_of(self.from, ranks);
-        put_ranks(&mut self.to, ranks);
-        put_in_order(&mut self.to);
+/// Puts ranks in the places of a list's numbers, in ascending order, each once. It takes no memory. For n numbers it
+/// takes n log n comparisons, or only n if the ranks come in ascending order.
+fn rank_list(list: &mut Vec<u32>, ranks: &[u32])
+    requires { IsNumberedList (length ranks.now) list.old }
+    ensures { IsByRanks ranks.now list.old list.new }
+{
+    put_ranks(list, ranks);
+    put_in_order(list);
+}
+
+/// Puts ranks in the places of the numbers of all lists.
+fn rank_each(lists: &mut [Vec<u32>], ranks: &[u32])
+    requires { All (IsNumberedList (length ranks.now)) lists.old }
+    ensures { AllZip (IsByRanks ranks.now) lists.old lists.new }
+{
+    for list in lists.iter_mut() {
+        rank_list(list, ranks);
     }
 }
 
-/// Puts ranks in the places of the numbers of all adjacency lists.
-fn rank_each(all: &mut [Adjacency], ranks: &[u32])
-    requires { HaveNumbers (length ranks.now) all.old }
-    ensures { AllZip (HasRanks ranks.now) all.old all.new }
+/// These lists by ranks, each in ascending order.
+pub(crate) fn lists_by_ranks(mut lists: Vec<Vec<u32>>, ranks: &[u32]) -> Vec<Vec<u32>>
+    requires { All (IsNumberedList (length ranks.now)) lists.items }
+    ensures { AllZip (IsByRanks ranks.now) lists.items result.items }
 {
-    for one in all.iter_mut() {
-        one.rank(ranks);
+    rank_each(&mut lists, ranks);
+    lists
+}
+
+/// Puts ranks in the places of the numbers of the steps that sources are.
+fn rank_sources(sources: &mut [Source], ranks: &[u32])
+    requires { All (λ one. IsBelow (length ranks.now) one.from) sources.old }
+    ensures { sources.new ≡ map (source_by_ranks ranks.now) sources.old }
+{
+    for one in sources.iter_mut() {
+        one.from = rank_of(one.from, ranks);
     }
 }
 
-/// These adjacency lists by ranks, in ascending order of the steps that they leave.
-pub(crate) fn by_ranks(mut all: Vec<Adjacency>, ranks: &[u32]) -> Vec<Adjacency>
-    requires { HaveNumbers (length ranks.now) all.items }
-    ensures { AreByRanks ranks.now all.items result.items }
+/// These sources by ranks, in ascending order.
+pub(crate) fn sources_by_ranks(mut sources: Vec<Source>, ranks: &[u32]) -> Vec<Source>
+    requires { All (λ one. IsBelow (length ranks.now) one.from) sources.items }
+    ensures { AreSourcesByRanks ranks.now sources.items result.items }
 {
-    rank_each(&mut all, ranks);
-    all.sort_unstable_by_key(|one| one.from);
-    all
+    rank_sources(&mut sources, ranks);
+    sources.sort_unstable_by_key(|one| one.from);
+    sources
 }

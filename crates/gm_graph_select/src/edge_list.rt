@@ -1,60 +1,68 @@
-//! The edges of adjacency lists, one after the other, without a copy of any module.
+//! The edges that leave sources, one after the other, without a copy of any module.
 
 ghost use Rattle.std.specs.Prelude.{◌≡◌, ◌∷◌, [], IfNone, IfOk, IfSome, length};
 ghost use Rattle.std.specs.Iterator.{YieldsFirst, YieldsFirstBy, item_count};
-ghost use Rattle.gm_graph_select.specs.Adjacency.{HaveNumbers, IsBelow, edges_of, step_with};
+ghost use Rattle.gm_graph_select.specs.Adjacency.{HaveNumbers, IsBelow, by_step, edges_of, step_with};
 ghost use Rattle.gm_graph_select.specs.EdgeList.{edge_of_ref, numbered_edges, step_of_ref};
 
-use crate::adjacency::Adjacency;
+use crate::adjacency::{Source, list_at};
 use crate::step::{Edge, Step};
 use gm_name::ModVer;
 use std::alloc::{AllocError, Global};
 use std::marker::Model;
 
-/// The edges of adjacency lists, each as the numbers of its ends. A clause sees those that are still to come.
+/// The edges that leave sources, each as the numbers of its ends. A clause sees those that are still to come.
 #[derive(Drop)]
 pub(crate) struct Pairs<'a> {
     /// The number of the vertex that the next edges leave, or `None` for the main module.
     from: Option<u32>,
     /// The numbers of the vertices that these edges lead to.
     to: &'a [u32],
-    /// The adjacency lists of the edges after them.
-    rest: &'a [Adjacency],
+    /// The sources of the edges after them.
+    sources: &'a [Source],
+    /// The lists of the sources.
+    lists: &'a [Vec<u32>],
 }
 
 impl<'a> Model for Pairs<'a> {
     ghost use Rattle.std.specs.Prelude.{◌++◌, List};
+    ghost use Rattle.gm_graph_select.specs.Adjacency.{by_step};
     ghost use Rattle.gm_graph_select.specs.EdgeList.{NumberedEdge, numbered_from, numbered_edges};
 
     ghost Value = { List NumberedEdge };
 
-    ghost view = { λ p. numbered_from p.from p.to.now ++ numbered_edges p.rest.now };
+    ghost view = { λ p. numbered_from p.from p.to.now ++ numbered_edges (by_step p.lists.now p.sources.now) };
 }
 
 impl<'a> Pairs<'a> {
-    /// The edges of all adjacency lists.
-    fn all(lists: &'a [Adjacency]) -> Pairs<'a>
-        ensures { result ≡ numbered_edges lists.now }
+    /// The edges that leave all sources.
+    fn all(lists: &'a [Vec<u32>], sources: &'a [Source]) -> Pairs<'a>
+        ensures { result ≡ numbered_edges (by_step lists.now sources.now) }
     {
         Pairs {
             from: None,
             to: &[],
-            rest: lists,
+            sources,
+            lists,
         }
     }
 }
 
-/// The first edge of adjacency lists, and those after it.
-fn first_of(lists: &[Adjacency]) -> Option<((Option<u32>, u32), Pairs<'_>)>
-    ensures some { IfSome result (λ found. numbered_edges lists.now ≡ found.0 ∷ found.1) }
-    ensures none { IfNone result (numbered_edges lists.now ≡ []) }
+/// The first edge that leaves one of these sources, and those after it.
+fn first_of<'a>(
+    lists: &'a [Vec<u32>],
+    sources: &'a [Source],
+) -> Option<((Option<u32>, u32), Pairs<'a>)>
+    ensures some { IfSome result (λ found. numbered_edges (by_step lists.now sources.now) ≡ found.0 ∷ found.1) }
+    ensures none { IfNone result (numbered_edges (by_step lists.now sources.now) ≡ []) }
 {
-    for (place, one) in lists.iter().enumerate() {
-        if let Some((number, to)) = one.to.split_first() {
+    for (place, one) in sources.iter().enumerate() {
+        if let Some((number, to)) = list_at(lists, one.list).split_first() {
             let rest = Pairs {
                 from: one.from,
                 to,
-                rest: &lists[place + 1..],
+                sources: &sources[place + 1..],
+                lists,
             };
             return Some(((one.from, *number), rest));
         }
@@ -76,7 +84,7 @@ impl<'a> Iterator for Pairs<'a> {
             self.to = to;
             return Some((self.from, *number));
         }
-        let (pair, rest) = first_of(self.rest)?;
+        let (pair, rest) = first_of(self.lists, self.sources)?;
         *self = rest;
         Some(pair)
     }
@@ -157,14 +165,18 @@ impl<'a> Iterator for Edges<'a> {
 }
 
 impl<'a> Edges<'a> {
-    /// The edges of all adjacency lists, by the numbers of these vertices.
-    pub(crate) fn all(vertices: &'a [ModVer], lists: &'a [Adjacency]) -> Edges<'a>
-        requires { HaveNumbers (length vertices.now) lists.now }
-        ensures { result ≡ edges_of vertices.now lists.now }
+    /// The edges that leave all sources, by the numbers of these vertices.
+    pub(crate) fn all(
+        vertices: &'a [ModVer],
+        lists: &'a [Vec<u32>],
+        sources: &'a [Source],
+    ) -> Edges<'a>
+        requires { HaveNumbers (length vertices.now) (by_step lists.now sources.now) }
+        ensures { result ≡ edges_of vertices.now (by_step lists.now sources.now) }
     {
         Edges {
             vertices,
-            pairs: Pairs::all(lists),
+            pairs: Pairs::all(lists, sources),
         }
     }
 }

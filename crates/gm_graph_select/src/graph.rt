@@ -6,14 +6,14 @@
 ghost use Rattle.std.specs.Prelude.{◌≡◌, ◌↔◌, ◌⊎◌, ◌≤◌, Contains, IfOk, List, length};
 ghost use Rattle.std.specs.List.{IsDistinct};
 ghost use Rattle.gm_name.specs.ModuleVersion.{ModuleVersion, pair_eq};
-ghost use Rattle.gm_graph_select.specs.Adjacency.{HaveNumbers, edges_of, same_step, sources_of};
+ghost use Rattle.gm_graph_select.specs.Adjacency.{AreUsed, HaveNumbers, by_step, edges_of, same_step, sources_of};
 ghost use Rattle.gm_graph_select.specs.declared.step.Edge.{Edge};
 ghost use Rattle.gm_graph_select.specs.declared.step.Step.TheVariants.{Of};
 ghost use Rattle.gm_graph_select.specs.BuildList.{AreSelected};
 ghost use Rattle.gm_graph_select.specs.Graph.{AreEnds, IsEdgeEnd, among, edge_cmp};
 ghost use Rattle.gm_graph_select.specs.Order.{HaveSame, IsAscending};
 
-use crate::adjacency::{Adjacency, by_ranks};
+use crate::adjacency::{Source, lists_by_ranks, sources_by_ranks};
 use crate::edge_list::Edges;
 use crate::marking::marks_of;
 use crate::ranking::ranked;
@@ -27,47 +27,59 @@ use std::marker::Model;
 pub struct Graph {
     /// The vertices, in strictly ascending order.
     pub(crate) vertices: Vec<ModVer>,
-    /// The edges, by the ranks of the vertices, in adjacency lists in ascending order of the steps that they leave.
-    pub(crate) adjacency: Vec<Adjacency>,
+    /// Lists of the ranks of vertices, each in strictly ascending order.
+    pub(crate) lists: Vec<Vec<u32>>,
+    /// For each step that edges leave, by its rank, the list of the vertices that they lead to. The steps ascend.
+    pub(crate) sources: Vec<Source>,
 }
 
 impl Model for Graph {
-    ghost use Rattle.gm_graph_select.specs.Adjacency.{GraphView, AreRanked, edges_of};
+    ghost use Rattle.gm_graph_select.specs.Adjacency.{GraphView, AreRanked, by_step, edges_of};
 
     ghost Value = { GraphView };
 
-    ghost view = { λ g. record { vertices = g.vertices.items; edges = edges_of g.vertices.items g.adjacency.items } };
+    ghost view = { λ g. record {
+      vertices = g.vertices.items;
+      edges = edges_of g.vertices.items (by_step g.lists.items g.sources.items);
+    } };
 
-    ghost invariant = { λ g. AreRanked g.vertices.items g.adjacency.items };
+    ghost invariant = { λ g. AreRanked g.vertices.items (by_step g.lists.items g.sources.items) };
 }
 
 impl Graph {
-    /// The graph of these edges by the numbers of modules, with at most one adjacency list for each step. An adjacency
-    /// list may have its numbers in any order, and twice. The modules are distinct; those that no edge leads to and no
-    /// adjacency list leaves are left out.
+    /// The graph of these edges by the numbers of modules. At most one source is each step, and each list is that of a
+    /// source; several may share a list. A list may have its numbers in any order, and twice. The modules are distinct;
+    /// those that no edge leads to and that are no sources are left out.
     ///
-    /// The only refusal is `NoMemory`. For n vertices and m edges it takes n log n comparisons of vertices, and of
-    /// numbers m log m at most. Time and memory are also in proportion to the modules.
+    /// The only refusal is `NoMemory`. For n vertices and lists of m numbers in all it takes n log n comparisons of
+    /// vertices, and of numbers m log m at most, however many edges there are. Time and memory are also in proportion to
+    /// the modules.
     pub fn new(
         alloc: Global,
         modules: Vec<ModVer>,
-        adjacency: Vec<Adjacency>,
+        lists: Vec<Vec<u32>>,
+        sources: Vec<Source>,
     ) -> Result<Graph, NoMemory>
         requires few { length modules.items ≤ 4294967295 }
         requires distinct { IsDistinct pair_eq modules.items }
-        requires numbered { HaveNumbers (length modules.items) adjacency.items }
-        requires once { IsDistinct (same_step modules.items) adjacency.items }
+        requires numbered { HaveNumbers (length modules.items) (by_step lists.items sources.items) }
+        requires once { IsDistinct (same_step modules.items) (by_step lists.items sources.items) }
+        requires used { AreUsed lists.items sources.items }
         ensures vertices { IfOk result (λ graph. (x : ModuleVersion) → Contains graph.vertices x
-            ↔ (IsEdgeEnd (among graph.edges) x ⊎ Contains (sources_of modules.items adjacency.items) (Of x))) }
-        ensures edges { IfOk result (λ graph. HaveSame (edges_of modules.items adjacency.items) graph.edges) }
+            ↔ (IsEdgeEnd (among graph.edges) x
+            ⊎ Contains (sources_of modules.items (by_step lists.items sources.items)) (Of x))) }
+        ensures edges { IfOk result (λ graph.
+            HaveSame (edges_of modules.items (by_step lists.items sources.items)) graph.edges) }
         ensures ascending { IfOk result (λ graph. IsAscending edge_cmp graph.edges) }
     {
-        let is_vertex = marks_of(alloc, modules.len(), &adjacency)?;
+        let is_vertex = marks_of(alloc, modules.len(), &lists, &sources)?;
         let ranking = ranked(alloc, modules, &is_vertex)?;
-        let adjacency = by_ranks(adjacency, &ranking.ranks);
+        let lists = lists_by_ranks(lists, &ranking.ranks);
+        let sources = sources_by_ranks(sources, &ranking.ranks);
         Ok(Graph {
             vertices: ranking.vertices,
-            adjacency,
+            lists,
+            sources,
         })
     }
 
@@ -75,7 +87,7 @@ impl Graph {
     pub fn edges(&self) -> Edges<'_>
         ensures { result ≡ self.now.edges }
     {
-        Edges::all(&self.vertices, &self.adjacency)
+        Edges::all(&self.vertices, &self.lists, &self.sources)
     }
 
     /// The selected modules (Go Modules Reference, "Minimal version selection"). Each path of a vertex but the main

@@ -29,7 +29,7 @@ mod selecting;
 mod sorting;
 mod step;
 
-pub use crate::adjacency::Adjacency;
+pub use crate::adjacency::Source;
 pub use crate::chaining::ChainFault;
 pub use crate::edge_list::{EdgeRef, Edges};
 pub use crate::graph::Graph;

@@ -1,11 +1,11 @@
-//! Which modules are vertices: those that an adjacency list names.
+//! Which modules are vertices: those that a source or a list names.
 
-ghost use Rattle.std.specs.Prelude.{◌≡◌, ◌↔◌, ◌<◌, All, Contains, IfOk, length, ℕ};
+ghost use Rattle.std.specs.Prelude.{◌≡◌, ◌↔◌, ◌<◌, ◌++◌, All, Contains, IfOk, length, ℕ};
 ghost use Rattle.std.specs.Option.{option_to_list};
-ghost use Rattle.gm_graph_select.specs.Adjacency.{HaveNumbers, IsBelow, IsNumbered};
-ghost use Rattle.gm_graph_select.specs.Marking.{AreMarked, HasMark, named_by, numbers_named};
+ghost use Rattle.gm_graph_select.specs.Adjacency.{IsBelow, IsNumberedList};
+ghost use Rattle.gm_graph_select.specs.Marking.{AreMarked, HasMark, numbers_left, numbers_listed};
 
-use crate::adjacency::Adjacency;
+use crate::adjacency::Source;
 use std::alloc::{AllocError, Global};
 
 /// Marks this number, if it is one.
@@ -28,37 +28,41 @@ fn mark_each(marks: &mut [bool], numbers: &[u32])
     }
 }
 
-/// Marks the numbers that an adjacency list names.
-fn mark_named(marks: &mut [bool], one: &Adjacency)
-    requires { IsNumbered (length marks.old) one.now }
-    ensures { AreMarked marks.old (named_by one.now) marks.new }
+/// Marks the numbers of the steps that are sources.
+fn mark_sources(marks: &mut [bool], sources: &[Source])
+    requires { All (λ one. IsBelow (length marks.old) one.from) sources.now }
+    ensures { AreMarked marks.old (numbers_left sources.now) marks.new }
 {
-    mark_one(marks, one.from);
-    mark_each(marks, &one.to);
-}
-
-/// Marks the numbers that any of these adjacency lists names.
-fn mark_all(marks: &mut [bool], all: &[Adjacency])
-    requires { HaveNumbers (length marks.old) all.now }
-    ensures { AreMarked marks.old (numbers_named all.now) marks.new }
-{
-    for one in all {
-        mark_named(marks, one);
+    for one in sources {
+        mark_one(marks, one.from);
     }
 }
 
-/// For each of so many numbers, whether any of these adjacency lists names it.
+/// Marks the numbers that any of these lists has.
+fn mark_lists(marks: &mut [bool], lists: &[Vec<u32>])
+    requires { All (IsNumberedList (length marks.old)) lists.now }
+    ensures { AreMarked marks.old (numbers_listed lists.now) marks.new }
+{
+    for list in lists {
+        mark_each(marks, list);
+    }
+}
+
+/// For each of so many numbers, whether any of these sources or lists names it.
 pub(crate) fn marks_of(
     alloc: Global,
     count: usize,
-    all: &[Adjacency],
+    lists: &[Vec<u32>],
+    sources: &[Source],
 ) -> Result<Vec<bool>, AllocError>
-    requires { HaveNumbers count all.now }
+    requires sources { All (λ one. IsBelow count one.from) sources.now }
+    requires lists { All (IsNumberedList count) lists.now }
     ensures count { IfOk result (λ marks. length marks.items ≡ count) }
-    ensures marks { IfOk result (λ marks.
-        (number : ℕ) → HasMark marks.items number ↔ Contains (numbers_named all.now) number) }
+    ensures marks { IfOk result (λ marks. (number : ℕ) → HasMark marks.items number
+        ↔ Contains (numbers_left sources.now ++ numbers_listed lists.now) number) }
 {
     let mut marks = vec![in alloc; false; count]?;
-    mark_all(&mut marks, all);
+    mark_sources(&mut marks, sources);
+    mark_lists(&mut marks, lists);
     Ok(marks)
 }

@@ -7,12 +7,12 @@ ghost use Rattle.gm_name.specs.ModuleVersion.{module_at};
 ghost use Rattle.gm_graph_select.specs.declared.step.Step.TheVariants.{Main, Of};
 ghost use Rattle.gm_graph_select.specs.Numbering.{AreLeaving, IsGraph, number_left, step_at, steps_of};
 
-use crate::adjacency::Adjacency;
+use crate::adjacency::{Source, list_at};
 use crate::graph::Graph;
 use gm_name::ModVer;
 
-/// The number of the step that an adjacency list leaves.
-fn number_left(one: &Adjacency) -> usize
+/// The number of the step that is a source.
+fn number_left(one: &Source) -> usize
     ensures { result ≡ number_left one.now }
 {
     match one.from {
@@ -68,8 +68,8 @@ impl Graph {
         requires { number < length (steps_of self.now) }
         ensures { AreLeaving self.now number result.now }
     {
-        match self.adjacency.binary_search_by_key(&number, number_left) {
-            Ok(place) => &self.adjacency[place].to,
+        match self.sources.binary_search_by_key(&number, number_left) {
+            Ok(place) => list_at(&self.lists, self.sources[place].list),
             Err(_) => &[],
         }
     }

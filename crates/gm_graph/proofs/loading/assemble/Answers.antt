@@ -7,6 +7,7 @@ use Rattle.gm_graph_select.specs.Graph.{among, edge_cmp}
 use Rattle.gm_graph_select.specs.Order.{HaveSame, IsAscending}
 use Rattle.gm_graph_select.specs.StepOrder.{step_eq}
 use Rattle.gm_graph.specs.Builder.{edges_in, sources_in}
+use Rattle.gm_graph.specs.EdgeLists.{steps_in}
 use Rattle.gm_graph.proofs.Ends.{ends_are}
 use Rattle.gm_graph.proofs.Rooted.{are_reached, sorted_rooted}
 use Rattle.gm_graph.proofs.Sources.{distinct_behind}
@@ -17,7 +18,8 @@ new-requires c = record {
   few = c.requires.few;
   distinct = c.requires.builder.distinct;
   numbered = c.requires.builder.numbered;
-  once = distinct_behind step_eq (left_by c.args.modules.items) c.args.builder.leaving.items c.requires.once;
+  once = distinct_behind step_eq (left_by c.args.modules.items) (steps_in c.args.builder.edges) c.requires.once;
+  used = c.requires.builder.lists.used;
 }
 
 pub new-requires-2 : goal.new-requires-2

@@ -1,9 +1,12 @@
-use Rattle.std.proofs.Common.{◌∙◌, Err, List, ap, subst}
+use Rattle.std.proofs.Common.{◌∙◌, Err, List, ap, subst, sym}
 use Rattle.gm_name.specs.ModuleVersion.{ModuleVersion}
 use Rattle.gm_graph_cache.specs.Lent.{lent_modules, lent_table}
 use Rattle.gm_graph_cache.specs.Main.{main_of}
+use Rattle.gm_graph.specs.EdgeLists.{numbers_of}
 use Rattle.gm_graph.specs.Visiting.{IsFirstGraph}
+use Rattle.gm_graph.specs.declared.edge_lists.EdgeLists.{EdgeLists}
 use Rattle.gm_graph.proofs.AddFaults.{add_too_many}
+use Rattle.gm_graph.proofs.FileLists.{have_files_first}
 use Rattle.gm_graph.proofs.FirstGraph.{is_first, required_in, too_many_first}
 use Rattle.gm_graph.proofs.starting.first_graph.Goals as goal
 
@@ -19,6 +22,16 @@ returns-in_err-add_all-clause-too_many c = λ e.
     too_many_first (main_of c.args.main.now) (lent_table required.result) (lent_modules required.result)
     c.in_ok-builder.builder c.in_ok-builder.ensures.turns (required.ensures.modules ∙ ap required_in c.requires)
     (c.in_err-add_all.ensures.too_many (ap Err many))
+
+pub add_edges-requires-clause-file : goal.add_edges-requires-clause-file
+add_edges-requires-clause-file c = λ f held e there. absurd (cc e)
+
+pub returns-clause-files : goal.returns-clause-files
+returns-clause-files c =
+    let required = c.first_requirements-required in
+    have_files_first c.args.cache.now c.add_all.new.self.edges c.add_edges.new.self.edges (lent_table required.result) (lent_modules required.result)
+    (λ f held e. c.in_ok-builder.ensures.files f held (ap (λ (edges : EdgeLists). numbers_of edges f) (sym c.in_ok-add_all.ensures.graph.edges) ∙ e))
+    c.in_ok-add_edges.ensures.files
 
 pub returns-clause-first : goal.returns-clause-first
 returns-clause-first c =

@@ -1,7 +1,7 @@
 use Rattle.std.proofs.Common.{◌≡◌, ◌++◌, ◌∷◌, ◌∙◌, [], ℕ, List, Option, Err, ap, map, subst, sym}
 use Rattle.gm_name.specs.ModuleVersion.{ModuleVersion, module_at}
 use Rattle.gm_graph_cache.specs.Cached.{IsLender, main_in, modules_in, numbered}
-use Rattle.gm_graph_cache.specs.Lent.{lent_table}
+use Rattle.gm_graph_cache.specs.Lent.{lent_modules, lent_table}
 use Rattle.gm_graph_cache.specs.declared.depth.Depth.TheVariants.{Deep}
 use Rattle.gm_graph_cache.specs.declared.depth.Turn.{Turn}
 use Rattle.gm_graph_cache.specs.Reading.{vertex_requirements}
@@ -13,8 +13,11 @@ use Rattle.gm_graph.specs.declared.graph_builder.NumberedTurn.{NumberedTurn}
 use Rattle.gm_graph.specs.Builder.{IsBuilder, built, edges_in, faults_by_vertex, sources_in, turn_of, turns_of}
 use Rattle.gm_graph.specs.Building.{found_fault, gathers, noted as with_fault}
 use Rattle.gm_graph.specs.Turns.{AddsAll, OverflowsWith, leads_on}
-use Rattle.gm_graph.specs.Visiting.{readings_in}
+use Rattle.gm_graph.specs.FileLists.{AddsFileList, HasNumbersOf, HaveFiles}
+use Rattle.gm_graph.specs.Visiting.{lender_of, readings_in}
+use Rattle.gm_graph.specs.declared.edge_lists.EdgeLists.{EdgeLists}
 use Rattle.gm_graph.proofs.AddFaults.{add_too_many}
+use Rattle.gm_graph.proofs.FileLists.{has_its_numbers, have_files_more}
 use Rattle.gm_graph.proofs.Turning.{finding_fault, finding_known, lender_is}
 use Rattle.gm_graph.proofs.Visited.{AddsIf, Notes, Opens, adds_nothing, adds_them, notes_fault, opens_all, opens_none, visited}
 use Rattle.gm_graph.proofs.visiting.add_requirements.Goals as goal
@@ -24,7 +27,7 @@ pub lend-requires-clause-lender : goal.lend-requires-clause-lender
 lend-requires-clause-lender c =
     let cache = c.args.cache.now in
     let x = numbered cache c.args.one.number in
-    subst (λ (place : Option ℕ). IsLender cache x place) (sym c.lender.ensures) (lender_is cache x c.args.finding.now c.requires.finding)
+    subst (λ (place : Option ℕ). IsLender cache x place) (sym c.lender-file.ensures) (lender_is cache x c.args.finding.now c.requires.finding)
 
 pub returns-in_err-add_all-clause-too_many : goal.returns-in_err-add_all-clause-too_many
 returns-in_err-add_all-clause-too_many c = λ e.
@@ -48,6 +51,41 @@ add_edges-requires-clause-builder c =
       | then-leads+in_ok-add_all w ↦ subst (λ (b : GraphBuilder). IsBuilder table b) (sym w.builder-is) w.in_ok-add_all.ensures.builder
       | else-leads w ↦ subst (λ (b : GraphBuilder). IsBuilder table b) (sym w.builder-is)
           (subst (λ (ms : List ModuleVersion). IsBuilder ms c.note.new.self) (sym c.in_ok-required.ensures.table) noted)
+    ]
+
+pub add_edges-requires-clause-file : goal.add_edges-requires-clause-file
+add_edges-requires-clause-file c =
+    let cache = c.args.cache.now in
+    let x = numbered cache c.args.one.number in
+    let turned : HaveFiles cache c.if-leads.builder.edges = elim c.if-leads.branch [
+      | then-leads+in_ok-add_all w ↦ subst (λ (b : GraphBuilder). HaveFiles cache b.edges) (sym w.builder-is)
+          (subst (λ (edges : EdgeLists). HaveFiles cache edges) (sym (w.in_ok-add_all.ensures.graph.edges ∙ c.in_ok-note.ensures.edges)) c.requires.files)
+      | else-leads w ↦ subst (λ (b : GraphBuilder). HaveFiles cache b.edges) (sym w.builder-is)
+          (subst (λ (edges : EdgeLists). HaveFiles cache edges) (sym c.in_ok-note.ensures.edges) c.requires.files)
+    ] in
+    subst (λ (file : Option ℕ). HasNumbersOf c.if-leads.builder.edges file (lent_table c.in_ok-required.required) (lent_modules c.in_ok-required.required)) (sym c.lender-file.ensures)
+    (subst (λ (ms : List ModuleVersion). HasNumbersOf c.if-leads.builder.edges (lender_of c.args.finding.now) ms (lent_modules c.in_ok-required.required)) (sym c.in_ok-required.ensures.table)
+    (subst (λ (xs : List ModuleVersion). HasNumbersOf c.if-leads.builder.edges (lender_of c.args.finding.now) (modules_in cache) xs) (sym c.in_ok-required.ensures.lent)
+    (has_its_numbers cache c.if-leads.builder.edges x c.args.finding.now c.requires.lends c.requires.finding turned)))
+
+pub returns-clause-files : goal.returns-clause-files
+returns-clause-files c =
+    let cache = c.args.cache.now in
+    let x = numbered cache c.args.one.number in
+    let turned : HaveFiles cache c.if-leads.builder.edges = elim c.if-leads.branch [
+      | then-leads+in_ok-add_all w ↦ subst (λ (b : GraphBuilder). HaveFiles cache b.edges) (sym w.builder-is)
+          (subst (λ (edges : EdgeLists). HaveFiles cache edges) (sym (w.in_ok-add_all.ensures.graph.edges ∙ c.in_ok-note.ensures.edges)) c.requires.files)
+      | else-leads w ↦ subst (λ (b : GraphBuilder). HaveFiles cache b.edges) (sym w.builder-is)
+          (subst (λ (edges : EdgeLists). HaveFiles cache edges) (sym c.in_ok-note.ensures.edges) c.requires.files)
+    ] in
+    elim c.if-gathers.branch [
+      | then-gathers+in_ok-add_edges w ↦ subst (λ (b : GraphBuilder). HaveFiles cache b.edges) (sym w.builder-is)
+          (have_files_more cache c.if-leads.builder.edges w.add_edges.new.self.edges x c.args.finding.now c.requires.finding turned
+          (subst (λ (file : Option ℕ). AddsFileList c.if-leads.builder.edges w.add_edges.new.self.edges file (modules_in cache) (vertex_requirements (main_in cache) (readings_in cache) x)) c.lender-file.ensures
+          (subst (λ (ms : List ModuleVersion). AddsFileList c.if-leads.builder.edges w.add_edges.new.self.edges c.lender-file.result ms (vertex_requirements (main_in cache) (readings_in cache) x)) c.in_ok-required.ensures.table
+          (subst (λ (xs : List ModuleVersion). AddsFileList c.if-leads.builder.edges w.add_edges.new.self.edges c.lender-file.result (lent_table c.in_ok-required.required) xs) c.in_ok-required.ensures.lent
+          w.in_ok-add_edges.ensures.files))))
+      | else-gathers w ↦ subst (λ (b : GraphBuilder). HaveFiles cache b.edges) (sym w.builder-is) turned
     ]
 
 pub returns-clause-builder : goal.returns-clause-builder
@@ -86,7 +124,7 @@ returns-clause-followed c =
     let known = finding_known cache x found c.requires.finding in
     let leads : c.leads_on-leads.result ≡ leads_on readings x d = c.leads_on-leads.ensures x c.requires.finding in
     let adds_edges : c.gathers-gathers.result ≡ gathers (turns_of modules old) (turn x d) = c.gathers-gathers.ensures modules c.requires.builder c.requires.below in
-    let notes : Notes (built modules old) (built modules noted) x found = notes_fault modules old noted x found c.in_ok-note.ensures.turns c.in_ok-note.ensures.leaving
+    let notes : Notes (built modules old) (built modules noted) x found = notes_fault modules old noted x found c.in_ok-note.ensures.turns c.in_ok-note.ensures.edges
     (λ y. c.in_ok-note.ensures.faults y ∙ ap (λ (v : ModuleVersion). with_fault (found_fault found) v (faults_by_vertex old) y) c.module.ensures.module) in
     let opens : Opens main readings (built modules noted) (built modules turned) x d = elim c.if-leads.branch [
       | then-leads+in_ok-add_all w ↦

@@ -3,11 +3,22 @@ use Rattle.gm_graph_cache.specs.Cached.{modules_in}
 use Rattle.gm_graph_cache.proofs.Keeping.{knows_still}
 use Rattle.gm_graph.specs.Builder.{turn_of}
 use Rattle.gm_graph.proofs.Caching.{continues_both, on_ok_two, overflows_at, visited_by}
+use Rattle.gm_graph.proofs.FileLists.{have_files_known, have_files_lent}
 use Rattle.gm_graph.proofs.Growing.{builder_over}
 use Rattle.gm_graph.proofs.visiting.visit.Goals as goal
 
 pub add_requirements-requires-clause-builder : goal.add_requirements-requires-clause-builder
 add_requirements-requires-clause-builder g c = builder_over (modules_in c.args.cache.now) (modules_in c.known.new.self) c.args.builder.now c.requires.builder c.known.ensures.numbered c.in_ok-finding.ensures.distinct
+
+pub add_requirements-requires-clause-files : goal.add_requirements-requires-clause-files
+add_requirements-requires-clause-files g c =
+    have_files_known c.args.cache.now c.known.new.self c.args.builder.now.edges c.known.ensures.lent c.known.ensures.grows c.known.ensures.numbered c.known.ensures.sound c.requires.files
+
+pub returns-clause-files : goal.returns-clause-files
+returns-clause-files g c =
+    on_ok_two c.add_requirements.result
+    (λ have adds. have_files_lent c.known.new.self c.add_requirements.new.cache (turn_of (modules_in c.known.new.self) c.args.one) c.add_requirements.new.builder.edges adds have)
+    c.add_requirements.ensures.files c.add_requirements.ensures.cache
 
 pub returns-clause-knows : goal.returns-clause-knows
 returns-clause-knows g c = on_ok_weaker c.add_requirements.result (λ adds. knows_still c.known.new.self c.add_requirements.new.cache (g.F.Files.state c.known.new.files).asked adds.holds c.in_ok-finding.ensures.knows) c.add_requirements.ensures.cache

@@ -1,11 +1,11 @@
 use Rattle.std.proofs.Common.{◌≡◌, drop, length, take}
 use Rattle.std.specs.List.{AllZip}
-use Rattle.gm_graph_select.specs.Adjacency.{HasRanks}
+use Rattle.gm_graph_select.specs.Adjacency.{IsByRanks}
 use Rattle.gm_graph_select.proofs.adjacency.rank_each.Given as goal
 
-abbrev pub invariant-loop-one : goal.invariant-loop-one
-invariant-loop-one l = record {
-  size : length l.all ≡ length l.fn.all;
-  front : AllZip (HasRanks l.ranks) (take l.one-index l.fn.all) (take l.one-index l.all);
-  rest : drop l.one-index l.all ≡ drop l.one-index l.fn.all;
+abbrev pub invariant-loop-list : goal.invariant-loop-list
+invariant-loop-list l = record {
+  size : length l.lists ≡ length l.fn.lists;
+  front : AllZip (IsByRanks l.ranks) (take l.list-index l.fn.lists) (take l.list-index l.lists);
+  rest : drop l.list-index l.lists ≡ drop l.list-index l.fn.lists;
 }

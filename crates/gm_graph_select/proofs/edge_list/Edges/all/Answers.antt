@@ -1,5 +1,6 @@
 use Rattle.std.proofs.Common.{◌∙◌, List, ap, length, map, subst, sym}
 use Rattle.std.specs.Prelude.{All}
+use Rattle.gm_graph_select.specs.Adjacency.{by_step}
 use Rattle.gm_graph_select.specs.EdgeList.{AreEndsBelow, NumberedEdge, edge_with}
 use Rattle.gm_graph_select.proofs.EdgeLists.{edges_are, pairs_below}
 use Rattle.gm_graph_select.proofs.edge_list.Edges.all.Goals as goal
@@ -7,7 +8,7 @@ use Rattle.gm_graph_select.proofs.edge_list.Edges.all.Goals as goal
 pub invariant_of-result : goal.invariant_of-result
 invariant_of-result c =
     let count = length c.args.vertices.now in
-    subst (λ (pairs : List NumberedEdge). All (AreEndsBelow count) pairs) (sym c.all.ensures) (pairs_below count c.args.lists.now c.requires)
+    subst (λ (pairs : List NumberedEdge). All (AreEndsBelow count) pairs) (sym c.all.ensures) (pairs_below count (by_step c.args.lists.now c.args.sources.now) c.requires)
 
 pub returns : goal.returns
-returns c = ap (λ (pairs : List NumberedEdge). map (edge_with c.args.vertices.now) pairs) c.all.ensures ∙ edges_are c.args.vertices.now c.args.lists.now
+returns c = ap (λ (pairs : List NumberedEdge). map (edge_with c.args.vertices.now) pairs) c.all.ensures ∙ edges_are c.args.vertices.now (by_step c.args.lists.now c.args.sources.now)

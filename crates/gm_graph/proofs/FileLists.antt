@@ -1,0 +1,255 @@
+-- The lists that a graph builder has of files, as the cache and the graph grow.
+use Rattle.std.proofs.Common.{◌≡◌, ◌∙◌, ◌⊎◌, ◌+◌, ◌<◌, ◌++◌, ◌∷◌, [], ℕ, All, List, Option, None, Some, Result, Ok, ap, ap₂, arith, false, get_or, inl, inr, length, length-append, map, refl, subst, sym, true}
+use Rattle.std.specs.Global.{Vec}
+use Rattle.std.specs.List.{IsDistinct}
+use Rattle.std.specs.Option.{option_map}
+use Rattle.std.proofs.lemmas.Bool.{cases_lt, false≢true}
+use Rattle.std.proofs.lemmas.List.Elements.{All-head, All-tail, All-weaker}
+use Rattle.std.proofs.lemmas.Map.Keys.{apart_from_distinct}
+use Rattle.gm_name.specs.ModuleVersion.{ModuleVersion, module_at, pair_eq, pairs-equivalence}
+use Rattle.gm_name_table.specs.Listed.{AreModuleNumbers, BeginsWith, modules_at}
+use Rattle.gm_graph_cache.specs.declared.cache.Cache.{Cache}
+use Rattle.gm_graph_cache.specs.declared.depth.Turn.{Turn}
+use Rattle.gm_graph_cache.specs.declared.finding.Finding.{Finding}
+use Rattle.gm_graph_cache.specs.declared.finding.Finding.TheVariants.{Fault, Sound}
+use Rattle.gm_graph_cache.specs.Cached.{AddsTurn, IsFinding, IsSound, KeepsSound, LendsKept, LentSame, held_of, main_in, modules_in}
+use Rattle.gm_graph_cache.specs.Main.{Main, main_of}
+use Rattle.gm_file.specs.Fields.{Dependency}
+use Rattle.gm_graph_cache.specs.declared.class.Class.{Class}
+use Rattle.gm_graph_cache.specs.Reading.{KeepsHeld, Readings, readings_by, requirements_in, said_in, vertex_requirements}
+use Rattle.gm_graph_cache.proofs.Keeping.{readings_stay}
+use Rattle.gm_graph_cache.proofs.Lending.{lent_kept}
+use Rattle.gm_graph_select.specs.Adjacency.{list_at}
+use Rattle.gm_graph.specs.declared.edge_lists.EdgeLists.{EdgeLists}
+use Rattle.gm_graph.specs.EdgeLists.{AreLists, HasNumbers, IsListFor, IsPushed, KeepsLists, list_by, list_of, numbers_of}
+use Rattle.gm_graph.specs.FileLists.{AddsFileList, AreNumbersOf, AreOfFile, HasNumbersOf, HaveFiles}
+use Rattle.gm_graph.specs.Visiting.{lender_of, readings_in}
+use Rattle.gm_graph.proofs.Caching.{readings_same}
+use Rattle.gm_graph.proofs.Growing.{vertex_stays}
+use Rattle.gm_graph.proofs.PushedEdges.{one_longer, pushed_kept, pushed_there}
+
+-- ---- numbers of modules
+
+module _ (modules : List ModuleVersion) (distinct : IsDistinct pair_eq modules) where
+  apart : (n m : ℕ) → n < m → m < length modules → module_at modules n ≡ module_at modules m → ⊥
+  apart n m lt below same = false≢true (sym (apart_from_distinct pair_eq modules n m ([], []) distinct lt below)
+      ∙ ap (λ (v : ModuleVersion). pair_eq v (module_at modules m)) same ∙ pairs-equivalence.refl (module_at modules m))
+
+  number_same : (n m : ℕ) → n < length modules → m < length modules → module_at modules n ≡ module_at modules m → n ≡ m
+  number_same n m below inside same = elim (cases_lt n m) [
+    | inl lt ↦ absurd (apart n m lt inside same)
+    | inr ge ↦ elim (cases_lt m n) [ inl lt ↦ absurd (apart m n lt below (sym same)) | inr le ↦ omega (arith, ge, le) ]
+  ]
+
+  -- Numbers of the same modules are the same.
+  numbers_same : (ns ms : List ℕ) → AreModuleNumbers modules ns → AreModuleNumbers modules ms
+      → modules_at modules ns ≡ modules_at modules ms → ns ≡ ms
+  numbers_same [] [] below inside same = refl
+  numbers_same [] (m ∷ ms) below inside same = absurd (cc same)
+  numbers_same (n ∷ ns) [] below inside same = absurd (cc same)
+  numbers_same (n ∷ ns) (m ∷ ms) below inside same = ap₂ (λ (k : ℕ) (ks : List ℕ). k ∷ ks)
+      (number_same n m (All-head (λ (k : ℕ). k < length modules) n ns below)
+      (All-head (λ (k : ℕ). k < length modules) m ms inside) (first (module_at modules n) (module_at modules m) (modules_at modules ns) (modules_at modules ms) same))
+      (numbers_same ns ms (All-tail (λ (k : ℕ). k < length modules) n ns below)
+      (All-tail (λ (k : ℕ). k < length modules) m ms inside) (rest (module_at modules n) (module_at modules m) (modules_at modules ns) (modules_at modules ms) same))
+    where
+      first : (a b : ModuleVersion) (xs ys : List ModuleVersion) → a ∷ xs ≡ b ∷ ys → a ≡ b
+      first a b xs ys e = cc e
+
+      rest : (a b : ModuleVersion) (xs ys : List ModuleVersion) → a ∷ xs ≡ b ∷ ys → xs ≡ ys
+      rest a b xs ys e = cc e
+
+  -- What was said of modules holds of numbers.
+  pub has_numbers : (edges : EdgeLists) (file : Option ℕ) (numbers : List ℕ) (xs : List ModuleVersion)
+      → AreModuleNumbers modules numbers → modules_at modules numbers ≡ xs → HasNumbersOf edges file modules xs
+      → HasNumbers edges file numbers
+  has_numbers edges None numbers xs below are has = tt
+  has_numbers edges (Some f) numbers xs below are has = λ held e.
+      let these = has f held refl e in
+      numbers_same held numbers these.below below (these.are ∙ sym are)
+
+-- and back
+pub adds_file_list : (modules : List ModuleVersion) (old new : EdgeLists) (file : Option ℕ) (numbers : List ℕ)
+    (xs : List ModuleVersion) → AreModuleNumbers modules numbers → modules_at modules numbers ≡ xs
+    → KeepsLists old new file numbers → AddsFileList old new file modules xs
+adds_file_list modules old new file numbers xs below are keeps = λ f held e. elim (keeps f held e) [
+  | inl was ↦ inl was
+  | inr found ↦ inr (
+    found.0,
+    subst (λ (ns : List ℕ). AreNumbersOf modules ns xs) (sym found.1)
+        (let these : AreNumbersOf modules numbers xs = record { below = below; are = are } in these),
+  )
+]
+
+-- ---- the list of a file
+
+pub known_list : (edges : EdgeLists) (file : Option ℕ) (numbers : List ℕ) (place : ℕ) → AreLists edges
+    → HasNumbers edges file numbers → list_by edges file ≡ Some place → IsListFor edges edges file numbers place
+known_list edges None numbers place are has is = absurd (cc is)
+known_list edges (Some f) numbers place are has is = record {
+  within = are.files f place is;
+  is = has (list_at edges.lists.items place) (ap (λ (o : Option ℕ). option_map (list_at edges.lists.items) o) is);
+  sources = refl;
+  stay = λ p below. (below, refl);
+  others = λ p below. inr below;
+  files = are.files;
+  keeps = λ g held e. inl e;
+}
+
+module _ (old mid new : EdgeLists) (file : Option ℕ) (numbers : List ℕ) (place : ℕ) (are : AreLists old)
+    (pushed : IsPushed old.lists.items mid.lists.items numbers) (files : mid.list_of ≡ old.list_of)
+    (at : place ≡ length old.lists.items) (lists : new.lists ≡ mid.lists)
+    (remembers : (f p : ℕ) → list_of new f ≡ Some p → (list_of mid f ≡ Some p) ⊎ ((file ≡ Some f) × (p ≡ place))) where
+  new_items : new.lists.items ≡ mid.lists.items
+  new_items = ap (λ v. v.items) lists
+
+  longer : length new.lists.items ≡ length old.lists.items + 1
+  longer = ap (λ (ls : List (Vec ℕ)). length ls) new_items ∙ one_longer old.lists.items mid.lists.items numbers pushed
+
+  here : list_at new.lists.items place ≡ numbers
+  here = ap₂ (λ (ls : List (Vec ℕ)) (n : ℕ). list_at ls n) new_items at
+      ∙ pushed_there old.lists.items mid.lists.items numbers pushed
+
+  stays : (p : ℕ) → p < length old.lists.items → list_at new.lists.items p ≡ list_at old.lists.items p
+  stays p below = ap (λ (ls : List (Vec ℕ)). list_at ls p) new_items
+      ∙ pushed_kept old.lists.items mid.lists.items numbers pushed p below
+
+  was_there : (f p : ℕ) → list_of mid f ≡ Some p → list_of old f ≡ Some p
+  was_there f p e = sym (list_same f files) ∙ e
+    where
+      list_same : (f : ℕ) → mid.list_of ≡ old.list_of → list_of mid f ≡ list_of old f
+      list_same f same = ap (λ v. get_or v.items f None) same
+
+  keeps_by : (f : ℕ) (held : List ℕ) (o : Option ℕ) → list_of new f ≡ o
+      → option_map (list_at new.lists.items) o ≡ Some held
+      → (numbers_of old f ≡ Some held) ⊎ ((file ≡ Some f) × (held ≡ numbers))
+  keeps_by f held None is e = absurd (cc e)
+  keeps_by f held (Some p) is e = elim (remembers f p is) [
+    | inl was ↦
+        (let before = was_there f p was in
+        inl (ap (λ (o : Option ℕ). option_map (list_at old.lists.items) o) before
+        ∙ ap (λ (ns : List ℕ). Some ns) (sym (stays p (are.files f p before))) ∙ e))
+    | inr found ↦ inr (
+      found.0,
+      some_same held (list_at new.lists.items p) (sym e)
+          ∙ ap (λ (n : ℕ). list_at new.lists.items n) found.1 ∙ here,
+    )
+  ]
+    where
+      some_same : (a b : List ℕ) → Some a ≡ Some b → a ≡ b
+      some_same a b e = cc e
+
+  pub new_list : new.sources ≡ old.sources → IsListFor old new file numbers place
+  new_list sources = record {
+    within = omega (arith, longer, at);
+    is = here;
+    sources = sources;
+    stay = λ p below. (omega (arith, longer, below), stays p below);
+    others = λ p below. elim (cases_lt p (length old.lists.items)) [
+      | inl lower ↦ inr lower
+      | inr past ↦ inl (omega (arith, longer, at, past, below))
+    ];
+    files = λ f p e. elim (remembers f p e) [
+      | inl was ↦ (let lower = are.files f p (was_there f p was) in omega (arith, lower, longer))
+      | inr found ↦ (let is = found.1 in omega (arith, is, at, longer))
+    ];
+    keeps = λ f held e. keeps_by f held (list_of new f) refl e;
+  }
+
+-- ---- vertices that share a file
+
+-- They require the same.
+same_requirements : (cache : Cache) (x y : ModuleVersion) (file : ℕ) → LendsKept cache → IsSound cache x file
+    → IsSound cache y file
+    → vertex_requirements (main_in cache) (readings_in cache) x ≡ vertex_requirements (main_in cache) (readings_in cache) y
+same_requirements cache x y file lends one other =
+    sym (lent_kept cache x (Some file) lends one) ∙ lent_kept cache y (Some file) lends other
+
+-- A vertex that was found has the list of its file.
+pub has_its_numbers : (cache : Cache) (edges : EdgeLists) (x : ModuleVersion) (found : Finding) → LendsKept cache
+    → IsFinding cache x found → HaveFiles cache edges
+    → HasNumbersOf edges (lender_of found) (modules_in cache) (vertex_requirements (main_in cache) (readings_in cache) x)
+has_its_numbers cache edges x (Fault class) lends is have = λ f held e. absurd (cc e)
+has_its_numbers cache edges x (Sound place) lends sound have = λ f held e there.
+    let file_is : place ≡ f = cc e in
+    let of_file = have f held there in
+    subst (λ (xs : List ModuleVersion). AreNumbersOf (modules_in cache) held xs)
+    (same_requirements cache of_file.vertex x f lends of_file.sound (subst (λ (p : ℕ). IsSound cache x p) file_is sound))
+    of_file.numbers_are
+
+-- The lists are still of files after its own was added.
+pub have_files_more : (cache : Cache) (old new : EdgeLists) (x : ModuleVersion) (found : Finding)
+    → IsFinding cache x found → HaveFiles cache old
+    → AddsFileList old new (lender_of found) (modules_in cache) (vertex_requirements (main_in cache) (readings_in cache) x)
+    → HaveFiles cache new
+have_files_more cache old new x (Fault class) is have adds = λ f held e. elim (adds f held e) [
+  | inl was ↦ have f held was
+  | inr none ↦ absurd (cc none.0)
+]
+have_files_more cache old new x (Sound place) sound have adds = λ f held e. elim (adds f held e) [
+  | inl was ↦ have f held was
+  | inr added ↦
+      (let file_is : place ≡ f = cc added.0 in
+      record {
+        vertex = x;
+        sound = subst (λ (p : ℕ). IsSound cache x p) file_is sound;
+        numbers_are = added.1;
+      })
+]
+
+-- No list was added but that of no file.
+pub have_files_first : (cache : Cache) (old new : EdgeLists) (modules xs : List ModuleVersion)
+    → ((f : ℕ) (held : List ℕ) → numbers_of old f ≡ Some held → ⊥) → AddsFileList old new None modules xs
+    → HaveFiles cache new
+have_files_first cache old new modules xs none adds = λ f held e. elim (adds f held e) [
+  | inl was ↦ absurd (none f held was)
+  | inr added ↦ absurd (cc added.0)
+]
+
+-- ---- a cache that knows more
+
+modules_stay : (modules more : List ModuleVersion) (numbers : List ℕ) → AreModuleNumbers modules numbers
+    → modules_at (modules ++ more) numbers ≡ modules_at modules numbers
+modules_stay modules more [] below = refl
+modules_stay modules more (n ∷ numbers) below = ap₂ (λ (v : ModuleVersion) (vs : List ModuleVersion). v ∷ vs)
+    (vertex_stays modules more n (All-head (λ (k : ℕ). k < length modules) n numbers below))
+    (modules_stay modules more numbers (All-tail (λ (k : ℕ). k < length modules) n numbers below))
+
+numbers_over : (old new : List ModuleVersion) (numbers : List ℕ) (xs : List ModuleVersion) → BeginsWith old new
+    → AreNumbersOf old numbers xs → AreNumbersOf new numbers xs
+numbers_over old new numbers xs begins these = subst (λ (ms : List ModuleVersion). AreNumbersOf ms numbers xs) (sym begins.1)
+    (let over : AreNumbersOf (old ++ begins.0) numbers xs = record {
+      below = All-weaker (λ (k : ℕ). k < length old) (λ (k : ℕ). k < length (old ++ begins.0))
+          (λ k lower. omega (arith, lower, length-append old begins.0)) numbers these.below;
+      are = modules_stay old begins.0 numbers these.below ∙ these.are;
+    } in over)
+
+pub have_files_known : (old mid : Cache) (edges : EdgeLists) → LentSame old mid → KeepsHeld (held_of old) (held_of mid)
+    → BeginsWith (modules_in old) (modules_in mid) → KeepsSound old mid → HaveFiles old edges → HaveFiles mid edges
+have_files_known old mid edges lent grows numbered keeps have = λ f held e.
+    let of_file = have f held e in
+    let x = of_file.vertex in
+    let main : main_in mid ≡ main_in old = ap main_of lent.main in
+    let still = readings_stay (main_in old) (held_of old) (held_of mid) grows x (Ok of_file.sound.file) of_file.sound.reading in
+    let required : vertex_requirements (main_in old) (readings_in old) x ≡ vertex_requirements (main_in mid) (readings_in mid) x =
+    ap (λ (o : Option (Result Dependency Class)). requirements_in (main_in old) (said_in o)) (of_file.sound.reading ∙ sym still)
+    ∙ ap (λ (m : Main). vertex_requirements m (readings_by m (held_of mid)) x) (sym main) in
+    record {
+      vertex = x;
+      sound = keeps x f of_file.sound;
+      numbers_are = subst (λ (xs : List ModuleVersion). AreNumbersOf (modules_in mid) held xs) required
+          (numbers_over (modules_in old) (modules_in mid) held (vertex_requirements (main_in old) (readings_in old) x) numbered of_file.numbers_are);
+    }
+
+-- The cache has one more turn.
+pub have_files_lent : (mid new : Cache) (one : Turn) (edges : EdgeLists) → AddsTurn mid new one → HaveFiles mid edges
+    → HaveFiles new edges
+have_files_lent mid new one edges adds have = λ f held e.
+    let of_file = have f held e in
+    record {
+      vertex = of_file.vertex;
+      sound = adds.holds.sound of_file.vertex f of_file.sound;
+      numbers_are = readings_same mid new one adds
+          (λ (m : Main) (r : Readings) (ms : List ModuleVersion). AreNumbersOf ms held (vertex_requirements m r of_file.vertex))
+          of_file.numbers_are;
+    }
