@@ -1,5 +1,5 @@
 -- The lists that a graph builder has of files, as the cache and the graph grow.
-use Rattle.std.proofs.Common.{◌≡◌, ◌∙◌, ◌⊎◌, ◌+◌, ◌<◌, ◌++◌, ◌∷◌, [], ℕ, All, List, Option, None, Some, Result, Ok, ap, ap₂, arith, false, get_or, inl, inr, length, length-append, map, refl, subst, sym, true}
+use Rattle.std.proofs.Common.{◌≡◌, ◌∙◌, ◌⊎◌, ◌+◌, ◌<◌, ◌++◌, ◌∷◌, [], ℕ, List, Option, None, Some, Result, Ok, ap, ap₂, arith, get_or, inl, inr, length, length-append, refl, subst, sym}
 use Rattle.std.specs.Global.{Vec}
 use Rattle.std.specs.List.{IsDistinct}
 use Rattle.std.specs.Option.{option_map}
@@ -22,7 +22,7 @@ use Rattle.gm_graph_cache.proofs.Lending.{lent_kept}
 use Rattle.gm_graph_select.specs.Adjacency.{list_at}
 use Rattle.gm_graph.specs.declared.edge_lists.EdgeLists.{EdgeLists}
 use Rattle.gm_graph.specs.EdgeLists.{AreLists, HasNumbers, IsListFor, IsPushed, KeepsLists, list_by, list_of, numbers_of}
-use Rattle.gm_graph.specs.FileLists.{AddsFileList, AreNumbersOf, AreOfFile, HasNumbersOf, HaveFiles}
+use Rattle.gm_graph.specs.FileLists.{AddsFileList, AreNumbersOf, HasNumbersOf, HaveFiles}
 use Rattle.gm_graph.specs.Visiting.{lender_of, readings_in}
 use Rattle.gm_graph.proofs.Caching.{readings_same}
 use Rattle.gm_graph.proofs.Growing.{vertex_stays}
