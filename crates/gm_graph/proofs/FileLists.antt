@@ -159,7 +159,7 @@ module _ (old mid new : EdgeLists) (file : Option ℕ) (numbers : List ℕ) (pla
 -- ---- vertices that share a file
 
 -- They require the same.
-same_requirements : (cache : Cache) (x y : ModuleVersion) (file : ℕ) → LendsKept cache → IsSound cache x file
+pub same_requirements : (cache : Cache) (x y : ModuleVersion) (file : ℕ) → LendsKept cache → IsSound cache x file
     → IsSound cache y file
     → vertex_requirements (main_in cache) (readings_in cache) x ≡ vertex_requirements (main_in cache) (readings_in cache) y
 same_requirements cache x y file lends one other =
@@ -224,16 +224,21 @@ numbers_over old new numbers xs begins these = subst (λ (ms : List ModuleVersio
       are = modules_stay old begins.0 numbers these.below ∙ these.are;
     } in over)
 
+-- What a vertex requires whose file was read stays.
+pub requirements_known : (old mid : Cache) → LentSame old mid → KeepsHeld (held_of old) (held_of mid) → (x : ModuleVersion) (file : ℕ)
+    → IsSound old x file
+    → vertex_requirements (main_in old) (readings_in old) x ≡ vertex_requirements (main_in mid) (readings_in mid) x
+requirements_known old mid lent grows x file sound =
+    let still = readings_stay (main_in old) (held_of old) (held_of mid) grows x (Ok sound.file) sound.reading in
+    ap (λ (o : Option (Result Dependency Class)). requirements_in (main_in old) (said_in o)) (sound.reading ∙ sym still)
+    ∙ ap (λ (m : Main). vertex_requirements m (readings_by m (held_of mid)) x) (sym (ap main_of lent.main))
+
 pub have_files_known : (old mid : Cache) (edges : EdgeLists) → LentSame old mid → KeepsHeld (held_of old) (held_of mid)
     → BeginsWith (modules_in old) (modules_in mid) → KeepsSound old mid → HaveFiles old edges → HaveFiles mid edges
 have_files_known old mid edges lent grows numbered keeps have = λ f held e.
     let of_file = have f held e in
     let x = of_file.vertex in
-    let main : main_in mid ≡ main_in old = ap main_of lent.main in
-    let still = readings_stay (main_in old) (held_of old) (held_of mid) grows x (Ok of_file.sound.file) of_file.sound.reading in
-    let required : vertex_requirements (main_in old) (readings_in old) x ≡ vertex_requirements (main_in mid) (readings_in mid) x =
-    ap (λ (o : Option (Result Dependency Class)). requirements_in (main_in old) (said_in o)) (of_file.sound.reading ∙ sym still)
-    ∙ ap (λ (m : Main). vertex_requirements m (readings_by m (held_of mid)) x) (sym main) in
+    let required = requirements_known old mid lent grows x f of_file.sound in
     record {
       vertex = x;
       sound = keeps x f of_file.sound;

@@ -15,6 +15,7 @@ pub mod Caching
 pub mod FilledPlaces
 pub mod PushedEdges
 pub mod FileLists
+pub mod FollowedFiles
 pub mod Queueing
 pub mod BuiltEdges
 pub mod Dues

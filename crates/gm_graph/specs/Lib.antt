@@ -8,5 +8,6 @@ pub mod Builder
 pub mod EdgeLists
 pub mod Visiting
 pub mod FileLists
+pub mod Followed
 pub mod Outcome
 pub mod Laws

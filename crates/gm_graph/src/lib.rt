@@ -19,6 +19,7 @@
 
 mod edge_lists;
 mod fault;
+mod followed;
 mod graph_builder;
 pub mod laws;
 mod loaded;

@@ -24,6 +24,7 @@ ghost use Rattle.gm_graph.specs.Loading.{AreTooMany, AsksInTurn, IsDue, Told};
 ghost use Rattle.gm_graph.specs.Outcome.{IsLoaded};
 ghost use Rattle.gm_graph.specs.Visiting.{IsFirstGraph, IsOpenedIn};
 
+use crate::followed::Followed;
 use crate::graph_builder::{GraphBuilder, fault_list};
 use crate::loaded::Loaded;
 use crate::rows::build_list;
@@ -58,10 +59,11 @@ fn visit_all<F: Files>(
     ensures served { HasServed (F.may_answer files.old) (F.may_answer files.new)
         (F.state files.old) (F.state files.new) }
 {
+    let mut followed = Followed::new(builder.alloc);
     let mut at = 0;
     'turns: while at < builder.turns.len() {
         let one = builder.turns[at];
-        visit(cache, files, builder, one)?;
+        visit(cache, files, builder, &mut followed, one)?;
         at += 1;
     }
     Ok(())

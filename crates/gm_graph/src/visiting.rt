@@ -10,9 +10,11 @@ ghost use Rattle.gm_graph_cache.specs.Cached.{AddsTurn, IsFinding, Knows, LendsK
 ghost use Rattle.gm_graph_cache.specs.Refusals.{refused_in};
 ghost use Rattle.gm_graph.specs.Builder.{IsBuilder, built, turn_of, turns_of};
 ghost use Rattle.gm_graph.specs.FileLists.{HaveFiles};
+ghost use Rattle.gm_graph.specs.Followed.{AreFollowedIn};
 ghost use Rattle.gm_graph.specs.Turns.{VisitOverflows, leads_on};
 ghost use Rattle.gm_graph.specs.Visiting.{Continues, IsVisited, OverflowsAt, lender_of, readings_in};
 
+use crate::followed::Followed;
 use crate::graph_builder::{GraphBuilder, NumberedTurn};
 use gm_graph_cache::{Cache, Depth, Finding, LoadFault};
 use gm_store::Files;
@@ -47,6 +49,7 @@ fn leads_on(cache: &Cache<'_>, depth: Depth, finding: &Finding) -> bool
 fn add_requirements(
     cache: &mut Cache<'_>,
     builder: &mut GraphBuilder,
+    followed: &mut Followed,
     one: NumberedTurn,
     finding: &Finding,
 ) -> Result<(), LoadFault>
@@ -55,9 +58,12 @@ fn add_requirements(
     requires below { one.number < length (modules_in cache.old) }
     requires finding { IsFinding cache.old (numbered cache.old one.number) finding.now }
     requires files { HaveFiles cache.old builder.old.edges }
+    requires followed { AreFollowedIn cache.old (turns_of (modules_in cache.old) builder.old) followed.old }
     ensures builder { OnOk result (IsBuilder (modules_in cache.old) builder.new) }
     ensures files { OnOk result (HaveFiles cache.old builder.new.edges) }
-    ensures followed { OnOk result (IsVisited (main_in cache.old) (readings_in cache.old)
+    ensures followed { OnOk result
+        (AreFollowedIn cache.old (turns_of (modules_in cache.old) builder.new) followed.new) }
+    ensures visited { OnOk result (IsVisited (main_in cache.old) (readings_in cache.old)
         (built (modules_in cache.old) builder.old) (built (modules_in cache.old) builder.new)
         (numbered cache.old one.number) one.depth) }
     ensures cache { OnOk result (AddsTurn cache.old cache.new (turn_of (modules_in cache.old) one)) }
@@ -72,7 +78,7 @@ fn add_requirements(
     let file = lender(finding);
     let required = cache.lend(one.number, one.depth, file)?;
     if leads {
-        builder.add_all(required, Depth::Deep)?;
+        followed.follow(builder, file, required)?;
     }
     if gathers {
         builder.add_edges(Some(one.number), file, required)?;
@@ -89,19 +95,23 @@ pub(crate) fn visit<F: Files>(
     cache: &mut Cache<'_>,
     files: &mut F,
     builder: &mut GraphBuilder,
+    followed: &mut Followed,
     one: NumberedTurn,
 ) -> Result<(), LoadFault>
     requires knows { Knows cache.old (F.state files.old).asked }
     requires builder { IsBuilder (modules_in cache.old) builder.old }
     requires below { one.number < length (modules_in cache.old) }
     requires files { HaveFiles cache.old builder.old.edges }
+    requires followed { AreFollowedIn cache.old (turns_of (modules_in cache.old) builder.old) followed.old }
     ensures knows { OnOk result (Knows cache.new (F.state files.new).asked) }
     ensures continues { OnOk result (Continues cache.old cache.new) }
     ensures turns { OnOk result (turns_in cache.new
         ≡ turns_in cache.old ++ turn_of (modules_in cache.old) one ∷ []) }
     ensures builder { OnOk result (IsBuilder (modules_in cache.new) builder.new) }
     ensures files { OnOk result (HaveFiles cache.new builder.new.edges) }
-    ensures followed { OnOk result (IsVisited (main_in cache.new) (readings_in cache.new)
+    ensures followed { OnOk result
+        (AreFollowedIn cache.new (turns_of (modules_in cache.new) builder.new) followed.new) }
+    ensures visited { OnOk result (IsVisited (main_in cache.new) (readings_in cache.new)
         (built (modules_in cache.old) builder.old) (built (modules_in cache.new) builder.new)
         (numbered cache.old one.number) one.depth) }
     ensures too_many { result ≡ Err LoadFault.TooMany → OverflowsAt cache.old (F.state files.new).asked
@@ -116,5 +126,5 @@ pub(crate) fn visit<F: Files>(
         (F.state files.old) (F.state files.new) }
 {
     let finding = cache.known(files, one.number)?;
-    add_requirements(cache, builder, one, &finding)
+    add_requirements(cache, builder, followed, one, &finding)
 }

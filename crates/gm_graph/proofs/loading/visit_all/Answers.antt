@@ -13,6 +13,7 @@ pub turns-init : goal.turns-init
 turns-init g c = record {
   state = first_step c.args.cache.now (g.F.Files.state c.args.files.now).asked c.args.builder.now c.requires.asked c.requires.knows c.requires.lent c.requires.first;
   files = c.requires.files;
+  followed = λ file by. absurd (c.new-followed.ensures file by);
   served = nothing_served _ (g.F.Files.state c.args.files.now);
   refused = refl;
 }
@@ -33,8 +34,9 @@ turns-preserved g c =
     let here = turn_here modules c.turns.builder c.turns.at one (omega arith) c.index-one.ensures in
     record {
       state = step (main_in c.args.cache.now) (sums_in c.args.cache.now) c.turns.cache c.visit.new.cache (g.F.Files.state c.turns.files).asked (g.F.Files.state c.visit.new.files).asked c.turns.builder c.visit.new.builder c.turns.at x one.depth
-          c.turns.invariant.state below here c.in_ok-visit.ensures.knows c.in_ok-visit.ensures.continues c.in_ok-visit.ensures.turns c.in_ok-visit.ensures.builder c.in_ok-visit.ensures.followed c.visit.ensures.asks;
+          c.turns.invariant.state below here c.in_ok-visit.ensures.knows c.in_ok-visit.ensures.continues c.in_ok-visit.ensures.turns c.in_ok-visit.ensures.builder c.in_ok-visit.ensures.visited c.visit.ensures.asks;
       files = c.in_ok-visit.ensures.files;
+      followed = c.in_ok-visit.ensures.followed;
       served = served_both _ _ _ (g.F.Files.state c.args.files.now) (g.F.Files.state c.turns.files) (g.F.Files.state c.visit.new.files) c.turns.invariant.served c.visit.ensures.served;
       refused = c.in_ok-visit.ensures.refused ∙ append-nil _ ∙ c.turns.invariant.refused;
     }
@@ -50,6 +52,7 @@ visit-requires g c = record {
   knows = c.turns.invariant.state.knows;
   builder = c.turns.invariant.state.builder_is;
   files = c.turns.invariant.files;
+  followed = c.turns.invariant.followed;
   below = number_here (modules_in c.turns.cache) c.turns.builder c.turns.at c.index-one.result.now c.turns.invariant.state.builder_is (omega arith) c.index-one.ensures;
 }
 

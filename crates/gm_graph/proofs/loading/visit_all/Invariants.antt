@@ -1,6 +1,8 @@
 use Rattle.std.proofs.Common.{◌≡◌, ◌-◌}
 use Rattle.gm_store.specs.States.{HasServed}
-use Rattle.gm_graph_cache.specs.Cached.{main_in, sums_in}
+use Rattle.gm_graph_cache.specs.Cached.{main_in, modules_in, sums_in}
+use Rattle.gm_graph.specs.Builder.{turns_of}
+use Rattle.gm_graph.specs.Followed.{AreFollowedIn}
 use Rattle.gm_graph.specs.FileLists.{HaveFiles}
 use Rattle.gm_graph.proofs.Stepping.{IsAt}
 use Rattle.gm_graph.proofs.loading.visit_all.Given as goal
@@ -9,6 +11,7 @@ abbrev pub invariant-turns : goal.invariant-turns
 invariant-turns g l = record {
   state : IsAt (main_in l.fn.cache) (sums_in l.fn.cache) l.cache (g.F.Files.state l.files).asked l.builder l.at;
   files : HaveFiles l.cache l.builder.edges;
+  followed : AreFollowedIn l.cache (turns_of (modules_in l.cache) l.builder) l.followed;
   served : HasServed (g.F.Files.may_answer l.fn.files) (g.F.Files.may_answer l.files) (g.F.Files.state l.fn.files) (g.F.Files.state l.files);
   refused : (g.F.Files.state l.files).refused ≡ (g.F.Files.state l.fn.files).refused;
 }

@@ -1,0 +1,34 @@
+-- The files that were followed: what they require has turns at full depth.
+use Rattle.std.specs.Prelude.{◌≡◌, ◌⊎◌, ℕ, Bool, Contains, List, Option, None, Some, false, slice_index_or, true}
+use Rattle.gm_name.specs.ModuleVersion.{ModuleVersion}
+use Rattle.gm_graph_cache.specs.declared.cache.Cache.{Cache}
+use Rattle.gm_graph_cache.specs.declared.depth.Depth.TheVariants.{Deep}
+use Rattle.gm_graph_cache.specs.declared.depth.Turn.{Turn}
+use Rattle.gm_graph_cache.specs.Cached.{IsSound, main_in}
+use Rattle.gm_graph_cache.specs.Reading.{vertex_requirements}
+use Rattle.gm_graph_cache.specs.Turns.{turn}
+use Rattle.gm_graph.specs.declared.followed.Followed.{Followed}
+use Rattle.gm_graph.specs.Visiting.{readings_in}
+
+-- Whether the file at a place was followed.
+abbrev pub followed_at : Followed → ℕ → Bool
+followed_at followed file = slice_index_or followed.files.items file false
+
+abbrev pub followed_by : Followed → Option ℕ → Bool
+followed_by followed None = false
+followed_by followed (Some file) = followed_at followed file
+
+-- No files were added but this one.
+abbrev pub AddsFollowed : Followed → Followed → Option ℕ → Type 0
+AddsFollowed old new file = (f : ℕ) → followed_at new f ≡ true → (followed_at old f ≡ true) ⊎ (file ≡ Some f)
+
+-- What the file at a place requires has turns at full depth: a vertex has that file.
+pub record IsFollowedIn (cache : Cache) (turns : List Turn) (file : ℕ) : Type 0 where
+  pub vertex : ModuleVersion
+  pub sound : IsSound cache vertex file
+  pub each : (y : ModuleVersion) → Contains (vertex_requirements (main_in cache) (readings_in cache) vertex) y
+      → Contains turns (turn y Deep)
+
+-- The files were followed.
+abbrev pub AreFollowedIn : Cache → List Turn → Followed → Type 0
+AreFollowedIn cache turns followed = (file : ℕ) → followed_at followed file ≡ true → IsFollowedIn cache turns file

@@ -1,0 +1,86 @@
+//! Files that were followed: what they require has turns at full depth.
+//!
+//! Both depths lead on at full depth, so one mark a file is enough, whatever vertices have it.
+
+ghost use Rattle.std.specs.Prelude.{◌≡◌, ◌⊎◌, ◌++◌, ℕ, Contains, Err, OnOk, Some, true};
+ghost use Rattle.gm_name.specs.ModuleVersion.{ModuleVersion};
+ghost use Rattle.gm_graph_cache.specs.Lent.{lent_modules, lent_table};
+ghost use Rattle.gm_graph_cache.specs.Turns.{turn};
+ghost use Rattle.gm_graph_cache.specs.declared.depth.Depth.TheVariants.{Deep};
+ghost use Rattle.gm_graph.specs.Builder.{IsBuilder, KeepsGraph, turns_of};
+ghost use Rattle.gm_graph.specs.Turns.{AddsAll, OverflowsWith};
+
+use crate::graph_builder::GraphBuilder;
+use crate::places::put_at;
+use crate::worklist::AddFault;
+use gm_graph_cache::{Depth, Lent};
+use std::alloc::{AllocError, Global};
+
+/// The files that were followed.
+#[derive(Drop)]
+pub(crate) struct Followed {
+    /// For each file, by its place in the cache, whether it was followed. The last ones may be left out.
+    files: Vec<bool>,
+}
+
+impl Followed {
+    ghost use Rattle.gm_graph.specs.Followed.{AddsFollowed, followed_at, followed_by};
+
+    /// No files.
+    pub(crate) fn new(alloc: Global) -> Followed
+        ensures { (file : ℕ) → followed_at result file ≡ true → ⊥ }
+    {
+        Followed {
+            files: Vec::new(alloc),
+        }
+    }
+
+    /// Whether this file was followed.
+    fn has(&self, file: Option<u32>) -> bool
+        ensures { result ≡ followed_by self.now file }
+    {
+        match file {
+            None => false,
+            Some(file) => match self.files.get(file as usize) {
+                None => false,
+                Some(followed) => *followed,
+            },
+        }
+    }
+
+    /// Adds this file.
+    fn add(&mut self, file: Option<u32>) -> Result<(), AllocError>
+        ensures { OnOk result (AddsFollowed self.old self.new file) }
+    {
+        if let Some(file) = file {
+            put_at(&mut self.files, file, false, true)?;
+        }
+        Ok(())
+    }
+
+    /// Adds a turn at full depth for each of these modules, which a file requires, unless the file was followed.
+    pub(crate) fn follow(
+        &mut self,
+        builder: &mut GraphBuilder,
+        file: Option<u32>,
+        list: Lent<'_>,
+    ) -> Result<(), AddFault>
+        requires builder { IsBuilder (lent_table list) builder.old }
+        requires followed { followed_by self.old file ≡ true → (y : ModuleVersion) → Contains (lent_modules list) y
+            → Contains (turns_of (lent_table list) builder.old) (turn y Deep) }
+        ensures builder { OnOk result (IsBuilder (lent_table list.entry) builder.new) }
+        ensures adds { OnOk result (AddsAll (turns_of (lent_table list.entry) builder.old)
+            (turns_of (lent_table list.entry) builder.new) (lent_modules list.entry) Deep) }
+        ensures graph { OnOk result (KeepsGraph builder.old builder.new) }
+        ensures files { OnOk result (AddsFollowed self.old self.new file) }
+        ensures too_many { result ≡ Err AddFault.TooMany
+            → OverflowsWith (turns_of (lent_table list.entry) builder.old) (lent_modules list.entry) }
+    {
+        if self.has(file) {
+            return Ok(());
+        }
+        builder.add_all(list, Depth::Deep)?;
+        self.add(file)?;
+        Ok(())
+    }
+}
