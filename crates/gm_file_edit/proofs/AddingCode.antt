@@ -1,5 +1,5 @@
 -- The loops that find the position of a new entry, and the insertion of lines.
-use Rattle.std.proofs.Common.{◌≡◌, ℕ, suc, ◌+◌, ◌-◌, ◌≤◌, Bool, true, false, List, [], ◌∷◌, ◌++◌, length, take, drop, Option, Some, None, Result, Ok, Err, is_some, refl, sym, ap, subst, ◌∙◌, append-nil, arith, inl, inr}
+use Rattle.std.proofs.Common.{◌≡◌, ℕ, suc, ◌+◌, ◌-◌, ◌<◌, ◌≤◌, Bool, true, false, List, [], ◌∷◌, ◌++◌, length, take, drop, Option, Some, None, Result, Ok, Err, is_some, refl, sym, ap, subst, ◌∙◌, append-nil, arith, inl, inr}
 use Rattle.std.specs.Prelude.{if◌then◌else◌, insert, IfOk}
 use Rattle.std.proofs.lemmas.Bool.{cases_Bool}
 use Rattle.std.proofs.Math.Seq.{take-length}
@@ -10,12 +10,25 @@ use Rattle.gm_syntax.specs.Document.{Line, Blank, Comment, Open, Close, Entry}
 use Rattle.gm_syntax.specs.declared.line.Line as declared
 use Rattle.gm_syntax.specs.LineViews.{line_of, line_views}
 use Rattle.gm_file.specs.Directives.{Directive, block_after_line}
+use Rattle.gm_file.specs.Faults.{is_module}
 use Rattle.gm_file_edit.specs.declared.adding.Spot.{Spot}
-use Rattle.gm_file_edit.specs.Adding.{added, added_at, after_first_that, spot_after_first, spot_after_last, spot_after_line, close_len, further, past_block, insert_at_spot}
+use Rattle.gm_file_edit.specs.Adding.{added, added_at, after_first_that, spot_after_first, spot_after_last, spot_after_line, close_len, further, is_of, past_block, insert_at_spot}
 use Rattle.gm_file_edit.specs.NewWords.{entry_at, single}
 use Rattle.gm_file_edit.specs.Fates.{IsValidAt}
 use Rattle.gm_file_edit.specs.Holding.{directive_at, passes}
+use Rattle.gm_file_edit.specs.Keys.{is_entry_in, is_inside, key_of, scope_after, scope_of}
+use Rattle.gm_file_edit.specs.Packs.{line_at}
+use Rattle.gm_file_edit.specs.declared.adding.AddedVerb.{AddedVerb}
+use Rattle.gm_file_edit.specs.declared.keys.Key.{Key}
+use Rattle.gm_file_edit.specs.declared.keys.Scope.{Scope}
+use Rattle.gm_file_edit.specs.declared.keys.Scope.TheVariants as scope
+use Rattle.gm_file_edit.specs.declared.verb.Verb.{Verb}
+use Rattle.gm_file_edit.specs.declared.verb.Verb.TheVariants as verb
+use Rattle.gm_file_edit.proofs.Packs.{get_or-default}
+use Rattle.gm_file_edit.proofs.PassedOver.{added-said, module-said, scope-inside, scope-next}
 use Rattle.gm_file_edit.proofs.Sound.{SoundFrom}
+use Rattle.gm_file_edit.proofs.Targets.{entry-declares, entry-holds}
+use Rattle.gm_file_edit.proofs.Walking.{drop-next}
 
 -- the same position with `n` more lines before it
 abbrev pub shifted : ℕ → Spot → Spot
@@ -54,10 +67,6 @@ seek-right test whole rest more block n best line is so = let s = subst (SoundFr
 abbrev pub better : ℕ → Option Placed → Bool → Option Spot → Option Spot
 better n block true best = Some (record { before = n + 1; inside = is_some block })
 better n block false best = best
-
-pub some-mapped : {X Y : Type 0} (f : X → Y) (o : Option X) → is_some o ≡ is_some (option_map f o)
-some-mapped f None = refl
-some-mapped f (Some x) = refl
 
 place-more : (n : ℕ) (block : Option Placed) (b : Bool) (best later : Option Spot)
     → option_or (option_map (shifted (n + 1)) later) (better n block b best) ≡ option_or (option_map (shifted n) (option_or (option_map further later) (if b then Some (spot_after_line block) else None))) best
@@ -118,6 +127,91 @@ meet-found test whole rest more block n line is holds so =
 
 pub meet-none : (test : Directive → Bool) (whole rest : List (Line Placed)) (block : Option Placed) (n : ℕ) → rest ≡ [] → IsUnmet test whole rest block n → None ≡ spot_after_first test None whole
 meet-none test whole rest block n is so = ap (λ (lines : List (Line Placed)). option_map (shifted n) (spot_after_first test block lines)) (sym is) ∙ so.place
+
+-- ---- the loops over keys
+
+-- the line at an index, before the others
+line-here : (whole : List (Line Placed)) (n : ℕ) → n < length whole → drop n whole ≡ line_at whole n ∷ drop (n + 1) whole
+line-here whole n lt = drop-next whole n (line_at whole n) lt (get_or-default whole n Blank lt)
+
+-- Loop invariant: the last position so far is the best, and the scope is that of the block which is open.
+pub record IsLastTo (v : AddedVerb) (whole : List (Line Placed)) (at : Scope) (n : ℕ) (best : Option Spot) : Type 0 where
+  block : Option Placed
+  scope : at ≡ scope_of (verb.Added v) block
+  sought : IsSoughtTo (is_of v) whole (drop n whole) block n best
+
+pub last-begin : (v : AddedVerb) (whole : List (Line Placed)) → SoundFrom [] None whole → IsLastTo v whole scope.Outside 0 None
+last-begin v whole sound = record { block = None; scope = refl; sought = seek-begin (is_of v) whole sound }
+
+-- the best position after one more line
+abbrev pub better_at : ℕ → Scope → Bool → Option Spot → Option Spot
+better_at n at true best = Some (record { before = n + 1; inside = is_inside at })
+better_at n at false best = best
+
+better-same : (n : ℕ) (own : Verb) (at : Scope) (block : Option Placed) (b : Bool) (best : Option Spot) → at ≡ scope_of own block → better_at n at b best ≡ better n block b best
+better-same n own at block true best is = ap (λ (inside : Bool). Some (record { before = n + 1; inside = inside })) (ap is_inside is ∙ scope-inside own block)
+better-same n own at block false best is = refl
+
+pub last-more : (v : AddedVerb) (whole : List (Line Placed)) (at next_at : Scope) (n : ℕ) (key : Key) (best next : Option Spot) → n < length whole → key ≡ key_of (line_at whole n)
+    → next ≡ better_at n at (is_entry_in (verb.Added v) at key) best → next_at ≡ scope_after (verb.Added v) at key → IsLastTo v whole at n best → IsLastTo v whole next_at (n + 1) next
+last-more v whole at next_at n key best next lt is found behind so =
+    let line : Line Placed = line_at whole n in
+    let valid = seek-right (is_of v) whole (drop n whole) (drop (n + 1) whole) so.block n best line (line-here whole n lt) so.sought in
+    let held : is_entry_in (verb.Added v) at key ≡ passes (is_of v) (directive_at so.block line) =
+    ap (is_entry_in (verb.Added v) at) is ∙ ap (λ (c : Scope). is_entry_in (verb.Added v) c (key_of line)) so.scope ∙ added-said v so.block line ∙ entry-holds v so.block line valid in
+    record {
+      block = block_after_line so.block line;
+      scope = behind ∙ ap (scope_after (verb.Added v) at) is ∙ scope-next (verb.Added v) at so.block line so.scope;
+      sought =
+          seek-more (is_of v) whole (drop n whole) (drop (n + 1) whole) so.block (block_after_line so.block line) n best next line (line-here whole n lt) refl
+          (found ∙ better-same n (verb.Added v) at so.block (is_entry_in (verb.Added v) at key) best so.scope ∙ ap (λ (b : Bool). better n so.block b best) held) so.sought;
+    }
+
+last-place : (test : Directive → Bool) (whole rest : List (Line Placed)) (block : Option Placed) (n : ℕ) (best : Option Spot) → rest ≡ [] → IsSoughtTo test whole rest block n best → best ≡ spot_after_last test None whole
+last-place test whole rest block n best is so = ap (λ (ls : List (Line Placed)). option_or (option_map (shifted n) (spot_after_last test block ls)) best) (sym is) ∙ so.place
+
+pub last-end : (v : AddedVerb) (whole : List (Line Placed)) (at : Scope) (n : ℕ) (best : Option Spot) → length whole ≤ n → IsLastTo v whole at n best → best ≡ spot_after_last (is_of v) None whole
+last-end v whole at n best over so =
+    last-place (is_of v) whole (drop n whole) so.block n best (drop_all n whole over) so.sought
+
+-- Loop invariant: no line so far declares the module path.
+pub record IsUnmetTo (whole : List (Line Placed)) (at : Scope) (n : ℕ) : Type 0 where
+  block : Option Placed
+  scope : at ≡ scope_of verb.Module block
+  unmet : IsUnmet is_module whole (drop n whole) block n
+
+pub unmet-begin : (whole : List (Line Placed)) → SoundFrom [] None whole → IsUnmetTo whole scope.Outside 0
+unmet-begin whole sound = record { block = None; scope = refl; unmet = meet-begin is_module whole sound }
+
+module-held : (whole : List (Line Placed)) (at : Scope) (n : ℕ) (key : Key) → n < length whole → key ≡ key_of (line_at whole n) → (so : IsUnmetTo whole at n)
+    → is_entry_in verb.Module at key ≡ passes is_module (directive_at so.block (line_at whole n))
+module-held whole at n key lt is so =
+    let line : Line Placed = line_at whole n in
+    let valid = meet-right is_module whole (drop n whole) (drop (n + 1) whole) so.block n line (line-here whole n lt) so.unmet in
+    ap (is_entry_in verb.Module at) is ∙ ap (λ (c : Scope). is_entry_in verb.Module c (key_of line)) so.scope ∙ module-said so.block line ∙ entry-declares so.block line valid
+
+pub unmet-more : (whole : List (Line Placed)) (at next_at : Scope) (n : ℕ) (key : Key) → n < length whole → key ≡ key_of (line_at whole n)
+    → is_entry_in verb.Module at key ≡ false → next_at ≡ scope_after verb.Module at key → IsUnmetTo whole at n → IsUnmetTo whole next_at (n + 1)
+unmet-more whole at next_at n key lt is fails behind so =
+    let line : Line Placed = line_at whole n in
+    record {
+      block = block_after_line so.block line;
+      scope = behind ∙ ap (scope_after verb.Module at) is ∙ scope-next verb.Module at so.block line so.scope;
+      unmet =
+          meet-more is_module whole (drop n whole) (drop (n + 1) whole) so.block (block_after_line so.block line) n line (line-here whole n lt) refl
+          (sym (module-held whole at n key lt is so) ∙ fails) so.unmet;
+    }
+
+pub unmet-found : (whole : List (Line Placed)) (at : Scope) (n : ℕ) (key : Key) (inside : Bool) → n < length whole → key ≡ key_of (line_at whole n)
+    → is_entry_in verb.Module at key ≡ true → inside ≡ is_inside at → IsUnmetTo whole at n → Some (record { before = n + 1; inside = inside }) ≡ spot_after_first is_module None whole
+unmet-found whole at n key inside lt is holds within so =
+    let line : Line Placed = line_at whole n in
+    ap (λ (b : Bool). Some (record { before = n + 1; inside = b })) (within ∙ ap is_inside so.scope ∙ scope-inside verb.Module so.block)
+    ∙ meet-found is_module whole (drop n whole) (drop (n + 1) whole) so.block n line (line-here whole n lt) (sym (module-held whole at n key lt is so) ∙ holds) so.unmet
+
+pub unmet-end : (whole : List (Line Placed)) (at : Scope) (n : ℕ) → length whole ≤ n → IsUnmetTo whole at n → None ≡ spot_after_first is_module None whole
+unmet-end whole at n over so =
+    meet-none is_module whole (drop n whole) so.block n (drop_all n whole over) so.unmet
 
 -- ---- the position after a block
 

@@ -1,43 +1,15 @@
 -- The loop that drops entries.
-use Rattle.std.proofs.Common.{◌≡◌, Bool, true, false, List, [], ◌∷◌, Option, Some, None, Ok, Err, Bor, refl, sym, ap, subst, ◌∙◌}
-use Rattle.std.specs.Option.{option_map}
-use Rattle.gm_syntax.specs.Words.{Word}
+use Rattle.std.proofs.Common.{◌≡◌, Bool, true, false, List, [], ◌∷◌, Option, Some, None, refl, sym, ap, subst}
 use Rattle.gm_syntax.specs.Tokens.{Placed}
 use Rattle.gm_syntax.specs.Document.{Line}
-use Rattle.gm_syntax.specs.LineViews.{plain}
-use Rattle.gm_file.specs.declared.directive.Directive as declared
-use Rattle.gm_file.specs.declared.fault.DirectiveKind.{DirectiveKind}
-use Rattle.gm_file.specs.declared.fault.LineFault.TheVariants as line_fault
-use Rattle.gm_file.specs.DirectiveViews.{IsLineRead, directive_view}
-use Rattle.gm_file.specs.Directives.{Strict, Directive, DeclaresModule, DeclaresGo, Requires, Excludes, Replaces, Retracts, Kept, Item, block_after_line, directive_in, item_at}
-use Rattle.gm_file.specs.Faults.{item_kinds}
-use Rattle.gm_file.specs.Fields.{first}
-use Rattle.gm_file_edit.specs.Fates.{Fate, IsValidAt, dropped, dropping_from, fate_of, remaining_from}
-use Rattle.gm_file_edit.specs.Holding.{directive_at, passes, word_of}
+use Rattle.gm_file.specs.Directives.{Directive, DeclaresModule, DeclaresGo, Requires, Excludes, Replaces, Retracts, Kept, block_after_line}
+use Rattle.gm_file_edit.specs.Fates.{Fate, dropped, dropping_from, fate_of, remaining_from}
+use Rattle.gm_file_edit.specs.Holding.{directive_at, passes}
 use Rattle.gm_file_edit.proofs.Sound.{SoundFrom}
 use Rattle.gm_file_edit.proofs.Leaving.{AreMarked, AreMild, IsGone, Marked, Near, fates_in, left-sound, lines_in}
 use Rattle.gm_file.specs.Faults.{is_module}
 use Rattle.std.proofs.Common.{inl, inr}
 use Rattle.std.proofs.lemmas.Bool.{cases_Bool}
-
-block-words : (block : Option (Bor Placed)) → option_map (λ t. t.now.word) block ≡ option_map word_of (option_map (λ t. t.now) block)
-block-words None = refl
-block-words (Some t) = refl
-
-read-held : (item : Item) (read : Option declared.Directive) → IsLineRead Strict item (Ok read) → option_map directive_view read ≡ directive_in Strict item
-read-held item None h = sym h.0
-read-held item (Some d) h = sym h.0
-
-pub line-read : (block : Option (Bor Placed)) (line : Line Placed) (read : Option declared.Directive) → IsLineRead Strict (item_at (option_map (λ t. t.now.word) block, plain line)) (Ok read)
-    → option_map directive_view read ≡ directive_at (option_map (λ t. t.now) block) line
-line-read block line read h = read-held (item_at (option_map (λ t. t.now.word) block, plain line)) read h ∙ ap (λ (b : Option Word). directive_in Strict (item_at (b, plain line))) (block-words block)
-
-pub never-wrong : (P : Type 0) (block : Option (Bor Placed)) (line : Line Placed) (kind : DirectiveKind) → IsValidAt (option_map (λ t. t.now) block) line
-    → IsLineRead Strict (item_at (option_map (λ t. t.now.word) block, plain line)) (Err (line_fault.Kind kind)) → P
-never-wrong P block line kind right h =
-    let told = subst (λ (b : Option Word). first (item_kinds Strict right.0 (item_at (b, plain line))) ≡ Some kind) (block-words block) (h right.0) in
-    let none = ap first right.1 in
-    absurd (cc (told, none))
 
 -- each line with its fate
 abbrev pub dropping : (Directive → Bool) → Option Placed → List (Line Placed) → List Marked

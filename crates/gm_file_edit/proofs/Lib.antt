@@ -33,5 +33,7 @@ pub mod GoPlace
 pub mod Twice
 pub mod Undone
 pub mod EitherOrder
+pub mod Quotes
+pub mod Told
 pub mod PassedOver
 pub mod KeyedChanges

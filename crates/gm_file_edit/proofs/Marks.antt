@@ -1,13 +1,14 @@
 -- The marks of lines, and what removing marked lines leaves.
-use Rattle.std.proofs.Common.{◌≡◌, ℕ, suc, ◌+◌, ◌<◌, ◌≤◌, not, Bool, true, false, List, [], ◌∷◌, ◌++◌, length, take, set, replicate, Option, Some, None, is_some, refl, sym, ap, subst, ◌∙◌, append_assoc, arith, inl, inr, drop, get_or, map, zero}
+use Rattle.std.proofs.Common.{◌≡◌, ◌&&◌, ℕ, suc, ◌+◌, ◌<◌, ◌≤◌, not, Bool, true, false, List, [], ◌∷◌, ◌++◌, length, take, set, replicate, Option, Some, None, is_some, refl, sym, ap, subst, ◌∙◌, append_assoc, arith, inl, inr, drop, get_or, map, zero}
 use Rattle.std.specs.Prelude.{if◌then◌else◌, take_while}
 use Rattle.std.specs.List.{prefix_len}
 use Rattle.std.specs.Option.{option_to_list}
 use Rattle.std.proofs.Math.ListN.{get_or-map}
-use Rattle.std.proofs.lemmas.List.{length-append, length-map}
+use Rattle.std.proofs.lemmas.List.{drop_all, length-append, length-map}
 use Rattle.std.proofs.lemmas.Bool.{cases_Bool}
 use Rattle.gm_syntax.specs.Tokens.{Placed}
-use Rattle.gm_syntax.specs.Document.{Line, Blank}
+use Rattle.gm_syntax.specs.Document.{Line, Blank, IsValidLine}
+use Rattle.gm_syntax.specs.LineViews.{plain}
 use Rattle.gm_file.specs.Directives.{Directive, block_after_line, block_after_lines}
 use Rattle.gm_file_edit.specs.Fates.{Fate, IsValidAt, dropped, dropping_from, remaining_from, renewed, renewing_from}
 use Rattle.gm_file_edit.specs.Holding.{directive_at, passes}
@@ -22,11 +23,13 @@ use Rattle.gm_file_edit.specs.Packs.{fate_by, line_at, marked}
 use Rattle.gm_file_edit.specs.Searching.{is_there_from}
 use Rattle.gm_file_edit.specs.declared.keys.Key.{Key}
 use Rattle.gm_file_edit.specs.declared.keys.Scope.{Scope}
-use Rattle.gm_file_edit.specs.declared.keys.Sought.{Sought}
-use Rattle.gm_file_edit.specs.Keys.{key_of, may_concern, scope_of, sought_of, text_number}
-use Rattle.gm_file_edit.specs.Targets.{verb_of}
+use Rattle.gm_file_edit.specs.declared.keys.Scope.TheVariants as scope
+use Rattle.gm_file_edit.specs.declared.keys.SoughtKey.{SoughtKey}
+use Rattle.gm_file_edit.specs.declared.verb.Verb.{Verb}
+use Rattle.gm_file_edit.specs.Keys.{does_tell, is_entry_in, key_of, may_concern, scope_after, scope_of, sought_key, verb_sought}
+use Rattle.gm_file_edit.specs.Subjects.{sought_of}
 use Rattle.gm_file_edit.proofs.Packs.{get_or-default, get_or-other}
-use Rattle.gm_file_edit.proofs.PassedOver.{passed-over}
+use Rattle.gm_file_edit.proofs.PassedOver.{passed-over, scope-next, target-is}
 use Rattle.gm_file_edit.proofs.Sound.{SoundFrom}
 use Rattle.gm_file_edit.proofs.Walking.{drop-next}
 use Rattle.gm_file_edit.proofs.BySections.{edited-is-pass}
@@ -113,16 +116,24 @@ left-as-is test whole rest more block n line marks is so =
     let all : marks ≡ so.front ++ false ∷ no_marks more = so.all ∙ ap (λ (ls : List (Line Placed)). so.front ++ no_marks ls) is in
     all ∙ unchanged so.front (no_marks more) n so.count ∙ ap (λ (ms : List Bool). set ms n false) (sym all)
 
+here-stands : (test : Directive → Bool) (whole : List (Line Placed)) (n : ℕ) (block : Option Placed) (line : Line Placed) (marks : List Bool) → n < length whole → line ≡ line_at whole n
+    → IsMarkedTo test whole (drop n whole) block n marks → IsValidLine (is_some block) (plain line)
+here-stands test whole n block line marks lt is so = (subst (SoundFrom so.sound.0 block) (here whole n line lt is) so.sound.1).0
+
 -- a line that is passed over for its key
-pub mark-over : (edit : Edit) (number : ℕ) (seeks : Sought) (at : Scope) (whole : List (Line Placed)) (n : ℕ) (block : Option Placed) (keys : List Key) (key : Key) (marks : List Bool) → n < length whole → keys ≡ map key_of whole
-    → number ≡ text_number (verb_of edit) → seeks ≡ sought_of edit → at ≡ scope_of (verb_of edit) block → may_concern number seeks at (get_or keys n key) ≡ false
+mark-over : (edit : Edit) (own : Verb) (seeks : SoughtKey) (at : Scope) (whole : List (Line Placed)) (n : ℕ) (block : Option Placed) (keys : List Key) (key : Key) (marks : List Bool) → n < length whole → keys ≡ map key_of whole
+    → own ≡ verb_sought edit → seeks ≡ sought_key (sought_of edit) → at ≡ scope_of (verb_sought edit) block → may_concern own seeks at (get_or keys n key) ≡ false
     → IsMarkedTo (about edit) whole (drop n whole) block n marks → IsMarkedTo (about edit) whole (drop (n + 1) whole) block (n + 1) marks
-mark-over edit number seeks at whole n block keys key marks lt are of sought_so at_so off so =
+mark-over edit own seeks at whole n block keys key marks lt are of sought_so at_so off so =
     let line = line_at whole n in
     let count = length-map whole key_of in
-    let own : get_or keys n key ≡ key_of line =
+    let its : get_or keys n key ≡ key_of line =
     ap (λ (ks : List Key). get_or ks n key) are ∙ get_or-other (map key_of whole) n key (key_of Blank) (omega (arith, lt, count)) ∙ get_or-map key_of whole n Blank in
-    let over = passed-over edit block line (rw (sym of, sym sought_so, sym at_so) (ap (may_concern number seeks at) (sym own) ∙ off)) in
+    let far : may_concern (verb_sought edit) (sought_key (sought_of edit)) (scope_of (verb_sought edit) block) (key_of line) ≡ false =
+    ap (λ (v : Verb). may_concern v (sought_key (sought_of edit)) (scope_of (verb_sought edit) block) (key_of line)) (sym of)
+    ∙ ap (λ (s : SoughtKey). may_concern own s (scope_of (verb_sought edit) block) (key_of line)) (sym sought_so)
+    ∙ ap (λ (c : Scope). may_concern own seeks c (key_of line)) (sym at_so) ∙ ap (may_concern own seeks at) (sym its) ∙ off in
+    let over = passed-over edit block line (here-stands (about edit) whole n block line marks lt refl so) (mark-right-at (about edit) whole n block line marks lt refl so) far in
     mark-read (about edit) whole n block block line marks marks false lt refl (sym over.1) (sym over.0)
     (left-as-is (about edit) whole (drop n whole) (drop (n + 1) whole) block n line marks (here whole n line lt refl) so) so
 
@@ -141,31 +152,31 @@ none-passed : (test : Key → Bool) (key : Key) (rest : List Key) → test key �
 none-passed test key rest no_more = rw no_more refl
 
 -- the lines that are passed over at once, up to the first whose key may concern the operation
-pub mark-past : (edit : Edit) (number : ℕ) (seeks : Sought) (at : Scope) (whole : List (Line Placed)) (block : Option Placed) (keys : List Key) (marks : List Bool) → keys ≡ map key_of whole
-    → number ≡ text_number (verb_of edit) → seeks ≡ sought_of edit → at ≡ scope_of (verb_of edit) block
-    → (rest : List Key) (n k : ℕ) → drop n keys ≡ rest → k ≡ length (take_while (λ key. not (may_concern number seeks at key)) rest)
+pub mark-past : (edit : Edit) (own : Verb) (seeks : SoughtKey) (at : Scope) (whole : List (Line Placed)) (block : Option Placed) (keys : List Key) (marks : List Bool) → keys ≡ map key_of whole
+    → own ≡ verb_sought edit → seeks ≡ sought_key (sought_of edit) → at ≡ scope_of (verb_sought edit) block
+    → (rest : List Key) (n k : ℕ) → drop n keys ≡ rest → k ≡ length (take_while (λ key. not (may_concern own seeks at key)) rest)
     → IsMarkedTo (about edit) whole (drop n whole) block n marks → IsMarkedTo (about edit) whole (drop (n + k) whole) block (n + k) marks
-mark-past edit number seeks at whole block keys marks are of sought_so at_so [] n k is many so =
+mark-past edit own seeks at whole block keys marks are of sought_so at_so [] n k is many so =
     let same : n ≡ n + k = omega (arith, many) in
     subst (λ (m : ℕ). IsMarkedTo (about edit) whole (drop m whole) block m marks) same so
-mark-past edit number seeks at whole block keys marks are of sought_so at_so (key ∷ rest) n k is many so = elim (cases_Bool (may_concern number seeks at key)) [
+mark-past edit own seeks at whole block keys marks are of sought_so at_so (key ∷ rest) n k is many so = elim (cases_Bool (may_concern own seeks at key)) [
   | inl near ↦
-      let none : k ≡ 0 = many ∙ none-passed (λ key. not (may_concern number seeks at key)) key rest (ap not near) in
+      let none : k ≡ 0 = many ∙ none-passed (λ key. not (may_concern own seeks at key)) key rest (ap not near) in
       let same : n ≡ n + k = omega (arith, none) in
       subst (λ (m : ℕ). IsMarkedTo (about edit) whole (drop m whole) block m marks) same so
   | inr far ↦
-      let others : ℕ = length (take_while (λ key. not (may_concern number seeks at key)) rest) in
-      let more : k ≡ suc others = many ∙ one-passed (λ key. not (may_concern number seeks at key)) key rest (ap not far) in
+      let others : ℕ = length (take_while (λ key. not (may_concern own seeks at key)) rest) in
+      let more : k ≡ suc others = many ∙ one-passed (λ key. not (may_concern own seeks at key)) key rest (ap not far) in
       let there = at-drop keys n key rest is in
       let within = there.1 in
       let count = ap length are ∙ length-map whole key_of in
-      let off : may_concern number seeks at (get_or keys n key) ≡ false = ap (may_concern number seeks at) there.0 ∙ far in
-      let next = mark-over edit number seeks at whole n block keys key marks (omega (arith, within, count)) are of sought_so at_so off so in
+      let off : may_concern own seeks at (get_or keys n key) ≡ false = ap (may_concern own seeks at) there.0 ∙ far in
+      let next = mark-over edit own seeks at whole n block keys key marks (omega (arith, within, count)) are of sought_so at_so off so in
       let step : suc n ≡ n + 1 = omega arith in
       let behind : drop (n + 1) keys ≡ rest = ap (λ (m : ℕ). drop m keys) (sym step) ∙ there.2 in
       let same : n + 1 + others ≡ n + k = omega (arith, more) in
       subst (λ (m : ℕ). IsMarkedTo (about edit) whole (drop m whole) block m marks) same
-      (mark-past edit number seeks at whole block keys marks are of sought_so at_so rest (n + 1) others behind refl next)
+      (mark-past edit own seeks at whole block keys marks are of sought_so at_so rest (n + 1) others behind refl next)
 ]
 
 pub mark-end : (test : Directive → Bool) (whole rest : List (Line Placed)) (block : Option Placed) (n : ℕ) (marks : List Bool) → rest ≡ [] → IsMarkedTo test whole rest block n marks → marks ≡ marks_from test None whole
@@ -192,6 +203,52 @@ mark-within test whole rest block n marks so =
     let b = length-append so.front (no_marks rest) in
     let count = so.count in
     omega (arith, size, a, b, count)
+
+-- ---- the same by the scope that the loop keeps in place of the block
+
+-- the first lines are marked, and the scope is that of the block which is open after them
+pub record AreMarkedTo (edit : Edit) (whole : List (Line Placed)) (at : Scope) (n : ℕ) (marks : List Bool) : Type 0 where
+  block : Option Placed
+  scope : at ≡ scope_of (verb_sought edit) block
+  marked : IsMarkedTo (about edit) whole (drop n whole) block n marks
+
+pub scan-begin : (edit : Edit) (whole : List (Line Placed)) (at : Scope) → at ≡ scope.Outside → SoundFrom [] None whole → (marks : List Bool) (n : ℕ) → n ≡ length whole → marks ≡ replicate n false → AreMarkedTo edit whole at 0 marks
+scan-begin edit whole at outside sound marks n long is = record { block = None; scope = outside; marked = mark-begin (about edit) whole sound marks n long is }
+
+pub scan-past : (edit : Edit) (own : Verb) (seeks : SoughtKey) (at : Scope) (whole : List (Line Placed)) (keys : List Key) (marks : List Bool) → keys ≡ map key_of whole
+    → own ≡ verb_sought edit → seeks ≡ sought_key (sought_of edit)
+    → (rest : List Key) (n k : ℕ) → drop n keys ≡ rest → k ≡ length (take_while (λ key. not (may_concern own seeks at key)) rest)
+    → AreMarkedTo edit whole at n marks → AreMarkedTo edit whole at (n + k) marks
+scan-past edit own seeks at whole keys marks are of sought_so rest n k is many so =
+    record { block = so.block; scope = so.scope; marked = mark-past edit own seeks at whole so.block keys marks are of sought_so so.scope rest n k is many so.marked }
+
+-- a line that is looked at
+pub scan-read : (edit : Edit) (own : Verb) (at next_at : Scope) (whole : List (Line Placed)) (n : ℕ) (line : Line Placed) (key : Key) (marks next : List Bool) (mark : Bool) → n < length whole → line ≡ line_at whole n → key ≡ key_of (line_at whole n)
+    → own ≡ verb_sought edit → mark ≡ (is_entry_in own at key && does_tell (sought_of edit) at line) → next_at ≡ scope_after own at key → next ≡ set marks n mark
+    → AreMarkedTo edit whole at n marks → AreMarkedTo edit whole next_at (n + 1) next
+scan-read edit own at next_at whole n line key marks next mark lt is key_is of tested behind put so =
+    let keyed : key ≡ key_of line = key_is ∙ ap key_of (sym is) in
+    let tested_so : mark ≡ passes (about edit) (directive_at so.block line) =
+    tested ∙ ap (λ (v : Verb). is_entry_in v at key && does_tell (sought_of edit) at line) of
+    ∙ ap (λ (k : Key). is_entry_in (verb_sought edit) at k && does_tell (sought_of edit) at line) keyed
+    ∙ ap (λ (c : Scope). is_entry_in (verb_sought edit) c (key_of line) && does_tell (sought_of edit) c line) so.scope
+    ∙ target-is edit so.block line (here-stands (about edit) whole n so.block line marks lt is so.marked) (mark-right-at (about edit) whole n so.block line marks lt is so.marked) in
+    record {
+      block = block_after_line so.block line;
+      scope =
+          behind ∙ ap (λ (v : Verb). scope_after v at key) of ∙ ap (scope_after (verb_sought edit) at) keyed
+          ∙ scope-next (verb_sought edit) at so.block line so.scope;
+      marked = mark-read (about edit) whole n so.block (block_after_line so.block line) line marks next mark lt is refl tested_so put so.marked;
+    }
+
+pub scan-end : (edit : Edit) (whole : List (Line Placed)) (at : Scope) (n : ℕ) (marks : List Bool) → length whole ≤ n → AreMarkedTo edit whole at n marks → marks ≡ marks_from (about edit) None whole
+scan-end edit whole at n marks over so = mark-end (about edit) whole (drop n whole) so.block n marks (drop_all n whole over) so.marked
+
+pub scan-size : (edit : Edit) (whole : List (Line Placed)) (at : Scope) (n : ℕ) (marks : List Bool) → AreMarkedTo edit whole at n marks → length marks ≡ length whole
+scan-size edit whole at n marks so = mark-size (about edit) whole (drop n whole) so.block n marks so.marked
+
+pub scan-within : (edit : Edit) (whole : List (Line Placed)) (at : Scope) (n : ℕ) (marks : List Bool) → AreMarkedTo edit whole at n marks → n ≤ length whole
+scan-within edit whole at n marks so = mark-within (about edit) whole (drop n whole) so.block n marks so.marked
 
 -- ---- the first mark
 

@@ -1,18 +1,15 @@
--- Lines that hold no directive that an operation targets, by their verb and their first argument.
-use Rattle.std.proofs.Common.{◌≡◌, ℕ, ◌&&◌, Bool, true, false, List, [], ◌∷◌, map, not, suc, ◌+◌, ◌-◌, ◌<◌, ◌≤◌, length, get_or, take, drop, arith, Option, Some, None, refl, sym, ap, subst, ◌∙◌, inl, inr}
-use Rattle.std.specs.Prelude.{⊤, ◌⊎◌, codes, if◌then◌else◌, ◌||◌}
+-- Lines that hold no directive that an operation targets, by their verb, and the entries of a verb.
+use Rattle.std.proofs.Common.{◌≡◌, ℕ, Bool, true, false, List, [], ◌∷◌, map, Option, Some, None, refl, sym, ap, subst, ◌∙◌, inl, inr}
+use Rattle.std.specs.Prelude.{⊤, codes, if◌then◌else◌, ◌||◌}
 use Rattle.std.specs.Option.{option_map}
-use Rattle.std.specs.List.{before_first, after_first, prefix_len}
 use Rattle.std.specs.Str.{bytes_eq}
 use Rattle.std.proofs.lemmas.Bool.{cases_Bool}
 use Rattle.std.proofs.lemmas.Slice.Eq.{bytes_eq-Decides}
 use Rattle.gm_syntax.specs.Words.{Word}
-use Rattle.std.proofs.lemmas.List.{take_rest}
 use Rattle.gm_name.specs.ModuleVersion.{ModuleVersion}
-use Rattle.gm_syntax.specs.Tokens.{Placed, words_of}
+use Rattle.gm_syntax.specs.Tokens.{Placed}
 use Rattle.gm_syntax.specs.Document.{Line, Entry}
-use Rattle.gm_file.specs.Values.{argument, both}
-use Rattle.gm_file.specs.Directives.{Verb, ForModule, ForGo, ForRequire, ForExclude, ForReplace, ForRetract, ForNothing, Unknown, Strict, VersionInterval, pair, Left, Right, replacing, Directive, DeclaresModule, DeclaresGo, Requires, Excludes, Replaces, Retracts, Kept, Item, Silent, Opening, Saying, directive_in, directive_of, ends_of, is_arrow, is_empty_block, item_at, left_of, left_with, left_without, main_verb, one_of, pair_of, replacing_of, right_of}
+use Rattle.gm_file.specs.Directives.{Verb, ForModule, ForGo, ForRequire, ForExclude, ForReplace, ForRetract, ForNothing, Unknown, Strict, VersionInterval, Left, Directive, DeclaresModule, DeclaresGo, Requires, Excludes, Replaces, Retracts, Kept, Item, Silent, Opening, Saying, directive_in, directive_of, ends_of, is_empty_block, item_at, main_verb, one_of, pair_of, replacing_of}
 use Rattle.gm_file_edit.specs.About.{about, excludes_pair, is_replaced_by, replaces_left, requires_path, retracts_ends}
 use Rattle.gm_file.specs.Faults.{entry_kinds, is_go, is_module, item_kinds}
 use Rattle.gm_file_edit.specs.Edits.{Edit, Set, ModuleIs, GoIs, RequireAt, Drop, AnyRequire, Add, Exclude, AnyExclude, ReplaceWith, AnyReplace, Retract, AnyRetract}
@@ -22,7 +19,7 @@ use Rattle.gm_file_edit.specs.Adding.{is_of, verb_text}
 use Rattle.gm_file_edit.specs.Verbs.{is_exclude, is_replace, is_require, is_retract}
 use Rattle.gm_file_edit.specs.declared.adding.AddedVerb.{AddedVerb}
 use Rattle.gm_file_edit.specs.declared.adding.AddedVerb.TheVariants as verb
-use Rattle.gm_file_edit.specs.Targets.{is_entry_of, is_first, is_text, verb_of}
+use Rattle.gm_file_edit.specs.Targets.{is_entry_of, verb_of}
 
 -- ---- the verb of a directive
 
@@ -192,68 +189,6 @@ none-passes edit text words (Some d) is other = elim (cases_Bool (about edit d))
 pub other-verb : (edit : Edit) (text : List ℕ) (words : List Word) → bytes_eq text (verb_of edit) ≡ false → passes (about edit) (directive_of (main_verb text) words) ≡ false
 other-verb edit text words other = none-passes edit text words (directive_of (main_verb text) words) refl other
 
--- ---- the first argument of an entry
-
-other-required : (path : List ℕ) (a b : Option (List ℕ)) → is_text path a ≡ false → passes (requires_path path) (option_map Requires (both pair a b)) ≡ false
-other-required path None b other = refl
-other-required path (Some p) None other = refl
-other-required path (Some p) (Some v) other = other
-
-pub required : (path : List ℕ) (words : List Word) → is_first path words ≡ false → passes (requires_path path) (option_map Requires (pair_of words)) ≡ false
-required path [] other = refl
-required path (p ∷ []) other = refl
-required path (p ∷ v ∷ []) other = other-required path (argument p) (argument v) other
-required path (p ∷ v ∷ w ∷ words) other = refl
-
--- a test of left sides that fails for all but one path
-abbrev pub IsOfPath : List ℕ → (Left → Bool) → Type 0
-IsOfPath path test = (left : Left) → bytes_eq left.path path ≡ false → test left ≡ false
-
--- a left side passes the test
-abbrev pub left_passes : (Left → Bool) → Option Left → Bool
-left_passes test None = false
-left_passes test (Some left) = test left
-
-one-left : (path : List ℕ) (test : Left → Bool) → IsOfPath path test → (a : Option (List ℕ)) → is_text path a ≡ false → left_passes test (option_map left_without a) ≡ false
-one-left path test only None other = refl
-one-left path test only (Some p) other = only (left_without p) other
-
-two-left : (path : List ℕ) (test : Left → Bool) → IsOfPath path test → (a b : Option (List ℕ)) → is_text path a ≡ false → left_passes test (both left_with a b) ≡ false
-two-left path test only None b other = refl
-two-left path test only (Some p) None other = refl
-two-left path test only (Some p) (Some v) other = only (left_with p v) other
-
-other-left : (path : List ℕ) (test : Left → Bool) → IsOfPath path test → (words : List Word) → is_first path words ≡ false → left_passes test (left_of words) ≡ false
-other-left path test only [] other = refl
-other-left path test only (p ∷ []) other = one-left path test only (argument p) other
-other-left path test only (p ∷ v ∷ []) other = two-left path test only (argument p) (argument v) other
-other-left path test only (p ∷ v ∷ w ∷ words) other = refl
-
--- what stands before a word begins with the first word, unless that is nothing
-pub before-cons : {X : Type 0} (test : X → Bool) (x : X) (xs : List X) → (before_first test (x ∷ xs) ≡ []) ⊎ ((ys : List X) × (before_first test (x ∷ xs) ≡ x ∷ ys))
-before-cons test x xs = elim (cases_Bool (test x)) [
-  | inl holds ↦ inl (rw holds refl)
-  | inr fails ↦ let more : 1 + prefix_len (λ y. not (test y)) xs ≡ suc (prefix_len (λ y. not (test y)) xs) = omega arith in inr (before_first test xs, rw fails (ap (λ (n : ℕ). take n (x ∷ xs)) more))
-]
-
-first-before : (path : List ℕ) (words : List Word) → is_first path words ≡ false → is_first path (before_first is_arrow words) ≡ false
-first-before path [] other = refl
-first-before path (w ∷ words) other = elim (before-cons is_arrow w words) [
-  | inl none ↦ ap (is_first path) none
-  | inr some ↦ ap (is_first path) some.1 ∙ other
-]
-
-pub sides-pass : (test : Left → Bool) (about_it : Directive → Bool) → ((left : Left) (right : Right) → about_it (Replaces (replacing left right)) ≡ test left) → (l : Option Left) (r : Option Right)
-    → left_passes test l ≡ false → passes about_it (option_map Replaces (both replacing l r)) ≡ false
-sides-pass test about_it is None r fails = refl
-sides-pass test about_it is (Some left) None fails = refl
-sides-pass test about_it is (Some left) (Some right) fails = is left right ∙ fails
-
-pub replaced : (path : List ℕ) (test : Left → Bool) (about_it : Directive → Bool) → IsOfPath path test → ((left : Left) (right : Right) → about_it (Replaces (replacing left right)) ≡ test left)
-    → (words : List Word) → is_first path words ≡ false → passes about_it (option_map Replaces (replacing_of words)) ≡ false
-replaced path test about_it only is words other =
-    sides-pass test about_it is (left_of (before_first is_arrow words)) (right_of (after_first is_arrow words)) (other-left path test only (before_first is_arrow words) (first-before path words other))
-
 -- the verb of a text that spells the verb of an operation
 pub same-verb : (edit : Edit) → main_verb (verb_of edit) ≡ verb_about edit
 same-verb (Set (ModuleIs path)) = refl
@@ -278,11 +213,6 @@ loose-other edit verb arguments suffix fails = elim (cases_Bool (is_empty_block 
   | inl empty ↦ rw empty refl
   | inr full ↦ rw full fails
 ]
-
-pub no-words-other : (edit : Edit) (words : List Placed) (suffix : Option (List ℕ)) → length words < 1 → passes (about edit) (directive_at None (Entry words suffix)) ≡ false
-unfolding item_at
-no-words-other edit [] suffix short = refl
-no-words-other edit (word ∷ words) suffix short = absurd (omega (arith, short))
 
 pub block-other : (edit : Edit) (verb : Placed) (words : List Placed) (suffix : Option (List ℕ))
     → passes (about edit) (directive_of (main_verb verb.word.spelling) (map (λ t. t.word) words)) ≡ false
@@ -415,31 +345,3 @@ entry-holds v block line valid = valid-passes (verb_text v) (added-test v).0 (is
 
 pub entry-declares : (block : Option Placed) (line : Line Placed) → IsValidAt block line → is_entry_of (codes "module") (item_of block line) ≡ passes is_module (directive_at block line)
 entry-declares block line valid = valid-passes (codes "module") ForModule is_module module-test (item_of block line) valid.0 valid.1
-
-and-false : (b : Bool) → (b && false) ≡ false
-and-false true = refl
-and-false false = refl
-
-and-true : (b : Bool) → (b && true) ≡ b
-and-true true = refl
-and-true false = refl
-
--- words outside blocks that are no whole block
-pub single-of : (text : List ℕ) (verb : Placed) (words : List Placed) (suffix : Option (List ℕ)) (same empty : Bool) → 1 ≤ length words → verb ≡ get_or words 0 verb
-    → same ≡ bytes_eq verb.word.spelling text → empty ≡ is_empty_block (words_of (take (length words - 1) (drop 1 words)))
-    → (same && not empty) ≡ is_entry_of text (item_of None (Entry words suffix))
-unfolding item_at
-single-of text verb [] suffix same empty long is tested closed = absurd (omega (arith, long))
-single-of text verb (word ∷ words) suffix same empty long is tested closed =
-    let rest : take (length (word ∷ words) - 1) (drop 1 (word ∷ words)) ≡ words = take_rest (word ∷ words) 1 in
-    let shut : empty ≡ is_empty_block (words_of words) = closed ∙ ap (λ (ws : List Placed). is_empty_block (words_of ws)) rest in
-    let said : same ≡ bytes_eq word.word.spelling text = tested ∙ ap (λ (w : Placed). bytes_eq w.word.spelling text) is in
-    elim (cases_Bool (is_empty_block (words_of words))) [
-      | inl yes_empty ↦ rw (shut, yes_empty) (and-false same)
-      | inr not_empty ↦ rw (shut, not_empty, said) (and-true (bytes_eq word.word.spelling text))
-    ]
-
-pub no-words-of : (text : List ℕ) (words : List Placed) (suffix : Option (List ℕ)) → length words < 1 → false ≡ is_entry_of text (item_of None (Entry words suffix))
-unfolding item_at
-no-words-of text [] suffix short = refl
-no-words-of text (word ∷ words) suffix short = absurd (omega (arith, short))

@@ -1,147 +1,162 @@
--- Keys of lines: numbers that tell most lines apart without a look at their words. No public contract cites it.
-use Rattle.std.specs.Prelude.{◌+◌, ◌*◌, ◌%◌, ◌^◌, ◌||◌, ◌&&◌, ◌==◌, if◌then◌else◌, ℕ, Bool, true, List, Option, Some, None, slice_get}
+-- Keys of lines: what tells most lines apart without a look at their words. No public contract cites it.
+use Rattle.std.specs.Prelude.{◌%◌, ◌^◌, ◌&&◌, ◌==◌, if◌then◌else◌, ℕ, Bool, true, false, List, [], ◌∷◌, Option, Some, None, codes}
 use Rattle.std.specs.Str.{bytes_eq}
 use Rattle.gm_name.specs.Fingerprint.{fingerprint}
-use Rattle.gm_name.specs.ModuleVersion.{ModuleVersion}
-use Rattle.gm_syntax.specs.declared.word.Kind.{Kind}
-use Rattle.gm_syntax.specs.declared.word.Kind.TheVariants as kind
-use Rattle.gm_syntax.specs.Words.{Word}
-use Rattle.gm_syntax.specs.Tokens.{Placed}
+use Rattle.gm_syntax.specs.Tokens.{Placed, words_of}
 use Rattle.gm_syntax.specs.Document.{Line, Blank, Comment, Open, Close, Entry}
-use Rattle.gm_file.specs.Directives.{Left}
+use Rattle.gm_file.specs.Directives.{is_empty_block}
+use Rattle.gm_file_edit.specs.declared.adding.AddedVerb.{AddedVerb}
+use Rattle.gm_file_edit.specs.declared.adding.AddedVerb.TheVariants as added
 use Rattle.gm_file_edit.specs.declared.keys.Key.{Key}
+use Rattle.gm_file_edit.specs.declared.keys.Key.TheVariants as key
+use Rattle.gm_file_edit.specs.declared.keys.EntryKey.{EntryKey}
+use Rattle.gm_file_edit.specs.declared.keys.Hashes.{Hashes}
+use Rattle.gm_file_edit.specs.declared.keys.SoughtKey.{SoughtKey}
+use Rattle.gm_file_edit.specs.declared.keys.SoughtKey.TheVariants as sought
 use Rattle.gm_file_edit.specs.declared.keys.Scope.{Scope}
 use Rattle.gm_file_edit.specs.declared.keys.Scope.TheVariants as scope
-use Rattle.gm_file_edit.specs.declared.keys.Sought.{Sought}
-use Rattle.gm_file_edit.specs.declared.keys.Sought.TheVariants as sought
+use Rattle.gm_file_edit.specs.declared.verb.Verb.{Verb}
+use Rattle.gm_file_edit.specs.declared.verb.Verb.TheVariants as verb
 use Rattle.gm_file_edit.specs.Edits.{Edit, Set, ModuleIs, GoIs, RequireAt, Drop, AnyRequire, Add, Exclude, AnyExclude, ReplaceWith, AnyReplace, Retract, AnyRetract}
+use Rattle.gm_file_edit.specs.Subjects.{Sought, Any, First, Both, Subject, is_told, subject_inside, subject_outside}
 
--- ---- the numbers of words
+-- ---- verbs
 
--- the number of a text
-abbrev pub text_number : List ℕ → ℕ
-text_number text = fingerprint 0 text % 2 ^ 32
+-- the verb that is spelled like this
+abbrev pub verb_named : List ℕ → Verb
+verb_named text =
+    if bytes_eq text (codes "module") then verb.Module
+    else (if bytes_eq text (codes "go") then verb.Go
+    else (if bytes_eq text (codes "require") then verb.Added added.Require
+    else (if bytes_eq text (codes "exclude") then verb.Added added.Exclude
+    else (if bytes_eq text (codes "replace") then verb.Added added.Replace
+    else (if bytes_eq text (codes "retract") then verb.Added added.Retract
+    else verb.Other)))))
 
-abbrev pub number_by_kind : Kind → List ℕ → ℕ
-number_by_kind kind.Bare text = text_number text
-number_by_kind kind.Text text = 0
-number_by_kind kind.Mark text = 1
+abbrev pub is_same_added : AddedVerb → AddedVerb → Bool
+is_same_added added.Require added.Require = true
+is_same_added added.Exclude added.Exclude = true
+is_same_added added.Replace added.Replace = true
+is_same_added added.Retract added.Retract = true
+is_same_added _ _ = false
 
--- the number of a word: that of its text, 0 for a string, whose value is not its text, and 1 for a mark
-abbrev pub word_number : Word → ℕ
-word_number word = number_by_kind word.kind word.spelling
+-- whether a verb is this one, which is that of an operation
+abbrev pub is_same_verb : Verb → Verb → Bool
+is_same_verb verb.Module verb.Module = true
+is_same_verb verb.Go verb.Go = true
+is_same_verb (verb.Added own) (verb.Added other) = is_same_added own other
+is_same_verb _ _ = false
 
--- the number of a word, or 1 if there is none
-abbrev pub number_at : Option Placed → ℕ
-number_at None = 1
-number_at (Some word) = word_number word.word
+-- the verb of the directives that an operation targets
+abbrev pub verb_sought : Edit → Verb
+verb_sought (Set (ModuleIs path)) = verb.Module
+verb_sought (Set (GoIs text)) = verb.Go
+verb_sought (Set (RequireAt p)) = verb.Added added.Require
+verb_sought (Drop (AnyRequire path)) = verb.Added added.Require
+verb_sought (Add (Exclude p)) = verb.Added added.Exclude
+verb_sought (Drop (AnyExclude p)) = verb.Added added.Exclude
+verb_sought (Set (ReplaceWith r)) = verb.Added added.Replace
+verb_sought (Drop (AnyReplace left)) = verb.Added added.Replace
+verb_sought (Add (Retract ends)) = verb.Added added.Retract
+verb_sought (Drop (AnyRetract ends)) = verb.Added added.Retract
 
--- the number of two numbers, or 0 if one of them is 0
-abbrev pub joined : ℕ → ℕ → ℕ
-joined a b = if (a == 0) || (b == 0) then 0 else (a * 2654435769 % 2 ^ 32 + b) % 2 ^ 32
-
--- the number of the ends of an interval; equal ends have that of one version
-abbrev pub ends_number : ℕ → ℕ → ℕ
-ends_number low high = if low == high then joined low 1 else joined low high
-
--- the number of what arguments are about, by the numbers of the first, the second and the fourth: the ends in brackets
--- if the first is a mark, and otherwise the first two
-abbrev pub target_by_kind : Kind → ℕ → ℕ → ℕ → ℕ
-target_by_kind kind.Bare first second fourth = joined first second
-target_by_kind kind.Text first second fourth = joined first second
-target_by_kind kind.Mark first second fourth = ends_number second fourth
-
--- the same by the first argument, by the numbers of the first two, and by the fourth
-abbrev pub target_from : Option Placed → ℕ → ℕ → Option Placed → ℕ
-target_from None one two fourth = 1
-target_from (Some first) one two fourth = target_by_kind first.word.kind one two (number_at fourth)
-
-abbrev pub target_number : Option Placed → Option Placed → Option Placed → ℕ
-target_number first second fourth = target_from first (number_at first) (number_at second) fourth
+-- the verb of the entry that words are outside blocks; a verb with `(` and `)` is a block without entries
+abbrev pub verb_outside : List Placed → Verb
+verb_outside [] = verb.Other
+verb_outside (word ∷ words) = if is_empty_block (words_of words) then verb.Other else verb_named word.word.spelling
 
 -- ---- the keys of lines
 
--- The key of the words of an entry: the numbers of the first two words, and of what the arguments are about, if all
--- words are arguments, as in a block, and if the first is the verb.
-abbrev pub words_key : List Placed → Key
+-- the hash of a text
+abbrev pub hash : List ℕ → ℕ
+hash text = fingerprint 0 text % 2 ^ 32
+
+-- the hash of a text, or of the empty text if there is none
+abbrev pub hash_at : Option (List ℕ) → ℕ
+hash_at None = hash []
+hash_at (Some text) = hash text
+
+abbrev pub hashes_of : Subject → Hashes
+hashes_of s = record { first = hash_at s.first; second = hash_at s.second }
+
+-- the key of the words of an entry: what it is about outside blocks, and in one
+abbrev pub words_key : List Placed → EntryKey
 words_key words =
-    record {
-      first = number_at (slice_get words 0);
-      second = number_at (slice_get words 1);
-      inside = target_number (slice_get words 0) (slice_get words 1) (slice_get words 3);
-      outside = target_number (slice_get words 1) (slice_get words 2) (slice_get words 4);
-    }
+    record { verb = verb_outside words; inside = hashes_of (subject_inside words); outside = hashes_of (subject_outside words) }
 
--- the key with this number four times
-abbrev pub key_with : ℕ → Key
-key_with number = record { first = number; second = number; inside = number; outside = number }
-
--- the key of a line; 0 stands for a bracket, which every operation reads
+-- the key of a line
 abbrev pub key_of : Line Placed → Key
-key_of Blank = key_with 2
-key_of (Comment text) = key_with 2
-key_of (Open verb suffix) = key_with 0
-key_of (Close suffix) = key_with 0
-key_of (Entry words suffix) = words_key words
+key_of Blank = key.Silent
+key_of (Comment text) = key.Silent
+key_of (Open word suffix) = key.Open (verb_named word.word.spelling)
+key_of (Close suffix) = key.Close
+key_of (Entry words suffix) = key.Entry (words_key words)
 
--- ---- what an operation looks for
+-- the hashes of what an operation looks for
+abbrev pub sought_key : Sought → SoughtKey
+sought_key Any = sought.Any
+sought_key (First path) = sought.First (hash path)
+sought_key (Both path version) = sought.Both (record { first = hash path; second = hash_at version })
 
--- the number of a path and a version
-abbrev pub pair_number : ModuleVersion → ℕ
-pair_number p = joined (text_number p.0) (text_number p.1)
+-- ---- the scope of lines
 
--- the number of a path, and of a version if there is one
-abbrev pub left_number_of : ℕ → Option (List ℕ) → ℕ
-left_number_of path None = joined path 1
-left_number_of path (Some version) = joined path (text_number version)
-
-abbrev pub left_number : Left → ℕ
-left_number left = left_number_of (text_number left.path) left.version
-
--- a left side without a version supersedes each with its path
-abbrev pub sought_of_left : ℕ → Option (List ℕ) → Sought
-sought_of_left path None = sought.Path path
-sought_of_left path (Some version) = sought.Target (joined path (text_number version))
-
--- the number that the lines have that an operation targets: that of a path, or of all that an entry is about
-abbrev pub sought_of : Edit → Sought
-sought_of (Set (ModuleIs path)) = sought.Any
-sought_of (Set (GoIs text)) = sought.Any
-sought_of (Set (RequireAt p)) = sought.Path (text_number p.0)
-sought_of (Drop (AnyRequire path)) = sought.Path (text_number path)
-sought_of (Add (Exclude p)) = sought.Target (pair_number p)
-sought_of (Drop (AnyExclude p)) = sought.Target (pair_number p)
-sought_of (Set (ReplaceWith r)) = sought_of_left (text_number r.0.path) r.0.version
-sought_of (Drop (AnyReplace left)) = sought.Target (left_number left)
-sought_of (Add (Retract ends)) = sought.Target (ends_number (text_number ends.0) (text_number ends.1))
-sought_of (Drop (AnyRetract ends)) = sought.Target (ends_number (text_number ends.0) (text_number ends.1))
-
--- ---- which lines may be those
-
--- where a line is, as far as entries with a verb are concerned: outside blocks, in one of the verb, or in another
 abbrev pub scope_if : Bool → Scope
 scope_if own = if own then scope.Own else scope.Other
 
-abbrev pub scope_of : List ℕ → Option Placed → Scope
-scope_of text None = scope.Outside
-scope_of text (Some verb) = scope_if (bytes_eq verb.word.spelling text)
+-- the scope in the open block, if any, of an operation with this verb
+abbrev pub scope_of : Verb → Option Placed → Scope
+scope_of own None = scope.Outside
+scope_of own (Some word) = scope_if (is_same_verb own (verb_named word.word.spelling))
 
--- whether a number may be the one that is looked for
-abbrev pub may_equal : ℕ → ℕ → Bool
-may_equal number own = (own == 0) || (own == number)
+-- the scope after the line with a key
+abbrev pub scope_after : Verb → Scope → Key → Scope
+scope_after own before key.Silent = before
+scope_after own before (key.Open other) = scope_if (is_same_verb own other)
+scope_after own before key.Close = scope.Outside
+scope_after own before (key.Entry entry) = before
 
--- whether a first word with this number may spell the verb; a mark is not ruled out
-abbrev pub may_spell : ℕ → ℕ → Bool
-may_spell verb own = may_equal verb own || (own == 1)
+-- whether a scope is in a block
+abbrev pub is_inside : Scope → Bool
+is_inside scope.Outside = false
+is_inside scope.Own = true
+is_inside scope.Other = true
 
--- whether arguments whose first has this number, and which are about this number, may be those of an operation
-abbrev pub may_be_about : Sought → ℕ → ℕ → Bool
-may_be_about sought.Any path target = true
-may_be_about (sought.Path number) path target = may_equal number path
-may_be_about (sought.Target number) path target = may_equal number target
+-- ---- which lines an operation targets
 
--- whether a line may be a bracket, or an entry with the verb of this number and such arguments
-abbrev pub may_concern : ℕ → Sought → Scope → Key → Bool
-may_concern verb sought scope.Outside key = may_spell verb key.first && may_be_about sought key.second key.outside
-may_concern verb sought scope.Own key = may_be_about sought key.first key.inside
-may_concern verb sought scope.Other key = key.inside == 0
+abbrev pub is_entry_by : Verb → Scope → EntryKey → Bool
+is_entry_by own scope.Outside entry = is_same_verb own entry.verb
+is_entry_by own scope.Own entry = true
+is_entry_by own scope.Other entry = false
+
+-- whether the line with a key is an entry of the verb
+abbrev pub is_entry_in : Verb → Scope → Key → Bool
+is_entry_in own at (key.Entry entry) = is_entry_by own at entry
+is_entry_in own at _ = false
+
+-- whether arguments with these hashes may be about what an operation looks for
+abbrev pub may_tell : SoughtKey → Hashes → Bool
+may_tell sought.Any found = true
+may_tell (sought.First path) found = found.first == path
+may_tell (sought.Both both) found = (found.first == both.first) && (found.second == both.second)
+
+abbrev pub may_concern_by : Verb → SoughtKey → Scope → EntryKey → Bool
+may_concern_by own looked_for scope.Outside entry = is_same_verb own entry.verb && may_tell looked_for entry.outside
+may_concern_by own looked_for scope.Own entry = may_tell looked_for entry.inside
+may_concern_by own looked_for scope.Other entry = false
+
+-- whether the line with a key is a bracket, or may be an entry of the verb that is about what an operation looks for
+abbrev pub may_concern : Verb → SoughtKey → Scope → Key → Bool
+may_concern own looked_for at key.Silent = false
+may_concern own looked_for at (key.Open _) = true
+may_concern own looked_for at key.Close = true
+may_concern own looked_for at (key.Entry entry) = may_concern_by own looked_for at entry
+
+abbrev pub does_tell_by : Sought → Scope → List Placed → Bool
+does_tell_by looked_for scope.Outside words = is_told looked_for (subject_outside words)
+does_tell_by looked_for scope.Own words = is_told looked_for (subject_inside words)
+does_tell_by looked_for scope.Other words = false
+
+-- whether the arguments of an entry in this scope are about what an operation looks for
+abbrev pub does_tell : Sought → Scope → Line Placed → Bool
+does_tell looked_for at (Entry words suffix) = does_tell_by looked_for at words
+does_tell looked_for at _ = false

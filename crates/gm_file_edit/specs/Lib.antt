@@ -11,6 +11,7 @@ pub mod Marks
 pub mod NewWords
 pub mod Renewing
 pub mod Sound
+pub mod Subjects
 pub mod Searching
 pub mod Adding
 pub mod Pass

@@ -1,9 +1,7 @@
--- What a line must have to hold a directive that an operation targets: a verb, and mostly a first argument.
-use Rattle.std.specs.Prelude.{ℕ, Bool, false, List, [], ◌∷◌, codes, Option, Some, None}
+-- The verb that a line must have to hold a directive that an operation targets.
+use Rattle.std.specs.Prelude.{ℕ, Bool, false, List, codes}
 use Rattle.std.specs.Str.{bytes_eq}
-use Rattle.gm_syntax.specs.Words.{Word}
 use Rattle.gm_file.specs.Directives.{Item, Silent, Opening, Saying}
-use Rattle.gm_file.specs.Values.{argument}
 use Rattle.gm_file_edit.specs.Edits.{Edit, Set, ModuleIs, GoIs, RequireAt, Drop, AnyRequire, Add, Exclude, AnyExclude, ReplaceWith, AnyReplace, Retract, AnyRetract}
 
 -- the verb of the directives that an operation targets
@@ -18,16 +16,6 @@ verb_of (Set (ReplaceWith r)) = codes "replace"
 verb_of (Drop (AnyReplace left)) = codes "replace"
 verb_of (Add (Retract ends)) = codes "retract"
 verb_of (Drop (AnyRetract ends)) = codes "retract"
-
--- whether a word is an argument with this value
-abbrev pub is_text : List ℕ → Option (List ℕ) → Bool
-is_text text None = false
-is_text text (Some value) = bytes_eq value text
-
--- whether the first of the words is an argument with this value
-abbrev pub is_first : List ℕ → List Word → Bool
-is_first text [] = false
-is_first text (word ∷ words) = is_text text (argument word)
 
 -- whether what a line says is an entry with this verb
 abbrev pub is_entry_of : List ℕ → Item → Bool

@@ -3,7 +3,6 @@
 //! A new entry goes next to its own kind, so that the file keeps its grouping.
 
 ghost use Rattle.std.specs.Prelude.{◌≡◌, ◌∷◌, ◌++◌, ◌≤◌, [], length, take, drop, List, IfOk, OnErr, OnOk, None, codes};
-ghost use Rattle.std.specs.Option.{option_map};
 ghost use Rattle.gm_syntax.specs.Document.{Blank, IsDocument, Line as LineOf};
 ghost use Rattle.gm_syntax.specs.Tokens.{Placed};
 ghost use Rattle.gm_syntax.specs.LineViews.{line_of, line_views, plain_lines};
@@ -12,14 +11,12 @@ ghost use Rattle.gm_file.specs.Faults.{fault_of, is_module};
 ghost use Rattle.gm_file_edit.specs.Adding.{added, after_first_that, spot_after_first, spot_after_last, close_len, is_of, past_block, verb_text};
 ghost use Rattle.gm_syntax.specs.Lines.{HasNoLineFeed};
 ghost use Rattle.gm_file_edit.specs.NewWords.{entry_at, made_word, single};
-ghost use Rattle.gm_file_edit.specs.Fates.{IsValidAt};
-ghost use Rattle.gm_file_edit.specs.Holding.{directive_at, passes};
+ghost use Rattle.gm_file_edit.specs.Keys.{is_inside};
 
 use crate::keyed_lines::KeyedLines;
-use crate::keys::Scope;
+use crate::keys::{Scope, is_entry_in, scope_after};
 use crate::new_words::one_word;
-use crate::targeting::{is_entry_in, is_entry_of, scope_after_line};
-use gm_file::block_after_line;
+use crate::verb::Verb;
 use gm_syntax::{Line, Token};
 use std::alloc::{AllocError, Global};
 
@@ -58,52 +55,54 @@ fn verb_text(verb: AddedVerb) -> &'static str
     }
 }
 
-/// Whether a line of a valid file declares the module path.
-fn declares_module(block: Option<&Token>, line: &Line) -> bool
-    requires { IsValidAt (option_map (λ t. t.now) block) (line_of line.now) }
-    ensures { result ≡ passes is_module (directive_at (option_map (λ t. t.now) block.entry) (line_of line.now)) }
+/// Whether a scope is in a block.
+fn is_inside(scope: Scope) -> bool
+    ensures { result ≡ is_inside scope }
 {
-    is_entry_of("module", block, line)
+    match scope {
+        Scope::Outside => false,
+        Scope::Own | Scope::Other => true,
+    }
 }
 
 /// The position directly after the last entry with this verb, if any.
-fn last_spot(verb: AddedVerb, lines: &[Line]) -> Option<Spot>
-    requires document { IsDocument (plain_lines (line_views lines.now)) }
-    requires sound { fault_of Strict (plain_lines (line_views lines.now)) ≡ None }
-    ensures { result ≡ spot_after_last (is_of verb) None (line_views lines.now) }
+fn last_spot(verb: AddedVerb, lines: &KeyedLines) -> Option<Spot>
+    requires document { IsDocument (plain_lines lines.now) }
+    requires sound { fault_of Strict (plain_lines lines.now) ≡ None }
+    ensures { result ≡ spot_after_last (is_of verb) None lines.now }
 {
-    let text = verb_text(verb);
+    let own = Verb::Added(verb);
     let mut spot = None;
-    let mut block = None;
     let mut scope = Scope::Outside;
-    for (n, line) in lines.iter().enumerate() {
-        if is_entry_in(text, scope, line) {
+    for n in 0..lines.len() {
+        let key = lines.key(n);
+        if is_entry_in(own, scope, key) {
             spot = Some(Spot {
                 before: n + 1,
-                inside: block.is_some(),
+                inside: is_inside(scope),
             });
         }
-        block = block_after_line(block, line);
-        scope = scope_after_line(text, scope, line);
+        scope = scope_after(own, scope, key);
     }
     spot
 }
 
 /// The position directly after the entry that declares the module path, if any.
-fn module_spot(lines: &[Line]) -> Option<Spot>
-    requires document { IsDocument (plain_lines (line_views lines.now)) }
-    requires sound { fault_of Strict (plain_lines (line_views lines.now)) ≡ None }
-    ensures { result ≡ spot_after_first is_module None (line_views lines.now) }
+fn module_spot(lines: &KeyedLines) -> Option<Spot>
+    requires document { IsDocument (plain_lines lines.now) }
+    requires sound { fault_of Strict (plain_lines lines.now) ≡ None }
+    ensures { result ≡ spot_after_first is_module None lines.now }
 {
-    let mut block = None;
-    for (n, line) in lines.iter().enumerate() {
-        if declares_module(block, line) {
+    let mut scope = Scope::Outside;
+    for n in 0..lines.len() {
+        let key = lines.key(n);
+        if is_entry_in(Verb::Module, scope, key) {
             return Some(Spot {
                 before: n + 1,
-                inside: block.is_some(),
+                inside: is_inside(scope),
             });
         }
-        block = block_after_line(block, line);
+        scope = scope_after(Verb::Module, scope, key);
     }
     None
 }
@@ -190,7 +189,7 @@ pub(crate) fn add<'a>(
         ≡ added (is_of verb) (verb_text verb) arguments.entry.items lines.old) }
     ensures err { OnErr result (lines.new ≡ lines.old) }
 {
-    match last_spot(verb, lines.lines()) {
+    match last_spot(verb, lines) {
         Some(spot) => {
             let entry = entry_at(alloc, spot.inside, verb, arguments)?;
             lines.insert(spot.before, entry)
@@ -204,16 +203,15 @@ pub(crate) fn add<'a>(
 
 /// The index at which a new go directive goes: after the module directive, or after its block if it is in one, or the
 /// end of the file if there is no module directive.
-fn go_index(lines: &[Line]) -> usize
-    requires document { IsDocument (plain_lines (line_views lines.now)) }
-    requires sound { fault_of Strict (plain_lines (line_views lines.now)) ≡ None }
+fn go_index(lines: &KeyedLines) -> usize
+    requires document { IsDocument (plain_lines lines.now) }
+    requires sound { fault_of Strict (plain_lines lines.now) ≡ None }
     ensures index { (new : List (LineOf Placed))
-        → take result (line_views lines.now) ++ (new ++ drop result (line_views lines.now))
-        ≡ after_first_that is_module new (line_views lines.now) }
+        → take result lines.now ++ (new ++ drop result lines.now) ≡ after_first_that is_module new lines.now }
     ensures in_range { result ≤ length lines.now }
 {
     match module_spot(lines) {
-        Some(spot) => past_block(lines, spot),
+        Some(spot) => past_block(lines.lines(), spot),
         None => lines.len(),
     }
 }
@@ -232,6 +230,6 @@ pub(crate) fn add_go<'a>(
         (Blank ∷ single (codes "go") (made_word version.now ∷ []) ∷ []) lines.old) }
     ensures err { OnErr result (lines.new ≡ lines.old) }
 {
-    let at = go_index(lines.lines());
+    let at = go_index(lines);
     insert_single(alloc, "go", one_word(alloc, version)?, at, lines)
 }

@@ -144,6 +144,14 @@ impl<'a> KeyedLines<'a> {
         self.keys.as_slice()
     }
 
+    /// The key of the line at an index.
+    pub(crate) fn key(&self, at: usize) -> Key
+        requires { at < length self.now }
+        ensures { result ≡ key_of (line_at self.now at) }
+    {
+        self.keys[at]
+    }
+
     /// The number of lines.
     pub(crate) fn len(&self) -> usize
         ensures { result ≡ length self.now }

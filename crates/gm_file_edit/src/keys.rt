@@ -1,40 +1,63 @@
 //! Keys of lines.
 //!
-//! An operation looks for one path, for one path at one version, or for one interval. A line's key has numbers of
-//! these, so most lines are passed over without a look at their words, which are elsewhere in memory. Which numbers
-//! count depends on whether the line is in a block, so a key has those for either place: it then depends on the line
-//! alone.
+//! An operation looks for one path, for one path at one version, or for one interval. A line's key has hashes of these,
+//! so most lines are passed over without a look at their words, which are elsewhere in memory. What an entry is about
+//! depends on whether it is in a block, so a key has the hashes for either place: it then depends on the line alone.
 
-ghost use Rattle.std.specs.Prelude.{◌≡◌, ◌%◌, ◌^◌, slice_get};
+ghost use Rattle.std.specs.Prelude.{◌≡◌, ◌%◌, ◌^◌};
 ghost use Rattle.std.specs.Option.{option_map};
 ghost use Rattle.gm_syntax.specs.LineViews.{line_of};
-ghost use Rattle.gm_file_edit.specs.Keys.{ends_number, joined, key_of, key_with, may_be_about, may_concern, may_equal, may_spell, number_at, target_from, text_number, word_number, words_key};
+ghost use Rattle.gm_file_edit.specs.Keys.{hash, hash_at, hashes_of, key_of, may_concern, may_tell, scope_after, is_entry_in, is_same_verb, scope_if, sought_key, verb_outside, words_key};
+ghost use Rattle.gm_file_edit.specs.Subjects.{sought_view, subject_view};
 
+use crate::subject::{Sought, Subject, subject_inside, subject_outside};
+use crate::verb::{Verb, is_same_verb, verb_named};
+use gm_file::is_empty_block;
 use gm_name::fingerprint;
-use gm_syntax::{Kind, Line, Token};
+use gm_syntax::{Line, Token};
 
-/// The numbers of a line.
+/// What is known of a line without a look at it.
 #[derive(Clone, Copy)]
-pub(crate) struct Key {
-    /// The number of the first word.
-    first: u32,
-    /// The number of the second word.
-    second: u32,
-    /// The number of what the words are about if they are the arguments of an entry in a block.
-    inside: u32,
-    /// The number of what the words after the first are about if that one is the verb.
-    outside: u32,
+pub(crate) enum Key {
+    /// A blank line or a comment.
+    Silent,
+    /// The opening of a block of this verb.
+    Open(Verb),
+    /// The closing of a block.
+    Close,
+    /// An entry.
+    Entry(EntryKey),
 }
 
-/// The numbers that the lines have that an operation targets.
+/// What is known of an entry.
 #[derive(Clone, Copy)]
-pub(crate) enum Sought {
+pub(crate) struct EntryKey {
+    /// The verb of the entry if it is outside blocks.
+    verb: Verb,
+    /// The hashes of what it is about if it is in a block.
+    inside: Hashes,
+    /// The hashes of what it is about if it is outside blocks.
+    outside: Hashes,
+}
+
+/// The hashes of what arguments are about.
+#[derive(Clone, Copy)]
+pub(crate) struct Hashes {
+    /// The hash of the path or of the lower end.
+    first: u32,
+    /// The hash of the version or of the upper end.
+    second: u32,
+}
+
+/// The hashes of what an operation looks for.
+#[derive(Clone, Copy)]
+pub(crate) enum SoughtKey {
     /// Any.
     Any,
-    /// The number of the first argument.
-    Path(u32),
-    /// The number of all that the arguments are about: a path and a version, a path without one, or an interval.
-    Target(u32),
+    /// The hash of the path.
+    First(u32),
+    /// The hashes of all.
+    Both(Hashes),
 }
 
 /// Whether a line is outside blocks, in a block of the operation's verb, or in another block.
@@ -48,120 +71,70 @@ pub(crate) enum Scope {
     Other,
 }
 
-/// The number of a mark, and of a word that is missing.
-pub(crate) const NONE: u32 = 1;
-
-/// The number of a line without words.
-const SILENT: u32 = 2;
-
-/// The number of a line or a word that has to be read.
-const ANY: u32 = 0;
-
-/// An odd number near 2^32 divided by the golden ratio, whose multiples are spread evenly.
-const FACTOR: u32 = 2_654_435_769;
-
-/// The number of a text.
-pub(crate) fn text_number(text: &str) -> u32
-    ensures { result ≡ text_number text.now }
+/// The hash of a text.
+fn hash(text: &str) -> u32
+    ensures { result ≡ hash text.now }
 {
     (fingerprint(0, text) % 4_294_967_296) as u32
 }
 
-/// The number of two numbers, or `ANY` if one of them is that.
-pub(crate) fn joined(a: u32, b: u32) -> u32
-    ensures { result ≡ joined a b }
+/// The hash of a text, or of the empty text if there is none.
+fn hash_at(text: Option<&str>) -> u32
+    ensures { result ≡ hash_at (option_map (λ t. t.now) text.entry) }
 {
-    if a == ANY || b == ANY {
-        return ANY;
-    }
-    a.wrapping_mul(FACTOR).wrapping_add(b)
-}
-
-/// The number of the ends of an interval. Equal ends have that of one version, since they are written as one.
-pub(crate) fn ends_number(low: u32, high: u32) -> u32
-    ensures { result ≡ ends_number low high }
-{
-    if low == high {
-        return joined(low, NONE);
-    }
-    joined(low, high)
-}
-
-/// The number of a word: that of its text, `ANY` for a string, whose value is not its text, and `NONE` for a mark.
-fn word_number(word: &Token) -> u32
-    ensures { result ≡ word_number word.now.word }
-{
-    match word.kind() {
-        Kind::Bare => text_number(word.spelling()),
-        Kind::Text => ANY,
-        Kind::Mark => NONE,
+    match text {
+        None => hash(""),
+        Some(text) => hash(text),
     }
 }
 
-/// The number of a word, if there is one.
-fn number_at(word: Option<&Token>) -> u32
-    ensures { result ≡ number_at (option_map (λ t. t.now) word.entry) }
+/// The hashes of what arguments are about.
+fn hashes_of(subject: Subject) -> Hashes
+    ensures { result ≡ hashes_of (subject_view subject.entry) }
 {
-    match word {
-        None => NONE,
-        Some(word) => word_number(word),
+    Hashes {
+        first: hash_at(subject.first),
+        second: hash_at(subject.second),
     }
 }
 
-/// The number of what arguments are about, by the first, the numbers of the first two, and the fourth: the ends in
-/// brackets if the first is a mark, and otherwise the first two.
-fn target_from(first: Option<&Token>, one: u32, two: u32, fourth: Option<&Token>) -> u32
-    ensures { result
-        ≡ target_from (option_map (λ t. t.now) first.entry) one two (option_map (λ t. t.now) fourth.entry) }
+/// The hashes of what an operation looks for.
+pub(crate) fn sought_key(sought: Sought) -> SoughtKey
+    ensures { result ≡ sought_key (sought_view sought.entry) }
 {
-    match first {
-        None => NONE,
-        Some(word) => match word.kind() {
-            Kind::Bare | Kind::Text => joined(one, two),
-            Kind::Mark => ends_number(two, number_at(fourth)),
-        },
+    match sought {
+        Sought::Any => SoughtKey::Any,
+        Sought::First(path) => SoughtKey::First(hash(path)),
+        Sought::Both(path, version) => SoughtKey::Both(Hashes {
+            first: hash(path),
+            second: hash_at(version),
+        }),
     }
 }
 
-/// The number of the word at an index.
-fn number_in(words: &[Token], at: usize) -> u32
-    ensures { result ≡ number_at (slice_get words.now at) }
+/// The verb of the entry that words are outside blocks. A verb with `(` and `)` is a block without entries.
+fn verb_outside(words: &[Token]) -> Verb
+    ensures { result ≡ verb_outside words.now }
 {
-    number_at(words.get(at))
-}
-
-/// The number of what the arguments from an index on are about, by the numbers of the first two. The fourth is at
-/// another index.
-fn target_in(words: &[Token], at: usize, one: u32, two: u32, fourth: usize) -> u32
-    ensures { result ≡ target_from (slice_get words.now at) one two (slice_get words.now fourth) }
-{
-    target_from(words.get(at), one, two, words.get(fourth))
+    match words {
+        [] => Verb::Other,
+        [first, arguments @ ..] => {
+            if is_empty_block(arguments) {
+                return Verb::Other;
+            }
+            verb_named(first.spelling())
+        }
+    }
 }
 
 /// The key of the words of an entry.
-fn words_key(words: &[Token]) -> Key
+fn words_key(words: &[Token]) -> EntryKey
     ensures { result ≡ words_key words.now }
 {
-    let first = number_in(words, 0);
-    let second = number_in(words, 1);
-    let third = number_in(words, 2);
-    Key {
-        first,
-        second,
-        inside: target_in(words, 0, first, second, 3),
-        outside: target_in(words, 1, second, third, 4),
-    }
-}
-
-/// The key with a number four times.
-fn key_with(number: u32) -> Key
-    ensures { result ≡ key_with number }
-{
-    Key {
-        first: number,
-        second: number,
-        inside: number,
-        outside: number,
+    EntryKey {
+        verb: verb_outside(words),
+        inside: hashes_of(subject_inside(words)),
+        outside: hashes_of(subject_outside(words)),
     }
 }
 
@@ -170,49 +143,71 @@ pub(crate) fn key_of(line: &Line) -> Key
     ensures { result ≡ key_of (line_of line.now) }
 {
     match line {
-        Line::Blank | Line::Comment(_) => key_with(SILENT),
-        Line::Open(_, _) | Line::Close(_) => key_with(ANY),
-        Line::Entry(words, _) => words_key(words.as_slice()),
+        Line::Blank | Line::Comment(_) => Key::Silent,
+        Line::Open(verb, _) => Key::Open(verb_named(verb.spelling())),
+        Line::Close(_) => Key::Close,
+        Line::Entry(words, _) => Key::Entry(words_key(words.as_slice())),
     }
 }
 
-/// Whether a number may be the one that is looked for.
-fn may_equal(number: u32, own: u32) -> bool
-    ensures { result ≡ may_equal number own }
+/// The scope in a block of this verb.
+fn scope_in(own: Verb, verb: Verb) -> Scope
+    ensures { result ≡ scope_if (is_same_verb own verb) }
 {
-    own == ANY || own == number
+    if is_same_verb(own, verb) {
+        Scope::Own
+    } else {
+        Scope::Other
+    }
 }
 
-/// Whether a first word with this number may spell the verb. A mark is not ruled out: that no mark spells one need not
-/// be known here.
-fn may_spell(verb: u32, own: u32) -> bool
-    ensures { result ≡ may_spell verb own }
+/// The scope after the line with a key.
+pub(crate) fn scope_after(own: Verb, scope: Scope, key: Key) -> Scope
+    ensures { result ≡ scope_after own scope key }
 {
-    may_equal(verb, own) || own == NONE
+    match key {
+        Key::Open(verb) => scope_in(own, verb),
+        Key::Close => Scope::Outside,
+        Key::Silent | Key::Entry(_) => scope,
+    }
 }
 
-/// Whether arguments whose first has the number `path`, and which are about the number `target`, may be those of an
-/// operation.
-fn may_be_about(sought: Sought, path: u32, target: u32) -> bool
-    ensures { result ≡ may_be_about sought path target }
+/// Whether the line with a key is an entry of the operation's verb.
+pub(crate) fn is_entry_in(own: Verb, scope: Scope, key: Key) -> bool
+    ensures { result ≡ is_entry_in own scope key }
+{
+    match key {
+        Key::Entry(entry) => match scope {
+            Scope::Outside => is_same_verb(own, entry.verb),
+            Scope::Own => true,
+            Scope::Other => false,
+        },
+        Key::Silent | Key::Open(_) | Key::Close => false,
+    }
+}
+
+/// Whether arguments with these hashes may be about what an operation looks for.
+fn may_tell(sought: SoughtKey, hashes: Hashes) -> bool
+    ensures { result ≡ may_tell sought hashes }
 {
     match sought {
-        Sought::Any => true,
-        Sought::Path(number) => may_equal(number, path),
-        Sought::Target(number) => may_equal(number, target),
+        SoughtKey::Any => true,
+        SoughtKey::First(path) => hashes.first == path,
+        SoughtKey::Both(both) => hashes.first == both.first && hashes.second == both.second,
     }
 }
 
-/// Whether a line with this key may be a bracket, or an entry that an operation targets. `verb` is the number of the
-/// operation's verb.
-pub(crate) fn may_concern(verb: u32, sought: Sought, scope: Scope, key: Key) -> bool
-    ensures { result ≡ may_concern verb sought scope key }
+/// Whether the line with a key is a bracket, or may be an entry that an operation targets.
+pub(crate) fn may_concern(own: Verb, sought: SoughtKey, scope: Scope, key: Key) -> bool
+    ensures { result ≡ may_concern own sought scope key }
 {
-    match scope {
-        Scope::Outside => {
-            may_spell(verb, key.first) && may_be_about(sought, key.second, key.outside)
-        }
-        Scope::Own => may_be_about(sought, key.first, key.inside),
-        Scope::Other => key.inside == ANY,
+    match key {
+        Key::Silent => false,
+        Key::Open(_) | Key::Close => true,
+        Key::Entry(entry) => match scope {
+            Scope::Outside => is_same_verb(own, entry.verb) && may_tell(sought, entry.outside),
+            Scope::Own => may_tell(sought, entry.inside),
+            Scope::Other => false,
+        },
     }
 }

@@ -10,7 +10,6 @@
 //! the file, in the same block if that one is in a block. If there are no requirements, it adds one at the end.
 #![tactic(auto)]
 
-mod about;
 mod adding;
 mod apply;
 mod applying;
@@ -25,7 +24,9 @@ mod op;
 mod packing;
 mod part;
 mod renewing;
+mod subject;
 mod targeting;
+mod verb;
 
 pub use crate::apply::Apply;
 pub use crate::editor::Editor;

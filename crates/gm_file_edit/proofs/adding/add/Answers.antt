@@ -1,8 +1,8 @@
-use Rattle.std.proofs.Common.{◌≡◌, ◌∙◌, ◌∷◌, [], List, ℕ, OnOk, None, ap, refl, subst, sym}
+use Rattle.std.proofs.Common.{◌≡◌, ◌∙◌, ◌∷◌, [], List, ℕ, OnOk, ap, refl, subst, sym}
 use Rattle.gm_syntax.specs.Document.{Blank, Line}
 use Rattle.gm_syntax.specs.LineViews.{line_of}
 use Rattle.gm_syntax.specs.Tokens.{Placed}
-use Rattle.gm_file_edit.specs.Adding.{is_of, spot_after_last, verb_text}
+use Rattle.gm_file_edit.specs.Adding.{is_of, verb_text}
 use Rattle.gm_file_edit.specs.NewWords.{single}
 use Rattle.gm_file_edit.proofs.AddingCode.{add-last, add-there, at-end}
 use Rattle.gm_file_edit.proofs.AddingSound.{last-in-range}
@@ -10,12 +10,12 @@ use Rattle.gm_file_edit.proofs.adding.add.Goals as goal
 
 pub insert-requires : goal.insert-requires
 insert-requires c =
-    let told = c.last_spot.ensures ∙ ap (spot_after_last (is_of c.args.verb) None) c.lines.ensures.lines in
+    let told = c.last_spot.ensures in
     last-in-range c.args.verb c.args.lines.now c.in-Some.spot (sym told ∙ c.in-Some.is)
 
 pub returns-in_ok-entry-in-Some-clause-ok : goal.returns-in_ok-entry-in-Some-clause-ok
 returns-in_ok-entry-in-Some-clause-ok c =
-    let told = c.last_spot.ensures ∙ ap (spot_after_last (is_of c.args.verb) None) c.lines.ensures.lines in
+    let told = c.last_spot.ensures in
     let lines = c.args.lines.now in
     subst (λ (ls : List (Line Placed)). OnOk c.insert.result (c.insert.new.self ≡ ls))
     (add-there (is_of c.args.verb) (verb_text c.args.verb) c.args.arguments.items lines lines (line_of c.in_ok-entry-in-Some.entry) c.last_spot.result c.in-Some.spot told c.in-Some.is refl c.in_ok-entry-in-Some.ensures)
@@ -23,7 +23,7 @@ returns-in_ok-entry-in-Some-clause-ok c =
 
 pub returns-in-None-clause-ok : goal.returns-in-None-clause-ok
 returns-in-None-clause-ok c =
-    let told = c.last_spot.ensures ∙ ap (spot_after_last (is_of c.args.verb) None) c.lines.ensures.lines in
+    let told = c.last_spot.ensures in
     let lines = c.args.lines.now in
     let entry : Line Placed = single c.verb_text.result.now c.args.arguments.items in
     subst (λ (ls : List (Line Placed)). OnOk c.insert_single.result (c.insert_single.new.lines ≡ ls))
