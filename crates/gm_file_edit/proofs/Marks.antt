@@ -26,10 +26,10 @@ use Rattle.gm_file_edit.specs.declared.keys.Scope.{Scope}
 use Rattle.gm_file_edit.specs.declared.keys.Scope.TheVariants as scope
 use Rattle.gm_file_edit.specs.declared.keys.SoughtKey.{SoughtKey}
 use Rattle.gm_file_edit.specs.declared.verb.Verb.{Verb}
-use Rattle.gm_file_edit.specs.Keys.{does_tell, is_entry_in, key_of, may_concern, scope_after, scope_of, sought_key, verb_sought}
+use Rattle.gm_file_edit.specs.Keys.{does_tell, key_of, may_concern, scope_after, scope_of, sought_key, verb_sought}
 use Rattle.gm_file_edit.specs.Subjects.{sought_of}
 use Rattle.gm_file_edit.proofs.Packs.{get_or-default, get_or-other}
-use Rattle.gm_file_edit.proofs.PassedOver.{passed-over, scope-next, target-is}
+use Rattle.gm_file_edit.proofs.PassedOver.{scope-next, target-by}
 use Rattle.gm_file_edit.proofs.Sound.{SoundFrom}
 use Rattle.gm_file_edit.proofs.Walking.{drop-next}
 use Rattle.gm_file_edit.proofs.BySections.{edited-is-pass}
@@ -107,77 +107,9 @@ pub mark-read : (test : Directive → Bool) (whole : List (Line Placed)) (n : �
 mark-read test whole n block next_block line marks next mark lt is behind tested put so =
     mark-more test whole (drop n whole) (drop (n + 1) whole) block next_block n line marks next mark (here whole n line lt is) behind tested put so
 
--- a line without a mark, which needs none
-unchanged : (front back : List Bool) (n : ℕ) → length front ≡ n → front ++ false ∷ back ≡ set (front ++ false ∷ back) n false
-unchanged front back n count = sym (append_assoc front (false ∷ []) back) ∙ sym (set-next front back false n count)
-
-left-as-is : (test : Directive → Bool) (whole rest more : List (Line Placed)) (block : Option Placed) (n : ℕ) (line : Line Placed) (marks : List Bool) → rest ≡ line ∷ more → IsMarkedTo test whole rest block n marks → marks ≡ set marks n false
-left-as-is test whole rest more block n line marks is so =
-    let all : marks ≡ so.front ++ false ∷ no_marks more = so.all ∙ ap (λ (ls : List (Line Placed)). so.front ++ no_marks ls) is in
-    all ∙ unchanged so.front (no_marks more) n so.count ∙ ap (λ (ms : List Bool). set ms n false) (sym all)
-
 here-stands : (test : Directive → Bool) (whole : List (Line Placed)) (n : ℕ) (block : Option Placed) (line : Line Placed) (marks : List Bool) → n < length whole → line ≡ line_at whole n
     → IsMarkedTo test whole (drop n whole) block n marks → IsValidLine (is_some block) (plain line)
 here-stands test whole n block line marks lt is so = (subst (SoundFrom so.sound.0 block) (here whole n line lt is) so.sound.1).0
-
--- a line that is passed over for its key
-mark-over : (edit : Edit) (own : Verb) (seeks : SoughtKey) (at : Scope) (whole : List (Line Placed)) (n : ℕ) (block : Option Placed) (keys : List Key) (key : Key) (marks : List Bool) → n < length whole → keys ≡ map key_of whole
-    → own ≡ verb_sought edit → seeks ≡ sought_key (sought_of edit) → at ≡ scope_of (verb_sought edit) block → may_concern own seeks at (get_or keys n key) ≡ false
-    → IsMarkedTo (about edit) whole (drop n whole) block n marks → IsMarkedTo (about edit) whole (drop (n + 1) whole) block (n + 1) marks
-mark-over edit own seeks at whole n block keys key marks lt are of sought_so at_so off so =
-    let line = line_at whole n in
-    let count = length-map whole key_of in
-    let its : get_or keys n key ≡ key_of line =
-    ap (λ (ks : List Key). get_or ks n key) are ∙ get_or-other (map key_of whole) n key (key_of Blank) (omega (arith, lt, count)) ∙ get_or-map key_of whole n Blank in
-    let far : may_concern (verb_sought edit) (sought_key (sought_of edit)) (scope_of (verb_sought edit) block) (key_of line) ≡ false =
-    ap (λ (v : Verb). may_concern v (sought_key (sought_of edit)) (scope_of (verb_sought edit) block) (key_of line)) (sym of)
-    ∙ ap (λ (s : SoughtKey). may_concern own s (scope_of (verb_sought edit) block) (key_of line)) (sym sought_so)
-    ∙ ap (λ (c : Scope). may_concern own seeks c (key_of line)) (sym at_so) ∙ ap (may_concern own seeks at) (sym its) ∙ off in
-    let over = passed-over edit block line (here-stands (about edit) whole n block line marks lt refl so) (mark-right-at (about edit) whole n block line marks lt refl so) far in
-    mark-read (about edit) whole n block block line marks marks false lt refl (sym over.1) (sym over.0)
-    (left-as-is (about edit) whole (drop n whole) (drop (n + 1) whole) block n line marks (here whole n line lt refl) so) so
-
-at-drop : (keys : List Key) (n : ℕ) (key : Key) (more : List Key) → drop n keys ≡ key ∷ more → (get_or keys n key ≡ key) × (n < length keys) × (drop (suc n) keys ≡ more)
-at-drop [] zero key more is = absurd cc
-at-drop [] (suc n) key more is = absurd cc
-at-drop (first ∷ keys) zero key more is = (cc, omega arith, cc)
-at-drop (first ∷ keys) (suc n) key more is = let r = at-drop keys n key more is in let lt = r.1 in (r.0, omega (arith, lt), r.2)
-
-one-passed : (test : Key → Bool) (key : Key) (rest : List Key) → test key ≡ true → length (take_while test (key ∷ rest)) ≡ suc (length (take_while test rest))
-one-passed test key rest over =
-    let step : 1 + prefix_len test rest ≡ suc (prefix_len test rest) = omega arith in
-    rw over (ap (λ (n : ℕ). length (take n (key ∷ rest))) step)
-
-none-passed : (test : Key → Bool) (key : Key) (rest : List Key) → test key ≡ false → length (take_while test (key ∷ rest)) ≡ 0
-none-passed test key rest no_more = rw no_more refl
-
--- the lines that are passed over at once, up to the first whose key may concern the operation
-pub mark-past : (edit : Edit) (own : Verb) (seeks : SoughtKey) (at : Scope) (whole : List (Line Placed)) (block : Option Placed) (keys : List Key) (marks : List Bool) → keys ≡ map key_of whole
-    → own ≡ verb_sought edit → seeks ≡ sought_key (sought_of edit) → at ≡ scope_of (verb_sought edit) block
-    → (rest : List Key) (n k : ℕ) → drop n keys ≡ rest → k ≡ length (take_while (λ key. not (may_concern own seeks at key)) rest)
-    → IsMarkedTo (about edit) whole (drop n whole) block n marks → IsMarkedTo (about edit) whole (drop (n + k) whole) block (n + k) marks
-mark-past edit own seeks at whole block keys marks are of sought_so at_so [] n k is many so =
-    let same : n ≡ n + k = omega (arith, many) in
-    subst (λ (m : ℕ). IsMarkedTo (about edit) whole (drop m whole) block m marks) same so
-mark-past edit own seeks at whole block keys marks are of sought_so at_so (key ∷ rest) n k is many so = elim (cases_Bool (may_concern own seeks at key)) [
-  | inl near ↦
-      let none : k ≡ 0 = many ∙ none-passed (λ key. not (may_concern own seeks at key)) key rest (ap not near) in
-      let same : n ≡ n + k = omega (arith, none) in
-      subst (λ (m : ℕ). IsMarkedTo (about edit) whole (drop m whole) block m marks) same so
-  | inr far ↦
-      let others : ℕ = length (take_while (λ key. not (may_concern own seeks at key)) rest) in
-      let more : k ≡ suc others = many ∙ one-passed (λ key. not (may_concern own seeks at key)) key rest (ap not far) in
-      let there = at-drop keys n key rest is in
-      let within = there.1 in
-      let count = ap length are ∙ length-map whole key_of in
-      let off : may_concern own seeks at (get_or keys n key) ≡ false = ap (may_concern own seeks at) there.0 ∙ far in
-      let next = mark-over edit own seeks at whole n block keys key marks (omega (arith, within, count)) are of sought_so at_so off so in
-      let step : suc n ≡ n + 1 = omega arith in
-      let behind : drop (n + 1) keys ≡ rest = ap (λ (m : ℕ). drop m keys) (sym step) ∙ there.2 in
-      let same : n + 1 + others ≡ n + k = omega (arith, more) in
-      subst (λ (m : ℕ). IsMarkedTo (about edit) whole (drop m whole) block m marks) same
-      (mark-past edit own seeks at whole block keys marks are of sought_so at_so rest (n + 1) others behind refl next)
-]
 
 pub mark-end : (test : Directive → Bool) (whole rest : List (Line Placed)) (block : Option Placed) (n : ℕ) (marks : List Bool) → rest ≡ [] → IsMarkedTo test whole rest block n marks → marks ≡ marks_from test None whole
 mark-end test whole rest block n marks is so =
@@ -215,24 +147,18 @@ pub record AreMarkedTo (edit : Edit) (whole : List (Line Placed)) (at : Scope) (
 pub scan-begin : (edit : Edit) (whole : List (Line Placed)) (at : Scope) → at ≡ scope.Outside → SoundFrom [] None whole → (marks : List Bool) (n : ℕ) → n ≡ length whole → marks ≡ replicate n false → AreMarkedTo edit whole at 0 marks
 scan-begin edit whole at outside sound marks n long is = record { block = None; scope = outside; marked = mark-begin (about edit) whole sound marks n long is }
 
-pub scan-past : (edit : Edit) (own : Verb) (seeks : SoughtKey) (at : Scope) (whole : List (Line Placed)) (keys : List Key) (marks : List Bool) → keys ≡ map key_of whole
-    → own ≡ verb_sought edit → seeks ≡ sought_key (sought_of edit)
-    → (rest : List Key) (n k : ℕ) → drop n keys ≡ rest → k ≡ length (take_while (λ key. not (may_concern own seeks at key)) rest)
-    → AreMarkedTo edit whole at n marks → AreMarkedTo edit whole at (n + k) marks
-scan-past edit own seeks at whole keys marks are of sought_so rest n k is many so =
-    record { block = so.block; scope = so.scope; marked = mark-past edit own seeks at whole so.block keys marks are of sought_so so.scope rest n k is many so.marked }
-
--- a line that is looked at
-pub scan-read : (edit : Edit) (own : Verb) (at next_at : Scope) (whole : List (Line Placed)) (n : ℕ) (line : Line Placed) (key : Key) (marks next : List Bool) (mark : Bool) → n < length whole → line ≡ line_at whole n → key ≡ key_of (line_at whole n)
-    → own ≡ verb_sought edit → mark ≡ (is_entry_in own at key && does_tell (sought_of edit) at line) → next_at ≡ scope_after own at key → next ≡ set marks n mark
+-- one more line
+pub scan-more : (edit : Edit) (own : Verb) (number : SoughtKey) (at next_at : Scope) (whole : List (Line Placed)) (n : ℕ) (line : Line Placed) (key : Key) (marks next : List Bool) (mark : Bool) → n < length whole → line ≡ line_at whole n → key ≡ key_of (line_at whole n)
+    → own ≡ verb_sought edit → number ≡ sought_key (sought_of edit) → mark ≡ (may_concern own number at key && does_tell (sought_of edit) at line) → next_at ≡ scope_after own at key → next ≡ set marks n mark
     → AreMarkedTo edit whole at n marks → AreMarkedTo edit whole next_at (n + 1) next
-scan-read edit own at next_at whole n line key marks next mark lt is key_is of tested behind put so =
+scan-more edit own number at next_at whole n line key marks next mark lt is key_is of looked_for tested behind put so =
     let keyed : key ≡ key_of line = key_is ∙ ap key_of (sym is) in
     let tested_so : mark ≡ passes (about edit) (directive_at so.block line) =
-    tested ∙ ap (λ (v : Verb). is_entry_in v at key && does_tell (sought_of edit) at line) of
-    ∙ ap (λ (k : Key). is_entry_in (verb_sought edit) at k && does_tell (sought_of edit) at line) keyed
-    ∙ ap (λ (c : Scope). is_entry_in (verb_sought edit) c (key_of line) && does_tell (sought_of edit) c line) so.scope
-    ∙ target-is edit so.block line (here-stands (about edit) whole n so.block line marks lt is so.marked) (mark-right-at (about edit) whole n so.block line marks lt is so.marked) in
+    tested ∙ ap (λ (v : Verb). may_concern v number at key && does_tell (sought_of edit) at line) of
+    ∙ ap (λ (s : SoughtKey). may_concern (verb_sought edit) s at key && does_tell (sought_of edit) at line) looked_for
+    ∙ ap (λ (k : Key). may_concern (verb_sought edit) (sought_key (sought_of edit)) at k && does_tell (sought_of edit) at line) keyed
+    ∙ ap (λ (c : Scope). may_concern (verb_sought edit) (sought_key (sought_of edit)) c (key_of line) && does_tell (sought_of edit) c line) so.scope
+    ∙ target-by edit so.block line (here-stands (about edit) whole n so.block line marks lt is so.marked) (mark-right-at (about edit) whole n so.block line marks lt is so.marked) in
     record {
       block = block_after_line so.block line;
       scope =

@@ -254,7 +254,7 @@ are-words : (inside : Bool) (words : List Placed) (suffix : Option (List ℕ)) �
 are-words inside words suffix valid = (standing_entry inside (words_of words) suffix valid).are_words
 
 -- a line is targeted if it is an entry of the verb and its texts say so
-pub target-is : (edit : Edit) (block : Option Placed) (line : Line Placed) → IsValidLine (is_some block) (plain line) → IsValidAt block line
+target-is : (edit : Edit) (block : Option Placed) (line : Line Placed) → IsValidLine (is_some block) (plain line) → IsValidAt block line
     → (is_entry_in (verb_sought edit) (scope_of (verb_sought edit) block) (key_of line) && does_tell (sought_of edit) (scope_of (verb_sought edit) block) line) ≡ passes (about edit) (directive_at block line)
 target-is edit block Blank stands valid = sym (ap (passes (about edit)) (blank-holds block))
 target-is edit block (Comment text) stands valid = sym (ap (passes (about edit)) (comment-holds block text))
@@ -294,24 +294,36 @@ told-hashes (Both path version) found is =
     let parts = and_both (is_same_version found.first (Some path)) (is_same_version found.second version) is in
     and_from _ _ (same-hash found.first (Some path) parts.0) (same-hash found.second version parts.1)
 
-weaker : (own near told_so : Bool) → (told_so ≡ true → near ≡ true) → (own && near) ≡ false → (own && told_so) ≡ false
-weaker false near told_so gives off = refl
-weaker true near true gives off = absurd (let is = gives refl in cc)
-weaker true near false gives off = refl
+and-false : (b : Bool) → (b && false) ≡ false
+and-false true = refl
+and-false false = refl
 
-far-off : (own : Verb) (s : Sought) (at : Scope) (words : List Placed) → may_concern_by own (sought_key s) at (words_key words) ≡ false → (is_entry_by own at (words_key words) && does_tell_by s at words) ≡ false
-far-off own s scope.Outside words off =
-    weaker (is_same_verb own (verb_outside words)) (may_tell (sought_key s) (hashes_of (subject_outside words))) (is_told s (subject_outside words)) (told-hashes s (subject_outside words)) off
-far-off own s scope.Own words off = weaker true (may_tell (sought_key s) (hashes_of (subject_inside words))) (is_told s (subject_inside words)) (told-hashes s (subject_inside words)) off
-far-off own s scope.Other words off = refl
+-- a test that follows from another one adds nothing to it
+implied : (near told_so : Bool) → (told_so ≡ true → near ≡ true) → (near && told_so) ≡ told_so
+implied near true gives = rw (gives refl) refl
+implied near false gives = and-false near
 
--- a line whose key shows that an operation isn't about it is no bracket either
-pub passed-over : (edit : Edit) (block : Option Placed) (line : Line Placed) → IsValidLine (is_some block) (plain line) → IsValidAt block line
-    → may_concern (verb_sought edit) (sought_key (sought_of edit)) (scope_of (verb_sought edit) block) (key_of line) ≡ false
-    → (passes (about edit) (directive_at block line) ≡ false) × (block_after_line block line ≡ block)
-passed-over edit block Blank stands valid off = (ap (passes (about edit)) (blank-holds block), refl)
-passed-over edit block (Comment text) stands valid off = (ap (passes (about edit)) (comment-holds block text), refl)
-passed-over edit block (Open opened suffix) stands valid off = absurd cc
-passed-over edit block (Close suffix) stands valid off = absurd cc
-passed-over edit block (Entry words suffix) stands valid off =
-    (sym (target-is edit block (Entry words suffix) stands valid) ∙ far-off (verb_sought edit) (sought_of edit) (scope_of (verb_sought edit) block) words off, refl)
+implied-beside : (own near told_so : Bool) → (told_so ≡ true → near ≡ true) → ((near && own) && told_so) ≡ (own && told_so)
+implied-beside own near true gives = rw (gives refl) refl
+implied-beside own near false gives = and-false (near && own) ∙ sym (and-false own)
+
+near-by : (own : Verb) (s : Sought) (at : Scope) (words : List Placed)
+    → (may_concern_by own (sought_key s) at (words_key words) && does_tell_by s at words) ≡ (is_entry_by own at (words_key words) && does_tell_by s at words)
+near-by own s scope.Outside words =
+    implied-beside (is_same_verb own (verb_outside words)) (may_tell (sought_key s) (hashes_of (subject_outside words))) (is_told s (subject_outside words)) (told-hashes s (subject_outside words))
+near-by own s scope.Own words = implied (may_tell (sought_key s) (hashes_of (subject_inside words))) (is_told s (subject_inside words)) (told-hashes s (subject_inside words))
+near-by own s scope.Other words = refl
+
+-- no line is targeted whose key says that it isn't
+near-is : (own : Verb) (s : Sought) (at : Scope) (line : Line Placed) → (may_concern own (sought_key s) at (key_of line) && does_tell s at line) ≡ (is_entry_in own at (key_of line) && does_tell s at line)
+near-is own s at Blank = refl
+near-is own s at (Comment text) = refl
+near-is own s at (Open opened suffix) = refl
+near-is own s at (Close suffix) = refl
+near-is own s at (Entry words suffix) = near-by own s at words
+
+-- a line is targeted if its key doesn't rule that out and its texts say so
+pub target-by : (edit : Edit) (block : Option Placed) (line : Line Placed) → IsValidLine (is_some block) (plain line) → IsValidAt block line
+    → (may_concern (verb_sought edit) (sought_key (sought_of edit)) (scope_of (verb_sought edit) block) (key_of line) && does_tell (sought_of edit) (scope_of (verb_sought edit) block) line)
+    ≡ passes (about edit) (directive_at block line)
+target-by edit block line stands valid = near-is (verb_sought edit) (sought_of edit) (scope_of (verb_sought edit) block) line ∙ target-is edit block line stands valid

@@ -82,7 +82,11 @@ hashes_of s = record { first = hash_at s.first; second = hash_at s.second }
 -- the key of the words of an entry: what it is about outside blocks, and in one
 abbrev pub words_key : List Placed → EntryKey
 words_key words =
-    record { verb = verb_outside words; inside = hashes_of (subject_inside words); outside = hashes_of (subject_outside words) }
+    record {
+      verb = verb_outside words;
+      inside = hashes_of (subject_inside words);
+      outside = hashes_of (subject_outside words);
+    }
 
 -- the key of a line
 abbrev pub key_of : Line Placed → Key
@@ -140,16 +144,14 @@ may_tell (sought.First path) found = found.first == path
 may_tell (sought.Both both) found = (found.first == both.first) && (found.second == both.second)
 
 abbrev pub may_concern_by : Verb → SoughtKey → Scope → EntryKey → Bool
-may_concern_by own looked_for scope.Outside entry = is_same_verb own entry.verb && may_tell looked_for entry.outside
+may_concern_by own looked_for scope.Outside entry = may_tell looked_for entry.outside && is_same_verb own entry.verb
 may_concern_by own looked_for scope.Own entry = may_tell looked_for entry.inside
 may_concern_by own looked_for scope.Other entry = false
 
--- whether the line with a key is a bracket, or may be an entry of the verb that is about what an operation looks for
+-- whether the line with a key may be an entry of the verb that is about what an operation looks for
 abbrev pub may_concern : Verb → SoughtKey → Scope → Key → Bool
-may_concern own looked_for at key.Silent = false
-may_concern own looked_for at (key.Open _) = true
-may_concern own looked_for at key.Close = true
 may_concern own looked_for at (key.Entry entry) = may_concern_by own looked_for at entry
+may_concern own looked_for at _ = false
 
 abbrev pub does_tell_by : Sought → Scope → List Placed → Bool
 does_tell_by looked_for scope.Outside words = is_told looked_for (subject_outside words)

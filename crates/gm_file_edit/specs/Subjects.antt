@@ -1,5 +1,5 @@
--- What the arguments of an entry are about, by the texts of words alone: a path, a path at a version, or an interval. No
--- public contract cites it.
+-- What the arguments of an entry are about, by the texts of words alone: a path, a path at a version, or an interval.
+-- No public contract cites it.
 use Rattle.std.specs.Prelude.{ℕ, ◌-◌, ◌&&◌, nat_lt, if◌then◌else◌, Bool, true, false, List, length, take, drop, slice_get, slice_index, Option, Some, None}
 use Rattle.std.specs.Option.{option_map}
 use Rattle.gm_syntax.specs.Bytes.{is_quote}
@@ -17,7 +17,8 @@ use Rattle.gm_file_edit.specs.Edits.{Edit, Set, ModuleIs, GoIs, RequireAt, Drop,
 
 -- whether a text begins and ends with a quote or a grave accent
 abbrev pub is_quoted : List ℕ → Bool
-is_quoted text = nat_lt 1 (length text) && is_quote (slice_index text 0) && is_quote (slice_index text (length text - 1))
+is_quoted text = nat_lt 1 (length text) && is_quote (slice_index text 0)
+    && is_quote (slice_index text (length text - 1))
 
 -- the text without its quotes, if it has some
 abbrev pub between_quotes : List ℕ → List ℕ

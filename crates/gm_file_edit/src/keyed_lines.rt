@@ -137,13 +137,6 @@ impl<'a> KeyedLines<'a> {
         &self.lines[at]
     }
 
-    /// The keys of the lines.
-    pub(crate) fn keys(&self) -> &[Key]
-        ensures { result.now ≡ map key_of self.now }
-    {
-        self.keys.as_slice()
-    }
-
     /// The key of the line at an index.
     pub(crate) fn key(&self, at: usize) -> Key
         requires { at < length self.now }

@@ -197,17 +197,16 @@ fn may_tell(sought: SoughtKey, hashes: Hashes) -> bool
     }
 }
 
-/// Whether the line with a key is a bracket, or may be an entry that an operation targets.
+/// Whether the line with a key may be an entry that an operation targets.
 pub(crate) fn may_concern(own: Verb, sought: SoughtKey, scope: Scope, key: Key) -> bool
     ensures { result ≡ may_concern own sought scope key }
 {
     match key {
-        Key::Silent => false,
-        Key::Open(_) | Key::Close => true,
         Key::Entry(entry) => match scope {
-            Scope::Outside => is_same_verb(own, entry.verb) && may_tell(sought, entry.outside),
+            Scope::Outside => may_tell(sought, entry.outside) && is_same_verb(own, entry.verb),
             Scope::Own => may_tell(sought, entry.inside),
             Scope::Other => false,
         },
+        Key::Silent | Key::Open(_) | Key::Close => false,
     }
 }

@@ -6,13 +6,13 @@ ghost use Rattle.gm_syntax.specs.LineViews.{line_of, plain_lines};
 ghost use Rattle.gm_file.specs.Directives.{Strict};
 ghost use Rattle.gm_file.specs.Faults.{fault_of};
 ghost use Rattle.gm_file_edit.specs.About.{about};
-ghost use Rattle.gm_file_edit.specs.Keys.{does_tell, is_entry_in, may_concern};
+ghost use Rattle.gm_file_edit.specs.Keys.{does_tell, may_concern};
 ghost use Rattle.gm_file_edit.specs.Marks.{marks_from};
 ghost use Rattle.gm_file_edit.specs.Subjects.{sought_view};
 ghost use Rattle.gm_file_edit.specs.Views.{edit_of};
 
 use crate::keyed_lines::KeyedLines;
-use crate::keys::{Key, Scope, SoughtKey, is_entry_in, may_concern, scope_after, sought_key};
+use crate::keys::{Key, Scope, SoughtKey, may_concern, scope_after, sought_key};
 use crate::op::Change;
 use crate::subject::Sought;
 use crate::targeting::{does_tell, sought_of, verb_of};
@@ -35,36 +35,28 @@ pub(crate) fn marks(
     let number = sought_key(sought);
     let mut marks = vec![in alloc; false; lines.len()]?;
     let mut scope = Scope::Outside;
-    let mut n = 0;
-    'lines: while n < lines.len() {
-        let (_, left) = lines.keys().split_at(n);
-        n += passed_over(left, verb, number, scope);
-        if n < lines.len() {
-            let key = lines.key(n);
-            marks[n] = is_target(verb, sought, scope, key, lines.line(n));
-            scope = scope_after(verb, scope, key);
-            n += 1;
-        }
+    for n in 0..lines.len() {
+        let key = lines.key(n);
+        marks[n] = is_target(verb, sought, number, scope, key, lines.line(n));
+        scope = scope_after(verb, scope, key);
     }
     Ok(marks)
 }
 
-/// How many of these keys, up to the first of a bracket or of a line that may concern an operation, come first.
-fn passed_over(keys: &[Key], verb: Verb, sought: SoughtKey, scope: Scope) -> usize
-    ensures { result ≡ length (take_while (λ key. not (may_concern verb sought scope key)) keys.now) }
-{
-    // A loop of its own is short enough to keep all that it needs in registers.
-    keys.iter()
-        .take_while(|key| !may_concern(verb, sought, scope, **key))
-        .count()
-}
-
-/// Whether a line with this key is an entry that an operation targets.
-fn is_target(verb: Verb, sought: Sought, scope: Scope, key: Key, line: &Line) -> bool
+/// Whether a line with this key is an entry that an operation targets. Its texts are looked at only if its key has the
+/// hashes of what the operation looks for.
+fn is_target(
+    verb: Verb,
+    sought: Sought,
+    number: SoughtKey,
+    scope: Scope,
+    key: Key,
+    line: &Line,
+) -> bool
     ensures { result
-        ≡ (is_entry_in verb scope key && does_tell (sought_view sought.entry) scope (line_of line.now)) }
+        ≡ (may_concern verb number scope key && does_tell (sought_view sought.entry) scope (line_of line.now)) }
 {
-    is_entry_in(verb, scope, key) && does_tell(sought, scope, line)
+    may_concern(verb, number, scope, key) && does_tell(sought, scope, line)
 }
 
 /// The number of lines before the first that is marked, or of all lines if none is.
