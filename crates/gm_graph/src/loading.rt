@@ -34,12 +34,12 @@ use gm_file::MainFile;
 use gm_graph_cache::{Cache, LoadFault, Turn, main_path};
 use gm_graph_select::Graph;
 use gm_name::ModVer;
-use gm_store::Files;
+use gm_store::Asks;
 use gm_store_sums::SumTable;
 use std::alloc::{AllocError, Global};
 
 /// Visits the vertices of a worklist one after another, including those that the visits add.
-fn visit_all<F: Files>(
+fn visit_all<F: Asks>(
     cache: &mut Cache<'_>,
     files: &mut F,
     builder: &mut GraphBuilder,
@@ -112,7 +112,7 @@ fn assemble(
 /// `Device` is returned if the store's device fails when it is asked for that file, and `TooMany` only if more than
 /// 65,536 vertices are opened; with `Ok` at most that many are. `NoMemory` may be returned instead of any other
 /// result. After a refusal the store still holds the answers so far.
-pub fn load<F: Files>(
+pub fn load<F: Asks>(
     alloc: Global,
     main: &MainFile<'_>,
     files: &mut F,

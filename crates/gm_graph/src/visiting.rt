@@ -17,7 +17,7 @@ ghost use Rattle.gm_graph.specs.Visiting.{Continues, IsVisited, OverflowsAt, len
 use crate::followed::Followed;
 use crate::graph_builder::{GraphBuilder, NumberedTurn};
 use gm_graph_cache::{Cache, Depth, Finding, LoadFault};
-use gm_store::Files;
+use gm_store::Asks;
 
 /// The place at which the cache has the requirements of a vertex, or `None` if the vertex has a fault.
 fn lender(finding: &Finding) -> Option<u32>
@@ -91,7 +91,7 @@ fn add_requirements(
 ///
 /// `Device` is returned if the store's device fails in this request, and `TooMany` if more than `MOST` vertices
 /// would be opened. `NoMemory` is returned if memory runs out.
-pub(crate) fn visit<F: Files>(
+pub(crate) fn visit<F: Asks>(
     cache: &mut Cache<'_>,
     files: &mut F,
     builder: &mut GraphBuilder,

@@ -34,7 +34,7 @@ use crate::summary::{Kept, ListSpan, summary_of};
 use gm_file::MainFile;
 use gm_name::{KnownNames, ModVer, NoMemory};
 use gm_name_table::ModuleList;
-use gm_store::{Answer, AskFault, FileName, Files, last_answer};
+use gm_store::{Answer, AskFault, Asks, FileName};
 use gm_store_sums::SumTable;
 use std::alloc::Global;
 
@@ -180,7 +180,7 @@ impl<'a> Cache<'a> {
     }
 
     /// Asks for the file of a name that was not asked for, and reads it.
-    fn read_file<F: Files>(&mut self, files: &mut F, name: &FileName) -> Result<Kept, AskFault>
+    fn read_file<F: Asks>(&mut self, files: &mut F, name: &FileName) -> Result<Kept, AskFault>
         requires fresh { answer_in (F.state files.old).asked (name_of name.now) ≡ None }
         requires lends { LendsKept self.old }
         ensures reading { IfOk result (λ kept. (reply : Reply)
@@ -207,7 +207,7 @@ impl<'a> Cache<'a> {
             self.main,
             self.sums,
             name,
-            last_answer(files),
+            files.last(),
         )?;
         Ok(kept)
     }
@@ -291,7 +291,7 @@ impl<'a> Cache<'a> {
     /// `NoMemory` is returned if memory runs out; the store may then hold an answer that the cache doesn't.
     /// `Device` is returned exactly if the store's device fails in this request. `TooMany` is never returned. After
     /// any refusal the cache holds the same; more modules may have numbers.
-    pub fn known<F: Files>(&mut self, files: &mut F, number: u32) -> Result<Finding, LoadFault>
+    pub fn known<F: Asks>(&mut self, files: &mut F, number: u32) -> Result<Finding, LoadFault>
         requires knows { Knows self.old (F.state files.old).asked }
         requires vertex { number < length (modules_in self.old) }
         ensures knows { OnOk result (Knows self.new (F.state files.new).asked) }

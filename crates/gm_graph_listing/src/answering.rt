@@ -17,7 +17,7 @@ use crate::reading::{main_file, sum_table};
 use gm_file::MainFile;
 use gm_graph::load;
 use gm_report::Report;
-use gm_store::Files;
+use gm_store::Asks;
 use gm_store_sums::SumTable;
 use std::alloc::Global;
 
@@ -66,7 +66,7 @@ fn read_files<'a, 'r>(
 ///
 /// The store must not have been asked for anything before. If memory runs out, which can happen instead of any
 /// answer but the report of the store's device, the report is `NoMemory`.
-pub fn answer<'q, F: Files>(
+pub fn answer<'q, F: Asks>(
     alloc: Global,
     query: Query<'q>,
     file: &[u8],

@@ -1,6 +1,6 @@
 -- Requests to a store and its answers, as lists of bytes. `FileName` and `Answer` of src are read through these
 -- views.
-use Rattle.std.specs.Prelude.{ℕ, ◌≤◌, Bool, false, ◌&&◌, if◌then◌else◌, nat_le, List, [], ◌∷◌, length, map, Option, Some, None}
+use Rattle.std.specs.Prelude.{ℕ, ◌≡◌, ◌≤◌, Bool, false, ◌&&◌, if◌then◌else◌, nat_le, List, [], ◌∷◌, ◌++◌, length, map, Option, Some, None}
 use Rattle.std.specs.Str.{bytes_eq}
 use Rattle.std.specs.String.{string_bytes}
 use Rattle.gm_store.specs.declared.files.FileName.{FileName}
@@ -61,6 +61,10 @@ names_in = map (λ pair. pair.0)
 -- the answers, in order
 abbrev pub replies_in : List (Name × Reply) → List Reply
 replies_in = map (λ pair. pair.1)
+
+-- the answer to the last request, if there is one, is this one
+abbrev pub IsLast : List (Name × Reply) → Reply → Type 0
+IsLast pairs reply = (before : List (Name × Reply)) (last : Name × Reply) → pairs ≡ before ++ last ∷ [] → reply ≡ last.1
 
 -- the answer of a store that holds these bytes under a name, or holds no such file
 abbrev pub reply_for : ℕ → Option (List ℕ) → Reply

@@ -6,6 +6,8 @@ pub mod Faults
 pub mod Found
 pub mod Asked
 pub mod Held
+pub mod History
+pub mod Kept
 pub mod Latest
 pub mod Listed
 pub mod Memory

@@ -1,19 +1,15 @@
 -- Views of a store in memory: its files, and its requests with their answers.
-use Rattle.std.specs.Prelude.{◌≡◌, ℕ, List, [], map, Option, if◌then◌else◌, Some}
+use Rattle.std.specs.Prelude.{◌≡◌, ℕ, List, [], Option, if◌then◌else◌, Some}
 use Rattle.std.specs.Option.{option_map}
 use Rattle.std.specs.Map.{lookup}
-use Rattle.gm_store.specs.declared.files.Answered.{Answered}
 use Rattle.gm_store.specs.declared.files.memory.MemoryFiles.{MemoryFiles}
-use Rattle.gm_store.specs.Asked.{Name, Reply, name_of, reply_of, same_name, reply_for}
+use Rattle.gm_store.specs.Asked.{Name, Reply, name_of, same_name, reply_for}
+use Rattle.gm_store.specs.Kept.{all_pairs}
 use Rattle.gm_store.specs.States.{StoreState}
-
--- the names and answers of a list of requests
-abbrev pub pairs : List Answered → List (Name × Reply)
-pairs = map (λ one. (name_of one.name, reply_of one.answer))
 
 -- the requests of a store, in order
 abbrev pub pairs_of : MemoryFiles → List (Name × Reply)
-pairs_of store = pairs store.asked.items
+pairs_of store = all_pairs store.asked
 
 -- what is known of it: its device never fails
 abbrev pub memory_files_state : MemoryFiles → StoreState

@@ -1,15 +1,19 @@
-//! Names of files, answers, and `Files`, the trait of stores. The modules in the folder have the stores in memory and
-//! what every store keeps.
+//! Names of files, answers, and the traits of stores. The modules in the folder have the stores in memory and what
+//! stores keep.
 //!
-//! Other crates get the files of dependencies only through this trait. A store keeps each answer, so a run is a
-//! function of the answers, and one store can stand in for another.
+//! Other crates get the files of dependencies only through the trait `Asks`. Each file is answered once, so a run is a
+//! function of the answers, and one store can stand in for another. A store with the trait `Files` also keeps all
+//! answers.
 
+pub(crate) mod all_answers;
 pub(crate) mod failing;
+pub(crate) mod history;
 pub(crate) mod keeping;
+pub(crate) mod last_answer;
 pub(crate) mod memory;
 
-ghost use Rattle.std.specs.Prelude.{◌≡◌, ◌+◌, ◌<◌, [], ◌∷◌, ◌++◌, length, slice_get, List, Some, None, IfOk};
-ghost use Rattle.gm_store.specs.Asked.{IsWithinLimit, Name, Reply, name_of, reply_of};
+ghost use Rattle.std.specs.Prelude.{◌≡◌, ◌<◌, length, slice_get, Some, None, IfOk};
+ghost use Rattle.gm_store.specs.Asked.{name_of};
 ghost use Rattle.gm_store.specs.declared.files.AskFault.TheVariants as ask_fault;
 
 use gm_name::{ModPath, ModVersion, NoMemory};
@@ -37,17 +41,6 @@ pub enum Answer {
     Absent,
     /// The file has more than `LIMIT` bytes.
     TooLong,
-}
-
-/// A requested name with its answer.
-#[derive(Drop)]
-pub struct Answered {
-    /// The name that was requested.
-    pub name: FileName,
-    /// The answer to it.
-    pub answer: Answer,
-    // No file of more than `LIMIT` bytes is kept.
-    ghost within_limit: { IsWithinLimit (reply_of answer) },
 }
 
 /// A copy of a name. The only refusal is `NoMemory`.
@@ -88,12 +81,12 @@ impl<T: Drop> From<AllocFailed<T>> for AskFault {
     }
 }
 
-/// A store of files. It keeps its answers, in the order of the requests, and a file that was answered isn't
-/// requested again.
+/// A store that files are requested from. A file that was answered isn't requested again.
 ///
-/// So the files of a run don't change while it lasts, and contracts can refer to all that was read.
-pub trait Files {
-    ghost use Rattle.gm_store.specs.Asked.{IsWithinLimit, Name, Reply, name_of, reply_of, names_in, replies_in, answer_in};
+/// So the files of a run don't change while it lasts, and contracts can refer to all that was read. The store itself
+/// need not keep more than the last answer.
+pub trait Asks {
+    ghost use Rattle.gm_store.specs.Asked.{IsLast, IsWithinLimit, Name, Reply, name_of, reply_of, answer_in};
     ghost use Rattle.gm_store.specs.Requests.{IsRequest};
     ghost use Rattle.gm_store.specs.States.{StoreState};
 
@@ -104,8 +97,8 @@ pub trait Files {
     /// The answers that this store may give to a name. For a real device any answer is possible.
     ghost may_answer: { Self → Name → Reply → Type 0 };
 
-    /// Requests a file that was not requested before. If the store answers, the answer is kept, after the earlier
-    /// ones.
+    /// Requests a file that was not requested before. If the store answers, the answer stands after the earlier ones,
+    /// and `last` gives it.
     ///
     /// `NoMemory` is returned if memory runs out, `Device` if the device fails. A refusal leaves the answers
     /// unchanged, so the file may be requested again. A failure of the device records the name, and is returned
@@ -116,19 +109,10 @@ pub trait Files {
         ensures { IsRequest (may_answer self.old) (may_answer self.new)
             (state self.old) (state self.new) (name_of name.now) result };
 
-    /// The number of requests that were answered.
-    fn count(&self) -> usize
-        ensures { result ≡ length (state self.now).asked };
-
-    /// The name in answered request number `i`, counted from 0.
-    fn name(&self, i: usize) -> &FileName
-        requires { i < length (state self.now).asked }
-        ensures { slice_get (names_in (state self.now).asked) i ≡ Some (name_of result.now) };
-
-    /// The answer to request number `i`, counted from 0.
-    fn answer(&self, i: usize) -> &Answer
-        requires { i < length (state self.now).asked }
-        ensures value { slice_get (replies_in (state self.now).asked) i ≡ Some (reply_of result.now) }
+    /// The answer to the last request that was answered. The store must have answered one.
+    fn last(&self) -> &Answer
+        requires { 0 < length (state self.now).asked }
+        ensures value { IsLast (state self.now).asked (reply_of result.now) }
         ensures within_limit { IsWithinLimit (reply_of result.now) };
 
     /// How often the device has failed. The count saturates at the greatest `u64`.
@@ -136,12 +120,22 @@ pub trait Files {
         ensures { result ≡ (state self.now).faults };
 }
 
-/// The answer to the last request that was answered. The store must have answered one.
-pub fn last_answer<F: Files>(files: &F) -> &Answer
-    requires { 0 < length (F.state files.now).asked }
-    ensures value { (before : List (Name × Reply)) (last : Name × Reply)
-        → (F.state files.now).asked ≡ before ++ last ∷ [] → reply_of result.now ≡ last.1 }
-    ensures within_limit { IsWithinLimit (reply_of result.now) }
-{
-    files.answer(files.count() - 1)
+/// A store that keeps its answers, in the order of the requests.
+pub trait Files: Asks {
+    ghost use Rattle.gm_store.specs.Asked.{IsWithinLimit, name_of, reply_of, names_in, replies_in};
+
+    /// The number of requests that were answered.
+    fn count(&self) -> usize
+        ensures { result ≡ length (Self.state self.now).asked };
+
+    /// The name in answered request number `i`, counted from 0.
+    fn name(&self, i: usize) -> &FileName
+        requires { i < length (Self.state self.now).asked }
+        ensures { slice_get (names_in (Self.state self.now).asked) i ≡ Some (name_of result.now) };
+
+    /// The answer to request number `i`, counted from 0.
+    fn answer(&self, i: usize) -> &Answer
+        requires { i < length (Self.state self.now).asked }
+        ensures value { slice_get (replies_in (Self.state self.now).asked) i ≡ Some (reply_of result.now) }
+        ensures within_limit { IsWithinLimit (reply_of result.now) };
 }

@@ -5,9 +5,10 @@
 //! the `.mod` file of `example.com/a` at `v1.2.0` is first looked up at `/mirror/example.com/a/@v/v1.2.0.mod`. If
 //! it is absent there, the lookup falls back to `/backup`, because the mark between the folders is a comma.
 //!
-//! - `Files` is the trait of stores. It keeps its answers, so no file is answered twice.
+//! - `Asks` is the trait of stores: no file is answered twice. A store with the trait `Files` keeps its answers.
 //! - `FallbackStore` is the GOPROXY fallback: `ProxyList` has the folders and the marks between them, `step` decides
-//!   after each lookup whether to stop. `MemoryFolders` has the folders in memory, `FolderFiles` on a file system.
+//!   after each lookup whether to stop. `MemoryFolders` has the folders in memory, `FolderFiles` and `FolderReader` on
+//!   a file system; the latter keeps its last answer alone.
 //! - `MemoryFiles` is a map of files in memory, and `FailingFiles` adds one device failure to it, for tests.
 //! - `versions_of` reads a list file, and `latest` selects from its versions.
 //! - `read_limited` reads a file or stream up to a limit. `Sink` takes output, in memory or to a writer.
@@ -26,14 +27,17 @@ mod sinks;
 mod versions;
 
 pub use crate::fallback::in_memory::MemoryFolders;
-pub use crate::fallback::on_disk::FolderFiles;
+pub use crate::fallback::on_disk::{FolderFiles, FolderReader};
 pub use crate::fallback::proxy_list::{Mark, ProxyFault, ProxyList};
 pub use crate::fallback::step::{Next, step};
 pub use crate::fallback::store::FallbackStore;
 pub use crate::file_system::{FileSystem, read_file};
+pub use crate::files::all_answers::AllAnswers;
 pub use crate::files::failing::FailingFiles;
+pub use crate::files::keeping::Keeps;
+pub use crate::files::last_answer::LastAnswer;
 pub use crate::files::memory::MemoryFiles;
-pub use crate::files::{Answer, AskFault, FileName, Files, copy_name, last_answer};
+pub use crate::files::{Answer, AskFault, Asks, FileName, Files, copy_name};
 pub use crate::folders::Looked;
 pub use crate::folders::in_memory::FoldersInMemory;
 pub use crate::folders::main_folder::folder_of;

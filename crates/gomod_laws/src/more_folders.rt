@@ -4,7 +4,7 @@ ghost use Rattle.gm_store.specs.Asked.{Name, Reply};
 ghost use Rattle.gm_store.specs.Views.{folders_under, marks_between};
 ghost use Rattle.gomod_laws.specs.FolderLaws.{FolderMayAnswer, MoreFoldersChangeNothing};
 
-use gm_store::{Files, MemoryFolders};
+use gm_store::{Asks, MemoryFolders};
 
 /// One more folder changes nothing that was found. If a command prints over folders in memory, it prints the same with
 /// one more proxy folder after the last, separated from it by `,` or `|`, and it asks for the same files. The folders
@@ -16,6 +16,6 @@ pub fn more_folders_change_nothing()
 /// Each answer that a store over folders in memory may give is one that its folders may give, in the words of the law
 /// above. So it speaks of each run of a command over such a store.
 pub fn folders_in_memory_may_answer(store: &MemoryFolders)
-    ensures { (name : Name) (reply : Reply) → ⟦<MemoryFolders as Files>⟧.may_answer store.now name reply
+    ensures { (name : Name) (reply : Reply) → ⟦<MemoryFolders as Asks>⟧.may_answer store.now name reply
         → FolderMayAnswer (folders_under store.now) (marks_between store.now) name reply }
 {}

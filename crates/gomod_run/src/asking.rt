@@ -6,11 +6,11 @@ ghost use Rattle.gm_store.specs.States.{HasServed};
 ghost use Rattle.gomod_run.specs.Asking.{IsAsked};
 
 use gm_report::Report;
-use gm_store::{AskFault, FileName, Files};
+use gm_store::{AskFault, Asks, FileName};
 
 /// Asks for a file that has not been asked for before. If the store's device fails, that is reported; otherwise only
 /// memory can run out.
-pub(crate) fn ask_for<'r, F: Files>(files: &mut F, name: FileName) -> Result<(), Report<'r>>
+pub(crate) fn ask_for<'r, F: Asks>(files: &mut F, name: FileName) -> Result<(), Report<'r>>
     requires { answer_in (F.state files.old).asked (name_of name) ≡ None }
     ensures asked { IsAsked (name_of name) (F.state files.old) (F.state files.new) result }
     ensures served { HasServed (F.may_answer files.old) (F.may_answer files.new)

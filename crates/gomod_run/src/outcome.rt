@@ -18,13 +18,13 @@ use crate::fmt::fmt_outcome;
 use crate::versions::versions_outcome;
 use gm_graph_listing::{Query, answer};
 use gm_report::Report;
-use gm_store::Files;
+use gm_store::Asks;
 use gomod_words::Command;
 use std::alloc::Global;
 
 /// What a command ends with over the main file, a go.sum if one is given, and a store that has not been asked yet:
 /// a text or a report.
-pub(crate) fn outcome<'c, F: Files>(
+pub(crate) fn outcome<'c, F: Asks>(
     alloc: Global,
     command: &'c Command,
     main: &[u8],

@@ -16,7 +16,7 @@ ghost use Rattle.gomod_words.specs.declared.usage.Command.TheVariants.{Versions}
 use crate::outcome::outcome;
 use crate::writing::{print_text, write_report};
 use gm_report::Status;
-use gm_store::{Files, Sink};
+use gm_store::{Asks, Sink};
 use gomod_words::Command;
 use std::alloc::Global;
 
@@ -62,7 +62,7 @@ use std::alloc::Global;
 ///
 /// The store is asked only for files that are needed, each at most once. If a sink fails, the status is `Device`:
 /// the sink holds a prefix of what was meant for it, and nothing more is written.
-pub fn run<F: Files, O: Sink, R: Sink>(
+pub fn run<F: Asks, O: Sink, R: Sink>(
     alloc: Global,
     command: &Command,
     main: &[u8],

@@ -4,7 +4,8 @@ ghost use Rattle.std.specs.Prelude.{◌≡◌, ℕ, IfErr, IfOk, Some, [], codes
 ghost use Rattle.std.specs.Global.{Vec};
 ghost use Rattle.std.specs.String.{string_bytes};
 ghost use Rattle.gm_store.specs.Asked.{Name, Reply, list_file};
-ghost use Rattle.gm_store.specs.Memory.{pairs, pairs_of};
+ghost use Rattle.gm_store.specs.Memory.{pairs_of};
+ghost use Rattle.gm_store.specs.Views.{asked_by};
 ghost use Rattle.gm_report.specs.Outcome.{report_outcome};
 ghost use Rattle.gomod_run.specs.Held.{HoldsOne};
 ghost use Rattle.gomod_run.specs.Program.{MayBeTold};
@@ -14,7 +15,7 @@ use crate::inputs::unread_report;
 use gm_name::{ModPath, NoMemory};
 use gm_report::Report;
 use gm_store::{
-    FileName, FileSystem, Files, FolderFiles, MemoryFiles, ProxyList, folder_of, read_limited,
+    Asks, FileName, FileSystem, FolderReader, MemoryFiles, ProxyList, folder_of, read_limited,
 };
 use gomod_words::Command;
 use std::alloc::Global;
@@ -47,13 +48,13 @@ pub(crate) fn folders_of<S: FileSystem + Copy + Drop + Alloc<A = Global>>(
     rt: &S,
     main: String,
     folders: ProxyList,
-) -> FolderFiles<S>
-    ensures asked { pairs result.asked.items ≡ [] }
+) -> FolderReader<S>
+    ensures asked { asked_by result ≡ [] }
     ensures answers { (name : Name) (reply : Reply)
-        → ⟦<FolderFiles<S> as Files>⟧.may_answer result name reply
+        → ⟦<FolderReader<S> as Asks>⟧.may_answer result name reply
         → MayBeTold (S.may_open rt.now) (string_bytes main) (Some folders) name reply }
 {
-    FolderFiles::new(*rt, rt.alloc(), main, folders)
+    FolderReader::new(*rt, rt.alloc(), main, folders)
 }
 
 /// A store that has the list of a module and nothing else.

@@ -26,7 +26,7 @@ use gm_file_retract::shown_versions;
 use gm_graph_cache::{Class, FileReading};
 use gm_name::{BorrowedVersion, KnownNames, ModPath, ModVersion, NoMemory};
 use gm_report::Report;
-use gm_store::{Answer, FileName, Files, last_answer, latest, versions_of};
+use gm_store::{Answer, Asks, FileName, latest, versions_of};
 use std::alloc::Global;
 
 /// Appends a space and a version.
@@ -147,7 +147,7 @@ fn shown_outcome<'p>(
 }
 
 /// Asks for the go.mod of the latest version, and gives what the listed versions end with.
-fn latest_outcome<'p, F: Files>(
+fn latest_outcome<'p, F: Asks>(
     alloc: Global,
     path: &'p ModPath,
     versions: &[BorrowedVersion<'_>],
@@ -162,11 +162,11 @@ fn latest_outcome<'p, F: Files>(
         (F.state files.old) (F.state files.new) }
 {
     ask_for(files, FileName::Mod(path.copy(alloc)?, latest.copy(alloc)?))?;
-    shown_outcome(alloc, path, versions, latest, last_answer(files))
+    shown_outcome(alloc, path, versions, latest, files.last())
 }
 
 /// Checks the path and asks for the list of the module. If there is no answer, the report says why.
-fn ask_for_list<'p, F: Files>(
+fn ask_for_list<'p, F: Asks>(
     alloc: Global,
     path: &'p ModPath,
     files: &mut F,
@@ -212,7 +212,7 @@ fn outcome_of_all<'p>(
 
 /// What a list ends with if retracted versions are not to be printed. If it has versions, the go.mod of the latest one
 /// is asked for.
-fn outcome_of_shown<'p, F: Files>(
+fn outcome_of_shown<'p, F: Asks>(
     alloc: Global,
     path: &'p ModPath,
     list: &[u8],
@@ -235,7 +235,7 @@ fn outcome_of_shown<'p, F: Files>(
 }
 
 /// What `versions` ends with over a store that has not been asked yet. With `all`, retracted versions are printed too.
-pub(crate) fn versions_outcome<'p, F: Files>(
+pub(crate) fn versions_outcome<'p, F: Asks>(
     alloc: Global,
     path: &'p ModPath,
     all: bool,
@@ -257,9 +257,9 @@ pub(crate) fn versions_outcome<'p, F: Files>(
 {
     ask_for_list(alloc, path, files)?;
     if all {
-        return outcome_of_all(alloc, path, last_answer(files));
+        return outcome_of_all(alloc, path, files.last());
     }
     // The versions borrow their texts, and not from the store, which is asked once more.
-    let list = list_copy(alloc, path, last_answer(files))?;
+    let list = list_copy(alloc, path, files.last())?;
     outcome_of_shown(alloc, path, list.as_slice(), files)
 }

@@ -3,14 +3,19 @@
 use crate::fallback::proxy_list::ProxyList;
 use crate::fallback::store::FallbackStore;
 use crate::file_system::FileSystem;
-use crate::files::Files;
+use crate::files::Asks;
+use crate::files::keeping::Keeps;
+use crate::files::last_answer::LastAnswer;
 use crate::folders::on_disk::FoldersOnDisk;
 use std::alloc::Global;
 
-/// A store over folders of a file system.
+/// A store over folders of a file system. It keeps all answers.
 pub type FolderFiles<S> = FallbackStore<FoldersOnDisk<S>>;
 
-impl<S: FileSystem> FallbackStore<FoldersOnDisk<S>> {
+/// A store over folders of a file system. It keeps its last answer alone, so its memory doesn't grow with the files.
+pub type FolderReader<S> = FallbackStore<FoldersOnDisk<S>, LastAnswer>;
+
+impl<S: FileSystem, K: Keeps> FallbackStore<FoldersOnDisk<S>, K> {
     ghost use Rattle.std.specs.Prelude.{◌≡◌, [], string_bytes};
     ghost use Rattle.gm_store.specs.Asked.{Name, Reply};
     ghost use Rattle.gm_store.specs.DiskAnswers.{MayAnswer};
@@ -25,7 +30,12 @@ impl<S: FileSystem> FallbackStore<FoldersOnDisk<S>> {
     /// is looked up once, relative to `main` unless the folder's text is absolute. A file that the system doesn't
     /// find is absent. Every other error of the system is a failure of the device, except running out of memory.
     /// At most `LIMIT + 1` bytes of a file are read. No file is opened before the first request.
-    pub fn new(system: S, alloc: Global, main: String, proxy: ProxyList) -> FolderFiles<S>
+    pub fn new(
+        system: S,
+        alloc: Global,
+        main: String,
+        proxy: ProxyList,
+    ) -> FallbackStore<FoldersOnDisk<S>, K>
         ensures system { system_of (folders_under result) ≡ system }
         ensures main { main_folder (folders_under result) ≡ string_bytes main }
         ensures proxies { proxy_folders (folders_under result) ≡ folders_in proxy }
@@ -36,7 +46,7 @@ impl<S: FileSystem> FallbackStore<FoldersOnDisk<S>> {
         ensures faults { faults_of result ≡ 0 }
         // An answer is that of the file at the path of the name in one of these folders.
         ensures answers { (name : Name) (reply : Reply)
-            → ⟦<FallbackStore<FoldersOnDisk<S>> as Files>⟧.may_answer result name reply
+            → ⟦<FallbackStore<FoldersOnDisk<S>, K> as Asks>⟧.may_answer result name reply
             → MayAnswer (S.may_open system) (string_bytes main) (folders_in proxy) (marks_in proxy) name reply }
     {
         let ProxyList {

@@ -10,20 +10,23 @@ ghost use Rattle.gm_store.specs.FolderLookups.{marks_for};
 
 use crate::fallback::proxy_list::Mark;
 use crate::fallback::walk::walk;
-use crate::files::keeping::{keep_answer, keep_name};
-use crate::files::{Answer, Answered, AskFault, FileName, Files};
+use crate::files::all_answers::AllAnswers;
+use crate::files::keeping::{Keeps, keep_name};
+use crate::files::{Answer, AskFault, Asks, FileName, Files};
 use crate::folders::FolderList;
 use crate::folders::buffers::Buffers;
 use crate::folders::counted::CountedFolders;
 use std::alloc::Global;
 
-/// A store over several folders. `MemoryFolders` has them in memory, `FolderFiles` on a device.
+/// A store over several folders. `MemoryFolders` has them in memory, `FolderFiles` and `FolderReader` on a device.
+///
+/// The second parameter is what the store keeps of the requests that it answered: all, or the last answer alone.
 ///
 /// The answer to a request is that of the folder at which `step` stops. Each lookup in a folder is counted, and each
 /// failure of the device, even if the request then falls back to the next folder. Running out of memory stops a
 /// request at once; the lookups until then, and their failures, are still counted.
 #[derive(Drop)]
-pub struct FallbackStore<F: FolderList> {
+pub struct FallbackStore<F: FolderList, K: Keeps = AllAnswers> {
     /// The allocator for the kept names and answers.
     alloc: Global,
     /// The folders, and how often they were looked into.
@@ -32,15 +35,15 @@ pub struct FallbackStore<F: FolderList> {
     buffers: Buffers,
     /// The marks between the proxy folders, one fewer than these.
     marks: Vec<Mark>,
-    /// The answered requests, in order.
-    asked: Vec<Answered>,
+    /// What is kept of the answered requests.
+    asked: K,
     /// The names whose requests were refused because the device failed, in order.
     refused: Vec<FileName>,
     // A folder follows each mark, for each name, so the walk can't leave the list.
     ghost between: { (name : Name) → length (marks_for name marks.items) < F.count_for (underlying folders) name },
 }
 
-impl<F: FolderList> FallbackStore<F> {
+impl<F: FolderList, K: Keeps> FallbackStore<F, K> {
     ghost use Rattle.std.specs.Prelude.{[]};
     ghost use Rattle.gm_store.specs.Views.{asked_by, faults_of, folders_under, lookups_of, marks_between, refused_by};
 
@@ -48,7 +51,7 @@ impl<F: FolderList> FallbackStore<F> {
     /// yet.
     ///
     /// The caller shows that for each name there are more folders than marks.
-    pub(crate) fn over(alloc: Global, folders: F, marks: Vec<Mark>) -> FallbackStore<F>
+    pub(crate) fn over(alloc: Global, folders: F, marks: Vec<Mark>) -> FallbackStore<F, K>
         requires { (name : Name) → length (marks_for name marks.items) < F.count_for folders name }
         ensures folders { folders_under result ≡ folders }
         ensures marks { marks_between result ≡ marks.items }
@@ -62,7 +65,7 @@ impl<F: FolderList> FallbackStore<F> {
             folders: CountedFolders::new(folders),
             buffers: Buffers::new(alloc),
             marks,
-            asked: Vec::new(alloc),
+            asked: K::new(alloc),
             refused: Vec::new(alloc),
         }
     }
@@ -75,7 +78,7 @@ impl<F: FolderList> FallbackStore<F> {
     }
 }
 
-impl<F: FolderList> Files for FallbackStore<F> {
+impl<F: FolderList, K: Keeps> Asks for FallbackStore<F, K> {
     ghost use Rattle.std.specs.Prelude.{ℕ, [], None, Some, OnOk};
     ghost use Rattle.gm_store.specs.Asked.{Reply, answer_in};
     ghost use Rattle.gm_store.specs.FolderLookups.{MayAnswerFrom};
@@ -117,7 +120,7 @@ impl<F: FolderList> Files for FallbackStore<F> {
         let outcome = walk(&mut self.folders, &mut self.buffers, marks, name)?;
         match outcome {
             Some(answer) => {
-                keep_answer(self.alloc, &mut self.asked, name, answer)?;
+                self.asked.keep(self.alloc, name, answer)?;
                 Ok(())
             }
             None => {
@@ -127,20 +130,26 @@ impl<F: FolderList> Files for FallbackStore<F> {
         }
     }
 
-    fn count(&self) -> usize {
-        self.asked.len()
-    }
-
-    fn name(&self, i: usize) -> &FileName {
-        &self.asked[i].name
-    }
-
-    fn answer(&self, i: usize) -> &Answer {
-        &self.asked[i].answer
+    fn last(&self) -> &Answer {
+        self.asked.last()
     }
 
     fn faults(&self) -> u64 {
         self.folders.failures()
+    }
+}
+
+impl<F: FolderList> Files for FallbackStore<F, AllAnswers> {
+    fn count(&self) -> usize {
+        self.asked.count()
+    }
+
+    fn name(&self, i: usize) -> &FileName {
+        self.asked.name(i)
+    }
+
+    fn answer(&self, i: usize) -> &Answer {
+        self.asked.answer(i)
     }
 }
 

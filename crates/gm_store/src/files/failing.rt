@@ -8,7 +8,7 @@ ghost use Rattle.gm_store.specs.Requests.{IsRequest};
 
 use crate::files::keeping::keep_name;
 use crate::files::memory::MemoryFiles;
-use crate::files::{Answer, AskFault, FileName, Files};
+use crate::files::{Answer, AskFault, Asks, FileName, Files};
 
 /// A store in memory that refuses one request, like a device that fails once and then works again.
 #[derive(Drop)]
@@ -43,7 +43,7 @@ impl FailingFiles {
     }
 }
 
-impl Files for FailingFiles {
+impl Asks for FailingFiles {
     ghost use Rattle.gm_store.specs.Memory.{may_give};
     ghost use Rattle.gm_store.specs.Failing.{asks_left, failing_files_state as state_of, inside_of, one_fewer};
 
@@ -78,6 +78,19 @@ impl Files for FailingFiles {
         }
     }
 
+    fn last(&self) -> &Answer {
+        self.inside.last()
+    }
+
+    fn faults(&self) -> u64 {
+        match self.left {
+            Some(_) => 0,
+            None => 1,
+        }
+    }
+}
+
+impl Files for FailingFiles {
     fn count(&self) -> usize {
         self.inside.count()
     }
@@ -88,12 +101,5 @@ impl Files for FailingFiles {
 
     fn answer(&self, i: usize) -> &Answer {
         self.inside.answer(i)
-    }
-
-    fn faults(&self) -> u64 {
-        match self.left {
-            Some(_) => 0,
-            None => 1,
-        }
     }
 }

@@ -1,28 +1,36 @@
-//! What a store keeps of its requests: the answered ones, and the names that were refused.
+//! What a store keeps of its requests: answers, and the names that were refused.
 
-ghost use Rattle.std.specs.Prelude.{◌≡◌, [], ◌∷◌, ◌++◌, map, OnOk, OnErr};
-ghost use Rattle.gm_store.specs.Asked.{IsWithinLimit, name_of, reply_of};
-ghost use Rattle.gm_store.specs.Memory.{pairs};
+ghost use Rattle.std.specs.Prelude.{◌≡◌, ◌<◌, [], ◌∷◌, ◌++◌, length, List, map, OnOk, OnErr};
+ghost use Rattle.gm_store.specs.Asked.{name_of};
 
-use crate::files::{Answer, Answered, FileName, copy_name};
+use crate::files::{Answer, FileName, copy_name};
 use gm_name::NoMemory;
 use std::alloc::Global;
 
-/// Appends a request and its answer. The only refusal is `NoMemory`, which leaves the list unchanged.
-pub(crate) fn keep_answer(
-    alloc: Global,
-    asked: &mut Vec<Answered>,
-    name: &FileName,
-    answer: Answer,
-) -> Result<(), NoMemory>
-    requires { IsWithinLimit (reply_of answer) }
-    ensures ok { OnOk result (pairs asked.new.items
-        ≡ pairs asked.old.items ++ (name_of name.now, reply_of answer) ∷ []) }
-    ensures err { OnErr result (asked.new.items ≡ asked.old.items) }
-{
-    let name = copy_name(alloc, name)?;
-    asked.push(Answered { name, answer })?;
-    Ok(())
+/// What a store keeps of the requests that it answered: all of them (`AllAnswers`), or the last answer
+/// (`LastAnswer`).
+pub trait Keeps {
+    ghost use Rattle.gm_store.specs.Asked.{IsLast, IsWithinLimit, Name, Reply, name_of, reply_of};
+
+    /// The requested names with their answers, in order.
+    ghost kept: { Self → List (Name × Reply) };
+
+    /// No requests.
+    fn new(alloc: Global) -> Self
+        ensures { kept result ≡ [] };
+
+    /// Adds a request and its answer after the earlier ones. The only refusal is `NoMemory`, which leaves them
+    /// unchanged.
+    fn keep(&mut self, alloc: Global, name: &FileName, answer: Answer) -> Result<(), NoMemory>
+        requires { IsWithinLimit (reply_of answer) }
+        ensures ok { OnOk result (kept self.new ≡ kept self.old ++ (name_of name.now, reply_of answer) ∷ []) }
+        ensures err { OnErr result (kept self.new ≡ kept self.old) };
+
+    /// The answer to the last request. There must be one.
+    fn last(&self) -> &Answer
+        requires { 0 < length (kept self.now) }
+        ensures value { IsLast (kept self.now) (reply_of result.now) }
+        ensures within_limit { IsWithinLimit (reply_of result.now) };
 }
 
 /// Appends a refused name. The only refusal is `NoMemory`, which leaves the list unchanged.

@@ -6,8 +6,9 @@
 ghost use Rattle.std.specs.Prelude.{◌≡◌, [], map, Some, None, OnOk, OnErr, IfOk, if◌then◌else◌};
 ghost use Rattle.gm_store.specs.Asked.{IsWithinLimit, Name, name_of, reply_of};
 
-use crate::files::keeping::keep_answer;
-use crate::files::{Answer, Answered, AskFault, FileName, Files};
+use crate::files::all_answers::AllAnswers;
+use crate::files::keeping::Keeps;
+use crate::files::{Answer, AskFault, Asks, FileName, Files};
 use crate::reading::LIMIT;
 use gm_name::NoMemory;
 use std::alloc::Global;
@@ -20,8 +21,8 @@ pub struct MemoryFiles {
     alloc: Global,
     /// The files' contents by name.
     held: BTreeMap<FileName, Vec<u8>>,
-    /// The answered requests, in order.
-    asked: Vec<Answered>,
+    /// The answered requests.
+    asked: AllAnswers,
 }
 
 impl MemoryFiles {
@@ -35,7 +36,7 @@ impl MemoryFiles {
         MemoryFiles {
             alloc,
             held: BTreeMap::new(alloc),
-            asked: Vec::new(alloc),
+            asked: AllAnswers::new(alloc),
         }
     }
 
@@ -81,7 +82,7 @@ pub(crate) fn copy_bytes(content: &Vec<u8>) -> Result<Vec<u8>, NoMemory>
     content.clone()
 }
 
-impl Files for MemoryFiles {
+impl Asks for MemoryFiles {
     ghost use Rattle.std.specs.Prelude.{◌≡◌};
     ghost use Rattle.gm_store.specs.Memory.{held_at, may_give, memory_files_state};
 
@@ -91,23 +92,29 @@ impl Files for MemoryFiles {
 
     fn ask(&mut self, name: &FileName) -> Result<(), AskFault> {
         let answer = self.look_up(name)?;
-        keep_answer(self.alloc, &mut self.asked, name, answer)?;
+        self.asked.keep(self.alloc, name, answer)?;
         Ok(())
     }
 
-    fn count(&self) -> usize {
-        self.asked.len()
-    }
-
-    fn name(&self, i: usize) -> &FileName {
-        &self.asked[i].name
-    }
-
-    fn answer(&self, i: usize) -> &Answer {
-        &self.asked[i].answer
+    fn last(&self) -> &Answer {
+        self.asked.last()
     }
 
     fn faults(&self) -> u64 {
         0
+    }
+}
+
+impl Files for MemoryFiles {
+    fn count(&self) -> usize {
+        self.asked.count()
+    }
+
+    fn name(&self, i: usize) -> &FileName {
+        self.asked.name(i)
+    }
+
+    fn answer(&self, i: usize) -> &Answer {
+        self.asked.answer(i)
     }
 }

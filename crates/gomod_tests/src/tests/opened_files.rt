@@ -1,7 +1,7 @@
 //! Which files a store over folders of the file system opens, how often, and which failures it counts.
 
 use super::{OUT_OF_MEMORY, assert_same, path};
-use gm_store::{AskFault, FileName, Files, FolderFiles, ProxyList};
+use gm_store::{AskFault, Asks, FileName, FolderFiles, ProxyList};
 use std::alloc::{AllocError, Allocator};
 use std::cell::RefCell;
 use std::fs::{File, Metadata, OpenOptions};

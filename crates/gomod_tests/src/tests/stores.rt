@@ -1,7 +1,7 @@
 //! A store whose device fails at one ask.
 
 use super::{File, OUT_OF_MEMORY, assert_same, path, store_of, text, version};
-use gm_store::{AskFault, FailingFiles, FileName, Files};
+use gm_store::{AskFault, Asks, FailingFiles, FileName, Files};
 
 /// One file of a module at a version, and one in a folder.
 const FILES: &'static [File] = &[

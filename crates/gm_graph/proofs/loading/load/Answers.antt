@@ -26,19 +26,19 @@ returns-in_err-cache-clause-asks g c = asks_nothing _ _ _ c.requires
 
 pub returns-in_err-builder-clause-too_many : goal.returns-in_err-builder-clause-too_many
 returns-in_err-builder-clause-too_many g c = λ e.
-    too_many_first (main_of c.args.main.now) (option_copied c.args.sums) (g.F.Files.state c.args.files.now).asked c.requires
+    too_many_first (main_of c.args.main.now) (option_copied c.args.sums) (g.F.Asks.state c.args.files.now).asked c.requires
     (c.in_err-builder.ensures.too_many (ap Err (sym (rw e at c.from_residual-in_err-builder.ensures.1))))
 
 pub returns-in_err-visit_all-clause-device : goal.returns-in_err-visit_all-clause-device
 returns-in_err-visit_all-clause-device g c = λ name e.
-    let pairs = (g.F.Files.state c.visit_all.new.files).asked in
+    let pairs = (g.F.Asks.state c.visit_all.new.files).asked in
     subst (λ (m : Main). IsDue m (option_copied c.args.sums) pairs (name_of name)) c.in_ok-cache.ensures.main
     (subst (λ (s : Option Sums). IsDue (main_in c.in_ok-cache.cache) s pairs (name_of name)) c.in_ok-cache.ensures.sums
     (c.in_err-visit_all.ensures.device name (ap Err (sym (rw e at c.from_residual-in_err-visit_all.ensures.1)))))
 
 pub returns-in_err-visit_all-clause-too_many : goal.returns-in_err-visit_all-clause-too_many
 returns-in_err-visit_all-clause-too_many g c = λ e.
-    let pairs = (g.F.Files.state c.visit_all.new.files).asked in
+    let pairs = (g.F.Asks.state c.visit_all.new.files).asked in
     subst (λ (m : Main). Told m (option_copied c.args.sums) pairs (AreTooMany m)) c.in_ok-cache.ensures.main
     (subst (λ (s : Option Sums). Told (main_in c.in_ok-cache.cache) s pairs (AreTooMany (main_in c.in_ok-cache.cache))) c.in_ok-cache.ensures.sums
     (c.in_err-visit_all.ensures.too_many (ap Err (sym (rw e at c.from_residual-in_err-visit_all.ensures.1)))))
@@ -61,14 +61,14 @@ returns-clause-loaded g c =
     let told = c.in_ok-assemble.ensures in
     let builder = c.visit_all.new.builder in
     let loaded = c.in_ok-assemble.field-0 in
-    loads_of c.in_ok-cache.cache c.visit_all.new.cache (g.F.Files.state c.visit_all.new.files).asked builder c.in_ok-visit_all.ensures.opened
+    loads_of c.in_ok-cache.cache c.visit_all.new.cache (g.F.Asks.state c.visit_all.new.files).asked builder c.in_ok-visit_all.ensures.opened
     (main_of c.args.main.now) (option_copied c.args.sums) c.in_ok-cache.ensures.main c.in_ok-cache.ensures.sums loaded c.visit_all.ensures.asks
     told.main told.faults told.ordered told.ascending
     (subst (λ (ms : List ModuleVersion). HaveSame (edges_in ms builder) loaded.edges) c.into_parts-modules.ensures.modules told.edges)
     told.rows (told.turns ∙ c.into_parts-modules.ensures.turns)
 
 pub returns-in_err-builder-clause-served : goal.returns-in_err-builder-clause-served
-returns-in_err-builder-clause-served g c = nothing_served _ (g.F.Files.state c.args.files.now)
+returns-in_err-builder-clause-served g c = nothing_served _ (g.F.Asks.state c.args.files.now)
 
 pub returns-in_err-cache-clause-served : goal.returns-in_err-cache-clause-served
-returns-in_err-cache-clause-served g c = nothing_served _ (g.F.Files.state c.args.files.now)
+returns-in_err-cache-clause-served g c = nothing_served _ (g.F.Asks.state c.args.files.now)

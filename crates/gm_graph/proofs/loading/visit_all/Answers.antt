@@ -11,10 +11,10 @@ use Rattle.gm_graph.proofs.loading.visit_all.Goals as goal
 
 pub turns-init : goal.turns-init
 turns-init g c = record {
-  state = first_step c.args.cache.now (g.F.Files.state c.args.files.now).asked c.args.builder.now c.requires.asked c.requires.knows c.requires.lent c.requires.first;
+  state = first_step c.args.cache.now (g.F.Asks.state c.args.files.now).asked c.args.builder.now c.requires.asked c.requires.knows c.requires.lent c.requires.first;
   files = c.requires.files;
   followed = λ file by. absurd (c.new-followed.ensures file by);
-  served = nothing_served _ (g.F.Files.state c.args.files.now);
+  served = nothing_served _ (g.F.Asks.state c.args.files.now);
   refused = refl;
 }
 
@@ -33,16 +33,16 @@ turns-preserved g c =
     let below = turn_below modules c.turns.builder c.turns.at (omega arith) in
     let here = turn_here modules c.turns.builder c.turns.at one (omega arith) c.index-one.ensures in
     record {
-      state = step (main_in c.args.cache.now) (sums_in c.args.cache.now) c.turns.cache c.visit.new.cache (g.F.Files.state c.turns.files).asked (g.F.Files.state c.visit.new.files).asked c.turns.builder c.visit.new.builder c.turns.at x one.depth
+      state = step (main_in c.args.cache.now) (sums_in c.args.cache.now) c.turns.cache c.visit.new.cache (g.F.Asks.state c.turns.files).asked (g.F.Asks.state c.visit.new.files).asked c.turns.builder c.visit.new.builder c.turns.at x one.depth
           c.turns.invariant.state below here c.in_ok-visit.ensures.knows c.in_ok-visit.ensures.continues c.in_ok-visit.ensures.turns c.in_ok-visit.ensures.builder c.in_ok-visit.ensures.visited c.visit.ensures.asks;
       files = c.in_ok-visit.ensures.files;
       followed = c.in_ok-visit.ensures.followed;
-      served = served_both _ _ _ (g.F.Files.state c.args.files.now) (g.F.Files.state c.turns.files) (g.F.Files.state c.visit.new.files) c.turns.invariant.served c.visit.ensures.served;
+      served = served_both _ _ _ (g.F.Asks.state c.args.files.now) (g.F.Asks.state c.turns.files) (g.F.Asks.state c.visit.new.files) c.turns.invariant.served c.visit.ensures.served;
       refused = c.in_ok-visit.ensures.refused ∙ append-nil _ ∙ c.turns.invariant.refused;
     }
 
 pub returns-clause-opened : goal.returns-clause-opened
-returns-clause-opened g c = last_step c.args.cache.now c.turns.cache (g.F.Files.state c.turns.files).asked c.turns.builder c.turns.at c.turns.invariant.state (past_all (modules_in c.turns.cache) c.turns.builder c.turns.at (omega arith))
+returns-clause-opened g c = last_step c.args.cache.now c.turns.cache (g.F.Asks.state c.turns.files).asked c.turns.builder c.turns.at c.turns.invariant.state (past_all (modules_in c.turns.cache) c.turns.builder c.turns.at (omega arith))
 
 pub returns-clause-asks : goal.returns-clause-asks
 returns-clause-asks g c = c.turns.invariant.state.asks
@@ -64,8 +64,8 @@ returns-in_err-visit-clause-asks g c =
     let below = turn_below modules c.turns.builder c.turns.at (omega arith) in
     let here = turn_here modules c.turns.builder c.turns.at one (omega arith) c.index-one.ensures in
     let state = c.turns.invariant.state in
-    asks_more (main_in c.args.cache.now) (sums_in c.args.cache.now) c.turns.cache state.main_is state.sums_are (g.F.Files.state c.turns.files).asked state.knows (turns_of modules c.turns.builder) c.turns.at x one.depth state.queue.sound below here
-    (g.F.Files.state c.visit.new.files).asked state.asks c.visit.ensures.asks
+    asks_more (main_in c.args.cache.now) (sums_in c.args.cache.now) c.turns.cache state.main_is state.sums_are (g.F.Asks.state c.turns.files).asked state.knows (turns_of modules c.turns.builder) c.turns.at x one.depth state.queue.sound below here
+    (g.F.Asks.state c.visit.new.files).asked state.asks c.visit.ensures.asks
 
 pub returns-in_err-visit-clause-too_many : goal.returns-in_err-visit-clause-too_many
 returns-in_err-visit-clause-too_many g c = λ e.
@@ -75,8 +75,8 @@ returns-in_err-visit-clause-too_many g c = λ e.
     let below = turn_below modules c.turns.builder c.turns.at (omega arith) in
     let here = turn_here modules c.turns.builder c.turns.at one (omega arith) c.index-one.ensures in
     let state = c.turns.invariant.state in
-    many_here (main_in c.args.cache.now) (sums_in c.args.cache.now) c.turns.cache state.main_is state.sums_are (g.F.Files.state c.turns.files).asked state.knows (turns_of modules c.turns.builder) c.turns.at x one.depth state.queue.sound below here
-    (g.F.Files.state c.visit.new.files).asked (c.in_err-visit.ensures.too_many (ap Err (sym (rw e at c.from_residual.ensures.1))))
+    many_here (main_in c.args.cache.now) (sums_in c.args.cache.now) c.turns.cache state.main_is state.sums_are (g.F.Asks.state c.turns.files).asked state.knows (turns_of modules c.turns.builder) c.turns.at x one.depth state.queue.sound below here
+    (g.F.Asks.state c.visit.new.files).asked (c.in_err-visit.ensures.too_many (ap Err (sym (rw e at c.from_residual.ensures.1))))
 
 pub returns-in_err-visit-clause-device : goal.returns-in_err-visit-clause-device
 returns-in_err-visit-clause-device g c = λ name e.
@@ -87,16 +87,16 @@ returns-in_err-visit-clause-device g c = λ name e.
     let here = turn_here modules c.turns.builder c.turns.at one (omega arith) c.index-one.ensures in
     let state = c.turns.invariant.state in
     let said = c.in_err-visit.ensures.device name (ap Err (sym (rw e at c.from_residual.ensures.1))) in
-    due_here (main_in c.args.cache.now) (sums_in c.args.cache.now) c.turns.cache state.main_is state.sums_are (g.F.Files.state c.turns.files).asked state.knows (turns_of modules c.turns.builder) c.turns.at x one.depth state.queue.sound below here
-    (g.F.Files.state c.visit.new.files).asked _ said.0 said.1 said.2 said.3
+    due_here (main_in c.args.cache.now) (sums_in c.args.cache.now) c.turns.cache state.main_is state.sums_are (g.F.Asks.state c.turns.files).asked state.knows (turns_of modules c.turns.builder) c.turns.at x one.depth state.queue.sound below here
+    (g.F.Asks.state c.visit.new.files).asked _ said.0 said.1 said.2 said.3
 
 pub returns-in_err-visit-clause-served : goal.returns-in_err-visit-clause-served
 returns-in_err-visit-clause-served g c =
-    served_both _ _ _ (g.F.Files.state c.args.files.now) (g.F.Files.state c.turns.files) (g.F.Files.state c.visit.new.files) c.turns.invariant.served c.visit.ensures.served
+    served_both _ _ _ (g.F.Asks.state c.args.files.now) (g.F.Asks.state c.turns.files) (g.F.Asks.state c.visit.new.files) c.turns.invariant.served c.visit.ensures.served
 
 pub returns-in_err-visit-clause-refused : goal.returns-in_err-visit-clause-refused
 returns-in_err-visit-clause-refused g c =
     let same = refused_same c.from_residual.result c.in_err-visit.field-0.0 (λ f e. rw e at c.from_residual.ensures.1) c.from_residual.ensures.0 in
     c.in_err-visit.ensures.refused
     ∙ ap (λ (ns : List Name). ns ++ refused_names c.in_err-visit.field-0.0) c.turns.invariant.refused
-    ∙ ap (λ (ns : List Name). (g.F.Files.state c.args.files.now).refused ++ ns) (sym same)
+    ∙ ap (λ (ns : List Name). (g.F.Asks.state c.args.files.now).refused ++ ns) (sym same)

@@ -9,11 +9,11 @@ use Rattle.gm_graph.proofs.loading.visit_all.Given as goal
 
 abbrev pub invariant-turns : goal.invariant-turns
 invariant-turns g l = record {
-  state : IsAt (main_in l.fn.cache) (sums_in l.fn.cache) l.cache (g.F.Files.state l.files).asked l.builder l.at;
+  state : IsAt (main_in l.fn.cache) (sums_in l.fn.cache) l.cache (g.F.Asks.state l.files).asked l.builder l.at;
   files : HaveFiles l.cache l.builder.edges;
   followed : AreFollowedIn l.cache (turns_of (modules_in l.cache) l.builder) l.followed;
-  served : HasServed (g.F.Files.may_answer l.fn.files) (g.F.Files.may_answer l.files) (g.F.Files.state l.fn.files) (g.F.Files.state l.files);
-  refused : (g.F.Files.state l.files).refused ≡ (g.F.Files.state l.fn.files).refused;
+  served : HasServed (g.F.Asks.may_answer l.fn.files) (g.F.Asks.may_answer l.files) (g.F.Asks.state l.fn.files) (g.F.Asks.state l.files);
+  refused : (g.F.Asks.state l.files).refused ≡ (g.F.Asks.state l.fn.files).refused;
 }
 
 abbrev pub decreases-turns : goal.decreases-turns

@@ -32,7 +32,7 @@ returns-clause-files g c =
     c.add_requirements.ensures.files c.add_requirements.ensures.cache
 
 pub returns-clause-knows : goal.returns-clause-knows
-returns-clause-knows g c = on_ok_weaker c.add_requirements.result (λ adds. knows_still c.known.new.self c.add_requirements.new.cache (g.F.Files.state c.known.new.files).asked adds.holds c.in_ok-finding.ensures.knows) c.add_requirements.ensures.cache
+returns-clause-knows g c = on_ok_weaker c.add_requirements.result (λ adds. knows_still c.known.new.self c.add_requirements.new.cache (g.F.Asks.state c.known.new.files).asked adds.holds c.in_ok-finding.ensures.knows) c.add_requirements.ensures.cache
 
 pub returns-clause-continues : goal.returns-clause-continues
 returns-clause-continues g c =
@@ -47,4 +47,4 @@ returns-clause-visited g c =
 
 pub returns-clause-too_many : goal.returns-clause-too_many
 returns-clause-too_many g c = λ e.
-    overflows_at c.args.cache.now c.known.new.self c.args.builder.now c.args.one c.known.ensures.numbered c.requires.builder c.requires.below (g.F.Files.state c.known.new.files).asked c.known.ensures.lent c.known.ensures.grows c.in_ok-finding.ensures.knows (c.add_requirements.ensures.too_many e)
+    overflows_at c.args.cache.now c.known.new.self c.args.builder.now c.args.one c.known.ensures.numbered c.requires.builder c.requires.below (g.F.Asks.state c.known.new.files).asked c.known.ensures.lent c.known.ensures.grows c.in_ok-finding.ensures.knows (c.add_requirements.ensures.too_many e)

@@ -13,7 +13,7 @@ pub returns-in-Versions-clause-no_list : goal.returns-in-Versions-clause-no_list
 returns-in-Versions-clause-no_list g c = λ path all outcome is refusal.
     let same : path ≡ c.in-Versions.path = cc (is, c.in-Versions.is) in
     c.versions_outcome.ensures.no_list outcome
-    (subst (λ (p : List ℕ). IsRefusedList p (answer_in (g.F.Files.state c.versions_outcome.new.files).asked) outcome) same refusal)
+    (subst (λ (p : List ℕ). IsRefusedList p (answer_in (g.F.Asks.state c.versions_outcome.new.files).asked) outcome) same refusal)
 
 pub returns-in-Graph-clause-comes : goal.returns-in-Graph-clause-comes
 returns-in-Graph-clause-comes g c = rw c.in-Graph.is c.answer.ensures.comes

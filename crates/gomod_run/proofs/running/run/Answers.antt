@@ -33,8 +33,8 @@ returns-in-Ok-clause-no_list g c = λ path all outcome is refused.
 
 pub returns-in-Ok-clause-all_answered : goal.returns-in-Ok-clause-all_answered
 returns-in-Ok-clause-all_answered g c = λ done.
-    let old = g.F.Files.state c.args.files.now in
-    let new = g.F.Files.state c.outcome.new.files in
+    let old = g.F.Asks.state c.args.files.now in
+    let new = g.F.Asks.state c.outcome.new.files in
     let sums = option_map (λ sums. sums.now) c.args.sums in
     let report = g.R.Sink.state c.args.report.now in
     done_if_memory c.args.command.now c.args.main.now sums old new (printed (string_bytes c.in-Ok.text))
@@ -64,8 +64,8 @@ returns-in-Err-clause-no_list g c = λ path all outcome is refused.
 
 pub returns-in-Err-clause-all_answered : goal.returns-in-Err-clause-all_answered
 returns-in-Err-clause-all_answered g c = λ done.
-    let old = g.F.Files.state c.args.files.now in
-    let new = g.F.Files.state c.outcome.new.files in
+    let old = g.F.Asks.state c.args.files.now in
+    let new = g.F.Asks.state c.outcome.new.files in
     let sums = option_map (λ sums. sums.now) c.args.sums in
     let out = g.O.Sink.state c.args.out.now in
     done_if_memory c.args.command.now c.args.main.now sums old new (report_outcome c.in-Err.told) c.in-Err.ensures.comes

@@ -18,12 +18,12 @@ returns-in_err-copy-clause-asked g c =
 
 pub ask_for-requires : goal.ask_for-requires
 ask_for-requires g c =
-    subst (λ (p : List ℕ). answer_in (g.F.Files.state c.args.files.now).asked (list_file p) ≡ None) (sym c.in_ok-copy.ensures)
+    subst (λ (p : List ℕ). answer_in (g.F.Asks.state c.args.files.now).asked (list_file p) ≡ None) (sym c.in_ok-copy.ensures)
     (ap (λ (a : Pairs). answer_in a (list_file c.args.path.now)) c.requires)
 
 pub returns-clause-asked : goal.returns-clause-asked
 returns-clause-asked g c =
-    list_asked c.args.path.now (g.F.Files.state c.args.files.now) (g.F.Files.state c.ask_for.new.files) c.ask_for.result
+    list_asked c.args.path.now (g.F.Asks.state c.args.files.now) (g.F.Asks.state c.ask_for.new.files) c.ask_for.result
     (sym c.is_fetchable.ensures ∙ c.if-not-is_fetchable.false)
-    (subst (λ (p : List ℕ). IsAsked (list_file p) (g.F.Files.state c.args.files.now) (g.F.Files.state c.ask_for.new.files) c.ask_for.result)
+    (subst (λ (p : List ℕ). IsAsked (list_file p) (g.F.Asks.state c.args.files.now) (g.F.Asks.state c.ask_for.new.files) c.ask_for.result)
     c.in_ok-copy.ensures c.ask_for.ensures.asked)

@@ -11,44 +11,44 @@ use Rattle.gm_graph_cache.proofs.cache.Cache.known.Goals as goal
 
 pub read_file-requires-clause-fresh : goal.read_file-requires-clause-fresh
 read_file-requires-clause-fresh g c =
-    not_asked c.args.self.now (g.F.Files.state c.args.files.now).asked (name_of c.in_ok-name.name) c.requires.knows (c.in_default.ensures)
+    not_asked c.args.self.now (g.F.Asks.state c.args.files.now).asked (name_of c.in_ok-name.name) c.requires.knows (c.in_default.ensures)
 
 pub returns-in_ok-keep-in-Ok-clause-knows : goal.returns-in_ok-keep-in-Ok-clause-knows
 returns-in_ok-keep-in-Ok-clause-knows g c =
     let read = c.in-Ok.ensures.reading in
     let none = c.in_default.ensures in
-    knows_read c.args.self.now c.read_file.new.self c.keep.new.self (g.F.Files.state c.args.files.now).asked (g.F.Files.state c.read_file.new.files).asked (name_of c.in_ok-name.name) read.0 c.in-Ok.kept
+    knows_read c.args.self.now c.read_file.new.self c.keep.new.self (g.F.Asks.state c.args.files.now).asked (g.F.Asks.state c.read_file.new.files).asked (name_of c.in_ok-name.name) read.0 c.in-Ok.kept
     c.requires.knows c.read_file.ensures.holds c.keep.ensures.lent c.keep.ensures.modules none c.in_ok-keep-in-Ok.ensures.adds read.1 read.2 c.in-Ok.ensures.kept
 
 pub returns-in-Err-Device-clause-device : goal.returns-in-Err-Device-clause-device
 returns-in-Err-Device-clause-device g c = λ name e.
     let none = c.in_default.ensures in
     let same : c.in_ok-name.name ≡ name = cc in
-    subst (λ (n : FileName). StillLacks (main_in c.args.self.now) (g.F.Files.state c.args.files.now) (g.F.Files.state c.read_file.new.files) (numbered c.args.self.now c.args.number) (name_of n)) same (
+    subst (λ (n : FileName). StillLacks (main_in c.args.self.now) (g.F.Asks.state c.args.files.now) (g.F.Asks.state c.read_file.new.files) (numbered c.args.self.now c.args.number) (name_of n)) same (
       c.in-Err-Device.ensures.device (ap Err c.in-Err-Device.field-0-is),
       c.in_ok-name.ensures ∙ ap (file_of (main_in c.args.self.now)) c.module.ensures.module,
       sym c.is_askable.ensures ∙ c.if-not-is_askable.false,
-      not_asked c.args.self.now (g.F.Files.state c.args.files.now).asked (name_of c.in_ok-name.name) c.requires.knows none,
+      not_asked c.args.self.now (g.F.Asks.state c.args.files.now).asked (name_of c.in_ok-name.name) c.requires.knows none,
     )
 
 pub returns-in-Err-Device-clause-asks : goal.returns-in-Err-Device-clause-asks
 returns-in-Err-Device-clause-asks g c =
-    asks_file (main_in c.args.self.now) (g.F.Files.state c.args.files.now) (g.F.Files.state c.read_file.new.files) (numbered c.args.self.now c.args.number) (name_of c.in_ok-name.name)
+    asks_file (main_in c.args.self.now) (g.F.Asks.state c.args.files.now) (g.F.Asks.state c.read_file.new.files) (numbered c.args.self.now c.args.number) (name_of c.in_ok-name.name)
     (c.in_ok-name.ensures ∙ ap (file_of (main_in c.args.self.now)) c.module.ensures.module) (sym c.is_askable.ensures ∙ c.if-not-is_askable.false) c.read_file.ensures.asks
 
 pub returns-in-Err-NoMemory-clause-asks : goal.returns-in-Err-NoMemory-clause-asks
 returns-in-Err-NoMemory-clause-asks g c =
-    asks_file (main_in c.args.self.now) (g.F.Files.state c.args.files.now) (g.F.Files.state c.read_file.new.files) (numbered c.args.self.now c.args.number) (name_of c.in_ok-name.name)
+    asks_file (main_in c.args.self.now) (g.F.Asks.state c.args.files.now) (g.F.Asks.state c.read_file.new.files) (numbered c.args.self.now c.args.number) (name_of c.in_ok-name.name)
     (c.in_ok-name.ensures ∙ ap (file_of (main_in c.args.self.now)) c.module.ensures.module) (sym c.is_askable.ensures ∙ c.if-not-is_askable.false) c.read_file.ensures.asks
 
 pub returns-in_ok-keep-in-Ok-clause-asks : goal.returns-in_ok-keep-in-Ok-clause-asks
 returns-in_ok-keep-in-Ok-clause-asks g c =
-    asks_file (main_in c.args.self.now) (g.F.Files.state c.args.files.now) (g.F.Files.state c.read_file.new.files) (numbered c.args.self.now c.args.number) (name_of c.in_ok-name.name)
+    asks_file (main_in c.args.self.now) (g.F.Asks.state c.args.files.now) (g.F.Asks.state c.read_file.new.files) (numbered c.args.self.now c.args.number) (name_of c.in_ok-name.name)
     (c.in_ok-name.ensures ∙ ap (file_of (main_in c.args.self.now)) c.module.ensures.module) (sym c.is_askable.ensures ∙ c.if-not-is_askable.false) c.read_file.ensures.asks
 
 pub returns-in_err-keep-in-Ok-clause-asks : goal.returns-in_err-keep-in-Ok-clause-asks
 returns-in_err-keep-in-Ok-clause-asks g c =
-    asks_file (main_in c.args.self.now) (g.F.Files.state c.args.files.now) (g.F.Files.state c.read_file.new.files) (numbered c.args.self.now c.args.number) (name_of c.in_ok-name.name)
+    asks_file (main_in c.args.self.now) (g.F.Asks.state c.args.files.now) (g.F.Asks.state c.read_file.new.files) (numbered c.args.self.now c.args.number) (name_of c.in_ok-name.name)
     (c.in_ok-name.ensures ∙ ap (file_of (main_in c.args.self.now)) c.module.ensures.module) (sym c.is_askable.ensures ∙ c.if-not-is_askable.false) c.read_file.ensures.asks
 
 -- ---- memory ran out before anything was asked for
@@ -63,7 +63,7 @@ pub returns-in_err-name-clause-device : goal.returns-in_err-name-clause-device
 returns-in_err-name-clause-device g c = λ name e. absurd (cc (rw e at c.from_residual.ensures.1))
 
 pub returns-in_err-name-clause-refused : goal.returns-in_err-name-clause-refused
-returns-in_err-name-clause-refused g c = none_refused c.from_residual.result (g.F.Files.state c.args.files.now).refused _ c.from_residual.ensures.1 refl
+returns-in_err-name-clause-refused g c = none_refused c.from_residual.result (g.F.Asks.state c.args.files.now).refused _ c.from_residual.ensures.1 refl
 
 -- ---- what was read is kept
 
@@ -108,7 +108,7 @@ returns-in_err-keep-in-Ok-clause-device g c = λ name e. absurd (cc (rw e at c.f
 
 pub returns-in_err-keep-in-Ok-clause-refused : goal.returns-in_err-keep-in-Ok-clause-refused
 returns-in_err-keep-in-Ok-clause-refused g c =
-    none_refused c.from_residual-in_err-keep-in-Ok.result (g.F.Files.state c.args.files.now).refused _ c.from_residual-in_err-keep-in-Ok.ensures.1 (c.in-Ok.ensures.refused ∙ append-nil _)
+    none_refused c.from_residual-in_err-keep-in-Ok.result (g.F.Asks.state c.args.files.now).refused _ c.from_residual-in_err-keep-in-Ok.ensures.1 (c.in-Ok.ensures.refused ∙ append-nil _)
 
 -- ---- memory ran out when the file was asked for, or the device failed
 

@@ -5,13 +5,13 @@ use Rattle.gm_graph_cache.proofs.Keeping.{holds_grown, holds_itself}
 use Rattle.gm_graph_cache.proofs.cache.Cache.read_file.Goals as goal
 
 pub returns-in_err-ask-clause-served : goal.returns-in_err-ask-clause-served
-returns-in_err-ask-clause-served g c = request_served _ _ (g.F.Files.state c.args.files.now) (g.F.Files.state c.ask.new.self) (name_of c.args.name.now) c.ask.result c.ask.ensures
+returns-in_err-ask-clause-served g c = request_served _ _ (g.F.Asks.state c.args.files.now) (g.F.Asks.state c.ask.new.self) (name_of c.args.name.now) c.ask.result c.ask.ensures
 
 pub returns-in_err-kept-clause-served : goal.returns-in_err-kept-clause-served
-returns-in_err-kept-clause-served g c = request_served _ _ (g.F.Files.state c.args.files.now) (g.F.Files.state c.ask.new.self) (name_of c.args.name.now) c.ask.result c.ask.ensures
+returns-in_err-kept-clause-served g c = request_served _ _ (g.F.Asks.state c.args.files.now) (g.F.Asks.state c.ask.new.self) (name_of c.args.name.now) c.ask.result c.ask.ensures
 
 pub returns-clause-served : goal.returns-clause-served
-returns-clause-served g c = request_served _ _ (g.F.Files.state c.args.files.now) (g.F.Files.state c.ask.new.self) (name_of c.args.name.now) c.ask.result c.ask.ensures
+returns-clause-served g c = request_served _ _ (g.F.Asks.state c.args.files.now) (g.F.Asks.state c.ask.new.self) (name_of c.args.name.now) c.ask.result c.ask.ensures
 
 pub returns-in_err-kept-clause-asks : goal.returns-in_err-kept-clause-asks
 returns-in_err-kept-clause-asks g c = let (reply, _, _, adds) = c.in_ok-ask.ensures.answered in inr (reply, c.requires.fresh, adds)

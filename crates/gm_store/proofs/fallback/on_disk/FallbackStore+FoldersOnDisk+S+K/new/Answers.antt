@@ -1,7 +1,7 @@
 use Rattle.std.proofs.Common.{ap}
 use Rattle.gm_store.specs.FoldersOnDisk.{main_folder, proxy_folders, system_of}
 use Rattle.gm_store.proofs.DiskStores.{same_answers}
-use Rattle.gm_store.proofs.fallback.on_disk.FallbackStore+FoldersOnDisk+S.new.Goals as goal
+use Rattle.gm_store.proofs.fallback.on_disk.FallbackStore+FoldersOnDisk+S+K.new.Goals as goal
 
 pub returns-clause-answers : goal.returns-clause-answers
 returns-clause-answers g c = λ name reply stated.
