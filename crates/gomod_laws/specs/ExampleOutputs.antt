@@ -1,0 +1,208 @@
+-- Sinks before and after small runs, and files before and after they were read, on which the definitions of what is
+-- written and read are tried. Whatever is refused here breaks one part of its definition and no other.
+use Rattle.std.specs.Prelude.{◌≡◌, ◌<◌, ◌-◌, ◌^◌, ℕ, List, [], Some, None, Ok, Err, codes, length, true}
+use Rattle.std.specs.Global.{Vec}
+use Rattle.std.specs.declared.io.ErrorKind.{ErrorKind}
+use Rattle.std.specs.declared.io.ErrorKind.TheVariants.{NotFound, OutOfMemory}
+use Rattle.gm_store.specs.Asked.{list_file, mod_file}
+use Rattle.gm_store.specs.Faults.{HasCountedFailure}
+use Rattle.gm_store.specs.Memory.{held_at}
+use Rattle.gm_store.specs.Openings.{IsReadFrom, opened, refused as unopened}
+use Rattle.gm_store.specs.Taken.{SinkState}
+use Rattle.gm_store.specs.declared.files.memory.MemoryFiles.{MemoryFiles}
+use Rattle.gm_store.specs.declared.reading.InputFault.TheVariants.{Device, NoMemory}
+use Rattle.gm_report.specs.Outcome.{Outcome, failed, out_of_memory, printed, refused}
+use Rattle.gm_report.specs.Taking.{TookAll, TookPrefix}
+use Rattle.gomod_words.specs.declared.usage.Command.TheVariants.{Fmt, Versions}
+use Rattle.gomod_run.specs.Held.{HoldsOne}
+use Rattle.gomod_run.specs.Reads.{HoldsInput, IsUnreadList}
+use Rattle.gomod_run.specs.Written.{EndsAsStated, IsWritten, WroteBoth, WrotePrefix}
+
+-- ---- the texts and the sinks
+
+-- what a run prints, and what another prints
+abbrev pub text : List ℕ
+text = codes "m\n"
+
+abbrev pub other : List ℕ
+other = codes "n\n"
+
+-- what a run reports
+abbrev pub bad_line : List ℕ
+bad_line = codes "go.mod:1: BadLine\n"
+
+-- a sink that took these bytes, has room for so many more, and failed so often
+abbrev pub sink : List ℕ → ℕ → ℕ → SinkState
+sink taken room faults = record { taken = Some taken; room = Some room; faults = faults }
+
+-- one that tells what it took, and not how much room it has
+abbrev pub boundless : List ℕ → ℕ → SinkState
+boundless taken faults = record { taken = Some taken; room = None; faults = faults }
+
+-- one that tells neither, as a terminal
+abbrev pub terminal : ℕ → SinkState
+terminal faults = record { taken = None; room = None; faults = faults }
+
+-- a sink with room for 20 bytes; after it took the text, another, or the report
+abbrev pub empty : SinkState
+empty = sink [] 20 0
+
+abbrev pub with_text : SinkState
+with_text = sink text 18 0
+
+abbrev pub with_other : SinkState
+with_other = sink other 18 0
+
+abbrev pub with_bad_line : SinkState
+with_bad_line = sink bad_line 2 0
+
+-- a sink with room for one byte, and after it failed to take the text
+abbrev pub small : SinkState
+small = sink [] 1 0
+
+abbrev pub small_after : SinkState
+small_after = sink (codes "m") 0 1
+
+-- the same of the report
+abbrev pub small_reported : SinkState
+small_reported = sink (codes "g") 0 1
+
+-- ---- a sink
+
+-- A failure is counted if the count rises, or stands at its maximum.
+pub record FailureIsCounted : Type 0 where
+  pub counted : HasCountedFailure 0 1
+  pub greatest : HasCountedFailure (2 ^ 64 - 1) (2 ^ 64 - 1)
+  pub uncounted : ¬ (HasCountedFailure 0 0)
+  pub fallen : ¬ (HasCountedFailure 1 0)
+
+-- A text is taken whole if the sink has it after what it had, with as much less room, and its count of failures
+-- doesn't fall.
+pub record TextIsTaken : Type 0 where
+  pub took : TookAll empty with_text text
+  pub after : TookAll (sink (codes "a") 20 1) (sink (codes "am\n") 18 1) text
+  pub by_terminal : TookAll (terminal 0) (terminal 0) text
+  -- the bytes: none, those of another text, less than was there, or not told any more
+  pub nothing : ¬ (TookAll empty (sink [] 18 0) text)
+  pub another : ¬ (TookAll empty with_other text)
+  pub lost : ¬ (TookAll (sink (codes "a") 20 0) with_text text)
+  pub untold : ¬ (TookAll empty (record { taken = None; room = Some 18; faults = 0 }) text)
+  -- the room: as before, too small, or told only afterwards
+  pub same_room : ¬ (TookAll empty (sink text 20 0) text)
+  pub too_small : ¬ (TookAll small (sink text 0 0) text)
+  pub told_later : ¬ (TookAll (terminal 0) (record { taken = None; room = Some 18; faults = 0 }) text)
+  -- the count
+  pub fallen : ¬ (TookAll (sink [] 20 1) with_text text)
+
+-- A prefix is taken if the sink fails, and if it tells its room, exactly what fits.
+pub record PrefixIsTaken : Type 0 where
+  pub took : TookPrefix small small_after text
+  pub by_boundless : TookPrefix (boundless [] 0) (boundless (codes "m") 1) text
+  pub by_terminal : TookPrefix (terminal 0) (terminal 1) text
+  -- the bytes: those of another text, or less than fits
+  pub another : ¬ (TookPrefix (boundless [] 0) (boundless (codes "n") 1) text)
+  pub fewer : ¬ (TookPrefix small (sink [] 0 1) text)
+  -- the room: all of it fits
+  pub fits : ¬ (TookPrefix (sink [] 2 0) (sink text 0 1) text)
+  -- the count
+  pub uncounted : ¬ (TookPrefix small (sink (codes "m") 0 0) text)
+
+-- ---- the output and the report
+
+-- Both texts are written if each sink took its own.
+pub record BothAreWritten : Type 0 where
+  pub wrote : WroteBoth text bad_line empty with_text empty with_bad_line
+  pub other_text : ¬ (WroteBoth text bad_line empty with_other empty with_bad_line)
+  pub no_text : ¬ (WroteBoth text bad_line empty empty empty with_bad_line)
+  pub no_line : ¬ (WroteBoth text bad_line empty with_text empty empty)
+  pub swapped : ¬ (WroteBoth [] bad_line empty with_bad_line empty empty)
+
+-- A prefix is written if the output failed, and nothing was reported; or if the output took the text, and the report
+-- failed.
+pub record PrefixIsWritten : Type 0 where
+  pub output_failed : WrotePrefix text bad_line small small_after empty empty
+  pub report_failed : WrotePrefix text bad_line empty with_text small small_reported
+  pub goes_on : ¬ (WrotePrefix text bad_line small small_after empty with_bad_line)
+  pub lost_text : ¬ (WrotePrefix text bad_line empty empty small small_reported)
+  pub other_text : ¬ (WrotePrefix text bad_line empty with_other small small_reported)
+  pub none_failed : ¬ (WrotePrefix text bad_line empty with_text empty with_bad_line)
+
+-- An outcome is written with its status, or cut with status 3.
+pub record OutcomeIsWritten : Type 0 where
+  pub prints : IsWritten (printed text) empty with_text empty empty 0
+  pub reports : IsWritten (refused bad_line) empty empty empty with_bad_line 1
+  pub output_failed : IsWritten (printed text) small small_after empty empty 3
+  pub report_failed : IsWritten (refused bad_line) empty empty small small_reported 3
+  -- the status: another one, that of the outcome after a sink failed, or 3 though none did
+  pub other_status : ¬ (IsWritten (printed text) empty with_text empty empty 1)
+  pub done_after_failure : ¬ (IsWritten (printed text) small small_after empty empty 0)
+  pub refused_after_failure : ¬ (IsWritten (refused bad_line) empty empty small small_reported 1)
+  pub device_unfailed : ¬ (IsWritten (printed text) empty with_text empty empty 3)
+  -- whatever the status: nothing is printed, or another text; the report goes to the output, or to both; or there is
+  -- one beside a text
+  pub nothing : (status : ℕ) → ¬ (IsWritten (printed text) empty empty empty empty status)
+  pub other_text : (status : ℕ) → ¬ (IsWritten (printed text) empty with_other empty empty status)
+  pub not_reported : (status : ℕ) → ¬ (IsWritten (refused bad_line) empty empty empty empty status)
+  pub to_output : (status : ℕ) → ¬ (IsWritten (refused bad_line) empty with_bad_line empty empty status)
+  pub to_both : (status : ℕ) → ¬ (IsWritten (refused bad_line) empty with_bad_line empty with_bad_line status)
+  pub beside_text : (status : ℕ) → ¬ (IsWritten (printed text) empty with_text empty with_bad_line status)
+
+-- the runs whose one outcome is that the text is printed
+abbrev pub PrintsText : Outcome → Type 0
+PrintsText outcome = outcome ≡ printed text
+
+-- the report that memory ran out, on a sink
+abbrev pub with_no_memory : SinkState
+with_no_memory = sink (codes "gomod: no memory\n") 3 0
+
+-- A run ends with an outcome that is stated, or without memory.
+pub record EndIsStated : Type 0 where
+  pub prints : EndsAsStated PrintsText empty with_text empty empty 0
+  pub no_memory : EndsAsStated PrintsText empty empty empty with_no_memory 3
+  -- whatever the status: another text, a report, or nothing
+  pub other_text : (status : ℕ) → ¬ (EndsAsStated PrintsText empty with_other empty empty status)
+  pub reports : (status : ℕ) → ¬ (EndsAsStated PrintsText empty empty empty with_bad_line status)
+  pub nothing : (status : ℕ) → ¬ (EndsAsStated PrintsText empty empty empty empty status)
+  pub done_without_memory : ¬ (EndsAsStated PrintsText empty empty empty with_no_memory 0)
+
+-- ---- reading
+
+-- A file that was opened gives its bytes, up to 16,777,217. One that was not gives none, and memory ran out if and
+-- only if the system says so.
+pub record FileIsRead : Type 0 where
+  pub given : (bytes : Vec ℕ) → bytes.items ≡ text → IsReadFrom (opened (Some text)) (Ok bytes)
+  pub another : (bytes : Vec ℕ) → bytes.items ≡ other → ¬ (IsReadFrom (opened (Some text)) (Ok bytes))
+  pub cut : (bytes : Vec ℕ) → bytes.items ≡ codes "m" → ¬ (IsReadFrom (opened (Some text)) (Ok bytes))
+  pub too_many : (all : List ℕ) (bytes : Vec ℕ) → 16777217 < length all → bytes.items ≡ all
+      → ¬ (IsReadFrom (opened (Some all)) (Ok bytes))
+  pub not_found : IsReadFrom (unopened NotFound) (Err Device)
+  pub no_memory : IsReadFrom (unopened OutOfMemory) (Err NoMemory)
+  pub not_opened : (kind : ErrorKind) (bytes : Vec ℕ) → ¬ (IsReadFrom (unopened kind) (Ok bytes))
+  pub not_memory : ¬ (IsReadFrom (unopened NotFound) (Err NoMemory))
+  pub not_device : ¬ (IsReadFrom (unopened OutOfMemory) (Err Device))
+
+-- ---- standard input
+
+-- the module whose list it is
+abbrev pub path : List ℕ
+path = codes "m"
+
+-- It can't be read: that is reported under the name `-`, or memory ran out.
+pub record InputIsUnread : Type 0 where
+  pub device : IsUnreadList (failed (codes "gomod: cannot read -\n"))
+  pub no_memory : IsUnreadList out_of_memory
+  pub other_name : ¬ (IsUnreadList (failed (codes "gomod: cannot read m\n")))
+  pub other_status : ¬ (IsUnreadList (refused (codes "gomod: cannot read -\n")))
+  pub prints : ¬ (IsUnreadList (printed text))
+
+-- The store of `versions` has it if it has a list of the module, and nothing else. That of another command has nothing.
+pub record InputIsHeld : Type 0 where
+  pub held : (files : MemoryFiles) (list : Vec ℕ) → HoldsOne (list_file path) list.items files
+      → HoldsInput (Versions path true) files
+  pub nothing : (files : MemoryFiles) → held_at files (list_file path) ≡ None → ¬ (HoldsInput (Versions path true) files)
+  pub other_list : (files : MemoryFiles) (list : List ℕ) → held_at files (list_file (codes "n")) ≡ Some list
+      → ¬ (HoldsInput (Versions path true) files)
+  pub other_file : (files : MemoryFiles) (file : List ℕ) → held_at files (mod_file path (codes "v1.0.0")) ≡ Some file
+      → ¬ (HoldsInput (Versions path true) files)
+  pub for_fmt : (files : MemoryFiles) (list : List ℕ) → held_at files (list_file path) ≡ Some list
+      → ¬ (HoldsInput Fmt files)
