@@ -199,7 +199,8 @@ pub record InputIsUnread : Type 0 where
 pub record InputIsHeld : Type 0 where
   pub held : (files : MemoryFiles) (list : Vec ℕ) → HoldsOne (list_file path) list.items files
       → HoldsInput (Versions path true) files
-  pub nothing : (files : MemoryFiles) → held_at files (list_file path) ≡ None → ¬ (HoldsInput (Versions path true) files)
+  pub nothing : (files : MemoryFiles) → held_at files (list_file path) ≡ None
+      → ¬ (HoldsInput (Versions path true) files)
   pub other_list : (files : MemoryFiles) (list : List ℕ) → held_at files (list_file (codes "n")) ≡ Some list
       → ¬ (HoldsInput (Versions path true) files)
   pub other_file : (files : MemoryFiles) (file : List ℕ) → held_at files (mod_file path (codes "v1.0.0")) ≡ Some file
