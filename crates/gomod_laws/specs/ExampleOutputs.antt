@@ -1,5 +1,5 @@
 -- Sinks before and after small runs, and files before and after they were read, on which the definitions of what is
--- written and read are tried. Whatever is refused here breaks one part of its definition and no other.
+-- written and read are tried. Whatever is refused here breaks at least one part of its definition.
 use Rattle.std.specs.Prelude.{◌≡◌, ◌<◌, ◌-◌, ◌^◌, ℕ, List, [], Some, None, Ok, Err, codes, length, true}
 use Rattle.std.specs.Global.{Vec}
 use Rattle.std.specs.declared.io.ErrorKind.{ErrorKind}
