@@ -6,9 +6,9 @@
 #   bench/edit.sh            what docs/dev/BENCHMARKS.md has
 #   bench/edit.sh --small    2,000 lines and fewer operations, to see in seconds whether it runs
 #
-# It needs bin/gomod (./build makes it), python3, and 20 MB for temporary files. It prints for each command, of three
-# runs (one with --small), the fastest: elapsed seconds, CPU seconds, and peak memory. The status is 1 if gomod fails or
-# there is none.
+# It needs bin/gomod (./build makes it), python3, a C compiler, and 20 MB for temporary files. It prints for each
+# command, of three runs (one with --small), the fastest: elapsed seconds, CPU seconds, and peak memory. The status is 1
+# if gomod fails or there is none.
 set -euo pipefail
 cd "$(dirname "$0")/.."
 # shellcheck source=tools/lib.sh
