@@ -5,10 +5,9 @@ use Rattle.std.proofs.lemmas.Map.Keys.{IsDistinct-push}
 use Rattle.std.proofs.lemmas.Map.Views.{Contains-from_any}
 use Rattle.std.proofs.lemmas.List.Elements.{Contains-append_left, Contains-push, Contains-push_cases}
 use Rattle.gm_name.specs.ModuleVersion.{ModuleVersion, pair-same, pair_eq, pairs-equivalence}
-use Rattle.gm_graph_cache.specs.declared.depth.Turn.{Turn}
-use Rattle.gm_graph_cache.specs.declared.depth.Depth.{Depth}
-use Rattle.gm_graph.specs.Turns.{same_turn, AreTurnsOf, AddsAll, OverflowsWith}
-use Rattle.gm_graph_cache.specs.Turns.{turn}
+use Rattle.gm_graph.specs.declared.cache.depth.Turn.{Turn}
+use Rattle.gm_graph.specs.declared.cache.depth.Depth.{Depth}
+use Rattle.gm_graph.specs.Turns.{same_turn, AreTurnsOf, AddsAll, OverflowsWith, turn}
 use Rattle.gm_graph.proofs.Sameness.{turns_equivalence}
 
 pub no_turns : AreTurnsOf [] []

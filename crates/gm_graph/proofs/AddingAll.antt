@@ -3,14 +3,13 @@ use Rattle.std.proofs.Common.{◌≡◌, ◌+◌, ◌≤◌, ◌<◌, ℕ, List,
 use Rattle.std.proofs.lemmas.List.{get_or_default, map_more, take-append-drop}
 use Rattle.std.proofs.lemmas.List.Elements.{Contains-append_left, Contains-append_right, Contains-push, Contains-push_cases, Contains-append_cases}
 use Rattle.gm_name.specs.ModuleVersion.{ModuleVersion, module_at}
-use Rattle.gm_graph_cache.specs.declared.depth.Turn.{Turn}
-use Rattle.gm_graph_cache.specs.declared.depth.Depth.{Depth}
+use Rattle.gm_graph.specs.declared.cache.depth.Turn.{Turn}
+use Rattle.gm_graph.specs.declared.cache.depth.Depth.{Depth}
 use Rattle.gm_graph.specs.declared.graph_builder.GraphBuilder.{GraphBuilder}
 use Rattle.gm_graph.specs.Builder.{KeepsGraph}
 use Rattle.gm_graph.proofs.Adding.{overflow_later}
 use Rattle.gm_graph.proofs.Mapped.{from_mapped, in_mapped}
-use Rattle.gm_graph.specs.Turns.{AppendsTurnIfNew, AddsAll, OverflowsWith}
-use Rattle.gm_graph_cache.specs.Turns.{turn}
+use Rattle.gm_graph.specs.Turns.{AppendsTurnIfNew, AddsAll, OverflowsWith, turn}
 
 pub no_shorter : (old new more : List Turn) → new ≡ old ++ more → length old ≤ length new
 no_shorter old new more e = omega (arith, ap length e, length-append old more)

@@ -5,12 +5,12 @@ use Rattle.gm_name.specs.ModuleVersion.{ModuleVersion, module_at}
 use Rattle.gm_name_table.specs.Listed.{BeginsWith}
 use Rattle.gm_store.specs.Asked.{Name, Reply}
 use Rattle.gm_store_sums.specs.Sums.{Sums}
-use Rattle.gm_graph_cache.specs.declared.cache.Cache.{Cache}
-use Rattle.gm_graph_cache.specs.declared.depth.Turn.{Turn}
-use Rattle.gm_graph_cache.specs.Cached.{AddsTurn, Knows, LentSame, held_of, main_in, modules_in, numbered}
-use Rattle.gm_graph_cache.specs.Main.{Main, main_of}
-use Rattle.gm_graph_cache.specs.Reading.{Held, KeepsHeld, Readings, Tells, readings_by}
-use Rattle.gm_graph_cache.proofs.Keeping.{held_same, main_same}
+use Rattle.gm_graph.specs.declared.cache.Cache.{Cache}
+use Rattle.gm_graph.specs.declared.cache.depth.Turn.{Turn}
+use Rattle.gm_graph.specs.Cached.{AddsTurn, Knows, LentSame, held_of, main_in, modules_in, numbered}
+use Rattle.gm_graph.specs.Main.{Main, main_of}
+use Rattle.gm_graph.specs.Reading.{Held, KeepsHeld, Readings, Tells, readings_by}
+use Rattle.gm_graph.proofs.Keeping.{held_same, main_same}
 use Rattle.gm_graph.specs.declared.graph_builder.GraphBuilder.{GraphBuilder}
 use Rattle.gm_graph.specs.declared.graph_builder.NumberedTurn.{NumberedTurn}
 use Rattle.gm_graph.specs.Builder.{Built, IsBuilder, built, turn_of, turns_of}

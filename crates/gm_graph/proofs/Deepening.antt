@@ -3,15 +3,14 @@ use Rattle.std.proofs.Common.{◌≡◌, true, false, List, [], Option, Some, No
 use Rattle.std.proofs.lemmas.Bool.{cases_Bool, false≢true}
 use Rattle.gm_name.specs.ModuleVersion.{ModuleVersion}
 use Rattle.gm_file.specs.Fields.{Dependency}
-use Rattle.gm_graph_cache.specs.Main.{Main, is_pruned_by}
-use Rattle.gm_graph_cache.specs.Reading.{Keeps, Readings, is_unpruned_in, requirements_in, vertex_requirements, said_in}
-use Rattle.gm_graph_cache.specs.declared.depth.Turn.{Turn}
-use Rattle.gm_graph_cache.specs.declared.depth.Depth.{Depth}
-use Rattle.gm_graph_cache.specs.declared.depth.Depth.TheVariants.{Top, Deep}
-use Rattle.gm_graph_cache.specs.declared.class.Class.{Class}
+use Rattle.gm_graph.specs.Main.{Main, is_pruned_by}
+use Rattle.gm_graph.specs.Reading.{Keeps, Readings, is_unpruned_in, requirements_in, vertex_requirements, said_in}
+use Rattle.gm_graph.specs.declared.cache.depth.Turn.{Turn}
+use Rattle.gm_graph.specs.declared.cache.depth.Depth.{Depth}
+use Rattle.gm_graph.specs.declared.cache.depth.Depth.TheVariants.{Top, Deep}
+use Rattle.gm_graph.specs.declared.cache.class.Class.{Class}
 use Rattle.gm_graph.specs.Graph.{IsTop, IsDeep, from_main, from_top, from_deep, TakesTurn}
-use Rattle.gm_graph.specs.Turns.{leads_on, leads_on_in, IsDone, AddsAll, Visits}
-use Rattle.gm_graph_cache.specs.Turns.{turn}
+use Rattle.gm_graph.specs.Turns.{leads_on, leads_on_in, IsDone, AddsAll, Visits, turn}
 
 requirement_in-kept : (main : Main) (a b : Option (Result Dependency Class)) → ((s : Result Dependency Class) → a ≡ Some s → b ≡ Some s) → (y : ModuleVersion) → Contains (requirements_in main (said_in a)) y → Contains (requirements_in main (said_in b)) y
 requirement_in-kept main None b keeps y (k, below, at) = absurd (omega arith)

@@ -5,19 +5,18 @@ use Rattle.std.proofs.lemmas.List.{take_more, take-append-le}
 use Rattle.gm_name.specs.ModuleVersion.{ModuleVersion}
 use Rattle.gm_store.specs.Asked.{Name, Reply, answer_in}
 use Rattle.gm_store_sums.specs.Sums.{Sums}
-use Rattle.gm_graph_cache.specs.declared.cache.Cache.{Cache}
-use Rattle.gm_graph_cache.specs.declared.depth.Depth.{Depth}
-use Rattle.gm_graph_cache.specs.declared.depth.Turn.{Turn}
-use Rattle.gm_graph_cache.specs.declared.load_fault.LoadFault.{LoadFault}
-use Rattle.gm_graph_cache.specs.Cached.{Knows, held_of, main_in, sums_in}
-use Rattle.gm_graph_cache.specs.Turns.{turn}
-use Rattle.gm_graph_cache.specs.Main.{Main}
-use Rattle.gm_graph_cache.specs.Reading.{Tells, file_of, is_askable, readings_by}
-use Rattle.gm_graph_cache.specs.Refusals.{refused_names, refused_in}
-use Rattle.gm_graph_cache.proofs.Keeping.{readings_stay}
+use Rattle.gm_graph.specs.declared.cache.Cache.{Cache}
+use Rattle.gm_graph.specs.declared.cache.depth.Depth.{Depth}
+use Rattle.gm_graph.specs.declared.cache.depth.Turn.{Turn}
+use Rattle.gm_graph.specs.declared.cache.load_fault.LoadFault.{LoadFault}
+use Rattle.gm_graph.specs.Cached.{Knows, held_of, main_in, sums_in}
+use Rattle.gm_graph.specs.Turns.{turn, AllValidTurns, VisitOverflows}
+use Rattle.gm_graph.specs.Main.{Main}
+use Rattle.gm_graph.specs.Reading.{Tells, file_of, is_askable, readings_by}
+use Rattle.gm_graph.specs.Refusals.{refused_names, refused_in}
+use Rattle.gm_graph.proofs.Keeping.{readings_stay}
 use Rattle.gm_graph.specs.Visiting.{OverflowsAt}
 use Rattle.gm_graph.specs.Loading.{AreTooMany, AsksInTurn, IsDue, Told, nothing, more}
-use Rattle.gm_graph.specs.Turns.{AllValidTurns, VisitOverflows}
 use Rattle.gm_graph.proofs.Queueing.{many_followed}
 use Rattle.gm_graph.proofs.Rounds.{opened_from}
 

@@ -13,18 +13,17 @@ use Rattle.gm_name.specs.ModuleVersion.{ModuleVersion, pair_eq-Decides, pairs-eq
 use Rattle.gm_file.specs.Fields.{Dependency}
 use Rattle.gm_store.specs.Asked.{Name, Reply, answer_in, names_in, same_name, mod_file, folder_file, list_file}
 use Rattle.gm_store_sums.specs.Sums.{Sums}
-use Rattle.gm_graph_cache.specs.declared.class.Class.{Class}
-use Rattle.gm_graph_cache.specs.declared.depth.Turn.{Turn}
-use Rattle.gm_graph_cache.specs.declared.depth.Depth.{Depth}
-use Rattle.gm_graph_cache.specs.declared.depth.Depth.TheVariants.{Top, Deep}
-use Rattle.gm_graph_cache.specs.Main.{Main, is_pruned_by}
-use Rattle.gm_graph_cache.specs.Reading.{Held, IsTold, Keeps, Readings, Tells, file_of, is_askable, readings_by}
-use Rattle.gm_graph_cache.proofs.ReadingIf.{reading_if}
-use Rattle.gm_graph_cache.specs.Turns.{turn}
-use Rattle.gm_graph_cache.proofs.Keeping.{readings_stay, earlier_readings_stay}
+use Rattle.gm_graph.specs.declared.cache.class.Class.{Class}
+use Rattle.gm_graph.specs.declared.cache.depth.Turn.{Turn}
+use Rattle.gm_graph.specs.declared.cache.depth.Depth.{Depth}
+use Rattle.gm_graph.specs.declared.cache.depth.Depth.TheVariants.{Top, Deep}
+use Rattle.gm_graph.specs.Main.{Main, is_pruned_by}
+use Rattle.gm_graph.specs.Reading.{Held, IsTold, Keeps, Readings, Tells, file_of, is_askable, readings_by}
+use Rattle.gm_graph.proofs.ReadingIf.{reading_if}
+use Rattle.gm_graph.specs.Turns.{turn, AreTurnsOf}
+use Rattle.gm_graph.proofs.Keeping.{readings_stay, earlier_readings_stay}
 use Rattle.gm_graph.specs.Graph.{IsOpened, from_main}
 use Rattle.gm_graph.specs.Loading.{AreAsked, AreFew, AreTurns, AsksInTurn, IsAnswered, IsNeeded, nothing, more}
-use Rattle.gm_graph.specs.Turns.{AreTurnsOf}
 use Rattle.gm_graph.proofs.BuiltEdges.{opened_kept}
 use Rattle.gm_graph.proofs.Rounds.{opened_from}
 use Rattle.gm_graph.proofs.Sameness.{same_bytes, first_true, second_true, equivalence_from_exact}

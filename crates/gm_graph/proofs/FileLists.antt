@@ -8,17 +8,17 @@ use Rattle.std.proofs.lemmas.List.Elements.{All-head, All-tail, All-weaker}
 use Rattle.std.proofs.lemmas.Map.Keys.{apart_from_distinct}
 use Rattle.gm_name.specs.ModuleVersion.{ModuleVersion, module_at, pair_eq, pairs-equivalence}
 use Rattle.gm_name_table.specs.Listed.{AreModuleNumbers, BeginsWith, modules_at}
-use Rattle.gm_graph_cache.specs.declared.cache.Cache.{Cache}
-use Rattle.gm_graph_cache.specs.declared.depth.Turn.{Turn}
-use Rattle.gm_graph_cache.specs.declared.finding.Finding.{Finding}
-use Rattle.gm_graph_cache.specs.declared.finding.Finding.TheVariants.{Fault, Sound}
-use Rattle.gm_graph_cache.specs.Cached.{AddsTurn, IsFinding, IsSound, KeepsSound, LendsKept, LentSame, held_of, main_in, modules_in}
-use Rattle.gm_graph_cache.specs.Main.{Main, main_of}
+use Rattle.gm_graph.specs.declared.cache.Cache.{Cache}
+use Rattle.gm_graph.specs.declared.cache.depth.Turn.{Turn}
+use Rattle.gm_graph.specs.declared.cache.finding.Finding.{Finding}
+use Rattle.gm_graph.specs.declared.cache.finding.Finding.TheVariants.{Fault, Sound}
+use Rattle.gm_graph.specs.Cached.{AddsTurn, IsFinding, IsSound, KeepsSound, LendsKept, LentSame, held_of, main_in, modules_in}
+use Rattle.gm_graph.specs.Main.{Main, main_of}
 use Rattle.gm_file.specs.Fields.{Dependency}
-use Rattle.gm_graph_cache.specs.declared.class.Class.{Class}
-use Rattle.gm_graph_cache.specs.Reading.{KeepsHeld, Readings, readings_by, requirements_in, said_in, vertex_requirements}
-use Rattle.gm_graph_cache.proofs.Keeping.{readings_stay}
-use Rattle.gm_graph_cache.proofs.Lending.{lent_kept}
+use Rattle.gm_graph.specs.declared.cache.class.Class.{Class}
+use Rattle.gm_graph.specs.Reading.{KeepsHeld, Readings, readings_by, requirements_in, said_in, vertex_requirements}
+use Rattle.gm_graph.proofs.Keeping.{readings_stay}
+use Rattle.gm_graph.proofs.Lending.{lent_kept}
 use Rattle.gm_graph_select.specs.Adjacency.{list_at}
 use Rattle.gm_graph.specs.declared.edge_lists.EdgeLists.{EdgeLists}
 use Rattle.gm_graph.specs.EdgeLists.{AreLists, HasNumbers, IsListFor, IsPushed, KeepsLists, list_by, list_of, numbers_of}

@@ -3,10 +3,10 @@ use Rattle.std.proofs.Common.{◌≡◌, ◌++◌, ◌∷◌, ◌∙◌, [], Lis
 use Rattle.std.specs.BTreeMap.{is_at}
 use Rattle.std.specs.Map.{lookup}
 use Rattle.gm_name.specs.ModuleVersion.{ModuleVersion, pair_cmp}
-use Rattle.gm_graph_cache.specs.declared.class.Class.{Class}
-use Rattle.gm_graph_cache.specs.declared.depth.Depth.{Depth}
-use Rattle.gm_graph_cache.specs.declared.depth.Turn.{Turn}
-use Rattle.gm_graph_cache.specs.Main.{Main, is_pruned_by, without_excluded}
+use Rattle.gm_graph.specs.declared.cache.class.Class.{Class}
+use Rattle.gm_graph.specs.declared.cache.depth.Depth.{Depth}
+use Rattle.gm_graph.specs.declared.cache.depth.Turn.{Turn}
+use Rattle.gm_graph.specs.Main.{Main, is_pruned_by, without_excluded}
 use Rattle.gm_graph_select.specs.declared.step.Step.TheVariants.{Main as FromMain}
 use Rattle.gm_graph_select.specs.Adjacency.{StepEdges, edges_of, sources_of}
 use Rattle.gm_graph_select.specs.Graph.{edge}

@@ -4,20 +4,19 @@ use Rattle.std.proofs.lemmas.List.Elements.{Contains-append_left}
 use Rattle.std.proofs.lemmas.Bool.{false≢true}
 use Rattle.gm_name.specs.ModuleVersion.{ModuleVersion}
 use Rattle.gm_name_table.specs.Listed.{BeginsWith}
-use Rattle.gm_graph_cache.specs.declared.cache.Cache.{Cache}
-use Rattle.gm_graph_cache.specs.declared.depth.Depth.TheVariants.{Deep}
-use Rattle.gm_graph_cache.specs.declared.depth.Turn.{Turn}
-use Rattle.gm_graph_cache.specs.declared.finding.Finding.{Finding}
-use Rattle.gm_graph_cache.specs.declared.finding.Finding.TheVariants.{Fault, Sound}
-use Rattle.gm_graph_cache.specs.Cached.{AddsTurn, IsFinding, IsSound, KeepsSound, LendsKept, LentSame, held_of, main_in, modules_in}
-use Rattle.gm_graph_cache.specs.Main.{Main}
-use Rattle.gm_graph_cache.specs.Reading.{KeepsHeld, Readings, vertex_requirements}
-use Rattle.gm_graph_cache.specs.Turns.{turn}
+use Rattle.gm_graph.specs.declared.cache.Cache.{Cache}
+use Rattle.gm_graph.specs.declared.cache.depth.Depth.TheVariants.{Deep}
+use Rattle.gm_graph.specs.declared.cache.depth.Turn.{Turn}
+use Rattle.gm_graph.specs.declared.cache.finding.Finding.{Finding}
+use Rattle.gm_graph.specs.declared.cache.finding.Finding.TheVariants.{Fault, Sound}
+use Rattle.gm_graph.specs.Cached.{AddsTurn, IsFinding, IsSound, KeepsSound, LendsKept, LentSame, held_of, main_in, modules_in}
+use Rattle.gm_graph.specs.Main.{Main}
+use Rattle.gm_graph.specs.Reading.{KeepsHeld, Readings, vertex_requirements}
+use Rattle.gm_graph.specs.Turns.{turn, AddsAll}
 use Rattle.gm_graph.specs.declared.followed.Followed.{Followed}
 use Rattle.gm_graph.specs.declared.graph_builder.GraphBuilder.{GraphBuilder}
 use Rattle.gm_graph.specs.Builder.{IsBuilder, turns_of}
 use Rattle.gm_graph.specs.Followed.{AddsFollowed, AreFollowedIn, followed_at, followed_by}
-use Rattle.gm_graph.specs.Turns.{AddsAll}
 use Rattle.gm_graph.specs.Visiting.{lender_of, readings_in}
 use Rattle.gm_graph.proofs.Caching.{readings_same}
 use Rattle.gm_graph.proofs.FileLists.{requirements_known, same_requirements}

@@ -8,10 +8,10 @@ use Rattle.std.proofs.lemmas.List.Folds.{list_any_none}
 use Rattle.std.proofs.lemmas.Map.Keys.{apart_from_distinct}
 use Rattle.gm_name.specs.ModuleVersion.{ModuleVersion, module_at, pair_eq, pairs-equivalence}
 use Rattle.gm_name_table.specs.Listed.{BeginsWith}
-use Rattle.gm_graph_cache.specs.declared.depth.Depth.{Depth}
-use Rattle.gm_graph_cache.specs.declared.depth.Depth.TheVariants.{Deep, Top}
-use Rattle.gm_graph_cache.specs.declared.depth.Turn.{Turn}
-use Rattle.gm_graph_cache.specs.Turns.{turn}
+use Rattle.gm_graph.specs.declared.cache.depth.Depth.{Depth}
+use Rattle.gm_graph.specs.declared.cache.depth.Depth.TheVariants.{Deep, Top}
+use Rattle.gm_graph.specs.declared.cache.depth.Turn.{Turn}
+use Rattle.gm_graph.specs.Turns.{turn, AreTurnsOf, same_depth, same_turn}
 use Rattle.gm_graph_select.specs.declared.step.Edge.{Edge}
 use Rattle.gm_graph_select.specs.declared.step.Step.{Step}
 use Rattle.gm_graph_select.specs.declared.step.Step.TheVariants.{Of}
@@ -23,7 +23,6 @@ use Rattle.gm_graph.specs.declared.marks.Marks.{Marks}
 use Rattle.gm_graph.specs.Builder.{marks_at, AreMarks, Built, IsBuilder, built, edges_in, faults_by_vertex, sources_in, turn_of, turns_of}
 use Rattle.gm_graph.specs.EdgeLists.{steps_in}
 use Rattle.gm_graph.specs.Marks.{is_marked}
-use Rattle.gm_graph.specs.Turns.{AreTurnsOf, same_depth, same_turn}
 
 abbrev IsOneBelow : ℕ → NumberedTurn → Type 0
 IsOneBelow count one = one.number < count

@@ -27,3 +27,16 @@ pub mod Rooted
 pub mod Exactly
 pub mod Loads
 pub mod LawProofs
+pub mod Excluding
+pub mod Holding
+pub mod Telling
+pub mod AskedFile
+pub mod OwnFiles
+pub mod Lending
+pub mod OneReading
+pub mod Keeping
+pub mod ReadingIf
+pub mod FilePlaces
+pub mod PuttingPlaces
+pub mod Replacements
+pub mod Spans

@@ -4,11 +4,11 @@ use Rattle.gm_name.specs.ModuleVersion.{ModuleVersion, pair_cmp}
 use Rattle.std.specs.BTreeMap as tree
 use Rattle.gm_store.specs.Asked.{Name, Reply}
 use Rattle.gm_store_sums.specs.Sums.{Sums}
-use Rattle.gm_graph_cache.specs.declared.cache.Cache.{Cache}
-use Rattle.gm_graph_cache.specs.declared.depth.Turn.{Turn}
-use Rattle.gm_graph_cache.specs.Cached.{held_of, main_in, modules_in, sums_in, turns_in}
-use Rattle.gm_graph_cache.specs.Main.{Main, without_excluded}
-use Rattle.gm_graph_cache.specs.Reading.{Readings, readings_by}
+use Rattle.gm_graph.specs.declared.cache.Cache.{Cache}
+use Rattle.gm_graph.specs.declared.cache.depth.Turn.{Turn}
+use Rattle.gm_graph.specs.Cached.{held_of, main_in, modules_in, sums_in, turns_in}
+use Rattle.gm_graph.specs.Main.{Main, without_excluded}
+use Rattle.gm_graph.specs.Reading.{Readings, readings_by}
 use Rattle.gm_graph_select.specs.declared.step.Edge.{Edge}
 use Rattle.gm_graph_select.specs.BuildList.{IsBuildList}
 use Rattle.gm_graph_select.specs.Chains.{IsRooted}

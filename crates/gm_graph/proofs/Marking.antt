@@ -9,10 +9,10 @@ use Rattle.std.proofs.lemmas.List.{get_or-replicate, get_or-set_other, get_or-se
 use Rattle.std.proofs.lemmas.Map.Keys.{apart_from_distinct}
 use Rattle.std.proofs.lemmas.Map.Views.{Contains-from_any, list_any-from_Contains}
 use Rattle.gm_name.specs.ModuleVersion.{ModuleVersion, module_at, pair-same, pair_eq, pairs-equivalence}
-use Rattle.gm_graph_cache.specs.declared.depth.Depth.{Depth}
-use Rattle.gm_graph_cache.specs.declared.depth.Depth.TheVariants.{Deep, Top}
-use Rattle.gm_graph_cache.specs.declared.depth.Turn.{Turn}
-use Rattle.gm_graph_cache.specs.Turns.{turn}
+use Rattle.gm_graph.specs.declared.cache.depth.Depth.{Depth}
+use Rattle.gm_graph.specs.declared.cache.depth.Depth.TheVariants.{Deep, Top}
+use Rattle.gm_graph.specs.declared.cache.depth.Turn.{Turn}
+use Rattle.gm_graph.specs.Turns.{turn, AreTurnsOf, OverflowsWith, same_depth, same_turn}
 use Rattle.gm_graph_select.specs.Adjacency.{HaveNumbers, IsNumbered, StepEdges}
 use Rattle.gm_graph.specs.declared.graph_builder.GraphBuilder.{GraphBuilder}
 use Rattle.gm_graph.specs.declared.graph_builder.NumberedTurn.{NumberedTurn}
@@ -21,7 +21,6 @@ use Rattle.gm_graph.specs.Builder.{AreMarks, IsBuilder, marks_at, turn_of, turns
 use Rattle.gm_graph.specs.EdgeLists.{AreLists, steps_in}
 use Rattle.gm_graph.specs.Marks.{is_marked}
 use Rattle.gm_graph.specs.declared.edge_lists.EdgeLists.{EdgeLists}
-use Rattle.gm_graph.specs.Turns.{AreTurnsOf, OverflowsWith, same_depth, same_turn}
 use Rattle.gm_graph.proofs.Adding.{more_turn, new_turn, no_turns, overflow_one}
 use Rattle.gm_graph.proofs.Growing.{unmarked}
 use Rattle.gm_graph.proofs.Sameness.{exact_turn, turns_equivalence}

@@ -4,16 +4,15 @@ use Rattle.std.proofs.lemmas.Grind.{common_steps}
 use Rattle.std.proofs.lemmas.List.{get_or_default}
 use Rattle.std.proofs.lemmas.Bool.{cases_eq}
 use Rattle.gm_name.specs.ModuleVersion.{ModuleVersion}
-use Rattle.gm_graph_cache.specs.Main.{Main, is_pruned_by, without_excluded}
-use Rattle.gm_graph_cache.specs.Reading.{Keeps, Readings}
-use Rattle.gm_graph_cache.specs.declared.depth.Turn.{Turn}
-use Rattle.gm_graph_cache.specs.declared.depth.Depth.{Depth}
-use Rattle.gm_graph_cache.specs.declared.depth.Depth.TheVariants.{Top, Deep}
+use Rattle.gm_graph.specs.Main.{Main, is_pruned_by, without_excluded}
+use Rattle.gm_graph.specs.Reading.{Keeps, Readings}
+use Rattle.gm_graph.specs.declared.cache.depth.Turn.{Turn}
+use Rattle.gm_graph.specs.declared.cache.depth.Depth.{Depth}
+use Rattle.gm_graph.specs.declared.cache.depth.Depth.TheVariants.{Top, Deep}
 use Rattle.gm_graph.specs.Graph.{IsTop}
 use Rattle.gm_graph.specs.Loading.{AreTooMany}
-use Rattle.gm_graph.specs.Turns.{IsDone, Visits, IsValidTurn, AllValidTurns, AreFirstTurns, OverflowsWith, VisitOverflows}
+use Rattle.gm_graph.specs.Turns.{IsDone, Visits, IsValidTurn, AllValidTurns, AreFirstTurns, OverflowsWith, VisitOverflows, turn}
 use Rattle.gm_name_table.specs.Listed.{BeginsWith}
-use Rattle.gm_graph_cache.specs.Turns.{turn}
 use Rattle.gm_graph.proofs.Deepening.{IsDone-kept, IsValidTurn-kept, leads_to_deep}
 use Rattle.gm_graph.proofs.Rounds.{AreVisited, along, opened_from}
 

@@ -6,16 +6,15 @@ use Rattle.std.specs.Bool.{Decides}
 use Rattle.std.proofs.lemmas.Map.Made.{length-le_from_is_member, is_member-Decides}
 use Rattle.std.proofs.lemmas.List.Elements.{Contains-append_left, Contains-append_right}
 use Rattle.gm_name.specs.ModuleVersion.{ModuleVersion}
-use Rattle.gm_graph_cache.specs.Main.{Main, is_pruned_by, without_excluded}
-use Rattle.gm_graph_cache.specs.Reading.{Readings}
-use Rattle.gm_graph_cache.specs.declared.depth.Turn.{Turn}
-use Rattle.gm_graph_cache.specs.declared.depth.Depth.{Depth}
-use Rattle.gm_graph_cache.specs.declared.depth.Depth.TheVariants.{Top, Deep}
+use Rattle.gm_graph.specs.Main.{Main, is_pruned_by, without_excluded}
+use Rattle.gm_graph.specs.Reading.{Readings}
+use Rattle.gm_graph.specs.declared.cache.depth.Turn.{Turn}
+use Rattle.gm_graph.specs.declared.cache.depth.Depth.{Depth}
+use Rattle.gm_graph.specs.declared.cache.depth.Depth.TheVariants.{Top, Deep}
 use Rattle.gm_graph.specs.Graph.{IsTop, from_main, IsOpened, TakesTurn}
 use Rattle.gm_graph.specs.Loading.{AreTurns}
-use Rattle.gm_graph.specs.Turns.{same_turn, IsDone, AreTurnsOf, AddsAll, IsValidTurn, AllValidTurns, AreFirstTurns, depth_by}
+use Rattle.gm_graph.specs.Turns.{same_turn, IsDone, AreTurnsOf, AddsAll, IsValidTurn, AllValidTurns, AreFirstTurns, depth_by, turn}
 use Rattle.gm_name_table.specs.Listed.{BeginsWith}
-use Rattle.gm_graph_cache.specs.Turns.{turn}
 use Rattle.gm_graph.proofs.Sameness.{turns_equivalence, exact_turn}
 use Rattle.gm_graph.proofs.Deepening.{IsDeep-among}
 

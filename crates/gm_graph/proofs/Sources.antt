@@ -10,15 +10,14 @@ use Rattle.std.proofs.lemmas.List.Elements.{Contains-append_left, Contains-push,
 use Rattle.std.proofs.lemmas.Map.Keys.{IsDistinct-push, apart_from_distinct}
 use Rattle.std.proofs.lemmas.Map.Views.{Contains-from_any, list_any-from_Contains}
 use Rattle.gm_name.specs.ModuleVersion.{ModuleVersion}
-use Rattle.gm_graph_cache.specs.declared.depth.Depth.{Depth}
-use Rattle.gm_graph_cache.specs.declared.depth.Depth.TheVariants.{Top, Deep}
-use Rattle.gm_graph_cache.specs.declared.depth.Turn.{Turn}
-use Rattle.gm_graph_cache.specs.Turns.{turn}
+use Rattle.gm_graph.specs.declared.cache.depth.Depth.{Depth}
+use Rattle.gm_graph.specs.declared.cache.depth.Depth.TheVariants.{Top, Deep}
+use Rattle.gm_graph.specs.declared.cache.depth.Turn.{Turn}
+use Rattle.gm_graph.specs.Turns.{turn, same_turn}
 use Rattle.gm_graph_select.specs.declared.step.Step.{Step}
 use Rattle.gm_graph_select.specs.declared.step.Step.TheVariants.{Main, Of}
 use Rattle.gm_graph_select.specs.StepOrder.{step_eq, step_equiv, step-anti}
 use Rattle.gm_graph.specs.Building.{AddsSource, gathers}
-use Rattle.gm_graph.specs.Turns.{same_turn}
 use Rattle.gm_graph.proofs.Sameness.{exact_turn, turns_equivalence}
 
 tie : (r : Ordering) → is_eq r ≡ true → r ≡ Equal

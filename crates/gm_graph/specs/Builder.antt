@@ -3,16 +3,15 @@ use Rattle.std.specs.Prelude.{◌≡◌, ◌<◌, ◌≤◌, ℕ, false, All, Li
 use Rattle.std.specs.BTreeMap as tree
 use Rattle.std.specs.List.{IsDistinct, list_any}
 use Rattle.gm_name.specs.ModuleVersion.{ModuleVersion, module_at, pair_cmp, pair_eq}
-use Rattle.gm_graph_cache.specs.declared.depth.Depth.{Depth}
-use Rattle.gm_graph_cache.specs.declared.depth.Turn.{Turn}
-use Rattle.gm_graph_cache.specs.Turns.{turn}
+use Rattle.gm_graph.specs.declared.cache.depth.Depth.{Depth}
+use Rattle.gm_graph.specs.declared.cache.depth.Turn.{Turn}
+use Rattle.gm_graph.specs.Turns.{turn, AreTurnsOf, same_turn}
 use Rattle.gm_graph_select.specs.declared.step.Edge.{Edge}
 use Rattle.gm_graph_select.specs.declared.step.Step.{Step}
 use Rattle.gm_graph_select.specs.Adjacency.{HaveNumbers, edges_of, sources_of}
 use Rattle.gm_graph.specs.Building.{Faults}
 use Rattle.gm_graph.specs.EdgeLists.{AreLists, steps_in}
 use Rattle.gm_graph.specs.Marks.{is_marked}
-use Rattle.gm_graph.specs.Turns.{AreTurnsOf, same_turn}
 use Rattle.gm_graph.specs.declared.graph_builder.GraphBuilder.{GraphBuilder}
 use Rattle.gm_graph.specs.declared.graph_builder.NumberedTurn.{NumberedTurn}
 use Rattle.gm_graph.specs.declared.marks.Marks.{Marks}

@@ -2,22 +2,21 @@
 use Rattle.std.specs.Prelude.{◌≡◌, ◌⊎◌, ◌++◌, ◌∷◌, [], Bool, true, false, not, List, Option, None, Some, Err, Contains, if◌then◌else◌}
 use Rattle.std.specs.List.{list_any}
 use Rattle.gm_name.specs.ModuleVersion.{ModuleVersion, pair_eq}
-use Rattle.gm_graph_cache.specs.declared.class.Class.{Class}
-use Rattle.gm_graph_cache.specs.declared.depth.Depth.{Depth}
-use Rattle.gm_graph_cache.specs.declared.depth.Depth.TheVariants.{Top, Deep}
-use Rattle.gm_graph_cache.specs.declared.depth.Turn.{Turn}
-use Rattle.gm_graph_cache.specs.declared.finding.Finding.{Finding}
-use Rattle.gm_graph_cache.specs.declared.finding.Finding.TheVariants.{Fault, Sound}
-use Rattle.gm_graph_cache.specs.Turns.{turn}
-use Rattle.gm_graph_cache.specs.Main.{Main}
-use Rattle.gm_graph_cache.specs.Reading.{Readings, vertex_fault, vertex_requirements}
+use Rattle.gm_graph.specs.declared.cache.class.Class.{Class}
+use Rattle.gm_graph.specs.declared.cache.depth.Depth.{Depth}
+use Rattle.gm_graph.specs.declared.cache.depth.Depth.TheVariants.{Top, Deep}
+use Rattle.gm_graph.specs.declared.cache.depth.Turn.{Turn}
+use Rattle.gm_graph.specs.declared.cache.finding.Finding.{Finding}
+use Rattle.gm_graph.specs.declared.cache.finding.Finding.TheVariants.{Fault, Sound}
+use Rattle.gm_graph.specs.Turns.{turn, same_turn}
+use Rattle.gm_graph.specs.Main.{Main}
+use Rattle.gm_graph.specs.Reading.{Readings, vertex_fault, vertex_requirements}
 use Rattle.gm_graph_select.specs.declared.step.Edge.{Edge}
 use Rattle.gm_graph_select.specs.declared.step.Step.{Step}
 use Rattle.gm_graph_select.specs.declared.step.Step.TheVariants.{Main as FromMain, Of}
 use Rattle.gm_graph_select.specs.Graph.{edge}
 use Rattle.gm_graph.specs.declared.fault.Fault.{Fault as HeldFault}
 use Rattle.gm_graph.specs.Graph.{IsEdge, IsOpened, IsTop}
-use Rattle.gm_graph.specs.Turns.{same_turn}
 use Rattle.gm_name_table.specs.Listed.{BeginsWith}
 
 -- a vertex and its fault

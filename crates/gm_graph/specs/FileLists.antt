@@ -2,9 +2,9 @@
 use Rattle.std.specs.Prelude.{◌≡◌, ◌⊎◌, ℕ, List, Option, Some}
 use Rattle.gm_name.specs.ModuleVersion.{ModuleVersion}
 use Rattle.gm_name_table.specs.Listed.{AreModuleNumbers, modules_at}
-use Rattle.gm_graph_cache.specs.declared.cache.Cache.{Cache}
-use Rattle.gm_graph_cache.specs.Cached.{IsSound, main_in, modules_in}
-use Rattle.gm_graph_cache.specs.Reading.{vertex_requirements}
+use Rattle.gm_graph.specs.declared.cache.Cache.{Cache}
+use Rattle.gm_graph.specs.Cached.{IsSound, main_in, modules_in}
+use Rattle.gm_graph.specs.Reading.{vertex_requirements}
 use Rattle.gm_graph.specs.declared.edge_lists.EdgeLists.{EdgeLists}
 use Rattle.gm_graph.specs.EdgeLists.{numbers_of}
 use Rattle.gm_graph.specs.Visiting.{readings_in}

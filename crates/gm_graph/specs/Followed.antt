@@ -1,12 +1,12 @@
 -- The files that were followed: what they require has turns at full depth.
 use Rattle.std.specs.Prelude.{◌≡◌, ◌⊎◌, ℕ, Bool, Contains, List, Option, None, Some, false, slice_index_or, true}
 use Rattle.gm_name.specs.ModuleVersion.{ModuleVersion}
-use Rattle.gm_graph_cache.specs.declared.cache.Cache.{Cache}
-use Rattle.gm_graph_cache.specs.declared.depth.Depth.TheVariants.{Deep}
-use Rattle.gm_graph_cache.specs.declared.depth.Turn.{Turn}
-use Rattle.gm_graph_cache.specs.Cached.{IsSound, main_in}
-use Rattle.gm_graph_cache.specs.Reading.{vertex_requirements}
-use Rattle.gm_graph_cache.specs.Turns.{turn}
+use Rattle.gm_graph.specs.declared.cache.Cache.{Cache}
+use Rattle.gm_graph.specs.declared.cache.depth.Depth.TheVariants.{Deep}
+use Rattle.gm_graph.specs.declared.cache.depth.Turn.{Turn}
+use Rattle.gm_graph.specs.Cached.{IsSound, main_in}
+use Rattle.gm_graph.specs.Reading.{vertex_requirements}
+use Rattle.gm_graph.specs.Turns.{turn}
 use Rattle.gm_graph.specs.declared.followed.Followed.{Followed}
 use Rattle.gm_graph.specs.Visiting.{readings_in}
 

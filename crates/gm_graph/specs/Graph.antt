@@ -2,10 +2,10 @@
 -- version selection").
 use Rattle.std.specs.Prelude.{◌≡◌, ◌⊎◌, true, false, Contains}
 use Rattle.gm_name.specs.ModuleVersion.{ModuleVersion}
-use Rattle.gm_graph_cache.specs.declared.depth.Depth.{Depth}
-use Rattle.gm_graph_cache.specs.declared.depth.Depth.TheVariants.{Top, Deep}
-use Rattle.gm_graph_cache.specs.Main.{Main, is_pruned_by, without_excluded}
-use Rattle.gm_graph_cache.specs.Reading.{Readings, is_unpruned, vertex_requirements}
+use Rattle.gm_graph.specs.declared.cache.depth.Depth.{Depth}
+use Rattle.gm_graph.specs.declared.cache.depth.Depth.TheVariants.{Top, Deep}
+use Rattle.gm_graph.specs.Main.{Main, is_pruned_by, without_excluded}
+use Rattle.gm_graph.specs.Reading.{Readings, is_unpruned, vertex_requirements}
 use Rattle.gm_graph_select.specs.declared.step.Step.{Step}
 use Rattle.gm_graph_select.specs.declared.step.Step.TheVariants.{Main as FromMain, Of}
 use Rattle.gm_graph_select.specs.Graph.{IsEdgeEnd}

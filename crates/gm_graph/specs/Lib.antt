@@ -11,3 +11,13 @@ pub mod FileLists
 pub mod Followed
 pub mod Outcome
 pub mod Laws
+pub mod Main
+pub mod Reading
+pub mod Asking
+pub mod Summaries
+pub mod Lent
+pub mod Cached
+pub mod Refusals
+pub mod ClassWords
+pub mod FileTable
+pub mod Places

@@ -4,13 +4,12 @@ use Rattle.std.specs.List.{IsDistinct}
 use Rattle.gm_name.specs.ModuleVersion.{ModuleVersion, pair_eq}
 use Rattle.gm_store.specs.Asked.{Name, Reply, answer_in, same_name}
 use Rattle.gm_store_sums.specs.Sums.{Sums}
-use Rattle.gm_graph_cache.specs.declared.depth.Depth.{Depth}
-use Rattle.gm_graph_cache.specs.declared.depth.Turn.{Turn}
-use Rattle.gm_graph_cache.specs.Main.{Main}
-use Rattle.gm_graph_cache.specs.Reading.{Held, Readings, file_of, is_askable, readings_by, Tells}
+use Rattle.gm_graph.specs.declared.cache.depth.Depth.{Depth}
+use Rattle.gm_graph.specs.declared.cache.depth.Turn.{Turn}
+use Rattle.gm_graph.specs.Main.{Main}
+use Rattle.gm_graph.specs.Reading.{Held, Readings, file_of, is_askable, readings_by, Tells}
 use Rattle.gm_graph.specs.Graph.{IsOpened, TakesTurn}
-use Rattle.gm_graph.specs.Turns.{same_turn}
-use Rattle.gm_graph_cache.specs.Turns.{turn}
+use Rattle.gm_graph.specs.Turns.{same_turn, turn}
 
 -- This holds for the readings of the answered files.
 abbrev pub Told : Main → Option Sums → List (Name × Reply) → (Readings → Type 0) → Type 0

@@ -1,7 +1,7 @@
 -- The marks of a vertex: the depths at which it has turns.
 use Rattle.std.specs.Prelude.{Bool}
-use Rattle.gm_graph_cache.specs.declared.depth.Depth.{Depth}
-use Rattle.gm_graph_cache.specs.declared.depth.Depth.TheVariants.{Top, Deep}
+use Rattle.gm_graph.specs.declared.cache.depth.Depth.{Depth}
+use Rattle.gm_graph.specs.declared.cache.depth.Depth.TheVariants.{Top, Deep}
 use Rattle.gm_graph.specs.declared.marks.Marks.{Marks}
 
 -- Whether a vertex with these marks has a turn at a depth.

@@ -3,9 +3,9 @@ use Rattle.std.specs.Prelude.{◌≡◌, ◌↔◌, ℕ, List, Some, Contains, A
 use Rattle.std.specs.declared.cmp.Ordering.TheVariants.{Less}
 use Rattle.gm_name.specs.ModuleVersion.{ModuleVersion, pair_cmp}
 use Rattle.gm_store.specs.Asked.{Name, Reply, names_in}
-use Rattle.gm_graph_cache.specs.declared.depth.Turn.{Turn}
-use Rattle.gm_graph_cache.specs.Main.{Main}
-use Rattle.gm_graph_cache.specs.Reading.{Readings, vertex_fault}
+use Rattle.gm_graph.specs.declared.cache.depth.Turn.{Turn}
+use Rattle.gm_graph.specs.Main.{Main}
+use Rattle.gm_graph.specs.Reading.{Readings, vertex_fault}
 use Rattle.gm_graph_select.specs.declared.step.Edge.{Edge}
 use Rattle.gm_graph_select.specs.BuildList.{Entry, IsBuildList}
 use Rattle.gm_graph_select.specs.Chains.{IsReached}

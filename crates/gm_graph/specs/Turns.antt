@@ -3,14 +3,17 @@ use Rattle.std.specs.Prelude.{◌≡◌, ◌<◌, Bool, true, false, List, [], �
 use Rattle.std.specs.List.{IsDistinct}
 use Rattle.gm_name.specs.ModuleVersion.{ModuleVersion, pair_eq}
 use Rattle.gm_file.specs.Fields.{Dependency}
-use Rattle.gm_graph_cache.specs.declared.depth.Turn.{Turn}
-use Rattle.gm_graph_cache.specs.declared.depth.Depth.{Depth}
-use Rattle.gm_graph_cache.specs.declared.depth.Depth.TheVariants.{Top, Deep}
-use Rattle.gm_graph_cache.specs.Main.{Main, is_pruned_by}
-use Rattle.gm_graph_cache.specs.Reading.{Readings, is_unpruned_in, vertex_requirements, said_in}
+use Rattle.gm_graph.specs.declared.cache.depth.Turn.{Turn}
+use Rattle.gm_graph.specs.declared.cache.depth.Depth.{Depth}
+use Rattle.gm_graph.specs.declared.cache.depth.Depth.TheVariants.{Top, Deep}
+use Rattle.gm_graph.specs.Main.{Main, is_pruned_by}
+use Rattle.gm_graph.specs.Reading.{Readings, is_unpruned_in, vertex_requirements, said_in}
 use Rattle.gm_name_table.specs.Listed.{BeginsWith}
-use Rattle.gm_graph_cache.specs.Turns.{turn}
 use Rattle.gm_graph.specs.Graph.{IsTop, TakesTurn}
+
+-- a vertex and a depth
+abbrev pub turn : ModuleVersion → Depth → Turn
+turn x d = record { vertex = x; depth = d }
 
 -- A turn is one that its vertex takes.
 abbrev pub IsValidTurn : Main → Readings → Turn → Type 0

@@ -4,16 +4,16 @@ use Rattle.std.specs.List.{IsDistinct}
 use Rattle.gm_name.specs.ModuleVersion.{ModuleVersion}
 use Rattle.gm_name_table.specs.Listed.{BeginsWith}
 use Rattle.gm_store.specs.Asked.{Name, Reply}
-use Rattle.gm_graph_cache.specs.declared.cache.Cache.{Cache}
-use Rattle.gm_graph_cache.specs.declared.depth.Depth.{Depth}
-use Rattle.gm_graph_cache.specs.declared.depth.Turn.{Turn}
-use Rattle.gm_graph_cache.specs.declared.finding.Finding.{Finding}
-use Rattle.gm_graph_cache.specs.declared.finding.Finding.TheVariants.{Fault, Sound}
-use Rattle.gm_graph_cache.specs.Cached.{held_of, main_in, modules_in, sums_in, turns_in}
-use Rattle.gm_graph_cache.specs.Turns.{turn}
-use Rattle.gm_graph_cache.specs.Main.{Main}
-use Rattle.gm_graph_cache.specs.Reading.{Held, KeepsHeld, Readings, Tells, vertex_fault, readings_by}
-use Rattle.gm_graph_cache.specs.declared.class.Class.{Class}
+use Rattle.gm_graph.specs.declared.cache.Cache.{Cache}
+use Rattle.gm_graph.specs.declared.cache.depth.Depth.{Depth}
+use Rattle.gm_graph.specs.declared.cache.depth.Turn.{Turn}
+use Rattle.gm_graph.specs.declared.cache.finding.Finding.{Finding}
+use Rattle.gm_graph.specs.declared.cache.finding.Finding.TheVariants.{Fault, Sound}
+use Rattle.gm_graph.specs.Cached.{held_of, main_in, modules_in, sums_in, turns_in}
+use Rattle.gm_graph.specs.Turns.{turn, AreFirstTurns, VisitOverflows, Visits}
+use Rattle.gm_graph.specs.Main.{Main}
+use Rattle.gm_graph.specs.Reading.{Held, KeepsHeld, Readings, Tells, vertex_fault, readings_by}
+use Rattle.gm_graph.specs.declared.cache.class.Class.{Class}
 use Rattle.gm_graph_select.specs.declared.step.Edge.{Edge}
 use Rattle.gm_graph_select.specs.declared.step.Step.TheVariants.{Main as FromMain, Of}
 use Rattle.gm_graph_select.specs.StepOrder.{step_eq}
@@ -22,7 +22,6 @@ use Rattle.gm_graph.specs.Builder.{Built, IsBuilder, edges_in, faults_by_vertex,
 use Rattle.gm_graph.specs.Building.{AddsSource, AreGathered, Gathers, gathers as adds_edges}
 use Rattle.gm_graph.specs.Graph.{IsEdge, IsOpened}
 use Rattle.gm_graph.specs.Loading.{AreTurns}
-use Rattle.gm_graph.specs.Turns.{AreFirstTurns, VisitOverflows, Visits}
 
 -- what a cache says about each vertex
 abbrev pub readings_in : Cache → Readings

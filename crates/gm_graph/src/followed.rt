@@ -4,16 +4,16 @@
 
 ghost use Rattle.std.specs.Prelude.{◌≡◌, ◌⊎◌, ◌++◌, ℕ, Contains, Err, OnOk, Some, true};
 ghost use Rattle.gm_name.specs.ModuleVersion.{ModuleVersion};
-ghost use Rattle.gm_graph_cache.specs.Lent.{lent_modules, lent_table};
-ghost use Rattle.gm_graph_cache.specs.Turns.{turn};
-ghost use Rattle.gm_graph_cache.specs.declared.depth.Depth.TheVariants.{Deep};
+ghost use Rattle.gm_graph.specs.Lent.{lent_modules, lent_table};
+ghost use Rattle.gm_graph.specs.Turns.{turn, AddsAll, OverflowsWith};
+ghost use Rattle.gm_graph.specs.declared.cache.depth.Depth.TheVariants.{Deep};
 ghost use Rattle.gm_graph.specs.Builder.{IsBuilder, KeepsGraph, turns_of};
-ghost use Rattle.gm_graph.specs.Turns.{AddsAll, OverflowsWith};
 
+use crate::cache::depth::Depth;
+use crate::cache::lent::Lent;
 use crate::graph_builder::GraphBuilder;
 use crate::places::put_at;
 use crate::worklist::AddFault;
-use gm_graph_cache::{Depth, Lent};
 use std::alloc::{AllocError, Global};
 
 /// The files that were followed.

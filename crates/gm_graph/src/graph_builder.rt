@@ -9,15 +9,18 @@ ghost use Rattle.std.specs.Prelude.{◌≡◌, ◌≤◌, ◌++◌, ◌∷◌, [
 ghost use Rattle.std.specs.BTreeMap as tree;
 ghost use Rattle.std.specs.List.{IsDistinct};
 ghost use Rattle.gm_name.specs.ModuleVersion.{ModuleVersion, pair_cmp, pair_eq};
-ghost use Rattle.gm_graph_cache.specs.Lent.{lent_modules, lent_table};
+ghost use Rattle.gm_graph.specs.Lent.{lent_modules, lent_table};
 ghost use Rattle.gm_graph_select.specs.Adjacency.{IsBelow, step_with};
 ghost use Rattle.gm_graph_select.specs.Graph.{edge};
 ghost use Rattle.gm_graph.specs.Building.{fault, found_fault, noted};
 
+use crate::cache::class::Class;
+use crate::cache::depth::Depth;
+use crate::cache::finding::Finding;
+use crate::cache::lent::Lent;
 use crate::edge_lists::EdgeLists;
 use crate::fault::Fault;
 use crate::marks::Marks;
-use gm_graph_cache::{Class, Depth, Finding, Lent};
 use gm_name::ModVer;
 use std::alloc::{AllocError, Global};
 use std::collections::BTreeMap;

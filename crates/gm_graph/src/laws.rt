@@ -3,7 +3,29 @@
 //!
 //! They show that the definitions mean what the Go Modules Reference says, independently of any code.
 
-ghost use Rattle.gm_graph.specs.Laws.{OneAnswer, OneLoading, RowsAreRequired, RowsSatisfyRequirements, UnprunedIsPlain};
+ghost use Rattle.gm_graph.specs.Laws.{EarlierReadingsStay, OneAnswer, OneLoading, OneReadingOfAnswers, PrefixHasReadings, ReadingsStay, RepliesSayOneThing, RowsAreRequired, RowsSatisfyRequirements, UnprunedIsPlain};
+
+/// A reply to a name has one meaning: one fault, or one file's contents.
+pub fn replies_say_one_thing()
+    ensures { RepliesSayOneThing }
+{}
+
+/// The names that were asked for have one set of readings, so the answers determine the readings of all vertices.
+pub fn one_reading_of_answers()
+    ensures { OneReadingOfAnswers }
+{}
+
+/// More requests change no earlier reading, and the readings of a prefix of the requests are among those of all of
+/// them.
+pub fn earlier_readings_stay()
+    ensures stays { EarlierReadingsStay }
+    ensures first { PrefixHasReadings }
+{}
+
+/// If the readings of files stay the same, so do the readings of vertices.
+pub fn readings_stay()
+    ensures { ReadingsStay }
+{}
 
 /// Each row's version is required by the main module or by an opened vertex (Go Modules Reference, "Minimal version
 /// selection").

@@ -17,6 +17,7 @@
 //! for, each once.
 #![tactic(auto)]
 
+mod cache;
 mod edge_lists;
 mod fault;
 mod followed;
@@ -31,8 +32,15 @@ mod starting;
 mod visiting;
 mod worklist;
 
+pub use crate::cache::Cache;
+pub use crate::cache::class::{Class, Misreading};
+pub use crate::cache::depth::{Depth, Turn};
+pub use crate::cache::finding::Finding;
+pub use crate::cache::lent::Lent;
+pub use crate::cache::load_fault::LoadFault;
+pub use crate::cache::main_view::main_path;
+pub use crate::cache::reading::FileReading;
 pub use crate::fault::Fault;
 pub use crate::loaded::Loaded;
 pub use crate::loading::load;
-pub use gm_graph_cache::{Class, Depth, LoadFault, Misreading, Turn};
 pub use gm_graph_select::{ChainFault, Edge, EdgeRef, Edges, NotListed, Row, Rows, Step};

@@ -3,9 +3,9 @@
 ghost use Rattle.std.specs.Prelude.{◌≡◌, ◌||◌, false};
 ghost use Rattle.gm_graph.specs.Marks.{is_marked};
 ghost use Rattle.gm_graph.specs.Turns.{same_depth};
-ghost use Rattle.gm_graph_cache.specs.declared.depth.Depth.{Depth};
+ghost use Rattle.gm_graph.specs.declared.cache.depth.Depth.{Depth};
 
-use gm_graph_cache::Depth;
+use crate::cache::depth::Depth;
 
 /// The depths at which a vertex has a turn.
 #[derive(Clone, Copy)]

@@ -3,12 +3,12 @@
 ghost use Rattle.std.specs.Prelude.{◌≡◌, ◌∷◌, [], IfOk, map};
 ghost use Rattle.std.specs.Option.{option_map};
 ghost use Rattle.gm_file.specs.Views.{right_view};
-ghost use Rattle.gm_graph_cache.specs.Main.{main_of, replacement_in};
+ghost use Rattle.gm_graph.specs.Main.{main_of, replacement_in};
 ghost use Rattle.gm_graph_select.specs.BuildList.{IsBuildList, entries_of_rows, entry_of, entry_of_row, main_entry};
 ghost use Rattle.gm_graph_select.specs.Graph.{AreEnds, among};
 
+use crate::cache::main_view::main_path;
 use gm_file::{MainFile, Right};
-use gm_graph_cache::main_path;
 use gm_graph_select::{Graph, Row, Selection, Step};
 use gm_name::ModVer;
 use std::alloc::{AllocError, Global};

@@ -1,16 +1,19 @@
 //! The main module's requirements, and the graph that loading starts with.
 
 ghost use Rattle.std.specs.Prelude.{◌≡◌, [], IfOk, Err};
-ghost use Rattle.gm_graph_cache.specs.Cached.{main_in, modules_in};
-ghost use Rattle.gm_graph_cache.specs.Main.{is_pruned_by, without_excluded, main_of};
-ghost use Rattle.gm_graph_cache.specs.Refusals.{refused_in};
+ghost use Rattle.gm_graph.specs.Cached.{main_in, modules_in};
+ghost use Rattle.gm_graph.specs.Main.{is_pruned_by, without_excluded, main_of};
+ghost use Rattle.gm_graph.specs.Refusals.{refused_in};
 ghost use Rattle.gm_graph.specs.FileLists.{HaveFiles};
 ghost use Rattle.gm_graph.specs.Turns.{OverflowsWith, depth_by};
 ghost use Rattle.gm_graph.specs.Visiting.{IsFirstGraph};
 
+use crate::cache::Cache;
+use crate::cache::depth::Depth;
+use crate::cache::load_fault::LoadFault;
+use crate::cache::main_view::is_main_pruned;
 use crate::graph_builder::GraphBuilder;
 use gm_file::MainFile;
-use gm_graph_cache::{Cache, Depth, LoadFault, is_main_pruned};
 use std::alloc::Global;
 
 /// The depth at which the requirements of the main file are opened.

@@ -5,18 +5,21 @@ ghost use Rattle.gm_name.specs.ModuleVersion.{ModuleVersion};
 ghost use Rattle.gm_store.specs.Asked.{name_of};
 ghost use Rattle.gm_store.specs.States.{HasServed};
 ghost use Rattle.gm_store.specs.declared.files.FileName.{FileName};
-ghost use Rattle.gm_graph_cache.specs.Asking.{AsksFor, StillLacks};
-ghost use Rattle.gm_graph_cache.specs.Cached.{AddsTurn, IsFinding, Knows, LendsKept, main_in, modules_in, numbered, turns_in};
-ghost use Rattle.gm_graph_cache.specs.Refusals.{refused_in};
+ghost use Rattle.gm_graph.specs.Asking.{AsksFor, StillLacks};
+ghost use Rattle.gm_graph.specs.Cached.{AddsTurn, IsFinding, Knows, LendsKept, main_in, modules_in, numbered, turns_in};
+ghost use Rattle.gm_graph.specs.Refusals.{refused_in};
 ghost use Rattle.gm_graph.specs.Builder.{IsBuilder, built, turn_of, turns_of};
 ghost use Rattle.gm_graph.specs.FileLists.{HaveFiles};
 ghost use Rattle.gm_graph.specs.Followed.{AreFollowedIn};
 ghost use Rattle.gm_graph.specs.Turns.{VisitOverflows, leads_on};
 ghost use Rattle.gm_graph.specs.Visiting.{Continues, IsVisited, OverflowsAt, lender_of, readings_in};
 
+use crate::cache::Cache;
+use crate::cache::depth::Depth;
+use crate::cache::finding::Finding;
+use crate::cache::load_fault::LoadFault;
 use crate::followed::Followed;
 use crate::graph_builder::{GraphBuilder, NumberedTurn};
-use gm_graph_cache::{Cache, Depth, Finding, LoadFault};
 use gm_store::Asks;
 
 /// The place at which the cache has the requirements of a vertex, or `None` if the vertex has a fault.

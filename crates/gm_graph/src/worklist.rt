@@ -2,17 +2,18 @@
 
 ghost use Rattle.std.specs.Prelude.{◌≡◌, ◌<◌, ◌≤◌, ◌+◌, ◌||◌, ◌++◌, ◌∷◌, [], Err, List, OnOk, if◌then◌else◌, length};
 ghost use Rattle.gm_name.specs.ModuleVersion.{ModuleVersion, module_at};
-ghost use Rattle.gm_graph_cache.specs.Lent.{lent_modules, lent_table};
-ghost use Rattle.gm_graph_cache.specs.Turns.{turn};
+ghost use Rattle.gm_graph.specs.Lent.{lent_modules, lent_table};
+ghost use Rattle.gm_graph.specs.Turns.{turn, AddsAll, AppendsTurnIfNew, OverflowsWith};
 ghost use Rattle.gm_graph.specs.Building.{gathers};
 ghost use Rattle.gm_graph.specs.Builder.{IsBuilder, KeepsGraph, KeepsTurns, marks_at, turn_of, turns_of};
-ghost use Rattle.gm_graph.specs.Turns.{AddsAll, AppendsTurnIfNew, OverflowsWith};
 ghost use Rattle.gm_graph.specs.WorklistFaults.{load_fault_of};
 ghost use Rattle.gm_graph.specs.declared.worklist.AddFault.TheVariants as add;
 
+use crate::cache::depth::Depth;
+use crate::cache::lent::Lent;
+use crate::cache::load_fault::LoadFault;
 use crate::graph_builder::{GraphBuilder, NumberedTurn};
 use crate::marks::Marks;
-use gm_graph_cache::{Depth, Lent, LoadFault};
 use std::alloc::AllocError;
 
 /// The most vertices that are opened. Loading a larger graph is refused with `TooMany`.

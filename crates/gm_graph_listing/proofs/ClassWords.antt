@@ -9,11 +9,11 @@ use Rattle.std.proofs.lemmas.Fmt.{decimal_injective}
 use Rattle.gm_name.proofs.Marks.{decimal-digits}
 use Rattle.gm_syntax.specs.declared.fault.SyntaxKind.TheVariants as syntax
 use Rattle.gm_file.specs.declared.fault.DirectiveKind.TheVariants as directive
-use Rattle.gm_graph_cache.specs.declared.class.Class.{Class}
-use Rattle.gm_graph_cache.specs.declared.class.Class.TheVariants.{NotFetchable, Missing, TooLong, NoSum, SumDiffers, Malformed, WrongPath}
-use Rattle.gm_graph_cache.specs.declared.class.Misreading.{Misreading}
-use Rattle.gm_graph_cache.specs.declared.class.Misreading.TheVariants as misreading
-use Rattle.gm_graph_cache.specs.ClassWords.{misreading_word}
+use Rattle.gm_graph.specs.declared.cache.class.Class.{Class}
+use Rattle.gm_graph.specs.declared.cache.class.Class.TheVariants.{NotFetchable, Missing, TooLong, NoSum, SumDiffers, Malformed, WrongPath}
+use Rattle.gm_graph.specs.declared.cache.class.Misreading.{Misreading}
+use Rattle.gm_graph.specs.declared.cache.class.Misreading.TheVariants as misreading
+use Rattle.gm_graph.specs.ClassWords.{misreading_word}
 use Rattle.gm_graph_listing.specs.PrintedLines.{IsProperClass}
 use Rattle.gm_report.specs.Reports.{class_text, malformed_text}
 use Rattle.gm_graph_listing.proofs.ListLines.{Lacks, both_lack, cut_at, has_it, lacks}

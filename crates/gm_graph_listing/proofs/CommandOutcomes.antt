@@ -7,11 +7,11 @@ use Rattle.gm_store.specs.Asked.{Name, Reply, name_of}
 use Rattle.gm_store.specs.States.{StoreState}
 use Rattle.gm_store.specs.declared.files.FileName.{FileName}
 use Rattle.gm_store_sums.specs.Sums.{Sums}
-use Rattle.gm_graph_cache.specs.Main.{Main, main_of}
-use Rattle.gm_graph_cache.specs.Reading.{Held, Readings, Tells, readings_by}
-use Rattle.gm_graph_cache.specs.Refusals.{refused_in, refused_names}
-use Rattle.gm_graph_cache.specs.declared.load_fault.LoadFault.{LoadFault}
-use Rattle.gm_graph_cache.specs.declared.load_fault.LoadFault.TheVariants as load
+use Rattle.gm_graph.specs.Main.{Main, main_of}
+use Rattle.gm_graph.specs.Reading.{Held, Readings, Tells, readings_by}
+use Rattle.gm_graph.specs.Refusals.{refused_in, refused_names}
+use Rattle.gm_graph.specs.declared.cache.load_fault.LoadFault.{LoadFault}
+use Rattle.gm_graph.specs.declared.cache.load_fault.LoadFault.TheVariants as load
 use Rattle.gm_graph_select.specs.BuildList.{Entry, IsRestAfter}
 use Rattle.gm_graph_select.specs.Graph.{among, edge}
 use Rattle.gm_graph_select.proofs.Same.{same_chain}

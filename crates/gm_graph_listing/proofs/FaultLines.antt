@@ -5,7 +5,7 @@ use Rattle.gm_name.specs.Version.{IsVersion, is_byte_of_version}
 use Rattle.gm_name.specs.ModuleVersion.{ModuleVersion}
 use Rattle.gm_name.proofs.Bytes.{path-bytes, version-bytes}
 use Rattle.gm_syntax.specs.Lines.{HasNoLineFeed, lines_of}
-use Rattle.gm_graph_cache.specs.declared.class.Class.{Class}
+use Rattle.gm_graph.specs.declared.cache.class.Class.{Class}
 use Rattle.gm_graph.specs.declared.fault.Fault.{Fault}
 use Rattle.gm_graph.specs.Building.{fault}
 use Rattle.gm_graph_listing.specs.PrintedLines.{IsProperFault, LineIsOfAFault, LineSaysFault, ReportHasLines, TextSaysFaults, fault_text}

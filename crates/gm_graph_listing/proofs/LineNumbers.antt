@@ -19,9 +19,9 @@ use Rattle.gm_file.specs.Faults.{Fault, fault_of, faults, faults_after, first_of
 use Rattle.gm_file.proofs.Snoc.{length-with_blocks}
 use Rattle.gm_graph.proofs.Mapped.{from_mapped}
 use Rattle.gm_graph_select.proofs.Ascending.{no_member}
-use Rattle.gm_graph_cache.specs.declared.class.Misreading.{Misreading}
-use Rattle.gm_graph_cache.specs.declared.class.Misreading.TheVariants as misreading
-use Rattle.gm_graph_cache.specs.Reading.{IsMisreadAt}
+use Rattle.gm_graph.specs.declared.cache.class.Misreading.{Misreading}
+use Rattle.gm_graph.specs.declared.cache.class.Misreading.TheVariants as misreading
+use Rattle.gm_graph.specs.Reading.{IsMisreadAt}
 use Rattle.gm_graph_listing.proofs.FileNames.{found_among}
 
 -- ---- lines of a text

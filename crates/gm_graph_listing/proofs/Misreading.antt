@@ -10,7 +10,7 @@ use Rattle.gm_file.specs.Directives.{Strict}
 use Rattle.gm_file.specs.Views.{ReportsFault}
 use Rattle.gm_file.specs.declared.fault.FileFault.{FileFault}
 use Rattle.gm_file.specs.declared.fault.FileFault.TheVariants as file
-use Rattle.gm_graph_cache.specs.declared.class.Misreading.TheVariants as misreading
+use Rattle.gm_graph.specs.declared.cache.class.Misreading.TheVariants as misreading
 use Rattle.gm_report.specs.FromFaults.{report_by_file, report_by_syntax}
 use Rattle.gm_report.specs.Outcome.{OrNoMemory, Outcome, refused, report_outcome}
 use Rattle.gm_report.specs.Reports.{FaultPlace, main_line}

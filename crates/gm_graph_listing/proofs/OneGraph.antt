@@ -1,7 +1,7 @@
 -- `graph`, `list` and `chain` show the same graph.
 use Rattle.std.proofs.Common.{◌≡◌, ◌≢◌, ℕ, List, None, ap, subst, inl, inr}
-use Rattle.gm_graph_cache.specs.Main.{Main}
-use Rattle.gm_graph_cache.specs.Reading.{readings_by}
+use Rattle.gm_graph.specs.Main.{Main}
+use Rattle.gm_graph.specs.Reading.{readings_by}
 use Rattle.gm_graph_select.specs.BuildList.{Entry}
 use Rattle.gm_graph_select.specs.Graph.{Edges, among}
 use Rattle.gm_graph_select.proofs.Same.{AreSame, same_back, same_build_list, same_chain}

@@ -15,13 +15,13 @@ use Rattle.gm_store_sums.specs.Hash.{file_hash}
 use Rattle.gm_store_sums.specs.Sums.{ReadsAs, Says, Sums, check_in}
 use Rattle.gm_store_sums.specs.declared.sum_table.Sum.{Sum}
 use Rattle.gm_store_sums.specs.declared.sum_table.Sum.TheVariants.{Good, Unlisted, Differs}
-use Rattle.gm_graph_cache.specs.Main.{Main}
-use Rattle.gm_graph_cache.specs.Reading.{Held, IsFileReading, IsReadUnless, IsTold, Tells, class_of_sum, sum_fault}
-use Rattle.gm_graph_cache.specs.declared.class.Class.{Class}
-use Rattle.gm_graph_cache.specs.declared.class.Class.TheVariants.{Malformed}
-use Rattle.gm_graph_cache.specs.declared.class.Misreading.{Misreading}
-use Rattle.gm_graph_cache.specs.declared.class.Misreading.TheVariants as misreading
-use Rattle.gm_graph_cache.proofs.OneReading.{one_reading}
+use Rattle.gm_graph.specs.Main.{Main}
+use Rattle.gm_graph.specs.Reading.{Held, IsFileReading, IsReadUnless, IsTold, Tells, class_of_sum, sum_fault}
+use Rattle.gm_graph.specs.declared.cache.class.Class.{Class}
+use Rattle.gm_graph.specs.declared.cache.class.Class.TheVariants.{Malformed}
+use Rattle.gm_graph.specs.declared.cache.class.Misreading.{Misreading}
+use Rattle.gm_graph.specs.declared.cache.class.Misreading.TheVariants as misreading
+use Rattle.gm_graph.proofs.OneReading.{one_reading}
 use Rattle.gm_report.specs.Reports.{FaultPlace, bad_sum_line}
 use Rattle.gm_graph_listing.specs.Outcomes.{AreInvalidSums, AreSums, IsMainFile, IsMainOf, IsMalformedMain}
 

@@ -10,12 +10,12 @@ use Rattle.gm_store_sums.specs.Hash.{file_hash}
 use Rattle.gm_store_sums.specs.Sums.{Sums, check_in}
 use Rattle.gm_store_sums.specs.declared.sum_table.Sum.{Sum}
 use Rattle.gm_store_sums.specs.declared.sum_table.Sum.TheVariants.{Good, Unlisted, Differs}
-use Rattle.gm_graph_cache.specs.declared.class.Class.{Class}
-use Rattle.gm_graph_cache.specs.declared.class.Class.TheVariants.{NotFetchable, Missing, TooLong, NoSum, SumDiffers, Malformed, WrongPath}
-use Rattle.gm_graph_cache.specs.declared.class.Misreading.TheVariants as misreading
-use Rattle.gm_graph_cache.specs.Main.{Main, replacement_in}
-use Rattle.gm_graph_cache.specs.Reading.{IsContentReading, IsFileReading, IsReadUnless, IsTold, class_of_sum, fault_in, file_of, is_askable, is_right_path, readings_by, sum_fault, with_right_path}
-use Rattle.gm_graph_cache.proofs.ReadingIf.{reading_if}
+use Rattle.gm_graph.specs.declared.cache.class.Class.{Class}
+use Rattle.gm_graph.specs.declared.cache.class.Class.TheVariants.{NotFetchable, Missing, TooLong, NoSum, SumDiffers, Malformed, WrongPath}
+use Rattle.gm_graph.specs.declared.cache.class.Misreading.TheVariants as misreading
+use Rattle.gm_graph.specs.Main.{Main, replacement_in}
+use Rattle.gm_graph.specs.Reading.{IsContentReading, IsFileReading, IsReadUnless, IsTold, class_of_sum, fault_in, file_of, is_askable, is_right_path, readings_by, sum_fault, with_right_path}
+use Rattle.gm_graph.proofs.ReadingIf.{reading_if}
 use Rattle.gm_graph_listing.specs.PrintedLines.{IsProperClass, RunHasProperFaults}
 use Rattle.gm_graph_listing.proofs.LineNumbers.{misread_few}
 use Rattle.gm_graph_listing.proofs.RunNames.{opened_name}

@@ -1,6 +1,6 @@
 -- What `chain` prints is a shortest walk.
 use Rattle.std.proofs.Common.{◌≡◌, ◌∙◌, ◌≤◌, ℕ, suc, List, [], ◌∷◌, length, refl, arith, inl, inr, length-append}
-use Rattle.gm_graph_cache.specs.Reading.{readings_by}
+use Rattle.gm_graph.specs.Reading.{readings_by}
 use Rattle.gm_graph_select.specs.declared.step.Step.{Step}
 use Rattle.gm_graph_select.specs.declared.step.Step.TheVariants.{Of}
 use Rattle.gm_graph_select.specs.Chains.{IsChain, IsLevel, Leads, along, at_main, begins, goes_on}

@@ -11,10 +11,10 @@ use Rattle.gm_file.specs.Faults.{fault_of}
 use Rattle.gm_store.specs.Asked.{Name, Reply, names_in}
 use Rattle.gm_store.specs.States.{StoreState}
 use Rattle.gm_store_sums.specs.Sums.{HasValidLines, IsFirstInvalid, ReadsAs, Sums}
-use Rattle.gm_graph_cache.specs.Main.{Main, main_of}
+use Rattle.gm_graph.specs.Main.{Main, main_of}
 use Rattle.gm_name.specs.ModuleVersion.{ModuleVersion}
-use Rattle.gm_graph_cache.specs.Reading.{Held, IsMisreadAt, Readings, Tells, readings_by}
-use Rattle.gm_graph_cache.specs.declared.class.Misreading.TheVariants as misreading
+use Rattle.gm_graph.specs.Reading.{Held, IsMisreadAt, Readings, Tells, readings_by}
+use Rattle.gm_graph.specs.declared.cache.class.Misreading.TheVariants as misreading
 use Rattle.gm_graph_select.specs.declared.step.Step.{Step}
 use Rattle.gm_graph_select.specs.declared.step.Edge.{Edge}
 use Rattle.gm_graph_select.specs.BuildList.{Entry, IsEntryOf, HasEntryFor, IsRestAfter}

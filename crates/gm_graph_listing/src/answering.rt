@@ -5,7 +5,7 @@ ghost use Rattle.std.specs.Prelude.{◌≡◌, ◌++◌, ◌∷◌, [], MatchRes
 ghost use Rattle.std.specs.Option.{option_copied};
 ghost use Rattle.gm_store.specs.Asked.{Name};
 ghost use Rattle.gm_store.specs.States.{HasServed};
-ghost use Rattle.gm_graph_cache.specs.Main.{main_of};
+ghost use Rattle.gm_graph.specs.Main.{main_of};
 ghost use Rattle.gm_graph_listing.specs.Outcomes.{FilesReadAs, IsAnswerOver, IsRefusedRead, PrintsFor};
 ghost use Rattle.gm_graph_listing.specs.Needs.{AskedInTurn, FailsInTurn, GraphNeeds};
 ghost use Rattle.gm_report.specs.Outcome.{OrNoMemory, failed, outcome_view, report_outcome};

@@ -3,7 +3,7 @@
 
 ghost use Rattle.std.specs.Prelude.{◌≡◌, []};
 ghost use Rattle.std.specs.Option.{option_copied};
-ghost use Rattle.gm_graph_cache.specs.Main.{main_of};
+ghost use Rattle.gm_graph.specs.Main.{main_of};
 ghost use Rattle.gm_graph_select.specs.BuildList.{entries_of_rows};
 ghost use Rattle.gm_graph_listing.specs.Texts.{limited, list_text};
 ghost use Rattle.gm_graph_listing.specs.Found.{IsOutcomeOfFound, PrintsEdges, PrintsFound, PrintsSteps};
@@ -14,8 +14,7 @@ use crate::graph_lines::{chain_text, graph_text};
 use crate::query::Query;
 use crate::row_lines::list_text;
 use gm_file::MainFile;
-use gm_graph::Loaded;
-use gm_graph_cache::main_path;
+use gm_graph::{Loaded, main_path};
 use gm_graph_select::{ChainFault, Rows};
 use gm_name::ModPath;
 use gm_report::Report;

@@ -4,10 +4,10 @@ use Rattle.gm_store.specs.Taken.{SinkState}
 use Rattle.gm_store.specs.declared.sinks.WriteFault.{WriteFault}
 use Rattle.gm_report.specs.Giving.{IsGiven}
 use Rattle.gm_report.specs.Taking.{Took}
-use Rattle.gm_graph_cache.specs.ClassWords.{class_word}
-use Rattle.gm_graph_cache.specs.declared.class.Class.{Class}
-use Rattle.gm_graph_cache.specs.declared.class.Class.TheVariants.{NotFetchable, Missing, TooLong, NoSum, SumDiffers, Malformed, WrongPath}
-use Rattle.gm_graph_cache.specs.declared.class.Misreading.{Misreading}
+use Rattle.gm_graph.specs.ClassWords.{class_word}
+use Rattle.gm_graph.specs.declared.cache.class.Class.{Class}
+use Rattle.gm_graph.specs.declared.cache.class.Class.TheVariants.{NotFetchable, Missing, TooLong, NoSum, SumDiffers, Malformed, WrongPath}
+use Rattle.gm_graph.specs.declared.cache.class.Misreading.{Misreading}
 use Rattle.gm_report.specs.Reports.{class_text}
 use Rattle.gm_report.specs.Texts.{line, vertex_text}
 

@@ -5,9 +5,9 @@ use Rattle.gm_file.specs.declared.fault.FileFault.{FileFault}
 use Rattle.gm_file.specs.declared.fault.FileFault.TheVariants as file
 use Rattle.gm_store_sums.specs.declared.sum_table.SumFault.{SumFault}
 use Rattle.gm_store_sums.specs.declared.sum_table.SumFault.TheVariants as sums
-use Rattle.gm_graph_cache.specs.declared.class.Misreading.TheVariants as misreading
-use Rattle.gm_graph_cache.specs.declared.load_fault.LoadFault.{LoadFault}
-use Rattle.gm_graph_cache.specs.declared.load_fault.LoadFault.TheVariants as load
+use Rattle.gm_graph.specs.declared.cache.class.Misreading.TheVariants as misreading
+use Rattle.gm_graph.specs.declared.cache.load_fault.LoadFault.{LoadFault}
+use Rattle.gm_graph.specs.declared.cache.load_fault.LoadFault.TheVariants as load
 use Rattle.gm_report.specs.declared.report.Report.{Report}
 use Rattle.gm_report.specs.declared.report.Report.TheVariants as report
 

@@ -3,7 +3,7 @@ use Rattle.std.specs.Prelude.{◌≡◌, ◌⊎◌, ℕ, List, [], Result, Ok, E
 use Rattle.std.specs.declared.alloc.Global.{Global}
 use Rattle.std.specs.String.{string_bytes}
 use Rattle.gm_store.specs.Asked.{name_of}
-use Rattle.gm_graph_cache.specs.ClassWords.{class_word}
+use Rattle.gm_graph.specs.ClassWords.{class_word}
 use Rattle.gm_report.specs.declared.report.Report.{Report}
 use Rattle.gm_report.specs.declared.report.Report.TheVariants as report
 use Rattle.gm_report.specs.declared.status.Status.{Status}

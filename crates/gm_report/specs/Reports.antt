@@ -6,11 +6,11 @@ use Rattle.gm_name.specs.ModuleVersion.{ModuleVersion}
 use Rattle.gm_syntax.specs.declared.fault.SyntaxFault.{SyntaxFault}
 use Rattle.gm_syntax.specs.declared.fault.SyntaxFault.TheVariants as syntax
 use Rattle.gm_store.specs.Asked.{Name, mod_file, folder_file, list_file}
-use Rattle.gm_graph_cache.specs.declared.class.Class.{Class}
-use Rattle.gm_graph_cache.specs.declared.class.Class.TheVariants.{Malformed}
-use Rattle.gm_graph_cache.specs.declared.class.Misreading.{Misreading}
-use Rattle.gm_graph_cache.specs.declared.class.Misreading.TheVariants as misreading
-use Rattle.gm_graph_cache.specs.ClassWords.{class_word, misreading_word}
+use Rattle.gm_graph.specs.declared.cache.class.Class.{Class}
+use Rattle.gm_graph.specs.declared.cache.class.Class.TheVariants.{Malformed}
+use Rattle.gm_graph.specs.declared.cache.class.Misreading.{Misreading}
+use Rattle.gm_graph.specs.declared.cache.class.Misreading.TheVariants as misreading
+use Rattle.gm_graph.specs.ClassWords.{class_word, misreading_word}
 use Rattle.gm_graph.specs.declared.fault.Fault.{Fault}
 use Rattle.gm_report.specs.declared.report.Refusal.{Refusal}
 use Rattle.gm_report.specs.declared.report.Refusal.TheVariants.{Spelling, Misfit}

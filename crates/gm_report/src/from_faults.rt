@@ -6,7 +6,7 @@ ghost use Rattle.gm_report.specs.FromFaults.{report_by_file, report_by_load, rep
 
 use crate::report::Report;
 use gm_file::FileFault;
-use gm_graph_cache::{LoadFault, Misreading};
+use gm_graph::{LoadFault, Misreading};
 use gm_store_sums::SumFault;
 use gm_syntax::SyntaxFault;
 use std::alloc::AllocError;

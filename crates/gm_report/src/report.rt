@@ -5,8 +5,7 @@ ghost use Rattle.gm_report.specs.Outcome.{report_status};
 ghost use Rattle.gm_report.specs.Reports.{refusal_word};
 
 use crate::status::Status;
-use gm_graph::Fault;
-use gm_graph_cache::{Class, Misreading};
+use gm_graph::{Class, Fault, Misreading};
 use gm_name::{ModPath, ModVersion};
 use gm_store::FileName;
 

@@ -12,8 +12,7 @@ ghost use Rattle.gm_report.specs.Texts.{line, vertex_text};
 
 use crate::buffer::LineBuffer;
 use crate::report::Report;
-use gm_graph::Fault;
-use gm_graph_cache::Class;
+use gm_graph::{Class, Fault};
 use gm_name::{ModPath, ModVersion};
 use gm_store::{FileName, Sink, WriteFault};
 

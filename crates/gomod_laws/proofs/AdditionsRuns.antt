@@ -6,10 +6,10 @@ use Rattle.gm_file.specs.Directives.{Right}
 use Rattle.gm_file.specs.Fields.{Dependency}
 use Rattle.gm_store.specs.Asked.{Name}
 use Rattle.gm_store_sums.specs.Sums.{Sums}
-use Rattle.gm_graph_cache.specs.declared.class.Class.{Class}
-use Rattle.gm_graph_cache.specs.Main.{Main, replacement_in}
-use Rattle.gm_graph_cache.specs.Reading.{Held, Tells, fault_in, file_named, file_of, is_askable, readings_by, with_right_path}
-use Rattle.gm_graph_cache.proofs.ReadingIf.{reading_if}
+use Rattle.gm_graph.specs.declared.cache.class.Class.{Class}
+use Rattle.gm_graph.specs.Main.{Main, replacement_in}
+use Rattle.gm_graph.specs.Reading.{Held, Tells, fault_in, file_named, file_of, is_askable, readings_by, with_right_path}
+use Rattle.gm_graph.proofs.ReadingIf.{reading_if}
 use Rattle.gm_graph_select.proofs.Ascending.{member_head, no_member}
 use Rattle.gm_graph.specs.declared.fault.Fault.{Fault}
 use Rattle.gm_graph.specs.Graph.{IsOpened}

@@ -9,9 +9,9 @@ use Rattle.gm_file.specs.Fields.{Dependency}
 use Rattle.gm_file_retract.specs.Shown.{is_at_most, is_retracted, shown_of}
 use Rattle.gm_store.specs.Asked.{Name, Reply, bytes, mod_file}
 use Rattle.gm_store.specs.Listed.{IsListed}
-use Rattle.gm_graph_cache.specs.declared.class.Class.{Class}
-use Rattle.gm_graph_cache.specs.Reading.{IsFileReading}
-use Rattle.gm_graph_cache.proofs.OneReading.{one_reading}
+use Rattle.gm_graph.specs.declared.cache.class.Class.{Class}
+use Rattle.gm_graph.specs.Reading.{IsFileReading}
+use Rattle.gm_graph.proofs.OneReading.{one_reading}
 use Rattle.gm_graph_select.proofs.Ascending.{member_cases, member_head, no_member}
 use Rattle.gm_report.specs.Outcome.{Outcome, printed}
 use Rattle.gomod_run.specs.Versions.{versions_line}

@@ -9,8 +9,8 @@ use Rattle.gm_name.specs.Path.{IsPath}
 use Rattle.gm_name.specs.Version.{IsVersion, version_cmp}
 use Rattle.gm_name.specs.ModuleVersion.{ModuleVersion}
 use Rattle.gm_file.specs.Directives.{Replacing}
-use Rattle.gm_graph_cache.specs.Main.{Main, without_excluded}
-use Rattle.gm_graph_cache.specs.Reading.{Held, Readings, readings_by}
+use Rattle.gm_graph.specs.Main.{Main, without_excluded}
+use Rattle.gm_graph.specs.Reading.{Held, Readings, readings_by}
 use Rattle.gm_graph_select.specs.declared.step.Step.TheVariants.{Main as FromMain, Of}
 use Rattle.gm_graph_select.specs.BuildList.{Entry, entry_of, main_entry, path_of}
 use Rattle.gm_graph_select.specs.Laws.{entries_of_pages}

@@ -13,7 +13,7 @@ use Rattle.gm_file_edit.specs.Edited.{edited}
 use Rattle.gm_file_edit.specs.Kinds.{is_fit}
 use Rattle.gm_file_edit.specs.Edits.{Edit as Operation, edit_in}
 use Rattle.gm_file_edit.specs.Laws.{IsEditOf, directives_of}
-use Rattle.gm_graph_cache.specs.Main.{Main}
+use Rattle.gm_graph.specs.Main.{Main}
 use Rattle.gm_graph_listing.specs.Outcomes.{IsMainFile, IsMainOf, longest}
 use Rattle.gm_report.specs.Outcome.{Outcome, printed}
 use Rattle.gm_report.specs.Reports.{main_line, edit_line}

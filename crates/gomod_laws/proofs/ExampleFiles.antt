@@ -26,8 +26,8 @@ use Rattle.gm_file.specs.declared.fault.DirectiveKind.TheVariants.{NoModule}
 use Rattle.gm_file.specs.Directives.{Lax, Strict, directive_of, item_at}
 use Rattle.gm_file.specs.Faults.{directive_kinds, fault_of, faults}
 use Rattle.gm_file.specs.Fields.{dependency_of}
-use Rattle.gm_graph_cache.specs.Main.{main_of}
-use Rattle.gm_graph_cache.specs.declared.class.Misreading.TheVariants as misreading
+use Rattle.gm_graph.specs.Main.{main_of}
+use Rattle.gm_graph.specs.declared.cache.class.Misreading.TheVariants as misreading
 use Rattle.gm_graph_listing.specs.Outcomes.{IsMalformedMain}
 use Rattle.gm_graph_listing.proofs.ListLines.{lacks}
 use Rattle.gomod_laws.specs.ExampleRuns.{FilesAreRead, alone, main_requiring, requiring}

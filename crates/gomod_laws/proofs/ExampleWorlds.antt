@@ -13,9 +13,9 @@ use Rattle.gm_name.specs.ModuleVersion.{ModuleVersion, pair_cmp}
 use Rattle.gm_file.specs.Directives.{Folder}
 use Rattle.gm_file.specs.Fields.{Dependency}
 use Rattle.gm_store.specs.Asked.{Name, absent, folder_file, same_name}
-use Rattle.gm_graph_cache.specs.Reading.{IsTold, Readings, is_unpruned, readings_by, vertex_fault, vertex_requirements}
-use Rattle.gm_graph_cache.specs.declared.class.Class.{Class}
-use Rattle.gm_graph_cache.specs.declared.class.Class.TheVariants.{Missing}
+use Rattle.gm_graph.specs.Reading.{IsTold, Readings, is_unpruned, readings_by, vertex_fault, vertex_requirements}
+use Rattle.gm_graph.specs.declared.cache.class.Class.{Class}
+use Rattle.gm_graph.specs.declared.cache.class.Class.TheVariants.{Missing}
 use Rattle.gm_graph_select.specs.declared.step.Edge.{Edge}
 use Rattle.gm_graph_select.specs.declared.step.Step.{Step}
 use Rattle.gm_graph_select.specs.declared.step.Step.TheVariants.{Main as FromMain, Of}

@@ -8,11 +8,11 @@ use Rattle.gm_store.specs.Asked.{Name, Reply, absent, answer_in, bytes, list_fil
 use Rattle.gm_store.specs.Latest.{IsLatest}
 use Rattle.gm_store.specs.Listed.{AreListed}
 use Rattle.gm_store_sums.specs.Sums.{Sums}
-use Rattle.gm_graph_cache.specs.declared.class.Class.{Class}
-use Rattle.gm_graph_cache.specs.Main.{Main}
-use Rattle.gm_graph_cache.specs.Reading.{Held, IsFileReading, IsTold, Tells, fault_in, file_of, is_askable, readings_by, vertex_fault}
-use Rattle.gm_graph_cache.proofs.ReadingIf.{reading_if}
-use Rattle.gm_graph_cache.proofs.Keeping.{answer_stays}
+use Rattle.gm_graph.specs.declared.cache.class.Class.{Class}
+use Rattle.gm_graph.specs.Main.{Main}
+use Rattle.gm_graph.specs.Reading.{Held, IsFileReading, IsTold, Tells, fault_in, file_of, is_askable, readings_by, vertex_fault}
+use Rattle.gm_graph.proofs.ReadingIf.{reading_if}
+use Rattle.gm_graph.proofs.Keeping.{answer_stays}
 use Rattle.gm_graph_select.proofs.Ascending.{member_cases, no_member}
 use Rattle.gm_graph.specs.declared.fault.Fault.{Fault}
 use Rattle.gm_graph.specs.Loading.{IsNeeded}

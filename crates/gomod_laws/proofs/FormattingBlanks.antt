@@ -14,7 +14,7 @@ use Rattle.gm_file.specs.Faults.{Fault, fault_of, go_in, faults, faults_after, f
 use Rattle.gm_file.specs.Fields.{as_exclusion, as_go, as_module, as_replacing, as_requirement, first}
 use Rattle.gm_file.proofs.First.{first-none}
 use Rattle.gm_file_edit.proofs.Sound.{nil-map, nil-parts}
-use Rattle.gm_graph_cache.specs.Main.{Main}
+use Rattle.gm_graph.specs.Main.{Main}
 
 abbrev pub seat_of : Option Word → Line Word → LineInBlock Word
 seat_of block line = (block, line)

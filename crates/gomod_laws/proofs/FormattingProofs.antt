@@ -20,7 +20,7 @@ use Rattle.gm_file_edit.specs.Kinds.{is_fit}
 use Rattle.gm_file_edit.specs.Edits.{Edit as Change, edit_in}
 use Rattle.gm_file_edit.proofs.EditedSound.{edited-document}
 use Rattle.gm_file_edit.proofs.Written.{written-sound}
-use Rattle.gm_graph_cache.specs.Main.{Main}
+use Rattle.gm_graph.specs.Main.{Main}
 use Rattle.gm_graph_listing.specs.Outcomes.{IsMainFile, IsMainOf, longest}
 use Rattle.gm_report.specs.Outcome.{Outcome, printed, refused}
 use Rattle.gm_report.specs.Reports.{main_line}

@@ -1,8 +1,8 @@
 -- Runs of queries, and those that print.
 use Rattle.std.proofs.Common.{◌≡◌, ℕ, List, [], Option, subst, true}
 use Rattle.gm_store.specs.Asked.{Name, Reply}
-use Rattle.gm_graph_cache.specs.Main.{Main}
-use Rattle.gm_graph_cache.specs.Reading.{Held}
+use Rattle.gm_graph.specs.Main.{Main}
+use Rattle.gm_graph.specs.Reading.{Held}
 use Rattle.gm_graph_listing.specs.Laws.{AllFilesAreValid}
 use Rattle.gm_graph_listing.specs.Outcomes.{answers, given}
 use Rattle.gm_graph_listing.proofs.PrintedList.{printed_run}

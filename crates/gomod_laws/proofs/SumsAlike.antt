@@ -7,9 +7,9 @@ use Rattle.gm_store_sums.specs.Hash.{file_hash}
 use Rattle.gm_store_sums.specs.Sums.{HasValidLines, IsSum, ReadsAs, Says, Sums, check_in}
 use Rattle.gm_store_sums.specs.declared.sum_table.Sum.{Sum}
 use Rattle.gm_store_sums.specs.declared.sum_table.Sum.TheVariants.{Differs, Good, Unlisted}
-use Rattle.gm_graph_cache.specs.declared.class.Class.{Class}
-use Rattle.gm_graph_cache.specs.Main.{Main}
-use Rattle.gm_graph_cache.specs.Reading.{Held, IsReadUnless, IsTold, Tells, class_of_sum, file_of, is_askable, readings_by, sum_fault}
+use Rattle.gm_graph.specs.declared.cache.class.Class.{Class}
+use Rattle.gm_graph.specs.Main.{Main}
+use Rattle.gm_graph.specs.Reading.{Held, IsReadUnless, IsTold, Tells, class_of_sum, file_of, is_askable, readings_by, sum_fault}
 use Rattle.gm_graph.specs.Loading.{AreTooMany, IsNeeded}
 use Rattle.gm_graph_listing.specs.Laws.{AnswerAlike}
 use Rattle.gm_graph_listing.specs.Outcomes.{AreKnown, AreSums, IsMainFile, IsOutcome, IsOutcomeOver, Prints as PrintsOver, PrintsChain, PrintsGraph, PrintsList, answers, device, faulty, given, longest, too_many}

@@ -9,10 +9,10 @@ use Rattle.gm_store_sums.specs.Hash.{file_hash}
 use Rattle.gm_store_sums.specs.Sums.{ReadsAs, Says, Sums, check_in}
 use Rattle.gm_store_sums.specs.declared.sum_table.Sum.{Sum}
 use Rattle.gm_store_sums.specs.declared.sum_table.Sum.TheVariants.{Differs, Good, Unlisted}
-use Rattle.gm_graph_cache.specs.declared.class.Class.{Class}
-use Rattle.gm_graph_cache.specs.Main.{Main}
-use Rattle.gm_graph_cache.specs.Reading.{Held, IsContentReading, IsFileReading, IsReadUnless, IsTold, Readings, Tells, class_of_sum, fault_in, file_of, is_askable, is_unpruned_in, readings_by, requirements_in, said_in, sum_fault, vertex_fault}
-use Rattle.gm_graph_cache.proofs.ReadingIf.{reading_if}
+use Rattle.gm_graph.specs.declared.cache.class.Class.{Class}
+use Rattle.gm_graph.specs.Main.{Main}
+use Rattle.gm_graph.specs.Reading.{Held, IsContentReading, IsFileReading, IsReadUnless, IsTold, Readings, Tells, class_of_sum, fault_in, file_of, is_askable, is_unpruned_in, readings_by, requirements_in, said_in, sum_fault, vertex_fault}
+use Rattle.gm_graph.proofs.ReadingIf.{reading_if}
 use Rattle.gm_graph_select.proofs.Ascending.{member_head, member_tail, no_member}
 use Rattle.gm_graph.specs.Building.{fault}
 use Rattle.gm_graph.specs.Graph.{IsDeep, IsOpened, from_deep, from_main, from_top}

@@ -7,8 +7,8 @@ use Rattle.gm_file.specs.Fields.{Dependency}
 use Rattle.gm_file_retract.specs.Shown.{shown_of}
 use Rattle.gm_store.specs.Asked.{Name, Reply, absent, answer_in, bytes, list_file, mod_file, too_long}
 use Rattle.gm_store.specs.Listed.{AreListed}
-use Rattle.gm_graph_cache.specs.declared.class.Class.{Class}
-use Rattle.gm_graph_cache.specs.Reading.{IsFileReading}
+use Rattle.gm_graph.specs.declared.cache.class.Class.{Class}
+use Rattle.gm_graph.specs.Reading.{IsFileReading}
 use Rattle.gm_report.specs.Outcome.{Outcome, printed, refused}
 use Rattle.gm_graph_listing.specs.Needs.{AnswersByName}
 use Rattle.gomod_words.specs.declared.usage.Command.TheVariants.{Versions}

@@ -1,7 +1,7 @@
 -- What the laws of gm_graph_listing conclude of `list`, `graph` and `chain` is false of outputs that contradict them.
 use Rattle.std.specs.Prelude.{◌≡◌, ℕ, List, [], Option, None, Some, codes}
 use Rattle.gm_name.specs.ModuleVersion.{ModuleVersion}
-use Rattle.gm_graph_cache.specs.Main.{Main}
+use Rattle.gm_graph.specs.Main.{Main}
 use Rattle.gm_graph.specs.Graph.{IsTop}
 use Rattle.gm_graph_listing.specs.Laws.{JoinsPages, ShowOneGraph, ShowsBuildList, ShowsPart, ShowsShortestWalk}
 use Rattle.gm_graph_listing.specs.Outcomes.{Given, IsListOutcome, IsMainFile}

@@ -1,7 +1,7 @@
 -- What formatting a file leaves as it is.
 use Rattle.std.specs.Prelude.{◌≡◌, ◌≤◌, ℕ, List, [], Option, None, length, true}
 use Rattle.gm_store.specs.Asked.{Name, Reply}
-use Rattle.gm_graph_cache.specs.Main.{Main}
+use Rattle.gm_graph.specs.Main.{Main}
 use Rattle.gm_graph_listing.specs.Laws.{AnswerAlike}
 use Rattle.gm_graph_listing.specs.Outcomes.{IsMainFile, longest}
 use Rattle.gm_report.specs.Outcome.{Outcome, printed}

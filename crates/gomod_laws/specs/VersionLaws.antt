@@ -8,7 +8,7 @@ use Rattle.gm_file_retract.specs.Shown.{shown_of}
 use Rattle.gm_store.specs.Asked.{Name, Reply, answer_in, bytes, list_file, mod_file}
 use Rattle.gm_store.specs.Latest.{IsLatest}
 use Rattle.gm_store.specs.Listed.{AreListed}
-use Rattle.gm_graph_cache.specs.Reading.{IsFileReading}
+use Rattle.gm_graph.specs.Reading.{IsFileReading}
 use Rattle.gm_graph_listing.specs.Laws.{AnswerAlike}
 use Rattle.gm_report.specs.Outcome.{Outcome, printed}
 use Rattle.gomod_words.specs.declared.usage.Command.TheVariants.{Versions}

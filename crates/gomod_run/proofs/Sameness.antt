@@ -17,7 +17,7 @@ use Rattle.gm_store.specs.Latest.{IsLatest}
 use Rattle.gomod_words.specs.Usage.{texts_in}
 use Rattle.gomod_words.specs.declared.usage.Command.{Command}
 use Rattle.gomod_words.specs.declared.usage.Command.TheVariants.{Fmt, Edit, Versions, Graph, List as Rows, Chain}
-use Rattle.gm_graph_cache.proofs.OneReading.{one_reading}
+use Rattle.gm_graph.proofs.OneReading.{one_reading}
 use Rattle.gm_report.specs.Outcome.{Outcome, printed, refused}
 use Rattle.gm_report.specs.Reports.{FaultPlace, main_line, syntax_place}
 use Rattle.gm_graph_listing.specs.Needs.{AnswersByName}

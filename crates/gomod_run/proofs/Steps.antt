@@ -11,10 +11,10 @@ use Rattle.gm_store.specs.Asked.{IsWithinLimit, Name, Reply, absent, answer_in, 
 use Rattle.gm_store.specs.Latest.{IsLatest}
 use Rattle.gm_store.specs.Listed.{AreListed}
 use Rattle.gm_file.specs.Fields.{Dependency}
-use Rattle.gm_graph_cache.specs.declared.class.Class.{Class}
-use Rattle.gm_graph_cache.specs.declared.reading.FileReading.{FileReading}
-use Rattle.gm_graph_cache.specs.Reading.{IsContentReading, IsFileReading}
-use Rattle.gm_graph_cache.specs.Summaries.{reading_of}
+use Rattle.gm_graph.specs.declared.cache.class.Class.{Class}
+use Rattle.gm_graph.specs.declared.cache.reading.FileReading.{FileReading}
+use Rattle.gm_graph.specs.Reading.{IsContentReading, IsFileReading}
+use Rattle.gm_graph.specs.Summaries.{reading_of}
 use Rattle.gm_report.specs.Outcome.{OrNoMemory, Outcome, failed, out_of_memory, outcome_view, printed, refused, report_outcome}
 use Rattle.gm_report.specs.declared.report.Report.{Report}
 use Rattle.gm_report.specs.declared.report.Report.TheVariants as report

@@ -1,7 +1,7 @@
 //! Projects to load: the content of a main module's file, and the files of the modules that it leads to.
 
 use super::File;
-use gm_graph_cache::Depth;
+use gm_graph::Depth;
 
 /// A project, with the expected work of loading it if that matters.
 #[derive(Clone, Copy)]

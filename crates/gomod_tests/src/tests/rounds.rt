@@ -3,8 +3,7 @@
 
 use super::{File, OUT_OF_MEMORY};
 use gm_file::{DepFile, FileFault, MainFile, Right};
-use gm_graph::Fault;
-use gm_graph_cache::{Class, Misreading};
+use gm_graph::{Class, Fault, Misreading};
 use gm_graph_select::{Edge, Row, Step};
 use gm_name::ModVer;
 use gm_syntax::Doc;

@@ -1,8 +1,8 @@
 use Rattle.std.proofs.Common.{◌∙◌, ◌++◌, sym, ap, Err, arith, refl, List, append-nil}
 use Rattle.gm_store.specs.Asked.{Name}
 use Rattle.gm_store.proofs.Serving.{nothing_served, served_both}
-use Rattle.gm_graph_cache.specs.Cached.{main_in, modules_in, numbered, sums_in}
-use Rattle.gm_graph_cache.specs.Refusals.{refused_names}
+use Rattle.gm_graph.specs.Cached.{main_in, modules_in, numbered, sums_in}
+use Rattle.gm_graph.specs.Refusals.{refused_names}
 use Rattle.gm_graph.proofs.Dues.{asks_more, due_here, many_here, refused_same}
 use Rattle.gm_graph.proofs.Rounds.{few_turns}
 use Rattle.gm_graph.specs.Builder.{turns_of}

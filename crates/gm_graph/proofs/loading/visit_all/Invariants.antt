@@ -1,6 +1,6 @@
 use Rattle.std.proofs.Common.{◌≡◌, ◌-◌}
 use Rattle.gm_store.specs.States.{HasServed}
-use Rattle.gm_graph_cache.specs.Cached.{main_in, modules_in, sums_in}
+use Rattle.gm_graph.specs.Cached.{main_in, modules_in, sums_in}
 use Rattle.gm_graph.specs.Builder.{turns_of}
 use Rattle.gm_graph.specs.Followed.{AreFollowedIn}
 use Rattle.gm_graph.specs.FileLists.{HaveFiles}

@@ -1,5 +1,5 @@
 use Rattle.std.proofs.Common.{ℕ, List, subst, sym}
-use Rattle.gm_graph_cache.specs.Main.{main_of}
+use Rattle.gm_graph.specs.Main.{main_of}
 use Rattle.gm_graph_select.specs.BuildList.{AreSelected, Entry, IsBuildList}
 use Rattle.gm_graph_select.specs.Graph.{among}
 use Rattle.gm_graph_select.proofs.LastVersions.{listed}

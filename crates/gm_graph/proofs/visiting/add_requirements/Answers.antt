@@ -1,18 +1,17 @@
 use Rattle.std.proofs.Common.{◌≡◌, ◌++◌, ◌∷◌, ◌∙◌, [], ℕ, Contains, List, Option, Err, true, ap, map, subst, sym}
 use Rattle.gm_name.specs.ModuleVersion.{ModuleVersion, module_at}
-use Rattle.gm_graph_cache.specs.Cached.{IsLender, main_in, modules_in, numbered}
-use Rattle.gm_graph_cache.specs.Lent.{lent_modules, lent_table}
-use Rattle.gm_graph_cache.specs.declared.depth.Depth.TheVariants.{Deep}
-use Rattle.gm_graph_cache.specs.declared.depth.Turn.{Turn}
-use Rattle.gm_graph_cache.specs.Reading.{vertex_requirements}
-use Rattle.gm_graph_cache.specs.Turns.{turn}
+use Rattle.gm_graph.specs.Cached.{IsLender, main_in, modules_in, numbered}
+use Rattle.gm_graph.specs.Lent.{lent_modules, lent_table}
+use Rattle.gm_graph.specs.declared.cache.depth.Depth.TheVariants.{Deep}
+use Rattle.gm_graph.specs.declared.cache.depth.Turn.{Turn}
+use Rattle.gm_graph.specs.Reading.{vertex_requirements}
+use Rattle.gm_graph.specs.Turns.{turn, AddsAll, OverflowsWith, leads_on}
 use Rattle.gm_graph_select.specs.Graph.{edge}
 use Rattle.gm_graph_select.specs.declared.step.Step.TheVariants.{Of}
 use Rattle.gm_graph.specs.declared.graph_builder.GraphBuilder.{GraphBuilder}
 use Rattle.gm_graph.specs.declared.graph_builder.NumberedTurn.{NumberedTurn}
 use Rattle.gm_graph.specs.Builder.{IsBuilder, built, edges_in, faults_by_vertex, sources_in, turn_of, turns_of}
 use Rattle.gm_graph.specs.Building.{found_fault, gathers, noted as with_fault}
-use Rattle.gm_graph.specs.Turns.{AddsAll, OverflowsWith, leads_on}
 use Rattle.gm_graph.specs.Followed.{AddsFollowed, AreFollowedIn, followed_by}
 use Rattle.gm_graph.specs.declared.followed.Followed.{Followed}
 use Rattle.gm_graph.specs.FileLists.{AddsFileList, HasNumbersOf, HaveFiles}

@@ -1,6 +1,6 @@
 use Rattle.std.proofs.lemmas.Result.{on_ok_weaker}
-use Rattle.gm_graph_cache.specs.Cached.{modules_in}
-use Rattle.gm_graph_cache.proofs.Keeping.{knows_still}
+use Rattle.gm_graph.specs.Cached.{modules_in}
+use Rattle.gm_graph.proofs.Keeping.{knows_still}
 use Rattle.gm_graph.specs.Builder.{turn_of}
 use Rattle.gm_graph.proofs.Caching.{continues_both, on_ok_two, overflows_at, visited_by}
 use Rattle.gm_graph.proofs.FileLists.{have_files_known, have_files_lent}

@@ -1,6 +1,6 @@
 use Rattle.std.proofs.lemmas.Result.{err_from_is_err_and}
 use Rattle.std.specs.Option.{option_copied}
-use Rattle.gm_graph_cache.specs.Main.{main_of}
+use Rattle.gm_graph.specs.Main.{main_of}
 use Rattle.gm_graph_listing.proofs.CommandOutcomes.{both_read, main_ok, main_told, sums_told}
 use Rattle.gm_graph_listing.proofs.answering.read_files.Goals as goal
 

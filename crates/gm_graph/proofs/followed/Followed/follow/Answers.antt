@@ -1,5 +1,5 @@
 use Rattle.std.proofs.Common.{◌∙◌, sym}
-use Rattle.gm_graph_cache.specs.Lent.{lent_modules, lent_table}
+use Rattle.gm_graph.specs.Lent.{lent_modules, lent_table}
 use Rattle.gm_graph.specs.Builder.{turns_of}
 use Rattle.gm_graph.proofs.FollowedFiles.{adds_no_file, adds_there}
 use Rattle.gm_graph.proofs.followed.Followed.follow.Goals as goal

@@ -1,6 +1,6 @@
 use Rattle.std.proofs.Common.{Err, List, ap, arith, subst, sym}
 use Rattle.gm_name.specs.ModuleVersion.{ModuleVersion}
-use Rattle.gm_graph_cache.specs.Lent.{lent_table}
+use Rattle.gm_graph.specs.Lent.{lent_table}
 use Rattle.gm_graph.specs.Builder.{turns_of}
 use Rattle.gm_graph.specs.Turns.{OverflowsWith}
 use Rattle.gm_graph.proofs.AddingAll.{adds_number, keeps_both, overflow_at}

@@ -1,6 +1,6 @@
 use Rattle.std.proofs.Common.{◌≤◌, length, take}
 use Rattle.gm_name_table.specs.Listed.{modules_at}
-use Rattle.gm_graph_cache.specs.Lent.{lent_table}
+use Rattle.gm_graph.specs.Lent.{lent_table}
 use Rattle.gm_graph.specs.Builder.{IsBuilder, KeepsGraph, turns_of}
 use Rattle.gm_graph.specs.Turns.{AddsAll}
 use Rattle.gm_graph.proofs.graph_builder.GraphBuilder.add_all.Given as goal

@@ -1,6 +1,6 @@
 use Rattle.std.proofs.Common.{◌++◌, ◌∙◌, List, ap, map}
 use Rattle.gm_name.specs.ModuleVersion.{ModuleVersion}
-use Rattle.gm_graph_cache.specs.Lent.{lent_modules, lent_table}
+use Rattle.gm_graph.specs.Lent.{lent_modules, lent_table}
 use Rattle.gm_graph_select.specs.Adjacency.{StepEdges, edges_of, step_with}
 use Rattle.gm_graph_select.specs.Graph.{edge}
 use Rattle.gm_graph.specs.Builder.{edges_in}

@@ -1,0 +1,29 @@
+use Rattle.std.proofs.Common.{inr, refl}
+use Rattle.gm_store.specs.Asked.{name_of}
+use Rattle.gm_store.proofs.Serving.{request_served}
+use Rattle.gm_graph.proofs.Keeping.{holds_grown, holds_itself}
+use Rattle.gm_graph.proofs.cache.Cache.read_file.Goals as goal
+
+pub returns-in_err-ask-clause-served : goal.returns-in_err-ask-clause-served
+returns-in_err-ask-clause-served g c = request_served _ _ (g.F.Asks.state c.args.files.now) (g.F.Asks.state c.ask.new.self) (name_of c.args.name.now) c.ask.result c.ask.ensures
+
+pub returns-in_err-kept-clause-served : goal.returns-in_err-kept-clause-served
+returns-in_err-kept-clause-served g c = request_served _ _ (g.F.Asks.state c.args.files.now) (g.F.Asks.state c.ask.new.self) (name_of c.args.name.now) c.ask.result c.ask.ensures
+
+pub returns-clause-served : goal.returns-clause-served
+returns-clause-served g c = request_served _ _ (g.F.Asks.state c.args.files.now) (g.F.Asks.state c.ask.new.self) (name_of c.args.name.now) c.ask.result c.ask.ensures
+
+pub returns-in_err-kept-clause-asks : goal.returns-in_err-kept-clause-asks
+returns-in_err-kept-clause-asks g c = let (reply, _, _, adds) = c.in_ok-ask.ensures.answered in inr (reply, c.requires.fresh, adds)
+
+pub returns-clause-asks : goal.returns-clause-asks
+returns-clause-asks g c = let (reply, _, _, adds) = c.in_ok-ask.ensures.answered in inr (reply, c.requires.fresh, adds)
+
+pub returns-in_err-ask-clause-holds : goal.returns-in_err-ask-clause-holds
+returns-in_err-ask-clause-holds g c = holds_itself c.args.self.now
+
+pub returns-in_err-kept-clause-holds : goal.returns-in_err-kept-clause-holds
+returns-in_err-kept-clause-holds g c = holds_grown c.args.self.now _ refl refl refl c.summarize.ensures.grows c.requires.lends
+
+pub returns-clause-holds : goal.returns-clause-holds
+returns-clause-holds g c = holds_grown c.args.self.now _ refl refl refl c.summarize.ensures.grows c.requires.lends

@@ -1,0 +1,131 @@
+-- What a cache holds, what it finds of a vertex, and which requirements it returns.
+use Rattle.std.specs.Prelude.{◌≡◌, ◌<◌, ℕ, List, [], ◌∷◌, ◌++◌, Option, Some, None, MatchResult, Result, Ok, Err, length, slice_get}
+use Rattle.std.specs.Option.{option_copied, option_map}
+use Rattle.std.specs.Borrow.{Fml, MutBor}
+use Rattle.std.specs.Io.BufRead.{Rests}
+use Rattle.gm_name.specs.ModuleVersion.{ModuleVersion, module_at}
+use Rattle.gm_name_table.specs.Listed.{BeginsWith, listed}
+use Rattle.gm_file.specs.Fields.{Dependency}
+use Rattle.gm_store.specs.Asked.{Name, Reply}
+use Rattle.gm_store_sums.specs.Sums.{Sums}
+use Rattle.gm_graph.specs.declared.cache.class.Class.{Class}
+use Rattle.gm_graph.specs.declared.cache.depth.Turn.{Turn}
+use Rattle.gm_graph.specs.declared.cache.finding.Finding.{Finding}
+use Rattle.gm_graph.specs.declared.cache.finding.Finding.TheVariants.{Fault, Sound}
+use Rattle.gm_graph.specs.declared.cache.summary.Kept.{Kept}
+use Rattle.gm_graph.specs.declared.cache.Cache.{Cache}
+use Rattle.gm_graph.specs.Main.{Main, main_of}
+use Rattle.gm_graph.specs.FileTable.{kept_at}
+use Rattle.gm_graph.specs.Summaries.{IsKept, summary_reading}
+use Rattle.gm_graph.specs.Reading.{Held, Tells, readings_by, file_of}
+use mir.Syntax.{named}
+use Rattle.gm_graph.specs.contracts.cache.Cache.{the_row}
+
+-- the main file of a cache
+abbrev pub main_in : Cache → Main
+main_in cache = main_of cache.main.now
+
+-- the go.sum of a cache, if it has one
+abbrev pub sums_in : Cache → Option Sums
+sums_in cache = option_copied cache.sums
+
+-- the turns whose requirements were requested
+abbrev pub turns_in : Cache → List Turn
+turns_in cache = cache.turns.items
+
+-- the modules that have numbers, each at the place that is its number
+abbrev pub modules_in : Cache → List ModuleVersion
+modules_in cache = cache.modules.modules
+
+-- the module with a number
+abbrev pub numbered : Cache → ℕ → ModuleVersion
+numbered cache number = module_at (modules_in cache) number
+
+-- what is kept of the file of a name
+abbrev pub summary_at : Cache → Name → Option Kept
+summary_at cache name = kept_at (modules_in cache) cache.files name
+
+-- how many files are kept, and what is kept of the one at a place
+abbrev pub file_count : Cache → ℕ
+file_count cache = length cache.files.files.items
+
+abbrev pub kept_file : Cache → ℕ → Option Kept
+kept_file cache place = slice_get cache.files.files.items place
+
+-- what a cache holds of the file of each name
+abbrev pub held_of : Cache → Held
+held_of cache name = option_map (summary_reading (listed cache.modules)) (summary_at cache name)
+
+-- Each summary has the requirements of its file, without the excluded ones, and the list of modules has both.
+abbrev pub LendsKept : Cache → Type 0
+LendsKept cache = (name : Name) (one : Kept) → summary_at cache name ≡ Some one
+    → IsKept (main_in cache) (listed cache.modules) one
+
+-- The cache holds what these replies say, and nothing else.
+pub record Knows (cache : Cache) (pairs : List (Name × Reply)) : Type 0 where
+  pub tells : Tells (sums_in cache) pairs (held_of cache)
+  pub lends : LendsKept cache
+
+-- ---- what is found of a vertex
+
+-- what was read of the file at a place
+abbrev pub read_at : Cache → ℕ → Option (Result Dependency Class)
+read_at cache place = option_map (summary_reading (listed cache.modules)) (kept_file cache place)
+
+-- The vertex has no fault, and what is kept at this place is what was read of its file.
+pub record IsSound (cache : Cache) (x : ModuleVersion) (place : ℕ) : Type 0 where
+  pub within : place < file_count cache
+  pub kept : kept_file cache place ≡ summary_at cache (file_of (main_in cache) x)
+  pub file : Dependency
+  pub reading : readings_by (main_in cache) (held_of cache) x ≡ Some (Ok file)
+
+-- What is found of a vertex: its fault, or the place of its file if that has no fault.
+abbrev pub IsFinding : Cache → ModuleVersion → Finding → Type 0
+IsFinding cache x (Fault class) = readings_by (main_in cache) (held_of cache) x ≡ Some (Err class)
+IsFinding cache x (Sound place) = IsSound cache x place
+
+-- The place at which a vertex's requirements are found: none if the vertex has a fault, otherwise that of its file.
+abbrev pub IsLender : Cache → ModuleVersion → Option ℕ → Type 0
+IsLender cache x None = (class : Class) × (readings_by (main_in cache) (held_of cache) x ≡ Some (Err class))
+IsLender cache x (Some place) = IsSound cache x place
+
+-- Each file is at the place at which it was.
+abbrev pub KeepsSound : Cache → Cache → Type 0
+KeepsSound old new = (x : ModuleVersion) (place : ℕ) → IsSound old x place → IsSound new x place
+
+-- ---- what changes
+
+-- The main file, the go.sum and what is held of each file are the same, requirements can still be returned, and what
+-- had a number or a place has it still. More modules may have numbers.
+pub record HoldsSame (old new : Cache) : Type 0 where
+  pub main : new.main.now ≡ old.main.now
+  pub sums : sums_in new ≡ sums_in old
+  pub held : (name : Name) → held_of new name ≡ held_of old name
+  pub lends : LendsKept old → LendsKept new
+  pub numbered : BeginsWith (modules_in old) (modules_in new)
+  pub sound : KeepsSound old new
+
+-- the same main file, go.sum and list of turns
+pub record LentSame (old new : Cache) : Type 0 where
+  pub main : new.main.now ≡ old.main.now
+  pub sums : sums_in new ≡ sums_in old
+  pub turns : turns_in new ≡ turns_in old
+
+-- The list has one more turn at its end, and everything else is the same.
+pub record AddsTurn (old new : Cache) (one : Turn) : Type 0 where
+  pub turns : turns_in new ≡ turns_in old ++ one ∷ []
+  pub modules : modules_in new ≡ modules_in old
+  pub holds : HoldsSame old new
+
+-- Everything is the same.
+pub record IsUnchanged (old new : Cache) : Type 0 where
+  pub turns : turns_in new ≡ turns_in old
+  pub modules : modules_in new ≡ modules_in old
+  pub holds : HoldsSame old new
+
+-- Once the borrow of the requirements ends, the cache has one more turn. If the call was refused, the cache is
+-- unchanged.
+abbrev pub Lends : {T E : Type 0} → MutBor Cache → Turn → Result T E → Fml
+Lends cache one result =
+    Rests (the_row (record { mir = named 1; lft = [] })) cache
+    (λ end. MatchResult result (λ _. AddsTurn cache.now end one) (λ _. IsUnchanged cache.now end))

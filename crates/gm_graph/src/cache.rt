@@ -1,0 +1,395 @@
+//! What modules' files say, or their faults, and the cache that reads them. The modules in the folder have its parts.
+//!
+//! A vertex of the module graph is a module path at a version. Which file a vertex has depends on the main module's
+//! file: a `replace` may put a folder or another module in its place. That file is asked of a store, checked
+//! against a go.sum if there is one, and read as a dependency's file. The result is either a fault of one of the
+//! classes of `Class`, or the file's requirements less those that the main file excludes.
+//!
+//! For example, with `replace example.com/a v1.2.0 => ../a` in the main file, the vertex `example.com/a v1.2.0` is
+//! read from the folder `../a`, and no go.sum applies to it. Without the `replace` its file is the one that a proxy
+//! has for that version; if the proxy has none, the vertex's fault is `Missing`.
+//!
+//! The cache exists so that each file is asked for and parsed once, however many vertices and turns need it. The test of
+//! the declared path depends on the vertex, not on the file alone, and is therefore repeated for each vertex.
+
+pub(crate) mod class;
+pub(crate) mod depth;
+pub(crate) mod file_table;
+pub(crate) mod finding;
+pub(crate) mod lent;
+pub(crate) mod load_fault;
+pub(crate) mod main_view;
+pub(crate) mod naming;
+pub(crate) mod paths;
+pub(crate) mod reading;
+pub(crate) mod summary;
+
+ghost use Rattle.std.specs.Prelude.{◌≡◌, ◌≤◌, ◌<◌, ◌++◌, ◌∷◌, [], IfOk, OnOk, OnErr, MatchOption, None, Err, length, take, true};
+ghost use Rattle.std.specs.Option.{option_copied};
+ghost use Rattle.gm_name.specs.ModuleVersion.{ModuleVersion};
+ghost use Rattle.gm_name_table.specs.Listed.{listed};
+ghost use Rattle.gm_store.specs.Asked.{IsWithinLimit, Reply, answer_in, name_of, reply_of};
+ghost use Rattle.gm_store.specs.Requests.{refused_for};
+ghost use Rattle.gm_store.specs.States.{AddsAnswer, HasServed};
+ghost use Rattle.gm_store.specs.declared.files.FileName.{FileName};
+ghost use Rattle.gm_graph.specs.Main.{main_of, without_excluded};
+ghost use Rattle.gm_graph.specs.Asking.{AsksAtMost, AsksFor, StillLacks};
+ghost use Rattle.gm_graph.specs.Reading.{IsFileReading, KeepsHeld, file_of, is_askable as may_be_asked, is_unpruned, is_unpruned_in, readings_by, said_in, vertex_requirements};
+ghost use Rattle.gm_graph.specs.Refusals.{refused_in};
+ghost use Rattle.gm_graph.specs.FileTable.{PutsFile, HasReplacing};
+ghost use Rattle.gm_graph.specs.Lent.{lent_modules};
+ghost use Rattle.gm_graph.specs.Summaries.{Grows, IsKept, summary_reading};
+ghost use Rattle.gm_graph.specs.Turns.{turn};
+
+use crate::cache::class::Class;
+use crate::cache::depth::{Depth, Turn};
+use crate::cache::file_table::FileTable;
+use crate::cache::finding::Finding;
+use crate::cache::lent::Lent;
+use crate::cache::load_fault::LoadFault;
+use crate::cache::naming::{file_name, is_askable};
+use crate::cache::paths::is_right_path;
+use crate::cache::reading::{ListedReading, read_answer};
+use crate::cache::summary::{Kept, ListSpan, summary_of};
+use gm_file::MainFile;
+use gm_name::{KnownNames, ModVer, NoMemory};
+use gm_name_table::ModuleList;
+use gm_store::{Answer, AskFault, Asks, FileName};
+use gm_store_sums::SumTable;
+use std::alloc::Global;
+
+/// What was read of the files that a store was asked for, and the turns whose requirements were requested. Only the
+/// cache reads a store's answers, and it reads each of them once, at the time of asking. The test of the declared
+/// path is made for each vertex.
+#[derive(Drop)]
+pub struct Cache<'a> {
+    /// The allocator of all that the cache holds.
+    alloc: Global,
+    /// The main module's file.
+    main: &'a MainFile<'a>,
+    /// The go.sum, if there is one.
+    sums: Option<&'a SumTable<'a>>,
+    /// The paths and versions that the files share.
+    names: KnownNames,
+    /// The requirements of the main file and of all that were read, one file after another. All modules have numbers.
+    modules: ModuleList,
+    /// How many modules at the front of the list are requirements of the main file, without the excluded ones.
+    first: usize,
+    /// What was read of each file, or what is wrong with it.
+    files: FileTable,
+    /// The turns whose requirements were requested, in order.
+    turns: Vec<Turn>,
+    ghost first_within: { first ≤ length modules.numbers },
+    ghost first_are: { take first (listed modules)
+        ≡ without_excluded (main_of main.now) (main_of main.now).requirements },
+    ghost own_within: { length files.own.items ≤ length modules.modules },
+    ghost has_replacing: { HasReplacing (main_of main.now) files },
+}
+
+/// A table of names without a limit, which knows the paths that the main file requires.
+fn names_for(alloc: Global, main: &MainFile) -> Result<KnownNames, NoMemory> {
+    let mut names = KnownNames::new(alloc, usize::MAX);
+    for y in main_view::requirements(main) {
+        names.learn(y.path())?;
+    }
+    Ok(names)
+}
+
+/// The modules that the main file requires, without the excluded ones.
+fn first_modules(alloc: Global, main: &MainFile) -> Result<ModuleList, NoMemory>
+    ensures { IfOk result (λ modules. listed modules
+        ≡ without_excluded (main_of main.now) (main_of main.now).requirements) }
+{
+    let mut modules = ModuleList::new(alloc);
+    for y in main_view::requirements(main) {
+        if !main_view::is_excluded(main, y) {
+            modules.push(y)?;
+        }
+    }
+    Ok(modules)
+}
+
+/// Expects the path of the module whose file has this name, since nearly all files declare it.
+fn expect_path(names: &mut KnownNames, name: &FileName) -> Result<(), NoMemory> {
+    match name {
+        FileName::Mod(path, _) => names.expect(path),
+        FileName::Folder(_) | FileName::List(_) => Ok(()),
+    }
+}
+
+/// What an answer says, without the excluded requirements, or what is wrong with it.
+fn summarize(
+    alloc: Global,
+    names: &mut KnownNames,
+    modules: &mut ModuleList,
+    main: &MainFile,
+    sums: Option<&SumTable>,
+    name: &FileName,
+    answer: &Answer,
+) -> Result<Kept, NoMemory>
+    ensures reading { IfOk result (λ kept. IsWithinLimit (reply_of answer.now)
+        → IsFileReading (option_copied sums.entry) (name_of name.now) (reply_of answer.now)
+        (summary_reading (listed modules.new) kept)) }
+    ensures kept { IfOk result (IsKept (main_of main.now) (listed modules.new)) }
+    ensures grows { Grows modules.old modules.new }
+{
+    expect_path(names, name)?;
+    let start = modules.len();
+    match read_answer(alloc, names, modules, sums, name, answer)? {
+        ListedReading::Valid(file) => {
+            let summary = summary_of(alloc, modules, main, file, start)?;
+            Ok(Kept::Valid(summary))
+        }
+        ListedReading::Faulty(class) => Ok(Kept::Faulty(class)),
+    }
+}
+
+/// Appends a turn to the list.
+fn push_turn(
+    alloc: Global,
+    turns: &mut Vec<Turn>,
+    vertex: &ModVer,
+    depth: Depth,
+) -> Result<(), NoMemory>
+    ensures ok { OnOk result (turns.new.items ≡ turns.old.items ++ turn vertex.now depth ∷ []) }
+    ensures err { OnErr result (turns.new.items ≡ turns.old.items) }
+{
+    turns.push(Turn {
+        vertex: vertex.copy(alloc)?,
+        depth,
+    })?;
+    Ok(())
+}
+
+impl<'a> Cache<'a> {
+    ghost use Rattle.std.specs.Borrow.{sem};
+    ghost use Rattle.std.specs.List.{IsDistinct};
+    ghost use Rattle.gm_name.specs.ModuleVersion.{pair_eq};
+    ghost use Rattle.gm_name_table.specs.Listed.{BeginsWith};
+    ghost use Rattle.gm_graph.specs.Cached.{HoldsSame, IsFinding, IsLender, IsSound, KeepsSound, Knows, LendsKept, LentSame, Lends, kept_file, file_count, held_of, main_in, modules_in, numbered, read_at, summary_at, sums_in, turns_in};
+    ghost use Rattle.gm_graph.specs.Lent.{lent_table};
+
+    /// A cache for a main file, without files. If there is a go.sum, the files that come from proxies are checked
+    /// against it. The only refusal is `NoMemory`.
+    ///
+    /// The paths that the main file requires are known from the start, since many files name them.
+    pub fn new(
+        alloc: Global,
+        main: &'a MainFile<'a>,
+        sums: Option<&'a SumTable<'a>>,
+    ) -> Result<Cache<'a>, NoMemory>
+        ensures main { IfOk result (λ cache. main_in cache ≡ main_of main.entry.now) }
+        ensures sums { IfOk result (λ cache. sums_in cache ≡ option_copied sums.entry) }
+        ensures knows { IfOk result (λ cache. Knows cache []) }
+        ensures turns { IfOk result (λ cache. turns_in cache ≡ []) }
+    {
+        let names = names_for(alloc, main)?;
+        let files = FileTable::new(alloc, main)?;
+        let modules = first_modules(alloc, main)?;
+        let first = modules.len();
+        Ok(Cache {
+            alloc,
+            main,
+            sums,
+            names,
+            modules,
+            first,
+            files,
+            turns: Vec::new(alloc),
+        })
+    }
+
+    /// Asks for the file of a name that was not asked for, and reads it.
+    fn read_file<F: Asks>(&mut self, files: &mut F, name: &FileName) -> Result<Kept, AskFault>
+        requires fresh { answer_in (F.state files.old).asked (name_of name.now) ≡ None }
+        requires lends { LendsKept self.old }
+        ensures reading { IfOk result (λ kept. (reply : Reply)
+            × AddsAnswer (F.state files.old) (F.state files.new) (name_of name.now) reply
+            × IsFileReading (sums_in self.old) (name_of name.now) reply
+            (summary_reading (listed self.new.modules) kept)) }
+        ensures kept { IfOk result (IsKept (main_in self.old) (listed self.new.modules)) }
+        ensures holds { HoldsSame self.old self.new }
+        ensures lent { LentSame self.old self.new }
+        ensures files { self.new.files ≡ self.old.files }
+        ensures asks { AsksAtMost (F.state files.old) (F.state files.new) (name_of name.now) }
+        ensures device { result ≡ Err AskFault.Device
+            → (F.state files.new).asked ≡ (F.state files.old).asked }
+        ensures refused { (F.state files.new).refused
+            ≡ (F.state files.old).refused ++ refused_for (name_of name.now) result }
+        ensures served { HasServed (F.may_answer files.old) (F.may_answer files.new)
+            (F.state files.old) (F.state files.new) }
+    {
+        files.ask(name)?;
+        let kept = summarize(
+            self.alloc,
+            &mut self.names,
+            &mut self.modules,
+            self.main,
+            self.sums,
+            name,
+            files.last(),
+        )?;
+        Ok(kept)
+    }
+
+    /// What is found of a vertex whose file is kept at this place.
+    fn finding(&self, x: &ModVer, place: u32) -> Finding
+        requires within { place < file_count self.now }
+        requires kept { kept_file self.now place ≡ summary_at self.now (file_of (main_in self.now) x.now) }
+        requires askable { may_be_asked (file_of (main_in self.now) x.now) ≡ true }
+        ensures { IsFinding self.now x.now result }
+    {
+        match self.files.at(place) {
+            Kept::Faulty(class) => Finding::Fault(*class),
+            Kept::Valid(summary) => {
+                if is_right_path(self.main, x, &summary.file) {
+                    Finding::Sound(place)
+                } else {
+                    Finding::Fault(Class::WrongPath)
+                }
+            }
+        }
+    }
+
+    /// What is found of the vertex with a number, if its file, which has this name, was read.
+    fn found(&self, name: &FileName, number: u32) -> Option<Finding>
+        requires vertex { number < length (modules_in self.now) }
+        requires file { name_of name.now ≡ file_of (main_in self.now) (numbered self.now number) }
+        requires askable { may_be_asked (name_of name.now) ≡ true }
+        ensures { MatchOption result (summary_at self.now (name_of name.now) ≡ None)
+            (IsFinding self.now (numbered self.now number)) }
+    {
+        let x = self.modules.module(number);
+        let place = self.files.place_of(name, number)?;
+        Some(self.finding(x, place))
+    }
+
+    /// Keeps what was read of the file of the vertex with a number, of which nothing was kept, and reports what is
+    /// found of the vertex. The only refusal is `NoMemory`, which leaves the cache unchanged.
+    fn keep(&mut self, number: u32, name: &FileName, kept: Kept) -> Result<Finding, NoMemory>
+        requires vertex { number < length (modules_in self.old) }
+        requires file { name_of name.now ≡ file_of (main_in self.old) (numbered self.old number) }
+        requires askable { may_be_asked (name_of name.now) ≡ true }
+        ensures adds { OnOk result
+            (PutsFile (modules_in self.old) self.old.files self.new.files (name_of name.now) kept) }
+        ensures modules { self.new.modules ≡ self.old.modules }
+        ensures distinct { OnOk result (IsDistinct pair_eq (modules_in self.new)) }
+        ensures files { BeginsWith self.old.files.files.items self.new.files.files.items }
+        ensures finding { IfOk result (IsFinding self.new (numbered self.old number)) }
+        ensures lent { LentSame self.old self.new }
+        ensures err { OnErr result (HoldsSame self.old self.new) }
+    {
+        let place = self.files.add(name, number, kept)?;
+        Ok(self.finding(self.modules.module(number), place))
+    }
+
+    /// The module with a number. Numbers never change.
+    pub fn module(&self, number: u32) -> &ModVer
+        requires { number < length (modules_in self.now) }
+        ensures module { result.now ≡ numbered self.now number }
+        ensures distinct { IsDistinct pair_eq (modules_in self.now) }
+    {
+        self.modules.module(number)
+    }
+
+    /// The requirements of the main file, without the excluded ones.
+    pub fn first_requirements(&self) -> Lent<'_>
+        ensures modules { lent_modules result
+            ≡ without_excluded (main_in self.now) (main_in self.now).requirements }
+        ensures table { lent_table result ≡ modules_in self.now }
+    {
+        let span = ListSpan {
+            start: 0,
+            end: self.first,
+        };
+        Lent::at(&self.modules, span)
+    }
+
+    /// Makes the file of the vertex with a number known, and reports what is found of the vertex. The store is asked
+    /// for that file unless it is known already, or comes from a proxy and its path isn't fetchable.
+    ///
+    /// `NoMemory` is returned if memory runs out; the store may then hold an answer that the cache doesn't.
+    /// `Device` is returned exactly if the store's device fails in this request. `TooMany` is never returned. After
+    /// any refusal the cache holds the same; more modules may have numbers.
+    pub fn known<F: Asks>(&mut self, files: &mut F, number: u32) -> Result<Finding, LoadFault>
+        requires knows { Knows self.old (F.state files.old).asked }
+        requires vertex { number < length (modules_in self.old) }
+        ensures knows { OnOk result (Knows self.new (F.state files.new).asked) }
+        ensures finding { IfOk result (IsFinding self.new (numbered self.old number)) }
+        ensures lent { LentSame self.old self.new }
+        ensures grows { KeepsHeld (held_of self.old) (held_of self.new) }
+        ensures numbered { BeginsWith (modules_in self.old) (modules_in self.new) }
+        ensures distinct { OnOk result (IsDistinct pair_eq (modules_in self.new)) }
+        ensures sound { KeepsSound self.old self.new }
+        ensures err { OnErr result (HoldsSame self.old self.new) }
+        ensures asks { AsksFor (main_in self.old) (F.state files.old) (F.state files.new) (numbered self.old number) }
+        ensures not_too_many { result ≡ Err LoadFault.TooMany → ⊥ }
+        ensures device { (name : FileName) → result ≡ Err (LoadFault.Device name)
+            → StillLacks (main_in self.old) (F.state files.old) (F.state files.new)
+            (numbered self.old number) (name_of name) }
+        ensures refused { (F.state files.new).refused ≡ (F.state files.old).refused ++ refused_in result }
+        ensures served { HasServed (F.may_answer files.old) (F.may_answer files.new)
+            (F.state files.old) (F.state files.new) }
+    {
+        let name = file_name(self.alloc, self.main, self.modules.module(number))?;
+        if !is_askable(&name) {
+            return Ok(Finding::Fault(Class::NotFetchable));
+        }
+        if let Some(finding) = self.found(&name, number) {
+            return Ok(finding);
+        }
+        match self.read_file(files, &name) {
+            Ok(kept) => Ok(self.keep(number, &name, kept)?),
+            Err(AskFault::NoMemory) => Err(LoadFault::NoMemory),
+            Err(AskFault::Device) => Err(LoadFault::Device(name)),
+        }
+    }
+
+    /// Returns the requirements of the vertex with a number, without the excluded ones, and appends the vertex and the
+    /// depth to the list of turns. For a vertex with a fault `place` is `None`, and there are no requirements; for any
+    /// other vertex `place` is that of its file. `NoMemory`, the only refusal, leaves the cache unchanged.
+    pub fn lend(
+        &mut self,
+        number: u32,
+        depth: Depth,
+        place: Option<u32>,
+    ) -> Result<Lent<'_>, NoMemory>
+        requires lends { LendsKept self.old }
+        requires vertex { number < length (modules_in self.old) }
+        requires lender { IsLender self.old (numbered self.old number) place }
+        ensures lent { IfOk result (λ lent. lent_modules lent ≡ vertex_requirements (main_in self.old)
+            (readings_by (main_in self.old) (held_of self.old)) (numbered self.old number)) }
+        ensures table { IfOk result (λ lent. lent_table lent ≡ modules_in self.old) }
+        ensures* after { sem 𝓛 (Lends self.entry (turn (numbered self.entry.now number) depth) result) }
+    {
+        let span = self.files.span_of(place);
+        push_turn(
+            self.alloc,
+            &mut self.turns,
+            self.modules.module(number),
+            depth,
+        )?;
+        Ok(Lent::at(&self.modules, span))
+    }
+
+    /// Whether the file at a place has no fault and is unpruned, that is, whether the first two numbers of its go
+    /// version are below 1.17 (Go Modules Reference, "Module graph pruning").
+    pub fn is_unpruned(&self, place: u32) -> bool
+        requires { place < file_count self.now }
+        ensures read { result ≡ is_unpruned_in (said_in (read_at self.now place)) }
+        ensures vertex { (x : ModuleVersion) → IsSound self.now x place
+            → result ≡ is_unpruned (readings_by (main_in self.now) (held_of self.now)) x }
+    {
+        self.files.at(place).is_unpruned()
+    }
+
+    /// The modules in the order of their numbers, and the list of turns. The rest of the cache is dropped.
+    pub fn into_parts(self) -> (Vec<ModVer>, Vec<Turn>)
+        ensures modules { result.0.items ≡ modules_in self.entry }
+        ensures distinct { IsDistinct pair_eq result.0.items }
+        ensures few { length result.0.items ≤ 4294967295 }
+        ensures turns { result.1.items ≡ turns_in self.entry }
+    {
+        (self.modules.into_modules(), self.turns)
+    }
+}

@@ -1,0 +1,12 @@
+//! The result of looking at the file of a vertex.
+
+use crate::cache::class::Class;
+
+/// What is found of a vertex.
+#[derive(Debug, Drop, PartialEq, Eq)]
+pub enum Finding {
+    /// The vertex has this fault.
+    Fault(Class),
+    /// The vertex has no fault, and the cache keeps its file at this place.
+    Sound(u32),
+}

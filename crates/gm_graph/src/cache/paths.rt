@@ -1,0 +1,42 @@
+//! Whether a file declares the path under which it is required.
+//!
+//! A file that declares another path belongs to another module, so its requirements would be wrong for the vertex.
+
+ghost use Rattle.std.specs.Prelude.{◌≡◌, Some};
+ghost use Rattle.gm_file.specs.Views.{right_view};
+ghost use Rattle.gm_graph.specs.Main.{main_of, replacement_in};
+ghost use Rattle.gm_graph.specs.Reading.{declares, is_right_path};
+
+use crate::cache::main_view::replacement;
+use gm_file::{ListedFile, MainFile, Right};
+use gm_name::{ModPath, ModVer};
+
+/// Whether a file declares this path.
+fn declares(path: &ModPath, file: &ListedFile) -> bool
+    ensures { result ≡ declares path.now file.now.declared }
+{
+    match file.module() {
+        None => false,
+        Some(declared) => *declared == *path,
+    }
+}
+
+/// Whether a file declares a right path for a vertex.
+pub(crate) fn is_right_path(main: &MainFile, x: &ModVer, file: &ListedFile) -> bool
+    ensures { result ≡ is_right_path x.now (replacement_in (main_of main.now) x.now) file.now.declared }
+{
+    match replacement(main, x) {
+        None => declares(x.path(), file),
+        Some(right) => is_right_through(right, x, file),
+    }
+}
+
+/// Whether a file declares a right path for a vertex that is replaced.
+fn is_right_through(right: &Right, x: &ModVer, file: &ListedFile) -> bool
+    ensures { result ≡ is_right_path x.now (Some (right_view right.now)) file.now.declared }
+{
+    match right {
+        Right::Folder(_) => true,
+        Right::Module(path, _) => declares(x.path(), file) || declares(path, file),
+    }
+}

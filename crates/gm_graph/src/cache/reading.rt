@@ -1,0 +1,143 @@
+//! From a store's answer to the contents of a dependency's file.
+
+ghost use Rattle.std.specs.Prelude.{◌≡◌, ◌≤◌, ◌<◌, ℕ, List, drop, length, Err, IfOk};
+ghost use Rattle.gm_name_table.specs.Listed.{listed};
+ghost use Rattle.gm_file.specs.DepLines.{IsMisread};
+ghost use Rattle.std.specs.Option.{option_copied};
+ghost use Rattle.gm_store.specs.Asked.{IsWithinLimit, name_of, reply_of};
+ghost use Rattle.gm_graph.specs.Reading.{IsContentReading, IsFileReading, class_of_sum, sum_fault};
+ghost use Rattle.gm_graph.specs.Summaries.{Grows, listed_reading, reading_of};
+
+use crate::cache::class::{Class, Misreading};
+use gm_file::{DepFile, ListedFile, ReadFault};
+use gm_name::{KnownNames, NoMemory};
+use gm_name_table::ModuleList;
+use gm_store::{Answer, FileName};
+use gm_store_sums::{Sum, SumTable};
+use std::alloc::{AllocError, Global};
+
+/// What a file says, or what is wrong with it.
+#[derive(Drop)]
+pub enum FileReading {
+    /// The file is valid, and these are its contents.
+    Valid(DepFile),
+    /// The file has this fault.
+    Faulty(Class),
+}
+
+/// What a file says other than its requirements, which are in the list of modules, or what is wrong with it.
+#[derive(Drop)]
+pub(crate) enum ListedReading {
+    /// The file is valid, and says this beside its requirements.
+    Valid(ListedFile),
+    /// The file has this fault.
+    Faulty(Class),
+}
+
+impl FileReading {
+    /// What a dependency's file with these bytes says, or why they can't be read: `Malformed` with `TooMany` exactly
+    /// if there are more than 16 MiB. The only refusal is `NoMemory`.
+    pub fn of_bytes(
+        alloc: Global,
+        names: &mut KnownNames,
+        content: &[u8],
+    ) -> Result<FileReading, NoMemory>
+        ensures reading { IfOk result (λ read. length content.now ≤ 16777216
+            → IsContentReading content.now (reading_of read)) }
+        ensures too_many { IfOk result (λ read. 16777216 < length content.now
+            → reading_of read ≡ Err (Class.Malformed 0 Misreading.TooMany)) }
+    {
+        match DepFile::read_bytes(alloc, names, content) {
+            Ok(file) => Ok(FileReading::Valid(file)),
+            Err(fault) => Ok(FileReading::Faulty(class_of_misread(fault)?)),
+        }
+    }
+}
+
+/// The class of a failed hash check, or `None` if the hash is right.
+fn class_of(sum: Sum) -> Option<Class>
+    ensures { result ≡ class_of_sum sum }
+{
+    match sum {
+        Sum::Good => None,
+        Sum::Unlisted => Some(Class::NoSum),
+        Sum::Differs => Some(Class::SumDiffers),
+    }
+}
+
+/// What a go.sum finds wrong with the bytes of a file. Only files of proxies have hashes.
+fn sum_fault(sums: Option<&SumTable>, name: &FileName, content: &[u8]) -> Option<Class>
+    ensures { result ≡ sum_fault (option_copied sums.entry) (name_of name.now) content.now }
+{
+    let table = sums?;
+    match name {
+        FileName::Mod(path, version) => class_of(table.check_content(path, version, content)),
+        FileName::Folder(_) | FileName::List(_) => None,
+    }
+}
+
+/// The class of bytes that can't be read for this reason. The only refusal is `NoMemory`.
+fn class_of_misread(fault: ReadFault) -> Result<Class, NoMemory>
+    ensures reading { IfOk result (λ class. (content : List ℕ) → IsMisread content fault
+        → length content ≤ 16777216 → IsContentReading content (Err class)) }
+    ensures too_many { IfOk result (λ class. (content : List ℕ) → IsMisread content fault
+        → 16777216 < length content → class ≡ Class.Malformed 0 Misreading.TooMany) }
+{
+    match fault {
+        ReadFault::NoMemory => Err(AllocError),
+        ReadFault::TooMany => Ok(malformed(0, Misreading::TooMany)),
+        ReadFault::NotUtf8 => Ok(malformed(0, Misreading::NotUtf8)),
+        ReadFault::Syntax { line, kind } => Ok(malformed(line, Misreading::Syntax(kind))),
+        ReadFault::Directive { line, kind } => Ok(malformed(line, Misreading::Directive(kind))),
+    }
+}
+
+/// The class of bytes that can't be read.
+fn malformed(line: usize, kind: Misreading) -> Class
+    ensures { result ≡ Class.Malformed line kind }
+{
+    Class::Malformed { line, kind }
+}
+
+/// Reads a dependency's file, and puts its requirements at the end of the list of modules. The result is what else it
+/// says, or why it can't be read. The only refusal is `NoMemory`.
+fn read_content(
+    alloc: Global,
+    names: &mut KnownNames,
+    modules: &mut ModuleList,
+    content: &[u8],
+) -> Result<ListedReading, NoMemory>
+    ensures reading { IfOk result (λ read. length content.now ≤ 16777216
+        → IsContentReading content.now (listed_reading (drop (length modules.old.numbers) (listed modules.new)) read)) }
+    ensures grows { Grows modules.old modules.new }
+{
+    match DepFile::read_listed(alloc, names, modules, content) {
+        Ok(file) => Ok(ListedReading::Valid(file)),
+        Err(fault) => Ok(ListedReading::Faulty(class_of_misread(fault)?)),
+    }
+}
+
+/// What an answer says, or what is wrong with it. The requirements go to the end of the list of modules. No store's
+/// answer is over the limit.
+pub(crate) fn read_answer(
+    alloc: Global,
+    names: &mut KnownNames,
+    modules: &mut ModuleList,
+    sums: Option<&SumTable>,
+    name: &FileName,
+    answer: &Answer,
+) -> Result<ListedReading, NoMemory>
+    ensures reading { IfOk result (λ read. IsWithinLimit (reply_of answer.now)
+        → IsFileReading (option_copied sums.entry) (name_of name.now) (reply_of answer.now)
+        (listed_reading (drop (length modules.old.numbers) (listed modules.new)) read)) }
+    ensures grows { Grows modules.old modules.new }
+{
+    match answer {
+        Answer::Absent => Ok(ListedReading::Faulty(Class::Missing)),
+        Answer::TooLong => Ok(ListedReading::Faulty(Class::TooLong)),
+        Answer::Bytes(content) => match sum_fault(sums, name, content) {
+            Some(class) => Ok(ListedReading::Faulty(class)),
+            None => read_content(alloc, names, modules, content),
+        },
+    }
+}

@@ -1,0 +1,145 @@
+//! What the cache keeps of a file that was read.
+//!
+//! The requirements of all files are in one list of modules, since files name the same modules again and again. A
+//! summary says where those of its file are.
+
+ghost use Rattle.std.specs.Prelude.{◌≡◌, ◌≤◌, List, IfOk, OnOk, Some, drop, length};
+ghost use Rattle.std.specs.List.{list_any};
+ghost use Rattle.gm_name.specs.ModuleVersion.{ModuleVersion};
+ghost use Rattle.gm_name_table.specs.Listed.{Appends, listed};
+ghost use Rattle.gm_graph.specs.Main.{is_excluded, without_excluded, main_of};
+ghost use Rattle.gm_graph.specs.Reading.{is_unpruned_in, said_in};
+ghost use Rattle.gm_graph.specs.Summaries.{Grows, IsSummary, at_span, nowhere, span_found, summary_reading};
+
+use crate::cache::class::Class;
+use crate::cache::main_view::{is_excluded, is_pruned};
+use gm_file::{ListedFile, MainFile};
+use gm_name::{ModVer, NoMemory};
+use gm_name_table::{ModuleList, Modules};
+use std::alloc::Global;
+
+/// Where some modules are in the list of modules: from one place to another.
+#[derive(Clone, Copy)]
+pub(crate) struct ListSpan {
+    /// The place of the first one.
+    pub(crate) start: usize,
+    /// The place after the last one.
+    pub(crate) end: usize,
+}
+
+impl ListSpan {
+    /// The span of no modules.
+    pub(crate) fn nowhere() -> ListSpan
+        ensures { result ≡ nowhere }
+    {
+        ListSpan { start: 0, end: 0 }
+    }
+}
+
+/// What the cache keeps of a valid file.
+#[derive(Drop)]
+pub(crate) struct Summary {
+    /// What the file says, other than its requirements.
+    pub(crate) file: ListedFile,
+    /// Where its requirements are.
+    pub(crate) all: ListSpan,
+    /// Where its requirements without the excluded ones are: in the same place if none is excluded, so that most
+    /// files have their requirements in the list once.
+    pub(crate) kept: ListSpan,
+}
+
+/// What the cache keeps of a file.
+#[derive(Drop)]
+pub(crate) enum Kept {
+    /// The file is valid, and this is its summary.
+    Valid(Summary),
+    /// The file has this fault.
+    Faulty(Class),
+}
+
+/// Whether one of these is excluded.
+fn has_excluded(main: &MainFile, mut list: Modules<'_>) -> bool
+    ensures { result ≡ list_any (is_excluded (main_of main.now)) list.entry }
+{
+    list.any(|x| is_excluded(main, x))
+}
+
+/// Copies of those that are not excluded.
+fn copy_kept(alloc: Global, main: &MainFile, list: Modules<'_>) -> Result<Vec<ModVer>, NoMemory>
+    ensures { IfOk result (λ kept. kept.items ≡ without_excluded (main_of main.now) list.entry) }
+{
+    let mut kept = Vec::new(alloc);
+    for x in list {
+        if !is_excluded(main, x) {
+            kept.push(x.copy(alloc)?)?;
+        }
+    }
+    Ok(kept)
+}
+
+/// Appends modules to the list. The only refusal is `NoMemory`, after which the list may have some of them.
+fn append(modules: &mut ModuleList, more: &[ModVer]) -> Result<(), NoMemory>
+    ensures ok { OnOk result (Appends modules.old modules.new more.now) }
+    ensures grows { Grows modules.old modules.new }
+{
+    for x in more {
+        modules.push(x)?;
+    }
+    Ok(())
+}
+
+/// The summary of a file whose requirements are those of the list from this place on. If some are excluded, the
+/// others are appended to the list.
+pub(crate) fn summary_of(
+    alloc: Global,
+    modules: &mut ModuleList,
+    main: &MainFile,
+    file: ListedFile,
+    start: usize,
+) -> Result<Summary, NoMemory>
+    requires { start ≤ length modules.old.numbers }
+    ensures file { IfOk result (λ summary. summary.file ≡ file) }
+    ensures all { IfOk result (λ summary. at_span (listed modules.new) summary.all ≡ drop start (listed modules.old)) }
+    ensures kept { IfOk result (IsSummary (main_of main.now) (listed modules.new)) }
+    ensures grows { Grows modules.old modules.new }
+{
+    let end = modules.len();
+    let all = ListSpan { start, end };
+    if !has_excluded(main, modules.part(start, end)) {
+        return Ok(Summary {
+            file,
+            all,
+            kept: all,
+        });
+    }
+    let others = copy_kept(alloc, main, modules.part(start, end))?;
+    append(modules, &others)?;
+    let kept = ListSpan {
+        start: end,
+        end: modules.len(),
+    };
+    Ok(Summary { file, all, kept })
+}
+
+impl Kept {
+    /// Whether the file is valid and unpruned.
+    pub(crate) fn is_unpruned(&self) -> bool
+        ensures { (modules : List ModuleVersion)
+            → result ≡ is_unpruned_in (said_in (Some (summary_reading modules self.now))) }
+    {
+        match self {
+            Kept::Valid(summary) => !is_pruned(summary.file.go()),
+            Kept::Faulty(_) => false,
+        }
+    }
+
+    /// Where the requirements without the excluded ones are: nowhere if the file has a fault.
+    pub(crate) fn span(&self) -> ListSpan
+        ensures { result ≡ span_found (Some self.now) }
+    {
+        match self {
+            Kept::Valid(summary) => summary.kept,
+            Kept::Faulty(_) => ListSpan::nowhere(),
+        }
+    }
+}

@@ -1,5 +1,0 @@
-use Rattle.gm_graph_cache.proofs.OneReading.{one_reading}
-use Rattle.gm_graph_cache.proofs.laws.replies_say_one_thing.Goals as goal
-
-pub returns : goal.returns
-returns c = one_reading

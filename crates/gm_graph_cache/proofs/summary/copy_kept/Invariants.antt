@@ -1,6 +1,0 @@
-use Rattle.std.proofs.Common.{◌≡◌, ◌++◌}
-use Rattle.gm_graph_cache.specs.Main.{without_excluded, main_of}
-use Rattle.gm_graph_cache.proofs.summary.copy_kept.Given as goal
-
-abbrev pub invariant-loop-x : goal.invariant-loop-x
-invariant-loop-x l = l.kept.items ++ without_excluded (main_of l.main) l.x-iterator ≡ without_excluded (main_of l.main) l.fn.list
