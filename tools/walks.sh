@@ -31,7 +31,7 @@ WALKS = [
         gomod_run/src/serving.rt serve over_folders
         gomod_run/src/running.rt run
         gomod_run/src/outcome.rt outcome
-        gm_graph_listing/src/answering.rt answer
+        gomod_run/src/listing/answering.rt answer
         gm_graph/src/loading.rt load
     """),
     ("edit, to the first change of a line", 12, """

@@ -10,7 +10,7 @@ use Rattle.gm_graph_select.specs.declared.step.Step.{Step}
 use Rattle.gm_graph_select.specs.declared.step.Step.TheVariants.{Main as FromMain, Of}
 use Rattle.gm_graph_select.proofs.Ascending.{no_member}
 use Rattle.gm_graph.specs.Graph.{IsDeep, IsEdge, IsOpened, IsTop, from_deep, from_main, from_top}
-use Rattle.gm_graph_listing.proofs.OneStore.{Agrees}
+use Rattle.gomod_run.proofs.OneQueryStore.{Agrees}
 use Rattle.gomod_laws.proofs.AdditionsKept.{kept_more}
 
 -- ---- what a file says, by two main files

@@ -10,11 +10,11 @@ use Rattle.gm_graph_select.specs.BuildList.{Entry}
 use Rattle.gm_graph_select.proofs.Lawful.{row_selected, selected_row}
 use Rattle.gm_graph.specs.Graph.{IsEdge, IsOpened, IsTop}
 use Rattle.gm_graph.specs.Loading.{AreFew}
-use Rattle.gm_graph_listing.specs.Outcomes.{IsGraphOutcome, IsListOutcome, Prints, PrintsGraph, PrintsList, answers, given}
+use Rattle.gomod_run.specs.Outcomes.{IsGraphOutcome, IsListOutcome, Prints, PrintsGraph, PrintsList, answers, given}
 use Rattle.gm_graph.specs.Outcome.{AreRows}
-use Rattle.gm_report.specs.Outcome.{Outcome}
-use Rattle.gm_graph_listing.proofs.OneStore.{Agrees}
-use Rattle.gm_graph_listing.proofs.PrintedList.{greatest}
+use Rattle.gomod_run.specs.Outcome.{Outcome}
+use Rattle.gomod_run.proofs.OneQueryStore.{Agrees}
+use Rattle.gomod_run.proofs.PrintedList.{greatest}
 use Rattle.gomod_words.specs.declared.usage.Command.TheVariants.{Graph, List as Rows}
 use Rattle.gomod_laws.specs.Runs.{HasOutcome}
 use Rattle.gomod_laws.specs.AdditionLaws.{AreNotLower, GraphKeepsLines, ListLowersNothing, SaysMore}

@@ -15,12 +15,12 @@ use Rattle.gm_graph.specs.declared.fault.Fault.{Fault}
 use Rattle.gm_graph.specs.Graph.{IsOpened}
 use Rattle.gm_graph.specs.Outcome.{AreFaults}
 use Rattle.gm_graph.proofs.BuiltEdges.{fault_reading}
-use Rattle.gm_graph_listing.specs.Laws.{AllFilesAreValid, AnswerAlike}
-use Rattle.gm_graph_listing.specs.Outcomes.{AreInvalidSums, AreKnown, AreSums, Given, IsMainFile, IsOutcome, IsOutcomeOver, IsStopped, Prints, device, faulty, too_many}
-use Rattle.gm_report.specs.Outcome.{Outcome}
-use Rattle.gm_graph_listing.proofs.OneRead.{misread_or_main, misread_or_sums, one_finding, one_main, tells_alike}
-use Rattle.gm_graph_listing.proofs.OneStore.{Agrees, stores_agree}
-use Rattle.gm_graph_listing.proofs.PrintedList.{printed_run}
+use Rattle.gomod_run.specs.ListingLaws.{AllFilesAreValid, AnswerAlike}
+use Rattle.gomod_run.specs.Outcomes.{AreInvalidSums, AreKnown, AreSums, Given, IsMainFile, IsOutcome, IsOutcomeOver, IsStopped, Prints, device, faulty, too_many}
+use Rattle.gomod_run.specs.Outcome.{Outcome}
+use Rattle.gomod_run.proofs.OneRead.{misread_or_main, misread_or_sums, one_finding, one_main, tells_alike}
+use Rattle.gomod_run.proofs.OneQueryStore.{Agrees, stores_agree}
+use Rattle.gomod_run.proofs.PrintedList.{printed_run}
 
 -- ---- what files say, by two main files that replace alike
 

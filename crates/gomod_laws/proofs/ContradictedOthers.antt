@@ -1,6 +1,6 @@
 -- What the laws of `edit` conclude is false of outputs that contradict them.
 use Rattle.std.proofs.Common.{◌≡◌, ◌∷◌, ℕ, List, ap, arith, codes, drop, inl, inr, refl, sym}
-use Rattle.gm_report.specs.Outcome.{Outcome}
+use Rattle.gomod_run.specs.Outcome.{Outcome}
 use Rattle.gomod_laws.specs.CounterOthers.{FormatsAnother, NeitherFormats, TwiceIsRefused, TwicePrintsAnother, file_of_m, file_of_n}
 use Rattle.gomod_laws.proofs.ShownTexts.{same_text}
 

@@ -13,7 +13,7 @@ use Rattle.gm_graph.specs.declared.cache.class.Class.{Class}
 use Rattle.gm_graph.specs.Reading.{IsFileReading}
 use Rattle.gm_graph.proofs.OneReading.{one_reading}
 use Rattle.gm_graph_select.proofs.Ascending.{member_cases, member_head, no_member}
-use Rattle.gm_report.specs.Outcome.{Outcome, printed}
+use Rattle.gomod_run.specs.Outcome.{Outcome, printed}
 use Rattle.gomod_run.specs.Versions.{versions_line}
 use Rattle.gomod_run.proofs.Uniqueness.{latest_once}
 use Rattle.gomod_laws.specs.CounterVersions.{ListedIsMissing, RetractedIsShown, UnretractedIsLeftOut, both_of_a}

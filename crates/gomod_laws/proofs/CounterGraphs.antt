@@ -15,17 +15,17 @@ use Rattle.gm_graph_select.proofs.Same.{same_build_list, same_chain}
 use Rattle.gm_graph.specs.Graph.{IsEdge, IsTop}
 use Rattle.gm_graph.specs.Outcome.{AreEdges, AreRows}
 use Rattle.gm_graph.proofs.Rooted.{same_edges}
-use Rattle.gm_graph_listing.specs.Laws.{AllFilesAreValid, IsWalk, further, here}
-use Rattle.gm_graph_listing.specs.Outcomes.{Given}
-use Rattle.gm_report.specs.Outcome.{printed}
-use Rattle.gm_graph_listing.specs.PrintedLines.{AreProperRows, AreProperSteps, IsProperRow, IsProperStep}
-use Rattle.gm_report.specs.Reports.{not_listed_line}
-use Rattle.gm_graph_listing.specs.Texts.{chain_text, graph_text, list_text}
-use Rattle.gm_graph_listing.proofs.GraphLines.{text_says_edges, text_says_steps}
-use Rattle.gm_graph_listing.proofs.ListLines.{cut_at, path_has_no_feed}
-use Rattle.gm_graph_listing.proofs.OneRead.{one_main}
-use Rattle.gm_graph_listing.proofs.RunNames.{end_name, run_has_names, run_has_proper_edges}
-use Rattle.gm_graph_listing.proofs.ShortestChain.{chain_walk}
+use Rattle.gomod_run.specs.ListingLaws.{AllFilesAreValid, IsWalk, further, here}
+use Rattle.gomod_run.specs.Outcomes.{Given}
+use Rattle.gomod_run.specs.Outcome.{printed}
+use Rattle.gomod_run.specs.PrintedLines.{AreProperRows, AreProperSteps, IsProperRow, IsProperStep}
+use Rattle.gomod_run.specs.Reports.{not_listed_line}
+use Rattle.gomod_run.specs.ListingTexts.{chain_text, graph_text, list_text}
+use Rattle.gomod_run.proofs.GraphLines.{text_says_edges, text_says_steps}
+use Rattle.gomod_run.proofs.ListLines.{cut_at, path_has_no_feed}
+use Rattle.gomod_run.proofs.OneRead.{one_main}
+use Rattle.gomod_run.proofs.RunNames.{end_name, run_has_names, run_has_proper_edges}
+use Rattle.gomod_run.proofs.ShortestChain.{chain_walk}
 use Rattle.gomod_laws.specs.Counterexamples.{a_one, graph_of_a}
 use Rattle.gomod_laws.specs.CounterListings.{ChainBeginsElsewhere, ChainEndsElsewhere, ChainIsOfAnotherGraph, ChainIsTooLong, ListIsOfAnotherGraph, b_one}
 use Rattle.gomod_laws.proofs.Contradicted.{a_is_path, b_is_path, edge_proper, edge_to, other_name}

@@ -16,19 +16,19 @@ use Rattle.gm_graph_select.specs.BuildList.{Entry, entry_of, main_entry, path_of
 use Rattle.gm_graph_select.specs.Laws.{entries_of_pages}
 use Rattle.gm_graph_select.proofs.Ascending.{member_cases, member_head, member_tail, no_member}
 use Rattle.gm_graph.specs.Graph.{IsDeep, IsOpened, IsTop, IsVertex, from_deep, from_main, from_top}
-use Rattle.gm_graph_listing.specs.Laws.{AllFilesAreValid, AreGreatest, ArePrintedPages, ShowsBuildList, no_row, one_page}
-use Rattle.gm_graph_listing.specs.Outcomes.{Given, IsListOutcome, IsMainFile}
+use Rattle.gomod_run.specs.ListingLaws.{AllFilesAreValid, AreGreatest, ArePrintedPages, ShowsBuildList, no_row, one_page}
+use Rattle.gomod_run.specs.Outcomes.{Given, IsListOutcome, IsMainFile}
 use Rattle.gm_graph.specs.Outcome.{AreRows}
-use Rattle.gm_report.specs.Outcome.{Outcome, printed, refused}
-use Rattle.gm_graph_listing.specs.PrintedLines.{AreProperRows, IsProperRow}
-use Rattle.gm_report.specs.Reports.{not_listed_line}
-use Rattle.gm_graph_listing.specs.Texts.{limited, list_text}
-use Rattle.gm_graph_listing.proofs.GreatestRows.{as_build_list}
-use Rattle.gm_graph_listing.proofs.ListLines.{Lacks, cut_at, lacks, path_has_no_blank, path_has_no_feed, text_says_rows}
-use Rattle.gm_graph_listing.proofs.OneOutcome.{one_list_outcome}
-use Rattle.gm_graph_listing.proofs.OneRead.{one_main}
-use Rattle.gm_graph_listing.proofs.PrintedList.{texts_join}
-use Rattle.gm_graph_listing.proofs.RunNames.{run_has_names, run_has_proper_rows}
+use Rattle.gomod_run.specs.Outcome.{Outcome, printed, refused}
+use Rattle.gomod_run.specs.PrintedLines.{AreProperRows, IsProperRow}
+use Rattle.gomod_run.specs.Reports.{not_listed_line}
+use Rattle.gomod_run.specs.ListingTexts.{limited, list_text}
+use Rattle.gomod_run.proofs.GreatestRows.{as_build_list}
+use Rattle.gomod_run.proofs.ListLines.{Lacks, cut_at, lacks, path_has_no_blank, path_has_no_feed, text_says_rows}
+use Rattle.gomod_run.proofs.OneOutcome.{one_list_outcome}
+use Rattle.gomod_run.proofs.OneRead.{one_main}
+use Rattle.gomod_run.proofs.PrintedList.{texts_join}
+use Rattle.gomod_run.proofs.RunNames.{run_has_names, run_has_proper_rows}
 use Rattle.gomod_laws.specs.Counterexamples.{a_one, list_of_a}
 use Rattle.gomod_laws.specs.CounterListings.{MainIsMissing, PageHasAnotherRow, PageIsMissing, PartHasAnotherRow, PartIsTheWhole, PartIsTooLong, PathIsTwice, RequiredHasNoRow, RowIsNotRequired, RowIsTooLow, RowsAreUnordered, a_two, b_one}
 use Rattle.gomod_laws.proofs.Contradicted.{a_is_path, b_is_path, other_name}

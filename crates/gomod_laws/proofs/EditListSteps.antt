@@ -14,10 +14,10 @@ use Rattle.gm_file_edit.specs.Kinds.{is_fit}
 use Rattle.gm_file_edit.specs.Edits.{Edit as Operation, edit_in}
 use Rattle.gm_file_edit.specs.Laws.{IsEditOf, directives_of}
 use Rattle.gm_graph.specs.Main.{Main}
-use Rattle.gm_graph_listing.specs.Outcomes.{IsMainFile, IsMainOf, longest}
-use Rattle.gm_report.specs.Outcome.{Outcome, printed}
-use Rattle.gm_report.specs.Reports.{main_line, edit_line}
-use Rattle.gm_graph_listing.proofs.OneRead.{one_main}
+use Rattle.gomod_run.specs.Outcomes.{IsMainFile, IsMainOf, longest}
+use Rattle.gomod_run.specs.Outcome.{Outcome, printed}
+use Rattle.gomod_run.specs.Reports.{main_line, edit_line}
+use Rattle.gomod_run.proofs.OneRead.{one_main}
 use Rattle.gomod_words.specs.Usage.{texts_in}
 use Rattle.gomod_run.specs.Editing.{IsEditOutcome, edited_in_turn, edits_outcome, refusal_of, refusals_from}
 use Rattle.gomod_laws.specs.EditListLaws.{PrintsAfter}

@@ -22,9 +22,9 @@ use Rattle.gm_file_edit.specs.Undone.{undone_by}
 use Rattle.gm_file_edit.proofs.EitherOrder.{either-order}
 use Rattle.gm_file_edit.proofs.Places.{edited-same}
 use Rattle.gm_file_edit.proofs.Undone.{drop-undoes-layout}
-use Rattle.gm_graph_listing.specs.Outcomes.{IsMainOf}
-use Rattle.gm_report.specs.Outcome.{Outcome, printed}
-use Rattle.gm_graph_listing.proofs.OneRead.{misread_or_lines, same_lines}
+use Rattle.gomod_run.specs.Outcomes.{IsMainOf}
+use Rattle.gomod_run.specs.Outcome.{Outcome, printed}
+use Rattle.gomod_run.proofs.OneRead.{misread_or_lines, same_lines}
 use Rattle.gomod_words.specs.declared.usage.Command.TheVariants.{Fmt}
 use Rattle.gomod_run.specs.Editing.{IsEditOutcome, edited_in_turn, edits_outcome, refusal_of, refusals_from}
 use Rattle.gomod_run.proofs.Sameness.{in_turn_same}

@@ -9,11 +9,11 @@ use Rattle.gm_syntax.specs.Tokens.{Placed}
 use Rattle.gm_file_edit.specs.Edited.{edited}
 use Rattle.gm_file_edit.specs.Edits.{Edit as Operation, edit_in}
 use Rattle.gm_file_edit.proofs.Twice.{second-operation}
-use Rattle.gm_report.specs.Outcome.{Outcome, refused}
+use Rattle.gomod_run.specs.Outcome.{Outcome, refused}
 use Rattle.gomod_words.specs.Usage.{texts_in}
 use Rattle.gomod_words.specs.declared.usage.Command.TheVariants.{Edit}
 use Rattle.gomod_run.specs.Editing.{IsEditOutcome, edited_in_turn, edits_outcome, refusal_of, refusals_from}
-use Rattle.gm_report.specs.Reports.{edit_line}
+use Rattle.gomod_run.specs.Reports.{edit_line}
 use Rattle.gomod_run.proofs.Sameness.{one_outcome}
 use Rattle.gomod_laws.specs.EditTwiceLaws.{LastTwiceIsOnce, RefuseALater, RepeatsOne, TwiceIsOnceOrRefused, TwicePrintsAsOnce}
 use Rattle.gomod_laws.specs.Runs.{HasOutcome, HasPrinted}

@@ -25,9 +25,9 @@ use Rattle.gm_graph.specs.Graph.{IsEdge, IsOpened, IsTop, from_deep, from_main, 
 use Rattle.gm_graph.specs.Loading.{AreAsked, AreFew, AreTooMany, IsDue, IsNeeded}
 use Rattle.gm_graph.specs.Outcome.{AreFaults, AreRows}
 use Rattle.gm_graph.specs.declared.fault.Fault.{Fault}
-use Rattle.gm_graph_listing.specs.Outcomes.{AreKnown, IsListOutcome, IsOutcomeOver, IsStopped, PrintsList, answers, device, faulty, too_many}
-use Rattle.gm_report.specs.Outcome.{Outcome, printed, refused}
-use Rattle.gm_graph_listing.proofs.OneOutcome.{one_list_outcome}
+use Rattle.gomod_run.specs.Outcomes.{AreKnown, IsListOutcome, IsOutcomeOver, IsStopped, PrintsList, answers, device, faulty, too_many}
+use Rattle.gomod_run.specs.Outcome.{Outcome, printed, refused}
+use Rattle.gomod_run.proofs.OneOutcome.{one_list_outcome}
 use Rattle.gomod_laws.specs.ExampleWorld.{top_one}
 use Rattle.gomod_laws.specs.ExampleRuns.{BadSumIsRefused, EmptyIsRefused, IsListedAlone, RequiredIsAsked, alone, low_name, main_requiring, run_of, run_with_bad_sum, top_name}
 use Rattle.gomod_laws.proofs.ExampleFiles.{empty_is_malformed, files_are_read}

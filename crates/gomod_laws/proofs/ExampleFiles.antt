@@ -28,8 +28,8 @@ use Rattle.gm_file.specs.Faults.{directive_kinds, fault_of, faults}
 use Rattle.gm_file.specs.Fields.{dependency_of}
 use Rattle.gm_graph.specs.Main.{main_of}
 use Rattle.gm_graph.specs.declared.cache.class.Misreading.TheVariants as misreading
-use Rattle.gm_graph_listing.specs.Outcomes.{IsMalformedMain}
-use Rattle.gm_graph_listing.proofs.ListLines.{lacks}
+use Rattle.gomod_run.specs.Outcomes.{IsMalformedMain}
+use Rattle.gomod_run.proofs.ListLines.{lacks}
 use Rattle.gomod_laws.specs.ExampleRuns.{FilesAreRead, alone, main_requiring, requiring}
 use Rattle.gomod_laws.specs.ExampleWorld.{saying, top_one}
 use Rattle.gomod_laws.proofs.Contradicted.{m_is_path}

@@ -22,8 +22,8 @@ use Rattle.gm_syntax.proofs.Changes.{entry_stands}
 use Rattle.gm_syntax.proofs.OneText.{reading_parsed}
 use Rattle.gm_syntax.proofs.Readings.{reading_of}
 use Rattle.gm_syntax.proofs.Stable.{is_stable}
-use Rattle.gm_graph_listing.specs.Outcomes.{longest}
-use Rattle.gm_graph_listing.proofs.ListLines.{Lacks, lacks, path_has_no_feed}
+use Rattle.gomod_run.specs.Outcomes.{longest}
+use Rattle.gomod_run.proofs.ListLines.{Lacks, lacks, path_has_no_feed}
 use Rattle.gomod_laws.proofs.FormattingRead.{placeless}
 
 -- ---- a path is a bare word

@@ -4,7 +4,7 @@ use Rattle.std.proofs.lemmas.List.{length-take}
 use Rattle.gm_store.specs.Asked.{list_file, mod_file}
 use Rattle.gm_store.specs.Taken.{SinkState}
 use Rattle.gm_store.specs.declared.reading.InputFault.TheVariants.{Device, NoMemory}
-use Rattle.gm_report.specs.Outcome.{Outcome, failed, out_of_memory, printed}
+use Rattle.gomod_run.specs.Outcome.{Outcome, failed, out_of_memory, printed}
 use Rattle.gomod_run.specs.Reads.{IsUnreadList}
 use Rattle.gomod_run.specs.Written.{EndsAsStated, IsWritten}
 use Rattle.gomod_laws.specs.ExampleOutputs.{EndIsStated, FileIsRead, InputIsHeld, InputIsUnread, PrintsText, empty, other, path, text, with_bad_line, with_no_memory, with_other, with_text}

@@ -26,8 +26,8 @@ use Rattle.gm_graph_select.proofs.Lawful.{same_build_lists}
 use Rattle.gm_graph.specs.Graph.{IsDeep, IsEdge, IsOpened, IsTop, from_deep, from_main, from_top}
 use Rattle.gm_graph.specs.Outcome.{AreEdges, AreRows}
 use Rattle.gm_graph.specs.declared.fault.Fault.{Fault}
-use Rattle.gm_report.specs.Outcome.{printed}
-use Rattle.gm_graph_listing.specs.Texts.{limited, list_text}
+use Rattle.gomod_run.specs.Outcome.{printed}
+use Rattle.gomod_run.specs.ListingTexts.{limited, list_text}
 use Rattle.gomod_laws.specs.ExampleWorld.{AnswersTell, FaultsAreClassed, FilesHaveNames, FourEdgesLead, ListIsPrinted, OneFaultIsReported, OnlyListIsPrinted, PrunedFrom17, ReplacementsApply, RequirementsAreLeft, RowsAreFour, ThreeAreOpened, all_as_mid, all_there, edges, fault_of_mid, folder_requiring, folder_says, held_with, low_one, low_two, mid_one, mid_two, one_missing, opened_three, rows, top_one, unpruned_world, world}
 use Rattle.gomod_laws.proofs.KnownVersions.{first_byte, not_above_itself, one_one_is_above, one_zero_is_below, versions_differ}
 

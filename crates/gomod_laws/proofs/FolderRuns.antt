@@ -16,12 +16,12 @@ use Rattle.gm_graph.proofs.Keeping.{answer_stays}
 use Rattle.gm_graph_select.proofs.Ascending.{member_cases, no_member}
 use Rattle.gm_graph.specs.declared.fault.Fault.{Fault}
 use Rattle.gm_graph.specs.Loading.{IsNeeded}
-use Rattle.gm_graph_listing.specs.Laws.{AllFilesAreValid, AnswerAlike}
-use Rattle.gm_graph_listing.specs.Outcomes.{Given, answers, given}
-use Rattle.gm_graph_listing.specs.Needs.{AnsweredAll, AnswersByName, AskedAfter, AskedInTurn}
-use Rattle.gm_report.specs.Outcome.{Outcome}
-use Rattle.gm_graph_listing.proofs.OneRead.{one_finding, one_main, tells_alike}
-use Rattle.gm_graph_listing.proofs.OneStore.{Agrees, alike_back, opened, stores_agree}
+use Rattle.gomod_run.specs.ListingLaws.{AllFilesAreValid, AnswerAlike}
+use Rattle.gomod_run.specs.Outcomes.{Given, answers, given}
+use Rattle.gomod_run.specs.Needs.{AnsweredAll, AnswersByName, AskedAfter, AskedInTurn}
+use Rattle.gomod_run.specs.Outcome.{Outcome}
+use Rattle.gomod_run.proofs.OneRead.{one_finding, one_main, tells_alike}
+use Rattle.gomod_run.proofs.OneQueryStore.{Agrees, alike_back, opened, stores_agree}
 use Rattle.gomod_words.specs.declared.usage.Command.{Command}
 use Rattle.gomod_words.specs.declared.usage.Command.TheVariants.{Fmt, Edit, Versions, Graph, List as Rows, Chain}
 use Rattle.gomod_run.specs.Runs.{Needs, is_query}

@@ -21,10 +21,10 @@ use Rattle.gm_file_edit.specs.Edits.{Edit as Change, edit_in}
 use Rattle.gm_file_edit.proofs.EditedSound.{edited-document}
 use Rattle.gm_file_edit.proofs.Written.{written-sound}
 use Rattle.gm_graph.specs.Main.{Main}
-use Rattle.gm_graph_listing.specs.Outcomes.{IsMainFile, IsMainOf, longest}
-use Rattle.gm_report.specs.Outcome.{Outcome, printed, refused}
-use Rattle.gm_report.specs.Reports.{main_line}
-use Rattle.gm_graph_listing.proofs.OneRead.{same_lines}
+use Rattle.gomod_run.specs.Outcomes.{IsMainFile, IsMainOf, longest}
+use Rattle.gomod_run.specs.Outcome.{Outcome, printed, refused}
+use Rattle.gomod_run.specs.Reports.{main_line}
+use Rattle.gomod_run.proofs.OneRead.{same_lines}
 use Rattle.gomod_words.specs.Usage.{texts_in}
 use Rattle.gomod_words.specs.declared.usage.Command.TheVariants.{Fmt, Edit}
 use Rattle.gomod_run.specs.Editing.{IsEditOutcome, edited_in_turn, refusal_of, refusals_from}

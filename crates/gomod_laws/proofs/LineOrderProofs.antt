@@ -14,9 +14,9 @@ use Rattle.gm_graph.specs.declared.fault.Fault.{Fault}
 use Rattle.gm_graph.specs.Graph.{IsEdge, IsOpened}
 use Rattle.gm_graph.specs.Loading.{AreAsked, AreFew, AreTooMany, IsNeeded}
 use Rattle.gm_graph.specs.Outcome.{AreFaults, AreRows}
-use Rattle.gm_graph_listing.specs.Outcomes.{AreKnown, Answers, IsMainFile, IsOutcome, IsOutcomeOver, IsStopped, Prints, PrintsChain, PrintsGraph, PrintsList, device, faulty, given, too_many}
-use Rattle.gm_report.specs.Outcome.{Outcome}
-use Rattle.gm_graph_listing.proofs.OneRead.{misread_or_main, one_main}
+use Rattle.gomod_run.specs.Outcomes.{AreKnown, Answers, IsMainFile, IsOutcome, IsOutcomeOver, IsStopped, Prints, PrintsChain, PrintsGraph, PrintsList, device, faulty, given, too_many}
+use Rattle.gomod_run.specs.Outcome.{Outcome}
+use Rattle.gomod_run.proofs.OneRead.{misread_or_main, one_main}
 use Rattle.gomod_words.specs.declared.usage.Command.{Command}
 use Rattle.gomod_words.specs.declared.usage.Command.TheVariants.{Fmt, Edit, Versions, Graph, List as Rows, Chain}
 use Rattle.gomod_run.specs.Queries.{PrintsOf}

@@ -1,9 +1,9 @@
 -- Runs of two main files, where each outcome over the one is an outcome over the other.
 use Rattle.std.proofs.Common.{◌≡◌, ℕ, List, true, Option, sym, subst}
 use Rattle.gm_store.specs.Asked.{Name, Reply}
-use Rattle.gm_graph_listing.specs.Laws.{AnswerAlike}
-use Rattle.gm_graph_listing.specs.Outcomes.{Answers, answers, given}
-use Rattle.gm_report.specs.Outcome.{Outcome}
+use Rattle.gomod_run.specs.ListingLaws.{AnswerAlike}
+use Rattle.gomod_run.specs.Outcomes.{Answers, answers, given}
+use Rattle.gomod_run.specs.Outcome.{Outcome}
 use Rattle.gomod_words.specs.declared.usage.Command.{Command}
 use Rattle.gomod_run.specs.Queries.{IsQueryOutcome, RunsTo}
 use Rattle.gm_store.specs.States.{StoreState}

@@ -3,10 +3,10 @@ use Rattle.std.proofs.Common.{◌≡◌, ℕ, List, [], Option, subst, true}
 use Rattle.gm_store.specs.Asked.{Name, Reply}
 use Rattle.gm_graph.specs.Main.{Main}
 use Rattle.gm_graph.specs.Reading.{Held}
-use Rattle.gm_graph_listing.specs.Laws.{AllFilesAreValid}
-use Rattle.gm_graph_listing.specs.Outcomes.{answers, given}
-use Rattle.gm_graph_listing.proofs.PrintedList.{printed_run}
-use Rattle.gm_report.specs.Outcome.{Outcome}
+use Rattle.gomod_run.specs.ListingLaws.{AllFilesAreValid}
+use Rattle.gomod_run.specs.Outcomes.{answers, given}
+use Rattle.gomod_run.proofs.PrintedList.{printed_run}
+use Rattle.gomod_run.specs.Outcome.{Outcome}
 use Rattle.gomod_words.specs.declared.usage.Command.{Command}
 use Rattle.gomod_run.specs.Queries.{IsQueryOutcome, PrintsOf}
 use Rattle.gomod_run.specs.Runs.{is_query}

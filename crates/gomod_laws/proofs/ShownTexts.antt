@@ -12,15 +12,15 @@ use Rattle.gm_graph_select.specs.Graph.{Edges, edge}
 use Rattle.gm_graph_select.specs.BuildList.{Entry, entry_of, main_entry}
 use Rattle.gm_graph_select.specs.Chains.{IsChain, begins, goes_on}
 use Rattle.gm_graph_select.proofs.Ascending.{member_head}
-use Rattle.gm_graph_listing.specs.Laws.{AllFilesAreValid}
-use Rattle.gm_graph_listing.specs.Outcomes.{Given}
-use Rattle.gm_report.specs.Outcome.{Outcome, printed}
-use Rattle.gm_graph_listing.specs.PrintedLines.{AreProperEdges, AreProperRows, AreProperSteps, IsProperStep}
-use Rattle.gm_graph_listing.specs.Texts.{chain_text, graph_text, list_text, step_text}
-use Rattle.gm_report.specs.Texts.{vertex_text}
-use Rattle.gm_graph_listing.proofs.GraphLines.{text_says_edges, text_says_steps}
-use Rattle.gm_graph_listing.proofs.ListLines.{Lacks, cut_at, has_it, path_has_no_blank, path_has_no_feed, text_says_rows, version_has_no_blank}
-use Rattle.gm_graph_listing.proofs.RunNames.{run_has_names, run_has_proper_edges, run_has_proper_rows, run_has_proper_steps}
+use Rattle.gomod_run.specs.ListingLaws.{AllFilesAreValid}
+use Rattle.gomod_run.specs.Outcomes.{Given}
+use Rattle.gomod_run.specs.Outcome.{Outcome, printed}
+use Rattle.gomod_run.specs.PrintedLines.{AreProperEdges, AreProperRows, AreProperSteps, IsProperStep}
+use Rattle.gomod_run.specs.ListingTexts.{chain_text, graph_text, list_text, step_text}
+use Rattle.gomod_run.specs.ReportTexts.{vertex_text}
+use Rattle.gomod_run.proofs.GraphLines.{text_says_edges, text_says_steps}
+use Rattle.gomod_run.proofs.ListLines.{Lacks, cut_at, has_it, path_has_no_blank, path_has_no_feed, text_says_rows, version_has_no_blank}
+use Rattle.gomod_run.proofs.RunNames.{run_has_names, run_has_proper_edges, run_has_proper_rows, run_has_proper_steps}
 use Rattle.gomod_laws.specs.Shown.{ShowsEdges, ShowsRows, ShowsSteps}
 
 -- ---- texts

@@ -11,14 +11,14 @@ use Rattle.gm_graph.specs.declared.cache.class.Class.{Class}
 use Rattle.gm_graph.specs.Main.{Main}
 use Rattle.gm_graph.specs.Reading.{Held, IsReadUnless, IsTold, Tells, class_of_sum, file_of, is_askable, readings_by, sum_fault}
 use Rattle.gm_graph.specs.Loading.{AreTooMany, IsNeeded}
-use Rattle.gm_graph_listing.specs.Laws.{AnswerAlike}
-use Rattle.gm_graph_listing.specs.Outcomes.{AreKnown, AreSums, IsMainFile, IsOutcome, IsOutcomeOver, Prints as PrintsOver, PrintsChain, PrintsGraph, PrintsList, answers, device, faulty, given, longest, too_many}
-use Rattle.gm_graph_listing.specs.Needs.{GraphNeeds}
-use Rattle.gm_report.specs.Outcome.{Outcome, refused}
-use Rattle.gm_report.specs.Reports.{too_many_line}
-use Rattle.gm_graph_listing.proofs.OneOutcome.{one_outcome}
-use Rattle.gm_graph_listing.proofs.OnePrinted.{PrintsOnce, chain_once, graph_once, list_once}
-use Rattle.gm_graph_listing.proofs.OneRead.{misread_or_main, misread_or_sums, one_main}
+use Rattle.gomod_run.specs.ListingLaws.{AnswerAlike}
+use Rattle.gomod_run.specs.Outcomes.{AreKnown, AreSums, IsMainFile, IsOutcome, IsOutcomeOver, Prints as PrintsOver, PrintsChain, PrintsGraph, PrintsList, answers, device, faulty, given, longest, too_many}
+use Rattle.gomod_run.specs.Needs.{GraphNeeds}
+use Rattle.gomod_run.specs.Outcome.{Outcome, refused}
+use Rattle.gomod_run.specs.Reports.{too_many_line}
+use Rattle.gomod_run.proofs.OneOutcome.{one_outcome}
+use Rattle.gomod_run.proofs.OnePrinted.{PrintsOnce, chain_once, graph_once, list_once}
+use Rattle.gomod_run.proofs.OneRead.{misread_or_main, misread_or_sums, one_main}
 use Rattle.gomod_words.specs.declared.usage.Command.{Command}
 use Rattle.gomod_words.specs.declared.usage.Command.TheVariants.{Fmt, Edit, Versions, Graph, List as Rows, Chain}
 use Rattle.gomod_run.specs.Queries.{RunsTo}

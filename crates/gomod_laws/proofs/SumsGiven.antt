@@ -1,8 +1,8 @@
 -- Runs as the laws of a go.sum see them: commands whose run with a go.sum is one without it.
 use Rattle.std.proofs.Common.{◌≡◌, ℕ, List, Some, None, sym, subst}
 use Rattle.gm_store.specs.Asked.{Name, Reply}
-use Rattle.gm_graph_listing.specs.Laws.{AnswerAlike}
-use Rattle.gm_report.specs.Outcome.{Outcome}
+use Rattle.gomod_run.specs.ListingLaws.{AnswerAlike}
+use Rattle.gomod_run.specs.Outcome.{Outcome}
 use Rattle.gomod_words.specs.declared.usage.Command.{Command}
 use Rattle.gomod_run.specs.Queries.{RunsTo}
 use Rattle.gm_store.specs.States.{StoreState}

@@ -5,14 +5,14 @@ use Rattle.gm_store_sums.specs.Sums.{HasValidLines, Sums}
 use Rattle.gm_graph.specs.Main.{Main}
 use Rattle.gm_graph.specs.Reading.{Held, Tells, readings_by, sum_fault}
 use Rattle.gm_graph.specs.Loading.{AreTooMany, IsNeeded, Told}
-use Rattle.gm_graph_listing.specs.Laws.{AnswerAlike}
-use Rattle.gm_graph_listing.specs.Outcomes.{AreKnown, AreSums, IsMainFile, IsOutcome, IsOutcomeOver, Prints as PrintsOver, PrintsChain, PrintsGraph, PrintsList, answers, device, faulty, given, longest, too_many}
-use Rattle.gm_graph_listing.specs.Needs.{GraphNeeds}
-use Rattle.gm_report.specs.Outcome.{Outcome}
-use Rattle.gm_graph_listing.proofs.OneOutcome.{one_outcome}
-use Rattle.gm_graph_listing.proofs.OnePrinted.{PrintsOnce, chain_once, graph_once, list_once}
-use Rattle.gm_graph_listing.proofs.OneRead.{misread_or_main}
-use Rattle.gm_graph_listing.proofs.PrintedList.{printed_run}
+use Rattle.gomod_run.specs.ListingLaws.{AnswerAlike}
+use Rattle.gomod_run.specs.Outcomes.{AreKnown, AreSums, IsMainFile, IsOutcome, IsOutcomeOver, Prints as PrintsOver, PrintsChain, PrintsGraph, PrintsList, answers, device, faulty, given, longest, too_many}
+use Rattle.gomod_run.specs.Needs.{GraphNeeds}
+use Rattle.gomod_run.specs.Outcome.{Outcome}
+use Rattle.gomod_run.proofs.OneOutcome.{one_outcome}
+use Rattle.gomod_run.proofs.OnePrinted.{PrintsOnce, chain_once, graph_once, list_once}
+use Rattle.gomod_run.proofs.OneRead.{misread_or_main}
+use Rattle.gomod_run.proofs.PrintedList.{printed_run}
 use Rattle.gomod_words.specs.declared.usage.Command.TheVariants.{Fmt, Edit, Versions, Graph, List as Rows, Chain}
 use Rattle.gomod_laws.specs.SumLaws.{AreRight, OnlyRefuses, RightSumsChangeNothing}
 use Rattle.gomod_laws.proofs.PrintedRuns.{query_by_answers}

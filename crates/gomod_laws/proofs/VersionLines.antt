@@ -4,7 +4,7 @@ use Rattle.std.specs.List.{join_with_byte}
 use Rattle.std.proofs.lemmas.List.{append_cancel_left}
 use Rattle.gm_name.specs.Version.{IsVersion}
 use Rattle.gm_graph_select.proofs.Ascending.{member_head, member_tail}
-use Rattle.gm_graph_listing.proofs.ListLines.{version_has_no_blank, version_has_no_feed}
+use Rattle.gomod_run.proofs.ListLines.{version_has_no_blank, version_has_no_feed}
 use Rattle.gomod_run.specs.Versions.{versions_line}
 use Rattle.gomod_laws.specs.VersionLaws.{LineSaysVersions}
 use Rattle.gomod_laws.proofs.PrintedRow.{IsStop, IsWhole, cut_whole}

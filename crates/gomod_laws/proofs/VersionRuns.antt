@@ -9,8 +9,8 @@ use Rattle.gm_store.specs.Asked.{Name, Reply, absent, answer_in, bytes, list_fil
 use Rattle.gm_store.specs.Listed.{AreListed}
 use Rattle.gm_graph.specs.declared.cache.class.Class.{Class}
 use Rattle.gm_graph.specs.Reading.{IsFileReading}
-use Rattle.gm_report.specs.Outcome.{Outcome, printed, refused}
-use Rattle.gm_graph_listing.specs.Needs.{AnswersByName}
+use Rattle.gomod_run.specs.Outcome.{Outcome, printed, refused}
+use Rattle.gomod_run.specs.Needs.{AnswersByName}
 use Rattle.gomod_words.specs.declared.usage.Command.TheVariants.{Versions}
 use Rattle.gomod_run.specs.Runs.{IsRunOutcome, Needs, StatesOutcome}
 use Rattle.gomod_run.specs.Versions.{IsListedOutcome, IsOutcomeByList, IsVersionsOutcome, shown_by, versions_line}

@@ -9,9 +9,9 @@ use Rattle.gm_graph.specs.Main.{Main, is_pruned_by, replacement_in}
 use Rattle.gm_graph_select.specs.declared.step.Edge.{Edge}
 use Rattle.gm_graph_select.specs.declared.step.Step.TheVariants.{Of}
 use Rattle.gm_graph_select.specs.BuildList.{Entry}
-use Rattle.gm_graph_listing.specs.Laws.{AnswerAlike}
-use Rattle.gm_graph_listing.specs.Outcomes.{Given, IsMainFile}
-use Rattle.gm_report.specs.Outcome.{Outcome}
+use Rattle.gomod_run.specs.ListingLaws.{AnswerAlike}
+use Rattle.gomod_run.specs.Outcomes.{Given, IsMainFile}
+use Rattle.gomod_run.specs.Outcome.{Outcome}
 use Rattle.gomod_words.specs.declared.usage.Command.{Command}
 use Rattle.gomod_words.specs.declared.usage.Command.TheVariants.{Graph, List as Rows}
 use Rattle.gomod_laws.specs.Runs.{HasOutcome, HasPrinted}

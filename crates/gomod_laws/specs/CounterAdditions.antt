@@ -3,9 +3,9 @@ use Rattle.std.specs.Prelude.{List, None, codes, map}
 use Rattle.gm_graph.specs.Main.{Main}
 use Rattle.gm_graph_select.specs.declared.step.Edge.{Edge}
 use Rattle.gm_graph_select.specs.BuildList.{Entry}
-use Rattle.gm_graph_listing.specs.Outcomes.{Given}
-use Rattle.gm_report.specs.Outcome.{Outcome, printed}
-use Rattle.gm_graph_listing.specs.Texts.{edge_text}
+use Rattle.gomod_run.specs.Outcomes.{Given}
+use Rattle.gomod_run.specs.Outcome.{Outcome, printed}
+use Rattle.gomod_run.specs.ListingTexts.{edge_text}
 use Rattle.gomod_laws.specs.AdditionLaws.{KeepsLines, LowersNothing}
 use Rattle.gomod_laws.specs.Counterexamples.{graph_of_a, list_of_a}
 use Rattle.gomod_laws.specs.RowLaws.{IsExplained}

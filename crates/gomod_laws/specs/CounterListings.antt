@@ -1,11 +1,11 @@
--- What the laws of gm_graph_listing conclude of `list`, `graph` and `chain` is false of outputs that contradict them.
+-- What the laws of gomod_run.listing conclude of `list`, `graph` and `chain` is false of outputs that contradict them.
 use Rattle.std.specs.Prelude.{◌≡◌, ℕ, List, [], Option, None, Some, codes}
 use Rattle.gm_name.specs.ModuleVersion.{ModuleVersion}
 use Rattle.gm_graph.specs.Main.{Main}
 use Rattle.gm_graph.specs.Graph.{IsTop}
-use Rattle.gm_graph_listing.specs.Laws.{JoinsPages, ShowOneGraph, ShowsBuildList, ShowsPart, ShowsShortestWalk}
-use Rattle.gm_graph_listing.specs.Outcomes.{Given, IsListOutcome, IsMainFile}
-use Rattle.gm_report.specs.Outcome.{Outcome, printed}
+use Rattle.gomod_run.specs.ListingLaws.{JoinsPages, ShowOneGraph, ShowsBuildList, ShowsPart, ShowsShortestWalk}
+use Rattle.gomod_run.specs.Outcomes.{Given, IsListOutcome, IsMainFile}
+use Rattle.gomod_run.specs.Outcome.{Outcome, printed}
 use Rattle.gomod_laws.specs.Counterexamples.{a_one, chain_to_a, graph_of_a, list_of_a}
 
 abbrev pub a_two : ModuleVersion

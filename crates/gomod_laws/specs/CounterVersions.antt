@@ -2,7 +2,7 @@
 use Rattle.std.specs.Prelude.{◌≡◌, ◌∷◌, ℕ, List, [], Some, codes}
 use Rattle.gm_store.specs.Asked.{Name, Reply, answer_in, bytes, list_file}
 use Rattle.gm_file.specs.Directives.{pair}
-use Rattle.gm_report.specs.Outcome.{Outcome, printed}
+use Rattle.gomod_run.specs.Outcome.{Outcome, printed}
 use Rattle.gomod_laws.specs.VersionLaws.{LeavesOutRetracted, Retracts}
 
 -- the store answered with this list file of a.b

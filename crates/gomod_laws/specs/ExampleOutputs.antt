@@ -11,8 +11,8 @@ use Rattle.gm_store.specs.Openings.{IsReadFrom, opened, refused as unopened}
 use Rattle.gm_store.specs.Taken.{SinkState}
 use Rattle.gm_store.specs.declared.files.memory.MemoryFiles.{MemoryFiles}
 use Rattle.gm_store.specs.declared.reading.InputFault.TheVariants.{Device, NoMemory}
-use Rattle.gm_report.specs.Outcome.{Outcome, failed, out_of_memory, printed, refused}
-use Rattle.gm_report.specs.Taking.{TookAll, TookPrefix}
+use Rattle.gomod_run.specs.Outcome.{Outcome, failed, out_of_memory, printed, refused}
+use Rattle.gomod_run.specs.Taking.{TookAll, TookPrefix}
 use Rattle.gomod_words.specs.declared.usage.Command.TheVariants.{Fmt, Versions}
 use Rattle.gomod_run.specs.Held.{HoldsOne}
 use Rattle.gomod_run.specs.Reads.{HoldsInput, IsUnreadList}

@@ -4,8 +4,8 @@ use Rattle.gm_name.specs.ModuleVersion.{ModuleVersion}
 use Rattle.gm_store.specs.Asked.{Name, Reply, mod_file, absent, bytes}
 use Rattle.gm_graph.specs.Main.{Main}
 use Rattle.gm_graph.specs.Reading.{IsFileReading}
-use Rattle.gm_graph_listing.specs.Outcomes.{Answers, Given, IsListOutcome, IsMainFile, IsOutcomeOver, PrintsList, answers, given}
-use Rattle.gm_report.specs.Outcome.{Outcome, failed, printed, refused}
+use Rattle.gomod_run.specs.Outcomes.{Answers, Given, IsListOutcome, IsMainFile, IsOutcomeOver, PrintsList, answers, given}
+use Rattle.gomod_run.specs.Outcome.{Outcome, failed, printed, refused}
 use Rattle.gomod_laws.specs.ExampleWorld.{saying, top_one}
 
 abbrev pub alone : List ℕ

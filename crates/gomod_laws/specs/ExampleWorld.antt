@@ -18,10 +18,10 @@ use Rattle.gm_graph_select.specs.Graph.{edge}
 use Rattle.gm_graph.specs.Graph.{IsDeep, IsEdge, IsOpened, IsTop}
 use Rattle.gm_graph.specs.Outcome.{AreEdges, AreFaults, AreRows}
 use Rattle.gm_graph.specs.declared.fault.Fault.{Fault}
-use Rattle.gm_graph_listing.specs.Outcomes.{PrintsList}
-use Rattle.gm_graph_listing.specs.Texts.{list_text, replacement_text}
-use Rattle.gm_report.specs.Outcome.{Outcome, printed, refused}
-use Rattle.gm_report.specs.Reports.{faults_text}
+use Rattle.gomod_run.specs.Outcomes.{PrintsList}
+use Rattle.gomod_run.specs.ListingTexts.{list_text, replacement_text}
+use Rattle.gomod_run.specs.Outcome.{Outcome, printed, refused}
+use Rattle.gomod_run.specs.Reports.{faults_text}
 
 -- ---- the world
 

@@ -5,8 +5,8 @@ use Rattle.gm_store.specs.declared.folders.memory_folder.MemoryFolder.{MemoryFol
 use Rattle.gm_store.specs.declared.fallback.proxy_list.Mark.{Mark}
 use Rattle.gm_store.specs.Asked.{Name, Reply, names_in}
 use Rattle.gm_store.specs.FolderLookups.{MayAnswerFrom, lookup_results}
-use Rattle.gm_report.specs.Outcome.{Outcome}
-use Rattle.gm_graph_listing.specs.Needs.{AskedInTurn}
+use Rattle.gomod_run.specs.Outcome.{Outcome}
+use Rattle.gomod_run.specs.Needs.{AskedInTurn}
 use Rattle.gomod_words.specs.declared.usage.Command.{Command}
 use Rattle.gomod_run.specs.Runs.{Needs}
 use Rattle.gomod_laws.specs.Runs.{HasOutcome, HasPrinted}

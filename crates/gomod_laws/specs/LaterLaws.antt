@@ -1,8 +1,8 @@
 -- What a store has only later changes nothing that is printed.
 use Rattle.std.specs.Prelude.{◌≡◌, ◌⊎◌, ℕ, List, Option, Some}
 use Rattle.gm_store.specs.Asked.{Name, Reply, absent, answer_in}
-use Rattle.gm_report.specs.Outcome.{Outcome}
-use Rattle.gm_graph_listing.specs.Needs.{AskedInTurn}
+use Rattle.gomod_run.specs.Outcome.{Outcome}
+use Rattle.gomod_run.specs.Needs.{AskedInTurn}
 use Rattle.gomod_words.specs.declared.usage.Command.{Command}
 use Rattle.gomod_run.specs.Runs.{Needs}
 use Rattle.gomod_laws.specs.FolderLaws.{AskForTheSame}

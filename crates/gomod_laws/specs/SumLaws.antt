@@ -6,10 +6,10 @@ use Rattle.gm_name.specs.Lines.{fields, lines}
 use Rattle.gm_store_sums.specs.Hash.{file_hash}
 use Rattle.gm_store_sums.specs.Sums.{HasValidLines, Says}
 use Rattle.gm_store_sums.specs.declared.sum_table.Sum.TheVariants.{Good}
-use Rattle.gm_graph_listing.specs.Laws.{AnswerAlike}
-use Rattle.gm_graph_listing.specs.Outcomes.{longest}
-use Rattle.gm_graph_listing.specs.Needs.{GraphNeeds}
-use Rattle.gm_report.specs.Outcome.{Outcome}
+use Rattle.gomod_run.specs.ListingLaws.{AnswerAlike}
+use Rattle.gomod_run.specs.Outcomes.{longest}
+use Rattle.gomod_run.specs.Needs.{GraphNeeds}
+use Rattle.gomod_run.specs.Outcome.{Outcome}
 use Rattle.gomod_words.specs.declared.usage.Command.{Command}
 use Rattle.gomod_laws.specs.Runs.{HasOutcome, HasPrinted}
 

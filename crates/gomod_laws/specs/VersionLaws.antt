@@ -9,8 +9,8 @@ use Rattle.gm_store.specs.Asked.{Name, Reply, answer_in, bytes, list_file, mod_f
 use Rattle.gm_store.specs.Latest.{IsLatest}
 use Rattle.gm_store.specs.Listed.{AreListed}
 use Rattle.gm_graph.specs.Reading.{IsFileReading}
-use Rattle.gm_graph_listing.specs.Laws.{AnswerAlike}
-use Rattle.gm_report.specs.Outcome.{Outcome, printed}
+use Rattle.gomod_run.specs.ListingLaws.{AnswerAlike}
+use Rattle.gomod_run.specs.Outcome.{Outcome, printed}
 use Rattle.gomod_words.specs.declared.usage.Command.TheVariants.{Versions}
 use Rattle.gomod_run.specs.Versions.{versions_line}
 use Rattle.gomod_laws.specs.Runs.{HasOutcome, HasPrinted}

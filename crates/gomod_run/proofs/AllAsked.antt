@@ -11,10 +11,10 @@ use Rattle.gm_graph.specs.Main.{Main}
 use Rattle.gm_graph.specs.Reading.{Held, IsFileReading, IsReadUnless, IsTold, Tells, is_askable, readings_by}
 use Rattle.gm_graph.specs.Graph.{IsOpened}
 use Rattle.gm_graph.specs.Loading.{IsAnswered, IsNeeded}
-use Rattle.gm_graph_listing.specs.Outcomes.{AreSums, IsMainFile, IsOutcome, Prints, PrintsChain, PrintsGraph, PrintsList, answers, device, faulty, given, too_many}
-use Rattle.gm_graph_listing.specs.Needs.{AnsweredAll, AnswersByName, GraphNeeds}
-use Rattle.gm_report.specs.Outcome.{OrNoMemory, Outcome}
-use Rattle.gm_graph_listing.proofs.OneRead.{FindSame, one_finding, one_main}
+use Rattle.gomod_run.specs.Outcomes.{AreSums, IsMainFile, IsOutcome, Prints, PrintsChain, PrintsGraph, PrintsList, answers, device, faulty, given, too_many}
+use Rattle.gomod_run.specs.Needs.{AnsweredAll, AnswersByName, GraphNeeds}
+use Rattle.gomod_run.specs.Outcome.{OrNoMemory, Outcome}
+use Rattle.gomod_run.proofs.OneRead.{FindSame, one_finding, one_main}
 use Rattle.gomod_words.specs.declared.usage.Command.{Command}
 use Rattle.gomod_words.specs.declared.usage.Command.TheVariants.{Fmt, Edit, Versions, Graph, List as Rows, Chain}
 use Rattle.gomod_run.specs.Queries.{RunsTo}

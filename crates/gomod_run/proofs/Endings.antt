@@ -12,8 +12,8 @@ use Rattle.gomod_words.specs.declared.usage.UsageFault.{UsageFault}
 use Rattle.gomod_words.specs.declared.usage.UsageFault.TheVariants.{NoMemory, Help, Version, Line, BadPath, BadProxy}
 use Rattle.gomod_words.specs.declared.usage.Command.{Command}
 use Rattle.gomod_words.specs.declared.usage.Places.{Places}
-use Rattle.gm_graph_listing.specs.Outcomes.{IsAnswerOver, longest}
-use Rattle.gm_report.specs.Outcome.{Outcome}
+use Rattle.gomod_run.specs.Outcomes.{IsAnswerOver, longest}
+use Rattle.gomod_run.specs.Outcome.{Outcome}
 use Rattle.gomod_run.specs.Held.{HoldsOne}
 use Rattle.gomod_run.specs.Program.{AreOfOneFile, IsFolderOutcome, IsInputOutcome, IsUnreadableWords, IsProgramOutcome, IsProgramStatus, IsServed, IsWordsOutcome, MayBeTold, usage_outcome}
 use Rattle.gm_store.specs.States.{StoreState}

@@ -4,8 +4,8 @@ use Rattle.gm_syntax.specs.Parsed.{IsParsedAs}
 use Rattle.gm_syntax.specs.declared.fault.SyntaxFault.{SyntaxFault}
 use Rattle.gm_syntax.specs.declared.fault.SyntaxFault.TheVariants as syntax
 use Rattle.gm_graph.specs.declared.cache.class.Misreading.TheVariants as misreading
-use Rattle.gm_report.specs.FromFaults.{report_by_syntax}
-use Rattle.gm_report.specs.Outcome.{OrNoMemory, report_outcome}
+use Rattle.gomod_run.specs.FromFaults.{report_by_syntax}
+use Rattle.gomod_run.specs.Outcome.{OrNoMemory, report_outcome}
 use Rattle.gomod_run.specs.Runs.{IsFmtOutcome}
 
 -- the outcome of `fmt` over bytes that are not a document

@@ -2,11 +2,11 @@
 use Rattle.std.proofs.Common.{◌≡◌, ◌∙◌, ◌++◌, ◌∷◌, ℕ, List, [], Option, Some, None, ap, subst, sym, inl, inr}
 use Rattle.std.proofs.lemmas.List.{append_cancel_left}
 use Rattle.gm_store.specs.Asked.{Name, answer_in}
-use Rattle.gm_graph_listing.specs.Outcomes.{Given, IsAnswerOver, IsOutcome, Prints, PrintsChain, PrintsGraph, PrintsList, answers, given}
-use Rattle.gm_graph_listing.specs.Needs.{AnswersByName}
-use Rattle.gm_report.specs.Outcome.{Outcome, failed}
-use Rattle.gm_report.specs.Reports.{device_line}
-use Rattle.gm_graph_listing.proofs.OneOutcome.{one_chain_outcome, one_graph_outcome, one_list_outcome}
+use Rattle.gomod_run.specs.Outcomes.{Given, IsAnswerOver, IsOutcome, Prints, PrintsChain, PrintsGraph, PrintsList, answers, given}
+use Rattle.gomod_run.specs.Needs.{AnswersByName}
+use Rattle.gomod_run.specs.Outcome.{Outcome, failed}
+use Rattle.gomod_run.specs.Reports.{device_line}
+use Rattle.gomod_run.proofs.OneOutcome.{one_chain_outcome, one_graph_outcome, one_list_outcome}
 use Rattle.gomod_words.specs.declared.usage.Command.TheVariants.{Fmt, Edit, Versions, Graph, List as Rows, Chain}
 use Rattle.gomod_run.specs.Laws.{OneRun}
 use Rattle.gm_store.specs.States.{StoreState}

@@ -2,11 +2,11 @@
 use Rattle.std.proofs.Common.{◌≡◌, ◌∙◌, ◌++◌, ◌∷◌, ℕ, Bool, List, [], Option, Some, None, ap, append-nil, refl, sym, inl, inr}
 use Rattle.std.proofs.lemmas.List.{append_cancel_left}
 use Rattle.gm_store.specs.Asked.{Name, Reply, absent, answer_in, bytes, too_long}
-use Rattle.gm_graph_listing.specs.Laws.{AnswerAlike, AreAlike}
-use Rattle.gm_graph_listing.specs.Outcomes.{Given, IsAnswerOver, IsOutcome, Prints, PrintsChain, PrintsGraph, PrintsList, answers, given}
-use Rattle.gm_graph_listing.specs.Needs.{AnswersByName}
-use Rattle.gm_report.specs.Outcome.{Outcome}
-use Rattle.gm_graph_listing.proofs.OneOutcome.{alike_chains, alike_graphs, alike_lists}
+use Rattle.gomod_run.specs.ListingLaws.{AnswerAlike, AreAlike}
+use Rattle.gomod_run.specs.Outcomes.{Given, IsAnswerOver, IsOutcome, Prints, PrintsChain, PrintsGraph, PrintsList, answers, given}
+use Rattle.gomod_run.specs.Needs.{AnswersByName}
+use Rattle.gomod_run.specs.Outcome.{Outcome}
+use Rattle.gomod_run.proofs.OneOutcome.{alike_chains, alike_graphs, alike_lists}
 use Rattle.gomod_words.specs.declared.usage.Command.{Command}
 use Rattle.gomod_words.specs.declared.usage.Command.TheVariants.{Fmt, Edit, Versions, Graph, List as Rows, Chain}
 use Rattle.gomod_run.specs.Laws.{OneForStores}

@@ -4,8 +4,8 @@ use Rattle.gm_file_edit.specs.Edits.{Edit, edit_in}
 use Rattle.gm_file_edit.specs.Kinds.{is_fit}
 use Rattle.gm_file_edit.specs.declared.fault.EditFault.{EditFault}
 use Rattle.gm_file_edit.specs.declared.fault.EditFault.TheVariants.{NoMemory, Misfit}
-use Rattle.gm_report.specs.Outcome.{OrNoMemory, report_outcome}
-use Rattle.gm_report.specs.declared.report.Report.{Report}
+use Rattle.gomod_run.specs.Outcome.{OrNoMemory, report_outcome}
+use Rattle.gomod_run.specs.declared.reports.report.Report.{Report}
 use Rattle.gomod_run.specs.Editing.{IsRefusedOperation, refusal_of}
 use Rattle.gomod_run.specs.Refusals.{report_by_edit}
 

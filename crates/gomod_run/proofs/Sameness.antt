@@ -18,10 +18,10 @@ use Rattle.gomod_words.specs.Usage.{texts_in}
 use Rattle.gomod_words.specs.declared.usage.Command.{Command}
 use Rattle.gomod_words.specs.declared.usage.Command.TheVariants.{Fmt, Edit, Versions, Graph, List as Rows, Chain}
 use Rattle.gm_graph.proofs.OneReading.{one_reading}
-use Rattle.gm_report.specs.Outcome.{Outcome, printed, refused}
-use Rattle.gm_report.specs.Reports.{FaultPlace, main_line, syntax_place}
-use Rattle.gm_graph_listing.specs.Needs.{AnswersByName}
-use Rattle.gm_graph_listing.proofs.OneRead.{misread_or_lines, one_place, same_lines}
+use Rattle.gomod_run.specs.Outcome.{Outcome, printed, refused}
+use Rattle.gomod_run.specs.Reports.{FaultPlace, main_line, syntax_place}
+use Rattle.gomod_run.specs.Needs.{AnswersByName}
+use Rattle.gomod_run.proofs.OneRead.{misread_or_lines, one_place, same_lines}
 use Rattle.gomod_run.specs.Editing.{IsEditOutcome, edited_in_turn, edits_outcome, refusals_from}
 use Rattle.gomod_run.specs.Runs.{IsFmtOutcome, StatesOutcome}
 use Rattle.gomod_run.specs.Versions.{IsOutcomeByList, IsListedOutcome, IsShownOutcome, IsVersionsOutcome, shown_by}

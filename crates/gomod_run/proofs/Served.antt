@@ -15,10 +15,10 @@ use Rattle.gm_store.specs.declared.fallback.proxy_list.ProxyList.{ProxyList}
 use Rattle.gomod_words.specs.declared.usage.Command.{Command}
 use Rattle.gomod_words.specs.declared.usage.Command.TheVariants.{Fmt, Edit, Versions, Graph, List as Rows, Chain}
 use Rattle.gomod_words.specs.declared.usage.Places.{Places}
-use Rattle.gm_graph_listing.specs.Outcomes.{answers, longest}
-use Rattle.gm_report.specs.Outcome.{OrNoMemory, Outcome, code_of, report_outcome}
-use Rattle.gm_report.specs.declared.report.Report.{Report}
-use Rattle.gm_report.specs.declared.status.Status.{Status}
+use Rattle.gomod_run.specs.Outcomes.{answers, longest}
+use Rattle.gomod_run.specs.Outcome.{OrNoMemory, Outcome, code_of, report_outcome}
+use Rattle.gomod_run.specs.declared.reports.report.Report.{Report}
+use Rattle.gomod_run.specs.declared.reports.status.Status.{Status}
 use Rattle.gomod_run.specs.declared.inputs.Inputs.{Inputs}
 use Rattle.gomod_run.specs.Program.{IsMainServed, IsQueryRun, IsServed, IsSumsServed, MayBeTold}
 use Rattle.gomod_run.specs.Queries.{RunsTo}

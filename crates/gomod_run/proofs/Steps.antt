@@ -15,15 +15,15 @@ use Rattle.gm_graph.specs.declared.cache.class.Class.{Class}
 use Rattle.gm_graph.specs.declared.cache.reading.FileReading.{FileReading}
 use Rattle.gm_graph.specs.Reading.{IsContentReading, IsFileReading}
 use Rattle.gm_graph.specs.Summaries.{reading_of}
-use Rattle.gm_report.specs.Outcome.{OrNoMemory, Outcome, failed, out_of_memory, outcome_view, printed, refused, report_outcome}
-use Rattle.gm_report.specs.declared.report.Report.{Report}
-use Rattle.gm_report.specs.declared.report.Report.TheVariants as report
-use Rattle.gm_report.specs.Reports.{device_line, list_line}
+use Rattle.gomod_run.specs.Outcome.{OrNoMemory, Outcome, failed, out_of_memory, outcome_view, printed, refused, report_outcome}
+use Rattle.gomod_run.specs.declared.reports.report.Report.{Report}
+use Rattle.gomod_run.specs.declared.reports.report.Report.TheVariants as report
+use Rattle.gomod_run.specs.Reports.{device_line, list_line}
 use Rattle.gomod_run.specs.Asking.{IsAnsweredAsk, IsAsked, IsLatestAsked, IsRefusedAt, IsUnanswered}
 use Rattle.gomod_run.specs.Listing.{IsAllOutcome, IsListAsked, IsShownAsked}
 use Rattle.gm_store.specs.States.{StoreState}
-use Rattle.gm_graph_listing.specs.Needs.{AnsweredAll, AnswersByName, AskedInTurn, FailsInTurn}
-use Rattle.gm_graph_listing.proofs.InTurn.{IsWanted, none_in_turn}
+use Rattle.gomod_run.specs.Needs.{AnsweredAll, AnswersByName, AskedInTurn, FailsInTurn}
+use Rattle.gomod_run.proofs.InTurn.{IsWanted, none_in_turn}
 use Rattle.gomod_run.specs.Runs.{IsRunOutcome}
 use Rattle.gomod_run.specs.Versions.{IsEndByList, IsRefusedList, IsShownOutcome, IsUnfetchable, IsVersionsOutcome, NeedsFile, VersionsNeed, shown_by, versions_line}
 use Rattle.gomod_run.proofs.Answering.{file_answer, list_answer}

@@ -2,10 +2,10 @@
 use Rattle.std.proofs.Common.{◌≡◌, ℕ, List, MatchResult, Result, Ok, Err, inl, inr, refl, subst}
 use Rattle.gm_store.specs.Taken.{SinkState}
 use Rattle.gm_store.specs.declared.sinks.WriteFault.{WriteFault}
-use Rattle.gm_report.proofs.Takings.{took_nothing}
-use Rattle.gm_report.specs.Outcome.{Outcome, code_of, printed, report_outcome, report_status, report_text}
-use Rattle.gm_report.specs.Taking.{Took, TookAll, TookPrefix}
-use Rattle.gm_report.specs.declared.report.Report.{Report}
+use Rattle.gomod_run.proofs.Takings.{took_nothing}
+use Rattle.gomod_run.specs.Outcome.{Outcome, code_of, printed, report_outcome, report_status, report_text}
+use Rattle.gomod_run.specs.Taking.{Took, TookAll, TookPrefix}
+use Rattle.gomod_run.specs.declared.reports.report.Report.{Report}
 use Rattle.gomod_run.specs.Program.{usage_error}
 use Rattle.gomod_run.specs.Written.{EndsAsStated, IsWritten}
 

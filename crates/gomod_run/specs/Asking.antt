@@ -2,9 +2,9 @@
 use Rattle.std.specs.Prelude.{◌≡◌, ◌⊎◌, ◌++◌, ◌∷◌, ℕ, List, [], Result, Ok, Err}
 use Rattle.gm_store.specs.Asked.{Name, Reply, mod_file}
 use Rattle.gm_store.specs.States.{StoreState}
-use Rattle.gm_report.specs.Outcome.{OrNoMemory, Outcome, failed, out_of_memory, report_outcome}
-use Rattle.gm_report.specs.Reports.{device_line}
-use Rattle.gm_report.specs.declared.report.Report.{Report}
+use Rattle.gomod_run.specs.Outcome.{OrNoMemory, Outcome, failed, out_of_memory, report_outcome}
+use Rattle.gomod_run.specs.Reports.{device_line}
+use Rattle.gomod_run.specs.declared.reports.report.Report.{Report}
 use Rattle.gomod_run.specs.Versions.{IsShownOutcome}
 
 -- the file is answered, with this reply

@@ -10,9 +10,9 @@ use Rattle.gm_syntax.specs.Tokens.{Placed}
 use Rattle.gm_file_edit.specs.Edited.{edited}
 use Rattle.gm_file_edit.specs.Kinds.{is_fit}
 use Rattle.gm_file_edit.specs.Edits.{Edit, edit_in}
-use Rattle.gm_graph_listing.specs.Outcomes.{IsMainOf, IsMalformedMain}
-use Rattle.gm_report.specs.Outcome.{Outcome, printed, refused}
-use Rattle.gm_report.specs.Reports.{FaultPlace, main_line, edit_line}
+use Rattle.gomod_run.specs.Outcomes.{IsMainOf, IsMalformedMain}
+use Rattle.gomod_run.specs.Outcome.{Outcome, printed, refused}
+use Rattle.gomod_run.specs.Reports.{FaultPlace, main_line, edit_line}
 
 -- why a parsed operation is refused, if it is
 abbrev pub refusal_of : Option Edit → Option (List ℕ)

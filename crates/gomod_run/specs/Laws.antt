@@ -1,8 +1,8 @@
 -- Laws of runs, which follow from the definitions alone.
 use Rattle.std.specs.Prelude.{◌≡◌, ◌⊎◌, ◌∷◌, ℕ, List, [], Option, codes}
-use Rattle.gm_graph_listing.specs.Laws.{AnswerAlike}
-use Rattle.gm_graph_listing.specs.Needs.{AnswersByName}
-use Rattle.gm_report.specs.Outcome.{Outcome, printed, out_of_memory}
+use Rattle.gomod_run.specs.ListingLaws.{AnswerAlike}
+use Rattle.gomod_run.specs.Needs.{AnswersByName}
+use Rattle.gomod_run.specs.Outcome.{Outcome, printed, out_of_memory}
 use Rattle.gomod_words.specs.Usage.{version_line}
 use Rattle.gomod_words.specs.declared.usage.Command.{Command}
 use Rattle.gomod_run.specs.Program.{IsWordsOutcome, anything}

@@ -10,3 +10,15 @@ pub mod Refusals
 pub mod Runs
 pub mod Versions
 pub mod Written
+pub mod ReportTexts
+pub mod Reports
+pub mod FromFaults
+pub mod Outcome
+pub mod Taking
+pub mod Giving
+pub mod ListingTexts
+pub mod Outcomes
+pub mod Needs
+pub mod Found
+pub mod ListingLaws
+pub mod PrintedLines

@@ -5,8 +5,8 @@ use Rattle.gm_store.specs.Asked.{Reply, list_file}
 use Rattle.gm_store.specs.Latest.{IsLatest}
 use Rattle.gm_store.specs.Listed.{AreListed}
 use Rattle.gm_store.specs.States.{StoreState}
-use Rattle.gm_report.specs.Outcome.{Outcome, printed, report_outcome}
-use Rattle.gm_report.specs.declared.report.Report.{Report}
+use Rattle.gomod_run.specs.Outcome.{Outcome, printed, report_outcome}
+use Rattle.gomod_run.specs.declared.reports.report.Report.{Report}
 use Rattle.gomod_run.specs.Asking.{IsAnsweredAsk, IsLatestAsked, IsRefusedAt, IsUnanswered}
 use Rattle.gomod_run.specs.Versions.{IsUnfetchable, versions_line}
 

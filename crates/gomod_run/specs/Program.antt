@@ -17,10 +17,10 @@ use Rattle.gomod_words.specs.declared.usage.Command.TheVariants.{Fmt, Edit, Vers
 use Rattle.gomod_words.specs.declared.usage.Places.{Places}
 use Rattle.gomod_words.specs.declared.usage.UsageFault.{UsageFault}
 use Rattle.gomod_words.specs.declared.usage.UsageFault.TheVariants as usage
-use Rattle.gm_graph_listing.specs.Outcomes.{Answers as Told, given, longest}
-use Rattle.gm_graph_listing.specs.Needs.{AnswersByName}
-use Rattle.gm_report.specs.Outcome.{Outcome, code_of, failed, out_of_memory, printed}
-use Rattle.gm_report.specs.Reports.{cannot_read_line, device_line}
+use Rattle.gomod_run.specs.Outcomes.{Answers as Told, given, longest}
+use Rattle.gomod_run.specs.Needs.{AnswersByName}
+use Rattle.gomod_run.specs.Outcome.{Outcome, code_of, failed, out_of_memory, printed}
+use Rattle.gomod_run.specs.Reports.{cannot_read_line, device_line}
 use Rattle.gomod_run.specs.declared.ending.Ending.{Ending}
 use Rattle.gomod_run.specs.declared.ending.Ending.TheVariants.{Run, Usage}
 use Rattle.gomod_run.specs.Runs.{Needs, StatesOutcome}

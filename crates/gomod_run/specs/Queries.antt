@@ -1,7 +1,7 @@
 -- The outcomes of `graph`, `list` and `chain`, and of each command.
 use Rattle.std.specs.Prelude.{ℕ, List, MatchBool, Option}
-use Rattle.gm_graph_listing.specs.Outcomes.{Given, IsAnswerOver, IsOutcome, Prints, PrintsChain, PrintsGraph, PrintsList}
-use Rattle.gm_report.specs.Outcome.{Outcome}
+use Rattle.gomod_run.specs.Outcomes.{Given, IsAnswerOver, IsOutcome, Prints, PrintsChain, PrintsGraph, PrintsList}
+use Rattle.gomod_run.specs.Outcome.{Outcome}
 use Rattle.gomod_words.specs.declared.usage.Command.{Command}
 use Rattle.gomod_words.specs.declared.usage.Command.TheVariants.{Graph, List as Rows, Chain}
 use Rattle.gm_store.specs.States.{StoreState}

@@ -9,7 +9,7 @@ use Rattle.gm_store.specs.Relative.{IsFolderOf}
 use Rattle.gm_store.specs.declared.files.memory.MemoryFiles.{MemoryFiles}
 use Rattle.gm_store.specs.declared.fallback.proxy_list.ProxyList.{ProxyList}
 use Rattle.gm_store.specs.declared.reading.InputFault.{InputFault}
-use Rattle.gm_report.specs.Outcome.{Outcome}
+use Rattle.gomod_run.specs.Outcome.{Outcome}
 use Rattle.gomod_words.specs.declared.usage.Command.{Command}
 use Rattle.gomod_words.specs.declared.usage.Command.TheVariants.{Fmt, Edit, Versions}
 use Rattle.gomod_words.specs.declared.usage.Places.{Places}

@@ -4,9 +4,9 @@ use Rattle.gm_file_edit.specs.declared.fault.EditFault.{EditFault}
 use Rattle.gm_file_edit.specs.declared.fault.EditFault.TheVariants as edit
 use Rattle.gm_file_edit.specs.declared.fault.OpFault.{OpFault}
 use Rattle.gm_file_edit.specs.declared.fault.OpFault.TheVariants as op
-use Rattle.gm_report.specs.declared.report.Refusal.TheVariants as refusal
-use Rattle.gm_report.specs.declared.report.Report.{Report}
-use Rattle.gm_report.specs.declared.report.Report.TheVariants as report
+use Rattle.gomod_run.specs.declared.reports.report.Refusal.TheVariants as refusal
+use Rattle.gomod_run.specs.declared.reports.report.Report.{Report}
+use Rattle.gomod_run.specs.declared.reports.report.Report.TheVariants as report
 
 -- the report of an operation that can't be parsed
 abbrev pub report_by_op : ℕ → OpFault → Report

@@ -8,9 +8,9 @@ use Rattle.gm_syntax.specs.Layout.{layout}
 use Rattle.gm_syntax.specs.LineViews.{plain_lines}
 use Rattle.gm_syntax.specs.Parsed.{IsParsedAs}
 use Rattle.gm_syntax.specs.Tokens.{Placed}
-use Rattle.gm_report.specs.Outcome.{Outcome, failed, printed, refused}
-use Rattle.gm_report.specs.Reports.{FaultPlace, device_line, main_line, syntax_place}
-use Rattle.gm_graph_listing.specs.Needs.{AnsweredAll, AnswersByName, GraphNeeds}
+use Rattle.gomod_run.specs.Outcome.{Outcome, failed, printed, refused}
+use Rattle.gomod_run.specs.Reports.{FaultPlace, device_line, main_line, syntax_place}
+use Rattle.gomod_run.specs.Needs.{AnsweredAll, AnswersByName, GraphNeeds}
 use Rattle.gomod_words.specs.Usage.{texts_in}
 use Rattle.gomod_words.specs.declared.usage.Command.{Command}
 use Rattle.gomod_words.specs.declared.usage.Command.TheVariants.{Fmt, Edit, Versions, Graph, List as Rows, Chain}

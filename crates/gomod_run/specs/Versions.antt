@@ -10,9 +10,9 @@ use Rattle.gm_file.specs.Fields.{Dependency}
 use Rattle.gm_file_retract.specs.Shown.{shown_of}
 use Rattle.gm_graph.specs.declared.cache.class.Class.{Class}
 use Rattle.gm_graph.specs.Reading.{IsFileReading}
-use Rattle.gm_report.specs.Outcome.{Outcome, printed, refused}
-use Rattle.gm_report.specs.Reports.{fault_line, list_line}
-use Rattle.gm_graph_listing.specs.Needs.{AnswersByName}
+use Rattle.gomod_run.specs.Outcome.{Outcome, printed, refused}
+use Rattle.gomod_run.specs.Reports.{fault_line, list_line}
+use Rattle.gomod_run.specs.Needs.{AnswersByName}
 
 -- the path and the versions, separated by single spaces
 abbrev pub versions_line : List ℕ → List (List ℕ) → List ℕ

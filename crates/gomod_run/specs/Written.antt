@@ -1,8 +1,8 @@
 -- What sinks hold after texts were written to them.
 use Rattle.std.specs.Prelude.{◌≡◌, ◌⊎◌, ℕ, List}
 use Rattle.gm_store.specs.Taken.{SinkState}
-use Rattle.gm_report.specs.Outcome.{OrNoMemory, Outcome}
-use Rattle.gm_report.specs.Taking.{TookAll, TookPrefix}
+use Rattle.gomod_run.specs.Outcome.{OrNoMemory, Outcome}
+use Rattle.gomod_run.specs.Taking.{TookAll, TookPrefix}
 
 -- both texts were written
 abbrev pub WroteBoth : List ℕ → List ℕ → SinkState → SinkState → SinkState → SinkState → Type 0

@@ -5,7 +5,7 @@ ghost use Rattle.gm_store.specs.Asked.{answer_in, name_of};
 ghost use Rattle.gm_store.specs.States.{HasServed};
 ghost use Rattle.gomod_run.specs.Asking.{IsAsked};
 
-use gm_report::Report;
+use crate::reports::report::Report;
 use gm_store::{AskFault, Asks, FileName};
 
 /// Asks for a file that has not been asked for before. If the store's device fails, that is reported; otherwise only

@@ -5,15 +5,15 @@ ghost use Rattle.std.specs.Prelude.{◌≡◌, ◌∷◌, [], IfErr, MatchResult
 ghost use Rattle.std.specs.List.{filter_map};
 ghost use Rattle.std.specs.String.{string_bytes};
 ghost use Rattle.gm_file_edit.specs.Edits.{edit_in};
-ghost use Rattle.gm_graph_listing.specs.Outcomes.{IsMainOf, IsMalformedMain};
-ghost use Rattle.gm_report.specs.Outcome.{OrNoMemory, outcome_view, refused, report_outcome};
-ghost use Rattle.gm_report.specs.Reports.{FaultPlace, main_line};
+ghost use Rattle.gomod_run.specs.Outcomes.{IsMainOf, IsMalformedMain};
+ghost use Rattle.gomod_run.specs.Outcome.{OrNoMemory, outcome_view, refused, report_outcome};
+ghost use Rattle.gomod_run.specs.Reports.{FaultPlace, main_line};
 ghost use Rattle.gomod_run.specs.Editing.{IsEditOutcome, IsRefusedOperation, edited_in_turn, refusal_of};
 ghost use Rattle.gomod_run.specs.Refusals.{report_by_edit, report_by_op};
 
+use crate::listing::reading::main_file;
+use crate::reports::report::{Refusal, Report};
 use gm_file_edit::{EditFault, Editor, Op, OpFault};
-use gm_graph_listing::main_file;
-use gm_report::{Refusal, Report};
 use std::alloc::Global;
 
 /// The report of a text that is not parsed as the operation of this number.

@@ -3,7 +3,7 @@
 ghost use Rattle.std.specs.Prelude.{◌≡◌};
 ghost use Rattle.gomod_run.specs.Program.{ending_code};
 
-use gm_report::Status;
+use crate::reports::status::Status;
 
 /// How the program ends: as a run does, or with a usage error.
 #[derive(Clone, Copy, Debug, PartialEq, Eq)]

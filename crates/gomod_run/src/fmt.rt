@@ -1,9 +1,9 @@
 //! `fmt`: `gm_syntax` parses and lays out, and this file makes the text or the report of the result.
 
-ghost use Rattle.gm_report.specs.Outcome.{OrNoMemory, outcome_view};
+ghost use Rattle.gomod_run.specs.Outcome.{OrNoMemory, outcome_view};
 ghost use Rattle.gomod_run.specs.Runs.{IsFmtOutcome};
 
-use gm_report::Report;
+use crate::reports::report::Report;
 use gm_syntax::Doc;
 use std::alloc::Global;
 

@@ -4,11 +4,11 @@ ghost use Rattle.std.specs.Prelude.{◌≡◌, IfErr, IfOk, MatchResult, Ok, Err
 ghost use Rattle.std.specs.Option.{option_map};
 ghost use Rattle.std.specs.String.{string_bytes};
 ghost use Rattle.gm_store.specs.Openings.{MayRead};
-ghost use Rattle.gm_report.specs.Outcome.{report_outcome};
+ghost use Rattle.gomod_run.specs.Outcome.{report_outcome};
 ghost use Rattle.gomod_run.specs.Program.{unread_outcome};
 ghost use Rattle.gomod_run.specs.Reads.{AreBothRead, AreInputs, AreSumsInput, AreSumsUnread, IsFileUnread, IsMainInput, IsOneUnread, IsUnreadInput};
 
-use gm_report::Report;
+use crate::reports::report::Report;
 use gm_store::{FileSystem, InputFault, read_file};
 use gomod_words::{Command, Places};
 use std::alloc::Global;

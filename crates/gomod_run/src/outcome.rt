@@ -5,9 +5,9 @@ ghost use Rattle.std.specs.Prelude.{◌≡◌, ◌++◌, ◌∷◌, [], Bool, Li
 ghost use Rattle.std.specs.Option.{option_map};
 ghost use Rattle.gm_store.specs.Asked.{Name, answer_in};
 ghost use Rattle.gm_store.specs.States.{HasServed};
-ghost use Rattle.gm_report.specs.Outcome.{OrNoMemory, Outcome, failed, outcome_view};
-ghost use Rattle.gm_report.specs.Reports.{device_line};
-ghost use Rattle.gm_graph_listing.specs.Needs.{AskedInTurn, FailsInTurn};
+ghost use Rattle.gomod_run.specs.Outcome.{OrNoMemory, Outcome, failed, outcome_view};
+ghost use Rattle.gomod_run.specs.Reports.{device_line};
+ghost use Rattle.gomod_run.specs.Needs.{AskedInTurn, FailsInTurn};
 ghost use Rattle.gomod_run.specs.Runs.{Needs};
 ghost use Rattle.gomod_run.specs.Queries.{RunsTo};
 ghost use Rattle.gomod_run.specs.Versions.{IsRefusedList};
@@ -15,9 +15,10 @@ ghost use Rattle.gomod_words.specs.declared.usage.Command.TheVariants.{Versions}
 
 use crate::edit::edit_outcome;
 use crate::fmt::fmt_outcome;
+use crate::listing::answering::answer;
+use crate::listing::query::Query;
+use crate::reports::report::Report;
 use crate::versions::versions_outcome;
-use gm_graph_listing::{Query, answer};
-use gm_report::Report;
 use gm_store::Asks;
 use gomod_words::Command;
 use std::alloc::Global;

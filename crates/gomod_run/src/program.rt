@@ -8,9 +8,11 @@ ghost use Rattle.gomod_run.specs.Program.{IsProgramOutcome, IsProgramStatus, IsU
 ghost use Rattle.gomod_run.specs.Written.{EndsAsStated, IsWritten};
 
 use crate::ending::Ending;
+use crate::reports::report::Report;
+use crate::reports::status::Status;
+use crate::reports::writing::write_line;
 use crate::serving::serve;
 use crate::writing::{print_text, write_report};
-use gm_report::{Report, Status, write_line};
 use gm_store::{FileSystem, Sink, StdSink, WriteFault, write_all};
 use gomod_words::{UsageFault, read_words, unreadable};
 use std::alloc::{AllocError, Global};

@@ -4,9 +4,9 @@ ghost use Rattle.std.specs.Prelude.{◌≡◌, ◌++◌, ◌∷◌, [], Bool, Li
 ghost use Rattle.std.specs.Option.{option_map};
 ghost use Rattle.gm_store.specs.Asked.{Name, answer_in};
 ghost use Rattle.gm_store.specs.States.{HasServed};
-ghost use Rattle.gm_report.specs.Outcome.{Outcome, code_of, failed};
-ghost use Rattle.gm_report.specs.Reports.{device_line};
-ghost use Rattle.gm_graph_listing.specs.Needs.{AnsweredAll, AskedInTurn, FailsInTurn};
+ghost use Rattle.gomod_run.specs.Outcome.{Outcome, code_of, failed};
+ghost use Rattle.gomod_run.specs.Reports.{device_line};
+ghost use Rattle.gomod_run.specs.Needs.{AnsweredAll, AskedInTurn, FailsInTurn};
 ghost use Rattle.gomod_run.specs.Runs.{Needs, is_query};
 ghost use Rattle.gomod_run.specs.Queries.{RunsTo};
 ghost use Rattle.gomod_run.specs.Versions.{IsRefusedList};
@@ -14,8 +14,8 @@ ghost use Rattle.gomod_run.specs.Written.{EndsAsStated, IsWritten};
 ghost use Rattle.gomod_words.specs.declared.usage.Command.TheVariants.{Versions};
 
 use crate::outcome::outcome;
+use crate::reports::status::Status;
 use crate::writing::{print_text, write_report};
-use gm_report::Status;
 use gm_store::{Asks, Sink};
 use gomod_words::Command;
 use std::alloc::Global;
@@ -42,7 +42,7 @@ use std::alloc::Global;
 /// | `PATH: Missing`, `PATH: TooLong` | `Fault` | `versions`: the store has no list, or one that is too long |
 /// | `PATH@VERSION: Missing`, `PATH@VERSION: TooLong` | `Fault` | `versions`: likewise the latest version's go.mod |
 /// | `PATH@VERSION: Malformed LINE KIND` | `Fault` | `versions`: that go.mod has a fault |
-/// | as `gm_graph_listing::answer` says | `Fault` | `graph`, `list`, `chain`: no answer can be given |
+/// | as `answer` says | `Fault` | `graph`, `list`, `chain`: no answer can be given |
 /// | `gomod: device at NAME` | `Device` | the store's device fails at a needed file |
 /// | `gomod: no memory` | `Device` | memory runs out |
 ///
@@ -58,7 +58,7 @@ use std::alloc::Global;
 /// for its retractions, and the versions that they contain are left out. If all versions are asked for, or the list
 /// has none, it is not read, and every listed version is printed. The order is ascending.
 ///
-/// `graph`, `list` and `chain`: text and report are those of `gm_graph_listing::answer`.
+/// `graph`, `list` and `chain`: text and report are those of `answer`.
 ///
 /// The store is asked only for files that are needed, each at most once. If a sink fails, the status is `Device`:
 /// the sink holds a prefix of what was meant for it, and nothing more is written.

@@ -2,17 +2,18 @@
 //! none.
 
 ghost use Rattle.std.specs.Prelude.{◌≡◌, IfErr, IfOk, None, Some};
-ghost use Rattle.gm_report.specs.Outcome.{OrNoMemory, code_of, report_outcome};
+ghost use Rattle.gomod_run.specs.Outcome.{OrNoMemory, code_of, report_outcome};
 ghost use Rattle.gomod_run.specs.Program.{IsServed};
 ghost use Rattle.gomod_run.specs.Reads.{with_proxy};
 ghost use Rattle.gm_store.specs.Taken.{SinkState};
 ghost use Rattle.gomod_run.specs.Written.{EndsAsStated, IsWritten};
 
 use crate::inputs::read_inputs;
+use crate::reports::report::Report;
+use crate::reports::status::Status;
 use crate::running::run;
 use crate::stores::{folders_of, memory_store, store_folder};
 use crate::writing::write_report;
-use gm_report::{Report, Status};
 use gm_store::{FileSystem, ProxyList, Sink};
 use gomod_words::{Command, Places};
 use std::alloc::Global;

@@ -6,14 +6,14 @@ ghost use Rattle.std.specs.String.{string_bytes};
 ghost use Rattle.gm_store.specs.Asked.{Name, Reply, list_file};
 ghost use Rattle.gm_store.specs.Memory.{pairs_of};
 ghost use Rattle.gm_store.specs.Views.{asked_by};
-ghost use Rattle.gm_report.specs.Outcome.{report_outcome};
+ghost use Rattle.gomod_run.specs.Outcome.{report_outcome};
 ghost use Rattle.gomod_run.specs.Held.{HoldsOne};
 ghost use Rattle.gomod_run.specs.Program.{MayBeTold};
 ghost use Rattle.gomod_run.specs.Reads.{HoldsInput, IsStoreFolder, IsUnreadList, IsUnreadStore};
 
 use crate::inputs::unread_report;
+use crate::reports::report::Report;
 use gm_name::{ModPath, NoMemory};
-use gm_report::Report;
 use gm_store::{
     Asks, FileName, FileSystem, FolderReader, MemoryFiles, ProxyList, folder_of, read_limited,
 };

@@ -11,21 +11,21 @@ ghost use Rattle.gm_store.specs.Asked.{IsWithinLimit, Name, answer_in, bytes, mo
 ghost use Rattle.gm_store.specs.States.{HasServed};
 ghost use Rattle.gm_graph.specs.Reading.{IsFileReading};
 ghost use Rattle.gm_graph.specs.Summaries.{reading_of};
-ghost use Rattle.gm_report.specs.Outcome.{OrNoMemory, Outcome, failed, out_of_memory, outcome_view, report_outcome};
-ghost use Rattle.gm_report.specs.Reports.{device_line};
+ghost use Rattle.gomod_run.specs.Outcome.{OrNoMemory, Outcome, failed, out_of_memory, outcome_view, report_outcome};
+ghost use Rattle.gomod_run.specs.Reports.{device_line};
 ghost use Rattle.gm_store.specs.Latest.{IsLatest};
-ghost use Rattle.gm_graph_listing.specs.Needs.{AskedInTurn, FailsInTurn};
+ghost use Rattle.gomod_run.specs.Needs.{AskedInTurn, FailsInTurn};
 ghost use Rattle.gomod_run.specs.Asking.{IsLatestAsked};
 ghost use Rattle.gomod_run.specs.Listing.{IsAllOutcome, IsListAsked, IsShownAsked};
 ghost use Rattle.gomod_run.specs.Runs.{IsRunOutcome};
 ghost use Rattle.gomod_run.specs.Versions.{IsEndByList, IsRefusedList, IsShownOutcome, IsVersionsOutcome, VersionsNeed, versions_line};
 
 use crate::asking::ask_for;
+use crate::reports::report::Report;
 use gm_file::Interval;
 use gm_file_retract::shown_versions;
 use gm_graph::{Class, FileReading};
 use gm_name::{BorrowedVersion, KnownNames, ModPath, ModVersion, NoMemory};
-use gm_report::Report;
 use gm_store::{Answer, Asks, FileName, latest, versions_of};
 use std::alloc::Global;
 

@@ -2,10 +2,11 @@
 //! one place.
 
 ghost use Rattle.gm_store.specs.Taken.{SinkState};
-ghost use Rattle.gm_report.specs.Outcome.{code_of, printed, report_outcome};
+ghost use Rattle.gomod_run.specs.Outcome.{code_of, printed, report_outcome};
 ghost use Rattle.gomod_run.specs.Written.{IsWritten};
 
-use gm_report::{Report, Status};
+use crate::reports::report::Report;
+use crate::reports::status::Status;
 use gm_store::{Sink, write_all};
 
 /// Writes a text to the output, and returns the status of the run: `Done`, or `Device` if the sink fails.

@@ -3,8 +3,8 @@
 use super::{OUT_OF_MEMORY, assert_same, path, version};
 use gm_graph::{Class, Fault};
 use gm_name::ModVer;
-use gm_report::Report;
 use gm_store::{FileName, StdSink};
+use gomod_run::Report;
 use std::alloc::Global;
 use std::io;
 use std::io::Write;

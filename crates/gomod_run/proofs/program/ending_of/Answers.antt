@@ -1,5 +1,5 @@
 use Rattle.std.proofs.Common.{inr, refl, rules}
-use Rattle.gm_report.specs.Outcome.{out_of_memory}
+use Rattle.gomod_run.specs.Outcome.{out_of_memory}
 use Rattle.gomod_run.specs.Program.{usage_outcome}
 use Rattle.gomod_run.proofs.Endings.{program_ends, unreadable_ends}
 use Rattle.gomod_run.proofs.WrittenTexts.{ends_with}

@@ -1,5 +1,5 @@
 use Rattle.std.proofs.Common.{map, refl}
-use Rattle.gm_report.specs.Outcome.{code_of}
+use Rattle.gomod_run.specs.Outcome.{code_of}
 use Rattle.gomod_run.specs.Program.{usage_outcome}
 use Rattle.gomod_run.proofs.Endings.{fault_ends, words_end}
 use Rattle.gomod_run.proofs.WrittenTexts.{ends_with}

@@ -1,9 +1,9 @@
 use Rattle.std.proofs.Common.{◌∙◌, ◌++◌, [], List, ap, codes, sym, ℕ}
 use Rattle.std.specs.String.{string_bytes}
-use Rattle.gm_report.proofs.Lines.{two_pieces}
-use Rattle.gm_report.proofs.Takings.{took_piece}
-use Rattle.gm_report.specs.Outcome.{out_of_memory, printed}
-use Rattle.gm_report.specs.Texts.{line}
+use Rattle.gomod_run.proofs.ReportLines.{two_pieces}
+use Rattle.gomod_run.proofs.Takings.{took_piece}
+use Rattle.gomod_run.specs.Outcome.{out_of_memory, printed}
+use Rattle.gomod_run.specs.ReportTexts.{line}
 use Rattle.gomod_run.specs.Program.{usage_error, usage_outcome}
 use Rattle.gomod_run.proofs.WrittenTexts.{usage_written, written_as}
 use Rattle.gomod_run.proofs.program.tell.Goals as goal

@@ -1,8 +1,8 @@
 use Rattle.std.proofs.Common.{◌∙◌, ap}
 use Rattle.std.specs.Option.{option_map}
 use Rattle.std.specs.String.{string_bytes}
-use Rattle.gm_report.specs.Outcome.{code_of, failed, printed, report_outcome}
-use Rattle.gm_report.specs.Reports.{device_line}
+use Rattle.gomod_run.specs.Outcome.{code_of, failed, printed, report_outcome}
+use Rattle.gomod_run.specs.Reports.{device_line}
 use Rattle.gomod_run.proofs.AllAsked.{done_if_memory, written_done}
 use Rattle.gomod_run.proofs.WrittenTexts.{written_as}
 use Rattle.gomod_run.proofs.running.run.Goals as goal

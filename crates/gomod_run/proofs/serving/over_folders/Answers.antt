@@ -2,8 +2,8 @@ use Rattle.std.proofs.Common.{ℕ, List, Some, inl, option_map, subst}
 use Rattle.std.specs.String.{string_bytes}
 use Rattle.gm_store.specs.Views.{fallback_state}
 use Rattle.gm_store.proofs.Serving.{may_all}
-use Rattle.gm_report.specs.Outcome.{OrNoMemory, report_outcome}
-use Rattle.gm_report.specs.declared.report.Report.{Report}
+use Rattle.gomod_run.specs.Outcome.{OrNoMemory, report_outcome}
+use Rattle.gomod_run.specs.declared.reports.report.Report.{Report}
 use Rattle.gomod_run.specs.Program.{IsServed}
 use Rattle.gomod_run.specs.Reads.{IsStoreFolder, with_proxy}
 use Rattle.gomod_run.proofs.Endings.{ends_weaken}

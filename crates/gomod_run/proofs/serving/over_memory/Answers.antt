@@ -1,8 +1,8 @@
 use Rattle.std.proofs.Common.{None, inl, option_map}
 use Rattle.gm_store.specs.Memory.{memory_files_state}
 use Rattle.gm_store.proofs.Serving.{may_all}
-use Rattle.gm_report.specs.Outcome.{OrNoMemory, report_outcome}
-use Rattle.gm_report.specs.declared.report.Report.{Report}
+use Rattle.gomod_run.specs.Outcome.{OrNoMemory, report_outcome}
+use Rattle.gomod_run.specs.declared.reports.report.Report.{Report}
 use Rattle.gomod_run.specs.Program.{IsServed}
 use Rattle.gomod_run.specs.Reads.{with_proxy}
 use Rattle.gomod_run.proofs.Endings.{ends_weaken}

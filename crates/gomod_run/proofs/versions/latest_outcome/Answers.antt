@@ -1,7 +1,7 @@
 use Rattle.std.proofs.Common.{◌≡◌, ◌∙◌, ℕ, List, None, ap, inr, refl, subst, sym}
 use Rattle.std.proofs.lemmas.Result.{err_from_is_err_and}
 use Rattle.gm_store.specs.Asked.{Name, answer_in, mod_file, reply_of}
-use Rattle.gm_report.specs.Outcome.{outcome_view}
+use Rattle.gomod_run.specs.Outcome.{outcome_view}
 use Rattle.gomod_run.proofs.Steps.{latest_answered, latest_unanswered, no_memory}
 use Rattle.gomod_run.proofs.versions.latest_outcome.Goals as goal
 

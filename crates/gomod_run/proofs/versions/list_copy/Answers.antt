@@ -1,7 +1,7 @@
 use Rattle.std.proofs.Common.{◌≡◌, refl}
 use Rattle.std.proofs.lemmas.Result.{err_from_is_err_and}
 use Rattle.gm_store.specs.Asked.{reply_of}
-use Rattle.gm_report.specs.Outcome.{out_of_memory}
+use Rattle.gomod_run.specs.Outcome.{out_of_memory}
 use Rattle.gomod_run.proofs.Steps.{list_ends, none_ends}
 use Rattle.gomod_run.proofs.versions.list_copy.Goals as goal
 

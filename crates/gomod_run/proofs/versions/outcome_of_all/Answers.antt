@@ -1,7 +1,7 @@
 use Rattle.std.proofs.Common.{ap, inl, inr}
 use Rattle.std.proofs.lemmas.Result.{err_from_is_err_and}
 use Rattle.gm_store.specs.Asked.{reply_of}
-use Rattle.gm_report.specs.Outcome.{OrNoMemory, outcome_view, printed}
+use Rattle.gomod_run.specs.Outcome.{OrNoMemory, outcome_view, printed}
 use Rattle.gomod_run.specs.Listing.{IsAllOutcome}
 use Rattle.gomod_run.proofs.Steps.{list_ends, no_memory, none_ends}
 use Rattle.gomod_run.proofs.versions.outcome_of_all.Goals as goal

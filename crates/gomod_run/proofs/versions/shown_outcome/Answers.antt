@@ -3,7 +3,7 @@ use Rattle.gm_file.specs.Directives.{VersionInterval}
 use Rattle.gm_file_retract.specs.Shown.{shown_of}
 use Rattle.gm_store.specs.Asked.{mod_file, reply_of}
 use Rattle.gm_graph.specs.Summaries.{reading_of}
-use Rattle.gm_report.specs.Outcome.{printed}
+use Rattle.gomod_run.specs.Outcome.{printed}
 use Rattle.gomod_run.specs.Versions.{versions_line}
 use Rattle.gomod_run.proofs.Steps.{no_memory, shown_read}
 use Rattle.gomod_run.proofs.versions.shown_outcome.Goals as goal

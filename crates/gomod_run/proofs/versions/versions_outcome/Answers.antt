@@ -1,7 +1,7 @@
 use Rattle.std.proofs.lemmas.Result.{err_from_is_err_and}
 use Rattle.gm_store.specs.Asked.{reply_of}
 use Rattle.gm_store.proofs.Serving.{served_both}
-use Rattle.gm_report.specs.Outcome.{outcome_view}
+use Rattle.gomod_run.specs.Outcome.{outcome_view}
 use Rattle.gomod_run.proofs.Steps.{all_run, copied_run, file_unasked, uncopied_run, unlisted_run}
 use Rattle.gomod_run.proofs.versions.versions_outcome.Goals as goal
 

@@ -1,6 +1,6 @@
 use Rattle.std.proofs.Common.{Err, Ok, subst}
-use Rattle.gm_report.proofs.Takings.{took_piece}
-use Rattle.gm_report.specs.Taking.{TookAll, TookPrefix}
+use Rattle.gomod_run.proofs.Takings.{took_piece}
+use Rattle.gomod_run.specs.Taking.{TookAll, TookPrefix}
 use Rattle.gomod_run.proofs.WrittenTexts.{text_cut, text_written}
 use Rattle.gomod_run.proofs.writing.print_text.Goals as goal
 

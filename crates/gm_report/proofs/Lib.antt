@@ -1,3 +1,0 @@
-pub mod Takings
-pub mod Waiting
-pub mod Lines

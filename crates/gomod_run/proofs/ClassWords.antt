@@ -1,0 +1,196 @@
+-- The text of a class determines it.
+use Rattle.std.proofs.Common.{◌≡◌, ◌∙◌, ◌^◌, ◌<◌, ◌≤◌, ℕ, Bool, true, false, cond, List, ◌∷◌, ◌++◌, Option, Some, None, codes, ap, append_assoc, arith, refl, sym, subst}
+use Rattle.std.specs.Prelude.{nat_lt}
+use Rattle.std.specs.Char.{is_ascii_digit}
+use Rattle.std.specs.Fmt.{decimal}
+use Rattle.std.specs.List.{list_all}
+use Rattle.std.specs.Str.{bytes_eq}
+use Rattle.std.proofs.lemmas.Fmt.{decimal_injective}
+use Rattle.gm_name.proofs.Marks.{decimal-digits}
+use Rattle.gm_syntax.specs.declared.fault.SyntaxKind.TheVariants as syntax
+use Rattle.gm_file.specs.declared.fault.DirectiveKind.TheVariants as directive
+use Rattle.gm_graph.specs.declared.cache.class.Class.{Class}
+use Rattle.gm_graph.specs.declared.cache.class.Class.TheVariants.{NotFetchable, Missing, TooLong, NoSum, SumDiffers, Malformed, WrongPath}
+use Rattle.gm_graph.specs.declared.cache.class.Misreading.{Misreading}
+use Rattle.gm_graph.specs.declared.cache.class.Misreading.TheVariants as misreading
+use Rattle.gm_graph.specs.ClassWords.{misreading_word}
+use Rattle.gomod_run.specs.PrintedLines.{IsProperClass}
+use Rattle.gomod_run.specs.Reports.{class_text, malformed_text}
+use Rattle.gomod_run.proofs.ListLines.{Lacks, both_lack, cut_at, has_it, lacks}
+
+-- ---- the misreading that a word is for
+
+-- the misreading if this is its word, or what else there is
+abbrev if_word : List ℕ → Misreading → Option Misreading → Option Misreading
+if_word word kind other = cond (bytes_eq word (misreading_word kind)) (Some kind) other
+
+abbrev syntax_of : List ℕ → Option Misreading → Option Misreading
+syntax_of word other = if_word word (misreading.Syntax syntax.BadByte)
+    (if_word word (misreading.Syntax syntax.OpenString) (if_word word (misreading.Syntax syntax.BadEscape)
+    (if_word word (misreading.Syntax syntax.BlockComment) (if_word word (misreading.Syntax syntax.StrayClose)
+    (if_word word (misreading.Syntax syntax.NestedOpen) (if_word word (misreading.Syntax syntax.OpenBlock) other))))))
+
+abbrev directive_of : List ℕ → Option Misreading → Option Misreading
+directive_of word other = if_word word (misreading.Directive directive.UnknownVerb)
+    (if_word word (misreading.Directive directive.WrongArguments) (if_word word (misreading.Directive directive.BadPath)
+    (if_word word (misreading.Directive directive.BadVersion) (if_word word (misreading.Directive directive.Misfit)
+    (if_word word (misreading.Directive directive.Repeated) (if_word word (misreading.Directive directive.NoModule)
+    (if_word word (misreading.Directive directive.ConflictingReplace) (if_word word (misreading.Directive directive.BadGo) other))))))))
+
+abbrev misreading_of : List ℕ → Option Misreading
+misreading_of word = if_word word misreading.TooMany (if_word word misreading.NotUtf8 (syntax_of word (directive_of word None)))
+
+word_is : (kind : Misreading) → misreading_of (misreading_word kind) ≡ Some kind
+word_is misreading.TooMany = refl
+word_is misreading.NotUtf8 = refl
+word_is (misreading.Syntax syntax.BadByte) = refl
+word_is (misreading.Syntax syntax.OpenString) = refl
+word_is (misreading.Syntax syntax.BadEscape) = refl
+word_is (misreading.Syntax syntax.BlockComment) = refl
+word_is (misreading.Syntax syntax.StrayClose) = refl
+word_is (misreading.Syntax syntax.NestedOpen) = refl
+word_is (misreading.Syntax syntax.OpenBlock) = refl
+word_is (misreading.Directive directive.UnknownVerb) = refl
+word_is (misreading.Directive directive.WrongArguments) = refl
+word_is (misreading.Directive directive.BadPath) = refl
+word_is (misreading.Directive directive.BadVersion) = refl
+word_is (misreading.Directive directive.Misfit) = refl
+word_is (misreading.Directive directive.Repeated) = refl
+word_is (misreading.Directive directive.NoModule) = refl
+word_is (misreading.Directive directive.ConflictingReplace) = refl
+word_is (misreading.Directive directive.BadGo) = refl
+
+some_same : (one other : Misreading) → Some one ≡ Some other → one ≡ other
+some_same one other e = cc e
+
+-- a word is that of one misreading
+says_misreading : (one other : Misreading) → misreading_word one ≡ misreading_word other → one ≡ other
+says_misreading one other e = some_same one other (sym (word_is one) ∙ ap misreading_of e ∙ word_is other)
+
+-- ---- bytes
+
+-- a byte of a word: none is a blank or a line feed
+abbrev is_byte_of_word : ℕ → Bool
+is_byte_of_word b = nat_lt 32 b
+
+word_bytes : (kind : Misreading) → list_all is_byte_of_word (misreading_word kind) ≡ true
+word_bytes misreading.TooMany = refl
+word_bytes misreading.NotUtf8 = refl
+word_bytes (misreading.Syntax syntax.BadByte) = refl
+word_bytes (misreading.Syntax syntax.OpenString) = refl
+word_bytes (misreading.Syntax syntax.BadEscape) = refl
+word_bytes (misreading.Syntax syntax.BlockComment) = refl
+word_bytes (misreading.Syntax syntax.StrayClose) = refl
+word_bytes (misreading.Syntax syntax.NestedOpen) = refl
+word_bytes (misreading.Syntax syntax.OpenBlock) = refl
+word_bytes (misreading.Directive directive.UnknownVerb) = refl
+word_bytes (misreading.Directive directive.WrongArguments) = refl
+word_bytes (misreading.Directive directive.BadPath) = refl
+word_bytes (misreading.Directive directive.BadVersion) = refl
+word_bytes (misreading.Directive directive.Misfit) = refl
+word_bytes (misreading.Directive directive.Repeated) = refl
+word_bytes (misreading.Directive directive.NoModule) = refl
+word_bytes (misreading.Directive directive.ConflictingReplace) = refl
+word_bytes (misreading.Directive directive.BadGo) = refl
+
+-- a number of a line is small enough for its digits
+small : (n : ℕ) → n ≤ 16777216 → n < 2 ^ 64
+small n le = omega (arith, le)
+
+number_lacks : (c n : ℕ) → is_ascii_digit c ≡ false → n ≤ 16777216 → Lacks c (decimal n)
+number_lacks c n none le = lacks c is_ascii_digit none (decimal n) (decimal-digits n (small n le))
+
+feed_lacked : (text : List ℕ) → list_all is_byte_of_word text ≡ true → Lacks 10 text
+feed_lacked text all = lacks 10 is_byte_of_word refl text all
+
+blank_lacked : (text : List ℕ) → list_all is_byte_of_word text ≡ true → Lacks 32 text
+blank_lacked text all = lacks 32 is_byte_of_word refl text all
+
+begins_plain : Lacks 10 (codes "Malformed ")
+begins_plain = lacks 10 (λ b. nat_lt 10 b) refl (codes "Malformed ") refl
+
+blank_plain : Lacks 10 (codes " ")
+blank_plain = lacks 10 (λ b. nat_lt 10 b) refl (codes " ") refl
+
+malformed_plain : (number : ℕ) (kind : Misreading) → number ≤ 16777216 → Lacks 10 (malformed_text number kind)
+malformed_plain number kind le =
+    both_lack 10 ((codes "Malformed " ++ decimal number) ++ codes " ") (misreading_word kind)
+    (both_lack 10 (codes "Malformed " ++ decimal number) (codes " ")
+    (both_lack 10 (codes "Malformed ") (decimal number) begins_plain (number_lacks 10 number refl le)) blank_plain)
+    (feed_lacked (misreading_word kind) (word_bytes kind))
+
+-- the text of a class has no line feed
+pub class_has_no_feed : (class : Class) → IsProperClass class → Lacks 10 (class_text class)
+class_has_no_feed NotFetchable proper = feed_lacked (codes "NotFetchable") refl
+class_has_no_feed Missing proper = feed_lacked (codes "Missing") refl
+class_has_no_feed TooLong proper = feed_lacked (codes "TooLong") refl
+class_has_no_feed NoSum proper = feed_lacked (codes "NoSum") refl
+class_has_no_feed SumDiffers proper = feed_lacked (codes "SumDiffers") refl
+class_has_no_feed (Malformed number kind) proper = malformed_plain number kind proper
+class_has_no_feed WrongPath proper = feed_lacked (codes "WrongPath") refl
+
+-- ---- `Malformed LINE KIND`
+
+spread : (number : ℕ) (kind : Misreading) → malformed_text number kind ≡ codes "Malformed" ++ 32 ∷ (decimal number ++ 32 ∷ misreading_word kind)
+spread number kind =
+    append_assoc (codes "Malformed " ++ decimal number) (codes " ") (misreading_word kind)
+    ∙ append_assoc (codes "Malformed ") (decimal number) (32 ∷ misreading_word kind)
+
+front_plain : Lacks 32 (codes "Malformed")
+front_plain = blank_lacked (codes "Malformed") refl
+
+says_malformed : (m n : ℕ) (one other : Misreading) → m ≤ 16777216 → n ≤ 16777216 → malformed_text m one ≡ malformed_text n other → Malformed m one ≡ Malformed n other
+says_malformed m n one other p q e =
+    let after = cut_at 32 (codes "Malformed") (codes "Malformed") (decimal m ++ 32 ∷ misreading_word one) (decimal n ++ 32 ∷ misreading_word other) front_plain front_plain
+    (sym (spread m one) ∙ e ∙ spread n other) in
+    let parts = cut_at 32 (decimal m) (decimal n) (misreading_word one) (misreading_word other) (number_lacks 32 m refl p) (number_lacks 32 n refl q) after.1 in
+    ap (λ (x : ℕ). Malformed x one) (decimal_injective m n (small m p) (small n q) parts.0) ∙ ap (λ (x : Misreading). Malformed n x) (says_misreading one other parts.1)
+
+-- a text of such bytes is not that of a `Malformed`
+not_malformed : (word : List ℕ) (number : ℕ) (kind : Misreading) → list_all is_byte_of_word word ≡ true → word ≡ malformed_text number kind → ⊥
+not_malformed word number kind all e =
+    has_it 32 (codes "Malformed") (decimal number ++ 32 ∷ misreading_word kind) (subst (Lacks 32) (e ∙ spread number kind) (blank_lacked word all))
+
+-- ---- the class that a word is for
+
+abbrev if_class : List ℕ → Class → Option Class → Option Class
+if_class word class other = cond (bytes_eq word (class_text class)) (Some class) other
+
+abbrev class_of : List ℕ → Option Class
+class_of word = if_class word NotFetchable (if_class word Missing (if_class word TooLong (if_class word NoSum
+    (if_class word SumDiffers (if_class word WrongPath None)))))
+
+-- a class whose text is a word
+record IsOfAWord (class : Class) : Type 0 where
+  bytes : list_all is_byte_of_word (class_text class) ≡ true
+  found : class_of (class_text class) ≡ Some class
+
+class_same : (one other : Class) → Some one ≡ Some other → one ≡ other
+class_same one other e = cc e
+
+says_word : (one other : Class) → IsOfAWord one → IsOfAWord other → class_text one ≡ class_text other → one ≡ other
+says_word one other p q e = class_same one other (sym p.found ∙ ap class_of e ∙ q.found)
+
+-- the line and the kind of a misreading, or a class whose text is a word
+data ClassCase : Class → Type 0 where
+  misread : (number : ℕ) (kind : Misreading) → ClassCase (Malformed number kind)
+  worded : (class : Class) → IsOfAWord class → ClassCase class
+
+class_case : (class : Class) → ClassCase class
+class_case NotFetchable = worded NotFetchable (record { bytes = refl; found = refl })
+class_case Missing = worded Missing (record { bytes = refl; found = refl })
+class_case TooLong = worded TooLong (record { bytes = refl; found = refl })
+class_case NoSum = worded NoSum (record { bytes = refl; found = refl })
+class_case SumDiffers = worded SumDiffers (record { bytes = refl; found = refl })
+class_case (Malformed number kind) = misread number kind
+class_case WrongPath = worded WrongPath (record { bytes = refl; found = refl })
+
+by_cases : {one other : Class} → ClassCase one → ClassCase other → IsProperClass one → IsProperClass other → class_text one ≡ class_text other → one ≡ other
+by_cases (misread m one) (misread n other) p q e = says_malformed m n one other p q e
+by_cases (misread m one) (worded other w) p q e = absurd (not_malformed (class_text other) m one w.bytes (sym e))
+by_cases (worded one w) (misread n other) p q e = absurd (not_malformed (class_text one) n other w.bytes e)
+by_cases (worded one w) (worded other v) p q e = says_word one other w v e
+
+-- a text is that of one class
+pub says_class : (one other : Class) → IsProperClass one → IsProperClass other → class_text one ≡ class_text other → one ≡ other
+says_class one other p q e = by_cases (class_case one) (class_case other) p q e

@@ -1,0 +1,203 @@
+-- The text of a list determines its rows.
+use Rattle.std.proofs.Common.{◌≡◌, ◌≢◌, ◌∙◌, ◌⊎◌, ℕ, Bool, true, false, List, [], ◌∷◌, ◌++◌, map, Option, Some, None, Contains, codes, ap, append_assoc, append-nil, refl, sym, subst, inl, inr}
+use Rattle.std.specs.List.{AllByRecursion, flat_map, list_all}
+use Rattle.std.proofs.lemmas.Bool.{true≢false}
+use Rattle.gm_name.specs.Path.{IsPath, is_byte_of_path}
+use Rattle.gm_name.specs.Version.{IsVersion, is_byte_of_version}
+use Rattle.gm_name.proofs.Bytes.{path-bytes, version-bytes}
+use Rattle.gm_name.proofs.NameTests.{and_both}
+use Rattle.gm_syntax.specs.Lines.{HasNoLineFeed, lines_of}
+use Rattle.gm_syntax.proofs.Lines.{lines_nil}
+use Rattle.gm_syntax.proofs.Stable.{ended_line, plain_append}
+use Rattle.gm_file.specs.Directives.{Right, Folder, Module}
+use Rattle.gm_file.specs.Values.{is_folder_path}
+use Rattle.gm_graph_select.specs.declared.step.Step.TheVariants.{Main, Of}
+use Rattle.gm_graph_select.specs.BuildList.{Entry}
+use Rattle.gm_graph_select.proofs.Ascending.{member_head, member_tail}
+use Rattle.gm_graph.proofs.Mapped.{from_mapped}
+use Rattle.gomod_run.specs.ListingTexts.{replacement_suffix, replacement_text, row_text}
+use Rattle.gomod_run.specs.ReportTexts.{line}
+use Rattle.gomod_run.specs.PrintedLines.{IsProperRight, IsProperRow, LineIsOfARow, LineSaysRow, ListHasLines, TextSaysRows}
+use Rattle.gomod_run.proofs.PathStarts.{begins_no_folder}
+
+-- ---- texts without a byte
+
+-- the byte is not in the text
+abbrev pub Lacks : ℕ → List ℕ → Type 0
+Lacks c text = AllByRecursion (λ b. b ≢ c) text
+
+pub lacks : (c : ℕ) (test : ℕ → Bool) → test c ≡ false → (text : List ℕ) → list_all test text ≡ true → Lacks c text
+lacks c test fails [] all = tt
+lacks c test fails (b ∷ text) all =
+    let parts = and_both (test b) (list_all test text) all in
+    ((λ e. true≢false (sym parts.0 ∙ ap test e ∙ fails)), lacks c test fails text parts.1)
+
+pub both_lack : (c : ℕ) (a b : List ℕ) → Lacks c a → Lacks c b → Lacks c (a ++ b)
+both_lack c [] b p q = q
+both_lack c (x ∷ a) b p q = (p.0, both_lack c a b p.1 q)
+
+pub path_has_no_blank : (text : List ℕ) → IsPath text → Lacks 32 text
+path_has_no_blank text is = lacks 32 is_byte_of_path refl text (path-bytes text is)
+
+pub path_has_no_feed : (text : List ℕ) → IsPath text → HasNoLineFeed text
+path_has_no_feed text is = lacks 10 is_byte_of_path refl text (path-bytes text is)
+
+pub version_has_no_blank : (text : List ℕ) → IsVersion text → Lacks 32 text
+version_has_no_blank text is = lacks 32 is_byte_of_version refl text (version-bytes text is)
+
+pub version_has_no_feed : (text : List ℕ) → IsVersion text → HasNoLineFeed text
+version_has_no_feed text is = lacks 10 is_byte_of_version refl text (version-bytes text is)
+
+-- ---- where a text is cut
+
+heads : (a b : ℕ) (x y : List ℕ) → a ∷ x ≡ b ∷ y → a ≡ b
+heads a b x y e = cc e
+
+tails : (a b : ℕ) (x y : List ℕ) → a ∷ x ≡ b ∷ y → x ≡ y
+tails a b x y e = cc e
+
+-- what precedes the first such byte, and what follows it
+pub cut_at : (c : ℕ) (a b x y : List ℕ) → Lacks c a → Lacks c b → a ++ c ∷ x ≡ b ++ c ∷ y → (a ≡ b) × (x ≡ y)
+cut_at c [] [] x y p q e = (refl, tails c c x y e)
+cut_at c [] (b ∷ bs) x y p q e = absurd (q.0 (sym (heads c b x (bs ++ c ∷ y) e)))
+cut_at c (a ∷ more) [] x y p q e = absurd (p.0 (heads a c (more ++ c ∷ x) y e))
+cut_at c (a ∷ more) (b ∷ bs) x y p q e =
+    let rest = cut_at c more bs x y p.1 q.1 (tails a b (more ++ c ∷ x) (bs ++ c ∷ y) e) in
+    (ap (λ (h : ℕ). h ∷ more) (heads a b (more ++ c ∷ x) (bs ++ c ∷ y) e) ∙ ap (λ (t : List ℕ). b ∷ t) rest.0, rest.1)
+
+-- it has the byte
+pub has_it : (c : ℕ) (a x : List ℕ) → Lacks c (a ++ c ∷ x) → ⊥
+has_it c [] x none = none.0 refl
+has_it c (a ∷ more) x none = has_it c more x none.1
+
+-- nothing, or what begins with the byte
+abbrev pub IsEndAt : ℕ → List ℕ → Type 0
+IsEndAt c text = (text ≡ []) ⊎ ((rest : List ℕ) × (text ≡ c ∷ rest))
+
+not_in_end : (c b : ℕ) (bs s : List ℕ) → b ≢ c → IsEndAt c s → s ≡ b ∷ bs → ⊥
+not_in_end c b bs s other (inl none) e = let wrong : [] ≡ b ∷ bs = sym none ∙ e in cc wrong
+not_in_end c b bs s other (inr (rest, is)) e = other (sym (heads c b rest bs (sym is ∙ e)))
+
+pub cut_end : (c : ℕ) (a b s t : List ℕ) → Lacks c a → Lacks c b → IsEndAt c s → IsEndAt c t → a ++ s ≡ b ++ t → (a ≡ b) × (s ≡ t)
+cut_end c [] [] s t p q u v e = (refl, e)
+cut_end c [] (b ∷ bs) s t p q u v e = absurd (not_in_end c b (bs ++ t) s q.0 u e)
+cut_end c (a ∷ more) [] s t p q u v e = absurd (not_in_end c a (more ++ s) t p.0 v (sym e))
+cut_end c (a ∷ more) (b ∷ bs) s t p q u v e =
+    let rest = cut_end c more bs s t p.1 q.1 u v (tails a b (more ++ s) (bs ++ t) e) in
+    (ap (λ (h : ℕ). h ∷ more) (heads a b (more ++ s) (bs ++ t) e) ∙ ap (λ (x : List ℕ). b ∷ x) rest.0, rest.1)
+
+-- ---- lines of any kind
+
+module _ {X : Type 0} (text : X → List ℕ) (IsProper : X → Type 0) where
+  abbrev pub AreProper : List X → Type 0
+  AreProper xs = (x : X) → Contains xs x → IsProper x
+
+  pub lines_are : ((x : X) → IsProper x → HasNoLineFeed (text x)) → (xs : List X) → AreProper xs → lines_of (flat_map (λ x. line (text x)) xs) ≡ map text xs
+  lines_are plain [] proper = lines_nil
+  lines_are plain (x ∷ xs) proper =
+      let behind = flat_map (λ y. line (text y)) xs in
+      ap lines_of (append_assoc (text x) (codes "\n") behind)
+      ∙ ended_line (text x) behind (plain x (proper x (member_head x xs)))
+      ∙ ap (λ (ls : List (List ℕ)). text x ∷ ls) (lines_are plain xs (λ y there. proper y (member_tail x y xs there)))
+
+  pub same_are : ((x y : X) → IsProper x → IsProper y → text x ≡ text y → x ≡ y) → (xs ys : List X) → AreProper xs → AreProper ys → map text xs ≡ map text ys → xs ≡ ys
+  same_are says [] [] p q e = refl
+  same_are says [] (y ∷ ys) p q e = absurd (cc e)
+  same_are says (x ∷ xs) [] p q e = absurd (cc e)
+  same_are says (x ∷ xs) (y ∷ ys) p q e =
+      let first : text x ≡ text y = cc e in
+      let later : map text xs ≡ map text ys = cc e in
+      ap (λ (z : X). z ∷ xs) (says x y (p x (member_head x xs)) (q y (member_head y ys)) first)
+      ∙ ap (λ (zs : List X). y ∷ zs) (same_are says xs ys (λ z there. p z (member_tail x z xs there)) (λ z there. q z (member_tail y z ys there)) later)
+
+  pub found_line : ((x y : X) → IsProper x → IsProper y → text x ≡ text y → x ≡ y) → (xs : List X) (y : X) → AreProper xs → IsProper y → Contains (map text xs) (text y) → Contains xs y
+  found_line says xs y p q there =
+      let (x, inside, same) = from_mapped text xs (text y) there in
+      subst (λ (z : X). Contains xs z) (says x y (p x inside) q same) inside
+
+-- ---- rows
+
+suffix_ends : (right : Option Right) → IsEndAt 32 (replacement_suffix right)
+suffix_ends None = inl refl
+suffix_ends (Some right) = inr (codes "=> " ++ replacement_text right, refl)
+
+mark_has_no_feed : HasNoLineFeed (codes " => ")
+mark_has_no_feed = ((λ e. cc e), ((λ e. cc e), ((λ e. cc e), ((λ e. cc e), tt))))
+
+blank_has_no_feed : HasNoLineFeed (codes " ")
+blank_has_no_feed = ((λ e. cc e), tt)
+
+name_has_no_feed : (path version : List ℕ) → IsPath path → IsVersion version → HasNoLineFeed ((path ++ codes " ") ++ version)
+name_has_no_feed path version p v =
+    plain_append (path ++ codes " ") version (plain_append path (codes " ") (path_has_no_feed path p) blank_has_no_feed) (version_has_no_feed version v)
+
+suffix_has_no_feed : (right : Option Right) → IsProperRight right → HasNoLineFeed (replacement_suffix right)
+suffix_has_no_feed None proper = tt
+suffix_has_no_feed (Some (Folder text)) proper = plain_append (codes " => ") text mark_has_no_feed proper.1
+suffix_has_no_feed (Some (Module path version)) proper =
+    plain_append (codes " => ") ((path ++ codes " ") ++ version) mark_has_no_feed (name_has_no_feed path version proper.0 proper.1)
+
+row_has_no_feed : (main : List ℕ) → IsPath main → (row : Entry) → IsProperRow row → HasNoLineFeed (row_text main row)
+row_has_no_feed main is (Main, right) proper = rw proper (plain_append main [] (path_has_no_feed main is) tt)
+row_has_no_feed main is (Of x, right) proper =
+    plain_append ((x.0 ++ codes " ") ++ x.1) (replacement_suffix right) (name_has_no_feed x.0 x.1 proper.0 proper.1) (suffix_has_no_feed right proper.2)
+
+-- ---- right sides
+
+folder_is_no_module : (text path version : List ℕ) → is_folder_path text ≡ true → IsPath path → text ≡ (path ++ codes " ") ++ version → ⊥
+folder_is_no_module text path version folder is e =
+    let whole : text ≡ path ++ (32 ∷ version) = e ∙ append_assoc path (codes " ") version in
+    true≢false (sym folder ∙ ap is_folder_path whole ∙ begins_no_folder path (32 ∷ version) is)
+
+says_right : (one other : Right) → IsProperRight (Some one) → IsProperRight (Some other) → replacement_text one ≡ replacement_text other → one ≡ other
+says_right (Folder text) (Folder second) p q e = ap Folder e
+says_right (Folder text) (Module path version) p q e = absurd (folder_is_no_module text path version p.0 q.0 e)
+says_right (Module path version) (Folder text) p q e = absurd (folder_is_no_module text path version q.0 p.0 (sym e))
+says_right (Module path version) (Module second at) p q e =
+    let cut = cut_at 32 path second version at (path_has_no_blank path p.0) (path_has_no_blank second q.0) (sym (append_assoc path (codes " ") version) ∙ e ∙ append_assoc second (codes " ") at) in
+    ap (λ (x : List ℕ). Module x version) cut.0 ∙ ap (λ (x : List ℕ). Module second x) cut.1
+
+after_mark : (a b : List ℕ) → codes " => " ++ a ≡ codes " => " ++ b → a ≡ b
+after_mark a b e = cc e
+
+says_suffix : (one other : Option Right) → IsProperRight one → IsProperRight other → replacement_suffix one ≡ replacement_suffix other → one ≡ other
+says_suffix None None p q e = refl
+says_suffix None (Some other) p q e = absurd (cc e)
+says_suffix (Some one) None p q e = absurd (cc e)
+says_suffix (Some one) (Some other) p q e =
+    ap (λ (right : Right). Some right) (says_right one other p q (after_mark (replacement_text one) (replacement_text other) e))
+
+module _ (main : List ℕ) (is_path : IsPath main) where
+  spread : (p v s : List ℕ) → ((p ++ codes " ") ++ v) ++ s ≡ p ++ (32 ∷ (v ++ s))
+  spread p v s = append_assoc (p ++ codes " ") v s ∙ append_assoc p (codes " ") (v ++ s)
+
+  main_is_no_module : (p v s : List ℕ) → main ++ [] ≡ ((p ++ codes " ") ++ v) ++ s → ⊥
+  main_is_no_module p v s e =
+      has_it 32 p (v ++ s) (subst (Lacks 32) (sym (append-nil main) ∙ e ∙ spread p v s) (path_has_no_blank main is_path))
+
+  says_row : (one other : Entry) → IsProperRow one → IsProperRow other → row_text main one ≡ row_text main other → one ≡ other
+  says_row (Main, r) (Main, s) p q e = ap (λ (right : Option Right). (Main, right)) (p ∙ sym q)
+  says_row (Main, r) (Of y, s) p q e =
+      absurd (main_is_no_module y.0 y.1 (replacement_suffix s) (ap (λ (o : Option Right). main ++ replacement_suffix o) (sym p) ∙ e))
+  says_row (Of x, r) (Main, s) p q e =
+      absurd (main_is_no_module x.0 x.1 (replacement_suffix r) (ap (λ (o : Option Right). main ++ replacement_suffix o) (sym q) ∙ sym e))
+  says_row (Of x, r) (Of y, s) p q e =
+      let after = cut_at 32 x.0 y.0 (x.1 ++ replacement_suffix r) (y.1 ++ replacement_suffix s) (path_has_no_blank x.0 p.0) (path_has_no_blank y.0 q.0)
+      (sym (spread x.0 x.1 (replacement_suffix r)) ∙ e ∙ spread y.0 y.1 (replacement_suffix s)) in
+      let ends = cut_end 32 x.1 y.1 (replacement_suffix r) (replacement_suffix s) (version_has_no_blank x.1 p.1) (version_has_no_blank y.1 q.1) (suffix_ends r) (suffix_ends s) after.1 in
+      let right : r ≡ s = says_suffix r s p.2 q.2 ends.1 in
+      ap (λ (path : List ℕ). (Of (path, x.1), r)) after.0 ∙ ap (λ (version : List ℕ). (Of (y.0, version), r)) ends.0 ∙ ap (λ (o : Option Right). (Of y, o)) right
+
+pub list_has_lines : ListHasLines
+list_has_lines main rows is proper = lines_are (row_text main) IsProperRow (row_has_no_feed main is) rows proper
+
+pub line_says_row : LineSaysRow
+line_says_row main one other is p q e = says_row main is one other p q e
+
+pub text_says_rows : TextSaysRows
+text_says_rows main rows others is p q e =
+    same_are (row_text main) IsProperRow (says_row main is) rows others p q (sym (list_has_lines main rows is p) ∙ ap lines_of e ∙ list_has_lines main others is q)
+
+pub line_is_of_a_row : LineIsOfARow
+line_is_of_a_row main rows one is p q there =
+    found_line (row_text main) IsProperRow (says_row main is) rows one p q (subst (λ (ls : List (List ℕ)). Contains ls (row_text main one)) (list_has_lines main rows is p) there)

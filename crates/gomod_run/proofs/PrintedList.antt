@@ -1,0 +1,173 @@
+-- What `list` prints is the build list, in pages or at once.
+use Rattle.std.proofs.Common.{◌≡◌, ◌≢◌, ◌∙◌, ◌⊎◌, ◌<◌, ℕ, zero, suc, Bool, true, false, List, [], ◌∷◌, ◌++◌, take, map, Option, Some, None, Contains, ap, sym, refl, subst, inl, inr, arith}
+use Rattle.std.specs.List.{flat_map}
+use Rattle.std.specs.Ordering.{is_gt}
+use Rattle.std.specs.Str.{bytes_eq}
+use Rattle.std.proofs.lemmas.Grind.{flat_map-append}
+use Rattle.gm_name.specs.Version.{version_cmp}
+use Rattle.gm_name.specs.ModuleVersion.{ModuleVersion}
+use Rattle.gm_file.specs.Directives.{Replacing}
+use Rattle.gm_graph.specs.Main.{Main}
+use Rattle.gm_graph.specs.Reading.{Held, Readings, readings_by}
+use Rattle.gm_graph_select.specs.declared.step.Edge.{Edge}
+use Rattle.gm_graph_select.specs.declared.step.Step.TheVariants.{Main as FromMain}
+use Rattle.gm_graph_select.specs.BuildList.{Entry, IsBuildList, IsRestAfter, IsSelected, path_of}
+use Rattle.gm_graph_select.specs.Graph.{Edges, IsEdgeEnd, among, edge}
+use Rattle.gm_graph_select.specs.Laws.{ArePages as AreRowPages, entries_of_pages, no_more, one_more}
+use Rattle.gm_graph_select.proofs.Ascending.{member_cases, member_head, member_tail, no_member}
+use Rattle.gm_graph_select.proofs.Lawful.{pages_exist, pages_join as rows_join, row_selected, rows_satisfy}
+use Rattle.gm_graph_select.proofs.RestRows.{texts_differ, texts_same}
+use Rattle.gm_graph_select.proofs.Same.{AreSame, same_back, same_build_list}
+use Rattle.gm_graph.specs.Graph.{IsEdge, IsVertex}
+use Rattle.gm_graph.specs.Loading.{AreFew}
+use Rattle.gm_graph.proofs.Mapped.{from_mapped, in_mapped}
+use Rattle.gomod_run.specs.ListingLaws.{AllFilesAreValid, AreGreatest, ArePrintedPages, ListIsBuildList, PrintedPagesJoin, no_row, one_page}
+use Rattle.gomod_run.specs.Outcomes.{Given, IsListOutcome, IsOutcome, Prints, PrintsList, device, faulty, too_many}
+use Rattle.gm_graph.specs.Outcome.{AreRows}
+use Rattle.gomod_run.specs.Outcome.{Outcome, failed, printed, refused}
+use Rattle.gomod_run.specs.ListingTexts.{list_text}
+use Rattle.gomod_run.proofs.FewOpened.{edges_listed}
+
+-- ---- a run that prints
+
+abbrev pub Printed : Prints → Given → Outcome → Type 0
+Printed prints run outcome = (main : Main) × (held : Held) × AllFilesAreValid run main held × prints main (readings_by main held) outcome
+
+pub not_refused : (report : List ℕ) (outcome : Outcome) → outcome ≡ refused report → outcome.status ≡ 0 → ⊥
+not_refused report outcome same is = let code = ap (λ (o : Outcome). o.status) same in omega (arith, code, is)
+
+not_failed : (report : List ℕ) (outcome : Outcome) → outcome ≡ failed report → outcome.status ≡ 0 → ⊥
+not_failed report outcome same is = let code = ap (λ (o : Outcome). o.status) same in omega (arith, code, is)
+
+pub printed_run : (prints : Prints) (run : Given) (outcome : Outcome) → IsOutcome prints run outcome → outcome.status ≡ 0 → Printed prints run outcome
+printed_run prints run outcome (inl (inl (place, misread, says), none)) is = absurd (not_refused _ outcome says is)
+printed_run prints run outcome (inl (inr (main, report, reads, misread, says), none)) is = absurd (not_refused _ outcome says is)
+printed_run prints run outcome (inr (main, table, are, inl (too_many over none says))) is = absurd (not_refused _ outcome says is)
+printed_run prints run outcome (inr (main, table, are, inl (device name due one says))) is = absurd (not_failed _ outcome says is)
+printed_run prints run outcome (inr (main, table, are, inl (faulty held first others known faults says))) is = absurd (not_refused _ outcome says is)
+printed_run prints run outcome (inr (main, table, are, inr (held, known, faults, says))) is = (main, held, record { table = table; read = are; known = known; sound = faults }, says)
+
+-- ---- the build list of edges that are given as a relation
+
+module _ (main : Main) (readings : Readings) (few : AreFew main readings) (rows : List Entry) (list : AreRows main readings rows) where
+  with_path : (path : List ℕ) (xs : List ModuleVersion) → ((x : ModuleVersion) × Contains xs x × (x.0 ≡ path)) ⊎ ((x : ModuleVersion) → Contains xs x → x.0 ≢ path)
+  with_path path [] = inr (λ x there. absurd (no_member x there))
+  with_path path (first ∷ xs) = by_test (bytes_eq first.0 path) refl (with_path path xs)
+    where
+      by_test : (b : Bool) → bytes_eq first.0 path ≡ b → ((x : ModuleVersion) × Contains xs x × (x.0 ≡ path)) ⊎ ((x : ModuleVersion) → Contains xs x → x.0 ≢ path)
+          → ((x : ModuleVersion) × Contains (first ∷ xs) x × (x.0 ≡ path)) ⊎ ((x : ModuleVersion) → Contains (first ∷ xs) x → x.0 ≢ path)
+      by_test true e rest = inl (first, member_head first xs, texts_same first.0 path e)
+      by_test false e (inl (x, there, is)) = inl (x, member_tail first x xs there, is)
+      by_test false e (inr none) = inr (λ x there. elim (member_cases first x xs there) [
+        | inl same ↦ subst (λ (z : ModuleVersion). z.0 ≢ path) same (texts_differ first.0 path e)
+        | inr behind ↦ none x behind
+      ])
+
+  abbrev Satisfied : ModuleVersion → Type 0
+  Satisfied y = (x : ModuleVersion) × Contains list.selected x × (x.0 ≡ y.0) × (is_gt (version_cmp y.1 x.1) ≡ false)
+
+  satisfied : (y : ModuleVersion) → IsVertex main readings y → y.0 ≢ main.path → Satisfied y
+  satisfied y (from, is) apart = go (with_path y.0 list.selected)
+    where
+      listed : ((x : ModuleVersion) → Contains list.selected x → x.0 ≢ y.0) → (edges : List Edge) → AreSame (among edges) (IsEdge main readings) → ⊥
+      listed none edges same =
+          let among_list : IsBuildList main.path main.replaces (among edges) rows =
+          same_build_list main.path main.replaces (IsEdge main readings) (among edges) rows (same_back (among edges) (IsEdge main readings) same) list in
+          let (x, right, row, path, high) = rows_satisfy main.path main.replaces edges rows among_list y (from, (same from y).1 is) apart in
+          none x ((list.each x).1 (row_selected main.path main.replaces (IsEdge main readings) rows list x right row)) path
+
+      go : ((x : ModuleVersion) × Contains list.selected x × (x.0 ≡ y.0)) ⊎ ((x : ModuleVersion) → Contains list.selected x → x.0 ≢ y.0) → Satisfied y
+      go (inl (x, there, same)) = (x, there, same, ((list.each x).0 there).greatest y (from, is) (sym same))
+      go (inr none) = absurd (edges_listed main readings few (listed none))
+
+  pub greatest : AreGreatest main readings list.selected
+  greatest = record {
+    ascending = list.ascending;
+    not_main = λ x there. ((list.each x).0 there).not_main;
+    required = λ x there. ((list.each x).0 there).is_end;
+    satisfied = satisfied;
+  }
+
+pub list_is_build_list : ListIsBuildList
+list_is_build_list run outcome is ends =
+    let (main, held, found, (rows, list, says)) = printed_run (PrintsList None None) run outcome is ends in (
+      main,
+      held,
+      list.selected,
+      found,
+      greatest main (readings_by main held) found.known.few rows list,
+      says ∙ ap (λ (es : List Entry). printed (list_text main.path es)) list.entries_are,
+    )
+
+-- ---- pages
+
+-- the selected vertices as edges from the main module have the same build list
+module _ (main : List ℕ) (replaces : List Replacing) (E : Edges) (rows : List Entry) (list : IsBuildList main replaces E rows) where
+  abbrev own_edges : List Edge
+  own_edges = map (edge FromMain) list.selected
+
+  own_end : (x : ModuleVersion) → IsEdgeEnd (among own_edges) x → Contains list.selected x
+  own_end x (s, there) =
+      let (z, inside, same) = from_mapped (edge FromMain) list.selected (edge s x) there in
+      subst (λ (w : ModuleVersion). Contains list.selected w) (ap (λ (e : Edge). e.to) same) inside
+
+  own_selected : (x : ModuleVersion) → Contains list.selected x → IsSelected main (among own_edges) x
+  own_selected x there =
+      let is = (list.each x).0 there in record {
+        not_main = is.not_main;
+        is_end = (FromMain, in_mapped (edge FromMain) list.selected x there);
+        greatest = λ y end same. is.greatest y ((list.each y).0 (own_end y end)).is_end same;
+      }
+
+  own_list : IsBuildList main replaces (among own_edges) rows
+  own_list = record {
+    selected = list.selected;
+    entries_are = list.entries_are;
+    ascending = list.ascending;
+    each = λ x. (own_selected x, (λ is. own_end x is.is_end));
+  }
+
+  pub row_pages : (n : ℕ) → 0 < n → (pages : List (List Entry)) × AreRowPages main rows n rows pages × (entries_of_pages pages ≡ rows)
+  row_pages n some =
+      let (pages, are) = pages_exist main replaces own_edges rows n some own_list in
+      (pages, are, rows_join main replaces own_edges rows n pages own_list are)
+
+take_none : (n : ℕ) → take {A = Entry} n [] ≡ []
+take_none zero = refl
+take_none (suc n) = refl
+
+pub texts_join : (main : List ℕ) (pages : List (List Entry)) → list_text main (entries_of_pages pages) ≡ flat_map (list_text main) pages
+texts_join main [] = refl
+texts_join main (page ∷ pages) = flat_map-append _ page (entries_of_pages pages) ∙ ap (λ (t : List ℕ). list_text main page ++ t) (texts_join main pages)
+
+module _ (run : Given) (main : Main) (held : Held) (found : AllFilesAreValid run main held) (rows : List Entry) (list : AreRows main (readings_by main held) rows) (n : ℕ) where
+  -- the rows that remain after a path, or all rows
+  abbrev AreLeft : Option (List ℕ) → List Entry → Type 0
+  AreLeft None left = left ≡ rows
+  AreLeft (Some path) left = IsRestAfter main.path rows path left
+
+  page_printed : (after : Option (List ℕ)) (left : List Entry) → AreLeft after left → IsListOutcome after (Some n) run (printed (list_text main.path (take n left)))
+  page_printed None left is = inr (main, found.table, found.read, inr (held, found.known, found.sound, (rows, list, ap (λ (es : List Entry). printed (list_text main.path (take n es))) is)))
+  page_printed (Some path) left is = inr (main, found.table, found.read, inr (held, found.known, found.sound, (rows, list, inl (left, is, refl))))
+
+  paged : {left : List Entry} {pages : List (List Entry)} (after : Option (List ℕ)) → AreLeft after left → AreRowPages main.path rows n left pages → ArePrintedPages run main.path n after pages
+  paged after is no_more = no_row (subst (λ (es : List Entry). IsListOutcome after (Some n) run (printed (list_text main.path es))) (take_none n) (page_printed after [] is))
+  paged after is (one_more {left} {rest} {pages} front last page behind more) =
+      subst (λ (es : List Entry). ArePrintedPages run main.path n after (es ∷ pages)) (sym page)
+      (one_page front last
+      (subst (λ (es : List Entry). IsListOutcome after (Some n) run (printed (list_text main.path es))) page (page_printed after left is))
+      (paged (Some (path_of main.path last.0)) behind more))
+
+pub pages_join : PrintedPagesJoin
+pages_join run n whole some is ends =
+    let (main, held, found, (rows, list, says)) = printed_run (PrintsList None None) run whole is ends in
+    let readings : Readings = readings_by main held in
+    let (pages, paging, joins) = row_pages main.path main.replaces (IsEdge main readings) rows list n some in (
+      main,
+      held,
+      pages,
+      found,
+      subst (λ (es : List Entry). AreRows main readings es) (sym joins) list,
+      paged run main held found rows list n None refl paging,
+      ap (λ (o : Outcome). o.text) says ∙ ap (list_text main.path) (sym joins) ∙ texts_join main.path pages,
+    )

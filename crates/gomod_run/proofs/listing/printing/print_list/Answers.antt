@@ -1,0 +1,18 @@
+use Rattle.std.proofs.Common.{sym, subst}
+use Rattle.std.specs.Option.{option_copied}
+use Rattle.gm_graph.specs.Main.{main_of}
+use Rattle.gm_graph_select.specs.BuildList.{IsRestAfter, entries_of_rows}
+use Rattle.gomod_run.specs.Outcome.{OrNoMemory, outcome_view}
+use Rattle.gomod_run.specs.Outcomes.{PrintsRows}
+use Rattle.gomod_run.proofs.CommandOutcomes.{rest_printed}
+use Rattle.gomod_run.proofs.listing.printing.print_list.Goals as goal
+
+pub returns-in-Ok : goal.returns-in-Ok
+returns-in-Ok c =
+    let main = main_of c.args.main.now in
+    let rest = entries_of_rows c.in-Ok.rest in
+    let outcome = outcome_view c.print_rows-in-Ok.result in
+    subst (λ after. OrNoMemory (PrintsRows main c.args.loaded.now.rows (option_copied after) c.args.limit) outcome) (sym c.in-Some.is)
+    (rest_printed main c.args.loaded.now.rows rest c.in-Some.path.now c.args.limit outcome
+    (subst (λ path. IsRestAfter path c.args.loaded.now.rows c.in-Some.path.now rest) c.requires.main c.in-Ok.ensures.rest)
+    c.print_rows-in-Ok.ensures)

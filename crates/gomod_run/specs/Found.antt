@@ -1,0 +1,36 @@
+-- What loading found, and what the commands do with its result.
+use Rattle.std.specs.Prelude.{◌≡◌, ℕ, List, [], ◌∷◌}
+use Rattle.std.specs.Option.{option_copied}
+use Rattle.gm_graph.specs.Main.{Main}
+use Rattle.gm_graph_select.specs.Graph.{among}
+use Rattle.gm_graph.specs.declared.fault.Fault.{Fault}
+use Rattle.gm_graph.specs.Outcome.{LoadedGraph as Found}
+use Rattle.gomod_run.specs.declared.listing.query.Query.{Query}
+use Rattle.gomod_run.specs.declared.listing.query.Query.TheVariants.{Graph, List as Rows, Chain}
+use Rattle.gomod_run.specs.ListingTexts.{graph_text}
+use Rattle.gomod_run.specs.Reports.{faults_text}
+use Rattle.gomod_run.specs.Outcomes.{PrintsRows, ShowsChain}
+use Rattle.gomod_run.specs.Outcome.{Outcome, printed, refused}
+
+-- `graph` prints the edges that were found
+abbrev pub PrintsEdges : Main → Found → Outcome → Type 0
+PrintsEdges main found outcome = outcome ≡ printed (graph_text main.path found.edges)
+
+-- `chain` prints the chain over the edges that were found, or reports that the path is not listed
+abbrev pub PrintsSteps : List ℕ → Main → Found → Outcome → Type 0
+PrintsSteps path main found outcome = ShowsChain path main (among found.edges) found.rows outcome
+
+-- what a command prints of what was found
+abbrev pub PrintsFound : Query → Main → Found → Outcome → Type 0
+PrintsFound Graph main found outcome = PrintsEdges main found outcome
+PrintsFound (Rows after limit) main found outcome = PrintsRows main found.rows (option_copied after) limit outcome
+PrintsFound (Chain path) main found outcome = PrintsSteps path.now main found outcome
+
+-- the faults are reported if there are any; otherwise this is what the command prints
+abbrev pub ReportsFaultsOr : List Fault → Type 0 → Outcome → Type 0
+ReportsFaultsOr [] prints outcome = prints
+ReportsFaultsOr (first ∷ others) prints outcome = outcome ≡ refused (faults_text (first ∷ others))
+
+-- the outcome of a command over what was found
+abbrev pub IsOutcomeOfFound : Query → Main → Found → Outcome → Type 0
+IsOutcomeOfFound query main found outcome = ReportsFaultsOr found.faults (PrintsFound query main found outcome) outcome

@@ -1,0 +1,52 @@
+-- The files that a run asks a store for: each when the answers so far call for it. Which files `graph`, `list` and
+-- `chain` need is in Go Modules Reference, "Minimal version selection" and "Module graph pruning".
+use Rattle.std.specs.Prelude.{◌≡◌, ◌⊎◌, ◌++◌, ◌∷◌, ℕ, List, [], Option, Some, None}
+use Rattle.gm_store.specs.Asked.{Name, Reply, answer_in}
+use Rattle.gm_store.specs.States.{StoreState}
+use Rattle.gm_store_sums.specs.Sums.{Sums}
+use Rattle.gm_graph.specs.Main.{Main}
+use Rattle.gm_graph.specs.Reading.{Held, HeldByAnswers, readings_by}
+use Rattle.gm_graph.specs.Loading.{IsNeeded}
+use Rattle.gomod_run.specs.Outcomes.{FilesReadAs}
+
+-- what a store answered
+abbrev pub AnswersByName : Type 0
+AnswersByName = Name → Option Reply
+
+-- ---- what a store was asked in a run
+
+-- each of the later files was needed by the answers before it, and had not been asked for before
+abbrev pub AskedAfter : (AnswersByName → Name → Type 0) → List (Name × Reply) → List (Name × Reply) → Type 0
+AskedAfter needs before [] = Unit {0}
+AskedAfter needs before (pair ∷ later) =
+    needs (answer_in before) pair.0 × (answer_in before pair.0 ≡ None) × AskedAfter needs (before ++ pair ∷ []) later
+
+-- each file was needed by the answers before it, and asked for once
+abbrev pub AskedInTurn : (AnswersByName → Name → Type 0) → List (Name × Reply) → Type 0
+AskedInTurn needs asked = AskedAfter needs [] asked
+
+-- each file that the answers call for is answered
+abbrev pub AnsweredAll : (AnswersByName → Name → Type 0) → AnswersByName → Type 0
+AnsweredAll needs answers = (name : Name) → needs answers name → (reply : Reply) × (answers name ≡ Some reply)
+
+-- the device failed at no file, or at one that the answers need and that is not among them
+abbrev pub FailsInTurn : (AnswersByName → Name → Type 0) → StoreState → StoreState → Type 0
+FailsInTurn needs old new =
+    (new.refused ≡ old.refused)
+    ⊎ ((name : Name)
+    × needs (answer_in new.asked) name
+    × (answer_in new.asked name ≡ None)
+    × (new.refused ≡ old.refused ++ name ∷ []))
+
+-- ---- what `graph`, `list` and `chain` need
+
+-- The bytes are those of a valid main module's file, and of a valid go.sum if one is given. The name is that of the
+-- go.mod of a module which these files and the answers so far open, and which may be asked for. If the main file or
+-- the go.sum is invalid, no file is needed.
+pub record GraphNeeds (file : List ℕ) (sums : Option (List ℕ)) (answers : AnswersByName) (name : Name) : Type 0 where
+  pub main : Main
+  pub table : Option Sums
+  pub held : Held
+  pub read : FilesReadAs file sums main table
+  pub files_read : HeldByAnswers table answers held
+  pub needed : IsNeeded main (readings_by main held) name

@@ -1,0 +1,90 @@
+//! Runs a command over a module graph: reads the two files, loads what the main module's file leads to, and
+//! answers.
+
+ghost use Rattle.std.specs.Prelude.{◌≡◌, ◌++◌, ◌∷◌, [], MatchResult};
+ghost use Rattle.std.specs.Option.{option_copied};
+ghost use Rattle.gm_store.specs.Asked.{Name};
+ghost use Rattle.gm_store.specs.States.{HasServed};
+ghost use Rattle.gm_graph.specs.Main.{main_of};
+ghost use Rattle.gomod_run.specs.Outcomes.{FilesReadAs, IsAnswerOver, IsRefusedRead, PrintsFor};
+ghost use Rattle.gomod_run.specs.Needs.{AskedInTurn, FailsInTurn, GraphNeeds};
+ghost use Rattle.gomod_run.specs.Outcome.{OrNoMemory, failed, outcome_view, report_outcome};
+ghost use Rattle.gomod_run.specs.Reports.{device_line};
+
+use crate::listing::printing::tell;
+use crate::listing::query::Query;
+use crate::listing::reading::{main_file, sum_table};
+use crate::reports::report::Report;
+use gm_file::MainFile;
+use gm_graph::load;
+use gm_store::Asks;
+use gm_store_sums::SumTable;
+use std::alloc::Global;
+
+/// The two files that are given as bytes, both valid.
+#[derive(Drop)]
+struct Read<'a> {
+    /// The main module's file.
+    main: MainFile<'a>,
+    /// The hashes of the go.sum, or `None` if no go.sum is given.
+    table: Option<SumTable<'a>>,
+}
+
+/// Both files, or the report of the first invalid one. The main module's file is read first.
+fn read_files<'a, 'r>(
+    alloc: Global,
+    file: &'a [u8],
+    sums: Option<&'a [u8]>,
+) -> Result<Read<'a>, Report<'r>>
+    ensures { MatchResult result
+        (λ both. FilesReadAs file.now (option_copied sums.entry) (main_of both.main) both.table)
+        (λ told. OrNoMemory (IsRefusedRead file.now (option_copied sums.entry)) (report_outcome told)) }
+{
+    let main = main_file(alloc, file)?;
+    let table = sum_table(alloc, sums)?;
+    Ok(Read { main, table })
+}
+
+/// What the command `query` ends with over the bytes `file` of a main module's go.mod, the bytes `sums` of a
+/// go.sum if one is given, and a store `files` (Go Modules Reference, "Minimal version selection", "go mod
+/// graph" and "go list -m").
+///
+/// If both files are valid, loading completes and no opened module has a fault, the text is what `query` asks
+/// for: the edges of the module graph, rows of the build list, or a shortest chain of requirements to the
+/// build list's entry for a path. If the list has no entry for the path, the report says so. Otherwise the report
+/// gives the first of these that applies:
+///
+/// - the first fault of the main file,
+/// - the first fault of the go.sum,
+/// - that more than 65,536 modules are opened, or the file on which the store's device failed,
+/// - each opened module that has a fault.
+///
+/// If one of the two files is invalid, the store is asked for nothing. Otherwise it is asked for the files of
+/// the modules that are opened according to its previous answers, each once, and for no other file. Each
+/// answer is one that the store may give. Its device fails on at most one file, which is one of these, and
+/// only if the count of its failures rises or has reached its maximum. All this holds however the run ends.
+///
+/// The store must not have been asked for anything before. If memory runs out, which can happen instead of any
+/// answer but the report of the store's device, the report is `NoMemory`.
+pub fn answer<'q, F: Asks>(
+    alloc: Global,
+    query: Query<'q>,
+    file: &[u8],
+    sums: Option<&[u8]>,
+    files: &mut F,
+) -> Result<String, Report<'q>>
+    requires { (F.state files.old).asked ≡ [] }
+    ensures comes { OrNoMemory (IsAnswerOver (PrintsFor query.entry) file.now (option_copied sums.entry)
+        (F.state files.old) (F.state files.new)) (outcome_view result) }
+    ensures device { (name : Name) → (F.state files.new).refused ≡ (F.state files.old).refused ++ name ∷ []
+        → outcome_view result ≡ failed (device_line name) }
+    ensures asks { AskedInTurn (GraphNeeds file.now (option_copied sums.entry)) (F.state files.new).asked }
+    ensures fails { FailsInTurn (GraphNeeds file.now (option_copied sums.entry))
+        (F.state files.old) (F.state files.new) }
+    ensures served { HasServed (F.may_answer files.old) (F.may_answer files.new)
+        (F.state files.old) (F.state files.new) }
+{
+    let read = read_files(alloc, file, sums)?;
+    let loaded = load(alloc, &read.main, files, read.table.as_ref())?;
+    tell(alloc, query, &read.main, loaded)
+}

@@ -1,0 +1,102 @@
+//! The text of `list`. Its lines differ from those of `graph`: a space comes before the version, and the
+//! replacement follows.
+
+ghost use Rattle.std.specs.Prelude.{◌≡◌, ◌++◌, ◌-◌, IfOk, OnOk, option_map};
+ghost use Rattle.std.specs.String.{string_bytes};
+ghost use Rattle.gm_file.specs.Views.{right_view};
+ghost use Rattle.gm_graph_select.specs.BuildList.{entries_of_rows, entry_of_row};
+ghost use Rattle.gomod_run.specs.ListingTexts.{entry_line, limited, list_text, module_text, replacement_suffix, replacement_text};
+
+use gm_file::Right;
+use gm_graph_select::{Row, Rows, Step};
+use gm_name::{ModPath, NoMemory};
+use std::alloc::Global;
+
+/// Appends the path of the main module, or `PATH VERSION` of another module.
+fn push_module(out: &mut String, main: &ModPath, step: &Step) -> Result<(), NoMemory>
+    ensures { OnOk result (string_bytes out.new ≡ string_bytes out.old ++ module_text main.now step.now) }
+{
+    match step {
+        Step::Main => out.push_str(main.as_str()),
+        Step::Of(vertex) => {
+            out.push_str(vertex.path().as_str())?;
+            out.push_str(" ")?;
+            out.push_str(vertex.version().as_str())
+        }
+    }
+}
+
+/// Appends the right side of a replacement: `FOLDER` or `PATH VERSION`.
+fn push_right(out: &mut String, right: &Right) -> Result<(), NoMemory>
+    ensures { OnOk result (string_bytes out.new ≡ string_bytes out.old ++ replacement_text (right_view right.now)) }
+{
+    match right {
+        Right::Folder(text) => out.push_str(text.as_str()),
+        Right::Module(path, version) => {
+            out.push_str(path.as_str())?;
+            out.push_str(" ")?;
+            out.push_str(version.as_str())
+        }
+    }
+}
+
+/// Appends an arrow and the replacement, if there is one.
+fn push_replacement_suffix(out: &mut String, right: &Option<Right>) -> Result<(), NoMemory>
+    ensures { OnOk result (string_bytes out.new
+        ≡ string_bytes out.old ++ replacement_suffix (option_map right_view right.now)) }
+{
+    match right {
+        Some(right) => {
+            out.push_str(" => ")?;
+            push_right(out, right)
+        }
+        None => Ok(()),
+    }
+}
+
+/// Appends the line of a row.
+fn push_row(out: &mut String, main: &ModPath, row: &Row) -> Result<(), NoMemory>
+    ensures { OnOk result (string_bytes out.new ≡ string_bytes out.old ++ entry_line main.now (entry_of_row row.now)) }
+{
+    push_module(out, main, &row.step)?;
+    push_replacement_suffix(out, &row.right)?;
+    out.push_str("\n")
+}
+
+/// The limit after one more row. `None` means no limit.
+fn limit_after_row(left: Option<u32>) -> Option<u32>
+    ensures { result ≡ option_map (λ n. n - 1) left }
+{
+    match left {
+        Some(count) => Some(count.saturating_sub(1)),
+        None => None,
+    }
+}
+
+/// The rows as `go list -m all` prints them (Go Modules Reference, "go list -m"): one per line, in the given
+/// order, and only the first `limit` of them if a limit is given. The main module is written as its path
+/// `main`, another module as `PATH VERSION`. If it is replaced, ` => ` and `NEWPATH NEWVERSION` or the text
+/// of the folder follow.
+///
+/// Refused only when memory runs out. The time is proportional to the length of the text.
+pub fn list_text(
+    alloc: Global,
+    main: &ModPath,
+    rows: Rows<'_>,
+    limit: Option<u32>,
+) -> Result<String, NoMemory>
+    ensures { IfOk result (λ text. string_bytes text
+        ≡ list_text main.now (limited limit (entries_of_rows rows.entry))) }
+{
+    let mut text = String::new(alloc);
+    let mut rest = rows;
+    let mut left = limit;
+    'rows: while let Some(row) = rest.next() {
+        if left == Some(0) {
+            return Ok(text);
+        }
+        push_row(&mut text, main, row)?;
+        left = limit_after_row(left);
+    }
+    Ok(text)
+}

@@ -1,0 +1,89 @@
+//! Lines on their way to a sink. They wait in a buffer of fixed size, so that many short lines take few writes and no
+//! memory.
+
+ghost use Rattle.std.specs.Prelude.{◌≡◌, [], OnOk};
+ghost use Rattle.std.specs.List.{flat_map};
+ghost use Rattle.gomod_run.specs.Giving.{IsGiven, IsEnded};
+ghost use Rattle.gomod_run.specs.ReportTexts.{line};
+
+use arrayvec::ArrayVec;
+use gm_store::{Sink, WriteFault, write_all};
+use std::marker::Model;
+
+/// How many bytes wait at most. Nearly every line is shorter.
+const ROOM: usize = 4096;
+
+/// Lines that have not been written yet.
+#[derive(Drop)]
+pub(crate) struct LineBuffer {
+    /// Their bytes.
+    bytes: ArrayVec<u8, ROOM>,
+}
+
+impl Model for LineBuffer {
+    ghost use Rattle.std.specs.Prelude.{List, ℕ};
+
+    ghost Value = { List ℕ };
+
+    ghost view = { λ buffer. buffer.bytes.items };
+}
+
+impl LineBuffer {
+    /// No lines.
+    pub(crate) fn new() -> LineBuffer
+        ensures { result ≡ [] }
+    {
+        LineBuffer {
+            bytes: ArrayVec::new(),
+        }
+    }
+
+    /// Gives a line: these pieces and then a line feed. If it fits the buffer, it reaches the sink in one write with
+    /// all of its bytes.
+    pub(crate) fn give_line<R: Sink>(
+        &mut self,
+        sink: &mut R,
+        pieces: &[&str],
+    ) -> Result<(), WriteFault>
+        ensures { IsGiven (R.state sink.old) self.old (R.state sink.new) self.new
+            (line (flat_map (λ piece. piece.now) pieces.now)) result }
+    {
+        if self.bytes.remaining_capacity() < length_of(pieces) {
+            self.end(sink)?;
+        }
+        'pieces: for piece in pieces {
+            self.give(sink, piece.as_bytes())?;
+        }
+        self.give(sink, b"\n")
+    }
+
+    /// Gives a piece of a line.
+    fn give<R: Sink>(&mut self, sink: &mut R, piece: &[u8]) -> Result<(), WriteFault>
+        ensures { IsGiven (R.state sink.old) self.old (R.state sink.new) self.new piece.now result }
+    {
+        if self.bytes.try_extend_from_slice(piece).is_ok() {
+            return Ok(());
+        }
+        self.end(sink)?;
+        write_all(sink, piece)
+    }
+
+    /// Writes what waits.
+    pub(crate) fn end<R: Sink>(&mut self, sink: &mut R) -> Result<(), WriteFault>
+        ensures ended { IsEnded (R.state sink.old) self.old (R.state sink.new) result }
+        ensures empty { OnOk result (self.new ≡ []) }
+    {
+        write_all(sink, self.bytes.as_slice())?;
+        self.bytes.clear();
+        Ok(())
+    }
+}
+
+/// How many bytes a line of these pieces has, with its line feed. Saturates.
+fn length_of(pieces: &[&str]) -> usize {
+    let mut total = 1_usize;
+    for piece in pieces {
+        total = total.saturating_add(piece.len());
+    }
+    total
+}

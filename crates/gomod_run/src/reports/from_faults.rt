@@ -1,0 +1,85 @@
+//! The faults of the libraries below as reports, so that `?` passes them on.
+
+ghost use Rattle.std.specs.Prelude.{◌≡◌};
+ghost use Rattle.gomod_run.specs.declared.reports.report.Report.TheVariants as report;
+ghost use Rattle.gomod_run.specs.FromFaults.{report_by_file, report_by_load, report_by_sums, report_by_syntax};
+
+use crate::reports::report::Report;
+use gm_file::FileFault;
+use gm_graph::{LoadFault, Misreading};
+use gm_store_sums::SumFault;
+use gm_syntax::SyntaxFault;
+use std::alloc::AllocError;
+
+impl<'a> From<AllocError> for Report<'a> {
+    ghost from_gives = { λ _ told. told ≡ report.NoMemory };
+
+    /// A failed allocation is `NoMemory`.
+    fn from(_error: AllocError) -> Report<'a> {
+        Report::NoMemory
+    }
+}
+
+impl<'a> From<SyntaxFault> for Report<'a> {
+    ghost from_gives = { λ fault told. told ≡ report_by_syntax fault };
+
+    /// The report of a main file whose bytes are not a document.
+    fn from(fault: SyntaxFault) -> Report<'a> {
+        match fault {
+            SyntaxFault::NoMemory => Report::NoMemory,
+            SyntaxFault::TooMany => Report::Main {
+                line: 0,
+                kind: Misreading::TooMany,
+            },
+            SyntaxFault::NotUtf8 => Report::Main {
+                line: 0,
+                kind: Misreading::NotUtf8,
+            },
+            SyntaxFault::Syntax { line, kind } => Report::Main {
+                line,
+                kind: Misreading::Syntax(kind),
+            },
+        }
+    }
+}
+
+impl<'a> From<FileFault> for Report<'a> {
+    ghost from_gives = { λ fault told. told ≡ report_by_file fault };
+
+    /// The report of a main file with an invalid directive.
+    fn from(fault: FileFault) -> Report<'a> {
+        match fault {
+            FileFault::NoMemory => Report::NoMemory,
+            FileFault::Directive { line, kind } => Report::Main {
+                line,
+                kind: Misreading::Directive(kind),
+            },
+        }
+    }
+}
+
+impl<'a> From<SumFault> for Report<'a> {
+    ghost from_gives = { λ fault told. told ≡ report_by_sums fault };
+
+    /// The report of an invalid go.sum.
+    fn from(fault: SumFault) -> Report<'a> {
+        match fault {
+            SumFault::NoMemory => Report::NoMemory,
+            SumFault::TooMany => Report::LongSums,
+            SumFault::BadSum { line } => Report::Sums(line),
+        }
+    }
+}
+
+impl<'a> From<LoadFault> for Report<'a> {
+    ghost from_gives = { λ fault told. told ≡ report_by_load fault };
+
+    /// The report when loading stops early.
+    fn from(fault: LoadFault) -> Report<'a> {
+        match fault {
+            LoadFault::NoMemory => Report::NoMemory,
+            LoadFault::TooMany => Report::TooMany,
+            LoadFault::Device(name) => Report::Device(name),
+        }
+    }
+}
