@@ -6,7 +6,7 @@ ghost use Rattle.std.specs.String.{string_bytes};
 ghost use Rattle.std.specs.List.Sorted.{IsStrictlySortedBy};
 ghost use Rattle.gm_name.specs.Version.{version_cmp};
 ghost use Rattle.gm_file.specs.Views.{interval_views};
-ghost use Rattle.gm_file_retract.specs.Shown.{shown_of};
+ghost use Rattle.gm_file.specs.Shown.{shown_of};
 ghost use Rattle.gm_store.specs.Asked.{IsWithinLimit, Name, answer_in, bytes, mod_file, reply_of};
 ghost use Rattle.gm_store.specs.States.{HasServed};
 ghost use Rattle.gm_graph_cache.specs.Reading.{IsFileReading};
@@ -21,8 +21,7 @@ ghost use Rattle.gomod_run.specs.Runs.{IsRunOutcome};
 ghost use Rattle.gomod_run.specs.Versions.{IsEndByList, IsRefusedList, IsShownOutcome, IsVersionsOutcome, VersionsNeed, versions_line};
 
 use crate::asking::ask_for;
-use gm_file::Interval;
-use gm_file_retract::shown_versions;
+use gm_file::{Interval, shown_versions};
 use gm_graph_cache::{Class, FileReading};
 use gm_name::{BorrowedVersion, KnownNames, ModPath, ModVersion, NoMemory};
 use gm_report::Report;
