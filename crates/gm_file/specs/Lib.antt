@@ -16,3 +16,5 @@ pub mod ReadFaults
 pub mod DepLines
 pub mod Listed
 pub mod SimpleLines
+pub mod Shown
+pub mod Swept

@@ -17,6 +17,8 @@
 //! `../lib` as the replacement of `example.com/lib` at v1.2.0. With `v2.0.0` on line 3 it gives the fault `Misfit` at
 //! line 3 instead, since that version doesn't fit the path.
 //!
+//! `shown_versions` leaves out of a module's versions those that an interval of its latest file retracts.
+//!
 //! Words, lines and blocks are the matter of gm_syntax, paths and versions that of gm_name. `read_line`, `strict_go`
 //! and `is_folder` are public so that the crate that edits files reads single lines by the same rules.
 #![tactic(auto)]
@@ -35,7 +37,9 @@ mod replace;
 mod replacements;
 mod required;
 mod retractions;
+mod shown;
 mod sides;
+mod sweep;
 mod verb;
 
 pub use crate::dep_file::DepFile;
@@ -47,5 +51,6 @@ pub use crate::listed_file::ListedFile;
 pub use crate::main_file::MainFile;
 pub use crate::part::is_empty_block;
 pub use crate::replace::{Interval, Replace, Right};
+pub use crate::shown::shown_versions;
 pub use crate::sides::does_left_fit;
 pub use crate::verb::{Mode, is_folder};

@@ -10,6 +10,7 @@ pub mod NumericIdentifiers
 pub mod NameTests
 pub mod Precedence
 pub mod Bytes
+pub mod Escapes
 pub mod Readings
 pub mod Refusals
 pub mod BaseVersions

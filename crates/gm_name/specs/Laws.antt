@@ -2,10 +2,11 @@
 use Rattle.semver.specs.Grammar.{IsValid, is_pre_identifier}
 use Rattle.semver.specs.Order.{is_numeric, pre_part_cmp}
 use Rattle.std.specs.Ordering.{nat_cmp}
-use Rattle.std.specs.Prelude.{◌≡◌, ◌<◌, ◌↔◌, true, List, ℕ}
+use Rattle.std.specs.Prelude.{◌≡◌, ◌<◌, ◌↔◌, not, true, List, ℕ}
+use Rattle.std.specs.Char.{is_ascii_uppercase}
 use Rattle.std.specs.List.{list_all}
 use Rattle.std.specs.declared.cmp.Ordering.TheVariants.{Equal, Greater, Less}
-use Rattle.gm_name_escape.specs.Escape.{escaped, has_no_bang}
+use Rattle.gm_name.specs.Escape.{IsUnescaped, escaped, has_no_bang, is_escaped}
 use Rattle.gm_name.specs.Fit.{Fits}
 use Rattle.gm_name.specs.Names.{does_fit, is_path, is_version}
 use Rattle.gm_name.specs.Path.{HasMajor, IsPath, is_byte_of_path}
@@ -81,6 +82,19 @@ BaseIsLower = (version base : List ℕ) → IsVersion version → IsBase version
 abbrev pub BaseForms : Type 0
 BaseForms = (version : List ℕ) → ((base : List ℕ) × IsBase version base)
     ↔ ((form : ℕ) × (time revision : List ℕ) × (1 < form) × IsPseudo version form time revision)
+
+-- a text without '!' is what its escaped form unescapes to, and no other text is
+abbrev pub UnescapeInvertsEscape : Type 0
+UnescapeInvertsEscape = (text : List ℕ) → has_no_bang text ≡ true
+    → IsUnescaped text (escaped text) × ((other : List ℕ) → IsUnescaped other (escaped text) → other ≡ text)
+
+-- the escaped texts are exactly the texts made of pieces (`is_escaped`)
+abbrev pub EscapedTextsAreTested : Type 0
+EscapedTextsAreTested = (name : List ℕ) → is_escaped name ≡ true ↔ ((text : List ℕ) × IsUnescaped text name)
+
+-- an escaped text has no upper-case letter
+abbrev pub EscapedIsLowerCase : Type 0
+EscapedIsLowerCase = (text : List ℕ) → list_all (λ b. not (is_ascii_uppercase b)) (escaped text) ≡ true
 
 -- which bytes a path can have, and which a version
 abbrev pub BytesOfPath : Type 0

@@ -1,5 +1,6 @@
 pub mod Cuts
 pub mod Element
+pub mod Escape
 pub mod Fingerprint
 pub mod Fit
 pub mod Kept

@@ -6,7 +6,7 @@
 ghost use Rattle.std.specs.Prelude.{◌≡◌, ◌↔◌, ℕ, List, true};
 ghost use Rattle.std.specs.Cmp.Lexicographic.{slice_cmp};
 ghost use Rattle.std.specs.Ordering.{nat_cmp, ordering_then};
-ghost use Rattle.gm_name.specs.Laws.{BaseForms, BaseIsLower, BaseIsSpelled, BaseIsVersion, BytesOfPath, BytesOfVersion, FitsAreTested, HigherPrecedence, LowerPrecedence, NumericIdentifiersByNumber, OneBase, OneMajor, OnePseudo, OneVersionForPrecedence, PathHasNoBang, PathsAreTested, PathEscapingIsInjective, PseudoIsSpelled, SamePrecedence, VersionHasNoBang, VersionIsSpelled, VersionsAreTested, VersionEscapingIsInjective};
+ghost use Rattle.gm_name.specs.Laws.{BaseForms, BaseIsLower, BaseIsSpelled, BaseIsVersion, BytesOfPath, BytesOfVersion, EscapedIsLowerCase, EscapedTextsAreTested, FitsAreTested, HigherPrecedence, LowerPrecedence, NumericIdentifiersByNumber, OneBase, OneMajor, OnePseudo, OneVersionForPrecedence, PathHasNoBang, PathsAreTested, PathEscapingIsInjective, PseudoIsSpelled, SamePrecedence, UnescapeInvertsEscape, VersionHasNoBang, VersionIsSpelled, VersionsAreTested, VersionEscapingIsInjective};
 ghost use Rattle.gm_name.specs.Version.{parts_in, precedence, version_cmp};
 
 use crate::fit::ModVer;
@@ -114,6 +114,22 @@ pub fn pseudo_is_spelled()
 {}
 
 // ---- escaping
+
+/// A text without `!` is what its escaped form unescapes to, and no other text is.
+pub fn unescape_inverts_escape()
+    ensures { UnescapeInvertsEscape }
+{}
+
+/// The names that unescape are those made of pieces: `!` and a lower-case letter, or a byte other than `!` and
+/// the upper-case letters.
+pub fn escaped_texts_are_tested()
+    ensures { EscapedTextsAreTested }
+{}
+
+/// An escaped text has no upper-case letter, so that escaped texts differ even if case is ignored.
+pub fn escaped_is_lower_case()
+    ensures { EscapedIsLowerCase }
+{}
 
 /// No path and no version contains `!`, so different paths, and different versions, have different escaped texts.
 pub fn escaping_is_injective()

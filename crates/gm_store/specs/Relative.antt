@@ -4,7 +4,7 @@ use Rattle.std.specs.Prelude.{◌≡◌, ℕ, ◌==◌, ◌&&◌, not, nat_lt, B
 use Rattle.std.specs.List.{list_all, slice_split}
 use Rattle.std.specs.Str.{bytes_eq}
 use Rattle.std.specs.Char.{is_ascii_uppercase}
-use Rattle.gm_name_escape.specs.Escape.{escaped}
+use Rattle.gm_name.specs.Escape.{escaped}
 use Rattle.gm_name.specs.Path.{IsPath}
 use Rattle.gm_name.specs.Version.{IsVersion}
 use Rattle.gm_store.specs.Asked.{Name, mod_file, folder_file, list_file}

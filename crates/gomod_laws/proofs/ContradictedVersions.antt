@@ -6,7 +6,7 @@ use Rattle.std.proofs.lemmas.Bool.{false≢true}
 use Rattle.gm_name.specs.Version.{IsVersion}
 use Rattle.gm_file.specs.Directives.{VersionInterval, pair}
 use Rattle.gm_file.specs.Fields.{Dependency}
-use Rattle.gm_file_retract.specs.Shown.{is_at_most, is_retracted, shown_of}
+use Rattle.gm_file.specs.Shown.{is_at_most, is_retracted, shown_of}
 use Rattle.gm_store.specs.Asked.{Name, Reply, bytes, mod_file}
 use Rattle.gm_store.specs.Listed.{IsListed}
 use Rattle.gm_graph.specs.declared.cache.class.Class.{Class}

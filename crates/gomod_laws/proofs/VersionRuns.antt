@@ -4,7 +4,7 @@ use Rattle.std.proofs.lemmas.Bool.{false≢true}
 use Rattle.std.proofs.lemmas.List.{append_cancel_left}
 use Rattle.gm_name.specs.Path.{is_fetchable}
 use Rattle.gm_file.specs.Fields.{Dependency}
-use Rattle.gm_file_retract.specs.Shown.{shown_of}
+use Rattle.gm_file.specs.Shown.{shown_of}
 use Rattle.gm_store.specs.Asked.{Name, Reply, absent, answer_in, bytes, list_file, mod_file, too_long}
 use Rattle.gm_store.specs.Listed.{AreListed}
 use Rattle.gm_graph.specs.declared.cache.class.Class.{Class}

@@ -4,7 +4,7 @@ use Rattle.std.specs.Prelude.{◌≡◌, ◌⊎◌, ℕ, List, [], Option, None,
 use Rattle.gm_name.specs.Version.{IsVersion}
 use Rattle.gm_file.specs.Directives.{VersionInterval}
 use Rattle.gm_file.specs.Fields.{Dependency}
-use Rattle.gm_file_retract.specs.Shown.{shown_of}
+use Rattle.gm_file.specs.Shown.{shown_of}
 use Rattle.gm_store.specs.Asked.{Name, Reply, answer_in, bytes, list_file, mod_file}
 use Rattle.gm_store.specs.Latest.{IsLatest}
 use Rattle.gm_store.specs.Listed.{AreListed}

@@ -7,7 +7,7 @@ use Rattle.gm_store.specs.Asked.{Name, Reply, absent, bytes, list_file, mod_file
 use Rattle.gm_store.specs.Latest.{IsLatest}
 use Rattle.gm_store.specs.Listed.{AreListed}
 use Rattle.gm_file.specs.Fields.{Dependency}
-use Rattle.gm_file_retract.specs.Shown.{shown_of}
+use Rattle.gm_file.specs.Shown.{shown_of}
 use Rattle.gm_graph.specs.declared.cache.class.Class.{Class}
 use Rattle.gm_graph.specs.Reading.{IsFileReading}
 use Rattle.gomod_run.specs.Outcome.{Outcome, printed, refused}

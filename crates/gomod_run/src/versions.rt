@@ -6,7 +6,7 @@ ghost use Rattle.std.specs.String.{string_bytes};
 ghost use Rattle.std.specs.List.Sorted.{IsStrictlySortedBy};
 ghost use Rattle.gm_name.specs.Version.{version_cmp};
 ghost use Rattle.gm_file.specs.Views.{interval_views};
-ghost use Rattle.gm_file_retract.specs.Shown.{shown_of};
+ghost use Rattle.gm_file.specs.Shown.{shown_of};
 ghost use Rattle.gm_store.specs.Asked.{IsWithinLimit, Name, answer_in, bytes, mod_file, reply_of};
 ghost use Rattle.gm_store.specs.States.{HasServed};
 ghost use Rattle.gm_graph.specs.Reading.{IsFileReading};
@@ -22,8 +22,7 @@ ghost use Rattle.gomod_run.specs.Versions.{IsEndByList, IsRefusedList, IsShownOu
 
 use crate::asking::ask_for;
 use crate::reports::report::Report;
-use gm_file::Interval;
-use gm_file_retract::shown_versions;
+use gm_file::{Interval, shown_versions};
 use gm_graph::{Class, FileReading};
 use gm_name::{BorrowedVersion, KnownNames, ModPath, ModVersion, NoMemory};
 use gm_store::{Answer, Asks, FileName, latest, versions_of};

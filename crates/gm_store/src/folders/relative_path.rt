@@ -7,8 +7,7 @@ ghost use Rattle.gm_store.specs.Asked.{list_file, mod_file, name_of};
 ghost use Rattle.gm_store.specs.Relative.{LeadsBelow, StaysBelow, below, ends_in_slash, relative_text};
 
 use crate::files::FileName;
-use gm_name::{ModPath, ModVersion, NoMemory};
-use gm_name_escape::push_escaped;
+use gm_name::{ModPath, ModVersion, NoMemory, push_escaped};
 use std::alloc::Global;
 
 /// The room that is made for a path at first, in bytes. Most paths are shorter, and take one allocation.

@@ -1,6 +1,6 @@
 use Rattle.std.proofs.Common.{◌∙◌, List, Ok, Err, ap, inl, inr, refl}
 use Rattle.gm_file.specs.Directives.{VersionInterval}
-use Rattle.gm_file_retract.specs.Shown.{shown_of}
+use Rattle.gm_file.specs.Shown.{shown_of}
 use Rattle.gm_store.specs.Asked.{mod_file, reply_of}
 use Rattle.gm_graph.specs.Summaries.{reading_of}
 use Rattle.gomod_run.specs.Outcome.{printed}

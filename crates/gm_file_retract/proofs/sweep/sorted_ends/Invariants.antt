@@ -1,8 +1,0 @@
-use Rattle.std.proofs.Common.{◌≡◌, take}
-use Rattle.gm_file.specs.Views.{interval_views}
-use Rattle.gm_file_retract.specs.Swept.{ends_views}
-use Rattle.gm_file_retract.proofs.sweep.sorted_ends.Given as goal
-
--- these are the ends of the intervals so far
-abbrev pub invariant-loop-interval : goal.invariant-loop-interval
-invariant-loop-interval l = ends_views l.ends.items ≡ interval_views (take l.interval-index l.intervals)

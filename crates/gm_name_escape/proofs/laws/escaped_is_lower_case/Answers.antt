@@ -1,5 +1,0 @@
-use Rattle.gm_name_escape.proofs.Escapes.{escaped-small}
-use Rattle.gm_name_escape.proofs.laws.escaped_is_lower_case.Goals as goal
-
-pub returns : goal.returns
-returns c = escaped-small

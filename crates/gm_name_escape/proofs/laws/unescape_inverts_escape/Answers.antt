@@ -1,6 +1,0 @@
-use Rattle.std.proofs.Common.{refl, sym}
-use Rattle.gm_name_escape.proofs.Escapes.{escaped-injective}
-use Rattle.gm_name_escape.proofs.laws.unescape_inverts_escape.Goals as goal
-
-pub returns : goal.returns
-returns c = λ text no_bang. ((no_bang, refl), λ other is. escaped-injective other text is.0 no_bang (sym is.1))
