@@ -40,8 +40,8 @@ gm_name/src/version.rt read: the parser says so
   match Version::parse(alloc, rest) { Err(error) => if is_out_of_memory(error) { Err(VersionFault::NoMemory)
 gm_name/src/version.rt with: a text that is a pre-release was refused
   let Ok(pre) = Prerelease::new(alloc, pre) else { return Err(AllocError)
-gm_name_table/src/module_table.rt put: the list has the greatest size
-  if self.modules.len() >= MOST { return Err(AllocError) where MOST is 4_294_967_295
+gm_name_table/src/module_table.rt number: the list has the greatest size
+  if self.modules.len() >= MOST_PLACES as usize { return Err(AllocError)
 gm_store/src/file_system.rt read_file: the system says so
   match system.open(path) { Err(error) if error.kind() == ErrorKind::OutOfMemory => Err(InputFault::NoMemory)
 gm_store_sums/src/sum_lines.rt fault_of: no line is invalid, so reading stopped for memory
@@ -74,10 +74,6 @@ gomod_words/src/usage.rt unreadable: the message could not be made
   match unreadable_message(alloc, word) { Err(_) => UsageFault::NoMemory
 gomod_words/src/usage.rt line: the text could not be made
   match format!(in alloc; "{message}\n\nUsage: {usage}{TRY_HELP}") { Err(_) => UsageFault::NoMemory
-number_map/src/number_map.rt insert: a list could not grow, and the value goes back
-  let Ok(()) = self.values.reserve(1) else { return Err(AllocFailed { value })
-number_map/src/number_map.rt insert: a list could not grow, and the value goes back
-  let Ok(()) = self.places.insert(number, self.values.len()) else { return Err(AllocFailed { value })
 """
 
 NAMES = r"(?:NoMemory|AllocError|AllocFailed|OutOfMemory|Memory)"

@@ -19,3 +19,7 @@ pub mod Fronts
 pub mod Words
 pub mod PreReleases
 pub mod FieldLemmas
+pub mod Buckets
+pub mod KeptPlaces
+pub mod Places
+pub mod Slots

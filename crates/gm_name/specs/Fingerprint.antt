@@ -25,3 +25,7 @@ abbrev pub fingerprint : ℕ → List ℕ → ℕ
 fingerprint number (a ∷ b ∷ c ∷ d ∷ e ∷ f ∷ g ∷ h ∷ rest) =
     fingerprint (mixed number (first_eight (a ∷ b ∷ c ∷ d ∷ e ∷ f ∷ g ∷ h ∷ []))) rest
 fingerprint number rest = by_bytes number rest
+
+-- the tag of a fingerprint: its high half
+abbrev pub tag_of : ℕ → ℕ
+tag_of number = number / 4294967296

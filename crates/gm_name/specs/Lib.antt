@@ -19,3 +19,9 @@ pub mod Tail
 pub mod Version
 pub mod VersionOrder
 pub mod ModuleVersion
+pub mod Buckets
+pub mod KeptNames
+pub mod Overflow
+pub mod Slots
+pub mod TagIndex
+pub mod TagMarks

@@ -1,7 +1,7 @@
 //! Fingerprints of texts: hashes to look names up by, because numbers compare faster than texts.
 
 ghost use Rattle.std.specs.Prelude.{◌≡◌, ◌≤◌, drop, length};
-ghost use Rattle.gm_name.specs.Fingerprint.{by_bytes, fingerprint, first_eight, mixed};
+ghost use Rattle.gm_name.specs.Fingerprint.{by_bytes, fingerprint, first_eight, mixed, tag_of};
 
 /// A 64-bit hash of a text's bytes, computed from the number `start`. To hash two texts in a row, pass the first one's
 /// fingerprint as the `start` of the second.
@@ -19,6 +19,14 @@ pub fn fingerprint(start: u64, text: &str) -> u64
         rest = after_eight(rest);
     }
     by_bytes(number, rest)
+}
+
+/// The tag of a fingerprint, under which an index has a name's place: the high half.
+#[inline(always)]
+pub fn tag_of(fingerprint: u64) -> u32
+    ensures { result ≡ tag_of fingerprint }
+{
+    (fingerprint >> 32) as u32
 }
 
 /// The number of the first eight bytes, the first one lowest.

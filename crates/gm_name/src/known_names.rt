@@ -1,21 +1,22 @@
 //! Names that were read before, kept so that a duplicate is neither tested nor stored again.
 
 ghost use Rattle.std.specs.Prelude.{◌≡◌, ◌≤◌, ◌↔◌, IfOk, IfSome, IsErrOf, Ok};
-ghost use Rattle.number_map.specs.NumberMap.{count_of};
 ghost use Rattle.gm_name.specs.Fingerprint.{fingerprint};
 ghost use Rattle.gm_name.specs.Fit.{Fits};
 ghost use Rattle.gm_name.specs.Kept.{IsWithinRoom, KeepsAll, none_kept};
+ghost use Rattle.gm_name.specs.KeptNames.{count_of};
 ghost use Rattle.gm_name.specs.Path.{IsPath};
 ghost use Rattle.gm_name.specs.Readings.{PairReading, PathReading, VersionReading};
 ghost use Rattle.gm_name.specs.Version.{IsNotCanonical, IsSemVer, IsVersion};
 ghost use Rattle.gm_name.specs.PairFaults.{pair_fault_of_path, pair_fault_of_version};
 ghost use Rattle.gm_name.specs.declared.known_names.PairFault.TheVariants as pair;
 
-use crate::fingerprints::fingerprint;
+use crate::bucket::MOST_PLACES;
+use crate::fingerprints::{fingerprint, tag_of};
 use crate::fit::ModVer;
+use crate::kept_names::KeptNames;
 use crate::path::{ModPath, PathFault};
 use crate::version::{ModVersion, VersionFault};
-use number_map::NumberMap;
 use std::alloc::{AllocError, Global};
 use std::marker::Model;
 use thiserror::Error;
@@ -71,29 +72,29 @@ impl From<VersionFault> for PairFault {
 /// Paths and versions that were read before, for callers that read many names, most of them duplicates: a name that is
 /// read again shares the memory of the first one and isn't tested again.
 ///
-/// Reading through a `KnownNames` gives the same results as `ModPath::parse` and `ModVersion::parse`. One name is
-/// kept under each fingerprint, so a lookup takes a few comparisons of numbers, at most log n among n names, and one
-/// of texts, whatever the names are. Contracts see how many names of each kind are kept: no fewer than before, and
-/// never more than there is room for. If there is no room, no text is hashed to be looked
-/// up. All memory comes from the allocator that it was made with.
+/// Reading through a `KnownNames` gives the same results as `ModPath::parse` and `ModVersion::parse`. Of the names whose
+/// fingerprints have one tag only the last is kept, so a lookup takes a few comparisons of numbers, at most log n among
+/// n names, and one of texts, whatever the names are. Contracts see how many names of each kind are kept: no fewer than
+/// before, and never more than there is room for. If there is no room, no text is hashed to be looked up. All memory
+/// comes from the allocator that it was made with.
 #[derive(Drop)]
 pub struct KnownNames {
     /// The allocator of the names, and of the maps that keep them.
     alloc: Global,
     /// How many names each of the two maps may grow to.
     room: usize,
-    /// Paths by fingerprint.
-    paths: NumberMap<ModPath>,
-    /// Versions by fingerprint.
-    versions: NumberMap<ModVersion>,
+    /// The paths that are kept.
+    paths: KeptNames<ModPath>,
+    /// The versions that are kept.
+    versions: KeptNames<ModVersion>,
     /// The path that is expected to be read next, if any. It is compared before anything is looked up.
     expected: Option<ModPath>,
 }
 
 impl Model for KnownNames {
     ghost use Rattle.std.specs.Prelude.{◌≡◌, ◌≤◌};
-    ghost use Rattle.number_map.specs.NumberMap.{count_of};
     ghost use Rattle.gm_name.specs.Kept.{KeptCounts};
+    ghost use Rattle.gm_name.specs.KeptNames.{count_of};
 
     ghost Value = { KeptCounts };
 
@@ -106,9 +107,9 @@ impl Model for KnownNames {
     ghost invariant = { λ a. (count_of a.paths ≤ a.room) × (count_of a.versions ≤ a.room) };
 }
 
-/// Keeps a name under a number, instead of any other there, as long as there are fewer than `room` names.
+/// Keeps a name by its fingerprint, instead of any other with the same tag, as long as there are fewer than `room` names.
 fn keep<T: Drop>(
-    names: &mut NumberMap<T>,
+    names: &mut KeptNames<T>,
     room: usize,
     number: u64,
     name: T,
@@ -116,8 +117,8 @@ fn keep<T: Drop>(
     ensures within { count_of names.old ≤ room → count_of names.new ≤ room }
     ensures kept { count_of names.old ≤ count_of names.new }
 {
-    if names.count() < room {
-        names.insert(number, name)?;
+    if names.count() < room && names.count() < MOST_PLACES as usize {
+        names.keep(tag_of(number), name)?;
     }
     Ok(())
 }
@@ -131,8 +132,8 @@ impl KnownNames {
         KnownNames {
             alloc,
             room,
-            paths: NumberMap::new(alloc),
-            versions: NumberMap::new(alloc),
+            paths: KeptNames::new(alloc),
+            versions: KeptNames::new(alloc),
             expected: None,
         }
     }
@@ -179,7 +180,7 @@ impl KnownNames {
         ensures within { IsWithinRoom self.now }
         ensures read { IfSome result (λ path. PathReading text.now (Ok path)) }
     {
-        let held = self.paths.get(number?)?;
+        let held = self.paths.get(tag_of(number?))?;
         if held.as_str() == text {
             held.copy(self.alloc).ok()
         } else {
@@ -192,7 +193,7 @@ impl KnownNames {
         ensures within { IsWithinRoom self.now }
         ensures read { IfSome result (λ version. VersionReading text.now (Ok version)) }
     {
-        let held = self.versions.get(number?)?;
+        let held = self.versions.get(tag_of(number?))?;
         if held.as_str() == text {
             held.copy(self.alloc).ok()
         } else {

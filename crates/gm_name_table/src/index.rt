@@ -1,39 +1,36 @@
 //! The index of a list of modules: where each of them stands.
 
 ghost use Rattle.std.specs.Prelude.{◌≡◌, ◌<◌, ◌↔◌, ◌++◌, ◌∷◌, [], IfSome, IsTrue, None, OnErr, OnOk, Some, length, slice_get};
-ghost use Rattle.gm_name_table.specs.Index.{IsIndexOf, tag_of};
+ghost use Rattle.gm_name.specs.TagIndex.{place_under};
+ghost use Rattle.gm_name_table.specs.Index.{IsIndexOf, pair_tag};
 ghost use Rattle.gm_name_table.specs.Lists.{IsAbsent};
 
-use crate::tag_marks::TagMarks;
-use crate::tags::Tags;
-use gm_name::{ModVer, NoMemory, fingerprint};
+use gm_name::{ModVer, NoMemory, TagIndex, fingerprint, tag_of};
 use std::alloc::Global;
 use std::collections::BTreeMap;
 
-/// Where each of some modules stands in their list. Modules made up to have equal tags, or to choose one bucket, cost
-/// what they cost in an ordered map.
+/// Where each of some modules stands in their list. Modules made up to have equal tags cost what they cost in an
+/// ordered map.
 #[derive(Drop)]
 pub(crate) struct Index {
-    /// The places of modules under their tags.
-    first: Tags,
-    /// The places of the others: those whose tag was another module's, or whose bucket was full.
+    /// The place of the first module with each tag.
+    first: TagIndex,
+    /// The places of the others, whose tag an earlier module has.
     others: BTreeMap<ModVer, u32>,
-    /// Marks at the tags of the others, so that most modules that aren't in the list are known so without a search.
-    marks: TagMarks,
 }
 
-/// The tag of a module: the high half of its fingerprint.
-#[tactic(auto, unfolding(crate::specs::Index::tag_of))]
-pub(crate) fn tag_of(pair: &ModVer) -> u32
-    ensures { result ≡ tag_of pair.now }
+/// The tag of a module.
+#[tactic(auto, unfolding(crate::specs::Index::pair_tag))]
+pub(crate) fn pair_tag(pair: &ModVer) -> u32
+    ensures { result ≡ pair_tag pair.now }
 {
-    (pair.fingerprint() >> 32) as u32
+    tag_of(pair.fingerprint())
 }
 
 /// The tag of the module with these texts, if there is one.
 #[inline(always)]
-pub(crate) fn tag_of_texts(path: &str, version: &str) -> u32 {
-    (fingerprint(fingerprint(0, path), version) >> 32) as u32
+pub(crate) fn texts_tag(path: &str, version: &str) -> u32 {
+    tag_of(fingerprint(fingerprint(0, path), version))
 }
 
 /// Whether this module stands there.
@@ -53,59 +50,63 @@ impl Index {
         ensures { IsIndexOf result [] }
     {
         Index {
-            first: Tags::new(alloc),
+            first: TagIndex::new(alloc),
             others: BTreeMap::new(alloc),
-            marks: TagMarks::new(alloc),
         }
     }
 
-    /// A place at which a module with this tag may stand, if one was noted. Allocates no memory.
+    /// The place of the first module with this tag, if there is one. Allocates no memory.
     #[inline(always)]
-    pub(crate) fn guess(&self, tag: u32) -> Option<u32> {
+    pub(crate) fn first_with(&self, tag: u32) -> Option<u32>
+        ensures { result ≡ place_under self.now.first tag }
+    {
         self.first.get(tag)
     }
 
-    /// Where a module with this tag stands in the list, or `None` if it doesn't. Allocates no memory.
-    pub(crate) fn find(&self, pairs: &[ModVer], tag: u32, pair: &ModVer) -> Option<u32>
+    /// Where a module stands in the list, or `None` if it doesn't. `first` is the place of the first module with its
+    /// tag. Allocates no memory.
+    pub(crate) fn find(&self, pairs: &[ModVer], first: Option<u32>, pair: &ModVer) -> Option<u32>
         requires indexed { IsIndexOf self.now pairs.now }
-        requires tag { tag ≡ tag_of pair.now }
+        requires first { first ≡ place_under self.now.first (pair_tag pair.now) }
         ensures some { IfSome result (λ number. slice_get pairs.now number ≡ Some pair.now) }
         ensures none { result ≡ None → IsAbsent pairs.now pair.now }
     {
-        match self.first.get(tag) {
-            Some(place) if stands_at(pairs, place, pair) => Some(place),
-            _ => {
-                if self.marks.has(tag) {
-                    self.others.get(pair).copied()
-                } else {
-                    None
-                }
-            }
+        let place = first?;
+        if stands_at(pairs, place, pair) {
+            Some(place)
+        } else {
+            self.others.get(pair).copied()
         }
     }
 
-    /// Notes the place of a module with this tag that isn't in the list and is put at its end next. Fails only when
-    /// memory runs out; then the index is still that of the list.
+    /// Notes the place of a module with this tag that isn't in the list and is put at its end next. `first` is the place
+    /// of the first module with the tag. Fails only when memory runs out; then the index is still that of the list.
     pub(crate) fn add(
         &mut self,
         alloc: Global,
         pairs: &[ModVer],
         tag: u32,
+        first: Option<u32>,
         pair: &ModVer,
     ) -> Result<(), NoMemory>
         requires few { length pairs.now < 4294967295 }
         requires indexed { IsIndexOf self.old pairs.now }
-        requires tag { tag ≡ tag_of pair.now }
+        requires tag { tag ≡ pair_tag pair.now }
+        requires first { first ≡ place_under self.old.first tag }
         requires absent { IsAbsent pairs.now pair.now }
         ensures ok { OnOk result (IsIndexOf self.new (pairs.now ++ pair.now ∷ [])) }
         ensures err { OnErr result (IsIndexOf self.new pairs.now) }
     {
         let number = pairs.len() as u32;
-        if self.first.put(tag, number)? {
-            return Ok(());
+        match first {
+            None => {
+                self.first.put(tag, number)?;
+                Ok(())
+            }
+            Some(_) => {
+                self.others.insert(pair.copy(alloc)?, number)?;
+                Ok(())
+            }
         }
-        self.marks.add(tag)?;
-        self.others.insert(pair.copy(alloc)?, number)?;
-        Ok(())
     }
 }

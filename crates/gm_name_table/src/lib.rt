@@ -4,12 +4,9 @@
 //! order in which they were first put in. A number never changes, and numbers compare faster than names.
 #![tactic(auto)]
 
-mod bucket;
 mod index;
 mod module_list;
 mod module_table;
-mod tag_marks;
-mod tags;
 
 pub use crate::module_list::{ModuleList, Modules};
 pub use crate::module_table::ModuleTable;

@@ -4,16 +4,13 @@ ghost use Rattle.std.specs.Prelude.{◌≡◌, ◌<◌, ◌≤◌, ◌++◌, ◌
 ghost use Rattle.std.specs.List.{IsDistinct};
 ghost use Rattle.gm_name.specs.ModuleVersion.{pair_eq};
 ghost use Rattle.gm_name.specs.Readings.{PairReading};
-ghost use Rattle.gm_name_table.specs.Index.{tag_of};
+ghost use Rattle.gm_name_table.specs.Index.{pair_tag};
 ghost use Rattle.gm_name_table.specs.Lists.{IsAbsent, IsOneMoreAtMost};
 
-use crate::index::{Index, tag_of, tag_of_texts};
-use gm_name::{ModVer, NoMemory};
+use crate::index::{Index, pair_tag, texts_tag};
+use gm_name::{MOST_PLACES, ModVer, NoMemory};
 use std::alloc::{AllocError, Global};
 use std::marker::Model;
-
-/// How many modules a table can hold: as many as there are numbers of 32 bits, but for the one that stands for none.
-const MOST: usize = 4_294_967_295;
 
 /// The distinct modules (paths at versions) that were put in, in the order in which each was first put in. A module's
 /// number is its place in this list, and never changes. Contracts see the list.
@@ -82,7 +79,7 @@ impl ModuleTable {
         ensures number { IfSome result (λ number. slice_get self.now number ≡ Some (path.now, version.now)) }
         ensures read { IfSome result (λ _. PairReading path.now version.now (Ok (path.now, version.now))) }
     {
-        let number = self.index.guess(tag_of_texts(path, version))?;
+        let number = self.index.first_with(texts_tag(path, version))?;
         let there = self.modules.get(number as usize)?;
         if is_pair_of(there, path, version) {
             Some(number)
@@ -98,28 +95,18 @@ impl ModuleTable {
         ensures only { IsOneMoreAtMost self.old self.new pair.now }
         ensures err { OnErr result (self.new ≡ self.old) }
     {
-        let tag = tag_of(pair);
-        if let Some(number) = self.index.find(&self.modules, tag, pair) {
+        let tag = pair_tag(pair);
+        let first = self.index.first_with(tag);
+        if let Some(number) = self.index.find(&self.modules, first, pair) {
             return Ok(number);
         }
-        self.put(tag, pair)
-    }
-
-    /// Puts a module with this tag that isn't in the table at its end. Fails as `number` does.
-    fn put(&mut self, tag: u32, pair: &ModVer) -> Result<u32, NoMemory>
-        requires tag { tag ≡ tag_of pair.now }
-        requires absent { IsAbsent self.old pair.now }
-        ensures number { IfOk result (λ number. number ≡ length self.old) }
-        ensures ok { OnOk result (self.new ≡ self.old ++ pair.now ∷ []) }
-        ensures err { OnErr result (self.new ≡ self.old) }
-    {
-        if self.modules.len() >= MOST {
+        if self.modules.len() >= MOST_PLACES as usize {
             return Err(AllocError);
         }
         let copy = pair.copy(self.alloc)?;
         // Room comes first, so that the push after the index has changed can't fail.
         self.modules.reserve(1)?;
-        self.index.add(self.alloc, &self.modules, tag, pair)?;
+        self.index.add(self.alloc, &self.modules, tag, first, pair)?;
         let number = self.modules.len() as u32;
         self.modules.push(copy)?;
         Ok(number)

@@ -1,0 +1,65 @@
+-- What buckets of any kind hold after one of them was changed, and that a number chooses one of them.
+use Rattle.std.proofs.Common.{◌≡◌, ◌∙◌, ◌+◌, ◌<◌, ◌≤◌, ◌*◌, ℕ, zero, suc, Bool, cond, List, [], ◌∷◌, Option, Some, length, get_or, nat_eq, ap, refl, sym, subst, inl, inr, arith}
+use Rattle.std.specs.Prelude.{slice_get}
+use Rattle.std.specs.Option.{option_and_then}
+use Rattle.std.proofs.Math.ListN.{set}
+use Rattle.std.proofs.Math.Nat.{mul-suc, mul-zero}
+use Rattle.std.proofs.lemmas.Bool.{cases_eq, ne_eqb}
+use Rattle.std.proofs.lemmas.List.{length-set, get_or-set_same, set-get_or}
+use Rattle.std.proofs.lemmas.Option.{slice_get_read}
+use Rattle.gm_name.specs.Buckets.{PutsIn, bucket_of, value_at, value_in}
+
+-- A list with one item changed has that item in its place.
+pub there : {X : Type 0} (xs : List X) (i : ℕ) (x : X) → i < length xs → slice_get (set xs i x) i ≡ Some x
+there xs i x within = slice_get_read (set xs i x) (length xs) i x (sym (length-set xs i x)) within (sym (get_or-set_same xs i x x within))
+
+-- It has the others in theirs.
+pub elsewhere : {X : Type 0} (xs : List X) (i j : ℕ) (x : X) → (i ≡ j → ⊥) → slice_get (set xs i x) j ≡ slice_get xs j
+elsewhere [] i j x apart = refl
+elsewhere (y ∷ ys) zero zero x apart = absurd (apart refl)
+elsewhere (y ∷ ys) zero (suc j) x apart = refl
+elsewhere (y ∷ ys) (suc i) zero x apart = refl
+elsewhere (y ∷ ys) (suc i) (suc j) x apart = elsewhere ys i j x (λ e. apart (ap suc e))
+
+-- A bucket that was put back as it was changes nothing.
+pub set_there : {B : Type 0} (buckets : List B) (old new : B) (at : ℕ) → old ≡ get_or buckets at old → new ≡ old → set buckets at new ≡ buckets
+set_there {B} buckets old new at is same = ap (λ (b : B). set buckets at b) (same ∙ is) ∙ set-get_or buckets at old
+
+-- What the bucket at a place holds is what they hold there.
+pub value_there : {B : Type 0} (holds : B → ℕ → Option ℕ) (buckets : List B) (old : B) (at n : ℕ) → at < length buckets → old ≡ get_or buckets at old
+    → value_at holds buckets at n ≡ holds old n
+value_there {B} holds buckets old at n within is =
+    ap (λ (o : Option B). option_and_then (λ bucket. holds bucket n) o) (slice_get_read buckets (length buckets) at old refl within is)
+
+-- What is put in the bucket of its number is put in all.
+pub put_in : {B : Type 0} (holds : B → ℕ → Option ℕ) (choice : ℕ → ℕ → ℕ) (buckets : List B) (old new : B) (at number value : ℕ)
+    → at ≡ choice number (length buckets) → at < length buckets → old ≡ get_or buckets at old → PutsIn holds old new number value
+    → (n : ℕ) → value_in holds choice (set buckets at new) n ≡ cond (nat_eq number n) (Some value) (value_in holds choice buckets n)
+put_in {B} holds choice buckets old new at number value chosen within is puts n =
+    ap (λ (many : ℕ). value_at holds (set buckets at new) (choice n many) n) (length-set buckets at new)
+    ∙ elim (cases_eq at (choice n (length buckets))) [ inl same ↦ here same | inr apart ↦ other apart ]
+  where
+    here : at ≡ choice n (length buckets)
+        → value_at holds (set buckets at new) (choice n (length buckets)) n ≡ cond (nat_eq number n) (Some value) (value_in holds choice buckets n)
+    here same =
+        subst (λ (m : ℕ). value_at holds (set buckets at new) m n ≡ cond (nat_eq number n) (Some value) (value_at holds buckets m n)) same
+        (ap (λ (o : Option B). option_and_then (λ bucket. holds bucket n) o) (there buckets at new within)
+        ∙ puts n
+        ∙ ap (λ (o : Option ℕ). cond (nat_eq number n) (Some value) o) (sym (value_there holds buckets old at n within is)))
+
+    other : (at ≡ choice n (length buckets) → ⊥)
+        → value_at holds (set buckets at new) (choice n (length buckets)) n ≡ cond (nat_eq number n) (Some value) (value_in holds choice buckets n)
+    other apart =
+        ap (λ (o : Option B). option_and_then (λ bucket. holds bucket n) o) (elsewhere buckets at (choice n (length buckets)) new apart)
+        ∙ sym (ap (λ (b : Bool). cond b (Some value) (value_in holds choice buckets n))
+        (ne_eqb number n (λ same. apart (chosen ∙ ap (λ (m : ℕ). choice m (length buckets)) same))))
+
+below : (number many : ℕ) → number < 4294967296 → number * many + many ≤ 4294967296 * many
+below number zero small = omega (arith, mul-zero number)
+below number (suc many) small = omega (arith, small, below number many small, mul-suc number many)
+
+-- A number of 32 bits chooses a bucket that there is.
+pub within : (number many : ℕ) → number < 4294967296 → 0 < many → bucket_of number many < many
+within number many fits some =
+    let product = below number many fits in
+    omega (arith, product, some)

@@ -1,0 +1,31 @@
+-- Places in buckets of slots, under their tags.
+use Rattle.std.specs.Prelude.{◌≡◌, ◌&&◌, ℕ, Bool, not, List, [], ◌∷◌, Option, None, Some, cond, nat_eq, slice_get}
+use Rattle.gm_name.specs.Buckets.{bucket_of, value_in}
+use Rattle.gm_name.specs.declared.bucket.Bucket.{Bucket}
+use Rattle.gm_name.specs.declared.bucket.Slot.{Slot}
+
+-- whether a slot has a place under this tag
+abbrev pub has_tag : Slot → ℕ → Bool
+has_tag slot tag = nat_eq slot.tag tag && not (nat_eq slot.place 4294967295)
+
+-- the place under a tag, in the first slot that has one
+abbrev pub place_in_slots : List Slot → ℕ → Option ℕ
+place_in_slots [] tag = None
+place_in_slots (slot ∷ slots) tag = cond (has_tag slot tag) (Some slot.place) (place_in_slots slots tag)
+
+-- a slot, emptied unless its tag chooses this bucket among so many
+abbrev pub kept_in : ℕ → ℕ → Slot → Slot
+kept_in bucket many slot =
+    cond (nat_eq (bucket_of slot.tag many) bucket) slot (record { tag = slot.tag; place = 4294967295 })
+
+-- The slot at a place is empty.
+abbrev pub IsEmptyAt : List Slot → ℕ → Type 0
+IsEmptyAt slots at = (slot : Slot) × (slice_get slots at ≡ Some slot) × (slot.place ≡ 4294967295)
+
+-- the place in a bucket under a tag
+abbrev pub place_in_bucket : Bucket → ℕ → Option ℕ
+place_in_bucket bucket tag = place_in_slots bucket.slots tag
+
+-- the place in the buckets under a tag: that in the one that it chooses
+abbrev pub place_in_buckets : List Bucket → ℕ → Option ℕ
+place_in_buckets buckets tag = value_in place_in_bucket bucket_of buckets tag

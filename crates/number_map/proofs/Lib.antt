@@ -1,4 +1,0 @@
-pub mod Buckets
-pub mod Places
-pub mod Slots
-pub mod Values

@@ -1,5 +1,0 @@
-pub mod Buckets
-pub mod NumberMap
-pub mod PlaceMap
-pub mod Places
-pub mod Slots
