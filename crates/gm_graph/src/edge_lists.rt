@@ -3,7 +3,7 @@
 //! Many vertices may have one file, as those that a `replace` without a version puts a folder in the place of. Its
 //! requirements are held once, as a list that all of them share.
 
-ghost use Rattle.std.specs.Prelude.{◌≡◌, ◌⊎◌, ◌++◌, ◌∷◌, ℕ, [], IfOk, List, OnOk, Some, length};
+ghost use Rattle.std.specs.Prelude.{◌≡◌, ◌⊎◌, ◌<◌, ◌++◌, ◌∷◌, ℕ, [], IfOk, List, OnOk, Some, length};
 
 use crate::places::put_at;
 use gm_graph_select::Source;
@@ -68,6 +68,7 @@ impl EdgeLists {
     fn remember(&mut self, file: Option<u32>, place: usize) -> Result<(), AllocError>
         ensures files { OnOk result ((f p : ℕ) → list_of self.new f ≡ Some p
             → (list_of self.old f ≡ Some p) ⊎ ((file ≡ Some f) × (p ≡ place))) }
+        ensures held { OnOk result ((f : ℕ) → file ≡ Some f → place < 4294967296 → list_of self.new f ≡ Some place) }
         ensures lists { self.new.lists ≡ self.old.lists }
         ensures sources { self.new.sources ≡ self.old.sources }
     {
@@ -86,7 +87,10 @@ impl EdgeLists {
     ) -> Result<usize, AllocError>
         requires lists { AreLists self.old }
         requires numbers { HasNumbers self.old file numbers.now }
-        ensures { IfOk result (IsListFor self.old self.new file numbers.now) }
+        ensures added { IfOk result (IsListFor self.old self.new file numbers.now) }
+        ensures held { IfOk result (λ place. (f : ℕ) → file ≡ Some f → place < 4294967296
+            → list_of self.new f ≡ Some place) }
+        ensures shared { OnOk result ((p : ℕ) → list_by self.old file ≡ Some p → self.new ≡ self.old) }
     {
         if let Some(place) = self.list_of(file) {
             return Ok(place);
@@ -111,6 +115,7 @@ impl EdgeLists {
         ensures steps { OnOk result (steps_in self.new
             ≡ steps_in self.old ++ record { from = from; to = numbers.now } ∷ []) }
         ensures files { OnOk result (KeepsLists self.old self.new file numbers.now) }
+        ensures shared { OnOk result ((p : ℕ) → list_by self.old file ≡ Some p → self.new.lists ≡ self.old.lists) }
     {
         let list = self.list_for(alloc, file, numbers)?;
         self.sources.push(Source { from, list })?;

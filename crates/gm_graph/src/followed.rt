@@ -50,7 +50,8 @@ impl Followed {
 
     /// Adds this file.
     fn add(&mut self, file: Option<u32>) -> Result<(), AllocError>
-        ensures { OnOk result (AddsFollowed self.old self.new file) }
+        ensures only { OnOk result (AddsFollowed self.old self.new file) }
+        ensures added { OnOk result ((f : ℕ) → file ≡ Some f → followed_at self.new f ≡ true) }
     {
         if let Some(file) = file {
             put_at(&mut self.files, file, false, true)?;
@@ -73,6 +74,8 @@ impl Followed {
             (turns_of (lent_table list.entry) builder.new) (lent_modules list.entry) Deep) }
         ensures graph { OnOk result (KeepsGraph builder.old builder.new) }
         ensures files { OnOk result (AddsFollowed self.old self.new file) }
+        ensures added { OnOk result ((f : ℕ) → file ≡ Some f → followed_at self.new f ≡ true) }
+        ensures once { followed_by self.old file ≡ true → builder.new ≡ builder.old }
         ensures too_many { result ≡ Err AddFault.TooMany
             → OverflowsWith (turns_of (lent_table list.entry) builder.old) (lent_modules list.entry) }
     {

@@ -1,6 +1,6 @@
 //! Lists by the places of files, which hold nothing yet for the last ones.
 
-ghost use Rattle.std.specs.Prelude.{◌≡◌, ◌⊎◌, ℕ, OnOk, slice_index_or};
+ghost use Rattle.std.specs.Prelude.{◌≡◌, ◌≢◌, ℕ, OnOk, slice_index_or};
 
 use std::alloc::AllocError;
 
@@ -11,8 +11,9 @@ pub(crate) fn put_at<T: Copy>(
     none: T,
     item: T,
 ) -> Result<(), AllocError>
-    ensures { OnOk result ((p : ℕ) → (slice_index_or items.new.items p none ≡ slice_index_or items.old.items p none)
-        ⊎ ((p ≡ place) × (slice_index_or items.new.items p none ≡ item))) }
+    ensures put { OnOk result (slice_index_or items.new.items place none ≡ item) }
+    ensures others { OnOk result ((p : ℕ) → p ≢ place
+        → slice_index_or items.new.items p none ≡ slice_index_or items.old.items p none) }
 {
     let place = place as usize;
     'room: while items.len() <= place {

@@ -1,26 +1,31 @@
 -- A breadth-first search: one more edge, one more visit, one more level.
-use Rattle.std.proofs.Common.{◌≡◌, ◌≢◌, ◌+◌, ◌-◌, ◌<◌, ◌≤◌, ◌⊎◌, ◌↔◌, ℕ, zero, suc, Bool, true, false, cond, List, [], ◌∷◌, ◌++◌, length, get_or, set, take, replicate, reverse, Contains, ap, ◌∙◌, sym, refl, subst, inl, inr, arith, length-append, append_assoc}
+use Rattle.std.proofs.Common.{◌≡◌, ◌+◌, ◌-◌, ◌<◌, ◌≤◌, ◌⊎◌, ◌↔◌, ℕ, zero, suc, Bool, true, false, cond, List, [], ◌∷◌, ◌++◌, length, get_or, set, take, replicate, reverse, Contains, ap, ◌∙◌, sym, refl, subst, inl, inr, arith, length-append, append_assoc}
 use Rattle.std.specs.Prelude.{◌==◌, nat_lt}
+use Rattle.std.specs.Global.{Vec}
 use Rattle.std.specs.Ordering.{is_lt, nat_cmp, ordering_then}
 use Rattle.std.specs.declared.cmp.Ordering.{Ordering}
 use Rattle.std.specs.declared.cmp.Ordering.TheVariants.{Less, Equal, Greater}
 use Rattle.std.proofs.Math.Seq.{get_or-append_seam}
 use Rattle.std.proofs.lemmas.Bool.{cases_eq, cases_lt, eqb-false, eqb-true, false≢true, ltb-true}
 use Rattle.std.proofs.lemmas.List.{get_or_append_left, get_or_default, get_or-replicate, get_or-set_other, get_or-set_same, get_or-take, length-replicate, length-set, length-take-le, map_more, reverse-append}
-use Rattle.std.proofs.lemmas.List.Elements.{Contains-append_left, Contains-append_right, Contains-get_or, Contains-push, Contains-push_cases}
+use Rattle.std.proofs.lemmas.List.Elements.{All-contains, Contains-append_cases, Contains-append_left, Contains-append_right, Contains-get_or, Contains-push, Contains-push_cases}
 use Rattle.std.proofs.lemmas.List.Sums.{sum_by-set}
-use Rattle.gm_name.specs.ModuleVersion.{ModuleVersion}
+use Rattle.gm_name.specs.ModuleVersion.{ModuleVersion, module_at}
 use Rattle.gm_graph_select.specs.declared.step.Step.{Step}
 use Rattle.gm_graph_select.specs.declared.step.Step.TheVariants.{Main, Of}
 use Rattle.gm_graph_select.specs.declared.step.Edge.{Edge}
+use Rattle.gm_graph_select.specs.declared.searching.Search.{Search}
 use Rattle.gm_graph_select.specs.declared.searching.Visit.{Visit}
 use Rattle.gm_graph_select.specs.Adjacency.{GraphView}
 use Rattle.gm_graph_select.specs.Graph.{Edges, edge, step_cmp}
 use Rattle.gm_graph_select.specs.Chains.{IsChain, IsLevel, IsPredecessor, IsReached, Leads, along, at_main, begins, goes_on}
-use Rattle.gm_graph_select.specs.Numbering.{IsGraph, edge_leaving, edges_leaving, graph_edges, step_at, steps_of}
+use Rattle.gm_graph_select.specs.Marking.{HasMark}
+use Rattle.gm_graph_select.specs.Numbering.{AreInList, AreLeaving, HasList, IsGraph, edge_leaving, edges_leaving, graph_edges, step_at, steps_of}
 use Rattle.gm_graph_select.specs.Order.{IsAscending}
-use Rattle.gm_graph_select.specs.Searching.{AreTraced, AreTried, IsVisitedNext, IsFollowed, IsSearchedTo, IsTraced, IsTracedTo, IsTurn, IsWithin, State, count_left, first_state, flag, is_found_at, visit_at, visited}
+use Rattle.gm_graph_select.specs.Searching.{ArePassed, AreTraced, AreTried, IsVisitedNext, IsFollowed, IsFoundEnd, IsSearchedTo, IsTraced, IsTracedTo, IsTurn, IsWithin, State, count_left, first_state, flag, is_found_at, state_of, visit_at, visited}
+use Rattle.gm_graph_select.proofs.Marks.{none_marked}
 use Rattle.gm_graph_select.proofs.NumberedSteps.{less_number, same_number, step_number, steps_ascend}
+use Rattle.gm_graph_select.proofs.RankedLists.{from_mapped, in_mapped}
 
 -- ---- levels
 
@@ -128,10 +133,14 @@ count_set found i below none =
     let one : cond (is_found_at found i) 0 1 ≡ 1 = ap {B = ℕ} (λ (b : Bool). cond b 0 1) none in
     omega (arith, sums, one)
 
+one_member : {T : Type 0} (x y : T) → Contains (x ∷ []) y → x ≡ y
+one_member x y (zero, below, is) = is
+one_member x y (suc k, below, is) = absurd (omega (arith, below))
+
 module _ (G : GraphView) (goal : ModuleVersion) (level : ℕ) (before : List Bool) (tried : List Edge) where
-  -- An edge whose end was found, if it has a number.
-  pub with_edge : (state : State) (e : Edge) → e.to ≢ goal → ((i : ℕ) → i < length (steps_of G) → step_at (steps_of G) i ≡ Of e.to → is_found_at state.found i ≡ true) → IsFollowed G goal level before tried state → IsFollowed G goal level before (tried ++ e ∷ []) state
-  with_edge state e miss end f = record {
+  -- Edges whose ends were found.
+  pub with_edges : (state : State) (more : List Edge) → ((e : Edge) → Contains more e → IsFoundEnd G goal state.found e.to) → IsFollowed G goal level before tried state → IsFollowed G goal level before (tried ++ more) state
+  with_edges state more ends f = record {
     size = f.size;
     keeps = f.keeps;
     news = f.news;
@@ -140,18 +149,19 @@ module _ (G : GraphView) (goal : ModuleVersion) (level : ℕ) (before : List Boo
     on_level = f.on_level;
     traced = f.traced;
     once = f.once;
-    ends = λ a h. elim (Contains-push_cases tried e a h) [
-      | inl old ↦ f.ends a old
-      | inr new ↦ subst (λ (b : Edge). (i : ℕ) → i < length (steps_of G) → step_at (steps_of G) i ≡ Of b.to → is_found_at state.found i ≡ true) new end
-    ];
-    misses = λ a h. elim (Contains-push_cases tried e a h) [ inl old ↦ f.misses a old | inr new ↦ subst (λ (b : Edge). b.to ≢ goal) new miss ];
+    ends = λ a h. elim (Contains-append_cases tried more a h) [ inl old ↦ f.ends a old | inr new ↦ ends a new ];
     visits = f.visits;
     count = f.count;
+    passed = f.passed;
   }
 
+  pub with_edge : (state : State) (e : Edge) → IsFoundEnd G goal state.found e.to → IsFollowed G goal level before tried state → IsFollowed G goal level before (tried ++ e ∷ []) state
+  with_edge state e end f = with_edges state (e ∷ []) (λ a h. subst (λ (b : Edge). IsFoundEnd G goal state.found b.to) (one_member e a h) end) f
+
   -- One more visit.
-  pub with_visit : (found : List Bool) (visits next : List Visit) (v : Visit) → v.number < length (steps_of G) → IsTraced (graph_edges G) (steps_of G) visits (length visits) v → IsFollowed G goal level before tried (record { found = found; visits = visits; next = next }) → IsFollowed G goal level before tried (record { found = found; visits = visits ++ v ∷ []; next = next })
-  with_visit found visits next v inside traced f = record {
+  pub with_visit : (found : List Bool) (visits next : List Visit) (passed : List Bool) (v : Visit) → v.number < length (steps_of G) → IsTraced (graph_edges G) (steps_of G) visits (length visits) v → IsFollowed G goal level before tried (record { found = found; visits = visits; next = next; passed = passed })
+      → IsFollowed G goal level before tried (record { found = found; visits = visits ++ v ∷ []; next = next; passed = passed })
+  with_visit found visits next passed v inside traced f = record {
     size = f.size;
     keeps = f.keeps;
     news = f.news;
@@ -161,16 +171,21 @@ module _ (G : GraphView) (goal : ModuleVersion) (level : ℕ) (before : List Boo
     traced = λ w h. traced_more (graph_edges G) (steps_of G) visits v w (f.traced w h);
     once = f.once;
     ends = f.ends;
-    misses = f.misses;
     visits = all_traced (graph_edges G) (steps_of G) visits v inside traced f.visits;
     count = f.count;
+    passed = f.passed;
   }
 
+  pub visited_now : (old : Search) (visits : List Visit) (v : Visit) → v.number < length (steps_of G) → visits ≡ old.visits.items ++ v ∷ [] → IsVisitedNext G goal level before tried (state_of old) v → IsFollowed G goal level before tried (record { found = old.is_found.items; visits = visits; next = old.next.items; passed = old.is_passed.items })
+  visited_now old visits v inside is due =
+      subst (λ (vs : List Visit). IsFollowed G goal level before tried (record { found = old.is_found.items; visits = vs; next = old.next.items; passed = old.is_passed.items })) (sym is)
+      (with_visit old.is_found.items old.visits.items old.next.items old.is_passed.items v inside due.traced due.followed)
+
   -- The end of an edge is found.
-  pub with_end : (found : List Bool) (visits next : List Visit) (i place : ℕ) (e : Edge) → IsGraph G → IsTurn G level before tried e.from → visited (steps_of G) visits place ≡ e.from → place < length visits → Contains G.edges e
-      → i < length (steps_of G) → step_at (steps_of G) i ≡ Of e.to → is_found_at found i ≡ false → IsFollowed G goal level before tried (record { found = found; visits = visits; next = next })
-      → IsFollowed G goal level before tried (record { found = set found i true; visits = visits; next = next ++ record { number = i; before = place } ∷ [] })
-  with_end found visits next i place e are turn here room there inside is none f = record {
+  pub with_end : (found : List Bool) (visits next : List Visit) (passed : List Bool) (i place : ℕ) (e : Edge) → IsGraph G → IsTurn G level before tried e.from → visited (steps_of G) visits place ≡ e.from → place < length visits → Contains G.edges e
+      → i < length (steps_of G) → step_at (steps_of G) i ≡ Of e.to → is_found_at found i ≡ false → IsFollowed G goal level before tried (record { found = found; visits = visits; next = next; passed = passed })
+      → IsFollowed G goal level before tried (record { found = set found i true; visits = visits; next = next ++ record { number = i; before = place } ∷ []; passed = passed })
+  with_end found visits next passed i place e are turn here room there inside is none f = record {
     size = length-set found i true ∙ f.size;
     keeps = λ j h. set_true found i j below (f.keeps j h);
     news = news;
@@ -198,10 +213,10 @@ module _ (G : GraphView) (goal : ModuleVersion) (level : ℕ) (before : List Boo
         | inr too ↦ λ same. sym new ∙ too
       ]
     ];
-    ends = λ a h j low at. set_true found i j below (f.ends a h j low at);
-    misses = f.misses;
+    ends = λ a h. later a.to (f.ends a h);
     visits = f.visits;
     count = let fewer = count_set found i below none in let old = f.count in omega (arith, length-append next (v ∷ []), fewer, old);
+    passed = λ number list low has mark y there. later y (f.passed number list low has mark y there);
   }
     where
       v : Visit
@@ -209,6 +224,9 @@ module _ (G : GraphView) (goal : ModuleVersion) (level : ℕ) (before : List Boo
 
       below : i < length found
       below = let size = f.size in omega (arith, size, inside)
+
+      later : (y : ModuleVersion) → IsFoundEnd G goal found y → IsFoundEnd G goal (set found i true) y
+      later y h = record { end = λ j low at. set_true found i j below (h.end j low at); miss = h.miss }
 
       far : IsWithin (graph_edges G) level (Of e.to) → ⊥
       far w = false≢true (sym none ∙ f.keeps i (turn.full i inside (subst (λ (s : Step). IsWithin (graph_edges G) level s) (sym is) w)))
@@ -222,7 +240,7 @@ module _ (G : GraphView) (goal : ModuleVersion) (level : ℕ) (before : List Boo
         level = level;
         nearer = turn.on_level;
         further = further;
-        least = λ t h l. is_false (is_lt (step_cmp t e.from)) (λ low. false≢true (sym none ∙ f.ends (edge t e.to) (turn.lower t e.to h l low) i inside is));
+        least = λ t h l. is_false (is_lt (step_cmp t e.from)) (λ low. false≢true (sym none ∙ (f.ends (edge t e.to) (turn.lower t e.to h l low)).end i inside is));
       })
 
       news : (j : ℕ) → is_found_at (set found i true) j ≡ true → (is_found_at before j ≡ true) ⊎ ((w : Visit) × Contains (next ++ v ∷ []) w × (w.number ≡ j))
@@ -237,6 +255,55 @@ module _ (G : GraphView) (goal : ModuleVersion) (level : ℕ) (before : List Boo
       unlike : (w u : Visit) → Contains next w → v ≡ u → w.number ≡ u.number → ⊥
       unlike w u old new same = false≢true (sym none ∙ ap (is_found_at found) (ap (λ (x : Visit). x.number) new ∙ sym same) ∙ f.found w old)
 
+  -- The edges of a step whose list was passed lead to nothing new.
+  pub with_passed : (state : State) (number list : ℕ) (ranks : List ℕ) → number < length (steps_of G) → HasList G number list → AreLeaving G number ranks → HasMark state.passed list → IsFollowed G goal level before tried state → IsFollowed G goal level before (tried ++ edges_leaving G number ranks) state
+  with_passed state number list ranks inside has are mark f = with_edges state (edges_leaving G number ranks) ends f
+    where
+      ends : (e : Edge) → Contains (edges_leaving G number ranks) e → IsFoundEnd G goal state.found e.to
+      ends e h =
+          let (rank, there, is) = from_mapped (edge_leaving G number) ranks e h in
+          subst (λ (a : Edge). IsFoundEnd G goal state.found a.to) is
+          (f.passed number list inside has mark (module_at G.vertices rank) (All-contains (λ (r : ℕ). Contains G.edges (edge_leaving G number r)) ranks rank are.only there))
+
+  -- The edges of a step with a list were followed, so the list was passed.
+  pub list_passed : (found : List Bool) (visits next : List Visit) (passed : List Bool) (number list : ℕ) (ranks : List ℕ) → AreInList G list ranks
+      → IsFollowed G goal level before (tried ++ edges_leaving G number ranks) (record { found = found; visits = visits; next = next; passed = passed })
+      → IsFollowed G goal level before (tried ++ edges_leaving G number ranks) (record { found = found; visits = visits; next = next; passed = set passed list true })
+  list_passed found visits next passed number list ranks are f = record {
+    size = f.size;
+    keeps = f.keeps;
+    news = f.news;
+    inside = f.inside;
+    found = f.found;
+    on_level = f.on_level;
+    traced = f.traced;
+    once = f.once;
+    ends = f.ends;
+    visits = f.visits;
+    count = f.count;
+    passed = now;
+  }
+    where
+      now : ArePassed G goal found (set passed list true)
+      now other place inside has mark y e = elim (cases_eq place list) [
+        | inl same ↦
+            (let leaving = are other inside (subst (λ (p : ℕ). HasList G other p) same has) in
+            let (rank, there, is) = from_mapped (edge_leaving G other) ranks (edge (step_at (steps_of G) other) y) (leaving.all y e) in
+            subst (λ (z : ModuleVersion). IsFoundEnd G goal found z) (ap (λ (a : Edge). a.to) is)
+            (f.ends (edge_leaving G number rank) (Contains-append_right tried (edges_leaving G number ranks) (edge_leaving G number rank) (in_mapped (edge_leaving G number) ranks rank there))))
+        | inr unlike ↦ f.passed other place inside has (sym (get_or-set_other passed list place true false unlike) ∙ mark) y e
+      ]
+
+  -- The search noted that a list was passed.
+  pub list_noted : (old new : Search) (list : ℕ) → new.is_found ≡ old.is_found → new.visits ≡ old.visits → new.next ≡ old.next → new.is_passed.items ≡ set old.is_passed.items list true
+      → IsFollowed G goal level before tried (record { found = old.is_found.items; visits = old.visits.items; next = old.next.items; passed = set old.is_passed.items list true })
+      → IsFollowed G goal level before tried (state_of new)
+  list_noted old new list found visits next passed h =
+      subst (λ (bs : List Bool). IsFollowed G goal level before tried (record { found = new.is_found.items; visits = new.visits.items; next = new.next.items; passed = bs })) (sym passed)
+      (subst (λ (vs : Vec Visit). IsFollowed G goal level before tried (record { found = new.is_found.items; visits = new.visits.items; next = vs.items; passed = set old.is_passed.items list true })) (sym next)
+      (subst (λ (vs : Vec Visit). IsFollowed G goal level before tried (record { found = new.is_found.items; visits = vs.items; next = old.next.items; passed = set old.is_passed.items list true })) (sym visits)
+      (subst (λ (bs : Vec Bool). IsFollowed G goal level before tried (record { found = bs.items; visits = old.visits.items; next = old.next.items; passed = set old.is_passed.items list true })) (sym found) h)))
+
   -- The goal is found.
   pub goal_found : (state : State) (s : Step) → graph_edges G s goal → IsTurn G level before tried s → (IsWithin (graph_edges G) level (Of goal) → ⊥) → IsFollowed G goal level before tried state → IsPredecessor (graph_edges G) s goal
   goal_found state s there turn far f = record {
@@ -244,7 +311,7 @@ module _ (G : GraphView) (goal : ModuleVersion) (level : ℕ) (before : List Boo
     level = level;
     nearer = turn.on_level;
     further = is_further (graph_edges G) level goal far s turn.on_level there;
-    least = λ t h l. is_false (is_lt (step_cmp t s)) (λ low. f.misses (edge t goal) (turn.lower t goal h l low) refl);
+    least = λ t h l. is_false (is_lt (step_cmp t s)) (λ low. (f.ends (edge t goal) (turn.lower t goal h l low)).miss refl);
   }
 
   pub turn_later : (more : List Edge) (s : Step) → IsTurn G level before tried s → IsTurn G level before (tried ++ more) s
@@ -287,12 +354,7 @@ last_visit steps visits v all p is at = (
 -- ---- one more visit of a level
 
 pub one_tried : (G : GraphView) (v : Visit) (more : List Edge) → ((y : ModuleVersion) → graph_edges G (step_at (steps_of G) v.number) y → Contains more (edge (step_at (steps_of G) v.number) y)) → AreTried G (v ∷ []) more
-one_tried G v more all w (k, inside, at) y e = elim (cases_eq k 0) [
-  | inl nil ↦
-      let same : v ≡ w = subst (λ (n : ℕ). get_or (v ∷ []) n w ≡ w) nil at in
-      subst (λ (u : Visit). graph_edges G (step_at (steps_of G) u.number) y → Contains more (edge (step_at (steps_of G) u.number) y)) same (all y) e
-  | inr ne ↦ absurd (omega (arith, inside, ne))
-]
+one_tried G v more all w h y e = subst (λ (u : Visit). graph_edges G (step_at (steps_of G) u.number) y → Contains more (edge (step_at (steps_of G) u.number) y)) (one_member v w h) (all y) e
 
 pub tried_none : (G : GraphView) (due : List Visit) → AreTried G (take 0 due) []
 tried_none G due v h = absurd (omega (arith, h.1))
@@ -318,9 +380,9 @@ level_begins G goal level start due h = record {
   traced = λ v there. absurd (nothing v there);
   once = λ v w there. absurd (nothing v there);
   ends = λ e there. absurd (omega (arith, there.1));
-  misses = λ e there. absurd (omega (arith, there.1));
   visits = h.visits;
   count = let long = ap length h.none in omega (arith, long);
+  passed = h.passed;
 }
   where
     nothing : (v : Visit) → Contains start.next v → ⊥
@@ -384,11 +446,11 @@ module _ (G : GraphView) (goal : ModuleVersion) (level : ℕ) (start : State) (d
       go none Main is = false≢true (sym none ∙ found_old i inside (subst (λ (s : Step). IsWithin (graph_edges G) level s) (sym is) (0, omega arith, at_main)))
       go none (Of y) is = not_further (graph_edges G) level y
           (λ g. false≢true (sym none ∙ found_old i inside (subst (λ (s : Step). IsWithin (graph_edges G) level s) (sym is) g)))
-          (λ s l e. false≢true (sym none ∙ f.ends (edge s y) (tried_edge s y l e) i inside is))
+          (λ s l e. false≢true (sym none ∙ (f.ends (edge s y) (tried_edge s y l e)).end i inside is))
           (subst (λ (s : Step). IsWithin (graph_edges G) (suc level) s) is w)
 
   pub level_more : (next : List Visit) → ((v : Visit) → Contains state.next v ↔ Contains next v) → ((i j : ℕ) → i < j → j < length next → (visit_at next i).number < (visit_at next j).number)
-      → IsSearchedTo G goal (suc level) (record { found = state.found; visits = state.visits; next = [] }) next
+      → IsSearchedTo G goal (suc level) (record { found = state.found; visits = state.visits; next = []; passed = state.passed }) next
   level_more next same up = record {
     size = f.size;
     found = λ i inside. ((λ g. within i inside g), (λ w. found_next i inside w));
@@ -398,8 +460,9 @@ module _ (G : GraphView) (goal : ModuleVersion) (level : ℕ) (start : State) (d
     traced = λ v there. f.traced v ((same v).1 there);
     ascending = up;
     visits = f.visits;
-    far = not_further (graph_edges G) level goal h.far (λ s l e. f.misses (edge s goal) (tried_edge s goal l e) refl);
+    far = not_further (graph_edges G) level goal h.far (λ s l e. (f.ends (edge s goal) (tried_edge s goal l e)).miss refl);
     none = refl;
+    passed = f.passed;
   }
     where
       within : (i : ℕ) → i < length (steps_of G) → is_found_at state.found i ≡ true → IsWithin (graph_edges G) (suc level) (step_at (steps_of G) i)
@@ -414,12 +477,13 @@ module _ (G : GraphView) (goal : ModuleVersion) (level : ℕ) (start : State) (d
         | inr (v, there, number) ↦ (v, (same v).0 there, number)
       ]
 
-pub level_taken : (G : GraphView) (goal : ModuleVersion) (level : ℕ) (found new_found : List Bool) (visits new_visits next due : List Visit) → new_found ≡ found → new_visits ≡ visits → next ≡ []
-    → IsSearchedTo G goal level (record { found = found; visits = visits; next = [] }) due → IsSearchedTo G goal level (record { found = new_found; visits = new_visits; next = next }) due
-level_taken G goal level found new_found visits new_visits next due same alike none h =
-    subst (λ (bs : List Bool). IsSearchedTo G goal level (record { found = bs; visits = new_visits; next = next }) due) (sym same)
-    (subst (λ (vs : List Visit). IsSearchedTo G goal level (record { found = found; visits = vs; next = next }) due) (sym alike)
-    (subst (λ (vs : List Visit). IsSearchedTo G goal level (record { found = found; visits = visits; next = vs }) due) (sym none) h))
+pub level_taken : (G : GraphView) (goal : ModuleVersion) (level : ℕ) (found new_found : List Bool) (visits new_visits next : List Visit) (passed new_passed : List Bool) (due : List Visit) → new_found ≡ found → new_visits ≡ visits → next ≡ [] → new_passed ≡ passed
+    → IsSearchedTo G goal level (record { found = found; visits = visits; next = []; passed = passed }) due → IsSearchedTo G goal level (record { found = new_found; visits = new_visits; next = next; passed = new_passed }) due
+level_taken G goal level found new_found visits new_visits next passed new_passed due same alike none equal h =
+    subst (λ (bs : List Bool). IsSearchedTo G goal level (record { found = bs; visits = new_visits; next = next; passed = new_passed }) due) (sym same)
+    (subst (λ (vs : List Visit). IsSearchedTo G goal level (record { found = found; visits = vs; next = next; passed = new_passed }) due) (sym alike)
+    (subst (λ (vs : List Visit). IsSearchedTo G goal level (record { found = found; visits = visits; next = vs; passed = new_passed }) due) (sym none)
+    (subst (λ (bs : List Bool). IsSearchedTo G goal level (record { found = found; visits = visits; next = []; passed = bs }) due) (sym equal) h)))
 
 -- Where a level has no steps, nothing more is found.
 pub not_reached : (G : GraphView) (goal : ModuleVersion) (level : ℕ) (state : State) (due : List Visit) → IsGraph G → IsSearchedTo G goal level state due → due ≡ [] → IsReached (graph_edges G) (Of goal) → ⊥
@@ -449,8 +513,8 @@ not_reached G goal level state due are h empty (n, leads) = last n leads
 
 -- ---- the first level
 
-pub first_level : (G : GraphView) (goal : ModuleVersion) (due : List Visit) → IsGraph G → 0 < length (steps_of G) → step_at (steps_of G) 0 ≡ Main → due ≡ record { number = 0; before = 0 } ∷ [] → IsSearchedTo G goal 0 (first_state (length (steps_of G))) due
-first_level G goal due are some main is = subst (λ (d : List Visit). IsSearchedTo G goal 0 (first_state (length (steps_of G))) d) (sym is) (record {
+pub first_level : (G : GraphView) (goal : ModuleVersion) (lists : ℕ) (due : List Visit) → IsGraph G → 0 < length (steps_of G) → step_at (steps_of G) 0 ≡ Main → due ≡ record { number = 0; before = 0 } ∷ [] → IsSearchedTo G goal 0 (first_state (length (steps_of G)) lists) due
+first_level G goal lists due are some main is = subst (λ (d : List Visit). IsSearchedTo G goal 0 (first_state (length (steps_of G)) lists) d) (sym is) (record {
   size = length-set none 0 true ∙ length-replicate (length (steps_of G)) false;
   found = λ i inside. (from i inside, to i inside);
   listed = λ i inside l. (v, (0, omega arith, refl), sym (only i inside (leads_none (graph_edges G) (step_at (steps_of G) i) l.leads)));
@@ -461,6 +525,7 @@ first_level G goal due are some main is = subst (λ (d : List Visit). IsSearched
   visits = record { inside = λ k below. absurd (omega (arith, below)); traced = λ k below. absurd (omega (arith, below)) };
   far = λ w. absurd (let same : Of goal ≡ Main = within_none (graph_edges G) (Of goal) w in cc same);
   none = refl;
+  passed = λ number list inside has mark y e. absurd (none_marked lists list mark);
 })
   where
     v : Visit
@@ -473,10 +538,7 @@ first_level G goal due are some main is = subst (λ (d : List Visit). IsSearched
     below = let size = length-replicate (length (steps_of G)) false in omega (arith, size, some)
 
     one : (w : Visit) → Contains (v ∷ []) w → v ≡ w
-    one w (k, inside, at) = elim (cases_eq k 0) [
-      | inl nil ↦ subst (λ (n : ℕ). get_or (v ∷ []) n w ≡ w) nil at
-      | inr ne ↦ absurd (omega (arith, inside, ne))
-    ]
+    one w h = one_member v w h
 
     only : (i : ℕ) → i < length (steps_of G) → step_at (steps_of G) i ≡ Main → i ≡ 0
     only i inside at = same_number (steps_of G) (steps_ascend G are) i 0 inside some (at ∙ sym main)
@@ -496,6 +558,11 @@ no_vertex G goal are none (n, leads) = last n leads
   where
     last : (n : ℕ) → Leads (graph_edges G) (Of goal) n → ⊥
     last _ (along {s} {n = k} l e) = none (are.ends (edge s goal) e)
+
+-- A step that is no vertex is the main module.
+pub main_step : (s : Step) → ((y : ModuleVersion) → s ≡ Of y → ⊥) → s ≡ Main
+main_step Main none = refl
+main_step (Of y) none = absurd (none y refl)
 
 -- ---- the visits to the next level in order
 

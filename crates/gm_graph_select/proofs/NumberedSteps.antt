@@ -22,7 +22,7 @@ use Rattle.gm_graph_select.specs.declared.step.Step.{Step}
 use Rattle.gm_graph_select.specs.declared.step.Step.TheVariants.{Main, Of}
 use Rattle.gm_graph_select.specs.Adjacency.{AreRanked, GraphView, IsBelow, IsNumbered, StepEdges, by_step, edges_from, edges_of, left_by, list_at, step_edges, step_with}
 use Rattle.gm_graph_select.specs.Graph.{edge, step_cmp}
-use Rattle.gm_graph_select.specs.Numbering.{AreLeaving, IsGraph, number_left, number_with, step_at, steps_of}
+use Rattle.gm_graph_select.specs.Numbering.{AreInList, AreLeaving, HasList, IsGraph, number_left, number_with, step_at, steps_of}
 use Rattle.gm_graph_select.specs.Order.{IsAscending}
 use Rattle.gm_graph_select.specs.StepOrder.{step_total}
 use Rattle.gm_graph_select.proofs.Ascending.{less_itself}
@@ -112,7 +112,7 @@ module _ {X K : Type 0} {cmp : K → K → Ordering} (total : IsTotalOrder cmp) 
 abbrev left_number : StepEdges → ℕ
 left_number one = number_with one.from
 
-module _ (vertices : List ModuleVersion) (all : List StepEdges) (are : AreRanked vertices all) where
+module _ (vertices : List ModuleVersion) (all : List StepEdges) (sources : List Source) (are : AreRanked vertices all) where
   -- the step that a list leaves has the list's number
   its_number : (from : Option ℕ) → IsBelow (length vertices) from → (number_with from < length (Main ∷ map Of vertices)) × (step_at (Main ∷ map Of vertices) (number_with from) ≡ step_with vertices from)
   its_number None within = (omega arith, refl)
@@ -121,7 +121,7 @@ module _ (vertices : List ModuleVersion) (all : List StepEdges) (are : AreRanked
   numbered_list : (one : StepEdges) → Contains all one → IsNumbered (length vertices) one
   numbered_list one there = All-contains (IsNumbered (length vertices)) all one are.numbered there
 
-  pub is_graph : IsGraph (record { vertices = vertices; edges = edges_of vertices all })
+  pub is_graph : IsGraph (record { vertices = vertices; edges = edges_of vertices all; sources = sources })
   is_graph = record {
     ascending = are.vertices_ascend;
     left = λ e h.
@@ -172,7 +172,7 @@ module _ (vertices : List ModuleVersion) (all : List StepEdges) (are : AreRanked
       (one, there, same_number steps (all_steps_ascend vertices are.vertices_ascend) (left_number one) number inside below alike, at)
 
   -- The list with that number has the edges.
-  pub list_leaves : (one : StepEdges) (number : ℕ) → Contains all one → left_number one ≡ number → number < length (steps_of (record { vertices = vertices; edges = edges_of vertices all })) → AreLeaving (record { vertices = vertices; edges = edges_of vertices all }) number one.to
+  pub list_leaves : (one : StepEdges) (number : ℕ) → Contains all one → left_number one ≡ number → number < length (steps_of (record { vertices = vertices; edges = edges_of vertices all; sources = sources })) → AreLeaving (record { vertices = vertices; edges = edges_of vertices all; sources = sources }) number one.to
   list_leaves one number there is below = record {
     within = (numbered_list one there).to;
     only = λ k d inside. edges_each vertices all one (edge (step_at (Main ∷ map Of vertices) number) (module_at vertices (get_or one.to k d))) there
@@ -189,7 +189,7 @@ module _ (vertices : List ModuleVersion) (all : List StepEdges) (are : AreRanked
       left = sym (its_number one.from (numbered_list one there).from).1 ∙ ap (step_at (Main ∷ map Of vertices)) is
 
   -- Without such a list no edge leaves the step.
-  pub none_leave : (number : ℕ) → ((one : StepEdges) → Contains all one → left_number one ≡ number → ⊥) → number < length (steps_of (record { vertices = vertices; edges = edges_of vertices all })) → AreLeaving (record { vertices = vertices; edges = edges_of vertices all }) number []
+  pub none_leave : (number : ℕ) → ((one : StepEdges) → Contains all one → left_number one ≡ number → ⊥) → number < length (steps_of (record { vertices = vertices; edges = edges_of vertices all; sources = sources })) → AreLeaving (record { vertices = vertices; edges = edges_of vertices all; sources = sources }) number []
   none_leave number none below = record {
     within = λ k d inside. absurd (omega (arith, inside));
     only = λ k d inside. absurd (omega (arith, inside));
@@ -199,8 +199,8 @@ module _ (vertices : List ModuleVersion) (all : List StepEdges) (are : AreRanked
 -- ---- sources by ranks
 
 module _ (vertices : List ModuleVersion) (lists : List (Vec ℕ)) (sources : List Source) (are : AreRanked vertices (by_step lists sources)) where
-  abbrev its_graph : GraphView
-  its_graph = record { vertices = vertices; edges = edges_of vertices (by_step lists sources) }
+  abbrev pub its_graph : GraphView
+  its_graph = record { vertices = vertices; edges = edges_of vertices (by_step lists sources); sources = sources }
 
   sources_rise : AllPairs (λ (a b : Source). nat_cmp (number_left a) (number_left b) ≡ Less) sources
   sources_rise i j d lt below =
@@ -208,7 +208,7 @@ module _ (vertices : List ModuleVersion) (lists : List (Vec ℕ)) (sources : Lis
       let count : length all ≡ length sources = length-map sources (step_edges lists) in
       let first = get_or-map (step_edges lists) sources i d (step_edges lists d) (omega (arith, lt, below)) in
       let second = get_or-map (step_edges lists) sources j d (step_edges lists d) below in
-      let low = lower_with vertices all are (get_or all i (step_edges lists d)).from (get_or all j (step_edges lists d)).from (are.lists_ascend i j (step_edges lists d) lt (omega (arith, below, count))) in
+      let low = lower_with vertices all sources are (get_or all i (step_edges lists d)).from (get_or all j (step_edges lists d)).from (are.lists_ascend i j (step_edges lists d) lt (omega (arith, below, count))) in
       less_number_cmp (number_left (get_or sources i d)) (number_left (get_or sources j d))
       (omega (arith, low, ap (λ (o : StepEdges). number_with o.from) first, ap (λ (o : StepEdges). number_with o.from) second))
     where
@@ -216,14 +216,19 @@ module _ (vertices : List ModuleVersion) (lists : List (Vec ℕ)) (sources : Lis
       less_number_cmp a b lt = cond-true (nat_lt a b) Less _ (lt-ltb a b lt)
 
   -- A binary search found the source with that number.
-  pub source_found : (number place : ℕ) (one : Source) → place < length sources → one ≡ get_or sources place one → nat_cmp (number_left one) number ≡ Equal → number < length (steps_of its_graph) → AreLeaving its_graph number (list_at lists one.list)
-  source_found number place one inside is e below =
-      list_leaves vertices (by_step lists sources) are (step_edges lists one) number (in_mapped (step_edges lists) sources one (place, inside, sym is)) (nat_cmp-IsAntisymmetric (number_left one) number e) below
+  pub source_found : (number place : ℕ) (one : Source) → place < length sources → one ≡ get_or sources place one → nat_cmp (number_left one) number ≡ Equal → HasList its_graph number one.list
+  source_found number place one inside is e = (one, (place, inside, sym is), nat_cmp-IsAntisymmetric (number_left one) number e, refl)
+
+  -- The list at a place has the ranks of the vertices that edges lead to from each of its steps.
+  pub ranks_found : (list : ℕ) → AreInList its_graph list (list_at lists list)
+  ranks_found list number below (one, there, number_is, list_is) =
+      subst (λ (place : ℕ). AreLeaving its_graph number (list_at lists place)) list_is
+      (list_leaves vertices (by_step lists sources) sources are (step_edges lists one) number (in_mapped (step_edges lists) sources one there) number_is below)
 
   -- It found none.
   pub source_not_found : (number i : ℕ) → (IsNonDecreasingBy (λ (y : Source). ordering_index (nat_cmp (number_left y) number)) sources → IsPartitionPoint (λ (y : Source). nat_cmp (number_left y) number ≡ Less) (λ (y : Source). nat_cmp (number_left y) number ≡ Greater) sources i)
       → number < length (steps_of its_graph) → AreLeaving its_graph number []
-  source_not_found number i says below = none_leave vertices (by_step lists sources) are number
+  source_not_found number i says below = none_leave vertices (by_step lists sources) sources are number
       (λ edges there is.
       let (one, found, same) = from_mapped (step_edges lists) sources edges there in
       let number_is : number_left one ≡ number = ap (λ (o : StepEdges). left_number o) same ∙ is in

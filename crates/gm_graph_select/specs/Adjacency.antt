@@ -110,7 +110,9 @@ pub record AreRanked (vertices : List ModuleVersion) (all : List StepEdges) : Ty
   pub lists_ascend : AllPairs LeavesLower all
   pub each_ascends : All (λ one. IsAscending nat_cmp one.to) all
 
--- a module graph, as contracts see it: its vertices, and its edges in strictly ascending order
+-- a module graph, as contracts see it: its vertices, its edges in strictly ascending order, and for each step that
+-- edges leave, by its rank, the place of its list, which others may share
 pub record GraphView : Type 0 where
   pub vertices : List ModuleVersion
   pub edges : List Edge
+  pub sources : List Source

@@ -1,5 +1,5 @@
 -- Numbers for the steps of a module graph: 0 for the main module, and for each vertex one more than its rank.
-use Rattle.std.specs.Prelude.{◌<◌, ◌+◌, ℕ, All, Contains, List, ◌∷◌, Option, None, Some, length, map, slice_index_or}
+use Rattle.std.specs.Prelude.{◌≡◌, ◌<◌, ◌+◌, ℕ, All, Contains, List, ◌∷◌, Option, None, Some, length, map, slice_index_or}
 use Rattle.gm_name.specs.ModuleVersion.{ModuleVersion, module_at, pair_cmp}
 use Rattle.gm_graph_select.specs.declared.adjacency.Source.{Source}
 use Rattle.gm_graph_select.specs.declared.step.Edge.{Edge}
@@ -48,3 +48,13 @@ pub record AreLeaving (graph : GraphView) (number : ℕ) (ranks : List ℕ) : Ty
   pub only : All (λ rank. Contains graph.edges (edge_leaving graph number rank)) ranks
   pub all : (y : ModuleVersion) → Contains graph.edges (edge (step_at (steps_of graph) number) y)
       → Contains (edges_leaving graph number ranks) (edge (step_at (steps_of graph) number) y)
+
+-- The list at this place is that of the step with a number.
+abbrev pub HasList : GraphView → ℕ → ℕ → Type 0
+HasList graph number list = (one : Source) × Contains graph.sources one × (number_left one ≡ number)
+    × (one.list ≡ list)
+
+-- For each step whose list is at this place, these are the ranks of the vertices that edges lead to from it.
+abbrev pub AreInList : GraphView → ℕ → List ℕ → Type 0
+AreInList graph list ranks = (number : ℕ) → number < length (steps_of graph) → HasList graph number list
+    → AreLeaving graph number ranks

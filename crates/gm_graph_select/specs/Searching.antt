@@ -10,7 +10,8 @@ use Rattle.gm_graph_select.specs.declared.searching.Search.{Search}
 use Rattle.gm_graph_select.specs.Adjacency.{GraphView}
 use Rattle.gm_graph_select.specs.Graph.{Edges, edge, step_cmp}
 use Rattle.gm_graph_select.specs.Chains.{IsLevel, IsPredecessor, Leads}
-use Rattle.gm_graph_select.specs.Numbering.{graph_edges, step_at, steps_of}
+use Rattle.gm_graph_select.specs.Marking.{HasMark}
+use Rattle.gm_graph_select.specs.Numbering.{HasList, graph_edges, step_at, steps_of}
 
 -- A path of at most that many edges leads from the main module to the step.
 abbrev pub IsWithin : Edges → ℕ → Step → Type 0
@@ -48,21 +49,43 @@ AreOnce visits = (v w : Visit) → Contains visits v → Contains visits w → v
 
 -- ---- what was found
 
--- what is known of a search: the steps found, the visits, and those to the next level
+-- what is known of a search: the steps found, the visits, those to the next level, and the lists passed
 pub record State : Type 0 where
   pub found : List Bool
   pub visits : List Visit
   pub next : List Visit
+  pub passed : List Bool
 
 abbrev pub state_of : Search → State
-state_of search = record { found = search.is_found.items; visits = search.visits.items; next = search.next.items }
+state_of search = record {
+  found = search.is_found.items;
+  visits = search.visits.items;
+  next = search.next.items;
+  passed = search.is_passed.items;
+}
 
--- the main module alone was found
-abbrev pub first_state : ℕ → State
-first_state count = record { found = slice_set (replicate count false) 0 true; visits = []; next = [] }
+-- Of so many steps the main module alone was found, and none of so many lists was passed.
+abbrev pub first_state : ℕ → ℕ → State
+first_state steps lists = record {
+  found = slice_set (replicate steps false) 0 true;
+  visits = [];
+  next = [];
+  passed = replicate lists false;
+}
 
 abbrev pub is_found_at : List Bool → ℕ → Bool
 is_found_at found number = slice_index_or found number false
+
+-- The vertex isn't the goal, and was found if it has a number.
+pub record IsFoundEnd (graph : GraphView) (goal : ModuleVersion) (found : List Bool) (y : ModuleVersion) : Type 0 where
+  pub end : (i : ℕ) → i < length (steps_of graph) → step_at (steps_of graph) i ≡ Of y → is_found_at found i ≡ true
+  pub miss : y ≢ goal
+
+-- The edges that leave a step whose list was passed lead to vertices that were found and aren't the goal.
+abbrev pub ArePassed : GraphView → ModuleVersion → List Bool → List Bool → Type 0
+ArePassed graph goal found passed = (number list : ℕ) → number < length (steps_of graph) → HasList graph number list
+    → HasMark passed list → (y : ModuleVersion) → graph_edges graph (step_at (steps_of graph) number) y
+    → IsFoundEnd graph goal found y
 
 -- how many steps were not found
 abbrev pub count_left : List Bool → ℕ
@@ -92,6 +115,7 @@ pub record IsSearchedTo (graph : GraphView) (goal : ModuleVersion) (level : ℕ)
   pub visits : AreTraced (graph_edges graph) (steps_of graph) state.visits
   pub far : IsWithin (graph_edges graph) level (Of goal) → ⊥
   pub none : state.next ≡ []
+  pub passed : ArePassed graph goal state.found state.passed
 
 -- Some edges that leave steps of the level were followed, none of them to the goal: the steps found are those found
 -- before and those of the next level that these edges lead to.
@@ -108,11 +132,10 @@ pub record IsFollowed (graph : GraphView) (goal : ModuleVersion) (level : ℕ) (
   pub traced : (v : Visit) → Contains state.next v
       → IsTraced (graph_edges graph) (steps_of graph) state.visits (length state.visits) v
   pub once : AreOnce state.next
-  pub ends : (e : Edge) → Contains tried e → (i : ℕ) → i < length (steps_of graph)
-      → step_at (steps_of graph) i ≡ Of e.to → is_found_at state.found i ≡ true
-  pub misses : (e : Edge) → Contains tried e → e.to ≢ goal
+  pub ends : (e : Edge) → Contains tried e → IsFoundEnd graph goal state.found e.to
   pub visits : AreTraced (graph_edges graph) (steps_of graph) state.visits
   pub count : count_left state.found + length state.next ≡ count_left before
+  pub passed : ArePassed graph goal state.found state.passed
 
 -- It is a step's turn: it is on the level, and all edges of the level's lesser steps were followed. All steps up to
 -- the level were found.

@@ -1,20 +1,13 @@
 -- The orders of steps and edges are total, and only equal ones compare as equal.
-use Rattle.std.proofs.Common.{◌≡◌, ◌≢◌, Bool, ap, ap₂, refl, sym, Some}
+use Rattle.std.proofs.Common.{◌≡◌, ◌≢◌, Bool, ap, refl, sym, Some}
 use Rattle.std.specs.Cmp.{IsEquivalence, IsPartialOrder, IsTotalOrder, eq_by_cmp_equiv, po, on_total, then_total}
-use Rattle.std.specs.Ordering.{eq_by_cmp, ordering_reverse, ordering_then}
-use Rattle.std.specs.declared.cmp.Ordering.{Ordering}
+use Rattle.std.specs.Ordering.{eq_by_cmp, ordering_reverse}
 use Rattle.std.specs.declared.cmp.Ordering.TheVariants.{Less, Equal, Greater}
-use Rattle.gm_name.specs.VersionOrder.{then_second}
 use Rattle.gm_name.specs.ModuleVersion.{pair-anti, pair_total}
 use Rattle.gm_graph_select.specs.declared.step.Step.{Step}
 use Rattle.gm_graph_select.specs.declared.step.Step.TheVariants.{Main, Of}
 use Rattle.gm_graph_select.specs.declared.step.Edge.{Edge}
-use Rattle.gm_graph_select.specs.Graph.{edge, step_cmp, edge_cmp}
-
-then_first : (r s : Ordering) → ordering_then r s ≡ Equal → r ≡ Equal
-then_first Less s e = e
-then_first Equal s e = refl
-then_first Greater s e = e
+use Rattle.gm_graph_select.specs.Graph.{edge_cmp, step_cmp}
 
 less_not_greater : Less ≢ Greater
 less_not_greater e = cc
@@ -59,10 +52,6 @@ step_equiv = eq_by_cmp_equiv step_total
 
 pub step_po : IsPartialOrder step_eq (λ s t. Some (step_cmp s t))
 step_po = po step_total (λ s t. refl)
-
--- Two edges that compare as equal are the same.
-pub edge-anti : (a b : Edge) → edge_cmp a b ≡ Equal → a ≡ b
-edge-anti a b e = ap₂ edge (step-anti a.from b.from (then_first _ _ e)) (pair-anti a.to b.to (then_second _ _ e))
 
 pub edge_total : IsTotalOrder edge_cmp
 edge_total = then_total (on_total (λ (a : Edge). a.from) step_total) (on_total (λ (a : Edge). a.to) pair_total)

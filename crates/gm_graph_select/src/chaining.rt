@@ -86,38 +86,6 @@ fn walk_back(
     Ok(steps)
 }
 
-/// The chain to the vertex with this rank, or `None` if no edges lead to it from the main module.
-fn chain_over(alloc: Global, graph: &Graph, goal: usize) -> Result<Option<Vec<Step>>, AllocError>
-    requires graph { IsGraph graph.now }
-    requires goal { goal < length graph.now.vertices }
-    ensures chain { IfOk result (λ chain. IfSome chain (λ steps.
-        IsChain (graph_edges graph.now) (Of (module_at graph.now.vertices goal)) steps.items)) }
-    ensures none { IfOk result (λ chain. IfNone chain
-        (¬ (IsReached (graph_edges graph.now) (Of (module_at graph.now.vertices goal))))) }
-{
-    let Some(visits) = visits_to(alloc, graph, goal)? else {
-        return Ok(None);
-    };
-    Ok(Some(walk_back(alloc, graph, &visits, goal)?))
-}
-
-/// The chain to a vertex, or `None` if no edges lead to it from the main module.
-fn chain_to_vertex(
-    alloc: Global,
-    graph: &Graph,
-    goal: &ModVer,
-) -> Result<Option<Vec<Step>>, AllocError>
-    ensures chain { IfOk result (λ chain. IfSome chain (λ steps.
-        IsChain (among graph.now.edges) (Of goal.now) steps.items)) }
-    ensures none { IfOk result (λ chain. IfNone chain (¬ (IsReached (among graph.now.edges) (Of goal.now)))) }
-{
-    let Some(rank) = graph.rank_of(goal) else {
-        return Ok(None);
-    };
-    let steps = chain_over(alloc, graph, rank)?;
-    Ok(steps)
-}
-
 /// The chain to the main module, which is that module alone.
 fn main_alone(alloc: Global) -> Result<Vec<Step>, AllocError>
     ensures { IfOk result (λ steps. steps.items ≡ Main ∷ []) }
@@ -133,16 +101,16 @@ fn chain_to(alloc: Global, graph: &Graph, last: &Step) -> Result<Option<Vec<Step
         IsChain (among graph.now.edges) last.now steps.items)) }
     ensures none { IfOk result (λ chain. IfNone chain (¬ (IsReached (among graph.now.edges) last.now))) }
 {
-    match last {
-        Step::Main => {
-            let steps = main_alone(alloc)?;
-            Ok(Some(steps))
-        }
-        Step::Of(goal) => {
-            let steps = chain_to_vertex(alloc, graph, goal)?;
-            Ok(steps)
-        }
-    }
+    let Step::Of(goal) = last else {
+        return Ok(Some(main_alone(alloc)?));
+    };
+    let Some(rank) = graph.rank_of(goal) else {
+        return Ok(None);
+    };
+    let Some(visits) = visits_to(alloc, graph, rank)? else {
+        return Ok(None);
+    };
+    Ok(Some(walk_back(alloc, graph, &visits, rank)?))
 }
 
 impl Graph {
@@ -152,8 +120,8 @@ impl Graph {
     /// main module's own path is the main module alone.
     ///
     /// `NotListed` is returned exactly if no row has the path, or no edges lead from the main module to the row that
-    /// has it. `NoMemory` is returned if memory runs out. For n vertices and m edges it compares log n vertices, and
-    /// numbers m log m times at most.
+    /// has it. `NoMemory` is returned if memory runs out. For n vertices, and lists of m numbers in all, it compares
+    /// log n vertices, and numbers n log n + m times at most, however many edges there are.
     pub fn chain(
         &self,
         alloc: Global,

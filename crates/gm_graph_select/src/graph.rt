@@ -41,6 +41,7 @@ impl Model for Graph {
     ghost view = { λ g. record {
       vertices = g.vertices.items;
       edges = edges_of g.vertices.items (by_step g.lists.items g.sources.items);
+      sources = g.sources.items;
     } };
 
     ghost invariant = { λ g. AreRanked g.vertices.items (by_step g.lists.items g.sources.items) };
@@ -51,9 +52,9 @@ impl Graph {
     /// source; several may share a list. A list may have its numbers in any order, and twice. The modules are distinct;
     /// those that no edge leads to and that are no sources are left out.
     ///
-    /// The only refusal is `NoMemory`. For n vertices and lists of m numbers in all it takes n log n comparisons of
-    /// vertices, and of numbers m log m at most, however many edges there are. Time and memory are also in proportion to
-    /// the modules.
+    /// The only refusal is `NoMemory`. For n vertices, s sources and lists of m numbers in all it takes n log n
+    /// comparisons of vertices, and of numbers m log m + s log s at most, however many edges there are. Time and memory
+    /// are also in proportion to the modules.
     pub fn new(
         alloc: Global,
         modules: Vec<ModVer>,

@@ -35,5 +35,5 @@ pub use crate::edge_list::{EdgeRef, Edges};
 pub use crate::graph::Graph;
 pub use crate::row::{NotListed, Row, Rows, rest_after};
 pub use crate::selecting::{Selection, selected};
-pub use crate::sorting::{is_ascending, sorted, sorted_edges, sorted_vertices};
+pub use crate::sorting::{is_ascending, sorted, sorted_vertices};
 pub use crate::step::{Edge, Step};

@@ -1,11 +1,11 @@
 //! Numbers for the steps of a module graph: 0 for the main module, and for each vertex one more than its rank.
 //!
-//! A search goes over each edge once. By numbers it compares no texts there, and needs no map.
+//! A search goes over each list once. By numbers it compares no texts there, and needs no map.
 
-ghost use Rattle.std.specs.Prelude.{◌≡◌, ◌<◌, Contains, IfNone, IfSome, length};
+ghost use Rattle.std.specs.Prelude.{◌≡◌, ◌<◌, [], Contains, IfNone, IfSome, length};
 ghost use Rattle.gm_name.specs.ModuleVersion.{module_at};
 ghost use Rattle.gm_graph_select.specs.declared.step.Step.TheVariants.{Main, Of};
-ghost use Rattle.gm_graph_select.specs.Numbering.{AreLeaving, IsGraph, number_left, step_at, steps_of};
+ghost use Rattle.gm_graph_select.specs.Numbering.{AreInList, AreLeaving, HasList, IsGraph, number_left, step_at, steps_of};
 
 use crate::adjacency::{Source, list_at};
 use crate::graph::Graph;
@@ -62,15 +62,28 @@ impl Graph {
         }
     }
 
-    /// The ranks of the vertices that edges lead to from the step with this number. For n vertices it compares log n
-    /// numbers.
-    pub(crate) fn leaving(&self, number: usize) -> &[u32]
+    /// How many lists there are.
+    pub(crate) fn list_count(&self) -> usize {
+        self.lists.len()
+    }
+
+    /// The place of the list of the vertices that edges lead to from the step with this number, or `None` if it has
+    /// none. For n vertices it compares log n numbers.
+    pub(crate) fn list_of(&self, number: usize) -> Option<usize>
         requires { number < length (steps_of self.now) }
-        ensures { AreLeaving self.now number result.now }
+        ensures some { IfSome result (λ list. HasList self.now number list) }
+        ensures none { IfNone result (AreLeaving self.now number []) }
     {
         match self.sources.binary_search_by_key(&number, number_left) {
-            Ok(place) => list_at(&self.lists, self.sources[place].list),
-            Err(_) => &[],
+            Ok(place) => Some(self.sources[place].list),
+            Err(_) => None,
         }
+    }
+
+    /// The ranks in the list at this place. Each step with this list has edges to their vertices, and to no others.
+    pub(crate) fn ranks_in(&self, list: usize) -> &[u32]
+        ensures { AreInList self.now list result.now }
+    {
+        list_at(&self.lists, list)
     }
 }

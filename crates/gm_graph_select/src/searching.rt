@@ -1,10 +1,13 @@
 //! A breadth-first search for a vertex, by numbers.
 //!
-//! The steps of a level are visited in ascending order, and each edge that leaves a visited step is followed once.
-//! So the first edge that leads to a step comes from its predecessor: the least step that is one edge nearer to the
-//! main module. The search ends at the first edge that leads to the goal.
+//! The steps of a level are visited in ascending order, and the edges that leave a visited step are followed. So the
+//! first edge that leads to a step comes from its predecessor: the least step that is one edge nearer to the main
+//! module. The search ends at the first edge that leads to the goal.
+//!
+//! If steps share a list, their edges lead to the same vertices, so those of a later one find nothing new. Each list is
+//! passed over once.
 
-ghost use Rattle.std.specs.Prelude.{◌≡◌, ◌≢◌, ◌<◌, ◌++◌, ◌∷◌, [], false, true, ℕ, Bool, Contains, IfNone, IfOk, IfSome, List, OnOk, length};
+ghost use Rattle.std.specs.Prelude.{◌≡◌, ◌≢◌, ◌<◌, ◌++◌, ◌∷◌, [], false, true, ℕ, Bool, Contains, IfNone, IfOk, IfSome, List, OnOk, length, slice_index_or, slice_set};
 ghost use Rattle.gm_name.specs.ModuleVersion.{ModuleVersion, module_at};
 ghost use Rattle.gm_graph_select.specs.declared.step.Edge.{Edge};
 ghost use Rattle.gm_graph_select.specs.declared.step.Step.TheVariants.{Of};
@@ -37,15 +40,56 @@ struct Search {
     visits: Vec<Visit>,
     /// The visits to the next level, in the order in which its steps were found.
     next: Vec<Visit>,
+    /// For each list of the graph, whether the edges of a step with this list were followed, none of them to the goal.
+    is_passed: Vec<bool>,
 }
 
 impl Search {
+    /// The state before the first level, whose only step is the main module.
+    fn new(alloc: Global, graph: &Graph) -> Result<Search, AllocError>
+        ensures { IfOk result (λ search. (lists : ℕ)
+            × (state_of search ≡ first_state (length (steps_of graph.now)) lists)) }
+    {
+        let mut is_found = vec![in alloc; false; graph.step_count()]?;
+        is_found[0] = true;
+        let is_passed = vec![in alloc; false; graph.list_count()]?;
+        Ok(Search {
+            is_found,
+            visits: Vec::new(alloc),
+            next: Vec::new(alloc),
+            is_passed,
+        })
+    }
+
+    /// Whether the list at this place was passed.
+    fn has_passed(&self, list: usize) -> bool
+        ensures { result ≡ slice_index_or self.now.is_passed.items list false }
+    {
+        match self.is_passed.get(list) {
+            None => false,
+            Some(is_passed) => *is_passed,
+        }
+    }
+
+    /// Notes that the list at this place was passed. There is nothing to note at a place past the end.
+    fn pass(&mut self, list: usize)
+        ensures passed { self.new.is_passed.items ≡ slice_set self.old.is_passed.items list true }
+        ensures found { self.new.is_found ≡ self.old.is_found }
+        ensures visits { self.new.visits ≡ self.old.visits }
+        ensures next { self.new.next ≡ self.old.next }
+    {
+        if list < self.is_passed.len() {
+            self.is_passed[list] = true;
+        }
+    }
+
     /// Follows an edge from the step that was visited at the place `before` to the step with this number, which isn't
     /// the goal.
     fn follow(&mut self, before: usize, number: usize) -> Result<(), AllocError>
         requires { number < length self.old.is_found.items }
         ensures size { length self.new.is_found.items ≡ length self.old.is_found.items }
         ensures visits { self.new.visits ≡ self.old.visits }
+        ensures passed { self.new.is_passed ≡ self.old.is_passed }
         ensures followed { OnOk result ((graph : GraphView) (goal : ModuleVersion) (level : ℕ) (found : List Bool)
             (tried : List Edge) (e : Edge) → IsGraph graph → length self.old.is_found.items ≡ length (steps_of graph)
             → IsTurn graph level found tried e.from → visited (steps_of graph) self.old.visits.items before ≡ e.from
@@ -62,8 +106,8 @@ impl Search {
         Ok(())
     }
 
-    /// Visits a step of the level, and follows the edges that leave it. Returns whether one of them leads to the
-    /// goal, whose rank is given.
+    /// Visits a step of the level, and follows the edges that leave it, unless its list was passed. Returns whether one
+    /// of them leads to the goal, whose rank is given.
     fn visit(&mut self, graph: &Graph, goal: usize, visit: Visit) -> Result<bool, AllocError>
         requires graph { IsGraph graph.now }
         requires goal { goal < length graph.now.vertices }
@@ -81,13 +125,21 @@ impl Search {
     {
         let before = self.visits.len();
         self.visits.push(visit)?;
-        for rank in graph.leaving(visit.number) {
+        let Some(list) = graph.list_of(visit.number) else {
+            return Ok(false);
+        };
+        let ranks = graph.ranks_in(list);
+        if self.has_passed(list) {
+            return Ok(false);
+        }
+        for rank in ranks {
             let rank = *rank as usize;
             if rank == goal {
                 return Ok(true);
             }
             self.follow(before, rank + 1)?;
         }
+        self.pass(list);
         Ok(false)
     }
 
@@ -118,41 +170,13 @@ impl Search {
     fn take_level(&mut self, alloc: Global) -> Vec<Visit>
         ensures found { self.new.is_found ≡ self.old.is_found }
         ensures visits { self.new.visits ≡ self.old.visits }
+        ensures passed { self.new.is_passed ≡ self.old.is_passed }
         ensures none { self.new.next.items ≡ [] }
         ensures members { HaveSame self.old.next.items result.items }
         ensures ascending { AreOnce self.old.next.items → (i j : ℕ) → i < j → j < length result.items
             → (visit_at result.items i).number < (visit_at result.items j).number }
     {
         sorted(mem::replace(&mut self.next, Vec::new(alloc)))
-    }
-
-    /// Visits a level, then the next one, and so on, until an edge leads to the goal or no steps are left. Returns
-    /// whether one of the edges leads to the goal, whose rank is given. `first` are the visits to the first of these
-    /// levels.
-    fn visit_levels(
-        &mut self,
-        alloc: Global,
-        graph: &Graph,
-        goal: usize,
-        first: Vec<Visit>,
-    ) -> Result<bool, AllocError>
-        requires graph { IsGraph graph.now }
-        requires goal { goal < length graph.now.vertices }
-        requires searched { (level : ℕ)
-            × IsSearchedTo graph.now (module_at graph.now.vertices goal) level (state_of self.old) first.items }
-        ensures found { IfOk result (λ is_goal. is_goal ≡ true
-            → IsTracedTo graph.now (module_at graph.now.vertices goal) self.new.visits.items) }
-        ensures missed { IfOk result (λ is_goal. is_goal ≡ false
-            → IsReached (graph_edges graph.now) (Of (module_at graph.now.vertices goal)) → ⊥) }
-    {
-        let mut due = first;
-        'levels: while !due.is_empty() {
-            if self.visit_level(graph, goal, &due)? {
-                return Ok(true);
-            }
-            due = self.take_level(alloc);
-        }
-        Ok(false)
     }
 }
 
@@ -168,21 +192,8 @@ fn first_visits(alloc: Global) -> Result<Vec<Visit>, AllocError>
     Ok(visits)
 }
 
-/// The state before the first level, whose only step is the main module.
-fn first_search(alloc: Global, graph: &Graph) -> Result<Search, AllocError>
-    ensures { IfOk result (λ search. state_of search ≡ first_state (length (steps_of graph.now))) }
-{
-    let mut is_found = vec![in alloc; false; graph.step_count()]?;
-    is_found[0] = true;
-    Ok(Search {
-        is_found,
-        visits: Vec::new(alloc),
-        next: Vec::new(alloc),
-    })
-}
-
 /// The visits up to that of the goal's predecessor, or `None` if no edges lead from the main module to the goal, whose
-/// rank is given.
+/// rank is given. A level is visited, then the next one, and so on, until an edge leads to the goal or no steps are left.
 pub(crate) fn visits_to(
     alloc: Global,
     graph: &Graph,
@@ -195,10 +206,13 @@ pub(crate) fn visits_to(
     ensures none { IfOk result (λ visits. IfNone visits
         (IsReached (graph_edges graph.now) (Of (module_at graph.now.vertices goal)) → ⊥)) }
 {
-    let first = first_visits(alloc)?;
-    let mut search = first_search(alloc, graph)?;
-    if search.visit_levels(alloc, graph, goal, first)? {
-        return Ok(Some(search.visits));
+    let mut due = first_visits(alloc)?;
+    let mut search = Search::new(alloc, graph)?;
+    'levels: while !due.is_empty() {
+        if search.visit_level(graph, goal, &due)? {
+            return Ok(Some(search.visits));
+        }
+        due = search.take_level(alloc);
     }
     Ok(None)
 }

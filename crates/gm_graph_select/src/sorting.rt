@@ -4,10 +4,8 @@
 
 ghost use Rattle.std.specs.Prelude.{◌≡◌, false, true};
 ghost use Rattle.gm_name.specs.ModuleVersion.{pair_cmp};
-ghost use Rattle.gm_graph_select.specs.Graph.{edge_cmp};
 ghost use Rattle.gm_graph_select.specs.Order.{TiesAreEqual, HaveSame, IsAscending};
 
-use crate::step::Edge;
 use gm_name::ModVer;
 
 /// Whether each item is less than the next. It takes no memory, and one comparison per item.
@@ -40,14 +38,6 @@ pub fn sorted<T: Ord + Drop>(mut items: Vec<T>) -> Vec<T>
 {
     put_in_order(&mut items);
     items
-}
-
-/// The same edges in strictly ascending order, without duplicates. It takes no memory, and n log n comparisons.
-pub fn sorted_edges(edges: Vec<Edge>) -> Vec<Edge>
-    ensures ascending { IsAscending edge_cmp result.items }
-    ensures members { HaveSame edges.items result.items }
-{
-    sorted(edges)
 }
 
 /// The same vertices in strictly ascending order, without duplicates. It takes no memory, and n log n comparisons, or

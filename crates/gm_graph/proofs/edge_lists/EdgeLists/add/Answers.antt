@@ -9,7 +9,7 @@ returns-clause-lists c =
     let sources = c.args.self.now.sources.items in
     let lists = c.args.self.now.lists.items in
     let news = c.list_for.new.self.lists.items in
-    let made = c.in_ok-list.ensures in
+    let made = c.in_ok-list.ensures.added in
     let one : Source = record { from = c.args.from; list = c.in_ok-list.list } in
     let all : c.push.new.self.items ≡ sources ++ one ∷ [] =
     c.in_ok-push.ensures.items ∙ ap (λ s. s.items ++ one ∷ []) made.sources in
@@ -26,7 +26,7 @@ returns-clause-steps c =
     let sources = c.args.self.now.sources.items in
     let lists = c.args.self.now.lists.items in
     let news = c.list_for.new.self.lists.items in
-    let made = c.in_ok-list.ensures in
+    let made = c.in_ok-list.ensures.added in
     let one : Source = record { from = c.args.from; list = c.in_ok-list.list } in
     let all : c.push.new.self.items ≡ sources ++ one ∷ [] =
     c.in_ok-push.ensures.items ∙ ap (λ s. s.items ++ one ∷ []) made.sources in
@@ -36,4 +36,4 @@ returns-clause-steps c =
     ∙ ap (λ (to : List ℕ). by_step lists sources ++ record { from = c.args.from; to = to } ∷ []) made.is
 
 pub returns-clause-files : goal.returns-clause-files
-returns-clause-files c = c.in_ok-list.ensures.keeps
+returns-clause-files c = c.in_ok-list.ensures.added.keeps

@@ -1,34 +1,29 @@
-use Rattle.std.proofs.Common.{◌≡◌, ◌<◌, ◌∙◌, [], List, ℕ, ap, get_or, length, rules, of_calls, subst, sym}
-use Rattle.std.specs.Global.{Vec}
+use Rattle.std.proofs.Common.{◌≡◌, ◌<◌, ◌∙◌, [], List, ap, get_or, length, rules, of_calls, subst, sym}
 use Rattle.std.specs.List.Sorted.{IsNonDecreasingBy, IsPartitionPoint}
 use Rattle.std.specs.Ordering.{nat_cmp, ordering_index}
 use Rattle.std.specs.declared.cmp.Ordering.TheVariants.{Less, Equal, Greater}
 use Rattle.std.proofs.lemmas.Fn.{always_returns_same}
 use Rattle.gm_graph_select.specs.declared.adjacency.Source.{Source}
-use Rattle.gm_graph_select.specs.Adjacency.{GraphView, by_step, edges_of, list_at}
-use Rattle.gm_graph_select.specs.Numbering.{AreLeaving, number_left, steps_of}
+use Rattle.gm_graph_select.specs.Adjacency.{GraphView}
+use Rattle.gm_graph_select.specs.Numbering.{AreLeaving, HasList, number_left, steps_of}
 use Rattle.gm_graph_select.proofs.NumberedSteps.{source_found, source_not_found}
-use Rattle.gm_graph_select.proofs.graph.Graph.leaving.Goals as goal
+use Rattle.gm_graph_select.proofs.graph.Graph.list_of.Goals as goal
 
-pub returns-in-Ok : goal.returns-in-Ok
-returns-in-Ok c =
-    let vertices = c.self.inside.vertices.items in
-    let lists = c.self.inside.lists.items in
+pub returns-in-Ok-clause-some : goal.returns-in-Ok-clause-some
+returns-in-Ok-clause-some c =
     let sources = c.self.inside.sources.items in
     let number = c.args.number in
     let place = c.in-Ok.place in
     let one = c.index.result.now in
-    let below = subst (λ (g : GraphView). number < length (steps_of g)) (sym c.self.view_is) c.requires in
     let inside : place < length sources = subst (λ (xs : List Source). place < length xs) c.deref.ensures.value c.in-Ok.ensures.bound in
     let equal : nat_cmp (number_left one) number ≡ Equal =
     ap (λ (o : Source). nat_cmp (number_left o) number) (c.index.ensures ∙ ap (λ (xs : List Source). get_or xs place one) (sym c.deref.ensures.value))
     ∙ c.in-Ok.ensures.position (λ (o : Source). number_left o) (always_returns_same _ _ _ (λ a r f k. search (rules, of_calls))) one in
-    subst (λ (g : GraphView). AreLeaving g number c.list_at.result.now) c.self.view_is
-    (subst (λ (ranks : List ℕ). AreLeaving (record { vertices = vertices; edges = edges_of vertices (by_step lists sources) }) number ranks) (sym (c.list_at.ensures ∙ ap (λ (ls : List (Vec ℕ)). list_at ls one.list) c.deref-in-Ok.ensures.value))
-    (source_found vertices lists sources c.self.invariant number place one inside c.index.ensures equal below))
+    subst (λ (g : GraphView). HasList g number one.list) c.self.view_is
+    (source_found c.self.inside.vertices.items c.self.inside.lists.items sources c.self.invariant number place one inside c.index.ensures equal)
 
-pub returns-in-Err : goal.returns-in-Err
-returns-in-Err c =
+pub returns-in-Err-clause-none : goal.returns-in-Err-clause-none
+returns-in-Err-clause-none c =
     let number = c.args.number in
     let i = c.in-Err.field-0 in
     let below = subst (λ (g : GraphView). number < length (steps_of g)) (sym c.self.view_is) c.requires in
