@@ -21,3 +21,5 @@ pub mod SimpleLines
 pub mod ListEnds
 pub mod Ascending
 pub mod Sweeping
+pub mod Pairwise
+pub mod DirectiveVerbs

@@ -18,3 +18,4 @@ pub mod Listed
 pub mod SimpleLines
 pub mod Shown
 pub mod Swept
+pub mod Pairwise
