@@ -79,7 +79,7 @@ fn add_requirements(
     let gathers = builder.gathers(one);
     builder.note(cache.module(one.number), finding)?;
     let file = lender(finding);
-    let required = cache.lend(one.number, one.depth, file)?;
+    let required = cache.lend_at(one.number, one.depth, file)?;
     if leads {
         followed.follow(builder, file, required)?;
     }
@@ -128,6 +128,6 @@ pub(crate) fn visit<F: Asks>(
     ensures served { HasServed (F.may_answer files.old) (F.may_answer files.new)
         (F.state files.old) (F.state files.new) }
 {
-    let finding = cache.known(files, one.number)?;
+    let finding = cache.known_at(files, one.number)?;
     add_requirements(cache, builder, followed, one, &finding)
 }
