@@ -1,5 +1,5 @@
 -- The files that were followed, as the cache and the worklist grow.
-use Rattle.std.proofs.Common.{◌≡◌, ◌∙◌, ◌⊎◌, [], Contains, List, Option, None, Some, ℕ, inl, inr, subst, sym, true, append-nil}
+use Rattle.std.proofs.Common.{◌≡◌, [], Contains, List, Option, ℕ, inl, inr, subst, sym, true, append-nil}
 use Rattle.std.proofs.lemmas.List.Elements.{Contains-append_left}
 use Rattle.std.proofs.lemmas.Bool.{false≢true}
 use Rattle.gm_name.specs.ModuleVersion.{ModuleVersion}
@@ -16,7 +16,7 @@ use Rattle.gm_graph.specs.Turns.{turn, AddsAll}
 use Rattle.gm_graph.specs.declared.followed.Followed.{Followed}
 use Rattle.gm_graph.specs.declared.graph_builder.GraphBuilder.{GraphBuilder}
 use Rattle.gm_graph.specs.Builder.{IsBuilder, turns_of}
-use Rattle.gm_graph.specs.Followed.{AddsFollowed, AreFollowedIn, followed_at, followed_by}
+use Rattle.gm_graph.specs.Followed.{AddsFollowed, AreFollowedIn, followed_by}
 use Rattle.gm_graph.specs.Visiting.{lender_of, readings_in}
 use Rattle.gm_graph.proofs.Caching.{readings_same}
 use Rattle.gm_graph.proofs.FileLists.{requirements_known, same_requirements}

@@ -133,6 +133,7 @@ pub record LentSame (old new : Cache) : Type 0 where
 pub record AddsTurn (old new : Cache) (one : Turn) : Type 0 where
   pub turns : turns_in new ≡ turns_in old ++ one ∷ []
   pub modules : modules_in new ≡ modules_in old
+  pub files : file_count new ≡ file_count old
   pub holds : HoldsSame old new
 
 -- Everything is the same.

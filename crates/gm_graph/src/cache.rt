@@ -25,7 +25,7 @@ pub(crate) mod paths;
 pub(crate) mod reading;
 pub(crate) mod summary;
 
-ghost use Rattle.std.specs.Prelude.{◌≡◌, ◌≤◌, ◌<◌, ◌++◌, ◌∷◌, [], IfOk, OnOk, OnErr, MatchOption, None, Err, length, take, true};
+ghost use Rattle.std.specs.Prelude.{◌≡◌, ◌≤◌, ◌<◌, ◌+◌, ◌++◌, ◌∷◌, [], IfOk, OnOk, OnErr, MatchOption, None, Err, length, take, true};
 ghost use Rattle.std.specs.Option.{option_copied};
 ghost use Rattle.gm_name.specs.ModuleVersion.{ModuleVersion};
 ghost use Rattle.gm_name_table.specs.Listed.{listed};
@@ -183,6 +183,7 @@ impl<'a> Cache<'a> {
         ensures sums { IfOk result (λ cache. sums_in cache ≡ option_copied sums.entry) }
         ensures knows { IfOk result (λ cache. Knows cache []) }
         ensures turns { IfOk result (λ cache. turns_in cache ≡ []) }
+        ensures files { IfOk result (λ cache. file_count cache ≡ 0) }
     {
         let names = names_for(alloc, main)?;
         let files = FileTable::new(alloc, main)?;
@@ -271,6 +272,8 @@ impl<'a> Cache<'a> {
         requires vertex { number < length (modules_in self.old) }
         requires file { name_of name.now ≡ file_of (main_in self.old) (numbered self.old number) }
         requires askable { may_be_asked (name_of name.now) ≡ true }
+        requires few { file_count self.old < 4294967295 }
+        ensures count { file_count self.new ≤ file_count self.old + 1 }
         ensures adds { OnOk result
             (PutsFile (modules_in self.old) self.old.files self.new.files (name_of name.now) kept) }
         ensures modules { self.new.modules ≡ self.old.modules }
@@ -319,6 +322,8 @@ impl<'a> Cache<'a> {
     ) -> Result<Finding, LoadFault>
         requires knows { Knows self.old (F.state files.old).asked }
         requires vertex { number < length (modules_in self.old) }
+        requires few { file_count self.old < 4294967295 }
+        ensures count { file_count self.new ≤ file_count self.old + 1 }
         ensures knows { OnOk result (Knows self.new (F.state files.new).asked) }
         ensures finding { IfOk result (IsFinding self.new (numbered self.old number)) }
         ensures lent { LentSame self.old self.new }

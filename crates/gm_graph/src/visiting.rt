@@ -1,12 +1,12 @@
 //! One visit of the worklist: what reading one vertex adds to the worklist and to the graph.
 
-ghost use Rattle.std.specs.Prelude.{◌≡◌, ◌<◌, ◌++◌, ◌∷◌, [], OnOk, Err, length};
+ghost use Rattle.std.specs.Prelude.{◌≡◌, ◌<◌, ◌≤◌, ◌+◌, ◌++◌, ◌∷◌, [], OnOk, Err, length};
 ghost use Rattle.gm_name.specs.ModuleVersion.{ModuleVersion};
 ghost use Rattle.gm_store.specs.Asked.{name_of};
 ghost use Rattle.gm_store.specs.States.{HasServed};
 ghost use Rattle.gm_store.specs.declared.files.FileName.{FileName};
 ghost use Rattle.gm_graph.specs.Asking.{AsksFor, StillLacks};
-ghost use Rattle.gm_graph.specs.Cached.{AddsTurn, IsFinding, Knows, LendsKept, main_in, modules_in, numbered, turns_in};
+ghost use Rattle.gm_graph.specs.Cached.{AddsTurn, IsFinding, Knows, LendsKept, file_count, main_in, modules_in, numbered, turns_in};
 ghost use Rattle.gm_graph.specs.Refusals.{refused_in};
 ghost use Rattle.gm_graph.specs.Builder.{IsBuilder, built, turn_of, turns_of};
 ghost use Rattle.gm_graph.specs.FileLists.{HaveFiles};
@@ -106,6 +106,8 @@ pub(crate) fn visit<F: Asks>(
     requires below { one.number < length (modules_in cache.old) }
     requires files { HaveFiles cache.old builder.old.edges }
     requires followed { AreFollowedIn cache.old (turns_of (modules_in cache.old) builder.old) followed.old }
+    requires few { file_count cache.old < 4294967295 }
+    ensures count { OnOk result (file_count cache.new ≤ file_count cache.old + 1) }
     ensures knows { OnOk result (Knows cache.new (F.state files.new).asked) }
     ensures continues { OnOk result (Continues cache.old cache.new) }
     ensures turns { OnOk result (turns_in cache.new

@@ -3,7 +3,7 @@
 //! Loading gives each module a number once, and asks by that. These calls find the number, and give one to a module
 //! that has none.
 
-ghost use Rattle.std.specs.Prelude.{◌≡◌, ◌++◌, ◌<◌, IfOk, OnErr, OnOk, Err, length};
+ghost use Rattle.std.specs.Prelude.{◌≡◌, ◌≤◌, ◌+◌, ◌++◌, ◌<◌, IfOk, OnErr, OnOk, Err, length};
 ghost use Rattle.std.specs.Option.{option_map};
 ghost use Rattle.gm_name.specs.ModuleVersion.{module_at};
 ghost use Rattle.gm_store.specs.Asked.{name_of};
@@ -49,7 +49,7 @@ fn number_of(modules: &mut ModuleList, x: &ModVer) -> Result<u32, NoMemory>
 impl<'a> Cache<'a> {
     ghost use Rattle.std.specs.Borrow.{sem};
     ghost use Rattle.std.specs.Prelude.{IfSome};
-    ghost use Rattle.gm_graph.specs.Cached.{HoldsSame, IsKnownAs, IsLender, IsLenderNamed, Knows, LendsKept, LendsNamed, LentSame, held_of, main_in, modules_in, numbered};
+    ghost use Rattle.gm_graph.specs.Cached.{HoldsSame, IsKnownAs, IsLender, IsLenderNamed, Knows, LendsKept, LendsNamed, LentSame, file_count, held_of, main_in, modules_in, numbered};
 
     /// The number of a module, which gets one if it has none. The only refusal is `NoMemory`.
     fn number(&mut self, x: &ModVer) -> Result<u32, NoMemory>
@@ -58,18 +58,22 @@ impl<'a> Cache<'a> {
         ensures module { IfOk result (λ number. numbered self.new number ≡ x.now) }
         ensures holds { HoldsSame self.old self.new }
         ensures lent { LentSame self.old self.new }
+        ensures files { file_count self.new ≡ file_count self.old }
     {
         number_of(&mut self.modules, x)
     }
 
     /// Makes the file of a vertex known, and says whether the vertex has a fault, and otherwise the name of its file. The
     /// store is asked for that file unless it is known already, or comes from a proxy and its path isn't fetchable.
+    /// At most 2^32 - 2 files may be known before; each call makes at most one more known.
     ///
     /// `NoMemory` is returned if memory runs out; the store may then hold an answer that the cache doesn't.
     /// `Device` is returned exactly if the store's device fails in this request. `TooMany` is never returned. After
     /// any refusal the cache holds the same; more modules may have numbers.
     pub fn known<F: Asks>(&mut self, files: &mut F, vertex: &ModVer) -> Result<Known, LoadFault>
-        requires { Knows self.old (F.state files.old).asked }
+        requires knows { Knows self.old (F.state files.old).asked }
+        requires few { file_count self.old < 4294967295 }
+        ensures count { file_count self.new ≤ file_count self.old + 1 }
         ensures knows { OnOk result (Knows self.new (F.state files.new).asked) }
         ensures known { IfOk result (IsKnownAs (main_in self.new) (held_of self.new) vertex.now) }
         ensures lent { LentSame self.old self.new }

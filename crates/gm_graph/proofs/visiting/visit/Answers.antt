@@ -1,3 +1,4 @@
+use Rattle.std.proofs.Common.{arith}
 use Rattle.std.proofs.lemmas.Result.{on_ok_weaker}
 use Rattle.gm_graph.specs.Cached.{modules_in}
 use Rattle.gm_graph.proofs.Keeping.{knows_still}
@@ -33,6 +34,9 @@ returns-clause-files g c =
 
 pub returns-clause-knows : goal.returns-clause-knows
 returns-clause-knows g c = on_ok_weaker c.add_requirements.result (λ adds. knows_still c.known_at.new.self c.add_requirements.new.cache (g.F.Asks.state c.known_at.new.files).asked adds.holds c.in_ok-finding.ensures.knows) c.add_requirements.ensures.cache
+
+pub returns-clause-count : goal.returns-clause-count
+returns-clause-count g c = on_ok_weaker c.add_requirements.result (λ adds. omega (arith, adds.files, c.known_at.ensures.count)) c.add_requirements.ensures.cache
 
 pub returns-clause-continues : goal.returns-clause-continues
 returns-clause-continues g c =

@@ -8,7 +8,7 @@ use Rattle.gm_graph.proofs.Named.{asks_named}
 use Rattle.gm_graph.proofs.cache.Cache.known.Goals as goal
 
 pub known_at-requires-clause-knows : goal.known_at-requires-clause-knows
-known_at-requires-clause-knows g c = knows_still c.args.self.now c.number.new.self (g.F.Asks.state c.args.files.now).asked c.number.ensures.holds c.requires
+known_at-requires-clause-knows g c = knows_still c.args.self.now c.number.new.self (g.F.Asks.state c.args.files.now).asked c.number.ensures.holds c.requires.knows
 
 pub returns-in_err-number-clause-grows : goal.returns-in_err-number-clause-grows
 returns-in_err-number-clause-grows g c = keeps_same c.args.self.now c.number.new.self c.number.ensures.holds

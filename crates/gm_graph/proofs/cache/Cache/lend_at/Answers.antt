@@ -28,6 +28,7 @@ returns c =
           turns = subst (λ (x : ModuleVersion). c.push_turn.new.turns.items ≡ c.args.self.now.turns.items ++ turn x c.args.depth ∷ [])
               c.module.ensures.module c.in_ok-push_turn.ensures.ok;
           modules = refl;
+          files = refl;
           holds = holds_listed cache _ refl refl (λ _. refl) ([], sym (append-nil cache.files.files.items)) refl;
         },
       ),

@@ -2,7 +2,7 @@ use Rattle.std.proofs.Common.{Bor}
 use Rattle.gm_store.specs.Asked.{name_of}
 use Rattle.gm_store.specs.declared.files.FileName.{FileName}
 use Rattle.gm_graph.specs.Cached.{held_of, main_in, numbered}
-use Rattle.gm_graph.proofs.Named.{name_here, named_askable, named_kept, named_sound}
+use Rattle.gm_graph.proofs.Named.{name_here, named_askable}
 use Rattle.gm_graph.proofs.cache.Cache.lender.Goals as goal
 
 pub found-requires-clause-file : goal.found-requires-clause-file
