@@ -30,8 +30,6 @@ import textwrap
 
 # file, function, why memory has run out there, and below it the condition
 LISTED = r"""
-gm_graph/src/cache/file_table.rt add: the list has the greatest size
-  if self.files.len() >= NO_PLACE as usize { return Err(AllocError) where NO_PLACE is 4_294_967_295
 gm_name/src/borrowed_version.rt to_version: a text that is a version was refused
   let Ok(version) = ModVersion::parse(alloc, self.text) else { return Err(AllocError)
 gm_name/src/version.rt is_out_of_memory: it is only compared

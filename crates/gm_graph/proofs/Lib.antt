@@ -40,3 +40,4 @@ pub mod FilePlaces
 pub mod PuttingPlaces
 pub mod Replacements
 pub mod Spans
+pub mod Named

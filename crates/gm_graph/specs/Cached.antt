@@ -6,8 +6,10 @@ use Rattle.std.specs.Io.BufRead.{Rests}
 use Rattle.gm_name.specs.ModuleVersion.{ModuleVersion, module_at}
 use Rattle.gm_name_table.specs.Listed.{BeginsWith, listed}
 use Rattle.gm_file.specs.Fields.{Dependency}
-use Rattle.gm_store.specs.Asked.{Name, Reply}
+use Rattle.gm_store.specs.Asked.{Name, Reply, name_of}
 use Rattle.gm_store_sums.specs.Sums.{Sums}
+use Rattle.gm_graph.specs.declared.cache.by_name.Known.{Known}
+use Rattle.gm_graph.specs.declared.cache.by_name.Known.TheVariants as known
 use Rattle.gm_graph.specs.declared.cache.class.Class.{Class}
 use Rattle.gm_graph.specs.declared.cache.depth.Turn.{Turn}
 use Rattle.gm_graph.specs.declared.cache.finding.Finding.{Finding}
@@ -89,6 +91,22 @@ abbrev pub IsLender : Cache → ModuleVersion → Option ℕ → Type 0
 IsLender cache x None = (class : Class) × (readings_by (main_in cache) (held_of cache) x ≡ Some (Err class))
 IsLender cache x (Some place) = IsSound cache x place
 
+-- The vertex has no fault, and its file has this name.
+pub record HasSoundFile (main : Main) (held : Held) (x : ModuleVersion) (name : Name) : Type 0 where
+  pub name_is : name ≡ file_of main x
+  pub file : Dependency
+  pub reading : readings_by main held x ≡ Some (Ok file)
+
+-- What is known of a vertex: its fault, or the name of its file if it has none.
+abbrev pub IsKnownAs : Main → Held → ModuleVersion → Known → Type 0
+IsKnownAs main held x (known.Fault class) = readings_by main held x ≡ Some (Err class)
+IsKnownAs main held x (known.Sound name) = HasSoundFile main held x (name_of name)
+
+-- The name of the file that has a vertex's requirements: none if the vertex has a fault.
+abbrev pub IsLenderNamed : Main → Held → ModuleVersion → Option Name → Type 0
+IsLenderNamed main held x None = (class : Class) × (readings_by main held x ≡ Some (Err class))
+IsLenderNamed main held x (Some name) = HasSoundFile main held x name
+
 -- Each file is at the place at which it was.
 abbrev pub KeepsSound : Cache → Cache → Type 0
 KeepsSound old new = (x : ModuleVersion) (place : ℕ) → IsSound old x place → IsSound new x place
@@ -115,6 +133,7 @@ pub record LentSame (old new : Cache) : Type 0 where
 pub record AddsTurn (old new : Cache) (one : Turn) : Type 0 where
   pub turns : turns_in new ≡ turns_in old ++ one ∷ []
   pub modules : modules_in new ≡ modules_in old
+  pub files : file_count new ≡ file_count old
   pub holds : HoldsSame old new
 
 -- Everything is the same.
@@ -123,9 +142,20 @@ pub record IsUnchanged (old new : Cache) : Type 0 where
   pub modules : modules_in new ≡ modules_in old
   pub holds : HoldsSame old new
 
+-- The list has these turns more at its end, and what is held is the same. More modules may have numbers.
+pub record HasMoreTurns (old new : Cache) (more : List Turn) : Type 0 where
+  pub turns : turns_in new ≡ turns_in old ++ more
+  pub holds : HoldsSame old new
+
 -- Once the borrow of the requirements ends, the cache has one more turn. If the call was refused, the cache is
 -- unchanged.
 abbrev pub Lends : {T E : Type 0} → MutBor Cache → Turn → Result T E → Fml
 Lends cache one result =
     Rests (the_row (record { mir = named 1; lft = [] })) cache
     (λ end. MatchResult result (λ _. AddsTurn cache.now end one) (λ _. IsUnchanged cache.now end))
+
+-- The same of a call that names the vertex.
+abbrev pub LendsNamed : {T E : Type 0} → MutBor Cache → Turn → Result T E → Fml
+LendsNamed cache one result =
+    Rests (the_row (record { mir = named 1; lft = [] })) cache
+    (λ end. MatchResult result (λ _. HasMoreTurns cache.now end (one ∷ [])) (λ _. HasMoreTurns cache.now end []))

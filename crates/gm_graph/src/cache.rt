@@ -12,6 +12,7 @@
 //! The cache exists so that each file is asked for and parsed once, however many vertices and turns need it. The test of
 //! the declared path depends on the vertex, not on the file alone, and is therefore repeated for each vertex.
 
+pub(crate) mod by_name;
 pub(crate) mod class;
 pub(crate) mod depth;
 pub(crate) mod file_table;
@@ -24,7 +25,7 @@ pub(crate) mod paths;
 pub(crate) mod reading;
 pub(crate) mod summary;
 
-ghost use Rattle.std.specs.Prelude.{◌≡◌, ◌≤◌, ◌<◌, ◌++◌, ◌∷◌, [], IfOk, OnOk, OnErr, MatchOption, None, Err, length, take, true};
+ghost use Rattle.std.specs.Prelude.{◌≡◌, ◌≤◌, ◌<◌, ◌+◌, ◌++◌, ◌∷◌, [], IfOk, OnOk, OnErr, MatchOption, None, Err, length, take, true};
 ghost use Rattle.std.specs.Option.{option_copied};
 ghost use Rattle.gm_name.specs.ModuleVersion.{ModuleVersion};
 ghost use Rattle.gm_name_table.specs.Listed.{listed};
@@ -182,6 +183,7 @@ impl<'a> Cache<'a> {
         ensures sums { IfOk result (λ cache. sums_in cache ≡ option_copied sums.entry) }
         ensures knows { IfOk result (λ cache. Knows cache []) }
         ensures turns { IfOk result (λ cache. turns_in cache ≡ []) }
+        ensures files { IfOk result (λ cache. file_count cache ≡ 0) }
     {
         let names = names_for(alloc, main)?;
         let files = FileTable::new(alloc, main)?;
@@ -270,6 +272,8 @@ impl<'a> Cache<'a> {
         requires vertex { number < length (modules_in self.old) }
         requires file { name_of name.now ≡ file_of (main_in self.old) (numbered self.old number) }
         requires askable { may_be_asked (name_of name.now) ≡ true }
+        requires few { file_count self.old < 4294967295 }
+        ensures count { file_count self.new ≤ file_count self.old + 1 }
         ensures adds { OnOk result
             (PutsFile (modules_in self.old) self.old.files self.new.files (name_of name.now) kept) }
         ensures modules { self.new.modules ≡ self.old.modules }
@@ -284,7 +288,7 @@ impl<'a> Cache<'a> {
     }
 
     /// The module with a number. Numbers never change.
-    pub fn module(&self, number: u32) -> &ModVer
+    pub(crate) fn module(&self, number: u32) -> &ModVer
         requires { number < length (modules_in self.now) }
         ensures module { result.now ≡ numbered self.now number }
         ensures distinct { IsDistinct pair_eq (modules_in self.now) }
@@ -293,7 +297,7 @@ impl<'a> Cache<'a> {
     }
 
     /// The requirements of the main file, without the excluded ones.
-    pub fn first_requirements(&self) -> Lent<'_>
+    pub(crate) fn first_requirements(&self) -> Lent<'_>
         ensures modules { lent_modules result
             ≡ without_excluded (main_in self.now) (main_in self.now).requirements }
         ensures table { lent_table result ≡ modules_in self.now }
@@ -311,9 +315,15 @@ impl<'a> Cache<'a> {
     /// `NoMemory` is returned if memory runs out; the store may then hold an answer that the cache doesn't.
     /// `Device` is returned exactly if the store's device fails in this request. `TooMany` is never returned. After
     /// any refusal the cache holds the same; more modules may have numbers.
-    pub fn known<F: Asks>(&mut self, files: &mut F, number: u32) -> Result<Finding, LoadFault>
+    pub(crate) fn known_at<F: Asks>(
+        &mut self,
+        files: &mut F,
+        number: u32,
+    ) -> Result<Finding, LoadFault>
         requires knows { Knows self.old (F.state files.old).asked }
         requires vertex { number < length (modules_in self.old) }
+        requires few { file_count self.old < 4294967295 }
+        ensures count { file_count self.new ≤ file_count self.old + 1 }
         ensures knows { OnOk result (Knows self.new (F.state files.new).asked) }
         ensures finding { IfOk result (IsFinding self.new (numbered self.old number)) }
         ensures lent { LentSame self.old self.new }
@@ -348,7 +358,7 @@ impl<'a> Cache<'a> {
     /// Returns the requirements of the vertex with a number, without the excluded ones, and appends the vertex and the
     /// depth to the list of turns. For a vertex with a fault `place` is `None`, and there are no requirements; for any
     /// other vertex `place` is that of its file. `NoMemory`, the only refusal, leaves the cache unchanged.
-    pub fn lend(
+    pub(crate) fn lend_at(
         &mut self,
         number: u32,
         depth: Depth,
@@ -374,7 +384,7 @@ impl<'a> Cache<'a> {
 
     /// Whether the file at a place has no fault and is unpruned, that is, whether the first two numbers of its go
     /// version are below 1.17 (Go Modules Reference, "Module graph pruning").
-    pub fn is_unpruned(&self, place: u32) -> bool
+    pub(crate) fn is_unpruned(&self, place: u32) -> bool
         requires { place < file_count self.now }
         ensures read { result ≡ is_unpruned_in (said_in (read_at self.now place)) }
         ensures vertex { (x : ModuleVersion) → IsSound self.now x place
@@ -384,7 +394,7 @@ impl<'a> Cache<'a> {
     }
 
     /// The modules in the order of their numbers, and the list of turns. The rest of the cache is dropped.
-    pub fn into_parts(self) -> (Vec<ModVer>, Vec<Turn>)
+    pub(crate) fn into_parts(self) -> (Vec<ModVer>, Vec<Turn>)
         ensures modules { result.0.items ≡ modules_in self.entry }
         ensures distinct { IsDistinct pair_eq result.0.items }
         ensures few { length result.0.items ≤ 4294967295 }

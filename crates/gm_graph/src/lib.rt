@@ -33,9 +33,9 @@ mod visiting;
 mod worklist;
 
 pub use crate::cache::Cache;
+pub use crate::cache::by_name::Known;
 pub use crate::cache::class::{Class, Misreading};
 pub use crate::cache::depth::{Depth, Turn};
-pub use crate::cache::finding::Finding;
 pub use crate::cache::lent::Lent;
 pub use crate::cache::load_fault::LoadFault;
 pub use crate::cache::main_view::main_path;

@@ -1,12 +1,12 @@
 //! One visit of the worklist: what reading one vertex adds to the worklist and to the graph.
 
-ghost use Rattle.std.specs.Prelude.{◌≡◌, ◌<◌, ◌++◌, ◌∷◌, [], OnOk, Err, length};
+ghost use Rattle.std.specs.Prelude.{◌≡◌, ◌<◌, ◌≤◌, ◌+◌, ◌++◌, ◌∷◌, [], OnOk, Err, length};
 ghost use Rattle.gm_name.specs.ModuleVersion.{ModuleVersion};
 ghost use Rattle.gm_store.specs.Asked.{name_of};
 ghost use Rattle.gm_store.specs.States.{HasServed};
 ghost use Rattle.gm_store.specs.declared.files.FileName.{FileName};
 ghost use Rattle.gm_graph.specs.Asking.{AsksFor, StillLacks};
-ghost use Rattle.gm_graph.specs.Cached.{AddsTurn, IsFinding, Knows, LendsKept, main_in, modules_in, numbered, turns_in};
+ghost use Rattle.gm_graph.specs.Cached.{AddsTurn, IsFinding, Knows, LendsKept, file_count, main_in, modules_in, numbered, turns_in};
 ghost use Rattle.gm_graph.specs.Refusals.{refused_in};
 ghost use Rattle.gm_graph.specs.Builder.{IsBuilder, built, turn_of, turns_of};
 ghost use Rattle.gm_graph.specs.FileLists.{HaveFiles};
@@ -79,7 +79,7 @@ fn add_requirements(
     let gathers = builder.gathers(one);
     builder.note(cache.module(one.number), finding)?;
     let file = lender(finding);
-    let required = cache.lend(one.number, one.depth, file)?;
+    let required = cache.lend_at(one.number, one.depth, file)?;
     if leads {
         followed.follow(builder, file, required)?;
     }
@@ -106,6 +106,8 @@ pub(crate) fn visit<F: Asks>(
     requires below { one.number < length (modules_in cache.old) }
     requires files { HaveFiles cache.old builder.old.edges }
     requires followed { AreFollowedIn cache.old (turns_of (modules_in cache.old) builder.old) followed.old }
+    requires few { file_count cache.old < 4294967295 }
+    ensures count { OnOk result (file_count cache.new ≤ file_count cache.old + 1) }
     ensures knows { OnOk result (Knows cache.new (F.state files.new).asked) }
     ensures continues { OnOk result (Continues cache.old cache.new) }
     ensures turns { OnOk result (turns_in cache.new
@@ -128,6 +130,6 @@ pub(crate) fn visit<F: Asks>(
     ensures served { HasServed (F.may_answer files.old) (F.may_answer files.new)
         (F.state files.old) (F.state files.new) }
 {
-    let finding = cache.known(files, one.number)?;
+    let finding = cache.known_at(files, one.number)?;
     add_requirements(cache, builder, followed, one, &finding)
 }

@@ -13,7 +13,7 @@ use crate::cache::summary::{Kept, ListSpan};
 use gm_file::MainFile;
 use gm_name::NoMemory;
 use gm_store::FileName;
-use std::alloc::{AllocError, Global};
+use std::alloc::Global;
 use std::collections::BTreeMap;
 
 /// The number that stands for no place. It keeps an entry at four bytes, half of an `Option<u32>`.
@@ -35,7 +35,7 @@ pub(crate) struct FileTable {
 }
 
 impl FileTable {
-    ghost use Rattle.std.specs.Prelude.{◌≡◌, ◌<◌, IfOk, IfSome, List, None, OnErr, OnOk, Some, false, slice_get, slice_index_or, true, unwrap_or};
+    ghost use Rattle.std.specs.Prelude.{◌≡◌, ◌<◌, ◌+◌, IfOk, IfSome, List, None, OnErr, OnOk, Some, false, slice_get, slice_index_or, true, unwrap_or};
     ghost use Rattle.std.specs.Option.{option_and_then};
     ghost use Rattle.gm_name_table.specs.Listed.{BeginsWith};
     ghost use Rattle.gm_store.specs.Asked.{Name, name_of};
@@ -49,6 +49,7 @@ impl FileTable {
     pub(crate) fn new(alloc: Global, main: &MainFile) -> Result<FileTable, NoMemory>
         ensures none { IfOk result (λ files. (modules : List ModuleVersion) (name : Name)
             → kept_at modules files name ≡ None) }
+        ensures files { IfOk result (λ files. length files.files.items ≡ 0) }
         ensures own { IfOk result (λ files. length files.own.items ≡ 0) }
         ensures replacing { IfOk result (HasReplacing (main_of main.now)) }
     {
@@ -186,19 +187,18 @@ impl FileTable {
     /// Keeps what was read of the file of a name, of which nothing was kept, and returns its place. The name is that of
     /// a replacement's file or of the own file of the module with this number.
     ///
-    /// `NoMemory` only if memory runs out or there are 2^32 - 1 files. What is kept of other files stays in any case.
+    /// The only refusal is `NoMemory`. What is kept of other files stays in any case.
     pub(crate) fn add(&mut self, name: &FileName, number: u32, kept: Kept) -> Result<u32, NoMemory>
+        requires few { length self.old.files.items < 4294967295 }
         ensures adds { (modules : List ModuleVersion) → IsFileOf modules self.old number (name_of name.now)
             → OnOk result (PutsFile modules self.old self.new (name_of name.now) kept) }
         ensures place { IfOk result (λ place. slice_get self.new.files.items place ≡ Some kept) }
         ensures files { BeginsWith self.old.files.items self.new.files.items }
+        ensures count { length self.new.files.items ≤ length self.old.files.items + 1 }
         ensures err { (modules : List ModuleVersion) → OnErr result (KeepsFiles modules self.old self.new) }
         ensures own { IsOwnWithin number self.old self.new }
         ensures replacing { (main : Main) → HasReplacing main self.old → HasReplacing main self.new }
     {
-        if self.files.len() >= NO_PLACE as usize {
-            return Err(AllocError);
-        }
         let place = self.files.len() as u32;
         self.files.push(kept)?;
         self.put(name, number, place)?;

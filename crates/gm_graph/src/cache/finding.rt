@@ -4,7 +4,7 @@ use crate::cache::class::Class;
 
 /// What is found of a vertex.
 #[derive(Debug, Drop, PartialEq, Eq)]
-pub enum Finding {
+pub(crate) enum Finding {
     /// The vertex has this fault.
     Fault(Class),
     /// The vertex has no fault, and the cache keeps its file at this place.

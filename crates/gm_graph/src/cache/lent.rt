@@ -34,7 +34,7 @@ impl<'a> Lent<'a> {
     }
 
     /// How many modules have numbers.
-    pub fn module_count(self) -> usize
+    pub(crate) fn module_count(self) -> usize
         ensures count { result ≡ length (lent_table self.entry) }
         ensures distinct { IsDistinct pair_eq (lent_table self.entry) }
     {
@@ -42,7 +42,7 @@ impl<'a> Lent<'a> {
     }
 
     /// The numbers of the requirements, in order.
-    pub fn numbers(self) -> &'a [u32]
+    pub(crate) fn numbers(self) -> &'a [u32]
         ensures below { AreModuleNumbers (lent_table self.entry) result.now }
         ensures modules { modules_at (lent_table self.entry) result.now ≡ lent_modules self.entry }
     {

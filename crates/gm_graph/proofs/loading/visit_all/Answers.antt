@@ -13,6 +13,7 @@ pub turns-init : goal.turns-init
 turns-init g c = record {
   state = first_step c.args.cache.now (g.F.Asks.state c.args.files.now).asked c.args.builder.now c.requires.asked c.requires.knows c.requires.lent c.requires.first;
   files = c.requires.files;
+  few = omega (arith, c.requires.none);
   followed = λ file by. absurd (c.new-followed.ensures file by);
   served = nothing_served _ (g.F.Asks.state c.args.files.now);
   refused = refl;
@@ -36,6 +37,7 @@ turns-preserved g c =
       state = step (main_in c.args.cache.now) (sums_in c.args.cache.now) c.turns.cache c.visit.new.cache (g.F.Asks.state c.turns.files).asked (g.F.Asks.state c.visit.new.files).asked c.turns.builder c.visit.new.builder c.turns.at x one.depth
           c.turns.invariant.state below here c.in_ok-visit.ensures.knows c.in_ok-visit.ensures.continues c.in_ok-visit.ensures.turns c.in_ok-visit.ensures.builder c.in_ok-visit.ensures.visited c.visit.ensures.asks;
       files = c.in_ok-visit.ensures.files;
+      few = omega (arith, c.turns.invariant.few, c.in_ok-visit.ensures.count);
       followed = c.in_ok-visit.ensures.followed;
       served = served_both _ _ _ (g.F.Asks.state c.args.files.now) (g.F.Asks.state c.turns.files) (g.F.Asks.state c.visit.new.files) c.turns.invariant.served c.visit.ensures.served;
       refused = c.in_ok-visit.ensures.refused ∙ append-nil _ ∙ c.turns.invariant.refused;
@@ -48,13 +50,18 @@ pub returns-clause-asks : goal.returns-clause-asks
 returns-clause-asks g c = c.turns.invariant.state.asks
 
 pub visit-requires : goal.visit-requires
-visit-requires g c = record {
-  knows = c.turns.invariant.state.knows;
-  builder = c.turns.invariant.state.builder_is;
-  files = c.turns.invariant.files;
-  followed = c.turns.invariant.followed;
-  below = number_here (modules_in c.turns.cache) c.turns.builder c.turns.at c.index-one.result.now c.turns.invariant.state.builder_is (omega arith) c.index-one.ensures;
-}
+visit-requires g c =
+    let modules = modules_in c.turns.cache in
+    let below = turn_below modules c.turns.builder c.turns.at (omega arith) in
+    let turns = few_turns c.turns.invariant.state.builder_is.opened (turns_of modules c.turns.builder) c.turns.invariant.state.builder_is.turns in
+    record {
+      knows = c.turns.invariant.state.knows;
+      builder = c.turns.invariant.state.builder_is;
+      files = c.turns.invariant.files;
+      followed = c.turns.invariant.followed;
+      few = omega (arith, c.turns.invariant.few, below, turns);
+      below = number_here modules c.turns.builder c.turns.at c.index-one.result.now c.turns.invariant.state.builder_is (omega arith) c.index-one.ensures;
+    }
 
 pub returns-in_err-visit-clause-asks : goal.returns-in_err-visit-clause-asks
 returns-in_err-visit-clause-asks g c =

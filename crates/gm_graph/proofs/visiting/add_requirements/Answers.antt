@@ -25,8 +25,8 @@ use Rattle.gm_graph.proofs.Visited.{AddsIf, Notes, Opens, adds_nothing, adds_the
 use Rattle.gm_graph.proofs.visiting.add_requirements.Goals as goal
 use Rattle.gm_graph.proofs.visiting.add_requirements.Goals.{then-gathers+in_ok-add_edges, else-gathers, then-leads+in_ok-follow, else-leads}
 
-pub lend-requires-clause-lender : goal.lend-requires-clause-lender
-lend-requires-clause-lender c =
+pub lend_at-requires-clause-lender : goal.lend_at-requires-clause-lender
+lend_at-requires-clause-lender c =
     let cache = c.args.cache.now in
     let x = numbered cache c.args.one.number in
     subst (λ (place : Option ℕ). IsLender cache x place) (sym c.lender-file.ensures) (lender_is cache x c.args.finding.now c.requires.finding)

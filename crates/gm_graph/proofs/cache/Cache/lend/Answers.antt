@@ -1,40 +1,50 @@
-use Rattle.std.proofs.Common.{◌≡◌, ◌∙◌, ◌++◌, ◌∷◌, [], ap, append-nil, refl, subst, sym}
-use Rattle.gm_name.specs.ModuleVersion.{ModuleVersion}
+use Rattle.std.proofs.Common.{◌∙◌, ◌++◌, ◌∷◌, [], List, ap, append-nil, refl, subst, sym}
 use Rattle.gm_name_table.specs.Listed.{listed}
 use Rattle.gm_graph.specs.declared.cache.summary.ListSpan.{ListSpan}
-use Rattle.gm_graph.specs.Cached.{numbered}
-use Rattle.gm_graph.specs.Turns.{turn}
 use Rattle.gm_graph.specs.Summaries.{IsWithinList, at_span}
-use Rattle.gm_graph.proofs.Keeping.{holds_listed}
+use Rattle.gm_graph.specs.Cached.{held_of, main_in, numbered}
+use Rattle.gm_graph.specs.Reading.{readings_by, vertex_requirements}
+use Rattle.gm_graph.specs.Turns.{turn}
+use Rattle.gm_graph.specs.declared.cache.depth.Turn.{Turn}
+use Rattle.gm_name.specs.ModuleVersion.{ModuleVersion}
+use Rattle.gm_graph.proofs.Keeping.{holds_after, holds_listed}
 use Rattle.gm_graph.proofs.Lending.{lender_within, lent_kept, lent_within}
+use Rattle.gm_graph.proofs.Named.{named_still, requirements_same}
 use Rattle.gm_graph.proofs.cache.Cache.lend.Goals as goal
 
+pub lender-place-requires-clause-named : goal.lender-place-requires-clause-named
+lender-place-requires-clause-named c =
+    named_still c.args.self.now c.number.new.self c.args.vertex.now (numbered c.number.new.self c.in_ok-number.number) _ c.number.ensures.holds
+    (sym c.in_ok-number.ensures.module) c.requires.lender
+
 pub span_of-span-requires : goal.span_of-span-requires
-span_of-span-requires c = lender_within c.args.self.now (numbered c.args.self.now c.args.number) c.args.place c.requires.lender
+span_of-span-requires c = lender_within c.number.new.self (numbered c.number.new.self c.in_ok-number.number) c.lender-place.result c.lender-place.ensures
 
 pub at-requires : goal.at-requires
 at-requires c =
-    let cache = c.args.self.now in
+    let cache = c.number.new.self in
     subst (λ (span : ListSpan). IsWithinList (listed cache.modules) span) (sym c.span_of-span.ensures)
-    (lent_within cache (numbered cache c.args.number) c.args.place c.requires.lends c.requires.lender)
+    (lent_within cache (numbered cache c.in_ok-number.number) c.lender-place.result (c.number.ensures.holds.lends c.requires.lends) c.lender-place.ensures)
 
 pub returns : goal.returns
 returns c =
-    let cache = c.args.self.now in (
+    let old = c.args.self.now in
+    let cache = c.number.new.self in
+    let x = numbered cache c.in_ok-number.number in (
       (
         refl,
         λ _. tt,
         record {
-          turns = subst (λ (x : ModuleVersion). c.push_turn.new.turns.items ≡ c.args.self.now.turns.items ++ turn x c.args.depth ∷ [])
-              c.module.ensures.module c.in_ok-push_turn.ensures.ok;
-          modules = refl;
-          holds = holds_listed cache _ refl refl (λ _. refl) ([], sym (append-nil cache.files.files.items)) refl;
+          turns = c.in_ok-push_turn.ensures.ok ∙ ap (λ (ts : List Turn). ts ++ turn c.args.vertex.now c.args.depth ∷ []) c.number.ensures.lent.turns;
+          holds = holds_after old cache _ c.number.ensures.holds
+              (holds_listed cache _ refl refl (λ _. refl) ([], sym (append-nil cache.files.files.items)) refl);
         },
       ),
       record {
         lent = c.at.ensures.modules ∙ ap (λ (span : ListSpan). at_span (listed cache.modules) span) c.span_of-span.ensures
-            ∙ lent_kept cache (numbered cache c.args.number) c.args.place c.requires.lends c.requires.lender;
-        table = c.at.ensures.table;
+            ∙ lent_kept cache x c.lender-place.result (c.number.ensures.holds.lends c.requires.lends) c.lender-place.ensures
+            ∙ ap (λ (v : ModuleVersion). vertex_requirements (main_in cache) (readings_by (main_in cache) (held_of cache)) v) c.in_ok-number.ensures.module
+            ∙ requirements_same old cache c.args.vertex.now c.number.ensures.holds;
         after = tt;
       },
     )

@@ -1,0 +1,139 @@
+//! The calls of the cache for those who name modules and files.
+//!
+//! Loading gives each module a number once, and asks by that. These calls find the number, and give one to a module
+//! that has none.
+
+ghost use Rattle.std.specs.Prelude.{◌≡◌, ◌≤◌, ◌+◌, ◌++◌, ◌<◌, IfOk, OnErr, OnOk, Err, length};
+ghost use Rattle.std.specs.Option.{option_map};
+ghost use Rattle.gm_name.specs.ModuleVersion.{module_at};
+ghost use Rattle.gm_store.specs.Asked.{name_of};
+ghost use Rattle.gm_store.specs.States.{HasServed};
+ghost use Rattle.gm_graph.specs.Asking.{AsksFor, StillLacks};
+ghost use Rattle.gm_graph.specs.Lent.{lent_modules};
+ghost use Rattle.gm_graph.specs.Reading.{KeepsHeld, readings_by, vertex_requirements};
+ghost use Rattle.gm_graph.specs.Refusals.{refused_in};
+ghost use Rattle.gm_graph.specs.Summaries.{Grows};
+ghost use Rattle.gm_graph.specs.Turns.{turn};
+
+use crate::cache::class::Class;
+use crate::cache::depth::Depth;
+use crate::cache::finding::Finding;
+use crate::cache::lent::Lent;
+use crate::cache::load_fault::LoadFault;
+use crate::cache::naming::file_name;
+use crate::cache::{Cache, push_turn};
+use gm_name::{ModVer, NoMemory};
+use gm_name_table::ModuleList;
+use gm_store::{Asks, FileName};
+
+/// What is known of a vertex.
+#[derive(Debug, Drop, PartialEq, Eq)]
+pub enum Known {
+    /// The vertex has this fault.
+    Fault(Class),
+    /// The vertex has no fault, and its file has this name.
+    Sound(FileName),
+}
+
+/// The number of a module, which is appended to the list, and has a number then. The only refusal is `NoMemory`.
+fn number_of(modules: &mut ModuleList, x: &ModVer) -> Result<u32, NoMemory>
+    ensures number { IfOk result (λ number. number < length modules.new.modules) }
+    ensures module { IfOk result (λ number. module_at modules.new.modules number ≡ x.now) }
+    ensures grows { Grows modules.old modules.new }
+{
+    modules.push(x)?;
+    let end = modules.len();
+    Ok(modules.numbers(end - 1, end)[0])
+}
+
+impl<'a> Cache<'a> {
+    ghost use Rattle.std.specs.Borrow.{sem};
+    ghost use Rattle.std.specs.Prelude.{IfSome};
+    ghost use Rattle.gm_graph.specs.Cached.{HoldsSame, IsKnownAs, IsLender, IsLenderNamed, Knows, LendsKept, LendsNamed, LentSame, file_count, held_of, main_in, modules_in, numbered};
+
+    /// The number of a module, which gets one if it has none. The only refusal is `NoMemory`.
+    fn number(&mut self, x: &ModVer) -> Result<u32, NoMemory>
+        requires { LendsKept self.old }
+        ensures number { IfOk result (λ number. number < length (modules_in self.new)) }
+        ensures module { IfOk result (λ number. numbered self.new number ≡ x.now) }
+        ensures holds { HoldsSame self.old self.new }
+        ensures lent { LentSame self.old self.new }
+        ensures files { file_count self.new ≡ file_count self.old }
+    {
+        number_of(&mut self.modules, x)
+    }
+
+    /// Makes the file of a vertex known, and says whether the vertex has a fault, and otherwise the name of its file. The
+    /// store is asked for that file unless it is known already, or comes from a proxy and its path isn't fetchable.
+    /// At most 2^32 - 2 files may be known before; each call makes at most one more known.
+    ///
+    /// `NoMemory` is returned if memory runs out; the store may then hold an answer that the cache doesn't.
+    /// `Device` is returned exactly if the store's device fails in this request. `TooMany` is never returned. After
+    /// any refusal the cache holds the same; more modules may have numbers.
+    pub fn known<F: Asks>(&mut self, files: &mut F, vertex: &ModVer) -> Result<Known, LoadFault>
+        requires knows { Knows self.old (F.state files.old).asked }
+        requires few { file_count self.old < 4294967295 }
+        ensures count { file_count self.new ≤ file_count self.old + 1 }
+        ensures knows { OnOk result (Knows self.new (F.state files.new).asked) }
+        ensures known { IfOk result (IsKnownAs (main_in self.new) (held_of self.new) vertex.now) }
+        ensures lent { LentSame self.old self.new }
+        ensures grows { KeepsHeld (held_of self.old) (held_of self.new) }
+        ensures err { OnErr result (HoldsSame self.old self.new) }
+        ensures asks { AsksFor (main_in self.old) (F.state files.old) (F.state files.new) vertex.now }
+        ensures not_too_many { result ≡ Err LoadFault.TooMany → ⊥ }
+        ensures device { (name : FileName) → result ≡ Err (LoadFault.Device name)
+            → StillLacks (main_in self.old) (F.state files.old) (F.state files.new) vertex.now (name_of name) }
+        ensures refused { (F.state files.new).refused ≡ (F.state files.old).refused ++ refused_in result }
+        ensures served { HasServed (F.may_answer files.old) (F.may_answer files.new)
+            (F.state files.old) (F.state files.new) }
+    {
+        let name = file_name(self.alloc, self.main, vertex)?;
+        let number = self.number(vertex)?;
+        match self.known_at(files, number) {
+            Ok(Finding::Fault(class)) => Ok(Known::Fault(class)),
+            Ok(Finding::Sound(_)) => Ok(Known::Sound(name)),
+            Err(fault) => Err(fault),
+        }
+    }
+
+    /// The place of the file with this name, which is that of the vertex with a number, or `None` if the vertex has a
+    /// fault.
+    fn lender(&self, number: u32, name: Option<&FileName>) -> Option<u32>
+        requires vertex { number < length (modules_in self.now) }
+        requires named { IsLenderNamed (main_in self.now) (held_of self.now) (numbered self.now number)
+            (option_map (λ n. name_of n.now) name) }
+        ensures { IsLender self.now (numbered self.now number) result }
+    {
+        match name {
+            None => None,
+            Some(name) => match self.found(name, number) {
+                Some(Finding::Sound(place)) => Some(place),
+                Some(Finding::Fault(_)) | None => None,
+            },
+        }
+    }
+
+    /// Returns the requirements of a vertex, without the excluded ones, and appends the vertex and the depth to the
+    /// list of turns. For a vertex with a fault `name` is `None`, and there are no requirements; for any other
+    /// vertex it is the name of its file, as `known` gives it. The only refusal is `NoMemory`, after which the cache
+    /// holds the same, and has the same turns.
+    pub fn lend(
+        &mut self,
+        vertex: &ModVer,
+        depth: Depth,
+        name: Option<&FileName>,
+    ) -> Result<Lent<'_>, NoMemory>
+        requires lends { LendsKept self.old }
+        requires lender { IsLenderNamed (main_in self.old) (held_of self.old) vertex.now
+            (option_map (λ n. name_of n.now) name) }
+        ensures lent { IfOk result (λ lent. lent_modules lent ≡ vertex_requirements (main_in self.old)
+            (readings_by (main_in self.old) (held_of self.old)) vertex.now) }
+        ensures* after { sem 𝓛 (LendsNamed self.entry (turn vertex.now depth) result) }
+    {
+        let number = self.number(vertex)?;
+        let place = self.lender(number, name);
+        let span = self.files.span_of(place);
+        push_turn(self.alloc, &mut self.turns, vertex, depth)?;
+        Ok(Lent::at(&self.modules, span))
+    }
+}
