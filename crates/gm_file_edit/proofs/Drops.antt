@@ -1,15 +1,19 @@
 -- The loop that drops entries.
-use Rattle.std.proofs.Common.{◌≡◌, Bool, true, false, List, [], ◌∷◌, Option, Some, None, refl, sym, ap, subst}
+use Rattle.std.proofs.Common.{◌≡◌, if◌then◌else◌, Bool, true, false, List, [], ◌∷◌, Option, Some, None, refl, sym, ap, subst}
 use Rattle.gm_syntax.specs.Tokens.{Placed}
 use Rattle.gm_syntax.specs.Document.{Line}
 use Rattle.gm_file.specs.Directives.{Directive, DeclaresModule, DeclaresGo, Requires, Excludes, Replaces, Retracts, Kept, block_after_line}
-use Rattle.gm_file_edit.specs.Fates.{Fate, dropped, dropping_from, fate_of, remaining_from}
+use Rattle.gm_file_edit.specs.Fates.{Fate, dropped, dropping_from, remaining}
 use Rattle.gm_file_edit.specs.Holding.{directive_at, passes}
 use Rattle.gm_file_edit.proofs.Sound.{SoundFrom}
-use Rattle.gm_file_edit.proofs.Leaving.{AreMarked, AreMild, IsGone, Marked, Near, fates_in, left-sound, lines_in}
+use Rattle.gm_file_edit.proofs.Leaving.{AreMarked, AreMild, IsGone, Marked, Near, fates_in, lines_in, remaining-sound}
 use Rattle.gm_file.specs.Faults.{is_module}
 use Rattle.std.proofs.Common.{inl, inr}
 use Rattle.std.proofs.lemmas.Bool.{cases_Bool}
+
+-- the fate of a line that is removed if it holds a directive that passes the test
+abbrev pub fate_of : (Directive → Bool) → Option Placed → Line Placed → Fate
+fate_of test block line = if passes test (directive_at block line) then None else Some line
 
 -- each line with its fate
 abbrev pub dropping : (Directive → Bool) → Option Placed → List (Line Placed) → List Marked
@@ -50,5 +54,5 @@ near-same xs = record { among = λ p n e. e; declared = λ e. e; clear = λ e. a
 
 pub dropped-sound : (test : Directive → Bool) → ((d : Directive) → test d ≡ true → is_module d ≡ false) → (lines : List (Line Placed)) → SoundFrom [] None lines → SoundFrom [] None (dropped test lines)
 dropped-sound test other lines sound =
-    subst (λ (fates : List Fate). SoundFrom [] None (remaining_from false None fates)) (dropping-fates test None lines)
-    (left-sound Kept (dropping test None lines) false true None [] [] (near-same []) (subst (SoundFrom [] None) (sym (dropping-lines test None lines)) sound) (dropping-marked test other None lines))
+    subst (λ (fates : List Fate). SoundFrom [] None (remaining fates)) (dropping-fates test None lines)
+    (remaining-sound Kept (dropping test None lines) true (near-same []) (subst (SoundFrom [] None) (sym (dropping-lines test None lines)) sound) (dropping-marked test other None lines))

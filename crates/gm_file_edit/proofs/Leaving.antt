@@ -1,10 +1,9 @@
 -- Lines of which one is rewritten and others are removed stay a document without a fault.
 use Rattle.std.proofs.Common.{◌≡◌, ℕ, ◌||◌, ◌&&◌, not, Bool, true, false, List, [], ◌∷◌, ◌++◌, map, Option, Some, None, is_some, is_none, refl, sym, ap, subst, ◌∙◌, append-nil, append_assoc, inl, inr}
 use Rattle.std.specs.Prelude.{⊤, ◌⊎◌}
-use Rattle.std.specs.Option.{option_map, option_to_list}
-use Rattle.std.specs.List.{list_all, list_any}
+use Rattle.std.specs.Option.{option_to_list}
+use Rattle.std.specs.List.{list_any}
 use Rattle.std.proofs.lemmas.Bool.{cases_Bool}
-use Rattle.std.proofs.lemmas.List.{map-append}
 use Rattle.std.proofs.lemmas.List.Folds.{list_any-append}
 use Rattle.gm_syntax.specs.Tokens.{Placed}
 use Rattle.gm_syntax.specs.Document.{Line, Blank, Comment, Open, Close, Entry, IsValidLine}
@@ -13,10 +12,10 @@ use Rattle.gm_file.specs.declared.fault.DirectiveKind.{DirectiveKind}
 use Rattle.gm_file.specs.declared.fault.DirectiveKind.TheVariants.{BadGo, Repeated, ConflictingReplace}
 use Rattle.gm_file.specs.Directives.{Strict, Directive, DeclaresModule, DeclaresGo, Requires, Excludes, Replaces, Retracts, Kept, Item, Silent, Opening, Saying, Verb, block_after_line, directive_in, directive_of, item_at, verb_in}
 use Rattle.gm_file.specs.Faults.{conflicts, directive_kinds, go_in, is_go, is_module, item_kinds, path_kinds, entry_kinds, sides_kinds, unless}
-use Rattle.gm_file_edit.specs.Fates.{Begun, Fate, is_emptied, kept, leaves_nothing, remaining_from, with_line}
-use Rattle.gm_file_edit.specs.Holding.{directive_at, is_blank_source_line, item_of}
+use Rattle.gm_file_edit.specs.Fates.{Fate, is_emptied, kept, remaining, widened_from}
+use Rattle.gm_file_edit.specs.Holding.{directive_at, item_of}
+use Rattle.gm_file_edit.proofs.Seats.{Going, going-gone, going-opened, left_block}
 use Rattle.gm_file_edit.proofs.Sound.{SoundFrom, both-nil, nil-parts}
-use Rattle.gm_name.proofs.NameTests.{and_both}
 
 -- ---- the directives before a line, before and after an edit
 
@@ -178,69 +177,45 @@ entry-behind block (Entry words suffix) d e = refl
 
 -- ---- one line after another
 
-abbrev GoesOn : Directive → List Marked → List (Line Placed) → Type 0
-GoesOn new ms lines = (there : Bool) (xs ys : List Directive) (block : Option Placed) → Near new there xs ys → SoundFrom ys block (lines_in ms) → AreMarked new there block ms → SoundFrom xs block lines
-
--- a line that is removed
-gone-next : (new : Directive) (there : Bool) (xs ys : List Directive) (block : Option Placed) (line : Line Placed) (ms : List Marked) (lines : List (Line Placed))
-    → IsGone block line → Near new there xs ys → SoundFrom ys block (line ∷ lines_in ms) → AreMarked new there (block_after_line block line) ms → GoesOn new ms lines → SoundFrom xs block lines
-gone-next new there xs ys block line ms lines gone u sound marked next =
-    let behind = entry-behind block line gone.was gone.held in
-    next there xs (ys ++ gone.was ∷ []) block (near-skip new there xs ys gone.was gone.undeclared u)
-    (subst (λ (b : Option Placed). SoundFrom (ys ++ gone.was ∷ []) b (lines_in ms)) behind (subst (λ (o : Option Directive). SoundFrom (ys ++ option_to_list o) (block_after_line block line) (lines_in ms)) gone.held sound.2))
-    (subst (λ (b : Option Placed). AreMarked new there b ms) behind marked)
+-- lines are sound after these directives, and in this block, if the lines that they were are
+abbrev GoesOn : Directive → List Marked → Option Placed → List (Line Placed) → Type 0
+GoesOn new ms block lines = (there : Bool) (xs ys : List Directive) → Near new there xs ys → SoundFrom ys block (lines_in ms) → AreMarked new there block ms → SoundFrom xs block lines
 
 -- a line that stays as is
 stay-next : (new : Directive) (there : Bool) (xs ys : List Directive) (block : Option Placed) (line : Line Placed) (ms : List Marked) (lines : List (Line Placed))
-    → AreMild new (directive_at block line) → Near new there xs ys → SoundFrom ys block (line ∷ lines_in ms) → AreMarked new there (block_after_line block line) ms → GoesOn new ms lines → SoundFrom xs block (line ∷ lines)
+    → AreMild new (directive_at block line) → Near new there xs ys → SoundFrom ys block (line ∷ lines_in ms) → AreMarked new there (block_after_line block line) ms → GoesOn new ms (block_after_line block line) lines → SoundFrom xs block (line ∷ lines)
 stay-next new there xs ys block line ms lines mild u sound marked next = (
   sound.0,
   kinds-near new there xs ys (item_of block line) mild u sound.1,
-  next there (xs ++ option_to_list (directive_at block line)) (ys ++ option_to_list (directive_at block line)) (block_after_line block line)
+  next there (xs ++ option_to_list (directive_at block line)) (ys ++ option_to_list (directive_at block line))
       (near-both new there xs ys (option_to_list (directive_at block line)) (mild-list new (directive_at block line) mild) u) sound.2 marked,
 )
 
 -- a line that is rewritten
 new-next : (new : Directive) (xs ys : List Directive) (block : Option Placed) (line next : Line Placed) (ms : List Marked) (lines : List (Line Placed))
-    → IsMadeNew new block line next → Near new false xs ys → SoundFrom ys block (line ∷ lines_in ms) → AreMarked new true (block_after_line block line) ms → GoesOn new ms lines → SoundFrom xs block (next ∷ lines)
+    → IsMadeNew new block line next → Near new false xs ys → SoundFrom ys block (line ∷ lines_in ms) → AreMarked new true (block_after_line block line) ms → GoesOn new ms block lines → SoundFrom xs block (next ∷ lines)
 new-next new xs ys block line next ms lines made u sound marked go =
     let behind = entry-behind block line made.was made.held in
     let rest : SoundFrom (xs ++ new ∷ []) block lines =
-    go true (xs ++ new ∷ []) (ys ++ made.was ∷ []) block (near-new new xs ys made.was made.declared u)
+    go true (xs ++ new ∷ []) (ys ++ made.was ∷ []) (near-new new xs ys made.was made.declared u)
     (subst (λ (b : Option Placed). SoundFrom (ys ++ made.was ∷ []) b (lines_in ms)) behind (subst (λ (o : Option Directive). SoundFrom (ys ++ option_to_list o) (block_after_line block line) (lines_in ms)) made.held sound.2))
     (subst (λ (b : Option Placed). AreMarked new true b ms) behind marked) in
     let whole : SoundFrom xs block (Entry made.words made.suffix ∷ lines) =
     (made.stands, made.sound xs (u.clear refl), subst (λ (o : Option Directive). SoundFrom (xs ++ option_to_list o) block lines) (sym made.holds) rest) in
     subst (λ (l : Line Placed). SoundFrom xs block (l ∷ lines)) (sym made.is_entry) whole
 
--- lines that stay or are removed, before others
-kept-sound : (new : Directive) (inner ms : List Marked) (lines : List (Line Placed)) → GoesOn new ms lines → (there : Bool) (xs ys : List Directive) (block : Option Placed)
-    → Near new there xs ys → SoundFrom ys block (lines_in (inner ++ ms)) → AreMarked new there block (inner ++ ms) → SoundFrom xs block (kept (fates_in inner) ++ lines)
-kept-sound new [] ms lines next there xs ys block u sound marked = next there xs ys block u sound marked
-kept-sound new ((line, None) ∷ inner) ms lines next there xs ys block u sound marked =
-    gone-next new there xs ys block line (inner ++ ms) (kept (fates_in inner) ++ lines) marked.0 u sound marked.1 (λ t vs ws b v s m. kept-sound new inner ms lines next t vs ws b v s m)
-kept-sound new ((line, Some l) ∷ inner) ms lines next there xs ys block u sound (inl same) =
-    subst (λ (x : Line Placed). SoundFrom xs block (x ∷ (kept (fates_in inner) ++ lines))) (sym same.0)
-    (stay-next new there xs ys block line (inner ++ ms) (kept (fates_in inner) ++ lines) same.1 u sound same.2 (λ t vs ws b v s m. kept-sound new inner ms lines next t vs ws b v s m))
-kept-sound new ((line, Some l) ∷ inner) ms lines next there xs ys block u sound (inr made) =
-    new-next new xs ys block line l (inner ++ ms) (kept (fates_in inner) ++ lines) made.1 (subst (λ (t : Bool). Near new t xs ys) made.0 u) sound made.2 (λ t vs ws b v s m. kept-sound new inner ms lines next t vs ws b v s m)
+-- a line that stays as is or is rewritten
+one-next : (new : Directive) (there : Bool) (xs ys : List Directive) (block : Option Placed) (line next : Line Placed) (ms : List Marked) (lines : List (Line Placed))
+    → ((d : Directive) → directive_at block line ≡ Some d → block_after_line block next ≡ block) → Near new there xs ys → SoundFrom ys block (line ∷ lines_in ms) → AreMarked new there block ((line, Some next) ∷ ms)
+    → GoesOn new ms (block_after_line block next) lines → SoundFrom xs block (next ∷ lines)
+one-next new there xs ys block line next ms lines level u sound (inl same) go =
+    subst (λ (x : Line Placed). SoundFrom xs block (x ∷ lines)) (sym same.0)
+    (stay-next new there xs ys block line ms lines same.1 u sound same.2 (subst (λ (x : Line Placed). GoesOn new ms (block_after_line block x) lines) same.0 go))
+one-next new there xs ys block line next ms lines level u sound (inr made) go =
+    new-next new xs ys block line next ms lines made.1 (subst (λ (t : Bool). Near new t xs ys) made.0 u) sound made.2
+    (subst (λ (b : Option Placed). GoesOn new ms b lines) (level made.1.was made.1.held) go)
 
--- what holds after the lines of an emptied block
-record Emptied (new : Directive) (xs : List Directive) (block : Option Placed) (ms : List Marked) : Type 0 where
-  pub there : Bool
-  pub earlier : List Directive
-  pub near : Near new there xs earlier
-  pub sound : SoundFrom earlier block (lines_in ms)
-  pub marked : AreMarked new there block ms
-
--- a line that stays blank was blank, so it held no directive
-blank-same : (line next : Line Placed) → next ≡ line → is_blank_source_line next ≡ true → line ≡ Blank
-blank-same line Blank e b = sym e
-blank-same line (Comment text) e b = absurd cc
-blank-same line (Open verb suffix) e b = absurd cc
-blank-same line (Close suffix) e b = absurd cc
-blank-same line (Entry words suffix) e b = absurd cc
-
+-- after a line that was blank
 blank-next : (ys : List Directive) (block : Option Placed) (line : Line Placed) (lines : List (Line Placed)) → line ≡ Blank → SoundFrom ys block (line ∷ lines) → SoundFrom ys block lines
 unfolding item_at
 blank-next ys block Blank lines e sound = subst (λ (ds : List Directive). SoundFrom ds block lines) (append-nil ys) sound.2
@@ -249,129 +224,14 @@ blank-next ys block (Open verb suffix) lines e sound = absurd cc
 blank-next ys block (Close suffix) lines e sound = absurd cc
 blank-next ys block (Entry words suffix) lines e sound = absurd cc
 
-empty-sound : (new : Directive) (inner ms : List Marked) (there : Bool) (xs ys : List Directive) (block : Option Placed) → list_all leaves_nothing (fates_in inner) ≡ true
-    → Near new there xs ys → SoundFrom ys block (lines_in (inner ++ ms)) → AreMarked new there block (inner ++ ms) → Emptied new xs block ms
-empty-sound new [] ms there xs ys block e u sound marked = record { there = there; earlier = ys; near = u; sound = sound; marked = marked }
-empty-sound new ((line, None) ∷ inner) ms there xs ys block e u sound marked =
-    let gone = marked.0 in
-    let behind = entry-behind block line gone.was gone.held in
-    empty-sound new inner ms there xs (ys ++ gone.was ∷ []) block e (near-skip new there xs ys gone.was gone.undeclared u)
-    (subst (λ (b : Option Placed). SoundFrom (ys ++ gone.was ∷ []) b (lines_in (inner ++ ms))) behind (subst (λ (o : Option Directive). SoundFrom (ys ++ option_to_list o) (block_after_line block line) (lines_in (inner ++ ms))) gone.held sound.2))
-    (subst (λ (b : Option Placed). AreMarked new there b (inner ++ ms)) behind marked.1)
-empty-sound new ((line, Some l) ∷ inner) ms there xs ys block e u sound (inl same) =
-    let parts = and_both (is_blank_source_line l) (list_all leaves_nothing (fates_in inner)) e in
-    let blank = blank-same line l same.0 parts.0 in
-    empty-sound new inner ms there xs ys block parts.1 u (blank-next ys block line (lines_in (inner ++ ms)) blank sound)
-    (subst (λ (x : Line Placed). AreMarked new there (block_after_line block x) (inner ++ ms)) blank same.2)
-empty-sound new ((line, Some l) ∷ inner) ms there xs ys block e u sound (inr made) =
-    let parts = and_both (is_blank_source_line l) (list_all leaves_nothing (fates_in inner)) e in
-    let wrong : is_blank_source_line (Entry made.1.words made.1.suffix) ≡ true = subst (λ (x : Line Placed). is_blank_source_line x ≡ true) made.1.is_entry parts.0 in
-    absurd cc
-
 -- ---- the remaining lines of a file
 
--- an open block, with the fates of its lines so far
-pub record Block : Type 0 where
-  pub verb : Placed
-  pub suffix : Option (List ℕ)
-  pub inner : List Marked
-
-abbrev pub begun : Block → Begun
-begun b = record { verb = b.verb; suffix = b.suffix; inner = fates_in b.inner }
-
-abbrev pub with_marked : Block → Marked → Block
-with_marked b m = record { verb = b.verb; suffix = b.suffix; inner = b.inner ++ m ∷ [] }
-
-begun-more : (b : Block) (m : Marked) → begun (with_marked b m) ≡ with_line (begun b) m.1
-begun-more b m = ap (λ (inner : List Fate). record { verb = b.verb; suffix = b.suffix; inner = inner }) (map-append (λ (x : Marked). x.1) b.inner (m ∷ []))
-
--- the old lines that a state of the walk still accounts for, with their fates
-abbrev pub old_lines : Option Block → List Marked → List (Line Placed)
-old_lines None ms = lines_in ms
-old_lines (Some b) ms = Open b.verb b.suffix ∷ lines_in (b.inner ++ ms)
-
-abbrev pub OldMarks : Directive → Bool → Option Block → List Marked → Type 0
-OldMarks new there None ms = AreMarked new there None ms
-OldMarks new there (Some b) ms = AreMarked new there (Some b.verb) (b.inner ++ ms)
-
--- from the opening of a block to its first line
-opening-behind : (ys : List Directive) (verb : Placed) (suffix : Option (List ℕ)) (lines : List (Line Placed)) → SoundFrom ys None (Open verb suffix ∷ lines) → SoundFrom ys (Some verb) lines
-unfolding item_at
-opening-behind ys verb suffix lines sound = subst (λ (ds : List Directive). SoundFrom ds (Some verb) lines) (append-nil ys) sound.2
-
-before-opening : (new : Directive) (there : Bool) (xs ys : List Directive) (verb : Placed) (suffix : Option (List ℕ)) (lines others : List (Line Placed)) → Near new there xs ys → SoundFrom ys None (Open verb suffix ∷ lines)
-    → SoundFrom xs (Some verb) others → SoundFrom xs None (Open verb suffix ∷ others)
-unfolding item_at
-before-opening new there xs ys verb suffix lines others u sound next =
-    (sound.0, kinds-near new there xs ys (item_of None (Open verb suffix)) tt u sound.1, subst (λ (ds : List Directive). SoundFrom ds (Some verb) others) (sym (append-nil xs)) next)
-
-closing-behind : (ys : List Directive) (block : Option Placed) (suffix : Option (List ℕ)) (lines : List (Line Placed)) → SoundFrom ys block (Close suffix ∷ lines) → SoundFrom ys None lines
-unfolding item_at
-closing-behind ys block suffix lines sound = subst (λ (ds : List Directive). SoundFrom ds None lines) (append-nil ys) sound.2
-
-mild-closing : (new : Directive) (block : Option Placed) (suffix : Option (List ℕ)) → AreMild new (directive_at block (Close suffix))
-unfolding item_at
-mild-closing new block suffix = tt
-
--- a block that starts with these lines
-with-block : (new : Directive) (b : Block) (ms : List Marked) (lines : List (Line Placed)) (there : Bool) (xs ys : List Directive) → GoesOn new ms lines → Near new there xs ys → SoundFrom ys None (old_lines (Some b) ms) → OldMarks new there (Some b) ms
-    → SoundFrom xs None (Open b.verb b.suffix ∷ (kept (fates_in b.inner) ++ lines))
-with-block new b ms lines there xs ys next u sound marked =
-    before-opening new there xs ys b.verb b.suffix (lines_in (b.inner ++ ms)) (kept (fates_in b.inner) ++ lines) u sound
-    (kept-sound new b.inner ms lines next there xs ys (Some b.verb) u (opening-behind ys b.verb b.suffix (lines_in (b.inner ++ ms)) sound) marked)
-
--- a line of a block is added to its lines so far
-more-lines : (b : Block) (m : Marked) (ms : List Marked) (ys : List Directive) → SoundFrom ys None (old_lines (Some b) (m ∷ ms)) → SoundFrom ys None (old_lines (Some (with_marked b m)) ms)
-more-lines b m ms ys sound = subst (λ (all : List Marked). SoundFrom ys None (Open b.verb b.suffix ∷ lines_in all)) (sym (append_assoc b.inner (m ∷ []) ms)) sound
-
-more-marks : (new : Directive) (there : Bool) (b : Block) (m : Marked) (ms : List Marked) → OldMarks new there (Some b) (m ∷ ms) → OldMarks new there (Some (with_marked b m)) ms
-more-marks new there b m ms marked = subst (AreMarked new there (Some b.verb)) (sym (append_assoc b.inner (m ∷ []) ms)) marked
-
-pub emptied-inner : (before : Option (List ℕ)) (inner : List Fate) (suffix : Option (List ℕ)) → is_emptied before inner suffix ≡ true → list_all leaves_nothing inner ≡ true
-emptied-inner before inner suffix e =
-    let outer = and_both (list_any is_none inner && list_all leaves_nothing inner && is_none before) (is_none suffix) e in
-    let next = and_both (list_any is_none inner && list_all leaves_nothing inner) (is_none before) outer.0 in
-    (and_both (list_any is_none inner) (list_all leaves_nothing inner) next.0).1
-
--- a closing bracket is never a rewritten line
+-- a bracket is never a rewritten line
 closing-same : (new : Directive) (there : Bool) (block : Option Placed) (line : Line Placed) (suffix : Option (List ℕ)) (ms : List Marked) → AreMarked new there block ((line, Some (Close suffix)) ∷ ms)
     → (line ≡ Close suffix) × AreMarked new there None ms
 closing-same new there block line suffix ms (inl same) = (sym same.0, subst (λ (x : Line Placed). AreMarked new there (block_after_line block x) ms) (sym same.0) same.2)
 closing-same new there block line suffix ms (inr made) = let wrong : Close suffix ≡ Entry made.1.words made.1.suffix = made.1.is_entry in absurd cc
 
-abbrev LeftIs : Directive → List Marked → Type 0
-LeftIs new ms = (after there : Bool) (xs ys : List Directive) → Near new there xs ys → SoundFrom ys None (lines_in ms) → AreMarked new there None ms → SoundFrom xs None (remaining_from after None (fates_in ms))
-
--- after a closing bracket, in any block
-after-closing : (new : Directive) (suffix : Option (List ℕ)) (line : Line Placed) (ms : List Marked) → LeftIs new ms
-    → GoesOn new ((line, Some (Close suffix)) ∷ ms) (Close suffix ∷ remaining_from false None (fates_in ms))
-unfolding item_at
-after-closing new suffix line ms next there xs ys block u sound marked =
-    let is = closing-same new there block line suffix ms marked in
-    let s : SoundFrom ys block (Close suffix ∷ lines_in ms) = subst (λ (x : Line Placed). SoundFrom ys block (x ∷ lines_in ms)) is.0 sound in
-    (s.0, kinds-near new there xs ys (item_of block (Close suffix)) tt u s.1, next false there (xs ++ []) (ys ++ []) (near-both new there xs ys [] refl u) s.2 is.1)
-
--- a closing bracket, which is removed with its block if that is emptied
-closing-sound : (new : Directive) (after : Bool) (b : Block) (line : Line Placed) (suffix : Option (List ℕ)) (ms : List Marked) → LeftIs new ms
-    → (there : Bool) (xs ys : List Directive) → Near new there xs ys → SoundFrom ys None (old_lines (Some b) ((line, Some (Close suffix)) ∷ ms)) → OldMarks new there (Some b) ((line, Some (Close suffix)) ∷ ms)
-    → SoundFrom xs None (remaining_from after (Some (begun b)) (Some (Close suffix) ∷ fates_in ms))
-unfolding remaining_from
-closing-sound new after b line suffix ms next there xs ys u sound marked = elim (cases_Bool (is_emptied b.suffix (fates_in b.inner) suffix)) [
-  | inl holds ↦
-      let all : List Marked = (line, Some (Close suffix)) ∷ ms in
-      let r = empty-sound new b.inner all there xs ys (Some b.verb) (emptied-inner b.suffix (fates_in b.inner) suffix holds) u (opening-behind ys b.verb b.suffix (lines_in (b.inner ++ all)) sound) marked in
-      let is = closing-same new r.there (Some b.verb) line suffix ms r.marked in
-      rw holds (next true r.there xs r.earlier r.near (closing-behind r.earlier (Some b.verb) suffix (lines_in ms) (subst (λ (x : Line Placed). SoundFrom r.earlier (Some b.verb) (x ∷ lines_in ms)) is.0 r.sound)) is.1)
-  | inr fails ↦
-      rw fails (with-block new b ((line, Some (Close suffix)) ∷ ms) (Close suffix ∷ remaining_from false None (fates_in ms)) there xs ys (after-closing new suffix line ms next) u sound marked)
-]
-
-last-block : (new : Directive) (b : Block) (there : Bool) (xs ys : List Directive) → Near new there xs ys → SoundFrom ys None (old_lines (Some b) []) → OldMarks new there (Some b) [] → SoundFrom xs None (Open b.verb b.suffix ∷ kept (fates_in b.inner))
-last-block new b there xs ys u sound marked =
-    subst (λ (lines : List (Line Placed)). SoundFrom xs None (Open b.verb b.suffix ∷ lines)) (append-nil (kept (fates_in b.inner)))
-    (with-block new b [] [] there xs ys (λ t vs ws block v s m. (s.0, v.declared s.1)) u sound marked)
-
--- an opening bracket is never a rewritten line
 opening-same : (new : Directive) (there : Bool) (block : Option Placed) (line : Line Placed) (verb : Placed) (suffix : Option (List ℕ)) (ms : List Marked) → AreMarked new there block ((line, Some (Open verb suffix)) ∷ ms)
     → (line ≡ Open verb suffix) × AreMarked new there (Some verb) ms
 opening-same new there block line verb suffix ms (inl same) = (sym same.0, subst (λ (x : Line Placed). AreMarked new there (block_after_line block x) ms) (sym same.0) same.2)
@@ -382,69 +242,94 @@ blank-stays : (new : Directive) (there : Bool) (block : Option Placed) (line : L
 blank-stays new there block line ms (inl same) = (sym same.0, subst (λ (x : Line Placed). AreMarked new there (block_after_line block x) ms) (sym same.0) same.2)
 blank-stays new there block line ms (inr made) = let wrong : Blank ≡ Entry made.1.words made.1.suffix = made.1.is_entry in absurd cc
 
--- a line outside blocks, or a closing bracket
-lone-sound : (new : Directive) (line next : Line Placed) (ms : List Marked) → block_after_line None next ≡ None → LeftIs new ms → (there : Bool) (xs ys : List Directive)
-    → Near new there xs ys → SoundFrom ys None (line ∷ lines_in ms) → AreMarked new there None ((line, Some next) ∷ ms) → SoundFrom xs None (next ∷ remaining_from false None (fates_in ms))
-lone-sound new line next ms level go there xs ys u sound (inl same) =
-    let s : SoundFrom ys None (next ∷ lines_in ms) = subst (λ (x : Line Placed). SoundFrom ys None (x ∷ lines_in ms)) (sym same.0) sound in
-    let mild : AreMild new (directive_at None next) = subst (λ (x : Line Placed). AreMild new (directive_at None x)) (sym same.0) same.1 in
-    let marks : AreMarked new there None ms = subst (λ (b : Option Placed). AreMarked new there b ms) (ap (block_after_line None) (sym same.0) ∙ level) same.2 in
-    let behind : SoundFrom (ys ++ option_to_list (directive_at None next)) None (lines_in ms) = subst (λ (b : Option Placed). SoundFrom (ys ++ option_to_list (directive_at None next)) b (lines_in ms)) level s.2 in (
-      s.0,
-      kinds-near new there xs ys (item_of None next) mild u s.1,
-      subst (λ (b : Option Placed). SoundFrom (xs ++ option_to_list (directive_at None next)) b (remaining_from false None (fates_in ms))) (sym level)
-          (go false there (xs ++ option_to_list (directive_at None next)) (ys ++ option_to_list (directive_at None next)) (near-both new there xs ys (option_to_list (directive_at None next)) (mild-list new (directive_at None next) mild) u) behind marks),
-    )
-lone-sound new line next ms level go there xs ys u sound (inr made) =
-    let m = made.1 in
-    let behind : block_after_line None line ≡ None = entry-behind None line m.was m.held in
-    let rest : SoundFrom (xs ++ new ∷ []) None (remaining_from false None (fates_in ms)) =
-    go false true (xs ++ new ∷ []) (ys ++ m.was ∷ []) (near-new new xs ys m.was m.declared (subst (λ (t : Bool). Near new t xs ys) made.0 u))
-    (subst (λ (b : Option Placed). SoundFrom (ys ++ m.was ∷ []) b (lines_in ms)) behind (subst (λ (o : Option Directive). SoundFrom (ys ++ option_to_list o) (block_after_line None line) (lines_in ms)) m.held sound.2))
-    (subst (λ (b : Option Placed). AreMarked new true b ms) behind made.2) in
-    let whole : SoundFrom xs None (Entry m.words m.suffix ∷ remaining_from false None (fates_in ms)) =
-    (m.stands, m.sound xs ((subst (λ (t : Bool). Near new t xs ys) made.0 u).clear refl), subst (λ (o : Option Directive). SoundFrom (xs ++ option_to_list o) None (remaining_from false None (fates_in ms))) (sym m.holds) rest) in
-    subst (λ (l : Line Placed). SoundFrom xs None (l ∷ remaining_from false None (fates_in ms))) (sym m.is_entry) whole
+-- what remains after a line that says nothing
+silent-open : (ys : List Directive) (block : Option Placed) (line : Line Placed) (verb : Placed) (suffix : Option (List ℕ)) (lines : List (Line Placed)) → line ≡ Open verb suffix → SoundFrom ys block (line ∷ lines) → SoundFrom ys (Some verb) lines
+unfolding item_at
+silent-open ys None Blank verb suffix lines e sound = absurd cc
+silent-open ys None (Comment text) verb suffix lines e sound = absurd cc
+silent-open ys None (Open other comment) verb suffix lines e sound = subst (λ (ds : List Directive). SoundFrom ds (Some verb) lines) (append-nil ys) (subst (λ (x : Line Placed). SoundFrom (ys ++ option_to_list (directive_at None x)) (block_after_line None x) lines) e sound.2)
+silent-open ys None (Close comment) verb suffix lines e sound = absurd cc
+silent-open ys None (Entry words comment) verb suffix lines e sound = absurd cc
+silent-open ys (Some outer) Blank verb suffix lines e sound = absurd cc
+silent-open ys (Some outer) (Comment text) verb suffix lines e sound = absurd cc
+silent-open ys (Some outer) (Open other comment) verb suffix lines e sound = subst (λ (ds : List Directive). SoundFrom ds (Some verb) lines) (append-nil ys) (subst (λ (x : Line Placed). SoundFrom (ys ++ option_to_list (directive_at (Some outer) x)) (block_after_line (Some outer) x) lines) e sound.2)
+silent-open ys (Some outer) (Close comment) verb suffix lines e sound = absurd cc
+silent-open ys (Some outer) (Entry words comment) verb suffix lines e sound = absurd cc
 
-pub left-sound : (new : Directive) (ms : List Marked) (after there : Bool) (b : Option Block) (xs ys : List Directive)
-    → Near new there xs ys → SoundFrom ys None (old_lines b ms) → OldMarks new there b ms → SoundFrom xs None (remaining_from after (option_map begun b) (fates_in ms))
-unfolding remaining_from
-left-sound new [] after there None xs ys u sound marked = (sound.0, u.declared sound.1)
-left-sound new [] after there (Some b) xs ys u sound marked = last-block new b there xs ys u sound marked
-left-sound new ((line, None) ∷ ms) after there None xs ys u sound marked =
+silent-close : (ys : List Directive) (block : Option Placed) (line : Line Placed) (suffix : Option (List ℕ)) (lines : List (Line Placed)) → line ≡ Close suffix → SoundFrom ys block (line ∷ lines) → SoundFrom ys None lines
+unfolding item_at
+silent-close ys block Blank suffix lines e sound = absurd cc
+silent-close ys block (Comment text) suffix lines e sound = absurd cc
+silent-close ys block (Open other comment) suffix lines e sound = absurd cc
+silent-close ys block (Close comment) suffix lines e sound = subst (λ (ds : List Directive). SoundFrom ds None lines) (append-nil ys) sound.2
+silent-close ys block (Entry words comment) suffix lines e sound = absurd cc
+
+abbrev LeftIs : Directive → List Marked → Type 0
+LeftIs new ms = (block : Option Placed) (goes there : Bool) (xs ys : List Directive) → Near new there xs ys → Going (is_some block && goes) (fates_in ms) → SoundFrom ys block (lines_in ms) → AreMarked new there block ms
+    → SoundFrom xs (left_block (is_some block && goes) block) (kept (widened_from (is_some block) goes (fates_in ms)))
+
+never : (block : Option Placed) (line next : Line Placed) → block_after_line block next ≡ block → (d : Directive) → directive_at block line ≡ Some d → block_after_line block next ≡ block
+never block line next level d held = level
+
+not-entry : (block : Option Placed) (line next : Line Placed) (d : Directive) → next ≡ line → directive_at block line ≡ Some d → block_after_line block next ≡ block
+not-entry block line next d same held = ap (block_after_line block) same ∙ entry-behind block line d held
+
+-- an opening or a closing that stays is what it was
+bracket-next : (new : Directive) (there : Bool) (xs ys : List Directive) (block : Option Placed) (line next : Line Placed) (ms : List Marked) (lines : List (Line Placed)) → next ≡ line
+    → Near new there xs ys → SoundFrom ys block (line ∷ lines_in ms) → AreMarked new there block ((line, Some next) ∷ ms) → GoesOn new ms (block_after_line block next) lines → SoundFrom xs block (next ∷ lines)
+bracket-next new there xs ys block line next ms lines same u sound marked go =
+    one-next new there xs ys block line next ms lines (λ d held. not-entry block line next d same held) u sound marked go
+
+left-sound : (new : Directive) (ms : List Marked) → LeftIs new ms
+left-sound new [] None goes there xs ys u going sound marked = (sound.0, u.declared sound.1)
+left-sound new [] (Some verb) goes there xs ys u going sound marked = let wrong : Some verb ≡ None = sound.0 in absurd cc
+left-sound new ((line, None) ∷ ms) block goes there xs ys u going sound marked =
     let gone = marked.0 in
-    let behind : block_after_line None line ≡ None = entry-behind None line gone.was gone.held in
-    left-sound new ms after there None xs (ys ++ gone.was ∷ []) (near-skip new there xs ys gone.was gone.undeclared u)
-    (subst (λ (b : Option Placed). SoundFrom (ys ++ gone.was ∷ []) b (lines_in ms)) behind (subst (λ (o : Option Directive). SoundFrom (ys ++ option_to_list o) (block_after_line None line) (lines_in ms)) gone.held sound.2))
+    let behind : block_after_line block line ≡ block = entry-behind block line gone.was gone.held in
+    left-sound new ms block goes there xs (ys ++ gone.was ∷ []) (near-skip new there xs ys gone.was gone.undeclared u) (going-gone (is_some block && goes) (fates_in ms) going)
+    (subst (λ (b : Option Placed). SoundFrom (ys ++ gone.was ∷ []) b (lines_in ms)) behind (subst (λ (o : Option Directive). SoundFrom (ys ++ option_to_list o) (block_after_line block line) (lines_in ms)) gone.held sound.2))
     (subst (λ (b : Option Placed). AreMarked new there b ms) behind marked.1)
-left-sound new ((line, Some Blank) ∷ ms) true there None xs ys u sound marked =
+left-sound new ((line, Some Blank) ∷ ms) None false there xs ys u going sound marked =
+    one-next new there xs ys None line Blank ms _ (never None line Blank refl) u sound marked (λ t vs ws v s m. left-sound new ms None false t vs ws v tt s m)
+left-sound new ((line, Some Blank) ∷ ms) None true there xs ys u going sound marked =
     let is = blank-stays new there None line ms marked in
-    left-sound new ms false there None xs ys u (blank-next ys None line (lines_in ms) is.0 sound) is.1
-left-sound new ((line, Some Blank) ∷ ms) false there None xs ys u sound marked =
-    lone-sound new line Blank ms refl (λ f t vs ws v s m. left-sound new ms f t None vs ws v s m) there xs ys u sound marked
-left-sound new ((line, Some (Comment text)) ∷ ms) after there None xs ys u sound marked =
-    lone-sound new line (Comment text) ms refl (λ f t vs ws v s m. left-sound new ms f t None vs ws v s m) there xs ys u sound marked
-left-sound new ((line, Some (Open verb suffix)) ∷ ms) after there None xs ys u sound marked =
+    left-sound new ms None false there xs ys u tt (blank-next ys None line (lines_in ms) is.0 sound) is.1
+left-sound new ((line, Some Blank) ∷ ms) (Some verb) false there xs ys u going sound marked =
+    one-next new there xs ys (Some verb) line Blank ms _ (never (Some verb) line Blank refl) u sound marked (λ t vs ws v s m. left-sound new ms (Some verb) false t vs ws v tt s m)
+left-sound new ((line, Some Blank) ∷ ms) (Some verb) true there xs ys u going sound marked =
+    let is = blank-stays new there (Some verb) line ms marked in
+    left-sound new ms (Some verb) true there xs ys u going (blank-next ys (Some verb) line (lines_in ms) is.0 sound) is.1
+left-sound new ((line, Some (Comment text)) ∷ ms) None goes there xs ys u going sound marked =
+    one-next new there xs ys None line (Comment text) ms _ (never None line (Comment text) refl) u sound marked (λ t vs ws v s m. left-sound new ms None false t vs ws v tt s m)
+left-sound new ((line, Some (Comment text)) ∷ ms) (Some verb) false there xs ys u going sound marked =
+    one-next new there xs ys (Some verb) line (Comment text) ms _ (never (Some verb) line (Comment text) refl) u sound marked (λ t vs ws v s m. left-sound new ms (Some verb) false t vs ws v tt s m)
+left-sound new ((line, Some (Comment text)) ∷ ms) (Some verb) true there xs ys u going sound marked = absurd cc
+left-sound new ((line, Some (Open verb suffix)) ∷ ms) None goes there xs ys u going sound marked =
     let is = opening-same new there None line verb suffix ms marked in
-    left-sound new ms false there (Some (record { verb = verb; suffix = suffix; inner = [] })) xs ys u (subst (λ (x : Line Placed). SoundFrom ys None (x ∷ lines_in ms)) is.0 sound) is.1
-left-sound new ((line, Some (Close suffix)) ∷ ms) after there None xs ys u sound marked =
-    lone-sound new line (Close suffix) ms refl (λ f t vs ws v s m. left-sound new ms f t None vs ws v s m) there xs ys u sound marked
-left-sound new ((line, Some (Entry words suffix)) ∷ ms) after there None xs ys u sound marked =
-    lone-sound new line (Entry words suffix) ms refl (λ f t vs ws v s m. left-sound new ms f t None vs ws v s m) there xs ys u sound marked
-left-sound new ((line, Some (Close suffix)) ∷ ms) after there (Some b) xs ys u sound marked =
-    closing-sound new after b line suffix ms (λ f t vs ws v s m. left-sound new ms f t None vs ws v s m) there xs ys u sound marked
-left-sound new ((line, None) ∷ ms) after there (Some b) xs ys u sound marked =
-    subst (λ (x : Begun). SoundFrom xs None (remaining_from after (Some x) (fates_in ms))) (begun-more b (line, None))
-    (left-sound new ms after there (Some (with_marked b (line, None))) xs ys u (more-lines b (line, None) ms ys sound) (more-marks new there b (line, None) ms marked))
-left-sound new ((line, Some Blank) ∷ ms) after there (Some b) xs ys u sound marked =
-    subst (λ (x : Begun). SoundFrom xs None (remaining_from after (Some x) (fates_in ms))) (begun-more b (line, Some Blank))
-    (left-sound new ms after there (Some (with_marked b (line, Some Blank))) xs ys u (more-lines b (line, Some Blank) ms ys sound) (more-marks new there b (line, Some Blank) ms marked))
-left-sound new ((line, Some (Comment text)) ∷ ms) after there (Some b) xs ys u sound marked =
-    subst (λ (x : Begun). SoundFrom xs None (remaining_from after (Some x) (fates_in ms))) (begun-more b (line, Some (Comment text)))
-    (left-sound new ms after there (Some (with_marked b (line, Some (Comment text)))) xs ys u (more-lines b (line, Some (Comment text)) ms ys sound) (more-marks new there b (line, Some (Comment text)) ms marked))
-left-sound new ((line, Some (Open verb suffix)) ∷ ms) after there (Some b) xs ys u sound marked =
-    subst (λ (x : Begun). SoundFrom xs None (remaining_from after (Some x) (fates_in ms))) (begun-more b (line, Some (Open verb suffix)))
-    (left-sound new ms after there (Some (with_marked b (line, Some (Open verb suffix)))) xs ys u (more-lines b (line, Some (Open verb suffix)) ms ys sound) (more-marks new there b (line, Some (Open verb suffix)) ms marked))
-left-sound new ((line, Some (Entry words suffix)) ∷ ms) after there (Some b) xs ys u sound marked =
-    subst (λ (x : Begun). SoundFrom xs None (remaining_from after (Some x) (fates_in ms))) (begun-more b (line, Some (Entry words suffix)))
-    (left-sound new ms after there (Some (with_marked b (line, Some (Entry words suffix)))) xs ys u (more-lines b (line, Some (Entry words suffix)) ms ys sound) (more-marks new there b (line, Some (Entry words suffix)) ms marked))
+    elim (cases_Bool (is_emptied false suffix (fates_in ms))) [
+      | inl gone ↦ rw gone (left-sound new ms (Some verb) true there xs ys u (going-opened suffix (fates_in ms) gone) (silent-open ys None line verb suffix (lines_in ms) is.0 sound) is.1)
+      | inr stays ↦
+          rw stays (bracket-next new there xs ys None line (Open verb suffix) ms _ (sym is.0) u sound marked (λ t vs ws v s m. left-sound new ms (Some verb) false t vs ws v tt s m))
+    ]
+left-sound new ((line, Some (Open verb suffix)) ∷ ms) (Some outer) false there xs ys u going sound marked =
+    let is = opening-same new there (Some outer) line verb suffix ms marked in
+    bracket-next new there xs ys (Some outer) line (Open verb suffix) ms _ (sym is.0) u sound marked (λ t vs ws v s m. left-sound new ms (Some verb) false t vs ws v tt s m)
+left-sound new ((line, Some (Open verb suffix)) ∷ ms) (Some outer) true there xs ys u going sound marked = absurd cc
+left-sound new ((line, Some (Close suffix)) ∷ ms) None goes there xs ys u going sound marked =
+    let is = closing-same new there None line suffix ms marked in
+    bracket-next new there xs ys None line (Close suffix) ms _ (sym is.0) u sound marked (λ t vs ws v s m. left-sound new ms None false t vs ws v tt s m)
+left-sound new ((line, Some (Close suffix)) ∷ ms) (Some verb) false there xs ys u going sound marked =
+    let is = closing-same new there (Some verb) line suffix ms marked in
+    bracket-next new there xs ys (Some verb) line (Close suffix) ms _ (sym is.0) u sound marked (λ t vs ws v s m. left-sound new ms None false t vs ws v tt s m)
+left-sound new ((line, Some (Close suffix)) ∷ ms) (Some verb) true there xs ys u going sound marked =
+    let is = closing-same new there (Some verb) line suffix ms marked in
+    left-sound new ms None true there xs ys u tt (silent-close ys (Some verb) line suffix (lines_in ms) is.0 sound) is.1
+left-sound new ((line, Some (Entry words suffix)) ∷ ms) None goes there xs ys u going sound marked =
+    one-next new there xs ys None line (Entry words suffix) ms _ (never None line (Entry words suffix) refl) u sound marked (λ t vs ws v s m. left-sound new ms None false t vs ws v tt s m)
+left-sound new ((line, Some (Entry words suffix)) ∷ ms) (Some verb) false there xs ys u going sound marked =
+    one-next new there xs ys (Some verb) line (Entry words suffix) ms _ (never (Some verb) line (Entry words suffix) refl) u sound marked (λ t vs ws v s m. left-sound new ms (Some verb) false t vs ws v tt s m)
+left-sound new ((line, Some (Entry words suffix)) ∷ ms) (Some verb) true there xs ys u going sound marked = absurd cc
+
+pub remaining-sound : (new : Directive) (ms : List Marked) (there : Bool) → Near new there [] [] → SoundFrom [] None (lines_in ms) → AreMarked new there None ms → SoundFrom [] None (remaining (fates_in ms))
+unfolding remaining
+remaining-sound new ms there u sound marked = left-sound new ms None false there [] [] u tt sound marked

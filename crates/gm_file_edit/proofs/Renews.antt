@@ -11,10 +11,10 @@ use Rattle.gm_syntax.specs.LineViews.{plain}
 use Rattle.gm_file.specs.declared.fault.DirectiveKind.TheVariants.{Repeated}
 use Rattle.gm_file.specs.Directives.{Strict, Directive, DeclaresModule, DeclaresGo, Requires, Excludes, Replaces, Retracts, Kept, Item, Silent, Opening, Saying, Verb, block_after_line, directive_in, directive_of, verb_in}
 use Rattle.gm_file.specs.Faults.{directive_kinds, is_module, item_kinds, path_kinds, entry_kinds, unless}
-use Rattle.gm_file_edit.specs.Fates.{Fate, remaining_from, renewed, renewing_from}
+use Rattle.gm_file_edit.specs.Fates.{Fate, remaining, renewed, renewing_from}
 use Rattle.gm_file_edit.specs.Holding.{directive_at, item_of, passes}
 use Rattle.gm_file_edit.proofs.Sound.{SoundFrom, nil-parts}
-use Rattle.gm_file_edit.proofs.Leaving.{AreMarked, AreMild, IsMadeNew, Marked, Near, fates_in, left-sound, lines_in}
+use Rattle.gm_file_edit.proofs.Leaving.{AreMarked, AreMild, IsMadeNew, Marked, Near, fates_in, lines_in, remaining-sound}
 use Rattle.gm_file_edit.proofs.Drops.{dropping, dropping-fates, dropping-lines, gone-line}
 
 -- ---- the lines stay a document without a fault
@@ -121,5 +121,5 @@ renewing-marked test said make by earlier block (line ∷ lines) sound = elim (c
 pub renewed-sound : (test : Directive → Bool) (said : Directive) (make : Option Placed → Line Placed → Line Placed) → IsRenewal test said make → (lines : List (Line Placed)) → SoundFrom [] None lines → SoundFrom [] None (renewed test make lines)
 renewed-sound test said make by lines sound =
     let near : Near said false [] [] = record { among = λ p n e. e; declared = λ e. e; clear = λ e. refl } in
-    subst (λ (fates : List Fate). SoundFrom [] None (remaining_from false None fates)) (renewing-fates test make None lines)
-    (left-sound said (renewing test make None lines) false false None [] [] near (subst (SoundFrom [] None) (sym (renewing-lines test make None lines)) sound) (renewing-marked test said make by [] None lines sound))
+    subst (λ (fates : List Fate). SoundFrom [] None (remaining fates)) (renewing-fates test make None lines)
+    (remaining-sound said (renewing test make None lines) false near (subst (SoundFrom [] None) (sym (renewing-lines test make None lines)) sound) (renewing-marked test said make by [] None lines sound))

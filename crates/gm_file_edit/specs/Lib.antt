@@ -6,7 +6,6 @@ pub mod Holding
 pub mod Fates
 pub mod About
 pub mod Targets
-pub mod Packs
 pub mod Marks
 pub mod NewWords
 pub mod Renewing
