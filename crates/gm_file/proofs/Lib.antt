@@ -19,3 +19,5 @@ pub mod Retracted
 pub mod DepReading
 pub mod SimpleLines
 pub mod ListEnds
+pub mod Pairwise
+pub mod DirectiveVerbs

@@ -1,5 +1,5 @@
 -- The directives of the lines of a document, each line by itself.
-use Rattle.std.specs.Prelude.{ℕ, ◌&&◌, ◌||◌, if◌then◌else◌, Bool, false, List, [], ◌∷◌, codes, Option, Some, None, option_and_then}
+use Rattle.std.specs.Prelude.{ℕ, ◌&&◌, ◌||◌, if◌then◌else◌, Bool, true, false, List, [], ◌∷◌, codes, Option, Some, None, option_and_then}
 use Rattle.std.specs.Option.{option_map}
 use Rattle.std.specs.List.{after_first, before_first, filter_map}
 use Rattle.std.specs.Str.{bytes_eq}
@@ -90,6 +90,31 @@ pub data Directive : Type 0 where
   Replaces : Replacing → Directive
   Retracts : VersionInterval → Directive
   Kept : Directive
+
+-- the verb of the entries that say a directive
+abbrev pub verb_of_directive : Directive → Verb
+verb_of_directive (DeclaresModule path) = ForModule
+verb_of_directive (DeclaresGo text) = ForGo
+verb_of_directive (Requires p) = ForRequire
+verb_of_directive (Excludes p) = ForExclude
+verb_of_directive (Replaces r) = ForReplace
+verb_of_directive (Retracts ends) = ForRetract
+verb_of_directive Kept = ForNothing
+
+abbrev pub verb_eq : Verb → Verb → Bool
+verb_eq ForModule ForModule = true
+verb_eq ForGo ForGo = true
+verb_eq ForRequire ForRequire = true
+verb_eq ForExclude ForExclude = true
+verb_eq ForReplace ForReplace = true
+verb_eq ForRetract ForRetract = true
+verb_eq ForNothing ForNothing = true
+verb_eq Unknown Unknown = true
+verb_eq _ _ = false
+
+-- whether a directive is one of this verb
+abbrev pub is_of_verb : Verb → Directive → Bool
+is_of_verb verb d = verb_eq verb (verb_of_directive d)
 
 -- ---- the arguments of an entry; None if their number or kind is wrong
 

@@ -10,7 +10,7 @@ use Rattle.gm_file.specs.declared.fault.DirectiveKind.TheVariants.{UnknownVerb, 
 use Rattle.gm_name.specs.Names.{does_fit, is_path, is_version}
 use Rattle.gm_name.specs.ModuleVersion.{ModuleVersion}
 use Rattle.gm_file.specs.GoVersions.{lax_go, strict_go}
-use Rattle.gm_file.specs.Directives.{Verb, ForGo, Unknown, Mode, Strict, Lax, verb_in, VersionInterval, Left, Right, Folder, Module, Replacing, Directive, DeclaresModule, DeclaresGo, Requires, Excludes, Replaces, Retracts, Kept, directive_of, LineInBlock, with_blocks, Item, Silent, Opening, Saying, item_at, said, directives}
+use Rattle.gm_file.specs.Directives.{Verb, ForModule, ForGo, Unknown, is_of_verb, Mode, Strict, Lax, verb_in, VersionInterval, Left, Right, Folder, Module, Replacing, Directive, DeclaresModule, DeclaresGo, Requires, Excludes, Replaces, Retracts, Kept, directive_of, LineInBlock, with_blocks, Item, Silent, Opening, Saying, item_at, said, directives}
 
 -- this kind alone, or no kind if the test passes
 abbrev pub unless : Bool → DirectiveKind → List DirectiveKind
@@ -61,12 +61,10 @@ sides_kinds left right = path_kinds left.path ++ right_path_kinds right ++ left_
 -- ---- the kinds of faults that a directive has after earlier ones
 
 abbrev pub is_module : Directive → Bool
-is_module (DeclaresModule path) = true
-is_module _ = false
+is_module d = is_of_verb ForModule d
 
 abbrev pub is_go : Directive → Bool
-is_go (DeclaresGo text) = true
-is_go _ = false
+is_go d = is_of_verb ForGo d
 
 abbrev pub is_same_version : Option (List ℕ) → Option (List ℕ) → Bool
 is_same_version None None = true

@@ -16,3 +16,4 @@ pub mod ReadFaults
 pub mod DepLines
 pub mod Listed
 pub mod SimpleLines
+pub mod Pairwise

@@ -28,6 +28,7 @@ mod exclusions;
 mod fault;
 mod fields;
 mod go_version;
+pub mod laws;
 mod listed_file;
 mod main_file;
 mod part;

@@ -4,7 +4,7 @@ use Rattle.std.specs.Prelude.{codes}
 use Rattle.std.specs.Option.{option_to_list}
 use Rattle.std.specs.List.{list_any}
 use Rattle.std.specs.Str.{bytes_eq}
-use Rattle.std.proofs.lemmas.Bool.{cases_Bool}
+use Rattle.std.proofs.lemmas.Bool.{cases_Bool, or_from, or_parts}
 use Rattle.std.proofs.lemmas.List.Folds.{list_any-append}
 use Rattle.std.proofs.lemmas.Slice.Eq.{bytes_eq-Decides}
 use Rattle.gm_syntax.specs.declared.word.Punct.TheVariants.{Comma, LeftBracket, RightBracket}
@@ -18,12 +18,14 @@ use Rattle.gm_syntax.proofs.NewWords.{mark_stands}
 use Rattle.gm_syntax.proofs.Changes.{entry_stands}
 use Rattle.gm_name.specs.Names.{does_fit}
 use Rattle.gm_name.specs.ModuleVersion.{ModuleVersion}
-use Rattle.gm_file.specs.Directives.{Strict, VersionInterval, Left, Replacing, Directive, DeclaresModule, DeclaresGo, Requires, Excludes, Replaces, Retracts, Kept, ForGo, ForRequire, ForExclude, ForRetract, block_after_line, directive_of, directives, verb_in}
-use Rattle.gm_file.specs.Faults.{conflicts, directive_kinds, fault_of, is_go, is_module}
+use Rattle.gm_file.specs.Directives.{Strict, VersionInterval, Replacing, Directive, DeclaresModule, DeclaresGo, Requires, Excludes, Replaces, Retracts, ForModule, ForGo, ForRequire, ForExclude, ForRetract, block_after_line, directive_of, verb_eq, verb_in}
+use Rattle.gm_file.specs.Faults.{directive_kinds, fault_of, is_go, is_module}
+use Rattle.gm_file.specs.Pairwise.{do_clash}
+use Rattle.gm_file.proofs.Pairwise.{never}
 use Rattle.gm_file_edit.specs.declared.adding.AddedVerb.{AddedVerb}
 use Rattle.gm_file_edit.specs.declared.adding.AddedVerb.TheVariants as verb
-use Rattle.gm_file_edit.specs.Edits.{Edit, Set, ModuleIs, GoIs, RequireAt, Drop, AnyRequire, Add, Exclude, AnyExclude, ReplaceWith, AnyReplace, Retract, AnyRetract}
-use Rattle.gm_file_edit.specs.About.{about, excludes_pair, is_replaced_by, replaces_left, requires_path, retracts_ends}
+use Rattle.gm_file_edit.specs.Edits.{Edit, Target, Set, ModuleIs, GoIs, RequireAt, Drop, AnyRequire, Add, Exclude, ReplaceWith, Retract}
+use Rattle.gm_file_edit.specs.About.{about, is_replaced_by, requires_path}
 use Rattle.gm_file_edit.specs.Adding.{verb_text}
 use Rattle.gm_file_edit.specs.Pass.{edited_by_pass, put_in}
 use Rattle.gm_file_edit.specs.Edited.{changed, edited}
@@ -34,14 +36,14 @@ use Rattle.gm_file_edit.specs.NewWords.{interval_words, made_word, pair_words, r
 use Rattle.gm_file_edit.specs.Renewing.{made_new, with_arguments, with_last}
 use Rattle.gm_file_edit.specs.Searching.{is_there, is_there_from}
 use Rattle.gm_file_edit.specs.Sound.{AreVersions, IsPairOfNames, IsSoundEdit}
-use Rattle.gm_file_edit.proofs.AddingSound.{IsAddition, added-sound, after-first-sound, file-held, held_from, single-fits, verb_of}
+use Rattle.gm_file_edit.proofs.AddingSound.{IsAddition, added-sound, after-first-sound, held_from, single-fits}
 use Rattle.gm_file_edit.proofs.Drops.{dropped-sound}
 use Rattle.gm_file_edit.proofs.Feeds.{go-feed, no-feed, path-feed, version-feed}
 use Rattle.gm_file_edit.proofs.Made.{AreArguments, made-no-mark, made-stands, made-value, one-are, open-behind}
-use Rattle.gm_file_edit.proofs.Leaving.{AreMild}
-use Rattle.gm_file_edit.proofs.Renewals.{go-kinds, go-renewal, go-says, module-renewal, pair-kinds, replace-are, replace-kinds, replace-mild, replace-renewal, replace-says, require-renewal}
+use Rattle.gm_file_edit.proofs.Renewals.{go-kinds, go-renewal, go-says, module-renewal, pair-kinds, replace-are, replace-kinds, replace-mild, replace-renewal, replace-says, require-kinds, require-renewal}
 use Rattle.gm_file_edit.proofs.Renews.{renewed-sound}
-use Rattle.gm_file_edit.proofs.Sound.{SoundFrom, file-sound, sound-file}
+use Rattle.gm_file_edit.proofs.Pairs.{IsSound, document-sound, sound-document}
+use Rattle.gm_file_edit.proofs.Targets.{about-module, added_verb, verb_about}
 use Rattle.gm_file_edit.proofs.BySections.{edited-is-pass}
 
 -- ---- if no entry is targeted
@@ -54,23 +56,13 @@ pub passes-list : (test : Directive → Bool) (held : Option Directive) → pass
 passes-list test None = refl
 passes-list test (Some d) = or-nothing (test d)
 
-or-none : (a b : Bool) → (a || b) ≡ false → (a ≡ false) × (b ≡ false)
-or-none true b e = absurd cc
-or-none false b e = (refl, e)
-
-or-neither : (a b : Bool) → a ≡ false → b ≡ false → (a || b) ≡ false
-or-neither a b e f = rw (e, f) refl
-
 pub none-from : (test : Directive → Bool) (block : Option Placed) (lines : List (Line Placed)) → is_there_from test block lines ≡ false → list_any test (held_from block lines) ≡ false
 none-from test block [] e = refl
 none-from test block (line ∷ lines) e =
-    let parts = or-none (passes test (directive_at block line))
+    let parts = or_parts (passes test (directive_at block line))
     (is_there_from test (block_after_line block line) lines) e in
     list_any-append test (option_to_list (directive_at block line)) (held_from (block_after_line block line) lines)
-    ∙ or-neither (list_any test (option_to_list (directive_at block line))) (list_any test (held_from (block_after_line block line) lines)) (sym (passes-list test (directive_at block line)) ∙ parts.0) (none-from test (block_after_line block line) lines parts.1)
-
-none-there : (test : Directive → Bool) (lines : List (Line Placed)) → is_there test lines ≡ false → list_any test (directives Strict (plain_lines lines)) ≡ false
-none-there test lines e = ap (list_any test) (file-held lines) ∙ none-from test None lines e
+    ∙ or_from (list_any test (option_to_list (directive_at block line))) (list_any test (held_from (block_after_line block line) lines)) (sym (passes-list test (directive_at block line)) ∙ parts.0) (none-from test (block_after_line block line) lines parts.1)
 
 -- ---- new entries
 
@@ -98,7 +90,7 @@ verb-feed verb.Exclude = no-feed (λ b. not (b == 10)) refl (codes "exclude") re
 verb-feed verb.Replace = no-feed (λ b. not (b == 10)) refl (codes "replace") refl
 verb-feed verb.Retract = no-feed (λ b. not (b == 10)) refl (codes "retract") refl
 
-pub addition : (v : AddedVerb) (arguments : List Placed) (new : Directive) → AreArguments arguments → directive_of (verb_of v) (words_of arguments) ≡ Some new → IsAddition v arguments new
+pub addition : (v : AddedVerb) (arguments : List Placed) (new : Directive) → AreArguments arguments → directive_of (added_verb v) (words_of arguments) ≡ Some new → IsAddition v arguments new
 addition v arguments new are says = record { inside = entry-inside arguments are; alone = entry-alone (verb_text v) arguments (verb-feed v) are; filled = are.no_block; says = says }
 
 pub pair-are : (p : ModuleVersion) → IsPairOfNames p → AreArguments (pair_words p)
@@ -118,17 +110,13 @@ pub exclude-says : (p : ModuleVersion) → IsPairOfNames p → directive_of ForE
 unfolding directive_of
 exclude-says p names = rw (made-value p.0 (path-feed p.0 names.0), made-value p.1 (version-feed p.1 names.1)) refl
 
-require-kinds : (p : ModuleVersion) (earlier : List Directive) → IsPairOfNames p → does_fit p.0 p.1 ≡ true → directive_kinds Strict earlier (Requires p) ≡ []
+exclude-kinds : (p : ModuleVersion) → IsPairOfNames p → does_fit p.0 p.1 ≡ true → directive_kinds Strict [] (Excludes p) ≡ []
 unfolding directive_kinds
-require-kinds p earlier names fit = pair-kinds p names fit
+exclude-kinds p names fit = pair-kinds p names fit
 
-exclude-kinds : (p : ModuleVersion) (earlier : List Directive) → IsPairOfNames p → does_fit p.0 p.1 ≡ true → directive_kinds Strict earlier (Excludes p) ≡ []
+ends-kinds : (ends : VersionInterval) → AreVersions ends → directive_kinds Strict [] (Retracts ends) ≡ []
 unfolding directive_kinds
-exclude-kinds p earlier names fit = pair-kinds p names fit
-
-ends-kinds : (ends : VersionInterval) (earlier : List Directive) → AreVersions ends → directive_kinds Strict earlier (Retracts ends) ≡ []
-unfolding directive_kinds
-ends-kinds ends earlier are = rw (are.0, are.1) refl
+ends-kinds ends are = rw (are.0, are.1) refl
 
 pub ends-are : (ends : VersionInterval) → AreVersions ends → AreArguments (interval_words ends)
 ends-are ends are =
@@ -161,42 +149,6 @@ go-named = refl
 
 -- ---- the lines after an operation
 
-path-other : (path : List ℕ) (d : Directive) → requires_path path d ≡ true → is_module d ≡ false
-path-other path (DeclaresModule p) e = absurd cc
-path-other path (DeclaresGo t) e = refl
-path-other path (Requires q) e = refl
-path-other path (Excludes q) e = refl
-path-other path (Replaces r) e = refl
-path-other path (Retracts ends) e = refl
-path-other path Kept e = refl
-
-pair-other : (x : ModuleVersion) (d : Directive) → excludes_pair x d ≡ true → is_module d ≡ false
-pair-other x (DeclaresModule p) e = absurd cc
-pair-other x (DeclaresGo t) e = refl
-pair-other x (Requires q) e = refl
-pair-other x (Excludes q) e = refl
-pair-other x (Replaces r) e = refl
-pair-other x (Retracts ends) e = refl
-pair-other x Kept e = refl
-
-left-other : (x : Left) (d : Directive) → replaces_left x d ≡ true → is_module d ≡ false
-left-other x (DeclaresModule p) e = absurd cc
-left-other x (DeclaresGo t) e = refl
-left-other x (Requires q) e = refl
-left-other x (Excludes q) e = refl
-left-other x (Replaces r) e = refl
-left-other x (Retracts ends) e = refl
-left-other x Kept e = refl
-
-ends-other : (x : VersionInterval) (d : Directive) → retracts_ends x d ≡ true → is_module d ≡ false
-ends-other x (DeclaresModule p) e = absurd cc
-ends-other x (DeclaresGo t) e = refl
-ends-other x (Requires q) e = refl
-ends-other x (Excludes q) e = refl
-ends-other x (Replaces r) e = refl
-ends-other x (Retracts ends) e = refl
-ends-other x Kept e = refl
-
 pub module-changed : (path : List ℕ) (lines : List (Line Placed)) → changed (Set (ModuleIs path)) lines ≡ renewed (about (Set (ModuleIs path))) (made_new (Set (ModuleIs path))) lines
 unfolding changed
 module-changed path lines = refl
@@ -213,29 +165,27 @@ pub replace-changed : (r : Replacing) (lines : List (Line Placed)) → changed (
 unfolding changed
 replace-changed r lines = refl
 
-changed-sound : (edit : Edit) (lines : List (Line Placed)) → IsSoundEdit edit → is_fit edit ≡ true → SoundFrom [] None lines → SoundFrom [] None (changed edit lines)
+changed-sound : (edit : Edit) (lines : List (Line Placed)) → IsSoundEdit edit → is_fit edit ≡ true → IsSound lines → IsSound (changed edit lines)
 unfolding changed
 changed-sound (Set (ModuleIs path)) lines good fit sound = renewed-sound is_module (DeclaresModule path) (with_last path) (module-renewal path good) lines sound
 changed-sound (Set (GoIs text)) lines good fit sound = renewed-sound is_go (DeclaresGo text) (with_last text) (go-renewal text good) lines sound
 changed-sound (Set (RequireAt p)) lines good fit sound = renewed-sound (requires_path p.0) (Requires p) (with_last p.1) (require-renewal p good fit) lines sound
-changed-sound (Drop (AnyRequire path)) lines good fit sound = dropped-sound (requires_path path) (path-other path) lines sound
-changed-sound (Add a) lines good fit sound = sound
-changed-sound (Drop (AnyExclude p)) lines good fit sound = dropped-sound (excludes_pair p) (pair-other p) lines sound
 changed-sound (Set (ReplaceWith r)) lines good fit sound = renewed-sound (is_replaced_by r.0) (Replaces r) (with_arguments (replace_words r)) (replace-renewal r good.0 good.1 fit) lines sound
-changed-sound (Drop (AnyReplace left)) lines good fit sound = dropped-sound (replaces_left left) (left-other left) lines sound
-changed-sound (Drop (AnyRetract ends)) lines good fit sound = dropped-sound (retracts_ends ends) (ends-other ends) lines sound
-
-clear-one : (r : Replacing) (d : Directive) → AreMild (Replaces r) (Some d) → conflicts r d ≡ false
-clear-one r d mild = mild.1
+changed-sound (Add a) lines good fit sound = sound
+changed-sound (Drop t) lines good fit sound = dropped-sound (about (Drop t)) (λ d e. about-module (Drop t) d e ∙ no-module t) lines sound
+  where
+    no-module : (t : Target) → verb_eq ForModule (verb_about (Drop t)) ≡ false
+    no-module (AnyRequire path) = refl
+    no-module t = refl
 
 -- if no replace is superseded by the new one, none conflicts with it
-no-conflicts : (r : Replacing) (ds : List Directive) → list_any (is_replaced_by r.0) ds ≡ false → list_any (conflicts r) ds ≡ false
+no-conflicts : (r : Replacing) (ds : List Directive) → list_any (is_replaced_by r.0) ds ≡ false → list_any (do_clash (Replaces r)) ds ≡ false
 no-conflicts r [] e = refl
 no-conflicts r (d ∷ ds) e =
-    let parts = or-none (is_replaced_by r.0 d) (list_any (is_replaced_by r.0) ds) e in
-    or-neither (conflicts r d) (list_any (conflicts r) ds) (clear-one r d (replace-mild r d parts.0)) (no-conflicts r ds parts.1)
+    let parts = or_parts (is_replaced_by r.0 d) (list_any (is_replaced_by r.0) ds) e in
+    or_from (do_clash (Replaces r) d) (list_any (do_clash (Replaces r)) ds) (replace-mild r d parts.0) (no-conflicts r ds parts.1)
 
-put-sound : (edit : Edit) (lines : List (Line Placed)) → IsSoundEdit edit → is_fit edit ≡ true → is_there (about edit) lines ≡ false → SoundFrom [] None lines → SoundFrom [] None (put_in edit lines)
+put-sound : (edit : Edit) (lines : List (Line Placed)) → IsSoundEdit edit → is_fit edit ≡ true → is_there (about edit) lines ≡ false → IsSound lines → IsSound (put_in edit lines)
 unfolding put_in
 put-sound (Set (ModuleIs path)) lines good fit none sound = sound
 put-sound (Set (GoIs text)) lines good fit none sound =
@@ -244,29 +194,28 @@ put-sound (Set (GoIs text)) lines good fit none sound =
     let are : AreArguments arguments = one-are text plain_text in
     let alone = entry-alone (codes "go") arguments (no-feed (λ b. not (b == 10)) refl (codes "go") refl) are in
     after-first-sound is_module (DeclaresGo text) (single (codes "go") arguments) lines
-    (single-fits (codes "go") ForGo arguments (DeclaresGo text) go-named refl (go-says text plain_text) alone)
-    (go-kinds text good (directives Strict (plain_lines lines)) (none-there is_go lines none)) sound
+    (single-fits (codes "go") ForGo arguments (DeclaresGo text) go-named refl (go-says text plain_text) alone) (go-kinds text good, none-from is_go None lines none) sound
 put-sound (Set (RequireAt p)) lines good fit none sound =
-    added-sound verb.Require (pair_words p) (Requires p) lines (addition verb.Require (pair_words p) (Requires p) (pair-are p good) (require-says p good)) (require-kinds p (directives Strict (plain_lines lines)) good fit) sound
-put-sound (Drop t) lines good fit none sound = sound
-put-sound (Add (Exclude p)) lines good fit none sound =
-    added-sound verb.Exclude (pair_words p) (Excludes p) lines (addition verb.Exclude (pair_words p) (Excludes p) (pair-are p good) (exclude-says p good)) (exclude-kinds p (directives Strict (plain_lines lines)) good fit) sound
+    added-sound verb.Require (pair_words p) (Requires p) lines (addition verb.Require (pair_words p) (Requires p) (pair-are p good) (require-says p good)) (require-kinds p good fit, never (do_clash (Requires p)) (held_from None lines) (λ d. refl)) sound
 put-sound (Set (ReplaceWith r)) lines good fit none sound =
     added-sound verb.Replace (replace_words r) (Replaces r) lines (addition verb.Replace (replace_words r) (Replaces r) (replace-are r good.0 good.1) (replace-says r good.0 good.1))
-    (replace-kinds r good.0 good.1 fit (directives Strict (plain_lines lines)) (no-conflicts r (directives Strict (plain_lines lines)) (none-there (is_replaced_by r.0) lines none))) sound
+    (replace-kinds r good.0 good.1 fit, no-conflicts r (held_from None lines) (none-from (is_replaced_by r.0) None lines none)) sound
+put-sound (Add (Exclude p)) lines good fit none sound =
+    added-sound verb.Exclude (pair_words p) (Excludes p) lines (addition verb.Exclude (pair_words p) (Excludes p) (pair-are p good) (exclude-says p good)) (exclude-kinds p good fit, never (do_clash (Excludes p)) (held_from None lines) (λ d. refl)) sound
 put-sound (Add (Retract ends)) lines good fit none sound =
-    added-sound verb.Retract (interval_words ends) (Retracts ends) lines (addition verb.Retract (interval_words ends) (Retracts ends) (ends-are ends good) (ends-says ends good)) (ends-kinds ends (directives Strict (plain_lines lines)) good) sound
+    added-sound verb.Retract (interval_words ends) (Retracts ends) lines (addition verb.Retract (interval_words ends) (Retracts ends) (ends-are ends good) (ends-says ends good)) (ends-kinds ends good, never (do_clash (Retracts ends)) (held_from None lines) (λ d. refl)) sound
+put-sound (Drop t) lines good fit none sound = sound
 
-pass-sound : (edit : Edit) (lines : List (Line Placed)) → IsSoundEdit edit → is_fit edit ≡ true → SoundFrom [] None lines → SoundFrom [] None (edited_by_pass edit lines)
+pass-sound : (edit : Edit) (lines : List (Line Placed)) → IsSoundEdit edit → is_fit edit ≡ true → IsSound lines → IsSound (edited_by_pass edit lines)
 unfolding edited_by_pass
 pass-sound edit lines good fit sound = elim (cases_Bool (is_there (about edit) lines)) [
   | inl there ↦ rw there (changed-sound edit lines good fit sound)
   | inr none ↦ rw none (put-sound edit lines good fit none sound)
 ]
 
-pub edited-sound : (edit : Edit) (lines : List (Line Placed)) → IsSoundEdit edit → is_fit edit ≡ true → SoundFrom [] None lines → SoundFrom [] None (edited edit lines)
-edited-sound edit lines good fit sound = subst (SoundFrom [] None) (sym (edited-is-pass edit lines)) (pass-sound edit lines good fit sound)
+pub edited-sound : (edit : Edit) (lines : List (Line Placed)) → IsSoundEdit edit → is_fit edit ≡ true → IsSound lines → IsSound (edited edit lines)
+edited-sound edit lines good fit sound = subst IsSound (sym (edited-is-pass edit lines)) (pass-sound edit lines good fit sound)
 
 pub edited-document : (edit : Edit) (lines : List (Line Placed)) → IsSoundEdit edit → is_fit edit ≡ true → IsDocument (plain_lines lines) → fault_of Strict (plain_lines lines) ≡ None
     → IsDocument (plain_lines (edited edit lines)) × (fault_of Strict (plain_lines (edited edit lines)) ≡ None)
-edited-document edit lines good fit document none = file-sound (edited edit lines) (edited-sound edit lines good fit (sound-file lines document none))
+edited-document edit lines good fit document none = sound-document (edited edit lines) (edited-sound edit lines good fit (document-sound lines document none))

@@ -1,132 +1,17 @@
--- Lines of which one is rewritten and others are removed stay a document without a fault.
-use Rattle.std.proofs.Common.{◌≡◌, ℕ, ◌||◌, ◌&&◌, not, Bool, true, false, List, [], ◌∷◌, ◌++◌, map, Option, Some, None, is_some, is_none, refl, sym, ap, subst, ◌∙◌, append-nil, append_assoc, inl, inr}
+-- Lines of which one is rewritten and others are removed come from the lines of the file, each in its block.
+use Rattle.std.proofs.Common.{◌≡◌, ℕ, ◌&&◌, Bool, true, false, List, [], ◌∷◌, ◌++◌, map, Option, Some, None, is_some, is_none, refl, sym, ap, subst, ◌∙◌, append-nil, append_assoc, inl, inr}
 use Rattle.std.specs.Prelude.{⊤, ◌⊎◌}
-use Rattle.std.specs.Option.{option_to_list}
-use Rattle.std.specs.List.{list_any}
 use Rattle.std.proofs.lemmas.Bool.{cases_Bool}
-use Rattle.std.proofs.lemmas.List.Folds.{list_any-append}
 use Rattle.gm_syntax.specs.Tokens.{Placed}
 use Rattle.gm_syntax.specs.Document.{Line, Blank, Comment, Open, Close, Entry, IsValidLine}
 use Rattle.gm_syntax.specs.LineViews.{plain}
-use Rattle.gm_file.specs.declared.fault.DirectiveKind.{DirectiveKind}
-use Rattle.gm_file.specs.declared.fault.DirectiveKind.TheVariants.{BadGo, Repeated, ConflictingReplace}
-use Rattle.gm_file.specs.Directives.{Strict, Directive, DeclaresModule, DeclaresGo, Requires, Excludes, Replaces, Retracts, Kept, Item, Silent, Opening, Saying, Verb, block_after_line, directive_in, directive_of, item_at, verb_in}
-use Rattle.gm_file.specs.Faults.{conflicts, directive_kinds, go_in, is_go, is_module, item_kinds, path_kinds, entry_kinds, sides_kinds, unless}
+use Rattle.gm_file.specs.Directives.{Strict, Directive, block_after_line, block_after_lines, item_at, with_blocks_from}
+use Rattle.gm_file.specs.Faults.{is_module, item_kinds}
+use Rattle.gm_file.specs.Pairwise.{do_clash}
 use Rattle.gm_file_edit.specs.Fates.{Fate, is_emptied, kept, remaining, widened_from}
-use Rattle.gm_file_edit.specs.Holding.{directive_at, item_of}
+use Rattle.gm_file_edit.specs.Holding.{directive_at, item_of, passes}
+use Rattle.gm_file_edit.proofs.Pairs.{AreLeft, Leaves, Seat, goes, nothing, renewed, stays}
 use Rattle.gm_file_edit.proofs.Seats.{Going, going-gone, going-opened, left_block}
-use Rattle.gm_file_edit.proofs.Sound.{SoundFrom, both-nil, nil-parts}
-
--- ---- the directives before a line, before and after an edit
-
--- whether the first directive may not come after the second
-abbrev pub clashes : Directive → Directive → Bool
-clashes (DeclaresModule path) e = is_module e
-clashes (DeclaresGo text) e = is_go e
-clashes (Requires p) e = false
-clashes (Excludes p) e = false
-clashes (Replaces r) e = conflicts r e
-clashes (Retracts ends) e = false
-clashes Kept e = false
-
--- Each directive of the first list is in the second or is the new one, and the first declares a module if the second
--- does. Until the new one is there, it clashes with no directive of the first list.
-pub record Near (new : Directive) (there : Bool) (xs ys : List Directive) : Type 0 where
-  pub among : (p : Directive → Bool) → p new ≡ false → list_any p ys ≡ false → list_any p xs ≡ false
-  pub declared : list_any is_module ys ≡ true → list_any is_module xs ≡ true
-  pub clear : there ≡ false → list_any (clashes new) xs ≡ false
-
-or-none : (a b : Bool) → (a || b) ≡ false → (a ≡ false) × (b ≡ false)
-or-none true b e = absurd cc
-or-none false b e = (refl, e)
-
-or-either : (a b : Bool) → a ≡ false → b ≡ false → (a || b) ≡ false
-or-either a b e f = rw (e, f) refl
-
-or-left : (a c b : Bool) → (a ≡ true → c ≡ true) → (a || b) ≡ true → (c || b) ≡ true
-or-left true c b h e = rw (h refl) refl
-or-left false true b h e = refl
-or-left false false b h e = e
-
-or-right : (a b : Bool) → b ≡ false → (a || b) ≡ true → a ≡ true
-or-right true b e f = refl
-or-right false b e f = absurd (cc (e, f))
-
-or-last : (a b : Bool) → b ≡ true → (a || b) ≡ true
-or-last true b e = refl
-or-last false b e = e
-
--- after one more line that stays
-near-both : (new : Directive) (there : Bool) (xs ys zs : List Directive) → list_any (clashes new) zs ≡ false → Near new there xs ys → Near new there (xs ++ zs) (ys ++ zs)
-near-both new there xs ys zs mild u = record {
-  among = λ p n e. let parts = or-none (list_any p ys) (list_any p zs) (sym (list_any-append p ys zs) ∙ e) in list_any-append p xs zs ∙ or-either (list_any p xs) (list_any p zs) (u.among p n parts.0) parts.1;
-  declared = λ e. list_any-append is_module xs zs ∙ or-left (list_any is_module ys) (list_any is_module xs) (list_any is_module zs) u.declared (sym (list_any-append is_module ys zs) ∙ e);
-  clear = λ e. list_any-append (clashes new) xs zs ∙ or-either (list_any (clashes new) xs) (list_any (clashes new) zs) (u.clear e) mild;
-}
-
--- after a line that is removed
-near-skip : (new : Directive) (there : Bool) (xs ys : List Directive) (d : Directive) → is_module d ≡ false → Near new there xs ys → Near new there xs (ys ++ d ∷ [])
-near-skip new there xs ys d e u = record {
-  among = λ p n f. u.among p n (or-none (list_any p ys) (list_any p (d ∷ [])) (sym (list_any-append p ys (d ∷ [])) ∙ f)).0;
-  declared = λ f. u.declared (or-right (list_any is_module ys) (list_any is_module (d ∷ [])) (or-either (is_module d) false e refl) (sym (list_any-append is_module ys (d ∷ [])) ∙ f));
-  clear = u.clear;
-}
-
-or-new : (a b c n : Bool) → (a ≡ true → c ≡ true) → (b ≡ true → n ≡ true) → (a || (b || false)) ≡ true → (c || (n || false)) ≡ true
-or-new true b c n h k e = rw (h refl) refl
-or-new false true c n h k e = rw (k refl) (or-last c (true || false) refl)
-or-new false false c n h k e = absurd cc
-
--- after the line that is rewritten
-near-new : (new : Directive) (xs ys : List Directive) (d : Directive) → (is_module d ≡ true → is_module new ≡ true) → Near new false xs ys → Near new true (xs ++ new ∷ []) (ys ++ d ∷ [])
-near-new new xs ys d keeps u = record {
-  among = λ p n e.
-      list_any-append p xs (new ∷ []) ∙ or-either (list_any p xs) (p new || false) (u.among p n (or-none (list_any p ys) (p d || false) (sym (list_any-append p ys (d ∷ [])) ∙ e)).0) (or-either (p new) false n refl);
-  declared = λ e. list_any-append is_module xs (new ∷ []) ∙ or-new (list_any is_module ys) (is_module d) (list_any is_module xs) (is_module new) u.declared keeps (sym (list_any-append is_module ys (d ∷ [])) ∙ e);
-  clear = λ e. absurd cc;
-}
-
--- ---- the faults of a line after these directives
-
-unless-near : (a b : Bool) (kind : DirectiveKind) → unless (not a) kind ≡ [] → (a ≡ false → b ≡ false) → unless (not b) kind ≡ []
-unless-near true b kind e h = absurd cc
-unless-near false b kind e h = rw (h refl) refl
-
-directive-near : (new : Directive) (there : Bool) (xs ys : List Directive) (d : Directive) → clashes d new ≡ false → Near new there xs ys → directive_kinds Strict ys d ≡ [] → directive_kinds Strict xs d ≡ []
-unfolding directive_kinds
-directive-near new there xs ys (DeclaresModule path) mild u e =
-    let parts = nil-parts (path_kinds path) (unless (not (list_any is_module ys)) Repeated) e in
-    both-nil (path_kinds path) (unless (not (list_any is_module xs)) Repeated) parts.0 (unless-near (list_any is_module ys) (list_any is_module xs) Repeated parts.1 (u.among is_module mild))
-directive-near new there xs ys (DeclaresGo text) mild u e =
-    let parts = nil-parts (unless (not (list_any is_go ys)) Repeated) (unless (is_some (go_in Strict text)) BadGo) e in
-    both-nil (unless (not (list_any is_go xs)) Repeated) (unless (is_some (go_in Strict text)) BadGo) (unless-near (list_any is_go ys) (list_any is_go xs) Repeated parts.0 (u.among is_go mild)) parts.1
-directive-near new there xs ys (Requires p) mild u e = e
-directive-near new there xs ys (Excludes p) mild u e = e
-directive-near new there xs ys (Replaces r) mild u e =
-    let parts = nil-parts (sides_kinds r.0 r.1) (unless (not (list_any (conflicts r) ys)) ConflictingReplace) e in
-    both-nil (sides_kinds r.0 r.1) (unless (not (list_any (conflicts r) xs)) ConflictingReplace) parts.0
-    (unless-near (list_any (conflicts r) ys) (list_any (conflicts r) xs) ConflictingReplace parts.1 (u.among (conflicts r) mild))
-directive-near new there xs ys (Retracts ends) mild u e = e
-directive-near new there xs ys Kept mild u e = e
-
--- neither directive clashes with the other
-abbrev pub AreMild : Directive → Option Directive → Type 0
-AreMild new None = ⊤
-AreMild new (Some d) = (clashes d new ≡ false) × (clashes new d ≡ false)
-
-saying-near : (new : Directive) (there : Bool) (xs ys : List Directive) (verb : Verb) (said : Option Directive) → AreMild new said → Near new there xs ys
-    → entry_kinds Strict ys verb said ≡ [] → entry_kinds Strict xs verb said ≡ []
-saying-near new there xs ys verb None mild u e = e
-saying-near new there xs ys verb (Some d) mild u e = directive-near new there xs ys d mild.0 u e
-
-pub kinds-near : (new : Directive) (there : Bool) (xs ys : List Directive) (item : Item) → AreMild new (directive_in Strict item) → Near new there xs ys → item_kinds Strict ys item ≡ [] → item_kinds Strict xs item ≡ []
-kinds-near new there xs ys Silent mild u e = e
-kinds-near new there xs ys (Opening verb) mild u e = e
-kinds-near new there xs ys (Saying verb arguments) mild u e = saying-near new there xs ys (verb_in Strict verb) (directive_of (verb_in Strict verb) arguments) mild u e
-
-mild-list : (new : Directive) (said : Option Directive) → AreMild new said → list_any (clashes new) (option_to_list said) ≡ false
-mild-list new None mild = refl
-mild-list new (Some d) mild = or-either (clashes new d) false mild.1 refl
 
 -- ---- lines and their fates
 
@@ -142,9 +27,8 @@ fates_in ms = map (λ (m : Marked). m.1) ms
 
 -- an entry that is removed
 pub record IsGone (block : Option Placed) (line : Line Placed) : Type 0 where
-  pub was : Directive
-  pub held : directive_at block line ≡ Some was
-  pub undeclared : is_module was ≡ false
+  pub level : block_after_line block line ≡ block
+  pub other : passes is_module (directive_at block line) ≡ false
 
 -- an entry that is rewritten
 pub record IsMadeNew (new : Directive) (block : Option Placed) (line next : Line Placed) : Type 0 where
@@ -156,7 +40,7 @@ pub record IsMadeNew (new : Directive) (block : Option Placed) (line next : Line
   pub is_entry : next ≡ Entry words suffix
   pub stands : IsValidLine (is_some block) (plain (Entry words suffix))
   pub holds : directive_at block (Entry words suffix) ≡ Some new
-  pub sound : (earlier : List Directive) → list_any (clashes new) earlier ≡ false → item_kinds Strict earlier (item_of block (Entry words suffix)) ≡ []
+  pub alone : item_kinds Strict [] (item_of block (Entry words suffix)) ≡ []
 
 -- Each line stays as is and doesn't clash with the new directive, or is removed, or is rewritten. At most one is
 -- rewritten.
@@ -164,10 +48,10 @@ abbrev pub AreMarked : Directive → Bool → Option Placed → List Marked → 
 AreMarked new there block [] = ⊤
 AreMarked new there block ((line, None) ∷ ms) = IsGone block line × AreMarked new there (block_after_line block line) ms
 AreMarked new there block ((line, Some next) ∷ ms) =
-    ((next ≡ line) × AreMild new (directive_at block line) × AreMarked new there (block_after_line block line) ms)
+    ((next ≡ line) × (passes (do_clash new) (directive_at block line) ≡ false) × AreMarked new there (block_after_line block line) ms)
     ⊎ ((there ≡ false) × IsMadeNew new block line next × AreMarked new true (block_after_line block line) ms)
 
-entry-behind : (block : Option Placed) (line : Line Placed) (d : Directive) → directive_at block line ≡ Some d → block_after_line block line ≡ block
+pub entry-behind : (block : Option Placed) (line : Line Placed) (d : Directive) → directive_at block line ≡ Some d → block_after_line block line ≡ block
 unfolding item_at
 entry-behind block Blank d e = refl
 entry-behind block (Comment text) d e = refl
@@ -175,161 +59,113 @@ entry-behind block (Open verb suffix) d e = absurd cc
 entry-behind block (Close suffix) d e = absurd cc
 entry-behind block (Entry words suffix) d e = refl
 
--- ---- one line after another
+-- ---- one line before others
 
--- lines are sound after these directives, and in this block, if the lines that they were are
-abbrev GoesOn : Directive → List Marked → Option Placed → List (Line Placed) → Type 0
-GoesOn new ms block lines = (there : Bool) (xs ys : List Directive) → Near new there xs ys → SoundFrom ys block (lines_in ms) → AreMarked new there block ms → SoundFrom xs block lines
+-- the lines in one block come from those in another, and they end outside blocks if the others do
+abbrev LeavesFrom : Directive → Bool → Option Placed → List (Line Placed) → Option Placed → List (Line Placed) → Type 0
+LeavesFrom new there after left before old =
+    AreLeft new there (with_blocks_from after left) (with_blocks_from before old) × (block_after_lines before old ≡ None → block_after_lines after left ≡ None)
 
--- a line that stays as is
-stay-next : (new : Directive) (there : Bool) (xs ys : List Directive) (block : Option Placed) (line : Line Placed) (ms : List Marked) (lines : List (Line Placed))
-    → AreMild new (directive_at block line) → Near new there xs ys → SoundFrom ys block (line ∷ lines_in ms) → AreMarked new there (block_after_line block line) ms → GoesOn new ms (block_after_line block line) lines → SoundFrom xs block (line ∷ lines)
-stay-next new there xs ys block line ms lines mild u sound marked next = (
-  sound.0,
-  kinds-near new there xs ys (item_of block line) mild u sound.1,
-  next there (xs ++ option_to_list (directive_at block line)) (ys ++ option_to_list (directive_at block line))
-      (near-both new there xs ys (option_to_list (directive_at block line)) (mild-list new (directive_at block line) mild) u) sound.2 marked,
+-- a line that goes
+gone-before : (new : Directive) (there : Bool) (after block : Option Placed) (line : Line Placed) (left old : List (Line Placed)) → IsGone block line → LeavesFrom new there after left block old → LeavesFrom new there after left block (line ∷ old)
+gone-before new there after block line left old gone is = (
+  subst (λ (b : Option Placed). AreLeft new there (with_blocks_from after left) ((block, line) ∷ with_blocks_from b old)) (sym gone.level) (goes (block, line) gone.other is.0),
+  λ closed. is.1 (subst (λ (b : Option Placed). block_after_lines b old ≡ None) gone.level closed),
 )
 
+-- a line that goes and holds no directive, as it was
+silent-before : (new : Directive) (there : Bool) (after block : Option Placed) (line next : Line Placed) (left old : List (Line Placed)) → next ≡ line → passes is_module (directive_at block next) ≡ false
+    → LeavesFrom new there after left (block_after_line block next) old → LeavesFrom new there after left block (line ∷ old)
+silent-before new there after block line next left old same other is = subst (λ (l : Line Placed). LeavesFrom new there after left block (l ∷ old)) same (goes (block, next) other is.0, is.1)
+
+-- a line that stays as is
+same-before : (new : Directive) (there : Bool) (block : Option Placed) (line : Line Placed) (left old : List (Line Placed)) → passes (do_clash new) (directive_at block line) ≡ false
+    → Leaves new there (block_after_line block line) left old → Leaves new there block (line ∷ left) (line ∷ old)
+same-before new there block line left old mild is = (stays (block, line) mild is.0, is.1)
+
 -- a line that is rewritten
-new-next : (new : Directive) (xs ys : List Directive) (block : Option Placed) (line next : Line Placed) (ms : List Marked) (lines : List (Line Placed))
-    → IsMadeNew new block line next → Near new false xs ys → SoundFrom ys block (line ∷ lines_in ms) → AreMarked new true (block_after_line block line) ms → GoesOn new ms block lines → SoundFrom xs block (next ∷ lines)
-new-next new xs ys block line next ms lines made u sound marked go =
-    let behind = entry-behind block line made.was made.held in
-    let rest : SoundFrom (xs ++ new ∷ []) block lines =
-    go true (xs ++ new ∷ []) (ys ++ made.was ∷ []) (near-new new xs ys made.was made.declared u)
-    (subst (λ (b : Option Placed). SoundFrom (ys ++ made.was ∷ []) b (lines_in ms)) behind (subst (λ (o : Option Directive). SoundFrom (ys ++ option_to_list o) (block_after_line block line) (lines_in ms)) made.held sound.2))
-    (subst (λ (b : Option Placed). AreMarked new true b ms) behind marked) in
-    let whole : SoundFrom xs block (Entry made.words made.suffix ∷ lines) =
-    (made.stands, made.sound xs (u.clear refl), subst (λ (o : Option Directive). SoundFrom (xs ++ option_to_list o) block lines) (sym made.holds) rest) in
-    subst (λ (l : Line Placed). SoundFrom xs block (l ∷ lines)) (sym made.is_entry) whole
+made-before : (new : Directive) (block : Option Placed) (line next : Line Placed) (left old : List (Line Placed)) → IsMadeNew new block line next → Leaves new true block left old → Leaves new false block (next ∷ left) (line ∷ old)
+made-before new block line next left old made is =
+    let level : block_after_line block line ≡ block = entry-behind block line made.was made.held in
+    let keeps : passes is_module (directive_at block line) ≡ true → is_module new ≡ true = λ declares. made.declared (sym (ap (passes is_module) made.held) ∙ declares) in
+    let whole : Leaves new false block (Entry made.words made.suffix ∷ left) (line ∷ old) = (
+      subst (λ (b : Option Placed). AreLeft new false ((block, Entry made.words made.suffix) ∷ with_blocks_from block left) ((block, line) ∷ with_blocks_from b old)) (sym level)
+          (renewed (block, Entry made.words made.suffix) (block, line) (made.stands, made.alone) made.holds keeps is.0),
+      λ closed. is.1 (subst (λ (b : Option Placed). block_after_lines b old ≡ None) level closed),
+    ) in
+    subst (λ (l : Line Placed). Leaves new false block (l ∷ left) (line ∷ old)) (sym made.is_entry) whole
 
--- a line that stays as is or is rewritten
-one-next : (new : Directive) (there : Bool) (xs ys : List Directive) (block : Option Placed) (line next : Line Placed) (ms : List Marked) (lines : List (Line Placed))
-    → ((d : Directive) → directive_at block line ≡ Some d → block_after_line block next ≡ block) → Near new there xs ys → SoundFrom ys block (line ∷ lines_in ms) → AreMarked new there block ((line, Some next) ∷ ms)
-    → GoesOn new ms (block_after_line block next) lines → SoundFrom xs block (next ∷ lines)
-one-next new there xs ys block line next ms lines level u sound (inl same) go =
-    subst (λ (x : Line Placed). SoundFrom xs block (x ∷ lines)) (sym same.0)
-    (stay-next new there xs ys block line ms lines same.1 u sound same.2 (subst (λ (x : Line Placed). GoesOn new ms (block_after_line block x) lines) same.0 go))
-one-next new there xs ys block line next ms lines level u sound (inr made) go =
-    new-next new xs ys block line next ms lines made.1 (subst (λ (t : Bool). Near new t xs ys) made.0 u) sound made.2
-    (subst (λ (b : Option Placed). GoesOn new ms b lines) (level made.1.was made.1.held) go)
+-- marked lines, which others follow
+abbrev GoesAt : Directive → Option Placed → List Marked → List (Line Placed) → Type 0
+GoesAt new block ms left = (there : Bool) → AreMarked new there block ms → Leaves new there block left (lines_in ms)
 
--- after a line that was blank
-blank-next : (ys : List Directive) (block : Option Placed) (line : Line Placed) (lines : List (Line Placed)) → line ≡ Blank → SoundFrom ys block (line ∷ lines) → SoundFrom ys block lines
-unfolding item_at
-blank-next ys block Blank lines e sound = subst (λ (ds : List Directive). SoundFrom ds block lines) (append-nil ys) sound.2
-blank-next ys block (Comment text) lines e sound = absurd cc
-blank-next ys block (Open verb suffix) lines e sound = absurd cc
-blank-next ys block (Close suffix) lines e sound = absurd cc
-blank-next ys block (Entry words suffix) lines e sound = absurd cc
+entry-level : (block : Option Placed) (next : Line Placed) (words : List Placed) (suffix : Option (List ℕ)) → next ≡ Entry words suffix → block_after_line block next ≡ block
+entry-level block next words suffix is = ap (block_after_line block) is
+
+one-first : (new : Directive) (there : Bool) (block : Option Placed) (line next : Line Placed) (ms : List Marked) (left : List (Line Placed)) → GoesAt new (block_after_line block next) ms left
+    → AreMarked new there block ((line, Some next) ∷ ms) → Leaves new there block (next ∷ left) (line ∷ lines_in ms)
+one-first new there block line next ms left go (inl same) =
+    subst (λ (l : Line Placed). Leaves new there block (next ∷ left) (l ∷ lines_in ms)) same.0
+    (same-before new there block next left (lines_in ms) (ap (λ (l : Line Placed). passes (do_clash new) (directive_at block l)) same.0 ∙ same.1)
+    (go there (subst (λ (l : Line Placed). AreMarked new there (block_after_line block l) ms) (sym same.0) same.2)))
+one-first new there block line next ms left go (inr made) =
+    let m = made.1 in
+    let before : block_after_line block line ≡ block = entry-behind block line m.was m.held in
+    let level : block_after_line block next ≡ block = entry-level block next m.words m.suffix m.is_entry in
+    let marks : AreMarked new true (block_after_line block next) ms = subst (λ (b : Option Placed). AreMarked new true b ms) (before ∙ sym level) made.2 in
+    subst (λ (t : Bool). Leaves new t block (next ∷ left) (line ∷ lines_in ms)) (sym made.0)
+    (made-before new block line next left (lines_in ms) m (subst (λ (b : Option Placed). Leaves new true b left (lines_in ms)) level (go true marks)))
+
+-- a bracket or a blank line is never a rewritten line
+line-same : (new : Directive) (there : Bool) (block : Option Placed) (line next : Line Placed) (ms : List Marked) → ((words : List Placed) (suffix : Option (List ℕ)) → next ≡ Entry words suffix → ⊥)
+    → AreMarked new there block ((line, Some next) ∷ ms) → (next ≡ line) × AreMarked new there (block_after_line block next) ms
+line-same new there block line next ms other (inl same) = (same.0, subst (λ (l : Line Placed). AreMarked new there (block_after_line block l) ms) (sym same.0) same.2)
+line-same new there block line next ms other (inr made) = absurd (other made.1.words made.1.suffix made.1.is_entry)
 
 -- ---- the remaining lines of a file
 
--- a bracket is never a rewritten line
-closing-same : (new : Directive) (there : Bool) (block : Option Placed) (line : Line Placed) (suffix : Option (List ℕ)) (ms : List Marked) → AreMarked new there block ((line, Some (Close suffix)) ∷ ms)
-    → (line ≡ Close suffix) × AreMarked new there None ms
-closing-same new there block line suffix ms (inl same) = (sym same.0, subst (λ (x : Line Placed). AreMarked new there (block_after_line block x) ms) (sym same.0) same.2)
-closing-same new there block line suffix ms (inr made) = let wrong : Close suffix ≡ Entry made.1.words made.1.suffix = made.1.is_entry in absurd cc
-
-opening-same : (new : Directive) (there : Bool) (block : Option Placed) (line : Line Placed) (verb : Placed) (suffix : Option (List ℕ)) (ms : List Marked) → AreMarked new there block ((line, Some (Open verb suffix)) ∷ ms)
-    → (line ≡ Open verb suffix) × AreMarked new there (Some verb) ms
-opening-same new there block line verb suffix ms (inl same) = (sym same.0, subst (λ (x : Line Placed). AreMarked new there (block_after_line block x) ms) (sym same.0) same.2)
-opening-same new there block line verb suffix ms (inr made) = let wrong : Open verb suffix ≡ Entry made.1.words made.1.suffix = made.1.is_entry in absurd cc
-
--- a blank line is never a rewritten line
-blank-stays : (new : Directive) (there : Bool) (block : Option Placed) (line : Line Placed) (ms : List Marked) → AreMarked new there block ((line, Some Blank) ∷ ms) → (line ≡ Blank) × AreMarked new there block ms
-blank-stays new there block line ms (inl same) = (sym same.0, subst (λ (x : Line Placed). AreMarked new there (block_after_line block x) ms) (sym same.0) same.2)
-blank-stays new there block line ms (inr made) = let wrong : Blank ≡ Entry made.1.words made.1.suffix = made.1.is_entry in absurd cc
-
--- what remains after a line that says nothing
-silent-open : (ys : List Directive) (block : Option Placed) (line : Line Placed) (verb : Placed) (suffix : Option (List ℕ)) (lines : List (Line Placed)) → line ≡ Open verb suffix → SoundFrom ys block (line ∷ lines) → SoundFrom ys (Some verb) lines
+-- what is left of marked lines comes from them, given the block that is open before them, and whether it goes
+left-lines : (new : Directive) (ms : List Marked) (block : Option Placed) (gone there : Bool) → Going (is_some block && gone) (fates_in ms) → AreMarked new there block ms
+    → LeavesFrom new there (left_block (is_some block && gone) block) (kept (widened_from (is_some block) gone (fates_in ms))) block (lines_in ms)
 unfolding item_at
-silent-open ys None Blank verb suffix lines e sound = absurd cc
-silent-open ys None (Comment text) verb suffix lines e sound = absurd cc
-silent-open ys None (Open other comment) verb suffix lines e sound = subst (λ (ds : List Directive). SoundFrom ds (Some verb) lines) (append-nil ys) (subst (λ (x : Line Placed). SoundFrom (ys ++ option_to_list (directive_at None x)) (block_after_line None x) lines) e sound.2)
-silent-open ys None (Close comment) verb suffix lines e sound = absurd cc
-silent-open ys None (Entry words comment) verb suffix lines e sound = absurd cc
-silent-open ys (Some outer) Blank verb suffix lines e sound = absurd cc
-silent-open ys (Some outer) (Comment text) verb suffix lines e sound = absurd cc
-silent-open ys (Some outer) (Open other comment) verb suffix lines e sound = subst (λ (ds : List Directive). SoundFrom ds (Some verb) lines) (append-nil ys) (subst (λ (x : Line Placed). SoundFrom (ys ++ option_to_list (directive_at (Some outer) x)) (block_after_line (Some outer) x) lines) e sound.2)
-silent-open ys (Some outer) (Close comment) verb suffix lines e sound = absurd cc
-silent-open ys (Some outer) (Entry words comment) verb suffix lines e sound = absurd cc
-
-silent-close : (ys : List Directive) (block : Option Placed) (line : Line Placed) (suffix : Option (List ℕ)) (lines : List (Line Placed)) → line ≡ Close suffix → SoundFrom ys block (line ∷ lines) → SoundFrom ys None lines
-unfolding item_at
-silent-close ys block Blank suffix lines e sound = absurd cc
-silent-close ys block (Comment text) suffix lines e sound = absurd cc
-silent-close ys block (Open other comment) suffix lines e sound = absurd cc
-silent-close ys block (Close comment) suffix lines e sound = subst (λ (ds : List Directive). SoundFrom ds None lines) (append-nil ys) sound.2
-silent-close ys block (Entry words comment) suffix lines e sound = absurd cc
-
-abbrev LeftIs : Directive → List Marked → Type 0
-LeftIs new ms = (block : Option Placed) (goes there : Bool) (xs ys : List Directive) → Near new there xs ys → Going (is_some block && goes) (fates_in ms) → SoundFrom ys block (lines_in ms) → AreMarked new there block ms
-    → SoundFrom xs (left_block (is_some block && goes) block) (kept (widened_from (is_some block) goes (fates_in ms)))
-
-never : (block : Option Placed) (line next : Line Placed) → block_after_line block next ≡ block → (d : Directive) → directive_at block line ≡ Some d → block_after_line block next ≡ block
-never block line next level d held = level
-
-not-entry : (block : Option Placed) (line next : Line Placed) (d : Directive) → next ≡ line → directive_at block line ≡ Some d → block_after_line block next ≡ block
-not-entry block line next d same held = ap (block_after_line block) same ∙ entry-behind block line d held
-
--- an opening or a closing that stays is what it was
-bracket-next : (new : Directive) (there : Bool) (xs ys : List Directive) (block : Option Placed) (line next : Line Placed) (ms : List Marked) (lines : List (Line Placed)) → next ≡ line
-    → Near new there xs ys → SoundFrom ys block (line ∷ lines_in ms) → AreMarked new there block ((line, Some next) ∷ ms) → GoesOn new ms (block_after_line block next) lines → SoundFrom xs block (next ∷ lines)
-bracket-next new there xs ys block line next ms lines same u sound marked go =
-    one-next new there xs ys block line next ms lines (λ d held. not-entry block line next d same held) u sound marked go
-
-left-sound : (new : Directive) (ms : List Marked) → LeftIs new ms
-left-sound new [] None goes there xs ys u going sound marked = (sound.0, u.declared sound.1)
-left-sound new [] (Some verb) goes there xs ys u going sound marked = let wrong : Some verb ≡ None = sound.0 in absurd cc
-left-sound new ((line, None) ∷ ms) block goes there xs ys u going sound marked =
-    let gone = marked.0 in
-    let behind : block_after_line block line ≡ block = entry-behind block line gone.was gone.held in
-    left-sound new ms block goes there xs (ys ++ gone.was ∷ []) (near-skip new there xs ys gone.was gone.undeclared u) (going-gone (is_some block && goes) (fates_in ms) going)
-    (subst (λ (b : Option Placed). SoundFrom (ys ++ gone.was ∷ []) b (lines_in ms)) behind (subst (λ (o : Option Directive). SoundFrom (ys ++ option_to_list o) (block_after_line block line) (lines_in ms)) gone.held sound.2))
-    (subst (λ (b : Option Placed). AreMarked new there b ms) behind marked.1)
-left-sound new ((line, Some Blank) ∷ ms) None false there xs ys u going sound marked =
-    one-next new there xs ys None line Blank ms _ (never None line Blank refl) u sound marked (λ t vs ws v s m. left-sound new ms None false t vs ws v tt s m)
-left-sound new ((line, Some Blank) ∷ ms) None true there xs ys u going sound marked =
-    let is = blank-stays new there None line ms marked in
-    left-sound new ms None false there xs ys u tt (blank-next ys None line (lines_in ms) is.0 sound) is.1
-left-sound new ((line, Some Blank) ∷ ms) (Some verb) false there xs ys u going sound marked =
-    one-next new there xs ys (Some verb) line Blank ms _ (never (Some verb) line Blank refl) u sound marked (λ t vs ws v s m. left-sound new ms (Some verb) false t vs ws v tt s m)
-left-sound new ((line, Some Blank) ∷ ms) (Some verb) true there xs ys u going sound marked =
-    let is = blank-stays new there (Some verb) line ms marked in
-    left-sound new ms (Some verb) true there xs ys u going (blank-next ys (Some verb) line (lines_in ms) is.0 sound) is.1
-left-sound new ((line, Some (Comment text)) ∷ ms) None goes there xs ys u going sound marked =
-    one-next new there xs ys None line (Comment text) ms _ (never None line (Comment text) refl) u sound marked (λ t vs ws v s m. left-sound new ms None false t vs ws v tt s m)
-left-sound new ((line, Some (Comment text)) ∷ ms) (Some verb) false there xs ys u going sound marked =
-    one-next new there xs ys (Some verb) line (Comment text) ms _ (never (Some verb) line (Comment text) refl) u sound marked (λ t vs ws v s m. left-sound new ms (Some verb) false t vs ws v tt s m)
-left-sound new ((line, Some (Comment text)) ∷ ms) (Some verb) true there xs ys u going sound marked = absurd cc
-left-sound new ((line, Some (Open verb suffix)) ∷ ms) None goes there xs ys u going sound marked =
-    let is = opening-same new there None line verb suffix ms marked in
+left-lines new [] None gone there going marked = (nothing there, λ e. e)
+left-lines new [] (Some verb) false there going marked = (nothing there, λ e. e)
+left-lines new [] (Some verb) true there going marked = absurd cc
+left-lines new ((line, None) ∷ ms) block gone there going marked =
+    gone-before new there (left_block (is_some block && gone) block) block line _ (lines_in ms) marked.0
+    (left-lines new ms block gone there (going-gone (is_some block && gone) (fates_in ms) going) (subst (λ (b : Option Placed). AreMarked new there b ms) marked.0.level marked.1))
+left-lines new ((line, Some Blank) ∷ ms) None false there going marked = one-first new there None line Blank ms _ (λ t m. left-lines new ms None false t tt m) marked
+left-lines new ((line, Some Blank) ∷ ms) None true there going marked =
+    let is = line-same new there None line Blank ms (λ words s e. absurd cc) marked in
+    silent-before new there None None line Blank _ (lines_in ms) is.0 refl (left-lines new ms None false there tt is.1)
+left-lines new ((line, Some Blank) ∷ ms) (Some verb) false there going marked = one-first new there (Some verb) line Blank ms _ (λ t m. left-lines new ms (Some verb) false t tt m) marked
+left-lines new ((line, Some Blank) ∷ ms) (Some verb) true there going marked =
+    let is = line-same new there (Some verb) line Blank ms (λ words s e. absurd cc) marked in
+    silent-before new there None (Some verb) line Blank _ (lines_in ms) is.0 refl (left-lines new ms (Some verb) true there going is.1)
+left-lines new ((line, Some (Comment text)) ∷ ms) None gone there going marked = one-first new there None line (Comment text) ms _ (λ t m. left-lines new ms None false t tt m) marked
+left-lines new ((line, Some (Comment text)) ∷ ms) (Some verb) false there going marked = one-first new there (Some verb) line (Comment text) ms _ (λ t m. left-lines new ms (Some verb) false t tt m) marked
+left-lines new ((line, Some (Comment text)) ∷ ms) (Some verb) true there going marked = absurd cc
+left-lines new ((line, Some (Open verb suffix)) ∷ ms) None gone there going marked =
+    let is = line-same new there None line (Open verb suffix) ms (λ words s e. absurd cc) marked in
     elim (cases_Bool (is_emptied false suffix (fates_in ms))) [
-      | inl gone ↦ rw gone (left-sound new ms (Some verb) true there xs ys u (going-opened suffix (fates_in ms) gone) (silent-open ys None line verb suffix (lines_in ms) is.0 sound) is.1)
-      | inr stays ↦
-          rw stays (bracket-next new there xs ys None line (Open verb suffix) ms _ (sym is.0) u sound marked (λ t vs ws v s m. left-sound new ms (Some verb) false t vs ws v tt s m))
+      | inl holds ↦
+          rw holds (silent-before new there None None line (Open verb suffix) _ (lines_in ms) is.0 refl (left-lines new ms (Some verb) true there (going-opened suffix (fates_in ms) holds) is.1))
+      | inr fails ↦ rw fails (one-first new there None line (Open verb suffix) ms _ (λ t m. left-lines new ms (Some verb) false t tt m) marked)
     ]
-left-sound new ((line, Some (Open verb suffix)) ∷ ms) (Some outer) false there xs ys u going sound marked =
-    let is = opening-same new there (Some outer) line verb suffix ms marked in
-    bracket-next new there xs ys (Some outer) line (Open verb suffix) ms _ (sym is.0) u sound marked (λ t vs ws v s m. left-sound new ms (Some verb) false t vs ws v tt s m)
-left-sound new ((line, Some (Open verb suffix)) ∷ ms) (Some outer) true there xs ys u going sound marked = absurd cc
-left-sound new ((line, Some (Close suffix)) ∷ ms) None goes there xs ys u going sound marked =
-    let is = closing-same new there None line suffix ms marked in
-    bracket-next new there xs ys None line (Close suffix) ms _ (sym is.0) u sound marked (λ t vs ws v s m. left-sound new ms None false t vs ws v tt s m)
-left-sound new ((line, Some (Close suffix)) ∷ ms) (Some verb) false there xs ys u going sound marked =
-    let is = closing-same new there (Some verb) line suffix ms marked in
-    bracket-next new there xs ys (Some verb) line (Close suffix) ms _ (sym is.0) u sound marked (λ t vs ws v s m. left-sound new ms None false t vs ws v tt s m)
-left-sound new ((line, Some (Close suffix)) ∷ ms) (Some verb) true there xs ys u going sound marked =
-    let is = closing-same new there (Some verb) line suffix ms marked in
-    left-sound new ms None true there xs ys u tt (silent-close ys (Some verb) line suffix (lines_in ms) is.0 sound) is.1
-left-sound new ((line, Some (Entry words suffix)) ∷ ms) None goes there xs ys u going sound marked =
-    one-next new there xs ys None line (Entry words suffix) ms _ (never None line (Entry words suffix) refl) u sound marked (λ t vs ws v s m. left-sound new ms None false t vs ws v tt s m)
-left-sound new ((line, Some (Entry words suffix)) ∷ ms) (Some verb) false there xs ys u going sound marked =
-    one-next new there xs ys (Some verb) line (Entry words suffix) ms _ (never (Some verb) line (Entry words suffix) refl) u sound marked (λ t vs ws v s m. left-sound new ms (Some verb) false t vs ws v tt s m)
-left-sound new ((line, Some (Entry words suffix)) ∷ ms) (Some verb) true there xs ys u going sound marked = absurd cc
+left-lines new ((line, Some (Open verb suffix)) ∷ ms) (Some outer) false there going marked =
+    one-first new there (Some outer) line (Open verb suffix) ms _ (λ t m. left-lines new ms (Some verb) false t tt m) marked
+left-lines new ((line, Some (Open verb suffix)) ∷ ms) (Some outer) true there going marked = absurd cc
+left-lines new ((line, Some (Close suffix)) ∷ ms) None gone there going marked = one-first new there None line (Close suffix) ms _ (λ t m. left-lines new ms None false t tt m) marked
+left-lines new ((line, Some (Close suffix)) ∷ ms) (Some verb) false there going marked = one-first new there (Some verb) line (Close suffix) ms _ (λ t m. left-lines new ms None false t tt m) marked
+left-lines new ((line, Some (Close suffix)) ∷ ms) (Some verb) true there going marked =
+    let is = line-same new there (Some verb) line (Close suffix) ms (λ words s e. absurd cc) marked in
+    silent-before new there None (Some verb) line (Close suffix) _ (lines_in ms) is.0 refl (left-lines new ms None true there tt is.1)
+left-lines new ((line, Some (Entry words suffix)) ∷ ms) None gone there going marked = one-first new there None line (Entry words suffix) ms _ (λ t m. left-lines new ms None false t tt m) marked
+left-lines new ((line, Some (Entry words suffix)) ∷ ms) (Some verb) false there going marked =
+    one-first new there (Some verb) line (Entry words suffix) ms _ (λ t m. left-lines new ms (Some verb) false t tt m) marked
+left-lines new ((line, Some (Entry words suffix)) ∷ ms) (Some verb) true there going marked = absurd cc
 
-pub remaining-sound : (new : Directive) (ms : List Marked) (there : Bool) → Near new there [] [] → SoundFrom [] None (lines_in ms) → AreMarked new there None ms → SoundFrom [] None (remaining (fates_in ms))
+-- the remaining lines come from the lines of the file
+pub remaining-lines : (new : Directive) (ms : List Marked) (there : Bool) → AreMarked new there None ms → Leaves new there None (remaining (fates_in ms)) (lines_in ms)
 unfolding remaining
-remaining-sound new ms there u sound marked = left-sound new ms None false there [] [] u tt sound marked
+remaining-lines new ms there marked = left-lines new ms None false there tt marked

@@ -1,6 +1,6 @@
 -- The words of new entries, and what an entry says after its arguments are replaced.
 use Rattle.std.proofs.Common.{◌≡◌, ℕ, ◌<◌, true, false, List, [], ◌∷◌, ◌++◌, length, Option, Some, None, is_some, refl, sym, ap, subst, ◌∙◌, arith, inl, inr}
-use Rattle.std.specs.List.{AllByRecursion, list_any}
+use Rattle.std.specs.List.{AllByRecursion}
 use Rattle.std.proofs.lemmas.Bool.{cases_Bool}
 use Rattle.gm_name.specs.ModuleVersion.{ModuleVersion}
 use Rattle.gm_syntax.specs.declared.word.Kind.{Kind}
@@ -17,13 +17,13 @@ use Rattle.gm_syntax.proofs.Spelled.{is_bare_word, bare_word_is}
 use Rattle.gm_syntax.proofs.NewWords.{new_word_no_mark, new_word_stands, value_is}
 use Rattle.gm_syntax.proofs.Changes.{entry_stands, standing_entry}
 use Rattle.gm_file.specs.Values.{argument, argument_of_kind}
-use Rattle.gm_file.specs.Directives.{Strict, pair, Directive, DeclaresModule, DeclaresGo, Requires, Excludes, Replaces, Retracts, Kept, Saying, Verb, ForModule, ForGo, ForRequire, ForExclude, ForReplace, ForRetract, ForNothing, Unknown, directive_in, directive_of, ends_of, is_empty_block, item_at, main_verb, one_of, pair_of, replacing_of}
+use Rattle.gm_file.specs.Directives.{Strict, pair, Directive, Saying, directive_in, directive_of, is_empty_block, item_at, main_verb, one_of, pair_of}
 use Rattle.gm_file.specs.Faults.{directive_kinds, is_module, item_kinds, entry_kinds}
 use Rattle.gm_file_edit.specs.Holding.{directive_at, item_of}
 use Rattle.gm_file_edit.specs.NewWords.{made_word}
 use Rattle.gm_file_edit.specs.Renewing.{with_arguments, with_last}
-use Rattle.gm_file_edit.proofs.Leaving.{IsMadeNew, clashes}
-use Rattle.gm_file_edit.proofs.Parts.{both-are, map-some}
+use Rattle.gm_file_edit.proofs.Leaving.{IsMadeNew}
+use Rattle.gm_file_edit.proofs.Parts.{both-are}
 
 -- ---- new words
 
@@ -130,7 +130,7 @@ new-entry (Some v) verb front old arguments suffix at entry are =
 pub entry-made : (new was : Directive) (block : Option Placed) (line next : Line Placed) (h : IsHeldBy block line was) (arguments : List Placed)
     → directive_at block line ≡ Some was → next ≡ Entry (h.front ++ arguments) h.suffix → IsValidLine (is_some block) (plain line) → AreArguments arguments
     → directive_of (main_verb h.verb) (words_of arguments) ≡ Some new → (is_module was ≡ true → is_module new ≡ true)
-    → ((earlier : List Directive) → list_any (clashes new) earlier ≡ false → directive_kinds Strict earlier new ≡ [])
+    → directive_kinds Strict [] new ≡ []
     → IsMadeNew new block line next
 entry-made new was block line next h arguments held is stands are says declares kinds =
     let item : item_of block (Entry (h.front ++ arguments) h.suffix) ≡ Saying h.verb (words_of arguments) = new-item block h.verb h.front arguments h.suffix h.at are.no_block in
@@ -146,30 +146,8 @@ entry-made new was block line next h arguments held is stands are says declares 
       is_entry = is;
       stands = entry_stands (is_some block) (words_of (h.front ++ arguments)) h.suffix entry;
       holds = ap (directive_in Strict) item ∙ says;
-      sound = λ earlier clear. ap (item_kinds Strict earlier) item ∙ ap (entry_kinds Strict earlier (main_verb h.verb)) says ∙ kinds earlier clear;
+      alone = ap (item_kinds Strict []) item ∙ ap (entry_kinds Strict [] (main_verb h.verb)) says ∙ kinds;
     }
-
--- ---- verbs
-
-abbrev pub verb_for : Directive → Verb
-verb_for (DeclaresModule path) = ForModule
-verb_for (DeclaresGo text) = ForGo
-verb_for (Requires p) = ForRequire
-verb_for (Excludes p) = ForExclude
-verb_for (Replaces r) = ForReplace
-verb_for (Retracts ends) = ForRetract
-verb_for Kept = ForNothing
-
-pub says-verb : (v : Verb) (ws : List Word) (d : Directive) → directive_of v ws ≡ Some d → v ≡ verb_for d
-unfolding directive_of
-says-verb ForModule ws d e = ap verb_for (map-some DeclaresModule (one_of ws) d e).2
-says-verb ForGo ws d e = ap verb_for (map-some DeclaresGo (one_of ws) d e).2
-says-verb ForRequire ws d e = ap verb_for (map-some Requires (pair_of ws) d e).2
-says-verb ForExclude ws d e = ap verb_for (map-some Excludes (pair_of ws) d e).2
-says-verb ForReplace ws d e = ap verb_for (map-some Replaces (replacing_of ws) d e).2
-says-verb ForRetract ws d e = ap verb_for (map-some Retracts (ends_of ws) d e).2
-says-verb ForNothing ws d e = let same : Kept ≡ d = cc in ap verb_for same
-says-verb Unknown ws d e = absurd cc
 
 -- ---- replacing the last word
 

@@ -1,6 +1,6 @@
 -- What the key of a line and its texts say of the line.
 use Rattle.std.proofs.Common.{◌≡◌, ◌==◌, ◌&&◌, ℕ, Bool, true, false, List, [], ◌∷◌, Option, Some, None, is_some, refl, sym, ap, subst, ◌∙◌, inl, inr}
-use Rattle.std.specs.Prelude.{codes, if◌then◌else◌}
+use Rattle.std.specs.Prelude.{codes, if◌then◌else◌, ◌||◌}
 use Rattle.std.specs.Str.{bytes_eq}
 use Rattle.std.proofs.lemmas.Bool.{and_from, cases_Bool}
 use Rattle.std.proofs.lemmas.Bool.Decides.{Decides-eqb}
@@ -10,16 +10,15 @@ use Rattle.gm_syntax.specs.Tokens.{Placed, words_of}
 use Rattle.gm_syntax.specs.Document.{Line, Blank, Comment, Open, Close, Entry, IsValidLine}
 use Rattle.gm_syntax.specs.LineViews.{plain}
 use Rattle.gm_syntax.proofs.Changes.{standing_entry}
-use Rattle.gm_file.specs.Directives.{Directive, Strict, Verb as Kind, block_after_line, directive_of, is_empty_block, item_at, main_verb}
+use Rattle.gm_file.specs.Directives.{Directive, Strict, Verb as Kind, ForModule, ForGo, ForRequire, ForExclude, ForReplace, ForRetract, ForNothing, Unknown, block_after_line, directive_of, is_empty_block, item_at, main_verb, verb_eq}
+use Rattle.gm_file.proofs.DirectiveVerbs.{same-verb}
 use Rattle.gm_file.specs.Faults.{entry_kinds, is_same_version}
 use Rattle.gm_file_edit.specs.About.{about}
-use Rattle.gm_file_edit.specs.Adding.{verb_text}
-use Rattle.gm_file_edit.specs.Edits.{Edit, Set, ModuleIs, GoIs, RequireAt, Drop, AnyRequire, Add, Exclude, AnyExclude, ReplaceWith, AnyReplace, Retract, AnyRetract}
+use Rattle.gm_file_edit.specs.Edits.{Edit, Set, ModuleIs, Drop, AnyRequire, Add, Exclude}
 use Rattle.gm_file_edit.specs.Holding.{IsValidAt}
 use Rattle.gm_file_edit.specs.Holding.{directive_at, item_of, passes}
 use Rattle.gm_file_edit.specs.Keys.{does_tell, does_tell_by, hash_at, hashes_of, is_entry_by, is_entry_in, is_inside, is_same_verb, key_of, may_concern, may_concern_by, may_tell, scope_after, scope_if, scope_of, sought_key, verb_named, verb_outside, verb_sought, words_key}
 use Rattle.gm_file_edit.specs.Subjects.{Any, Both, First, Sought, Subject, is_told, sought_of, subject_inside, subject_outside}
-use Rattle.gm_file_edit.specs.Targets.{is_entry_of, verb_of}
 use Rattle.gm_file_edit.specs.declared.adding.AddedVerb.{AddedVerb}
 use Rattle.gm_file_edit.specs.declared.adding.AddedVerb.TheVariants as added
 use Rattle.gm_file_edit.specs.declared.keys.Scope.{Scope}
@@ -27,7 +26,7 @@ use Rattle.gm_file_edit.specs.declared.keys.Scope.TheVariants as scope
 use Rattle.gm_file_edit.specs.declared.verb.Verb.{Verb}
 use Rattle.gm_file_edit.specs.declared.verb.Verb.TheVariants as verb
 use Rattle.gm_file_edit.proofs.Comments.{blank-holds, close-holds, comment-holds, open-holds}
-use Rattle.gm_file_edit.proofs.Targets.{block-other, loose-other, other-verb, same-verb, verb_about}
+use Rattle.gm_file_edit.proofs.Targets.{added_verb, block-other, is_entry_of, loose-other, other-verb, verb_about, verb_in_file}
 use Rattle.gm_file_edit.proofs.Told.{AreWords, told}
 
 same-text : (a b : List ℕ) → bytes_eq a b ≡ true → a ≡ b
@@ -35,99 +34,57 @@ same-text a b same = (bytes_eq-Decides a b).0 same
 
 -- ---- verbs
 
--- the verb is the one that is spelled like this, and a word that spells no verb is another
-record IsVerbOf (own : Verb) (text : List ℕ) : Type 0 where
-  named : (other : List ℕ) → is_same_verb own (verb_named other) ≡ bytes_eq other text
-  none : is_same_verb own verb.Other ≡ false
+-- a verb of operations, which is none of the others
+abbrev IsOwn : Verb → Type 0
+IsOwn own = is_same_verb own own ≡ true
 
--- a choice of two verbs that are both others
-neither : (own one two : Verb) (b : Bool) → is_same_verb own one ≡ false → is_same_verb own two ≡ false → is_same_verb own (if b then one else two) ≡ false
-neither own one two true first second = first
-neither own one two false first second = second
+own-sought : (edit : Edit) → IsOwn (verb_sought edit)
+own-sought (Set (ModuleIs path)) = refl
+own-sought (Add (Exclude p)) = refl
+own-sought (Drop (AnyRequire path)) = refl
+own-sought edit = refl
 
-not-first : (own one two : Verb) (b : Bool) → b ≡ false → is_same_verb own two ≡ false → is_same_verb own (if b then one else two) ≡ false
-not-first own one two true is second = absurd cc
-not-first own one two false is second = second
+own-added : (v : AddedVerb) → IsOwn (verb.Added v)
+own-added added.Require = refl
+own-added v = refl
 
--- a text that spells the verb, and one that doesn't
-named-by : (own : Verb) (text : List ℕ) → is_same_verb own (verb_named text) ≡ true → ((other : List ℕ) → bytes_eq other text ≡ false → is_same_verb own (verb_named other) ≡ false)
-    → (other : List ℕ) → is_same_verb own (verb_named other) ≡ bytes_eq other text
-named-by own text holds fails other = elim (cases_Bool (bytes_eq other text)) [
-  | inl same ↦ ap (λ (t : List ℕ). is_same_verb own (verb_named t)) (same-text other text same) ∙ holds ∙ sym same
-  | inr differs ↦ fails other differs ∙ sym differs
-]
+same-in-file : (own other : Verb) → IsOwn own → is_same_verb own other ≡ verb_eq (verb_in_file own) (verb_in_file other)
+same-in-file verb.Module verb.Module is = refl
+same-in-file verb.Module (verb.Added added.Require) is = refl
+same-in-file verb.Go verb.Go is = refl
+same-in-file verb.Go (verb.Added added.Require) is = refl
+same-in-file (verb.Added added.Require) (verb.Added added.Require) is = refl
+same-in-file (verb.Added added.Exclude) (verb.Added added.Exclude) is = refl
+same-in-file (verb.Added added.Replace) (verb.Added added.Replace) is = refl
+same-in-file (verb.Added added.Retract) (verb.Added added.Retract) is = refl
+same-in-file verb.Other other is = absurd cc
+same-in-file own other is = refl
 
-module-verb : IsVerbOf verb.Module (codes "module")
-module-verb = record {
-  named = named-by verb.Module (codes "module") refl (λ t off. not-first verb.Module verb.Module _ (bytes_eq t (codes "module")) off
-      (neither verb.Module verb.Go _ (bytes_eq t (codes "go")) refl
-      (neither verb.Module (verb.Added added.Require) _ (bytes_eq t (codes "require")) refl
-      (neither verb.Module (verb.Added added.Exclude) _ (bytes_eq t (codes "exclude")) refl
-      (neither verb.Module (verb.Added added.Replace) _ (bytes_eq t (codes "replace")) refl
-      (neither verb.Module (verb.Added added.Retract) verb.Other (bytes_eq t (codes "retract")) refl refl))))));
-  none = refl;
-}
+own-other : (own : Verb) → IsOwn own → (is_same_verb own verb.Other ≡ false) × (verb_eq (verb_in_file own) ForNothing ≡ false) × (verb_eq (verb_in_file own) Unknown ≡ false)
+own-other verb.Other is = absurd cc
+own-other (verb.Added added.Require) is = (refl, refl, refl)
+own-other own is = (refl, refl, refl)
 
-go-verb : IsVerbOf verb.Go (codes "go")
-go-verb = record {
-  named = named-by verb.Go (codes "go") refl (λ t off. neither verb.Go verb.Module _ (bytes_eq t (codes "module")) refl
-      (not-first verb.Go verb.Go _ (bytes_eq t (codes "go")) off
-      (neither verb.Go (verb.Added added.Require) _ (bytes_eq t (codes "require")) refl
-      (neither verb.Go (verb.Added added.Exclude) _ (bytes_eq t (codes "exclude")) refl
-      (neither verb.Go (verb.Added added.Replace) _ (bytes_eq t (codes "replace")) refl
-      (neither verb.Go (verb.Added added.Retract) verb.Other (bytes_eq t (codes "retract")) refl refl))))));
-  none = refl;
-}
+-- a choice of a verb by a test, in both of its forms
+chosen : (own : Verb) (b : Bool) (one two : Verb) (kind other : Kind) → is_same_verb own one ≡ verb_eq (verb_in_file own) kind → is_same_verb own two ≡ verb_eq (verb_in_file own) other
+    → is_same_verb own (if b then one else two) ≡ verb_eq (verb_in_file own) (if b then kind else other)
+chosen own true one two kind other first second = first
+chosen own false one two kind other first second = second
 
-added-verb : (v : AddedVerb) → IsVerbOf (verb.Added v) (verb_text v)
-added-verb added.Require = record {
-  named = named-by (verb.Added added.Require) (codes "require") refl (λ t off. neither (verb.Added added.Require) verb.Module _ (bytes_eq t (codes "module")) refl
-      (neither (verb.Added added.Require) verb.Go _ (bytes_eq t (codes "go")) refl
-      (not-first (verb.Added added.Require) (verb.Added added.Require) _ (bytes_eq t (codes "require")) off
-      (neither (verb.Added added.Require) (verb.Added added.Exclude) _ (bytes_eq t (codes "exclude")) refl
-      (neither (verb.Added added.Require) (verb.Added added.Replace) _ (bytes_eq t (codes "replace")) refl
-      (neither (verb.Added added.Require) (verb.Added added.Retract) verb.Other (bytes_eq t (codes "retract")) refl refl))))));
-  none = refl;
-}
-added-verb added.Exclude = record {
-  named = named-by (verb.Added added.Exclude) (codes "exclude") refl (λ t off. neither (verb.Added added.Exclude) verb.Module _ (bytes_eq t (codes "module")) refl
-      (neither (verb.Added added.Exclude) verb.Go _ (bytes_eq t (codes "go")) refl
-      (neither (verb.Added added.Exclude) (verb.Added added.Require) _ (bytes_eq t (codes "require")) refl
-      (not-first (verb.Added added.Exclude) (verb.Added added.Exclude) _ (bytes_eq t (codes "exclude")) off
-      (neither (verb.Added added.Exclude) (verb.Added added.Replace) _ (bytes_eq t (codes "replace")) refl
-      (neither (verb.Added added.Exclude) (verb.Added added.Retract) verb.Other (bytes_eq t (codes "retract")) refl refl))))));
-  none = refl;
-}
-added-verb added.Replace = record {
-  named = named-by (verb.Added added.Replace) (codes "replace") refl (λ t off. neither (verb.Added added.Replace) verb.Module _ (bytes_eq t (codes "module")) refl
-      (neither (verb.Added added.Replace) verb.Go _ (bytes_eq t (codes "go")) refl
-      (neither (verb.Added added.Replace) (verb.Added added.Require) _ (bytes_eq t (codes "require")) refl
-      (neither (verb.Added added.Replace) (verb.Added added.Exclude) _ (bytes_eq t (codes "exclude")) refl
-      (not-first (verb.Added added.Replace) (verb.Added added.Replace) _ (bytes_eq t (codes "replace")) off
-      (neither (verb.Added added.Replace) (verb.Added added.Retract) verb.Other (bytes_eq t (codes "retract")) refl refl))))));
-  none = refl;
-}
-added-verb added.Retract = record {
-  named = named-by (verb.Added added.Retract) (codes "retract") refl (λ t off. neither (verb.Added added.Retract) verb.Module _ (bytes_eq t (codes "module")) refl
-      (neither (verb.Added added.Retract) verb.Go _ (bytes_eq t (codes "go")) refl
-      (neither (verb.Added added.Retract) (verb.Added added.Require) _ (bytes_eq t (codes "require")) refl
-      (neither (verb.Added added.Retract) (verb.Added added.Exclude) _ (bytes_eq t (codes "exclude")) refl
-      (neither (verb.Added added.Retract) (verb.Added added.Replace) _ (bytes_eq t (codes "replace")) refl
-      (not-first (verb.Added added.Retract) (verb.Added added.Retract) verb.Other (bytes_eq t (codes "retract")) off refl))))));
-  none = refl;
-}
+unnamed : (own : Verb) (b : Bool) → IsOwn own → is_same_verb own verb.Other ≡ verb_eq (verb_in_file own) (if b then ForNothing else Unknown)
+unnamed own true is = (own-other own is).0 ∙ sym (own-other own is).1
+unnamed own false is = (own-other own is).0 ∙ sym (own-other own is).2
 
-sought-verb : (edit : Edit) → IsVerbOf (verb_sought edit) (verb_of edit)
-sought-verb (Set (ModuleIs path)) = module-verb
-sought-verb (Set (GoIs text)) = go-verb
-sought-verb (Set (RequireAt p)) = added-verb added.Require
-sought-verb (Drop (AnyRequire path)) = added-verb added.Require
-sought-verb (Add (Exclude p)) = added-verb added.Exclude
-sought-verb (Drop (AnyExclude p)) = added-verb added.Exclude
-sought-verb (Set (ReplaceWith r)) = added-verb added.Replace
-sought-verb (Drop (AnyReplace left)) = added-verb added.Replace
-sought-verb (Add (Retract ends)) = added-verb added.Retract
-sought-verb (Drop (AnyRetract ends)) = added-verb added.Retract
+-- a text spells the verb
+named : (own : Verb) (text : List ℕ) → IsOwn own → is_same_verb own (verb_named text) ≡ verb_eq (verb_in_file own) (main_verb text)
+named own text is =
+    chosen own (bytes_eq text (codes "module")) verb.Module _ ForModule _ (same-in-file own verb.Module is)
+    (chosen own (bytes_eq text (codes "go")) verb.Go _ ForGo _ (same-in-file own verb.Go is)
+    (chosen own (bytes_eq text (codes "require")) (verb.Added added.Require) _ ForRequire _ (same-in-file own (verb.Added added.Require) is)
+    (chosen own (bytes_eq text (codes "exclude")) (verb.Added added.Exclude) _ ForExclude _ (same-in-file own (verb.Added added.Exclude) is)
+    (chosen own (bytes_eq text (codes "replace")) (verb.Added added.Replace) _ ForReplace _ (same-in-file own (verb.Added added.Replace) is)
+    (chosen own (bytes_eq text (codes "retract")) (verb.Added added.Retract) verb.Other ForRetract _ (same-in-file own (verb.Added added.Retract) is)
+    (unnamed own (bytes_eq text (codes "toolchain") || bytes_eq text (codes "godebug") || bytes_eq text (codes "tool") || bytes_eq text (codes "ignore")) is))))))
 
 -- ---- scopes
 
@@ -154,66 +111,62 @@ verb-outside word words full = rw full refl
 verb-of-block : (word : Placed) (words : List Placed) → is_empty_block (words_of words) ≡ true → verb_outside (word ∷ words) ≡ verb.Other
 verb-of-block word words empty = rw empty refl
 
-says-nothing : (text : List ℕ) (suffix : Option (List ℕ)) → is_entry_of text (item_of None (Entry [] suffix)) ≡ false
+says-nothing : (kind : Kind) (suffix : Option (List ℕ)) → is_entry_of kind (item_of None (Entry [] suffix)) ≡ false
 unfolding item_at
-says-nothing text suffix = refl
+says-nothing kind suffix = refl
 
-says-block : (text : List ℕ) (word : Placed) (words : List Placed) (suffix : Option (List ℕ)) → is_empty_block (words_of words) ≡ true → is_entry_of text (item_of None (Entry (word ∷ words) suffix)) ≡ false
+says-block : (kind : Kind) (word : Placed) (words : List Placed) (suffix : Option (List ℕ)) → is_empty_block (words_of words) ≡ true → is_entry_of kind (item_of None (Entry (word ∷ words) suffix)) ≡ false
 unfolding item_at
-says-block text word words suffix empty = rw empty refl
+says-block kind word words suffix empty = rw empty refl
 
-says-entry : (text : List ℕ) (word : Placed) (words : List Placed) (suffix : Option (List ℕ)) → is_empty_block (words_of words) ≡ false
-    → is_entry_of text (item_of None (Entry (word ∷ words) suffix)) ≡ bytes_eq word.word.spelling text
+says-entry : (kind : Kind) (word : Placed) (words : List Placed) (suffix : Option (List ℕ)) → is_empty_block (words_of words) ≡ false
+    → is_entry_of kind (item_of None (Entry (word ∷ words) suffix)) ≡ verb_eq kind (main_verb word.word.spelling)
 unfolding item_at
-says-entry text word words suffix full = rw full refl
+says-entry kind word words suffix full = rw full refl
 
-says-in-block : (text : List ℕ) (word : Placed) (words : List Placed) (suffix : Option (List ℕ)) → is_entry_of text (item_of (Some word) (Entry words suffix)) ≡ bytes_eq word.word.spelling text
+says-in-block : (kind : Kind) (word : Placed) (words : List Placed) (suffix : Option (List ℕ)) → is_entry_of kind (item_of (Some word) (Entry words suffix)) ≡ verb_eq kind (main_verb word.word.spelling)
 unfolding item_at
-says-in-block text word words suffix = refl
+says-in-block kind word words suffix = refl
 
-blank-says : (text : List ℕ) (block : Option Placed) → is_entry_of text (item_of block Blank) ≡ false
+blank-says : (kind : Kind) (block : Option Placed) → is_entry_of kind (item_of block Blank) ≡ false
 unfolding item_at
-blank-says text None = refl
-blank-says text (Some word) = refl
+blank-says kind block = refl
 
-comment-says : (text comment : List ℕ) (block : Option Placed) → is_entry_of text (item_of block (Comment comment)) ≡ false
+comment-says : (kind : Kind) (comment : List ℕ) (block : Option Placed) → is_entry_of kind (item_of block (Comment comment)) ≡ false
 unfolding item_at
-comment-says text comment None = refl
-comment-says text comment (Some word) = refl
+comment-says kind comment block = refl
 
-open-says : (text : List ℕ) (opened : Placed) (suffix : Option (List ℕ)) (block : Option Placed) → is_entry_of text (item_of block (Open opened suffix)) ≡ false
+open-says : (kind : Kind) (opened : Placed) (suffix : Option (List ℕ)) (block : Option Placed) → is_entry_of kind (item_of block (Open opened suffix)) ≡ false
 unfolding item_at
-open-says text opened suffix None = refl
-open-says text opened suffix (Some word) = refl
+open-says kind opened suffix block = refl
 
-close-says : (text : List ℕ) (suffix : Option (List ℕ)) (block : Option Placed) → is_entry_of text (item_of block (Close suffix)) ≡ false
+close-says : (kind : Kind) (suffix : Option (List ℕ)) (block : Option Placed) → is_entry_of kind (item_of block (Close suffix)) ≡ false
 unfolding item_at
-close-says text suffix None = refl
-close-says text suffix (Some word) = refl
+close-says kind suffix block = refl
 
 own-block : (own : Verb) (b : Bool) (words : List Placed) → is_entry_by own (scope_if b) (words_key words) ≡ b
 own-block own true words = refl
 own-block own false words = refl
 
 -- the key of a line says whether the line is an entry of the verb
-entry-said : (own : Verb) (text : List ℕ) → IsVerbOf own text → (block : Option Placed) (line : Line Placed) → is_entry_in own (scope_of own block) (key_of line) ≡ is_entry_of text (item_of block line)
-entry-said own text of block Blank = sym (blank-says text block)
-entry-said own text of block (Comment comment) = sym (comment-says text comment block)
-entry-said own text of block (Open opened suffix) = sym (open-says text opened suffix block)
-entry-said own text of block (Close suffix) = sym (close-says text suffix block)
-entry-said own text of (Some word) (Entry words suffix) =
-    own-block own (is_same_verb own (verb_named word.word.spelling)) words ∙ of.named word.word.spelling ∙ sym (says-in-block text word words suffix)
-entry-said own text of None (Entry [] suffix) = of.none ∙ sym (says-nothing text suffix)
-entry-said own text of None (Entry (word ∷ words) suffix) = elim (cases_Bool (is_empty_block (words_of words))) [
-  | inl empty ↦ ap (is_same_verb own) (verb-of-block word words empty) ∙ of.none ∙ sym (says-block text word words suffix empty)
-  | inr full ↦ ap (is_same_verb own) (verb-outside word words full) ∙ of.named word.word.spelling ∙ sym (says-entry text word words suffix full)
+entry-said : (own : Verb) → IsOwn own → (block : Option Placed) (line : Line Placed) → is_entry_in own (scope_of own block) (key_of line) ≡ is_entry_of (verb_in_file own) (item_of block line)
+entry-said own is block Blank = sym (blank-says (verb_in_file own) block)
+entry-said own is block (Comment comment) = sym (comment-says (verb_in_file own) comment block)
+entry-said own is block (Open opened suffix) = sym (open-says (verb_in_file own) opened suffix block)
+entry-said own is block (Close suffix) = sym (close-says (verb_in_file own) suffix block)
+entry-said own is (Some word) (Entry words suffix) =
+    own-block own (is_same_verb own (verb_named word.word.spelling)) words ∙ named own word.word.spelling is ∙ sym (says-in-block (verb_in_file own) word words suffix)
+entry-said own is None (Entry [] suffix) = (own-other own is).0 ∙ sym (says-nothing (verb_in_file own) suffix)
+entry-said own is None (Entry (word ∷ words) suffix) = elim (cases_Bool (is_empty_block (words_of words))) [
+  | inl empty ↦ ap (is_same_verb own) (verb-of-block word words empty) ∙ (own-other own is).0 ∙ sym (says-block (verb_in_file own) word words suffix empty)
+  | inr full ↦ ap (is_same_verb own) (verb-outside word words full) ∙ named own word.word.spelling is ∙ sym (says-entry (verb_in_file own) word words suffix full)
 ]
 
-pub added-said : (v : AddedVerb) (block : Option Placed) (line : Line Placed) → is_entry_in (verb.Added v) (scope_of (verb.Added v) block) (key_of line) ≡ is_entry_of (verb_text v) (item_of block line)
-added-said v block line = entry-said (verb.Added v) (verb_text v) (added-verb v) block line
+pub added-said : (v : AddedVerb) (block : Option Placed) (line : Line Placed) → is_entry_in (verb.Added v) (scope_of (verb.Added v) block) (key_of line) ≡ is_entry_of (added_verb v) (item_of block line)
+added-said v block line = entry-said (verb.Added v) (own-added v) block line
 
-pub module-said : (block : Option Placed) (line : Line Placed) → is_entry_in verb.Module (scope_of verb.Module block) (key_of line) ≡ is_entry_of (codes "module") (item_of block line)
-module-said block line = entry-said verb.Module (codes "module") module-verb block line
+pub module-said : (block : Option Placed) (line : Line Placed) → is_entry_in verb.Module (scope_of verb.Module block) (key_of line) ≡ is_entry_of ForModule (item_of block line)
+module-said block line = entry-said verb.Module refl block line
 
 -- ---- entries that an operation targets
 
@@ -222,25 +175,25 @@ said-told : (edit : Edit) (earlier : List Directive) (words : List Placed) (o : 
 said-told edit earlier words None good is right = absurd cc
 said-told edit earlier words (Some d) good is right = sym (told edit earlier words d good is right)
 
-own-told : (edit : Edit) (earlier : List Directive) (text : List ℕ) (words : List Placed) → AreWords words → bytes_eq text (verb_of edit) ≡ true
+own-told : (edit : Edit) (earlier : List Directive) (text : List ℕ) (words : List Placed) → AreWords words → verb_eq (verb_about edit) (main_verb text) ≡ true
     → entry_kinds Strict earlier (main_verb text) (directive_of (main_verb text) (words_of words)) ≡ []
     → is_told (sought_of edit) (subject_inside words) ≡ passes (about edit) (directive_of (main_verb text) (words_of words))
-own-told edit earlier text words good named right =
-    let own : main_verb text ≡ verb_about edit = ap main_verb (same-text text (verb_of edit) named) ∙ same-verb edit in
+own-told edit earlier text words good spelled right =
+    let own : main_verb text ≡ verb_about edit = sym (same-verb (verb_about edit) (main_verb text) spelled) in
     said-told edit earlier words (directive_of (verb_about edit) (words_of words)) good refl (subst (λ (v : Kind). entry_kinds Strict earlier v (directive_of v (words_of words)) ≡ []) own right)
     ∙ ap (λ (v : Kind). passes (about edit) (directive_of v (words_of words))) (sym own)
 
-target-inside : (edit : Edit) (word : Placed) (words : List Placed) (suffix : Option (List ℕ)) (own : Bool) → bytes_eq word.word.spelling (verb_of edit) ≡ own → AreWords words → IsValidAt (Some word) (Entry words suffix)
+target-inside : (edit : Edit) (word : Placed) (words : List Placed) (suffix : Option (List ℕ)) (own : Bool) → verb_eq (verb_about edit) (main_verb word.word.spelling) ≡ own → AreWords words → IsValidAt (Some word) (Entry words suffix)
     → (is_entry_by (verb_sought edit) (scope_if own) (words_key words) && does_tell_by (sought_of edit) (scope_if own) words) ≡ passes (about edit) (directive_at (Some word) (Entry words suffix))
 unfolding item_at
-target-inside edit word words suffix true named good valid = own-told edit valid.0 word.word.spelling words good named valid.1
-target-inside edit word words suffix false named good valid = sym (block-other edit word words suffix (other-verb edit word.word.spelling (words_of words) named))
+target-inside edit word words suffix true spelled good valid = own-told edit valid.0 word.word.spelling words good spelled valid.1
+target-inside edit word words suffix false spelled good valid = sym (block-other edit word words suffix (other-verb edit word.word.spelling (words_of words) spelled))
 
-target-outside : (edit : Edit) (word : Placed) (words : List Placed) (suffix : Option (List ℕ)) (own : Bool) → bytes_eq word.word.spelling (verb_of edit) ≡ own → is_empty_block (words_of words) ≡ false → AreWords words
+target-outside : (edit : Edit) (word : Placed) (words : List Placed) (suffix : Option (List ℕ)) (own : Bool) → verb_eq (verb_about edit) (main_verb word.word.spelling) ≡ own → is_empty_block (words_of words) ≡ false → AreWords words
     → IsValidAt None (Entry (word ∷ words) suffix) → (own && is_told (sought_of edit) (subject_outside (word ∷ words))) ≡ passes (about edit) (directive_at None (Entry (word ∷ words) suffix))
 unfolding item_at
-target-outside edit word words suffix true named full good valid = rw full (own-told edit valid.0 word.word.spelling words good named (rw full at valid.1))
-target-outside edit word words suffix false named full good valid = sym (loose-other edit word words suffix (other-verb edit word.word.spelling (words_of words) named))
+target-outside edit word words suffix true spelled full good valid = rw full (own-told edit valid.0 word.word.spelling words good spelled (rw full at valid.1))
+target-outside edit word words suffix false spelled full good valid = sym (loose-other edit word words suffix (other-verb edit word.word.spelling (words_of words) spelled))
 
 block-passes : (edit : Edit) (word : Placed) (words : List Placed) (suffix : Option (List ℕ)) → is_empty_block (words_of words) ≡ true → passes (about edit) (directive_at None (Entry (word ∷ words) suffix)) ≡ false
 unfolding item_at
@@ -261,18 +214,18 @@ target-is edit block (Comment text) stands valid = sym (ap (passes (about edit))
 target-is edit block (Open opened suffix) stands valid = sym (ap (passes (about edit)) (open-holds block opened suffix))
 target-is edit block (Close suffix) stands valid = sym (ap (passes (about edit)) (close-holds block suffix))
 target-is edit (Some word) (Entry words suffix) stands valid =
-    ap (λ (b : Bool). is_entry_by (verb_sought edit) (scope_if b) (words_key words) && does_tell_by (sought_of edit) (scope_if b) words) ((sought-verb edit).named word.word.spelling)
-    ∙ target-inside edit word words suffix (bytes_eq word.word.spelling (verb_of edit)) refl (are-words true words suffix stands) valid
+    ap (λ (b : Bool). is_entry_by (verb_sought edit) (scope_if b) (words_key words) && does_tell_by (sought_of edit) (scope_if b) words) (named (verb_sought edit) word.word.spelling (own-sought edit))
+    ∙ target-inside edit word words suffix (verb_eq (verb_about edit) (main_verb word.word.spelling)) refl (are-words true words suffix stands) valid
 target-is edit None (Entry [] suffix) stands valid =
-    ap (λ (b : Bool). b && is_told (sought_of edit) (subject_outside [])) (sought-verb edit).none ∙ sym (nothing-passes edit suffix)
+    ap (λ (b : Bool). b && is_told (sought_of edit) (subject_outside [])) (own-other (verb_sought edit) (own-sought edit)).0 ∙ sym (nothing-passes edit suffix)
 target-is edit None (Entry (word ∷ words) suffix) stands valid = elim (cases_Bool (is_empty_block (words_of words))) [
   | inl empty ↦
       ap (λ (v : Verb). is_same_verb (verb_sought edit) v && is_told (sought_of edit) (subject_outside (word ∷ words))) (verb-of-block word words empty)
-      ∙ ap (λ (b : Bool). b && is_told (sought_of edit) (subject_outside (word ∷ words))) (sought-verb edit).none ∙ sym (block-passes edit word words suffix empty)
+      ∙ ap (λ (b : Bool). b && is_told (sought_of edit) (subject_outside (word ∷ words))) (own-other (verb_sought edit) (own-sought edit)).0 ∙ sym (block-passes edit word words suffix empty)
   | inr full ↦
       ap (λ (v : Verb). is_same_verb (verb_sought edit) v && is_told (sought_of edit) (subject_outside (word ∷ words))) (verb-outside word words full)
-      ∙ ap (λ (b : Bool). b && is_told (sought_of edit) (subject_outside (word ∷ words))) ((sought-verb edit).named word.word.spelling)
-      ∙ target-outside edit word words suffix (bytes_eq word.word.spelling (verb_of edit)) refl full (are-words false (word ∷ words) suffix stands).1 valid
+      ∙ ap (λ (b : Bool). b && is_told (sought_of edit) (subject_outside (word ∷ words))) (named (verb_sought edit) word.word.spelling (own-sought edit))
+      ∙ target-outside edit word words suffix (verb_eq (verb_about edit) (main_verb word.word.spelling)) refl full (are-words false (word ∷ words) suffix stands).1 valid
 ]
 
 -- ---- hashes

@@ -1,12 +1,11 @@
 -- The operations that rewrite an entry.
 use Rattle.std.proofs.Common.{◌≡◌, ℕ, ◌&&◌, not, Bool, true, false, List, [], ◌∷◌, ◌++◌, Option, Some, None, is_some, refl, sym, ap, subst, ◌∙◌, arith, inl, inr}
 use Rattle.std.specs.Option.{option_map}
-use Rattle.std.specs.List.{after_first, before_first, list_any}
+use Rattle.std.specs.List.{after_first, before_first}
 use Rattle.std.specs.Str.{bytes_eq}
-use Rattle.std.proofs.lemmas.Bool.{cases_Bool, true≢false}
+use Rattle.std.proofs.lemmas.Bool.{cases_Bool}
 use Rattle.std.proofs.lemmas.Slice.Eq.{bytes_eq-Decides}
 use Rattle.gm_syntax.specs.declared.word.Punct.TheVariants.{Arrow}
-use Rattle.gm_file.specs.declared.fault.DirectiveKind.TheVariants.{ConflictingReplace}
 use Rattle.gm_syntax.specs.Lines.{HasNoLineFeed}
 use Rattle.gm_syntax.specs.Words.{Word}
 use Rattle.gm_syntax.specs.Bare.{can_be_bare, new_word}
@@ -16,13 +15,12 @@ use Rattle.gm_syntax.specs.Document.{Line, Entry, IsValidLine}
 use Rattle.gm_syntax.specs.LineViews.{plain}
 use Rattle.gm_syntax.proofs.NewWords.{mark_stands}
 use Rattle.gm_syntax.proofs.Changes.{standing_entry}
-use Rattle.gm_name.proofs.NameTests.{and_both}
 use Rattle.gm_name.specs.Names.{does_fit, is_path}
 use Rattle.gm_name.specs.ModuleVersion.{ModuleVersion}
 use Rattle.gm_file.specs.Values.{argument, both}
 use Rattle.gm_file.specs.GoVersions.{strict_go}
-use Rattle.gm_file.specs.Directives.{Strict, Left, Right, Folder, Module, Replacing, Directive, DeclaresModule, DeclaresGo, Requires, Excludes, Replaces, Retracts, Kept, Verb, ForModule, ForGo, ForRequire, ForReplace, directive_of, is_arrow, left_of, main_verb, one_of, pair_of, replacing, right_of}
-use Rattle.gm_file.specs.Faults.{conflicts, directive_kinds, does_left_fit, is_go, is_module, is_same_left, is_same_right, is_same_version, left_version_kinds, path_kinds, pair_kinds, right_path_kinds, right_version_kinds, sides_kinds, unless}
+use Rattle.gm_file.specs.Directives.{Strict, Left, Right, Folder, Module, Replacing, Directive, DeclaresModule, DeclaresGo, Requires, Replaces, Verb, ForModule, ForGo, ForRequire, ForReplace, directive_of, is_arrow, left_of, main_verb, one_of, pair_of, replacing, right_of}
+use Rattle.gm_file.specs.Faults.{directive_kinds, does_left_fit, is_go, is_module, is_same_left, is_same_right, is_same_version, left_version_kinds, path_kinds, pair_kinds, right_path_kinds, right_version_kinds, sides_kinds}
 use Rattle.gm_file_edit.specs.About.{is_covered_by, is_replaced_by, requires_path}
 use Rattle.gm_file_edit.specs.Holding.{directive_at}
 use Rattle.gm_file_edit.specs.NewWords.{left_words_of, made_mark, made_word, replace_words, right_words}
@@ -30,26 +28,24 @@ use Rattle.gm_file_edit.specs.Renewing.{with_arguments, with_last}
 use Rattle.gm_file_edit.specs.Sound.{IsPairOfNames, IsSoundLeft, IsSoundRight, IsSoundVersion}
 use Rattle.gm_file_edit.proofs.Feeds.{byte-feed, go-feed, path-feed, version-feed}
 use Rattle.gm_file_edit.proofs.Folders.{path-no-folder}
-use Rattle.gm_file_edit.proofs.Leaving.{AreMild, IsMadeNew, clashes}
-use Rattle.gm_file_edit.proofs.Made.{AreArguments, IsFront, all-arguments, entry-made, held-by, made-no-mark, made-stands, made-value, one-are, one-argument, one-last, says-verb, two-are, two-arguments, two-last}
+use Rattle.gm_file_edit.proofs.Leaving.{IsMadeNew}
+use Rattle.gm_file_edit.proofs.Made.{AreArguments, IsFront, all-arguments, entry-made, held-by, made-no-mark, made-stands, made-value, one-are, one-argument, one-last, two-are, two-arguments, two-last}
 use Rattle.gm_file_edit.proofs.Parts.{map-some}
-use Rattle.gm_file_edit.proofs.Renews.{IsRenewal, later-marked, module-later}
-use Rattle.gm_file_edit.proofs.Sound.{both-nil}
+use Rattle.gm_file_edit.proofs.Renews.{IsRenewal}
+use Rattle.gm_file_edit.proofs.Targets.{about-module}
+use Rattle.gm_file_edit.specs.Edits.{GoIs, ReplaceWith, RequireAt, Set}
+use Rattle.gm_file.specs.Pairwise.{do_clash}
+use Rattle.gm_file.proofs.DirectiveVerbs.{directive-verb}
+use Rattle.gm_file.proofs.Pairwise.{both-nil, same-left}
 
 -- ---- the module
 
-module-mild : (path : List ℕ) (d : Directive) → is_module d ≡ false → AreMild (DeclaresModule path) (Some d)
-module-mild path (DeclaresModule p) e = absurd cc
-module-mild path (DeclaresGo text) e = (refl, refl)
-module-mild path (Requires p) e = (refl, refl)
-module-mild path (Excludes p) e = (refl, refl)
-module-mild path (Replaces r) e = (refl, refl)
-module-mild path (Retracts ends) e = (refl, refl)
-module-mild path Kept e = (refl, refl)
+module-mild : (path : List ℕ) (d : Directive) → is_module d ≡ false → do_clash (DeclaresModule path) d ≡ false
+module-mild path d e = e
 
-module-kinds : (path : List ℕ) → is_path path ≡ true → (earlier : List Directive) → list_any (clashes (DeclaresModule path)) earlier ≡ false → directive_kinds Strict earlier (DeclaresModule path) ≡ []
+module-kinds : (path : List ℕ) → is_path path ≡ true → directive_kinds Strict [] (DeclaresModule path) ≡ []
 unfolding directive_kinds
-module-kinds path h earlier clear = let none : list_any is_module earlier ≡ false = clear in rw (h, none) refl
+module-kinds path h = rw h refl
 
 module-says : (path : List ℕ) → HasNoLineFeed path → directive_of ForModule (words_of (made_word path ∷ [])) ≡ Some (DeclaresModule path)
 unfolding directive_of
@@ -64,45 +60,25 @@ module-made : (path : List ℕ) → is_path path ≡ true → (block : Option Pl
 module-made path h block line (DeclaresModule old) held e stands =
     let plain = path-feed path h in
     let by = held-by block line (DeclaresModule old) held in
-    let verb : main_verb by.verb ≡ ForModule = says-verb (main_verb by.verb) (words_of by.arguments) (DeclaresModule old) by.says in
+    let verb : main_verb by.verb ≡ ForModule = sym (directive-verb (main_verb by.verb) (words_of by.arguments) (DeclaresModule old) by.says) in
     let one = held-one (words_of by.arguments) old (rw verb at by.says) in
     let a = one-argument by.arguments one.0 one.1 in
     let is : line ≡ Entry (by.front ++ a.0 ∷ []) by.suffix = by.is ∙ ap (λ (ws : List Placed). Entry (by.front ++ ws) by.suffix) a.1 in
     entry-made (DeclaresModule path) (DeclaresModule old) block line (with_last path block line) by (made_word path ∷ []) held
     (one-last block by.verb by.front line by.suffix path a.0 by.at is) stands (one-are path plain) (rw verb (module-says path plain)) (λ e. refl) (module-kinds path h)
-module-made path h block line (DeclaresGo text) held e stands = absurd cc
-module-made path h block line (Requires p) held e stands = absurd cc
-module-made path h block line (Excludes p) held e stands = absurd cc
-module-made path h block line (Replaces r) held e stands = absurd cc
-module-made path h block line (Retracts ends) held e stands = absurd cc
-module-made path h block line Kept held e stands = absurd cc
+module-made path h block line d held e stands = absurd cc
 
 pub module-renewal : (path : List ℕ) → is_path path ≡ true → IsRenewal is_module (DeclaresModule path) (with_last path)
-module-renewal path h = record { mild = module-mild path; made = module-made path h; later = module-later (DeclaresModule path) (module-mild path) }
+module-renewal path h = record { mild = module-mild path; made = module-made path h; other = λ d e. e }
 
 -- ---- the go version
 
-go-mild : (text : List ℕ) (d : Directive) → is_go d ≡ false → AreMild (DeclaresGo text) (Some d)
-go-mild text (DeclaresModule p) e = (refl, refl)
-go-mild text (DeclaresGo t) e = absurd cc
-go-mild text (Requires p) e = (refl, refl)
-go-mild text (Excludes p) e = (refl, refl)
-go-mild text (Replaces r) e = (refl, refl)
-go-mild text (Retracts ends) e = (refl, refl)
-go-mild text Kept e = (refl, refl)
+go-mild : (text : List ℕ) (d : Directive) → is_go d ≡ false → do_clash (DeclaresGo text) d ≡ false
+go-mild text d e = e
 
-go-other : (d : Directive) → is_go d ≡ true → is_module d ≡ false
-go-other (DeclaresModule p) e = absurd cc
-go-other (DeclaresGo t) e = refl
-go-other (Requires p) e = refl
-go-other (Excludes p) e = refl
-go-other (Replaces r) e = refl
-go-other (Retracts ends) e = refl
-go-other Kept e = refl
-
-pub go-kinds : (text : List ℕ) → is_some (strict_go text) ≡ true → (earlier : List Directive) → list_any (clashes (DeclaresGo text)) earlier ≡ false → directive_kinds Strict earlier (DeclaresGo text) ≡ []
+pub go-kinds : (text : List ℕ) → is_some (strict_go text) ≡ true → directive_kinds Strict [] (DeclaresGo text) ≡ []
 unfolding directive_kinds
-go-kinds text h earlier clear = let none : list_any is_go earlier ≡ false = clear in rw (h, none) refl
+go-kinds text h = rw h refl
 
 pub go-says : (text : List ℕ) → HasNoLineFeed text → directive_of ForGo (words_of (made_word text ∷ [])) ≡ Some (DeclaresGo text)
 unfolding directive_of
@@ -117,48 +93,25 @@ go-made : (text : List ℕ) → is_some (strict_go text) ≡ true → (block : O
 go-made text h block line (DeclaresGo old) held e stands =
     let plain = go-feed text h in
     let by = held-by block line (DeclaresGo old) held in
-    let verb : main_verb by.verb ≡ ForGo = says-verb (main_verb by.verb) (words_of by.arguments) (DeclaresGo old) by.says in
+    let verb : main_verb by.verb ≡ ForGo = sym (directive-verb (main_verb by.verb) (words_of by.arguments) (DeclaresGo old) by.says) in
     let one = held-go (words_of by.arguments) old (rw verb at by.says) in
     let a = one-argument by.arguments one.0 one.1 in
     let is : line ≡ Entry (by.front ++ a.0 ∷ []) by.suffix = by.is ∙ ap (λ (ws : List Placed). Entry (by.front ++ ws) by.suffix) a.1 in
     entry-made (DeclaresGo text) (DeclaresGo old) block line (with_last text block line) by (made_word text ∷ []) held
     (one-last block by.verb by.front line by.suffix text a.0 by.at is) stands (one-are text plain) (rw verb (go-says text plain)) (λ w. absurd cc) (go-kinds text h)
-go-made text h block line (DeclaresModule p) held e stands = absurd cc
-go-made text h block line (Requires p) held e stands = absurd cc
-go-made text h block line (Excludes p) held e stands = absurd cc
-go-made text h block line (Replaces r) held e stands = absurd cc
-go-made text h block line (Retracts ends) held e stands = absurd cc
-go-made text h block line Kept held e stands = absurd cc
+go-made text h block line d held e stands = absurd cc
 
 pub go-renewal : (text : List ℕ) → is_some (strict_go text) ≡ true → IsRenewal is_go (DeclaresGo text) (with_last text)
-go-renewal text h = record { mild = go-mild text; made = go-made text h; later = later-marked is_go (DeclaresGo text) (go-mild text) go-other }
+go-renewal text h = record { mild = go-mild text; made = go-made text h; other = λ d e. about-module (Set (GoIs text)) d e }
 
 -- ---- a requirement
-
-require-mild : (p : ModuleVersion) (d : Directive) → AreMild (Requires p) (Some d)
-require-mild p (DeclaresModule q) = (refl, refl)
-require-mild p (DeclaresGo t) = (refl, refl)
-require-mild p (Requires q) = (refl, refl)
-require-mild p (Excludes q) = (refl, refl)
-require-mild p (Replaces r) = (refl, refl)
-require-mild p (Retracts ends) = (refl, refl)
-require-mild p Kept = (refl, refl)
-
-require-other : (path : List ℕ) (d : Directive) → requires_path path d ≡ true → is_module d ≡ false
-require-other path (DeclaresModule p) e = absurd cc
-require-other path (DeclaresGo t) e = refl
-require-other path (Requires p) e = refl
-require-other path (Excludes p) e = refl
-require-other path (Replaces r) e = refl
-require-other path (Retracts ends) e = refl
-require-other path Kept e = refl
 
 pub pair-kinds : (p : ModuleVersion) → IsPairOfNames p → does_fit p.0 p.1 ≡ true → pair_kinds p ≡ []
 pair-kinds p names fit = rw (names.0, names.1, fit) refl
 
-require-kinds : (p : ModuleVersion) → IsPairOfNames p → does_fit p.0 p.1 ≡ true → (earlier : List Directive) → directive_kinds Strict earlier (Requires p) ≡ []
+pub require-kinds : (p : ModuleVersion) → IsPairOfNames p → does_fit p.0 p.1 ≡ true → directive_kinds Strict [] (Requires p) ≡ []
 unfolding directive_kinds
-require-kinds p names fit earlier = pair-kinds p names fit
+require-kinds p names fit = pair-kinds p names fit
 
 require-says : (a : Placed) (p : ModuleVersion) → argument a.word ≡ Some p.0 → HasNoLineFeed p.1 → directive_of ForRequire (words_of (a ∷ made_word p.1 ∷ [])) ≡ Some (Requires p)
 unfolding directive_of
@@ -184,83 +137,35 @@ require-made : (p : ModuleVersion) → IsPairOfNames p → does_fit p.0 p.1 ≡ 
 require-made p names fit block line (Requires q) held e stands =
     let plain_version = version-feed p.1 names.1 in
     let by = held-by block line (Requires q) held in
-    let verb : main_verb by.verb ≡ ForRequire = says-verb (main_verb by.verb) (words_of by.arguments) (Requires q) by.says in
+    let verb : main_verb by.verb ≡ ForRequire = sym (directive-verb (main_verb by.verb) (words_of by.arguments) (Requires q) by.says) in
     let two = two-arguments by.arguments q (held-pair (words_of by.arguments) q (rw verb at by.says)) in
     let same : q.0 ≡ p.0 = (bytes_eq-Decides q.0 p.0).0 e in
     let path : argument two.0.word ≡ Some p.0 = two.3 ∙ ap Some same in
     let is : line ≡ Entry (by.front ++ two.0 ∷ two.1 ∷ []) by.suffix = by.is ∙ ap (λ (ws : List Placed). Entry (by.front ++ ws) by.suffix) two.2 in
     let word : IsWord two.0.word = kept-word block by.verb by.front (two.1 ∷ []) by.suffix two.0 line by.at is stands in
     entry-made (Requires p) (Requires q) block line (with_last p.1 block line) by (two.0 ∷ made_word p.1 ∷ []) held
-    (two-last block by.verb by.front line by.suffix p.1 two.0 two.1 by.at is) stands (two-are two.0 p.0 p.1 word path plain_version) (subst (λ (v : Verb). directive_of v (words_of (two.0 ∷ made_word p.1 ∷ [])) ≡ Some (Requires p)) (sym verb) (require-says two.0 p path plain_version)) (λ w. absurd cc) (λ earlier clear. require-kinds p names fit earlier)
-require-made p names fit block line (DeclaresModule q) held e stands = absurd cc
-require-made p names fit block line (DeclaresGo q) held e stands = absurd cc
-require-made p names fit block line (Excludes q) held e stands = absurd cc
-require-made p names fit block line (Replaces r) held e stands = absurd cc
-require-made p names fit block line (Retracts ends) held e stands = absurd cc
-require-made p names fit block line Kept held e stands = absurd cc
+    (two-last block by.verb by.front line by.suffix p.1 two.0 two.1 by.at is) stands (two-are two.0 p.0 p.1 word path plain_version) (subst (λ (v : Verb). directive_of v (words_of (two.0 ∷ made_word p.1 ∷ [])) ≡ Some (Requires p)) (sym verb) (require-says two.0 p path plain_version)) (λ w. absurd cc) (require-kinds p names fit)
+require-made p names fit block line d held e stands = absurd cc
 
 pub require-renewal : (p : ModuleVersion) → IsPairOfNames p → does_fit p.0 p.1 ≡ true → IsRenewal (requires_path p.0) (Requires p) (with_last p.1)
-require-renewal p names fit = record {
-  mild = λ d e. require-mild p d;
-  made = require-made p names fit;
-  later = later-marked (requires_path p.0) (Requires p) (λ d e. require-mild p d) (require-other p.0);
-}
+require-renewal p names fit = record { mild = λ d e. refl; made = require-made p names fit; other = λ d e. about-module (Set (RequireAt p)) d e }
 
 -- ---- a replace
 
-bytes-same : (a b : List ℕ) → bytes_eq a b ≡ false → bytes_eq b a ≡ false
-bytes-same a b e = elim (cases_Bool (bytes_eq b a)) [
-  | inl holds ↦ absurd (true≢false (sym ((bytes_eq-Decides a b).1 (sym ((bytes_eq-Decides b a).0 holds))) ∙ e))
-  | inr fails ↦ fails
-]
-
 and-none : (a b : Bool) → (a ≡ false) → (a && b) ≡ false
 and-none a b e = rw e refl
-
-version-same : (v w : Option (List ℕ)) → is_same_version v w ≡ true → v ≡ w
-version-same None None e = refl
-version-same None (Some w) e = absurd cc
-version-same (Some v) None e = absurd cc
-version-same (Some v) (Some w) e = ap Some ((bytes_eq-Decides v w).0 e)
 
 pub version-itself : (v : Option (List ℕ)) → is_same_version v v ≡ true
 version-itself None = refl
 version-itself (Some v) = (bytes_eq-Decides v v).1 refl
 
-same-left : (a b : Left) → is_same_left a b ≡ false → is_same_left b a ≡ false
-same-left a b e = elim (cases_Bool (is_same_left b a)) [
-  | inl holds ↦
-      let parts = and_both (bytes_eq b.path a.path) (is_same_version b.version a.version) holds in
-      let path : bytes_eq a.path b.path ≡ true = (bytes_eq-Decides a.path b.path).1 (sym ((bytes_eq-Decides b.path a.path).0 parts.0)) in
-      let version : is_same_version a.version b.version ≡ true = subst (λ (v : Option (List ℕ)). is_same_version v b.version ≡ true) (version-same b.version a.version parts.1) (version-itself b.version) in
-      let whole : is_same_left a b ≡ true = rw (path, version) refl in
-      absurd (true≢false (sym whole ∙ e))
-  | inr fails ↦ fails
-]
-
 not-covered : (left other : Left) (v : Option (List ℕ)) → is_covered_by left v other ≡ false → is_same_left other left ≡ false
 not-covered left other None e = and-none (bytes_eq other.path left.path) (is_same_version other.version left.version) e
 not-covered left other (Some version) e = e
 
-pub replace-mild : (r : Replacing) (d : Directive) → is_replaced_by r.0 d ≡ false → AreMild (Replaces r) (Some d)
-replace-mild r (DeclaresModule p) e = (refl, refl)
-replace-mild r (DeclaresGo t) e = (refl, refl)
-replace-mild r (Requires p) e = (refl, refl)
-replace-mild r (Excludes p) e = (refl, refl)
-replace-mild r (Replaces q) e =
-    let apart : is_same_left q.0 r.0 ≡ false = not-covered r.0 q.0 r.0.version e in
-    (and-none (is_same_left q.0 r.0) (not (is_same_right q.1 r.1)) apart, and-none (is_same_left r.0 q.0) (not (is_same_right r.1 q.1)) (same-left q.0 r.0 apart))
-replace-mild r (Retracts ends) e = (refl, refl)
-replace-mild r Kept e = (refl, refl)
-
-replace-other : (left : Left) (d : Directive) → is_replaced_by left d ≡ true → is_module d ≡ false
-replace-other left (DeclaresModule p) e = absurd cc
-replace-other left (DeclaresGo t) e = refl
-replace-other left (Requires p) e = refl
-replace-other left (Excludes p) e = refl
-replace-other left (Replaces r) e = refl
-replace-other left (Retracts ends) e = refl
-replace-other left Kept e = refl
+pub replace-mild : (r : Replacing) (d : Directive) → is_replaced_by r.0 d ≡ false → do_clash (Replaces r) d ≡ false
+replace-mild r (Replaces q) e = and-none (is_same_left r.0 q.0) (not (is_same_right r.1 q.1)) (same-left r.0 q.0 ∙ not-covered r.0 q.0 r.0.version e)
+replace-mild r d e = refl
 
 right-path-right : (right : Right) → IsSoundRight right → right_path_kinds right ≡ []
 right-path-right (Folder text) s = refl
@@ -279,9 +184,9 @@ sides-right left right l r fit =
     let path : path_kinds left.path ≡ [] = rw l.0 refl in
     rw (path, right-path-right right r, left-version-right left.version l.1, right-version-right right r, fit) refl
 
-pub replace-kinds : (r : Replacing) → IsSoundLeft r.0 → IsSoundRight r.1 → does_left_fit r.0.path r.0.version ≡ true → (earlier : List Directive) → list_any (conflicts r) earlier ≡ false → directive_kinds Strict earlier (Replaces r) ≡ []
+pub replace-kinds : (r : Replacing) → IsSoundLeft r.0 → IsSoundRight r.1 → does_left_fit r.0.path r.0.version ≡ true → directive_kinds Strict [] (Replaces r) ≡ []
 unfolding directive_kinds
-replace-kinds r left right fit earlier clear = both-nil (sides_kinds r.0 r.1) (unless (not (list_any (conflicts r) earlier)) ConflictingReplace) (sides-right r.0 r.1 left right fit) (rw clear refl)
+replace-kinds r left right fit = both-nil (sides_kinds r.0 r.1) [] (sides-right r.0 r.1 left right fit) refl
 
 no-arrow : (value : List ℕ) → is_arrow (new_word value) ≡ false
 no-arrow value = elim (cases_Bool (can_be_bare value)) [ inl e ↦ rw e refl | inr e ↦ rw e refl ]
@@ -352,20 +257,11 @@ replace-made : (r : Replacing) → IsSoundLeft r.0 → IsSoundRight r.1 → does
     → directive_at block line ≡ Some d → is_replaced_by r.0 d ≡ true → IsValidLine (is_some block) (plain line) → IsMadeNew (Replaces r) block line (with_arguments (replace_words r) block line)
 replace-made r left right fit block line (Replaces q) held e stands =
     let by = held-by block line (Replaces q) held in
-    let verb : main_verb by.verb ≡ ForReplace = says-verb (main_verb by.verb) (words_of by.arguments) (Replaces q) by.says in
+    let verb : main_verb by.verb ≡ ForReplace = sym (directive-verb (main_verb by.verb) (words_of by.arguments) (Replaces q) by.says) in
     entry-made (Replaces r) (Replaces q) block line (with_arguments (replace_words r) block line) by (replace_words r) held
     (all-arguments block by.verb by.front by.arguments line by.suffix (replace_words r) by.at by.is) stands (replace-are r left right) (rw verb (replace-says r left right)) (λ w. absurd cc)
-    (λ earlier clear. replace-kinds r left right fit earlier clear)
-replace-made r left right fit block line (DeclaresModule p) held e stands = absurd cc
-replace-made r left right fit block line (DeclaresGo t) held e stands = absurd cc
-replace-made r left right fit block line (Requires p) held e stands = absurd cc
-replace-made r left right fit block line (Excludes p) held e stands = absurd cc
-replace-made r left right fit block line (Retracts ends) held e stands = absurd cc
-replace-made r left right fit block line Kept held e stands = absurd cc
+    (replace-kinds r left right fit)
+replace-made r left right fit block line d held e stands = absurd cc
 
 pub replace-renewal : (r : Replacing) → IsSoundLeft r.0 → IsSoundRight r.1 → does_left_fit r.0.path r.0.version ≡ true → IsRenewal (is_replaced_by r.0) (Replaces r) (with_arguments (replace_words r))
-replace-renewal r left right fit = record {
-  mild = replace-mild r;
-  made = replace-made r left right fit;
-  later = later-marked (is_replaced_by r.0) (Replaces r) (replace-mild r) (replace-other r.0);
-}
+replace-renewal r left right fit = record { mild = replace-mild r; made = replace-made r left right fit; other = λ d e. about-module (Set (ReplaceWith r)) d e }

@@ -23,7 +23,7 @@ use Rattle.gm_file_edit.specs.Edits.{Edit, Set, ModuleIs, GoIs, RequireAt, Drop,
 use Rattle.gm_file_edit.specs.Subjects.{Sought, First, Both, Subject, argument_text, is_mark_kind, is_told, second_text, sought_of, sought_of_left, subject_inside, subject_of, text_by_kind}
 use Rattle.gm_file_edit.proofs.Parts.{both-are, map-some}
 use Rattle.gm_file_edit.proofs.Quotes.{IsPlain, argument-plain, path-plain, version-plain}
-use Rattle.gm_file_edit.proofs.Sound.{nil-parts}
+use Rattle.gm_file.proofs.Pairwise.{nil-parts}
 use Rattle.gm_file_edit.proofs.Targets.{verb_about}
 
 -- ---- the names of a directive without a fault

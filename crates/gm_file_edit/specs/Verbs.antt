@@ -1,19 +1,15 @@
--- The verb of a directive.
-use Rattle.std.specs.Prelude.{Bool, true, false}
-use Rattle.gm_file.specs.Directives.{Directive, Requires, Excludes, Replaces, Retracts}
+-- The directives of a verb.
+use Rattle.std.specs.Prelude.{Bool}
+use Rattle.gm_file.specs.Directives.{Directive, ForRequire, ForExclude, ForReplace, ForRetract, is_of_verb}
 
 abbrev pub is_require : Directive → Bool
-is_require (Requires p) = true
-is_require _ = false
+is_require d = is_of_verb ForRequire d
 
 abbrev pub is_exclude : Directive → Bool
-is_exclude (Excludes p) = true
-is_exclude _ = false
+is_exclude d = is_of_verb ForExclude d
 
 abbrev pub is_replace : Directive → Bool
-is_replace (Replaces r) = true
-is_replace _ = false
+is_replace d = is_of_verb ForReplace d
 
 abbrev pub is_retract : Directive → Bool
-is_retract (Retracts ends) = true
-is_retract _ = false
+is_retract d = is_of_verb ForRetract d

@@ -13,7 +13,7 @@ use Rattle.gm_file.specs.Directives.{Strict, Directive, LineInBlock, block_after
 use Rattle.gm_file.specs.Faults.{Fault, fault_of, go_in, faults, faults_after, first_of, item_kinds, missing_module, with_before_from}
 use Rattle.gm_file.specs.Fields.{as_exclusion, as_go, as_module, as_replacing, as_requirement, first}
 use Rattle.gm_file.proofs.First.{first-none}
-use Rattle.gm_file_edit.proofs.Sound.{nil-map, nil-parts}
+use Rattle.gm_file.proofs.Pairwise.{nil-map, nil-parts}
 use Rattle.gm_graph_cache.specs.Main.{Main}
 
 abbrev pub seat_of : Option Word → Line Word → LineInBlock Word

@@ -17,7 +17,7 @@ use Rattle.gm_file.specs.declared.fault.DirectiveKind.TheVariants.{ConflictingRe
 use Rattle.gm_file.specs.Directives.{Strict, Directive, DeclaresModule, DeclaresGo, Requires, Excludes, Replaces, Retracts, Kept, Folder, Item, Left, Module, Opening, Replacing, Right, Saying, Silent, block_after_line, directive_in, directives, item_at, left_with, left_without, said, verb_in, with_blocks_from}
 use Rattle.gm_file.specs.Faults.{conflicts, directive_kinds, entry_kinds, fault_of, go_in, is_go, is_module, is_same_left, is_same_right, is_same_version, item_kinds, path_kinds, sides_kinds, unless}
 use Rattle.gm_file.specs.Fields.{as_exclusion, as_go, as_module, as_replacing, as_requirement, first, right_for}
-use Rattle.gm_file_edit.proofs.Sound.{nil-parts}
+use Rattle.gm_file.proofs.Pairwise.{nil-parts}
 use Rattle.gm_graph_cache.specs.Main.{is_excluded, is_pruned_by, main_of}
 use Rattle.gm_graph_select.proofs.Ascending.{member_cases, member_head, member_tail, no_member}
 use Rattle.gomod_laws.specs.LineOrderLaws.{HoldTheSame, LinesInAnyOrder}

@@ -1,0 +1,262 @@
+-- Lines that stay, go, are rewritten or are put in: what is left of a document without a fault is one. Since validity
+-- is a matter of single lines and of pairs of directives, no lemma follows the lines in turn.
+use Rattle.std.proofs.Common.{◌≡◌, ◌||◌, Bool, true, false, List, [], ◌∷◌, ◌++◌, Option, Some, None, is_some, refl, sym, ap, subst, ◌∙◌, inl, inr}
+use Rattle.std.specs.Option.{option_map}
+use Rattle.std.specs.List.{AllByRecursion, cons_option, filter_map, list_any}
+use Rattle.std.proofs.lemmas.Bool.{or_cases, or_from, or_left, or_parts, or_right}
+use Rattle.std.proofs.lemmas.List.Elements.{filter_map-append}
+use Rattle.gm_syntax.specs.Words.{Word}
+use Rattle.gm_syntax.specs.Tokens.{Placed}
+use Rattle.gm_syntax.specs.Document.{Line, Blank, Comment, Open, Close, Entry, IsValidLine, IsDocument, inside_after, inside_after_all, start}
+use Rattle.gm_syntax.specs.LineViews.{plain, plain_lines}
+use Rattle.gm_syntax.proofs.Changes.{AreValidFrom, lines_stand, standing_lines}
+use Rattle.gm_file.specs.Directives.{Strict, Directive, LineInBlock, block_after_line, block_after_lines, said, with_blocks, with_blocks_from}
+use Rattle.gm_file.specs.Faults.{fault_of, is_module, item_kinds}
+use Rattle.gm_file.specs.Pairwise.{IsRightAlone, do_clash}
+use Rattle.gm_file.proofs.Pairwise.{AreApart, AreRightApart, IsClear, apart-faultless, apart-with, clash-mutual, faultless-apart}
+use Rattle.gm_file.proofs.Snoc.{with_blocks-snoc}
+use Rattle.gm_file_edit.specs.Holding.{directive_at, item_of, passes, word_of}
+
+abbrev pub Seat : Type 0
+Seat = LineInBlock Placed
+
+-- the directive that a line in its block holds
+abbrev pub held_at : Seat → Option Directive
+held_at seat = directive_at seat.0 seat.1
+
+-- the directives that lines hold
+abbrev pub held_in : List Seat → List Directive
+held_in seats = filter_map held_at seats
+
+-- a line can be in its place and has no fault by itself
+abbrev pub IsRightLine : Seat → Type 0
+IsRightLine seat = IsValidLine (is_some seat.0) (plain seat.1) × (item_kinds Strict [] (item_of seat.0 seat.1) ≡ [])
+
+-- each line is right, no two directives clash, and a module is declared
+pub record AreSound (seats : List Seat) : Type 0 where
+  pub right : AllByRecursion IsRightLine seats
+  pub apart : AreApart (held_in seats)
+  pub declared : list_any is_module (held_in seats) ≡ true
+
+-- the lines are a document without a fault: at their end no block is open
+pub record IsSound (lines : List (Line Placed)) : Type 0 where
+  pub lines_are : AreSound (with_blocks lines)
+  pub closed : block_after_lines None lines ≡ None
+
+-- ---- the same as a document without a fault
+
+plain_seat : Seat → LineInBlock Word
+plain_seat seat = (option_map word_of seat.0, plain seat.1)
+
+pub block-plain : (block : Option Placed) (line : Line Placed) → block_after_line (option_map word_of block) (plain line) ≡ option_map word_of (block_after_line block line)
+block-plain block Blank = refl
+block-plain block (Comment text) = refl
+block-plain block (Open verb suffix) = refl
+block-plain block (Close suffix) = refl
+block-plain block (Entry words suffix) = refl
+
+inside-plain : (inside : Bool) (block : Option Placed) (line : Line Placed) → inside ≡ is_some block → inside_after inside (plain line) ≡ is_some (block_after_line block line)
+inside-plain inside block Blank e = e
+inside-plain inside block (Comment text) e = e
+inside-plain inside block (Open verb suffix) e = refl
+inside-plain inside block (Close suffix) e = refl
+inside-plain inside block (Entry words suffix) e = e
+
+pub no-block : (block : Option Placed) → is_some block ≡ false → block ≡ None
+no-block None e = refl
+no-block (Some t) e = absurd cc
+
+abbrev AreAlone : Option Word → List (Line Word) → Type 0
+AreAlone block lines = AllByRecursion IsRightAlone (with_blocks_from block lines)
+
+pub plain-held : (block : Option Placed) (lines : List (Line Placed)) → filter_map (said Strict) (with_blocks_from (option_map word_of block) (plain_lines lines)) ≡ held_in (with_blocks_from block lines)
+plain-held block [] = refl
+plain-held block (line ∷ lines) =
+    ap (λ (b : Option Word). cons_option (directive_at block line) (filter_map (said Strict) (with_blocks_from b (plain_lines lines)))) (block-plain block line)
+    ∙ ap (cons_option (directive_at block line)) (plain-held (block_after_line block line) lines)
+
+right-lines : (inside : Bool) (block : Option Placed) (lines : List (Line Placed)) → inside ≡ is_some block → AreValidFrom inside (plain_lines lines) → inside_after_all inside (plain_lines lines) ≡ false
+    → AreAlone (option_map word_of block) (plain_lines lines) → AllByRecursion IsRightLine (with_blocks_from block lines) × (block_after_lines block lines ≡ None)
+right-lines inside block [] at stand ends alone = (tt, no-block block (sym at ∙ ends))
+right-lines inside block (line ∷ lines) at stand ends alone =
+    let rest = right-lines (inside_after inside (plain line)) (block_after_line block line) lines (inside-plain inside block line at) stand.1 ends
+    (subst (λ (b : Option Word). AreAlone b (plain_lines lines)) (block-plain block line) alone.1) in
+    (((subst (λ (b : Bool). IsValidLine b (plain line)) at stand.0, alone.0), rest.0), rest.1)
+
+lines-right : (inside : Bool) (block : Option Placed) (lines : List (Line Placed)) → inside ≡ is_some block → AllByRecursion IsRightLine (with_blocks_from block lines) → block_after_lines block lines ≡ None
+    → (AreValidFrom inside (plain_lines lines) × (inside_after_all inside (plain_lines lines) ≡ false)) × AreAlone (option_map word_of block) (plain_lines lines)
+lines-right inside block [] at right closed = ((tt, at ∙ ap is_some closed), tt)
+lines-right inside block (line ∷ lines) at right closed =
+    let rest = lines-right (inside_after inside (plain line)) (block_after_line block line) lines (inside-plain inside block line at) right.1 closed in (
+      ((subst (λ (b : Bool). IsValidLine b (plain line)) (sym at) right.0.0, rest.0.0), rest.0.1),
+      (right.0.1, subst (λ (b : Option Word). AreAlone b (plain_lines lines)) (sym (block-plain block line)) rest.1),
+    )
+
+pub document-sound : (lines : List (Line Placed)) → IsDocument (plain_lines lines) → fault_of Strict (plain_lines lines) ≡ None → IsSound lines
+document-sound lines document none =
+    let are : AreRightApart (with_blocks (plain_lines lines)) = faultless-apart (plain_lines lines) none in
+    let stand = lines_stand start (plain_lines lines) document in
+    let right = right-lines false None lines refl stand.0 stand.1 are.alone in
+    record {
+      lines_are = record {
+        right = right.0;
+        apart = subst AreApart (plain-held None lines) are.apart;
+        declared = sym (ap (list_any is_module) (plain-held None lines)) ∙ are.declared;
+      };
+      closed = right.1;
+    }
+
+pub sound-document : (lines : List (Line Placed)) → IsSound lines → IsDocument (plain_lines lines) × (fault_of Strict (plain_lines lines) ≡ None)
+sound-document lines sound =
+    let are = sound.lines_are in
+    let plain_right = lines-right false None lines refl are.right sound.closed in (
+      standing_lines start (plain_lines lines) plain_right.0.0 plain_right.0.1,
+      apart-faultless (plain_lines lines) (record {
+        alone = plain_right.1;
+        apart = subst AreApart (sym (plain-held None lines)) are.apart;
+        declared = ap (list_any is_module) (plain-held None lines) ∙ are.declared;
+      }),
+    )
+
+-- ---- lines that stay, go, or are rewritten
+
+-- The new lines come from the old ones, each in its block: a line stays, and what it holds doesn't clash with the new
+-- directive; or it goes, and declares no module; or it is rewritten to hold the new directive. Of these there is at
+-- most one, and none if the flag says that the new directive is there already.
+pub data AreLeft (new : Directive) : Bool → List Seat → List Seat → Type 0 where
+  nothing : (there : Bool) → AreLeft new there [] []
+  stays : {there : Bool} {left old : List Seat} (seat : Seat) → passes (do_clash new) (held_at seat) ≡ false → AreLeft new there left old → AreLeft new there (seat ∷ left) (seat ∷ old)
+  goes : {there : Bool} {left old : List Seat} (seat : Seat) → passes is_module (held_at seat) ≡ false → AreLeft new there left old → AreLeft new there left (seat ∷ old)
+  renewed : {left old : List Seat} (next seat : Seat) → IsRightLine next → held_at next ≡ Some new → (passes is_module (held_at seat) ≡ true → is_module new ≡ true) → AreLeft new true left old
+      → AreLeft new false (next ∷ left) (seat ∷ old)
+
+pub any-cons : (p : Directive → Bool) (o : Option Directive) (ds : List Directive) → list_any p (cons_option o ds) ≡ (passes p o || list_any p ds)
+any-cons p None ds = refl
+any-cons p (Some d) ds = refl
+
+-- a test that no old directive passes, nor the new one, none of what is left passes
+left-none : {new : Directive} {there : Bool} {left old : List Seat} (p : Directive → Bool) → p new ≡ false → AreLeft new there left old → list_any p (held_in old) ≡ false → list_any p (held_in left) ≡ false
+left-none p fails (nothing there) none = refl
+left-none {new} p fails (stays {there} {left} {old} seat mild rest) none =
+    let parts = or_parts (passes p (held_at seat)) (list_any p (held_in old)) (sym (any-cons p (held_at seat) (held_in old)) ∙ none) in
+    any-cons p (held_at seat) (held_in left) ∙ or_from (passes p (held_at seat)) (list_any p (held_in left)) parts.0 (left-none p fails rest parts.1)
+left-none {new} p fails (goes {there} {left} {old} seat other rest) none =
+    left-none p fails rest (or_parts (passes p (held_at seat)) (list_any p (held_in old)) (sym (any-cons p (held_at seat) (held_in old)) ∙ none)).1
+left-none {new} p fails (renewed {left} {old} next seat right is keeps rest) none =
+    let parts = or_parts (passes p (held_at seat)) (list_any p (held_in old)) (sym (any-cons p (held_at seat) (held_in old)) ∙ none) in
+    ap (λ (o : Option Directive). list_any p (cons_option o (held_in left))) is ∙ or_from (p new) (list_any p (held_in left)) fails (left-none p fails rest parts.1)
+
+-- what is left clashes with the new directive only if that is there
+left-mild : {new : Directive} {there : Bool} {left old : List Seat} → there ≡ true → AreLeft new there left old → list_any (do_clash new) (held_in left) ≡ false
+left-mild is (nothing there) = refl
+left-mild {new} is (stays {there} {left} {old} seat mild rest) =
+    any-cons (do_clash new) (held_at seat) (held_in left) ∙ or_from (passes (do_clash new) (held_at seat)) (list_any (do_clash new) (held_in left)) mild (left-mild is rest)
+left-mild {new} is (goes {there} {left} {old} seat other rest) = left-mild is rest
+left-mild {new} is (renewed {left} {old} next seat right made keeps rest) = absurd cc
+
+apart-cons : (o : Option Directive) (ds es : List Directive) → AreApart (cons_option o ds) → ((d : Directive) → o ≡ Some d → list_any (do_clash d) ds ≡ false → list_any (do_clash d) es ≡ false) → (AreApart ds → AreApart es)
+    → AreApart (cons_option o es)
+apart-cons None ds es apart one rest = rest apart
+apart-cons (Some d) ds es apart one rest = (one d refl apart.0, rest apart.1)
+
+pub apart-tail : (o : Option Directive) (ds : List Directive) → AreApart (cons_option o ds) → AreApart ds
+apart-tail None ds apart = apart
+apart-tail (Some d) ds apart = apart.1
+
+left-apart : {new : Directive} {there : Bool} {left old : List Seat} → AreLeft new there left old → AreApart (held_in old) → AreApart (held_in left)
+left-apart (nothing there) apart = tt
+left-apart {new} (stays {there} {left} {old} seat mild rest) apart =
+    apart-cons (held_at seat) (held_in old) (held_in left) apart
+    (λ d is none. left-none (do_clash d) (clash-mutual d new ∙ sym (ap (passes (do_clash new)) is) ∙ mild) rest none)
+    (left-apart rest)
+left-apart {new} (goes {there} {left} {old} seat other rest) apart = left-apart rest (apart-tail (held_at seat) (held_in old) apart)
+left-apart {new} (renewed {left} {old} next seat right is keeps rest) apart =
+    subst (λ (o : Option Directive). AreApart (cons_option o (held_in left))) (sym is) (left-mild refl rest, left-apart rest (apart-tail (held_at seat) (held_in old) apart))
+
+left-right : {new : Directive} {there : Bool} {left old : List Seat} → AreLeft new there left old → AllByRecursion IsRightLine old → AllByRecursion IsRightLine left
+left-right (nothing there) right = tt
+left-right {new} (stays {there} {left} {old} seat mild rest) right = (right.0, left-right rest right.1)
+left-right {new} (goes {there} {left} {old} seat other rest) right = left-right rest right.1
+left-right {new} (renewed {left} {old} next seat stands is keeps rest) right = (stands, left-right rest right.1)
+
+left-declared : {new : Directive} {there : Bool} {left old : List Seat} → AreLeft new there left old → list_any is_module (held_in old) ≡ true → list_any is_module (held_in left) ≡ true
+left-declared (nothing there) some = some
+left-declared {new} (stays {there} {left} {old} seat mild rest) some =
+    any-cons is_module (held_at seat) (held_in left)
+    ∙ elim (or_cases (passes is_module (held_at seat)) (list_any is_module (held_in old)) (sym (any-cons is_module (held_at seat) (held_in old)) ∙ some)) [
+      | inl here ↦ or_left (passes is_module (held_at seat)) (list_any is_module (held_in left)) here
+      | inr there ↦ or_right (passes is_module (held_at seat)) (list_any is_module (held_in left)) (left-declared rest there)
+    ]
+left-declared {new} (goes {there} {left} {old} seat other rest) some =
+    elim (or_cases (passes is_module (held_at seat)) (list_any is_module (held_in old)) (sym (any-cons is_module (held_at seat) (held_in old)) ∙ some)) [
+      | inl here ↦ absurd (cc (here, other))
+      | inr there ↦ left-declared rest there
+    ]
+left-declared {new} (renewed {left} {old} next seat right is keeps rest) some =
+    ap (λ (o : Option Directive). list_any is_module (cons_option o (held_in left))) is
+    ∙ elim (or_cases (passes is_module (held_at seat)) (list_any is_module (held_in old)) (sym (any-cons is_module (held_at seat) (held_in old)) ∙ some)) [
+      | inl here ↦ or_left (is_module new) (list_any is_module (held_in left)) (keeps here)
+      | inr there ↦ or_right (is_module new) (list_any is_module (held_in left)) (left-declared rest there)
+    ]
+
+-- the lines in one block come from those in another, and they end outside blocks if the others do
+abbrev pub Leaves : Directive → Bool → Option Placed → List (Line Placed) → List (Line Placed) → Type 0
+Leaves new there block left old =
+    AreLeft new there (with_blocks_from block left) (with_blocks_from block old) × (block_after_lines block old ≡ None → block_after_lines block left ≡ None)
+
+pub left-sound : (new : Directive) (there : Bool) (left old : List (Line Placed)) → Leaves new there None left old → IsSound old → IsSound left
+left-sound new there left old leaves sound =
+    let are = sound.lines_are in
+    record {
+      lines_are = record { right = left-right leaves.0 are.right; apart = left-apart leaves.0 are.apart; declared = left-declared leaves.0 are.declared };
+      closed = leaves.1 sound.closed;
+    }
+
+-- ---- a line that is put in
+
+right-with : (xs : List Seat) (seat : Seat) (ys : List Seat) → IsRightLine seat → AllByRecursion IsRightLine (xs ++ ys) → AllByRecursion IsRightLine (xs ++ seat ∷ ys)
+right-with [] seat ys right all = (right, all)
+right-with (x ∷ xs) seat ys right all = (all.0, right-with xs seat ys right all.1)
+
+any-with : (p : Directive → Bool) (xs : List Directive) (o : Option Directive) (ys : List Directive) → list_any p (xs ++ ys) ≡ true → list_any p (xs ++ cons_option o ys) ≡ true
+any-with p xs None ys some = some
+any-with p [] (Some d) ys some = or_right (p d) (list_any p ys) some
+any-with p (x ∷ xs) (Some d) ys some = elim (or_cases (p x) (list_any p (xs ++ ys)) some) [
+  | inl here ↦ or_left (p x) (list_any p (xs ++ d ∷ ys)) here
+  | inr there ↦ or_right (p x) (list_any p (xs ++ d ∷ ys)) (any-with p xs (Some d) ys there)
+]
+
+apart-put : (xs : List Directive) (o : Option Directive) (ys : List Directive) → IsClear o (xs ++ ys) → AreApart (xs ++ ys) → AreApart (xs ++ cons_option o ys)
+apart-put xs None ys clear apart = apart
+apart-put xs (Some d) ys clear apart = apart-with xs d ys clear apart
+
+-- the lines before and after a place, and one more there
+pub with-line : (xs : List Seat) (seat : Seat) (ys : List Seat) → IsRightLine seat → IsClear (held_at seat) (held_in xs ++ held_in ys) → AreSound (xs ++ ys) → AreSound (xs ++ seat ∷ ys)
+with-line xs seat ys right clear are =
+    let without : held_in (xs ++ ys) ≡ held_in xs ++ held_in ys = filter_map-append held_at xs ys in
+    let whole : held_in xs ++ cons_option (held_at seat) (held_in ys) ≡ held_in (xs ++ seat ∷ ys) = sym (filter_map-append held_at xs (seat ∷ ys)) in
+    record {
+      right = right-with xs seat ys right are.right;
+      apart = subst AreApart whole (apart-put (held_in xs) (held_at seat) (held_in ys) clear (subst AreApart without are.apart));
+      declared = sym (ap (list_any is_module) whole) ∙ any-with is_module (held_in xs) (held_at seat) (held_in ys) (sym (ap (list_any is_module) without) ∙ are.declared);
+    }
+
+pub block-append : (block : Option Placed) (front back : List (Line Placed)) → block_after_lines block (front ++ back) ≡ block_after_lines (block_after_lines block front) back
+block-append block [] back = refl
+block-append block (line ∷ front) back = block-append (block_after_line block line) front back
+
+-- a line that leaves the open block open, between the lines of a file
+pub put-line : (front back : List (Line Placed)) (line : Line Placed) → IsRightLine (block_after_lines None front, line) → block_after_line (block_after_lines None front) line ≡ block_after_lines None front
+    → IsClear (directive_at (block_after_lines None front) line) (held_in (with_blocks (front ++ back))) → IsSound (front ++ back) → IsSound (front ++ line ∷ back)
+put-line front back line right level clear sound =
+    let block : Option Placed = block_after_lines None front in
+    let xs : List Seat = with_blocks_from None front in
+    let ys : List Seat = with_blocks_from block back in
+    let old : with_blocks (front ++ back) ≡ xs ++ ys = with_blocks-snoc None front back in
+    let new : xs ++ (block, line) ∷ ys ≡ with_blocks (front ++ line ∷ back) =
+    ap (λ (b : Option Placed). xs ++ (block, line) ∷ with_blocks_from b back) (sym level) ∙ sym (with_blocks-snoc None front (line ∷ back)) in
+    record {
+      lines_are = subst AreSound new (with-line xs (block, line) ys right
+          (subst (IsClear (directive_at block line)) (ap held_in old ∙ filter_map-append held_at xs ys) clear) (subst AreSound old sound.lines_are));
+      closed = block-append None front (line ∷ back) ∙ ap (λ (b : Option Placed). block_after_lines b back) level ∙ sym (block-append None front back) ∙ sound.closed;
+    }
