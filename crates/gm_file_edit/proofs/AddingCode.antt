@@ -14,10 +14,10 @@ use Rattle.gm_file.specs.Faults.{is_module}
 use Rattle.gm_file_edit.specs.declared.adding.Spot.{Spot}
 use Rattle.gm_file_edit.specs.Adding.{added, added_at, after_first_that, spot_after_first, spot_after_last, spot_after_line, close_len, further, is_of, past_block, insert_at_spot}
 use Rattle.gm_file_edit.specs.NewWords.{entry_at, single}
-use Rattle.gm_file_edit.specs.Fates.{IsValidAt}
+use Rattle.gm_file_edit.specs.Holding.{IsValidAt}
 use Rattle.gm_file_edit.specs.Holding.{directive_at, passes}
 use Rattle.gm_file_edit.specs.Keys.{is_entry_in, is_inside, key_of, scope_after, scope_of}
-use Rattle.gm_file_edit.specs.Packs.{line_at}
+use Rattle.gm_file_edit.specs.Marks.{line_at}
 use Rattle.gm_file_edit.specs.declared.adding.AddedVerb.{AddedVerb}
 use Rattle.gm_file_edit.specs.declared.keys.Key.{Key}
 use Rattle.gm_file_edit.specs.declared.keys.Scope.{Scope}

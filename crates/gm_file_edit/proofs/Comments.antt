@@ -1,10 +1,9 @@
 -- No operation removes, adds or moves a comment line.
-use Rattle.std.proofs.Common.{◌≡◌, ℕ, Bool, true, false, List, [], ◌∷◌, ◌++◌, Option, Some, None, refl, sym, ap, ◌∙◌, append-nil, append_assoc, inl, inr, take, drop}
+use Rattle.std.proofs.Common.{◌≡◌, ℕ, ◌&&◌, Bool, true, false, List, [], ◌∷◌, ◌++◌, Option, Some, None, refl, sym, ap, ◌∙◌, append-nil, inl, inr, take, drop}
 use Rattle.std.specs.Prelude.{filter, codes}
-use Rattle.std.specs.List.{list_all}
 use Rattle.std.proofs.lemmas.Bool.{cases_Bool}
 use Rattle.std.proofs.lemmas.List.{take-append-drop}
-use Rattle.std.proofs.lemmas.List.Elements.{filter-append, filter_map-append}
+use Rattle.std.proofs.lemmas.List.Elements.{filter-append}
 use Rattle.gm_syntax.specs.Tokens.{Placed}
 use Rattle.gm_syntax.specs.Document.{Line, Blank, Comment, Open, Close, Entry}
 use Rattle.gm_file.specs.Directives.{Directive, item_at}
@@ -12,62 +11,39 @@ use Rattle.gm_file_edit.specs.Edits.{Edit, Set, ModuleIs, GoIs, RequireAt, Drop,
 use Rattle.gm_file_edit.specs.About.{about}
 use Rattle.gm_file_edit.specs.Adding.{added, added_at, after_first_that, insert_at_spot, past_block, spot_after_first, spot_after_last}
 use Rattle.gm_file_edit.specs.declared.adding.Spot.{Spot}
-use Rattle.gm_file_edit.specs.Pass.{changed, edited_by_pass, put_in}
+use Rattle.gm_file_edit.specs.Edited.{changed}
+use Rattle.gm_file_edit.specs.Pass.{edited_by_pass, put_in}
 use Rattle.gm_file_edit.specs.EditLaws.{is_comment_line}
-use Rattle.gm_file_edit.specs.Fates.{Begun, Fate, begin, dropped, dropping_from, is_emptied, itself, kept, leaves_nothing, remaining_from, renewed, renewing_from, with_line}
+use Rattle.gm_file_edit.specs.Fates.{Fate, dropped, dropping_from, is_emptied, kept, remaining, renewed, renewing_from, widened_from}
 use Rattle.gm_file_edit.specs.Holding.{directive_at, passes}
 use Rattle.gm_file_edit.specs.NewWords.{entry_at, made_word, single}
 use Rattle.gm_file_edit.specs.Renewing.{made_new}
 use Rattle.gm_file_edit.specs.Searching.{is_there}
-use Rattle.gm_file_edit.proofs.Leaving.{emptied-inner}
 
 abbrev comments : List (Line Placed) → List (Line Placed)
 comments lines = filter is_comment_line lines
 
 -- ---- the lines that remain
 
-kept-append : (xs ys : List Fate) → comments (kept (xs ++ ys)) ≡ comments (kept xs) ++ comments (kept ys)
-kept-append xs ys = ap comments (filter_map-append itself xs ys) ∙ filter-append is_comment_line (kept xs) (kept ys)
-
--- the fate of one more line in an open block
-one-more : (inner : List Fate) (fate : Fate) (fates : List Fate) → comments (kept (inner ++ fate ∷ [])) ++ comments (kept fates) ≡ comments (kept inner) ++ comments (kept (fate ∷ fates))
-one-more inner fate fates = sym (kept-append (inner ++ fate ∷ []) fates) ∙ ap (λ (fs : List Fate). comments (kept fs)) (append_assoc inner (fate ∷ []) fates) ∙ kept-append inner (fate ∷ fates)
-
--- a block in which nothing but blanks stays has no comment line
-no-comments : (inner : List Fate) → list_all leaves_nothing inner ≡ true → comments (kept inner) ≡ []
-no-comments [] e = refl
-no-comments (None ∷ inner) e = no-comments inner e
-no-comments (Some Blank ∷ inner) e = no-comments inner e
-no-comments (Some (Comment text) ∷ inner) e = absurd cc
-no-comments (Some (Open verb suffix) ∷ inner) e = absurd cc
-no-comments (Some (Close suffix) ∷ inner) e = absurd cc
-no-comments (Some (Entry words suffix) ∷ inner) e = absurd cc
-
--- the comment lines of an open block so far
-abbrev begun_comments : Option Begun → List (Line Placed)
-begun_comments None = []
-begun_comments (Some b) = comments (kept b.inner)
-
-remaining-comments : (after : Bool) (begun : Option Begun) (fates : List Fate) → comments (remaining_from after begun fates) ≡ begun_comments begun ++ comments (kept fates)
-unfolding remaining_from
-remaining-comments after None [] = refl
-remaining-comments after (Some b) [] = sym (append-nil (comments (kept b.inner)))
-remaining-comments after None (None ∷ fates) = remaining-comments after None fates
-remaining-comments false None (Some Blank ∷ fates) = remaining-comments false None fates
-remaining-comments true None (Some Blank ∷ fates) = remaining-comments false None fates
-remaining-comments after None (Some (Comment text) ∷ fates) = ap (λ (ls : List (Line Placed)). Comment text ∷ ls) (remaining-comments false None fates)
-remaining-comments after None (Some (Open verb suffix) ∷ fates) = remaining-comments false (Some (begin verb suffix)) fates
-remaining-comments after None (Some (Close suffix) ∷ fates) = remaining-comments false None fates
-remaining-comments after None (Some (Entry words suffix) ∷ fates) = remaining-comments false None fates
-remaining-comments after (Some b) (Some (Close suffix) ∷ fates) = elim (cases_Bool (is_emptied b.suffix b.inner suffix)) [
-  | inl gone ↦ rw gone (remaining-comments true None fates ∙ sym (ap (λ (ls : List (Line Placed)). ls ++ comments (kept fates)) (no-comments b.inner (emptied-inner b.suffix b.inner suffix gone))))
-  | inr stays ↦ rw stays (filter-append is_comment_line (kept b.inner) (Close suffix ∷ remaining_from false None fates) ∙ ap (λ (ls : List (Line Placed)). comments (kept b.inner) ++ ls) (remaining-comments false None fates))
+left-comments : (inside goes : Bool) (fates : List Fate) → comments (kept (widened_from inside goes fates)) ≡ comments (kept fates)
+left-comments inside goes [] = refl
+left-comments inside goes (None ∷ fates) = left-comments inside goes fates
+left-comments inside true (Some Blank ∷ fates) = left-comments inside (inside && true) fates
+left-comments inside false (Some Blank ∷ fates) = left-comments inside (inside && false) fates
+left-comments inside goes (Some (Comment text) ∷ fates) = ap (λ (ls : List (Line Placed)). Comment text ∷ ls) (left-comments inside false fates)
+left-comments inside goes (Some (Open verb suffix) ∷ fates) = elim (cases_Bool (is_emptied inside suffix fates)) [
+  | inl gone ↦ rw gone (left-comments true true fates)
+  | inr stays ↦ rw stays (left-comments true false fates)
 ]
-remaining-comments after (Some b) (None ∷ fates) = remaining-comments after (Some (with_line b None)) fates ∙ one-more b.inner None fates
-remaining-comments after (Some b) (Some Blank ∷ fates) = remaining-comments after (Some (with_line b (Some Blank))) fates ∙ one-more b.inner (Some Blank) fates
-remaining-comments after (Some b) (Some (Comment text) ∷ fates) = remaining-comments after (Some (with_line b (Some (Comment text)))) fates ∙ one-more b.inner (Some (Comment text)) fates
-remaining-comments after (Some b) (Some (Open verb suffix) ∷ fates) = remaining-comments after (Some (with_line b (Some (Open verb suffix)))) fates ∙ one-more b.inner (Some (Open verb suffix)) fates
-remaining-comments after (Some b) (Some (Entry words suffix) ∷ fates) = remaining-comments after (Some (with_line b (Some (Entry words suffix)))) fates ∙ one-more b.inner (Some (Entry words suffix)) fates
+left-comments inside goes (Some (Close suffix) ∷ fates) = elim (cases_Bool (inside && goes)) [
+  | inl gone ↦ rw gone (left-comments false true fates)
+  | inr stays ↦ rw stays (left-comments false false fates)
+]
+left-comments inside goes (Some (Entry words suffix) ∷ fates) = left-comments inside false fates
+
+remaining-comments : (fates : List Fate) → comments (remaining fates) ≡ comments (kept fates)
+unfolding remaining
+remaining-comments fates = left-comments false false fates
 
 -- ---- the lines without the targeted entries
 
@@ -118,10 +94,10 @@ renewing-comments test new rewrites block (Entry words suffix ∷ lines) = elim 
 ]
 
 dropped-comments : (test : Directive → Bool) (lines : List (Line Placed)) → comments (dropped test lines) ≡ comments lines
-dropped-comments test lines = remaining-comments false None (dropping_from test None lines) ∙ dropping-comments test None lines
+dropped-comments test lines = remaining-comments (dropping_from test None lines) ∙ dropping-comments test None lines
 
 renewed-comments : (test : Directive → Bool) (new : Option Placed → Line Placed → Line Placed) → RewritesEntries new → (lines : List (Line Placed)) → comments (renewed test new lines) ≡ comments lines
-renewed-comments test new rewrites lines = remaining-comments false None (renewing_from test new None lines) ∙ renewing-comments test new rewrites None lines
+renewed-comments test new rewrites lines = remaining-comments (renewing_from test new None lines) ∙ renewing-comments test new rewrites None lines
 
 -- ---- the lines with new entries
 

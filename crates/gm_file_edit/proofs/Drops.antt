@@ -1,16 +1,20 @@
 -- The loop that drops entries.
-use Rattle.std.proofs.Common.{◌≡◌, Bool, true, false, List, [], ◌∷◌, Option, Some, None, refl, sym, ap, subst, ◌∙◌}
+use Rattle.std.proofs.Common.{◌≡◌, if◌then◌else◌, Bool, true, false, List, [], ◌∷◌, Option, Some, None, refl, sym, ap, subst, ◌∙◌}
 use Rattle.gm_syntax.specs.Tokens.{Placed}
 use Rattle.gm_syntax.specs.Document.{Line}
 use Rattle.gm_file.specs.Directives.{Directive, Kept, block_after_line}
-use Rattle.gm_file_edit.specs.Fates.{Fate, dropped, dropping_from, fate_of, remaining_from}
+use Rattle.gm_file_edit.specs.Fates.{Fate, dropped, dropping_from, remaining}
 use Rattle.gm_file_edit.specs.Holding.{directive_at, passes}
 use Rattle.gm_file_edit.proofs.Pairs.{IsSound, left-sound}
-use Rattle.gm_file_edit.proofs.Leaving.{AreMarked, IsGone, Marked, entry-behind, fates_in, left-lines, lines_in}
+use Rattle.gm_file_edit.proofs.Leaving.{AreMarked, IsGone, Marked, entry-behind, fates_in, lines_in, remaining-lines}
 use Rattle.gm_file.specs.Faults.{is_module}
 use Rattle.gm_file.specs.Pairwise.{do_clash}
 use Rattle.std.proofs.Common.{inl, inr}
 use Rattle.std.proofs.lemmas.Bool.{cases_Bool}
+
+-- the fate of a line that is removed if it holds a directive that passes the test
+abbrev pub fate_of : (Directive → Bool) → Option Placed → Line Placed → Fate
+fate_of test block line = if passes test (directive_at block line) then None else Some line
 
 -- each line with its fate
 abbrev pub dropping : (Directive → Bool) → Option Placed → List (Line Placed) → List Marked
@@ -48,5 +52,5 @@ dropping-marked test other block (line ∷ lines) = elim (cases_Bool (passes tes
 pub dropped-sound : (test : Directive → Bool) → ((d : Directive) → test d ≡ true → is_module d ≡ false) → (lines : List (Line Placed)) → IsSound lines → IsSound (dropped test lines)
 dropped-sound test other lines sound =
     let marks : List Marked = dropping test None lines in
-    let left = left-sound Kept true (remaining_from false None (fates_in marks)) (lines_in marks) (left-lines Kept marks false true None (dropping-marked test other None lines)) in
-    subst (λ (fates : List Fate). IsSound (remaining_from false None fates)) (dropping-fates test None lines) (left (subst IsSound (sym (dropping-lines test None lines)) sound))
+    let left = left-sound Kept true (remaining (fates_in marks)) (lines_in marks) (remaining-lines Kept marks true (dropping-marked test other None lines)) in
+    subst (λ (fates : List Fate). IsSound (remaining fates)) (dropping-fates test None lines) (left (subst IsSound (sym (dropping-lines test None lines)) sound))

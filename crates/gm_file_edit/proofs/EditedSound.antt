@@ -27,8 +27,8 @@ use Rattle.gm_file_edit.specs.declared.adding.AddedVerb.TheVariants as verb
 use Rattle.gm_file_edit.specs.Edits.{Edit, Target, Set, ModuleIs, GoIs, RequireAt, Drop, AnyRequire, Add, Exclude, ReplaceWith, Retract}
 use Rattle.gm_file_edit.specs.About.{about, is_replaced_by, requires_path}
 use Rattle.gm_file_edit.specs.Adding.{verb_text}
-use Rattle.gm_file_edit.specs.Pass.{changed, edited_by_pass, put_in}
-use Rattle.gm_file_edit.specs.Edited.{edited}
+use Rattle.gm_file_edit.specs.Pass.{edited_by_pass, put_in}
+use Rattle.gm_file_edit.specs.Edited.{changed, edited}
 use Rattle.gm_file_edit.specs.Kinds.{is_fit}
 use Rattle.gm_file_edit.specs.Fates.{renewed}
 use Rattle.gm_file_edit.specs.Holding.{directive_at, passes}

@@ -12,9 +12,8 @@ use Rattle.gm_file_edit.specs.About.{about}
 use Rattle.gm_file_edit.specs.Adding.{after_first_that, close_len, insert_at_spot, past_block, spot_after_first}
 use Rattle.gm_file_edit.specs.Edited.{edited, new_go}
 use Rattle.gm_file_edit.specs.Pass.{edited_by_pass, put_in}
-use Rattle.gm_file_edit.specs.EditLaws.{is_loose}
 use Rattle.gm_file_edit.specs.Holding.{directive_at, passes}
-use Rattle.gm_file_edit.specs.GoPlace.{GoFollowsModule, GoFollowsModuleBlock, IsFirstModule}
+use Rattle.gm_file_edit.specs.GoPlace.{GoFollowsModule, GoFollowsModuleBlock, IsFirstModule, is_loose}
 use Rattle.gm_file_edit.specs.Laws.{directives_of}
 use Rattle.gm_file_edit.specs.Searching.{is_there, is_there_from}
 use Rattle.gm_file_edit.proofs.Idle.{there-said}

@@ -8,8 +8,8 @@ use Rattle.gm_syntax.specs.Document.{Line}
 use Rattle.gm_file.specs.Directives.{Directive}
 use Rattle.gm_file_edit.specs.Edits.{Edit, Set, Drop, Add}
 use Rattle.gm_file_edit.specs.About.{about}
-use Rattle.gm_file_edit.specs.Pass.{changed, edited_by_pass, put_in}
-use Rattle.gm_file_edit.specs.Edited.{edited}
+use Rattle.gm_file_edit.specs.Pass.{edited_by_pass, put_in}
+use Rattle.gm_file_edit.specs.Edited.{changed, edited}
 use Rattle.gm_file_edit.specs.EditLaws.{IdleAdditionChangesNothing, IdleDropChangesNothing, SecondAdditionChangesNothing, SecondDropChangesNothing}
 use Rattle.gm_file_edit.specs.Laws.{directives_of}
 use Rattle.gm_file_edit.specs.Kinds.{added_by, is_drop}

@@ -25,8 +25,6 @@ pub mod SaidAfter
 pub mod Idle
 pub mod Comments
 pub mod Untouched
-pub mod Sections
-pub mod SectionRenewals
 pub mod SectionAdditions
 pub mod BySections
 pub mod Additions

@@ -9,16 +9,15 @@ use Rattle.gm_syntax.specs.Tokens.{Placed}
 use Rattle.gm_syntax.specs.Document.{Line, Blank, IsValidLine}
 use Rattle.gm_syntax.specs.LineViews.{plain}
 use Rattle.gm_file.specs.Directives.{Directive, block_after_line, block_after_lines}
-use Rattle.gm_file_edit.specs.Fates.{Fate, IsValidAt, dropped, dropping_from, remaining_from, renewed, renewing_from}
-use Rattle.gm_file_edit.specs.Holding.{directive_at, passes}
+use Rattle.gm_file_edit.specs.Fates.{Fate, dropped, dropping_from, fate_by, remaining, renewed, renewing_from}
+use Rattle.gm_file_edit.specs.Holding.{IsValidAt, directive_at, passes}
 use Rattle.gm_file_edit.specs.About.{about}
-use Rattle.gm_file_edit.specs.Pass.{changed, edited_by_pass, put_in}
-use Rattle.gm_file_edit.specs.Edited.{edited}
+use Rattle.gm_file_edit.specs.Pass.{edited_by_pass, put_in}
+use Rattle.gm_file_edit.specs.Edited.{changed, edited}
 use Rattle.gm_file_edit.specs.Edits.{Edit, Set, Drop, Add}
 use Rattle.gm_file_edit.specs.Kinds.{is_drop, set_by}
 use Rattle.gm_file_edit.specs.Renewing.{made_new}
-use Rattle.gm_file_edit.specs.Marks.{marks_from}
-use Rattle.gm_file_edit.specs.Packs.{fate_by, line_at, marked}
+use Rattle.gm_file_edit.specs.Marks.{line_at, marked, marks_from}
 use Rattle.gm_file_edit.specs.Searching.{is_there_from}
 use Rattle.gm_file_edit.specs.declared.keys.Key.{Key}
 use Rattle.gm_file_edit.specs.declared.keys.Scope.{Scope}
@@ -233,8 +232,8 @@ dropping-marked test block (line ∷ lines) =
     ap (λ (f : Fate). f ∷ dropping_from test (block_after_line block line) lines) (fate-is (passes test (directive_at block line)) line)
     ∙ ap (λ (fs : List Fate). fate_by (passes test (directive_at block line)) line ∷ fs) (dropping-marked test (block_after_line block line) lines)
 
-pub dropped-marked : (test : Directive → Bool) (lines : List (Line Placed)) → dropped test lines ≡ remaining_from false None (marked (marks_from test None lines) lines)
-dropped-marked test lines = ap (remaining_from false None) (dropping-marked test None lines)
+pub dropped-marked : (test : Directive → Bool) (lines : List (Line Placed)) → dropped test lines ≡ remaining (marked (marks_from test None lines) lines)
+dropped-marked test lines = ap (remaining) (dropping-marked test None lines)
 
 -- ---- lines of which the first with a mark is rewritten, and the others are removed
 
@@ -256,8 +255,8 @@ renewing-marked test new block (line ∷ lines) lt = elim (cases_Bool (passes te
 ]
 
 pub renewed-marked : (test : Directive → Bool) (new : Option Placed → Line Placed → Line Placed) (lines : List (Line Placed)) → first_of (marks_from test None lines) < length lines
-    → renewed test new lines ≡ remaining_from false None (marked (after_first (marks_from test None lines)) (rewritten new None (marks_from test None lines) lines))
-renewed-marked test new lines lt = ap (remaining_from false None) (renewing-marked test new None lines lt)
+    → renewed test new lines ≡ remaining (marked (after_first (marks_from test None lines)) (rewritten new None (marks_from test None lines) lines))
+renewed-marked test new lines lt = ap (remaining) (renewing-marked test new None lines lt)
 
 -- ---- what an operation does with the lines that it targets
 
@@ -297,12 +296,12 @@ edited-new edit lines le = edited-is-pass edit lines ∙ pass-new edit lines le
 pub renew-is : (edit : Edit) (lines new : List (Line Placed)) (marks others : List Bool) (first : ℕ) (line : Line Placed)
     → marks ≡ marks_from (about edit) None lines → first ≡ length (take_while (λ mark. not mark) marks) → first < length lines
     → line ≡ made_new edit (block_after_lines None (take first lines)) (line_at lines first) → new ≡ set lines first line → others ≡ set marks first false
-    → remaining_from false None (marked others new) ≡ renewed (about edit) (made_new edit) lines
+    → remaining (marked others new) ≡ renewed (about edit) (made_new edit) lines
 renew-is edit lines new marks others first line marks_are first_is lt line_is new_is others_are =
     let all : List Bool = marks_from (about edit) None lines in
     let f : first ≡ first_of all = first_is ∙ first-is marks ∙ ap first_of marks_are in
     let others_so : others ≡ after_first all = others_are ∙ ap (λ (ms : List Bool). set ms first false) marks_are ∙ ap (λ (n : ℕ). set all n false) f in
     let new_so : new ≡ rewritten (made_new edit) None all lines =
     new_is ∙ ap (set lines first) line_is ∙ ap (λ (n : ℕ). set lines n (made_new edit (block_after_lines None (take n lines)) (line_at lines n))) f in
-    ap (λ (ms : List Bool). remaining_from false None (marked ms new)) others_so ∙ ap (λ (ls : List (Line Placed)). remaining_from false None (marked (after_first all) ls)) new_so
+    ap (λ (ms : List Bool). remaining (marked ms new)) others_so ∙ ap (λ (ls : List (Line Placed)). remaining (marked (after_first all) ls)) new_so
     ∙ sym (renewed-marked (about edit) (made_new edit) lines (omega (arith, lt, f)))

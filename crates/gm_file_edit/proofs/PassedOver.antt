@@ -15,7 +15,7 @@ use Rattle.gm_file.proofs.DirectiveVerbs.{same-verb}
 use Rattle.gm_file.specs.Faults.{entry_kinds, is_same_version}
 use Rattle.gm_file_edit.specs.About.{about}
 use Rattle.gm_file_edit.specs.Edits.{Edit, Set, ModuleIs, Drop, AnyRequire, Add, Exclude}
-use Rattle.gm_file_edit.specs.Fates.{IsValidAt}
+use Rattle.gm_file_edit.specs.Holding.{IsValidAt}
 use Rattle.gm_file_edit.specs.Holding.{directive_at, item_of, passes}
 use Rattle.gm_file_edit.specs.Keys.{does_tell, does_tell_by, hash_at, hashes_of, is_entry_by, is_entry_in, is_inside, is_same_verb, key_of, may_concern, may_concern_by, may_tell, scope_after, scope_if, scope_of, sought_key, verb_named, verb_outside, verb_sought, words_key}
 use Rattle.gm_file_edit.specs.Subjects.{Any, Both, First, Sought, Subject, is_told, sought_of, subject_inside, subject_outside}

@@ -1,9 +1,9 @@
 -- The result of an operation doesn't depend on source positions: it commutes with removing the positions of words.
-use Rattle.std.proofs.Common.{◌≡◌, ℕ, suc, ◌+◌, ◌-◌, ◌||◌, ◌&&◌, Bool, true, false, List, [], ◌∷◌, ◌++◌, length, map, take, drop, Option, Some, None, is_none, refl, sym, ap, ◌∙◌}
+use Rattle.std.proofs.Common.{◌≡◌, ℕ, suc, ◌+◌, ◌-◌, ◌||◌, ◌&&◌, not, Bool, true, false, List, [], ◌∷◌, ◌++◌, length, map, take, drop, Option, Some, None, is_none, refl, sym, ap, ◌∙◌, inl, inr}
 use Rattle.std.specs.Prelude.{if◌then◌else◌, codes, insert}
 use Rattle.std.specs.Option.{option_map, option_or}
-use Rattle.std.specs.List.{list_all, list_any}
 use Rattle.std.specs.Str.{bytes_eq}
+use Rattle.std.proofs.lemmas.Bool.{cases_Bool}
 use Rattle.std.proofs.lemmas.List.{drop-map, length-map, map-append, take-map}
 use Rattle.gm_syntax.specs.declared.word.Punct.TheVariants.{Arrow}
 use Rattle.gm_syntax.specs.Words.{Word}
@@ -15,15 +15,15 @@ use Rattle.gm_file.specs.Directives.{Strict, Directive, VersionInterval, Right, 
 use Rattle.gm_file.specs.Faults.{is_go, is_module}
 use Rattle.gm_file_edit.specs.Edits.{Edit, Set, ModuleIs, GoIs, RequireAt, Drop, Add, Exclude, ReplaceWith, Retract}
 use Rattle.gm_file_edit.specs.NewWords.{entry_at, interval_words, left_words, left_words_of, made_mark, made_word, pair_words, replace_words, right_words, single, unplaced}
-use Rattle.gm_file_edit.specs.Fates.{Begun, Fate, begin, block_lines, dropped, dropping_from, is_emptied, kept, leaves_nothing, remaining_from, renewed, renewing_from, with_line}
+use Rattle.gm_file_edit.specs.Fates.{Fate, dropped, dropping_from, empties, is_emptied, kept, remaining, renewed, renewing_from, widened_from}
 use Rattle.gm_file_edit.specs.Holding.{directive_at, passes, word_of}
 use Rattle.gm_file_edit.specs.Renewing.{before_arguments, with_arguments, with_last}
 use Rattle.gm_file_edit.specs.About.{about, is_replaced_by, requires_path}
 use Rattle.gm_file_edit.specs.Searching.{is_there, is_there_from}
 use Rattle.gm_file_edit.specs.Adding.{added, added_at, after_first_that, spot_after_first, spot_after_last, spot_after_line, close_len, further, past_block, insert_at_spot}
 use Rattle.gm_file_edit.specs.Verbs.{is_exclude, is_replace, is_require, is_retract}
-use Rattle.gm_file_edit.specs.Pass.{changed, edited_by_pass, put_in}
-use Rattle.gm_file_edit.specs.Edited.{edited}
+use Rattle.gm_file_edit.specs.Pass.{edited_by_pass, put_in}
+use Rattle.gm_file_edit.specs.Edited.{changed, edited}
 use Rattle.gm_file_edit.proofs.BySections.{edited-is-pass}
 
 -- ---- lines without source positions
@@ -46,9 +46,6 @@ loose_fate fate = option_map loose_line fate
 
 abbrev loose_fates : List Fate → List Fate
 loose_fates fates = map loose_fate fates
-
-abbrev loose_begun : Begun → Begun
-loose_begun b = record { verb = loose b.verb; suffix = b.suffix; inner = loose_fates b.inner }
 
 words-loose : (words : List Placed) → map (λ (t : Placed). t.word) (map loose words) ≡ map (λ (t : Placed). t.word) words
 words-loose [] = refl
@@ -149,78 +146,48 @@ renewing-loose test new blind block (line ∷ lines) =
     (ap (λ (b : Option Placed). Some (loose_line line) ∷ renewing_from test new b (loose_lines lines)) (behind-loose block line)
     ∙ ap (λ (fs : List Fate). Some (loose_line line) ∷ fs) (renewing-loose test new blind (block_after_line block line) lines))
 
+empties-loose : (lost : Bool) (fates : List Fate) → empties lost (loose_fates fates) ≡ empties lost fates
+empties-loose lost [] = refl
+empties-loose lost (None ∷ fates) = empties-loose true fates
+empties-loose lost (Some Blank ∷ fates) = empties-loose lost fates
+empties-loose lost (Some (Comment text) ∷ fates) = refl
+empties-loose lost (Some (Open verb suffix) ∷ fates) = refl
+empties-loose lost (Some (Close suffix) ∷ fates) = refl
+empties-loose lost (Some (Entry words suffix) ∷ fates) = refl
+
+widened-loose : (inside goes : Bool) (fates : List Fate) → widened_from inside goes (loose_fates fates) ≡ loose_fates (widened_from inside goes fates)
+widened-loose inside goes [] = refl
+widened-loose inside goes (None ∷ fates) = ap (λ (fs : List Fate). None ∷ fs) (widened-loose inside goes fates)
+widened-loose inside true (Some Blank ∷ fates) = ap (λ (fs : List Fate). None ∷ fs) (widened-loose inside (inside && true) fates)
+widened-loose inside false (Some Blank ∷ fates) = ap (λ (fs : List Fate). Some Blank ∷ fs) (widened-loose inside (inside && false) fates)
+widened-loose inside goes (Some (Comment text) ∷ fates) = ap (λ (fs : List Fate). Some (Comment text) ∷ fs) (widened-loose inside false fates)
+widened-loose inside goes (Some (Open verb suffix) ∷ fates) = elim (cases_Bool (is_emptied inside suffix fates)) [
+  | inl gone ↦ let same : is_emptied inside suffix (loose_fates fates) ≡ true = emptied-loose inside suffix fates ∙ gone in rw (same, gone) (ap (λ (fs : List Fate). None ∷ fs) (widened-loose true true fates))
+  | inr stays ↦ let same : is_emptied inside suffix (loose_fates fates) ≡ false = emptied-loose inside suffix fates ∙ stays in rw (same, stays) (ap (λ (fs : List Fate). Some (Open (loose verb) suffix) ∷ fs) (widened-loose true false fates))
+]
+  where
+    emptied-loose : (within : Bool) (comment : Option (List ℕ)) (rest : List Fate) → is_emptied within comment (loose_fates rest) ≡ is_emptied within comment rest
+    emptied-loose within comment rest = ap (λ (c : Bool). not within && is_none comment && c) (empties-loose false rest)
+widened-loose inside goes (Some (Close suffix) ∷ fates) = elim (cases_Bool (inside && goes)) [
+  | inl gone ↦ rw gone (ap (λ (fs : List Fate). None ∷ fs) (widened-loose false true fates))
+  | inr stays ↦ rw stays (ap (λ (fs : List Fate). Some (Close suffix) ∷ fs) (widened-loose false false fates))
+]
+widened-loose inside goes (Some (Entry words suffix) ∷ fates) = ap (λ (fs : List Fate). Some (Entry (map loose words) suffix) ∷ fs) (widened-loose inside false fates)
+
 kept-loose : (fates : List Fate) → kept (loose_fates fates) ≡ loose_lines (kept fates)
 kept-loose [] = refl
 kept-loose (None ∷ fates) = kept-loose fates
 kept-loose (Some line ∷ fates) = ap (λ (ls : List (Line Placed)). loose_line line ∷ ls) (kept-loose fates)
 
-none-loose : (fate : Fate) → is_none (loose_fate fate) ≡ is_none fate
-none-loose None = refl
-none-loose (Some line) = refl
-
-nothing-loose : (fate : Fate) → leaves_nothing (loose_fate fate) ≡ leaves_nothing fate
-nothing-loose None = refl
-nothing-loose (Some Blank) = refl
-nothing-loose (Some (Comment text)) = refl
-nothing-loose (Some (Open verb suffix)) = refl
-nothing-loose (Some (Close suffix)) = refl
-nothing-loose (Some (Entry words suffix)) = refl
-
-any-loose : (fates : List Fate) → list_any is_none (loose_fates fates) ≡ list_any is_none fates
-any-loose [] = refl
-any-loose (f ∷ fates) = ap (λ (c : Bool). c || list_any is_none (loose_fates fates)) (none-loose f) ∙ ap (λ (c : Bool). is_none f || c) (any-loose fates)
-
-all-loose : (fates : List Fate) → list_all leaves_nothing (loose_fates fates) ≡ list_all leaves_nothing fates
-all-loose [] = refl
-all-loose (f ∷ fates) = ap (λ (c : Bool). c && list_all leaves_nothing (loose_fates fates)) (nothing-loose f) ∙ ap (λ (c : Bool). leaves_nothing f && c) (all-loose fates)
-
-emptied-loose : (open_suffix : Option (List ℕ)) (inner : List Fate) (suffix : Option (List ℕ)) → is_emptied open_suffix (loose_fates inner) suffix ≡ is_emptied open_suffix inner suffix
-emptied-loose open_suffix inner suffix =
-    ap (λ (c : Bool). c && list_all leaves_nothing (loose_fates inner) && is_none open_suffix && is_none suffix) (any-loose inner)
-    ∙ ap (λ (c : Bool). list_any is_none inner && c && is_none open_suffix && is_none suffix) (all-loose inner)
-
-more-loose : (b : Begun) (fate : Fate) → with_line (loose_begun b) (loose_fate fate) ≡ loose_begun (with_line b fate)
-more-loose b fate = ap (λ (fs : List Fate). let whole : Begun = record { verb = loose b.verb; suffix = b.suffix; inner = fs } in whole) (sym (map-append loose_fate b.inner (fate ∷ [])))
-
-block-loose : (b : Begun) (suffix : Option (List ℕ)) (rest : List (Line Placed)) → block_lines (loose_begun b) suffix (loose_lines rest) ≡ loose_lines (block_lines b suffix rest)
-block-loose b suffix rest =
-    ap (λ (ls : List (Line Placed)). Open (loose b.verb) b.suffix ∷ (ls ++ Close suffix ∷ loose_lines rest)) (kept-loose b.inner)
-    ∙ ap (λ (ls : List (Line Placed)). Open (loose b.verb) b.suffix ∷ ls) (sym (map-append loose_line (kept b.inner) (Close suffix ∷ rest)))
-
-left-loose : (after : Bool) (begun : Option Begun) (fates : List Fate) → remaining_from after (option_map loose_begun begun) (loose_fates fates) ≡ loose_lines (remaining_from after begun fates)
-unfolding remaining_from
-left-loose after None [] = refl
-left-loose after (Some b) [] = ap (λ (ls : List (Line Placed)). Open (loose b.verb) b.suffix ∷ ls) (kept-loose b.inner)
-left-loose after None (None ∷ fates) = left-loose after None fates
-left-loose true None (Some Blank ∷ fates) = left-loose false None fates
-left-loose false None (Some Blank ∷ fates) = ap (λ (ls : List (Line Placed)). Blank ∷ ls) (left-loose false None fates)
-left-loose after None (Some (Comment text) ∷ fates) = ap (λ (ls : List (Line Placed)). Comment text ∷ ls) (left-loose false None fates)
-left-loose after None (Some (Open verb suffix) ∷ fates) = left-loose false (Some (begin verb suffix)) fates
-left-loose after None (Some (Close suffix) ∷ fates) = ap (λ (ls : List (Line Placed)). Close suffix ∷ ls) (left-loose false None fates)
-left-loose after None (Some (Entry words suffix) ∷ fates) = ap (λ (ls : List (Line Placed)). Entry (map loose words) suffix ∷ ls) (left-loose false None fates)
-left-loose after (Some b) (Some (Close suffix) ∷ fates) =
-    chosen loose_lines (is_emptied b.suffix (loose_fates b.inner) suffix) (is_emptied b.suffix b.inner suffix)
-    (remaining_from true None (loose_fates fates)) (block_lines (loose_begun b) suffix (remaining_from false None (loose_fates fates)))
-    (remaining_from true None fates) (block_lines b suffix (remaining_from false None fates))
-    (emptied-loose b.suffix b.inner suffix)
-    (left-loose true None fates)
-    (ap (block_lines (loose_begun b) suffix) (left-loose false None fates) ∙ block-loose b suffix (remaining_from false None fates))
-left-loose after (Some b) (None ∷ fates) =
-    ap (λ (x : Begun). remaining_from after (Some x) (loose_fates fates)) (more-loose b None) ∙ left-loose after (Some (with_line b None)) fates
-left-loose after (Some b) (Some Blank ∷ fates) =
-    ap (λ (x : Begun). remaining_from after (Some x) (loose_fates fates)) (more-loose b (Some Blank)) ∙ left-loose after (Some (with_line b (Some Blank))) fates
-left-loose after (Some b) (Some (Comment text) ∷ fates) =
-    ap (λ (x : Begun). remaining_from after (Some x) (loose_fates fates)) (more-loose b (Some (Comment text))) ∙ left-loose after (Some (with_line b (Some (Comment text)))) fates
-left-loose after (Some b) (Some (Open verb suffix) ∷ fates) =
-    ap (λ (x : Begun). remaining_from after (Some x) (loose_fates fates)) (more-loose b (Some (Open verb suffix))) ∙ left-loose after (Some (with_line b (Some (Open verb suffix)))) fates
-left-loose after (Some b) (Some (Entry words suffix) ∷ fates) =
-    ap (λ (x : Begun). remaining_from after (Some x) (loose_fates fates)) (more-loose b (Some (Entry words suffix))) ∙ left-loose after (Some (with_line b (Some (Entry words suffix)))) fates
+remaining-loose : (fates : List Fate) → remaining (loose_fates fates) ≡ loose_lines (remaining fates)
+unfolding remaining
+remaining-loose fates = ap kept (widened-loose false false fates) ∙ kept-loose (widened_from false false fates)
 
 dropped-loose : (test : Directive → Bool) (lines : List (Line Placed)) → dropped test (loose_lines lines) ≡ loose_lines (dropped test lines)
-dropped-loose test lines = ap (remaining_from false None) (dropping-loose test None lines) ∙ left-loose false None (dropping_from test None lines)
+dropped-loose test lines = ap remaining (dropping-loose test None lines) ∙ remaining-loose (dropping_from test None lines)
 
 renewed-loose : (test : Directive → Bool) (new : Option Placed → Line Placed → Line Placed) → IsBlind new → (lines : List (Line Placed)) → renewed test new (loose_lines lines) ≡ loose_lines (renewed test new lines)
-renewed-loose test new blind lines = ap (remaining_from false None) (renewing-loose test new blind None lines) ∙ left-loose false None (renewing_from test new None lines)
+renewed-loose test new blind lines = ap remaining (renewing-loose test new blind None lines) ∙ remaining-loose (renewing_from test new None lines)
 
 -- ---- rewritten entries
 

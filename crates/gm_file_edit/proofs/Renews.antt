@@ -10,10 +10,10 @@ use Rattle.gm_file.specs.Directives.{Directive, DeclaresModule, block_after_line
 use Rattle.gm_file.specs.Faults.{is_module}
 use Rattle.gm_file.specs.Pairwise.{do_clash}
 use Rattle.gm_file.proofs.Pairwise.{AreApart}
-use Rattle.gm_file_edit.specs.Fates.{Fate, remaining_from, renewed, renewing_from}
+use Rattle.gm_file_edit.specs.Fates.{Fate, remaining, renewed, renewing_from}
 use Rattle.gm_file_edit.specs.Holding.{directive_at, passes}
 use Rattle.gm_file_edit.proofs.Pairs.{IsRightLine, IsSound, any-cons, apart-tail, held_in, left-sound}
-use Rattle.gm_file_edit.proofs.Leaving.{AreMarked, IsMadeNew, Marked, fates_in, left-lines, lines_in}
+use Rattle.gm_file_edit.proofs.Leaving.{AreMarked, IsMadeNew, Marked, fates_in, lines_in, remaining-lines}
 use Rattle.gm_file_edit.proofs.Drops.{dropping, dropping-fates, dropping-lines, gone-line}
 
 -- each line with its fate
@@ -100,5 +100,5 @@ renewing-marked test said make by block (line ∷ lines) right apart =
 pub renewed-sound : (test : Directive → Bool) (said : Directive) (make : Option Placed → Line Placed → Line Placed) → IsRenewal test said make → (lines : List (Line Placed)) → IsSound lines → IsSound (renewed test make lines)
 renewed-sound test said make by lines sound =
     let marks : List Marked = renewing test make None lines in
-    let left = left-sound said false (remaining_from false None (fates_in marks)) (lines_in marks) (left-lines said marks false false None (renewing-marked test said make by None lines sound.lines_are.right sound.lines_are.apart)) in
-    subst (λ (fates : List Fate). IsSound (remaining_from false None fates)) (renewing-fates test make None lines) (left (subst IsSound (sym (renewing-lines test make None lines)) sound))
+    let left = left-sound said false (remaining (fates_in marks)) (lines_in marks) (remaining-lines said marks false (renewing-marked test said make by None lines sound.lines_are.right sound.lines_are.apart)) in
+    subst (λ (fates : List Fate). IsSound (remaining fates)) (renewing-fates test make None lines) (left (subst IsSound (sym (renewing-lines test make None lines)) sound))

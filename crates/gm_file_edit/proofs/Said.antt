@@ -14,12 +14,12 @@ use Rattle.gm_file_edit.specs.declared.adding.AddedVerb.{AddedVerb}
 use Rattle.gm_file_edit.specs.declared.adding.Spot.{Spot}
 use Rattle.gm_file_edit.specs.Adding.{added, added_at, after_first_that, spot_after_first, spot_after_last, is_of, past_block, insert_at_spot, verb_text}
 use Rattle.gm_file_edit.specs.NewWords.{entry_at, single}
-use Rattle.gm_file_edit.specs.Fates.{Begun, Fate, dropped, dropping_from, kept, remaining_from, renewed, renewing_from}
+use Rattle.gm_file_edit.specs.Fates.{Fate, dropped, dropping_from, kept, remaining, renewed, renewing_from}
 use Rattle.gm_file_edit.specs.Holding.{directive_at, passes}
 use Rattle.gm_file_edit.specs.Searching.{is_there, is_there_from}
 use Rattle.gm_file_edit.proofs.AddingSound.{Fits, IsAddition, IsIn, IsVerbSpot, back-sound, entry-fits, first-is-in, held-append, held_from, last-is, passing-level, past-outside}
 use Rattle.gm_file_edit.proofs.Leaving.{IsMadeNew}
-use Rattle.gm_file_edit.proofs.Seats.{left-seats, opened, seats_from}
+use Rattle.gm_file_edit.proofs.Seats.{remaining-seats, seats_from}
 use Rattle.gm_file_edit.proofs.Sound.{SoundFrom}
 
 -- ---- lists of directives
@@ -109,8 +109,8 @@ held-seats block (line ∷ lines) =
     let behind : Option Placed = block_after_line block line in
     line-seats block line (directive_at block line) (held_from behind lines) (seats_from behind lines) refl (held-seats behind lines)
 
-pub left-held : (after : Bool) (b : Option Begun) (fates : List Fate) → held_from None (remaining_from after b fates) ≡ held_from None (opened b ++ kept fates)
-left-held after b fates = held-seats None (remaining_from after b fates) ∙ ap said_in (left-seats after b fates) ∙ sym (held-seats None (opened b ++ kept fates))
+pub left-held : (fates : List Fate) → held_from None (remaining fates) ≡ held_from None (kept fates)
+left-held fates = held-seats None (remaining fates) ∙ ap said_in (remaining-seats fates) ∙ sym (held-seats None (kept fates))
 
 -- ---- what is said after entries are removed
 
@@ -127,7 +127,7 @@ dropping-held test block (line ∷ lines) =
 
 -- a drop leaves exactly the other directives
 pub dropped-held : (test : Directive → Bool) (lines : List (Line Placed)) → held_from None (dropped test lines) ≡ filter (others test) (held_from None lines)
-dropped-held test lines = left-held false None (dropping_from test None lines) ∙ dropping-held test None lines
+dropped-held test lines = left-held (dropping_from test None lines) ∙ dropping-held test None lines
 
 -- ---- what is said after an entry is rewritten
 
@@ -189,11 +189,11 @@ renewing-alone test said make own makes earlier block (line ∷ lines) sound the
 
 pub renewed-others : (test : Directive → Bool) (said : Directive) (make : Option Placed → Line Placed → Line Placed) → test said ≡ true → Makes test said make
     → (lines : List (Line Placed)) → SoundFrom [] None lines → filter (others test) (held_from None (renewed test make lines)) ≡ filter (others test) (held_from None lines)
-renewed-others test said make own makes lines sound = ap (filter (others test)) (left-held false None (renewing_from test make None lines)) ∙ renewing-others test said make own makes [] None lines sound
+renewed-others test said make own makes lines sound = ap (filter (others test)) (left-held (renewing_from test make None lines)) ∙ renewing-others test said make own makes [] None lines sound
 
 pub renewed-alone : (test : Directive → Bool) (said : Directive) (make : Option Placed → Line Placed → Line Placed) → test said ≡ true → Makes test said make
     → (lines : List (Line Placed)) → SoundFrom [] None lines → is_there test lines ≡ true → filter test (held_from None (renewed test make lines)) ≡ said ∷ []
-renewed-alone test said make own makes lines sound there = ap (filter test) (left-held false None (renewing_from test make None lines)) ∙ renewing-alone test said make own makes [] None lines sound there
+renewed-alone test said make own makes lines sound there = ap (filter test) (left-held (renewing_from test make None lines)) ∙ renewing-alone test said make own makes [] None lines sound there
 
 -- ---- what is said after an entry is added
 

@@ -1,15 +1,14 @@
 -- The lines that hold a directive, and that emptied blocks have none.
-use Rattle.std.proofs.Common.{◌≡◌, ℕ, Bool, true, false, List, [], ◌∷◌, ◌++◌, Option, Some, None, refl, sym, ap, ◌∙◌, append-nil, append_assoc, inl, inr}
+use Rattle.std.proofs.Common.{◌≡◌, ℕ, ◌&&◌, Bool, true, false, List, [], ◌∷◌, ◌++◌, Option, Some, None, is_none, is_some, refl, sym, ap, ◌∙◌, append_assoc, inl, inr}
+use Rattle.std.specs.Prelude.{⊤}
 use Rattle.std.specs.Option.{option_map, option_to_list}
-use Rattle.std.specs.List.{list_all}
 use Rattle.std.proofs.lemmas.Bool.{cases_Bool}
-use Rattle.std.proofs.lemmas.List.Elements.{filter_map-append}
 use Rattle.gm_syntax.specs.Tokens.{Placed}
 use Rattle.gm_syntax.specs.Document.{Line, Blank, Comment, Open, Close, Entry}
 use Rattle.gm_file.specs.Directives.{LineInBlock, block_after_line, block_after_lines, item_at}
-use Rattle.gm_file_edit.specs.Fates.{Begun, Fate, begin, is_emptied, itself, kept, leaves_nothing, opened_lines, remaining_from, with_line}
+use Rattle.gm_file_edit.specs.Fates.{Fate, empties, is_emptied, kept, remaining, widened_from}
 use Rattle.gm_file_edit.specs.Holding.{directive_at}
-use Rattle.gm_file_edit.proofs.Leaving.{emptied-inner}
+use Rattle.gm_name.proofs.NameTests.{and_both}
 
 -- the line with the verb of its block, if it holds a directive
 abbrev pub seat_of : Option Placed → Line Placed → List (LineInBlock Placed)
@@ -26,55 +25,54 @@ seats-append block (line ∷ front) back =
     ap (λ (seats : List (LineInBlock Placed)). seat_of block line ++ seats) (seats-append (block_after_line block line) front back)
     ∙ sym (append_assoc (seat_of block line) (seats_from (block_after_line block line) front) (seats_from (block_after_lines (block_after_line block line) front) back))
 
-same-behind : (block : Option Placed) (front xs ys : List (Line Placed)) → ((b : Option Placed) → seats_from b xs ≡ seats_from b ys) → seats_from block (front ++ xs) ≡ seats_from block (front ++ ys)
-same-behind block front xs ys h =
-    seats-append block front xs ∙ ap (λ (seats : List (LineInBlock Placed)). seats_from block front ++ seats) (h (block_after_lines block front)) ∙ sym (seats-append block front ys)
-
 -- ---- the remaining lines
 
-abbrev pub opened : Option Begun → List (Line Placed)
-opened None = []
-opened (Some b) = opened_lines b
+-- a block that goes is emptied by the lines from here on
+abbrev pub Going : Bool → List Fate → Type 0
+Going false fates = ⊤
+Going true fates = (lost : Bool) × (empties lost fates ≡ true)
 
-opened-more : (b : Begun) (fate : Fate) (fates : List Fate) → opened_lines (with_line b fate) ++ kept fates ≡ opened_lines b ++ kept (fate ∷ fates)
-opened-more b fate fates =
-    ap (λ (ls : List (Line Placed)). Open b.verb b.suffix ∷ ls)
-    (ap (λ (ls : List (Line Placed)). ls ++ kept fates) (filter_map-append itself b.inner (fate ∷ [])) ∙ append_assoc (kept b.inner) (kept (fate ∷ [])) (kept fates)
-    ∙ ap (λ (ls : List (Line Placed)). kept b.inner ++ ls) (sym (filter_map-append itself (fate ∷ []) fates)))
+-- the block that is open before the lines that are left: none, if the open block goes
+abbrev pub left_block : Bool → Option Placed → Option Placed
+left_block true block = None
+left_block false block = block
 
-blank-seats : (inner : List Fate) (block : Option Placed) (lines : List (Line Placed)) → list_all leaves_nothing inner ≡ true → seats_from block (kept inner ++ lines) ≡ seats_from block lines
+pub going-gone : (going : Bool) (fates : List Fate) → Going going (None ∷ fates) → Going going fates
+going-gone false fates is = tt
+going-gone true fates is = (true, is.1)
+
+pub going-opened : (suffix : Option (List ℕ)) (fates : List Fate) → is_emptied false suffix fates ≡ true → Going true fates
+going-opened suffix fates e = (false, (and_both (is_none suffix) (empties false fates) e).1)
+
+-- Emptied blocks and the blank lines after them hold no directive, and the lines that are left are in the blocks that
+-- they were in.
+left-seats : (block : Option Placed) (goes : Bool) (fates : List Fate) → Going (is_some block && goes) fates
+    → seats_from (left_block (is_some block && goes) block) (kept (widened_from (is_some block) goes fates)) ≡ seats_from block (kept fates)
 unfolding item_at
-blank-seats [] block lines e = refl
-blank-seats (None ∷ inner) block lines e = blank-seats inner block lines e
-blank-seats (Some Blank ∷ inner) block lines e = blank-seats inner block lines e
-blank-seats (Some (Comment text) ∷ inner) block lines e = absurd cc
-blank-seats (Some (Open verb suffix) ∷ inner) block lines e = absurd cc
-blank-seats (Some (Close suffix) ∷ inner) block lines e = absurd cc
-blank-seats (Some (Entry words suffix) ∷ inner) block lines e = absurd cc
-
-closing-seats : (after : Bool) (b : Begun) (suffix : Option (List ℕ)) (fates : List Fate) → ((f : Bool) → seats_from None (remaining_from f None fates) ≡ seats_from None (kept fates))
-    → seats_from None (remaining_from after (Some b) (Some (Close suffix) ∷ fates)) ≡ seats_from None (opened_lines b ++ kept (Some (Close suffix) ∷ fates))
-unfolding remaining_from item_at
-closing-seats after b suffix fates next = elim (cases_Bool (is_emptied b.suffix b.inner suffix)) [
-  | inl holds ↦ rw holds (next true ∙ sym (blank-seats b.inner (Some b.verb) (Close suffix ∷ kept fates) (emptied-inner b.suffix b.inner suffix holds)))
-  | inr fails ↦ rw fails (same-behind (Some b.verb) (kept b.inner) (Close suffix ∷ remaining_from false None fates) (Close suffix ∷ kept fates) (λ block. next false))
+left-seats None goes [] is = refl
+left-seats (Some verb) false [] is = refl
+left-seats (Some verb) true [] is = absurd cc
+left-seats block goes (None ∷ fates) is = left-seats block goes fates (going-gone (is_some block && goes) fates is)
+left-seats None false (Some Blank ∷ fates) is = left-seats None false fates tt
+left-seats None true (Some Blank ∷ fates) is = left-seats None false fates tt
+left-seats (Some verb) false (Some Blank ∷ fates) is = left-seats (Some verb) false fates tt
+left-seats (Some verb) true (Some Blank ∷ fates) is = left-seats (Some verb) true fates is
+left-seats None goes (Some (Comment text) ∷ fates) is = left-seats None false fates tt
+left-seats (Some verb) false (Some (Comment text) ∷ fates) is = left-seats (Some verb) false fates tt
+left-seats (Some verb) true (Some (Comment text) ∷ fates) is = absurd cc
+left-seats None goes (Some (Open verb suffix) ∷ fates) is = elim (cases_Bool (is_emptied false suffix fates)) [
+  | inl gone ↦ rw gone (left-seats (Some verb) true fates (going-opened suffix fates gone))
+  | inr stays ↦ rw stays (left-seats (Some verb) false fates tt)
 ]
+left-seats (Some outer) false (Some (Open verb suffix) ∷ fates) is = left-seats (Some verb) false fates tt
+left-seats (Some outer) true (Some (Open verb suffix) ∷ fates) is = absurd cc
+left-seats None goes (Some (Close suffix) ∷ fates) is = left-seats None false fates tt
+left-seats (Some verb) false (Some (Close suffix) ∷ fates) is = left-seats None false fates tt
+left-seats (Some verb) true (Some (Close suffix) ∷ fates) is = left-seats None true fates tt
+left-seats None goes (Some (Entry words suffix) ∷ fates) is = ap (λ (seats : List (LineInBlock Placed)). seat_of None (Entry words suffix) ++ seats) (left-seats None false fates tt)
+left-seats (Some verb) false (Some (Entry words suffix) ∷ fates) is = ap (λ (seats : List (LineInBlock Placed)). seat_of (Some verb) (Entry words suffix) ++ seats) (left-seats (Some verb) false fates tt)
+left-seats (Some verb) true (Some (Entry words suffix) ∷ fates) is = absurd cc
 
--- emptied blocks and the blank lines after them hold no directive
-pub left-seats : (after : Bool) (b : Option Begun) (fates : List Fate) → seats_from None (remaining_from after b fates) ≡ seats_from None (opened b ++ kept fates)
-unfolding remaining_from item_at
-left-seats after None [] = refl
-left-seats after (Some b) [] = ap (seats_from None) (sym (append-nil (opened_lines b)))
-left-seats after None (None ∷ fates) = left-seats after None fates
-left-seats true None (Some Blank ∷ fates) = left-seats false None fates
-left-seats false None (Some Blank ∷ fates) = left-seats false None fates
-left-seats after None (Some (Comment text) ∷ fates) = left-seats false None fates
-left-seats after None (Some (Open verb suffix) ∷ fates) = left-seats false (Some (begin verb suffix)) fates
-left-seats after None (Some (Close suffix) ∷ fates) = left-seats false None fates
-left-seats after None (Some (Entry words suffix) ∷ fates) = ap (λ (seats : List (LineInBlock Placed)). seat_of None (Entry words suffix) ++ seats) (left-seats false None fates)
-left-seats after (Some b) (Some (Close suffix) ∷ fates) = closing-seats after b suffix fates (λ f. left-seats f None fates)
-left-seats after (Some b) (None ∷ fates) = left-seats after (Some (with_line b None)) fates ∙ ap (seats_from None) (opened-more b None fates)
-left-seats after (Some b) (Some Blank ∷ fates) = left-seats after (Some (with_line b (Some Blank))) fates ∙ ap (seats_from None) (opened-more b (Some Blank) fates)
-left-seats after (Some b) (Some (Comment text) ∷ fates) = left-seats after (Some (with_line b (Some (Comment text)))) fates ∙ ap (seats_from None) (opened-more b (Some (Comment text)) fates)
-left-seats after (Some b) (Some (Open verb suffix) ∷ fates) = left-seats after (Some (with_line b (Some (Open verb suffix)))) fates ∙ ap (seats_from None) (opened-more b (Some (Open verb suffix)) fates)
-left-seats after (Some b) (Some (Entry words suffix) ∷ fates) = left-seats after (Some (with_line b (Some (Entry words suffix)))) fates ∙ ap (seats_from None) (opened-more b (Some (Entry words suffix)) fates)
+pub remaining-seats : (fates : List Fate) → seats_from None (remaining fates) ≡ seats_from None (kept fates)
+unfolding remaining
+remaining-seats fates = left-seats None false fates tt

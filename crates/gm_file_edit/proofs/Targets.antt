@@ -10,7 +10,7 @@ use Rattle.gm_file.specs.Faults.{entry_kinds, is_module, item_kinds}
 use Rattle.gm_file.proofs.DirectiveVerbs.{directive-verb, same-verb, verb-itself}
 use Rattle.gm_file_edit.specs.About.{about, excludes_pair, is_replaced_by, replaces_left, requires_path, retracts_ends}
 use Rattle.gm_file_edit.specs.Edits.{Edit, Set, ModuleIs, GoIs, RequireAt, Drop, AnyRequire, Add, Exclude, AnyExclude, ReplaceWith, AnyReplace, Retract, AnyRetract}
-use Rattle.gm_file_edit.specs.Fates.{IsValidAt}
+use Rattle.gm_file_edit.specs.Holding.{IsValidAt}
 use Rattle.gm_file_edit.specs.Holding.{directive_at, item_of, passes}
 use Rattle.gm_file_edit.specs.Adding.{is_of}
 use Rattle.gm_file_edit.specs.Keys.{verb_sought}

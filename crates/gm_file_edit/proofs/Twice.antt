@@ -15,9 +15,9 @@ use Rattle.gm_file_edit.specs.declared.adding.Spot.{Spot}
 use Rattle.gm_file_edit.specs.Edits.{Edit, Set, ModuleIs, GoIs, RequireAt, Drop, Add, ReplaceWith}
 use Rattle.gm_file_edit.specs.About.{about}
 use Rattle.gm_file_edit.specs.Adding.{added, added_at, after_first_that, insert_at_spot, is_of, past_block, spot_after_first, spot_after_last, verb_text}
-use Rattle.gm_file_edit.specs.Pass.{changed, edited_by_pass, put_in}
-use Rattle.gm_file_edit.specs.Edited.{edited}
-use Rattle.gm_file_edit.specs.Fates.{Fate, dropping_from, kept, remaining_from, renewing_from}
+use Rattle.gm_file_edit.specs.Pass.{edited_by_pass, put_in}
+use Rattle.gm_file_edit.specs.Edited.{changed, edited}
+use Rattle.gm_file_edit.specs.Fates.{Fate, dropping_from, kept, remaining, renewing_from}
 use Rattle.gm_file_edit.specs.Holding.{directive_at, passes}
 use Rattle.gm_file_edit.specs.Laws.{directives_of}
 use Rattle.gm_file_edit.specs.Kinds.{directive_added, directive_set, set_by}
@@ -29,7 +29,7 @@ use Rattle.gm_file_edit.proofs.AddingSound.{IsIn, IsVerbSpot, back-sound, file-h
 use Rattle.gm_file_edit.proofs.Idle.{second-addition, second-drop, some-filtered, there-said}
 use Rattle.gm_file_edit.proofs.Said.{none-any}
 use Rattle.gm_file_edit.proofs.SaidAfter.{set-stands-alone, there-is}
-use Rattle.gm_file_edit.proofs.Seats.{left-seats, seats-append, seats_from}
+use Rattle.gm_file_edit.proofs.Seats.{remaining-seats, seats-append, seats_from}
 use Rattle.gm_file_edit.proofs.Sound.{SoundFrom, sound-file}
 use Rattle.gm_file_edit.proofs.Untouched.{all-lines-stay, all_stay, none-dropped-from, or-none}
 use Rattle.gm_file_edit.proofs.BySections.{edited-is-pass}
@@ -157,8 +157,8 @@ last-sets test value = record { level = last-level value; again = λ block line 
 arguments-set : (test : Directive → Bool) (arguments : List Placed) → IsSetting test (with_arguments arguments)
 arguments-set test arguments = record { level = arguments-level arguments; again = arguments-again test arguments }
 
-remaining-set : (test : Directive → Bool) (new : Rewriting) → IsSetting test new → (lines : List (Line Placed)) → LinesAreSet test new None (remaining_from false None (renewing_from test new None lines))
-remaining-set test new sets lines = subst (AreSet test new) (sym (left-seats false None (renewing_from test new None lines))) (renewing-set test new sets None lines)
+remaining-set : (test : Directive → Bool) (new : Rewriting) → IsSetting test new → (lines : List (Line Placed)) → LinesAreSet test new None (remaining (renewing_from test new None lines))
+remaining-set test new sets lines = subst (AreSet test new) (sym (remaining-seats (renewing_from test new None lines))) (renewing-set test new sets None lines)
 
 changed-set : (edit : Edit) (lines : List (Line Placed)) (d : Directive) → set_by edit ≡ Some d → LinesAreSet (about edit) (made_new edit) None (changed edit lines)
 unfolding changed
@@ -295,8 +295,8 @@ renewing-stays test new d block (line ∷ lines) are alone =
     ]
 
 stays : (test : Directive → Bool) (new : Rewriting) (d : Directive) (lines : List (Line Placed)) → LinesAreSet test new None lines → filter test (held_from None lines) ≡ d ∷ []
-    → remaining_from false None (renewing_from test new None lines) ≡ lines
-stays test new d lines are alone = ap (remaining_from false None) (renewing-stays test new d None lines are alone) ∙ all-lines-stay lines
+    → remaining (renewing_from test new None lines) ≡ lines
+stays test new d lines are alone = ap (remaining) (renewing-stays test new d None lines are alone) ∙ all-lines-stay lines
 
 again-changes : (edit : Edit) (lines : List (Line Placed)) (d : Directive) → set_by edit ≡ Some d → LinesAreSet (about edit) (made_new edit) None lines → filter (about edit) (held_from None lines) ≡ d ∷ [] → changed edit lines ≡ lines
 unfolding changed

@@ -4,7 +4,6 @@ use Rattle.std.specs.List.{list_all, list_any}
 use Rattle.std.specs.Str.{bytes_eq}
 use Rattle.std.proofs.lemmas.Bool.{cases_Bool, true≢false}
 use Rattle.std.proofs.lemmas.List.{map-append}
-use Rattle.std.proofs.lemmas.List.Elements.{filter_map-append}
 use Rattle.gm_syntax.specs.Layout.{initial_state, is_blank_line, layout, layout_from, line_with_gap, state_after}
 use Rattle.gm_syntax.specs.LineViews.{plain, plain_lines}
 use Rattle.gm_syntax.specs.Tokens.{Placed}
@@ -18,12 +17,12 @@ use Rattle.gm_file_edit.specs.Edits.{Edit, Set, ModuleIs, GoIs, RequireAt, Repla
 use Rattle.gm_file_edit.specs.About.{about, is_covered_by, is_replaced_by, replaces_left}
 use Rattle.gm_file_edit.specs.Adding.{added, is_of, verb_text}
 use Rattle.gm_file_edit.specs.EditLaws.{arguments_added, verb_added}
-use Rattle.gm_file_edit.specs.Edited.{edited}
-use Rattle.gm_file_edit.specs.Fates.{Begun, Fate, dropped, dropping_from, is_emptied, itself, kept, leaves_nothing, opened_lines, remaining_from, with_line}
+use Rattle.gm_file_edit.specs.Edited.{changed, edited}
+use Rattle.gm_file_edit.specs.Fates.{Fate, dropped, dropping_from, kept, remaining, widened_from}
 use Rattle.gm_file_edit.specs.Holding.{directive_at, passes}
 use Rattle.gm_file_edit.specs.Laws.{directives_of}
 use Rattle.gm_file_edit.specs.NewWords.{entry_at, interval_words, pair_words, replace_words, single}
-use Rattle.gm_file_edit.specs.Pass.{changed, edited_by_pass, put_in}
+use Rattle.gm_file_edit.specs.Pass.{edited_by_pass, put_in}
 use Rattle.gm_file_edit.specs.Searching.{is_there, is_there_from}
 use Rattle.gm_file_edit.specs.Sound.{IsSoundEdit}
 use Rattle.gm_file_edit.specs.Undone.{DropUndoes, DropUndoesForLayout, undone_by}
@@ -32,12 +31,11 @@ use Rattle.gm_file_edit.proofs.AddingSound.{Fits, IsAddition, entry-fits, passin
 use Rattle.gm_file_edit.proofs.BySections.{edited-is-pass}
 use Rattle.gm_file_edit.proofs.EditedSound.{addition, ends-are, ends-says, exclude-says, pair-are, require-says}
 use Rattle.gm_file_edit.proofs.Idle.{there-said}
-use Rattle.gm_file_edit.proofs.Leaving.{emptied-inner}
 use Rattle.gm_file_edit.proofs.Renewals.{replace-are, replace-says, version-itself}
 use Rattle.gm_file_edit.proofs.SaidAfter.{and-both, pair-itself, sound-of, text-itself}
 use Rattle.gm_file_edit.proofs.Sound.{SoundFrom}
 use Rattle.gm_file_edit.proofs.Twice.{last-outside}
-use Rattle.gm_file_edit.proofs.Untouched.{Leave, all-lines-stay, all_stay, none-dropped, none-dropped-from, one-more, or-none, stay-before}
+use Rattle.gm_file_edit.proofs.Untouched.{all-lines-left, all_stay, none-dropped, none-dropped-from, or-none, stay-before}
 
 -- ---- the fates of the lines
 
@@ -52,62 +50,22 @@ one-gone test block (line ∷ front) back entry none hit =
     let parts = or-none (passes test (directive_at block line)) (is_there_from test (block_after_line block line) (front ++ back)) none in
     rw parts.0 (ap (λ (fs : List Fate). Some line ∷ fs) (one-gone test (block_after_line block line) front back entry parts.1 hit))
 
--- ---- the block of an entry that stays
-
-not-emptied : (before : Option (List ℕ)) (inner : List Fate) (suffix : Option (List ℕ)) → list_all leaves_nothing inner ≡ false → is_emptied before inner suffix ≡ false
-not-emptied before inner suffix e = elim (cases_Bool (is_emptied before inner suffix)) [
-  | inl holds ↦ absurd (true≢false (sym (emptied-inner before inner suffix holds) ∙ e))
-  | inr fails ↦ fails
-]
-
-and-first : (a b : Bool) → a ≡ false → (a && b) ≡ false
-and-first a b e = rw e refl
-
-all-first : (inner more : List Fate) → list_all leaves_nothing inner ≡ false → list_all leaves_nothing (inner ++ more) ≡ false
-all-first [] more e = absurd cc
-all-first (fate ∷ inner) more e = elim (cases_Bool (leaves_nothing fate)) [
-  | inl nothing ↦ let rest : list_all leaves_nothing inner ≡ false = rw nothing at e in rw nothing (all-first inner more rest)
-  | inr some ↦ rw some refl
-]
-
--- a block that keeps an entry stays, with the rest of the lines
-filled-stays : (b : Begun) (lines : List (Line Placed)) → list_all leaves_nothing b.inner ≡ false → remaining_from false (Some b) (all_stay lines) ≡ opened_lines b ++ lines
-unfolding remaining_from
-filled-stays b [] h = sym (append-nil (opened_lines b))
-filled-stays b (Close suffix ∷ lines) h =
-    let stays : is_emptied b.suffix b.inner suffix ≡ false = not-emptied b.suffix b.inner suffix h in
-    rw stays (ap (λ (ls : List (Line Placed)). Open b.verb b.suffix ∷ (kept b.inner ++ Close suffix ∷ ls)) (all-lines-stay lines))
-filled-stays b (Blank ∷ lines) h = filled-stays (with_line b (Some Blank)) lines (all-first b.inner (Some Blank ∷ []) h) ∙ one-more b Blank lines
-filled-stays b (Comment text ∷ lines) h = filled-stays (with_line b (Some (Comment text))) lines (all-first b.inner (Some (Comment text) ∷ []) h) ∙ one-more b (Comment text) lines
-filled-stays b (Open verb suffix ∷ lines) h = filled-stays (with_line b (Some (Open verb suffix))) lines (all-first b.inner (Some (Open verb suffix) ∷ []) h) ∙ one-more b (Open verb suffix) lines
-filled-stays b (Entry words suffix ∷ lines) h = filled-stays (with_line b (Some (Entry words suffix))) lines (all-first b.inner (Some (Entry words suffix) ∷ []) h) ∙ one-more b (Entry words suffix) lines
-
--- a removed line leaves the lines of the block as they are
-same-opened : (b : Begun) → opened_lines (with_line b None) ≡ opened_lines b
-same-opened b = ap (λ (ls : List (Line Placed)). Open b.verb b.suffix ∷ ls) (filter_map-append itself b.inner (None ∷ []) ∙ append-nil (kept b.inner))
-
-and-second : (a b : Bool) → b ≡ false → (a && b) ≡ false
-and-second true b e = e
-and-second false b e = refl
-
-one-filled : (inner : List Fate) (words : List Placed) (suffix : Option (List ℕ)) → list_all leaves_nothing (inner ++ Some (Entry words suffix) ∷ []) ≡ false
-one-filled [] words suffix = refl
-one-filled (fate ∷ inner) words suffix = and-second (leaves_nothing fate) (list_all leaves_nothing (inner ++ Some (Entry words suffix) ∷ [])) (one-filled inner words suffix)
+-- ---- what is left
 
 -- an entry stays, and the line after it is removed
-next-gone : (words : List Placed) (suffix : Option (List ℕ)) (back : List (Line Placed)) → Leave (Some (Entry words suffix) ∷ None ∷ all_stay back) (Entry words suffix ∷ back)
-unfolding remaining_from
-next-gone words suffix back None h = ap (λ (ls : List (Line Placed)). Entry words suffix ∷ ls) (all-lines-stay back)
-next-gone words suffix back (Some b) h =
-    let more : Begun = with_line b (Some (Entry words suffix)) in
-    filled-stays (with_line more None) back (all-first more.inner (None ∷ []) (one-filled b.inner words suffix))
-    ∙ ap (λ (ls : List (Line Placed)). ls ++ back) (same-opened more) ∙ one-more b (Entry words suffix) back
+next-gone : (words : List Placed) (suffix : Option (List ℕ)) (back : List (Line Placed)) (inside : Bool)
+    → kept (widened_from inside false (Some (Entry words suffix) ∷ None ∷ all_stay back)) ≡ Entry words suffix ∷ back
+next-gone words suffix back inside = ap (λ (ls : List (Line Placed)). Entry words suffix ∷ ls) (all-lines-left inside back)
+
+gone-behind : (words : List Placed) (suffix : Option (List ℕ)) (front back : List (Line Placed))
+    → remaining (all_stay front ++ Some (Entry words suffix) ∷ None ∷ all_stay back) ≡ front ++ Entry words suffix ∷ back
+unfolding remaining
+gone-behind words suffix front back = stay-before (Some (Entry words suffix) ∷ None ∷ all_stay back) (Entry words suffix ∷ back) refl (next-gone words suffix back) false front
 
 -- the last line is removed
-last-gone : Leave (None ∷ []) []
-unfolding remaining_from
-last-gone None h = refl
-last-gone (Some b) h = same-opened b ∙ sym (append-nil (opened_lines b))
+last-gone : (front : List (Line Placed)) → remaining (all_stay front ++ None ∷ []) ≡ front
+unfolding remaining
+last-gone front = stay-before (None ∷ []) [] refl (λ inside. refl) false front ∙ append-nil front
 
 -- ---- the lines
 
@@ -166,15 +124,14 @@ behind-entry test v arguments new front back line so own none hit =
     let fates : dropping_from test None ((front ++ line ∷ []) ++ entry ∷ back) ≡ all_stay (front ++ line ∷ []) ++ None ∷ all_stay back =
     one-gone test None (front ++ line ∷ []) back entry (ap (is_there test) whole ∙ none) (ap (λ (b : Option Placed). passes test (directive_at b entry)) behind ∙ passed) in
     let is = holds-entry (is_of v) block line hit in
-    ap (dropped test) (sym (append_assoc front (line ∷ []) (entry ∷ back))) ∙ ap (remaining_from false None) (fates ∙ split) ∙ left is.words is.suffix is.is
+    ap (dropped test) (sym (append_assoc front (line ∷ []) (entry ∷ back))) ∙ ap (remaining) (fates ∙ split) ∙ left is.words is.suffix is.is
   where
     split : all_stay (front ++ line ∷ []) ++ None ∷ all_stay back ≡ all_stay front ++ Some line ∷ None ∷ all_stay back
     split = ap (λ (fs : List Fate). fs ++ None ∷ all_stay back) (map-append (λ (l : Line Placed). Some l) front (line ∷ [])) ∙ append_assoc (all_stay front) (Some line ∷ []) (None ∷ all_stay back)
 
-    left : (words : List Placed) (suffix : Option (List ℕ)) → line ≡ Entry words suffix → remaining_from false None (all_stay front ++ Some line ∷ None ∷ all_stay back) ≡ front ++ line ∷ back
+    left : (words : List Placed) (suffix : Option (List ℕ)) → line ≡ Entry words suffix → remaining (all_stay front ++ Some line ∷ None ∷ all_stay back) ≡ front ++ line ∷ back
     left words suffix is =
-        subst (λ (l : Line Placed). remaining_from false None (all_stay front ++ Some l ∷ None ∷ all_stay back) ≡ front ++ l ∷ back) (sym is)
-        (stay-before (Some (Entry words suffix) ∷ None ∷ all_stay back) (Entry words suffix ∷ back) (next-gone words suffix back) None front tt)
+        subst (λ (l : Line Placed). remaining (all_stay front ++ Some l ∷ None ∷ all_stay back) ≡ front ++ l ∷ back) (sym is) (gone-behind words suffix front back)
 
 blank-none : (test : Directive → Bool) (block : Option Placed) (lines : List (Line Placed)) → is_there_from test block lines ≡ false → is_there_from test block (lines ++ Blank ∷ []) ≡ false
 unfolding item_at
@@ -193,8 +150,8 @@ at-end test v arguments new lines so own none sound =
     let outside : block_after_lines None front ≡ None = level-after None lines Blank ∙ last-outside lines sound in
     let passed : passes test (directive_at (block_after_lines None front) entry) ≡ true = ap (λ (b : Option Placed). passes test (directive_at b entry)) outside ∙ ap (passes test) fits.holds ∙ own in
     let absent : is_there test (front ++ []) ≡ false = ap (is_there test) (append-nil front) ∙ blank-none test None lines none in
-    ap (dropped test) (sym (append_assoc lines (Blank ∷ []) (entry ∷ []))) ∙ ap (remaining_from false None) (one-gone test None front [] entry absent passed)
-    ∙ stay-before (None ∷ []) [] last-gone None front tt ∙ append-nil front
+    ap (dropped test) (sym (append_assoc lines (Blank ∷ []) (entry ∷ []))) ∙ ap (remaining) (one-gone test None front [] entry absent passed)
+    ∙ last-gone front
 
 added-undone : (test : Directive → Bool) (v : AddedVerb) (arguments : List Placed) (new : Directive) (lines : List (Line Placed)) → IsAddition v arguments new → test new ≡ true → is_there test lines ≡ false → SoundFrom [] None lines
     → dropped test (added (is_of v) (verb_text v) arguments lines) ≡ (if is_there (is_of v) lines then lines else lines ++ Blank ∷ [])
@@ -224,6 +181,9 @@ record IsUndone (edit : Edit) (t : Target) (v : AddedVerb) : Type 0 where
   so : IsAddition v (arguments_added edit) new
   own : about (Drop t) new ≡ true
   fewer : (d : Directive) → about edit d ≡ false → about (Drop t) d ≡ false
+
+and-first : (a b : Bool) → a ≡ false → (a && b) ≡ false
+and-first a b e = rw e refl
 
 covered-left : (left other : Left) (version : Option (List ℕ)) → left.version ≡ version → is_covered_by left version other ≡ false → is_same_left other left ≡ false
 covered-left left other None is e = and-first (bytes_eq other.path left.path) (is_same_version other.version left.version) e

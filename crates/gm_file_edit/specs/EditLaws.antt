@@ -1,12 +1,11 @@
 -- What an operation does to the lines of a file, in the words of a reader of that file (go help mod edit).
 use Rattle.std.specs.Prelude.{◌≡◌, ℕ, if◌then◌else◌, Bool, true, false, List, [], ◌∷◌, ◌++◌, Option, Some, None, codes, is_some, filter}
-use Rattle.std.specs.List.{list_all, list_any}
+use Rattle.std.specs.List.{list_any}
 use Rattle.gm_syntax.specs.Tokens.{Placed}
-use Rattle.gm_syntax.specs.Document.{Line, Blank, Comment, Open, Close, Entry, IsDocument, is_level}
-use Rattle.gm_syntax.specs.LineViews.{plain, plain_lines}
+use Rattle.gm_syntax.specs.Document.{Line, Blank, Comment, Open, Close, Entry}
 use Rattle.gm_file.specs.Directives.{Directive, block_after_lines}
 use Rattle.gm_file_edit.specs.About.{about}
-use Rattle.gm_file_edit.specs.Edited.{Block, Section, Single, Unclosed, edited, holds, lines_of_sections, sections_of}
+use Rattle.gm_file_edit.specs.Edited.{edited, holds}
 use Rattle.gm_file_edit.specs.Edits.{Edit, Set, RequireAt, Add, Exclude, ReplaceWith, Retract}
 use Rattle.gm_file_edit.specs.Laws.{directives_of, IsEditOf}
 use Rattle.gm_file_edit.specs.Kinds.{added_by, is_drop}
@@ -50,27 +49,6 @@ is_comment_line (Entry words suffix) = false
 abbrev pub CommentLinesStay : Type 0
 CommentLinesStay = (edit : Edit) (lines : List (Line Placed))
     → filter is_comment_line (edited edit lines) ≡ filter is_comment_line lines
-
--- ---- the sections of a file
-
--- the lines are those of their sections
-abbrev pub SectionsHaveTheLines : Type 0
-SectionsHaveTheLines = (lines : List (Line Placed)) → lines_of_sections (sections_of lines) ≡ lines
-
--- whether a line neither opens nor closes a block
-abbrev pub is_loose : Line Placed → Bool
-is_loose line = is_level (plain line)
-
--- whether no line opens or closes anything except the opening and the closing of the block
-abbrev pub is_section : Section → Bool
-is_section (Single line) = is_loose line
-is_section (Block verb suffix inner last) = list_all is_loose inner
-is_section (Unclosed verb suffix inner) = false
-
--- in a document each line is in a block that is closed, or is a single line that is no bracket
-abbrev pub DocumentsHaveWholeSections : Type 0
-DocumentsHaveWholeSections = (lines : List (Line Placed)) → IsDocument (plain_lines lines)
-    → list_all is_section (sections_of lines) ≡ true
 
 -- ---- where an addition goes
 

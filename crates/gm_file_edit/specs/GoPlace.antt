@@ -1,15 +1,19 @@
 -- Where an operation puts a new go directive (go help mod edit).
-use Rattle.std.specs.Prelude.{◌≡◌, ℕ, true, false, List, ◌∷◌, ◌++◌, Option, None, is_some}
+use Rattle.std.specs.Prelude.{◌≡◌, ℕ, Bool, true, false, List, ◌∷◌, ◌++◌, Option, None, is_some}
 use Rattle.std.specs.List.{list_all, list_any}
 use Rattle.gm_syntax.specs.Tokens.{Placed}
-use Rattle.gm_syntax.specs.Document.{Line, Close}
+use Rattle.gm_syntax.specs.Document.{Line, Close, is_level}
+use Rattle.gm_syntax.specs.LineViews.{plain}
 use Rattle.gm_file.specs.Directives.{block_after_lines}
 use Rattle.gm_file.specs.Faults.{is_go, is_module}
 use Rattle.gm_file_edit.specs.Edited.{edited, holds, new_go}
-use Rattle.gm_file_edit.specs.EditLaws.{is_loose}
 use Rattle.gm_file_edit.specs.Edits.{Set, GoIs}
 use Rattle.gm_file_edit.specs.Laws.{directives_of}
 use Rattle.gm_file_edit.specs.Searching.{is_there}
+
+-- whether a line neither opens nor closes a block
+abbrev pub is_loose : Line Placed → Bool
+is_loose line = is_level (plain line)
 
 -- the line holds a module directive, and no line before it does
 pub record IsFirstModule (front : List (Line Placed)) (line : Line Placed) : Type 0 where

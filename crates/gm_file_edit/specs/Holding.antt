@@ -1,11 +1,12 @@
 -- The directive that a line of a file holds.
-use Rattle.std.specs.Prelude.{Bool, true, false, Option, Some, None}
+use Rattle.std.specs.Prelude.{◌≡◌, Bool, false, List, [], Option, Some, None}
 use Rattle.std.specs.Option.{option_map}
 use Rattle.gm_syntax.specs.Words.{Word}
 use Rattle.gm_syntax.specs.Tokens.{Placed}
-use Rattle.gm_syntax.specs.Document.{Line, Blank}
+use Rattle.gm_syntax.specs.Document.{Line}
 use Rattle.gm_syntax.specs.LineViews.{plain}
 use Rattle.gm_file.specs.Directives.{Strict, Directive, Item, item_at, directive_in}
+use Rattle.gm_file.specs.Faults.{item_kinds}
 
 abbrev pub word_of : Placed → Word
 word_of t = t.word
@@ -23,6 +24,6 @@ abbrev pub passes : (Directive → Bool) → Option Directive → Bool
 passes test None = false
 passes test (Some d) = test d
 
-abbrev pub is_blank_source_line : Line Placed → Bool
-is_blank_source_line Blank = true
-is_blank_source_line _ = false
+-- the line is valid in its block, after some list of earlier directives
+abbrev pub IsValidAt : Option Placed → Line Placed → Type 0
+IsValidAt block line = (earlier : List Directive) × (item_kinds Strict earlier (item_of block line) ≡ [])

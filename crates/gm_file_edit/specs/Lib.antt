@@ -5,7 +5,6 @@ pub mod Views
 pub mod Holding
 pub mod Fates
 pub mod About
-pub mod Packs
 pub mod Marks
 pub mod NewWords
 pub mod Renewing

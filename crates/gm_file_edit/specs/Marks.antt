@@ -1,12 +1,36 @@
 -- How contracts view the marks of lines. No public contract cites it.
-use Rattle.std.specs.Prelude.{Bool, List, [], ◌∷◌, Option}
+use Rattle.std.specs.Prelude.{ℕ, Bool, true, false, List, [], ◌∷◌, Option, is_none, slice_index_or}
 use Rattle.gm_syntax.specs.Tokens.{Placed}
-use Rattle.gm_syntax.specs.Document.{Line}
+use Rattle.gm_syntax.specs.Document.{Line, Blank, Comment, Open, Close, Entry}
 use Rattle.gm_file.specs.Directives.{Directive, block_after_line}
+use Rattle.gm_file_edit.specs.Fates.{Fate, fate_by}
 use Rattle.gm_file_edit.specs.Holding.{directive_at, passes}
+
+-- the line at an index
+abbrev pub line_at : List (Line Placed) → ℕ → Line Placed
+line_at lines n = slice_index_or lines n Blank
+
+-- whether a line is blank
+abbrev pub is_blank_source_line : Line Placed → Bool
+is_blank_source_line Blank = true
+is_blank_source_line _ = false
+
+-- whether a line is a closing without a comment
+abbrev pub closes_bare : Line Placed → Bool
+closes_bare Blank = false
+closes_bare (Comment text) = false
+closes_bare (Open verb suffix) = false
+closes_bare (Close suffix) = is_none suffix
+closes_bare (Entry words suffix) = false
 
 -- whether each line holds a directive that passes the test, given the verb of the open block, if any
 abbrev pub marks_from : (Directive → Bool) → Option Placed → List (Line Placed) → List Bool
 marks_from test block [] = []
 marks_from test block (line ∷ lines) =
     passes test (directive_at block line) ∷ marks_from test (block_after_line block line) lines
+
+-- the fates of lines, each with its mark
+abbrev pub marked : List Bool → List (Line Placed) → List Fate
+marked [] lines = []
+marked (mark ∷ marks) [] = []
+marked (mark ∷ marks) (line ∷ lines) = fate_by mark line ∷ marked marks lines

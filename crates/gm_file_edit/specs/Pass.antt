@@ -5,18 +5,11 @@ use Rattle.gm_syntax.specs.Document.{Line, Blank}
 use Rattle.gm_file.specs.Faults.{is_module}
 use Rattle.gm_file_edit.specs.Edits.{Edit, Set, Add, Drop, ModuleIs, GoIs, RequireAt, ReplaceWith, Exclude, Retract}
 use Rattle.gm_file_edit.specs.NewWords.{interval_words, made_word, pair_words, replace_words, single}
-use Rattle.gm_file_edit.specs.Renewing.{made_new}
-use Rattle.gm_file_edit.specs.Fates.{dropped, renewed}
+use Rattle.gm_file_edit.specs.Edited.{changed}
 use Rattle.gm_file_edit.specs.About.{about}
 use Rattle.gm_file_edit.specs.Searching.{is_there}
 use Rattle.gm_file_edit.specs.Adding.{added, after_first_that}
 use Rattle.gm_file_edit.specs.Verbs.{is_exclude, is_replace, is_require, is_retract}
-
--- the lines after the operation if some entry is targeted
-unfoldable pub changed : Edit → List (Line Placed) → List (Line Placed)
-changed (Set s) lines = renewed (about (Set s)) (made_new (Set s)) lines
-changed (Add a) lines = lines
-changed (Drop t) lines = dropped (about (Drop t)) lines
 
 -- the lines after the operation if no entry is targeted
 unfoldable pub put_in : Edit → List (Line Placed) → List (Line Placed)

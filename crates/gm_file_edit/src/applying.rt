@@ -10,9 +10,9 @@ ghost use Rattle.gm_file.specs.Faults.{fault_of};
 ghost use Rattle.gm_name.specs.Names.{does_fit};
 ghost use Rattle.gm_file_edit.specs.About.{about};
 ghost use Rattle.gm_file_edit.specs.Adding.{added, is_of, verb_text};
-ghost use Rattle.gm_file_edit.specs.Pass.{changed, put_in};
+ghost use Rattle.gm_file_edit.specs.Pass.{put_in};
 ghost use Rattle.gm_file_edit.specs.Edits.{Add, Set};
-ghost use Rattle.gm_file_edit.specs.Edited.{edited};
+ghost use Rattle.gm_file_edit.specs.Edited.{changed, edited};
 ghost use Rattle.gm_file_edit.specs.Kinds.{is_fit};
 ghost use Rattle.gm_file_edit.specs.Marks.{marks_from};
 ghost use Rattle.gm_file_edit.specs.NewWords.{pair_words};
@@ -74,7 +74,7 @@ fn change_lines<'a>(
         }
         Change::Add(_) => Ok(()),
         Change::Drop(_) => {
-            pack(lines, marks.as_slice());
+            pack(lines, marks);
             Ok(())
         }
     }

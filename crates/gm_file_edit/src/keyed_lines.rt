@@ -6,7 +6,7 @@ ghost use Rattle.std.specs.Vec.{vec_capacity, vec_len};
 ghost use Rattle.gm_syntax.specs.Document.{Blank};
 ghost use Rattle.gm_syntax.specs.LineViews.{line_of, line_views};
 ghost use Rattle.gm_file_edit.specs.Keys.{key_of};
-ghost use Rattle.gm_file_edit.specs.Packs.{line_at};
+ghost use Rattle.gm_file_edit.specs.Marks.{line_at};
 
 use crate::keys::{Key, key_of};
 use gm_syntax::Line;

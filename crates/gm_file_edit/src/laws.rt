@@ -12,7 +12,7 @@ ghost use Rattle.gm_file.specs.Directives.{Strict};
 ghost use Rattle.gm_file.specs.Faults.{fault_of};
 ghost use Rattle.gm_file_edit.specs.Edited.{edited};
 ghost use Rattle.gm_file_edit.specs.Kinds.{is_fit};
-ghost use Rattle.gm_file_edit.specs.EditLaws.{AdditionFollowsItsVerb, AdditionOfANewVerbIsLast, CommentLinesStay, DocumentsHaveWholeSections, IdleAdditionChangesNothing, IdleDropChangesNothing, SecondAdditionChangesNothing, SecondDropChangesNothing, SectionsHaveTheLines};
+ghost use Rattle.gm_file_edit.specs.EditLaws.{AdditionFollowsItsVerb, AdditionOfANewVerbIsLast, CommentLinesStay, IdleAdditionChangesNothing, IdleDropChangesNothing, SecondAdditionChangesNothing, SecondDropChangesNothing};
 ghost use Rattle.gm_file_edit.specs.Edits.{Edit, edit_in};
 ghost use Rattle.gm_file_edit.specs.EitherOrder.{EitherOrderLeavesTheSame};
 ghost use Rattle.gm_file_edit.specs.GoPlace.{GoFollowsModule, GoFollowsModuleBlock};
@@ -114,16 +114,6 @@ pub fn either_order_leaves_the_same()
 /// The comment lines of a file are the same before and after any operation, and in the same order.
 pub fn comment_lines_stay()
     ensures { CommentLinesStay }
-{}
-
-/// The sections of lines are these lines: none is added or left out, and their order stays.
-pub fn sections_have_the_lines()
-    ensures { SectionsHaveTheLines }
-{}
-
-/// In a document every section is a single line that is no bracket, or a closed block with no bracket in it.
-pub fn documents_have_whole_sections()
-    ensures { DocumentsHaveWholeSections }
 {}
 
 /// A new entry stands directly after the last directive of its verb, in the same block if that one is in a block.

@@ -1,58 +1,28 @@
 //! Removing lines of a file in place.
 //!
-//! Each line that stays moves at most once, and nothing is allocated. A block that loses an entry and keeps neither
-//! entries nor comments is removed as a whole, with a blank line directly after it. This is known only at its closing
-//! bracket, so the lines of an open block are kept first, and given up there.
+//! Lines that go have a mark. Marks are widened to the blocks that this empties, each with a blank line directly after
+//! it, so that the blank lines before and after the block don't end up next to each other. Then each line that stays
+//! moves at most once. Nothing is allocated.
 
-ghost use Rattle.std.specs.Prelude.{◌≡◌, ◌+◌, ◌∷◌, ◌++◌, ◌<◌, ◌≤◌, ◌&&◌, [], false, not, length, take, drop, None, Some};
-ghost use Rattle.std.specs.List.{list_all, list_any};
+ghost use Rattle.std.specs.Prelude.{◌≡◌, ◌+◌, ◌∷◌, ◌++◌, ◌<◌, ◌≤◌, [], false, length, take, drop, Some};
+ghost use Rattle.std.specs.List.{list_any};
+ghost use Rattle.std.specs.Option.{option_map};
 ghost use Rattle.gm_syntax.specs.LineViews.{line_of, line_views};
-ghost use Rattle.gm_file_edit.specs.Fates.{remaining_from};
-ghost use Rattle.gm_file_edit.specs.Holding.{is_blank_source_line};
-ghost use Rattle.gm_file_edit.specs.Packs.{EndsWithBlock, IsNext, IsOpenedAt, closing, fate_by, is_bare_part, is_uncommented, line_at, marked, opened, with_loss};
+ghost use Rattle.gm_file_edit.specs.Fates.{empties, fate_by, kept, remaining, widened_from};
+ghost use Rattle.gm_file_edit.specs.Marks.{closes_bare, is_blank_source_line, line_at, marked};
 
 use crate::keyed_lines::KeyedLines;
 use gm_syntax::Line;
 
-/// An open block, whose closing bracket hasn't been reached.
+/// What is known after a line of a file whose marks are widened.
 #[derive(Clone, Copy)]
-pub(crate) struct OpenBlock {
-    /// The index of its opening.
-    at: usize,
-    /// Whether a line of it was removed.
-    lost: bool,
-}
-
-/// The state of a packing.
-#[derive(Clone, Copy)]
-pub(crate) struct Packing {
-    /// The number of lines that are kept so far, at the front.
-    kept: usize,
-    /// Whether an emptied block came directly before. A blank line here is then removed too, so that the blank lines
-    /// before and after the block don't end up next to each other.
-    after: bool,
-    /// The open block, if any. Its lines so far are the last that are kept.
-    block: Option<OpenBlock>,
-}
-
-/// The block that is open after a line outside blocks, which is kept at this index.
-fn opened(at: usize, line: &Line) -> Option<OpenBlock>
-    ensures { result ≡ opened at (line_of line.now) }
-{
-    match line {
-        Line::Open(_, _) => Some(OpenBlock { at, lost: false }),
-        Line::Blank | Line::Comment(_) | Line::Close(_) | Line::Entry(_, _) => None,
-    }
-}
-
-/// Whether the closing of a block has a comment, if a line is one.
-fn closing(line: &Line) -> Option<bool>
-    ensures { result ≡ closing (line_of line.now) }
-{
-    match line {
-        Line::Close(suffix) => Some(suffix.is_some()),
-        Line::Blank | Line::Comment(_) | Line::Open(_, _) | Line::Entry(_, _) => None,
-    }
+pub(crate) struct Widening {
+    /// Whether the line goes.
+    mark: bool,
+    /// Whether a block is open.
+    inside: bool,
+    /// Whether the open block goes, or the last line that wasn't marked before closed a block that goes.
+    goes: bool,
 }
 
 /// Whether a line is blank.
@@ -62,36 +32,87 @@ fn is_blank(line: &Line) -> bool
     matches!(line, Line::Blank)
 }
 
-/// Whether all lines are blank.
-fn are_blank(lines: &[Line]) -> bool
-    ensures { result ≡ list_all (λ line. is_blank_source_line (line_of line)) lines.now }
+/// Whether a line is a closing without a comment.
+fn closes_bare(line: &Line) -> bool
+    ensures { result ≡ closes_bare (line_of line.now) }
 {
-    lines.iter().all(|line| is_blank(line))
+    matches!(line, Line::Close(None))
 }
 
-/// Whether a line is an opening without a comment.
-fn is_uncommented(line: &Line) -> bool
-    ensures { result ≡ is_uncommented (line_of line.now) }
+/// Whether the lines from here to a closing empty a block: each is blank or has a mark, the closing has no comment, and
+/// a line has a mark.
+fn empties(lines: &[Line], marks: &[bool]) -> bool
+    requires { length marks.now ≡ length lines.now }
+    ensures { result ≡ empties false (marked marks.now (line_views lines.now)) }
 {
-    matches!(line, Line::Open(_, None))
+    let mut lost = false;
+    for (n, line) in lines.iter().enumerate() {
+        if marks[n] {
+            lost = true;
+        } else if !is_blank(line) {
+            return lost && closes_bare(line);
+        }
+    }
+    false
 }
 
-/// Whether the lines are an opening without a comment, and nothing but blank lines.
-fn is_bare(lines: &[Line]) -> bool
-    ensures { result ≡ is_bare_part (line_views lines.now) }
+/// What is known after a line without a mark, before these lines.
+fn after_line(before: Widening, line: &Line, lines: &[Line], marks: &[bool]) -> Widening
+    requires { length marks.now ≡ length lines.now }
+    ensures { widened_from before.inside before.goes (Some (line_of line.now) ∷ marked marks.now (line_views lines.now))
+        ≡ fate_by result.mark (line_of line.now)
+        ∷ widened_from result.inside result.goes (marked marks.now (line_views lines.now)) }
 {
-    match lines {
-        [] => false,
-        [first, inner @ ..] => is_uncommented(first) && are_blank(inner),
+    let Widening {
+        mark: _,
+        inside,
+        goes,
+    } = before;
+    match line {
+        Line::Blank => Widening {
+            mark: goes,
+            inside,
+            goes: inside && goes,
+        },
+        Line::Open(_, suffix) => {
+            let emptied = !inside && suffix.is_none() && empties(lines, marks);
+            Widening {
+                mark: emptied,
+                inside: true,
+                goes: emptied,
+            }
+        }
+        Line::Close(_) => Widening {
+            mark: inside && goes,
+            inside: false,
+            goes: inside && goes,
+        },
+        Line::Comment(_) | Line::Entry(_, _) => Widening {
+            mark: false,
+            inside,
+            goes: false,
+        },
     }
 }
 
-/// Whether a block is emptied: it lost a line, no comment stands after either bracket, and nothing but blank lines
-/// stays. `lines` are those that are kept of it.
-fn is_emptied(block: OpenBlock, commented: bool, lines: &[Line]) -> bool
-    ensures { result ≡ (not commented && (block.lost && is_bare_part (line_views lines.now))) }
+/// Marks the lines of the blocks too that the marks empty, and a blank line directly after such a block.
+fn widen(lines: &[Line], marks: &mut Vec<bool>)
+    requires { length marks.old.items ≡ length lines.now }
+    ensures len { length marks.new.items ≡ length lines.now }
+    ensures marks { marked marks.new.items (line_views lines.now)
+        ≡ widened_from false false (marked marks.old.items (line_views lines.now)) }
 {
-    !commented && block.lost && is_bare(lines)
+    let mut state = Widening {
+        mark: false,
+        inside: false,
+        goes: false,
+    };
+    for (n, line) in lines.iter().enumerate() {
+        if !marks[n] {
+            state = after_line(state, line, &lines[n + 1..], &marks.as_slice()[n + 1..]);
+            marks[n] = state.mark;
+        }
+    }
 }
 
 /// Keeps a line, directly after those that are kept so far.
@@ -108,131 +129,19 @@ fn keep(lines: &mut KeyedLines, kept: usize, n: usize)
     }
 }
 
-/// The block after a line of it is removed.
-fn with_loss(block: Option<OpenBlock>) -> Option<OpenBlock>
-    ensures { result ≡ with_loss block }
+/// Keeps the lines that have no mark.
+fn keep_unmarked(lines: &mut KeyedLines, marks: &[bool])
+    requires { length marks.now ≡ length lines.old }
+    ensures { lines.new ≡ kept (marked marks.now lines.old) }
 {
-    match block {
-        None => None,
-        Some(block) => Some(OpenBlock {
-            at: block.at,
-            lost: true,
-        }),
-    }
-}
-
-/// Whether a line outside blocks is a blank one directly after an emptied block.
-fn is_skipped(after: bool, line: &Line) -> bool
-    ensures { result ≡ (after && is_blank_source_line (line_of line.now)) }
-{
-    after && is_blank(line)
-}
-
-/// The packing after a line outside blocks that isn't removed. A blank line directly after an emptied block is.
-fn outside(lines: &mut KeyedLines, kept: usize, after: bool, n: usize) -> Packing
-    requires ordered { kept ≤ n }
-    requires in_range { n < length lines.old }
-    ensures next { IsNext after None (take kept lines.old)
-        (Some (line_at lines.old n)) result lines.new }
-    ensures bound { result.kept ≤ n + 1 }
-    ensures rest { drop (n + 1) lines.new ≡ drop (n + 1) lines.old }
-    ensures len { length lines.new ≡ length lines.old }
-{
-    if is_skipped(after, lines.line(n)) {
-        return Packing {
-            kept,
-            after: false,
-            block: None,
-        };
-    }
-    let block = opened(kept, lines.line(n));
-    keep(lines, kept, n);
-    Packing {
-        kept: kept + 1,
-        after: false,
-        block,
-    }
-}
-
-/// The packing after the closing bracket of the open block. An emptied block is removed as a whole.
-fn close(
-    lines: &mut KeyedLines,
-    packing: Packing,
-    block: OpenBlock,
-    commented: bool,
-    n: usize,
-) -> Packing
-    requires ordered { packing.kept ≤ n }
-    requires in_range { n < length lines.old }
-    requires open { IsOpenedAt block.at (take packing.kept lines.old) }
-    requires closing { closing (line_at lines.old n) ≡ Some commented }
-    ensures next { IsNext packing.after (Some block) (take packing.kept lines.old)
-        (Some (line_at lines.old n)) result lines.new }
-    ensures bound { result.kept ≤ n + 1 }
-    ensures rest { drop (n + 1) lines.new ≡ drop (n + 1) lines.old }
-    ensures len { length lines.new ≡ length lines.old }
-{
-    if is_emptied(block, commented, &lines.lines()[block.at..packing.kept]) {
-        return Packing {
-            kept: block.at,
-            after: true,
-            block: None,
-        };
-    }
-    keep(lines, packing.kept, n);
-    Packing {
-        kept: packing.kept + 1,
-        after: false,
-        block: None,
-    }
-}
-
-/// The packing after a line of the open block that isn't removed.
-fn inside(lines: &mut KeyedLines, packing: Packing, block: OpenBlock, n: usize) -> Packing
-    requires ordered { packing.kept ≤ n }
-    requires in_range { n < length lines.old }
-    requires open { IsOpenedAt block.at (take packing.kept lines.old) }
-    ensures next { IsNext packing.after (Some block) (take packing.kept lines.old)
-        (Some (line_at lines.old n)) result lines.new }
-    ensures bound { result.kept ≤ n + 1 }
-    ensures rest { drop (n + 1) lines.new ≡ drop (n + 1) lines.old }
-    ensures len { length lines.new ≡ length lines.old }
-{
-    match closing(lines.line(n)) {
-        Some(commented) => close(lines, packing, block, commented, n),
-        None => {
-            keep(lines, packing.kept, n);
-            Packing {
-                kept: packing.kept + 1,
-                after: packing.after,
-                block: Some(block),
-            }
+    let mut count = 0;
+    for (n, goes) in marks.iter().enumerate() {
+        if !*goes {
+            keep(lines, count, n);
+            count += 1;
         }
     }
-}
-
-/// The packing after one more line, which is removed or not.
-fn pack_line(lines: &mut KeyedLines, packing: Packing, n: usize, goes: bool) -> Packing
-    requires ordered { packing.kept ≤ n }
-    requires in_range { n < length lines.old }
-    requires ends { EndsWithBlock packing.block (take packing.kept lines.old) }
-    ensures next { IsNext packing.after packing.block (take packing.kept lines.old)
-        (fate_by goes (line_at lines.old n)) result lines.new }
-    ensures bound { result.kept ≤ n + 1 }
-    ensures rest { drop (n + 1) lines.new ≡ drop (n + 1) lines.old }
-    ensures len { length lines.new ≡ length lines.old }
-{
-    if goes {
-        return Packing {
-            kept: packing.kept,
-            after: packing.after,
-            block: with_loss(packing.block),
-        };
-    }
-    match packing.block {
-        None => outside(lines, packing.kept, packing.after, n),
-        Some(block) => inside(lines, packing, block, n),
-    }
+    lines.truncate(count);
 }
 
 /// Whether some line has a mark.
@@ -243,20 +152,14 @@ fn has_mark(marks: &[bool]) -> bool
 }
 
 /// Removes the lines that have a mark, and the blocks that this empties. Takes no memory.
-pub(crate) fn pack(lines: &mut KeyedLines, marks: &[bool])
-    requires { length marks.now ≡ length lines.old }
-    ensures { lines.new ≡ remaining_from false None (marked marks.now lines.old) }
+pub(crate) fn pack(lines: &mut KeyedLines, marks: Vec<bool>)
+    requires { length marks.items ≡ length lines.old }
+    ensures { lines.new ≡ remaining (marked marks.items lines.old) }
 {
-    if !has_mark(marks) {
+    if !has_mark(marks.as_slice()) {
         return;
     }
-    let mut packing = Packing {
-        kept: 0,
-        after: false,
-        block: None,
-    };
-    for (n, goes) in marks.iter().enumerate() {
-        packing = pack_line(lines, packing, n, *goes);
-    }
-    lines.truncate(packing.kept);
+    let mut widened = marks;
+    widen(lines.lines(), &mut widened);
+    keep_unmarked(lines, widened.as_slice());
 }

@@ -10,10 +10,10 @@ ghost use Rattle.gm_syntax.specs.Tokens.{Placed};
 ghost use Rattle.gm_file.specs.Directives.{block_after_lines};
 ghost use Rattle.gm_file.specs.Views.{replace_view};
 ghost use Rattle.gm_file_edit.specs.Edits.{Set};
-ghost use Rattle.gm_file_edit.specs.Fates.{remaining_from};
+ghost use Rattle.gm_file_edit.specs.Fates.{remaining};
 ghost use Rattle.gm_file_edit.specs.Renewing.{before_arguments, made_new, with_arguments, with_last};
 ghost use Rattle.gm_file_edit.specs.NewWords.{replace_words};
-ghost use Rattle.gm_file_edit.specs.Packs.{line_at, marked};
+ghost use Rattle.gm_file_edit.specs.Marks.{line_at, marked};
 ghost use Rattle.gm_file_edit.specs.Sound.{IsSoundEdit, IsSoundRight};
 ghost use Rattle.gm_file_edit.specs.Views.{setting_of};
 
@@ -119,11 +119,11 @@ pub(crate) fn new_line<'a>(
 pub(crate) fn renew<'a>(lines: &mut KeyedLines<'a>, marks: Vec<bool>, first: usize, line: Line<'a>)
     requires marks { length marks.items ≡ length lines.old }
     requires in_range { first < length lines.old }
-    ensures { lines.new ≡ remaining_from false None
+    ensures { lines.new ≡ remaining
         (marked (slice_set marks.items first false) (slice_set lines.old first (line_of line.entry))) }
 {
     lines.put(first, line);
     let mut others = marks;
     others[first] = false;
-    pack(lines, others.as_slice());
+    pack(lines, others);
 }

@@ -1,5 +1,5 @@
 -- The lines that operations make of a document that was read from UTF-8 are UTF-8.
-use Rattle.std.proofs.Common.{◌≡◌, ℕ, zero, suc, ◌-◌, ◌==◌, ◌<◌, ◌≤◌, nat_lt, Bool, true, false, List, [], ◌∷◌, ◌++◌, length, get_or, map, take, drop, Option, Some, None, IsUtf8, refl, sym, ap, subst, ◌∙◌, arith, length-append, inl, inr}
+use Rattle.std.proofs.Common.{◌≡◌, ℕ, zero, suc, ◌-◌, ◌==◌, ◌&&◌, ◌<◌, ◌≤◌, nat_lt, Bool, true, false, List, [], ◌∷◌, ◌++◌, length, get_or, map, take, drop, Option, Some, None, IsUtf8, refl, sym, ap, subst, ◌∙◌, arith, length-append, inl, inr}
 use Rattle.std.specs.Prelude.{if◌then◌else◌, codes, insert}
 use Rattle.std.specs.List.{AllByRecursion, after_first, before_first, list_all, position_or_len}
 use Rattle.std.specs.Str.{bytes_eq}
@@ -29,10 +29,10 @@ use Rattle.gm_file.specs.Values.{is_folder_path}
 use Rattle.gm_file_edit.specs.About.{about, is_replaced_by, requires_path}
 use Rattle.gm_file_edit.specs.Adding.{added, added_at, after_first_that, insert_at_spot, past_block, spot_after_first, spot_after_last, spot_after_line}
 use Rattle.gm_file_edit.specs.Verbs.{is_exclude, is_replace, is_require, is_retract}
-use Rattle.gm_file_edit.specs.Pass.{changed, edited_by_pass, put_in}
-use Rattle.gm_file_edit.specs.Edited.{edited}
+use Rattle.gm_file_edit.specs.Pass.{edited_by_pass, put_in}
+use Rattle.gm_file_edit.specs.Edited.{changed, edited}
 use Rattle.gm_file_edit.specs.Edits.{Edit, Set, ModuleIs, GoIs, RequireAt, Drop, Add, Exclude, ReplaceWith, Retract, edit_in, go_text_in, has_byte, left_in, module_of_pair, named, named_in, pair_in, replacing_in, right_in, sides_in, split_at_byte}
-use Rattle.gm_file_edit.specs.Fates.{Begun, Fate, begin, dropped, dropping_from, is_emptied, kept, remaining_from, renewed, renewing_from, with_line}
+use Rattle.gm_file_edit.specs.Fates.{Fate, dropped, dropping_from, is_emptied, kept, remaining, renewed, renewing_from, widened_from}
 use Rattle.gm_file_edit.specs.Holding.{directive_at, passes}
 use Rattle.gm_file_edit.specs.NewWords.{entry_at, interval_words, left_words, made_mark, made_word, pair_words, replace_words, right_words, single}
 use Rattle.gm_file_edit.specs.Renewing.{before_arguments, with_arguments, with_last}
@@ -295,42 +295,25 @@ IsGoodFate (Some line) = IsGood line
 abbrev AreGoodFates : List Fate → Type 0
 AreGoodFates fates = AllByRecursion IsGoodFate fates
 
-record IsGoodBlock (b : Begun) : Type 0 where
-  pub opening : IsGood (Open b.verb b.suffix)
-  pub inner_are : AreGoodFates b.inner
-
-abbrev IsGoodBegun : Option Begun → Type 0
-IsGoodBegun None = Unit {0}
-IsGoodBegun (Some b) = IsGoodBlock b
-
-kept_good : (fates : List Fate) → AreGoodFates fates → AreGood (kept fates)
-kept_good [] are = tt
-kept_good (None ∷ fates) are = kept_good fates are.1
-kept_good (Some line ∷ fates) are = (are.0, kept_good fates are.1)
-
-with_good : (b : Begun) (fate : Fate) → IsGoodBlock b → IsGoodFate fate → IsGoodBlock (with_line b fate)
-with_good b fate is one = record { opening = is.opening; inner_are = all_append IsGoodFate b.inner (fate ∷ []) is.inner_are (one, tt) }
-
-remaining_good : (after : Bool) (begun : Option Begun) (fates : List Fate) → IsGoodBegun begun → AreGoodFates fates → AreGood (remaining_from after begun fates)
-unfolding remaining_from
-remaining_good after None [] is are = tt
-remaining_good after (Some b) [] is are = (is.opening, kept_good b.inner is.inner_are)
-remaining_good after None (None ∷ fates) is are = remaining_good after None fates tt are.1
-remaining_good false None (Some Blank ∷ fates) is are = (tt, remaining_good false None fates tt are.1)
-remaining_good true None (Some Blank ∷ fates) is are = remaining_good false None fates tt are.1
-remaining_good after None (Some (Comment text) ∷ fates) is are = (are.0, remaining_good false None fates tt are.1)
-remaining_good after None (Some (Open verb suffix) ∷ fates) is are = remaining_good false (Some (begin verb suffix)) fates (record { opening = are.0; inner_are = tt }) are.1
-remaining_good after None (Some (Close suffix) ∷ fates) is are = (are.0, remaining_good false None fates tt are.1)
-remaining_good after None (Some (Entry words suffix) ∷ fates) is are = (are.0, remaining_good false None fates tt are.1)
-remaining_good after (Some b) (Some (Close suffix) ∷ fates) is are = elim (cases_Bool (is_emptied b.suffix b.inner suffix)) [
-  | inl gone ↦ rw gone (remaining_good true None fates tt are.1)
-  | inr stays ↦ rw stays (is.opening, all_append IsGood (kept b.inner) (Close suffix ∷ remaining_from false None fates) (kept_good b.inner is.inner_are) (are.0, remaining_good false None fates tt are.1))
+lines_left_good : (inside goes : Bool) (fates : List Fate) → AreGoodFates fates → AreGood (kept (widened_from inside goes fates))
+lines_left_good inside goes [] are = tt
+lines_left_good inside goes (None ∷ fates) are = lines_left_good inside goes fates are.1
+lines_left_good inside true (Some Blank ∷ fates) are = lines_left_good inside (inside && true) fates are.1
+lines_left_good inside false (Some Blank ∷ fates) are = (tt, lines_left_good inside (inside && false) fates are.1)
+lines_left_good inside goes (Some (Comment text) ∷ fates) are = (are.0, lines_left_good inside false fates are.1)
+lines_left_good inside goes (Some (Open verb suffix) ∷ fates) are = elim (cases_Bool (is_emptied inside suffix fates)) [
+  | inl gone ↦ rw gone (lines_left_good true true fates are.1)
+  | inr stays ↦ rw stays (are.0, lines_left_good true false fates are.1)
 ]
-remaining_good after (Some b) (None ∷ fates) is are = remaining_good after (Some (with_line b None)) fates (with_good b None is are.0) are.1
-remaining_good after (Some b) (Some Blank ∷ fates) is are = remaining_good after (Some (with_line b (Some Blank))) fates (with_good b (Some Blank) is are.0) are.1
-remaining_good after (Some b) (Some (Comment text) ∷ fates) is are = remaining_good after (Some (with_line b (Some (Comment text)))) fates (with_good b (Some (Comment text)) is are.0) are.1
-remaining_good after (Some b) (Some (Open verb suffix) ∷ fates) is are = remaining_good after (Some (with_line b (Some (Open verb suffix)))) fates (with_good b (Some (Open verb suffix)) is are.0) are.1
-remaining_good after (Some b) (Some (Entry words suffix) ∷ fates) is are = remaining_good after (Some (with_line b (Some (Entry words suffix)))) fates (with_good b (Some (Entry words suffix)) is are.0) are.1
+lines_left_good inside goes (Some (Close suffix) ∷ fates) are = elim (cases_Bool (inside && goes)) [
+  | inl gone ↦ rw gone (lines_left_good false true fates are.1)
+  | inr stays ↦ rw stays (are.0, lines_left_good false false fates are.1)
+]
+lines_left_good inside goes (Some (Entry words suffix) ∷ fates) are = (are.0, lines_left_good inside false fates are.1)
+
+remaining_good : (fates : List Fate) → AreGoodFates fates → AreGood (remaining fates)
+unfolding remaining
+remaining_good fates are = lines_left_good false false fates are
 
 fate_good : (gone : Bool) (line : Line Placed) → IsGood line → IsGoodFate (if gone then None else Some line)
 fate_good true line is = tt
@@ -341,7 +324,7 @@ dropping_good test block [] are = tt
 dropping_good test block (line ∷ lines) are = (fate_good (passes test (directive_at block line)) line are.0, dropping_good test (block_after_line block line) lines are.1)
 
 dropped_good : (test : Directive → Bool) (lines : List (Line Placed)) → AreGood lines → AreGood (dropped test lines)
-dropped_good test lines are = remaining_good false None (dropping_from test None lines) tt (dropping_good test None lines are)
+dropped_good test lines are = remaining_good (dropping_from test None lines) (dropping_good test None lines are)
 
 -- entries that stay UTF-8 when they are rewritten
 abbrev KeepsGood : (Option Placed → Line Placed → Line Placed) → Type 0
@@ -357,7 +340,7 @@ renewing_good test new block (line ∷ lines) keeps are = by_test (passes test (
     by_test false rest = (are.0, rest)
 
 renewed_good : (test : Directive → Bool) (new : Option Placed → Line Placed → Line Placed) (lines : List (Line Placed)) → KeepsGood new → AreGood lines → AreGood (renewed test new lines)
-renewed_good test new lines keeps are = remaining_good false None (renewing_from test new None lines) tt (renewing_good test new None lines keeps are)
+renewed_good test new lines keeps are = remaining_good (renewing_from test new None lines) (renewing_good test new None lines keeps are)
 
 last_good : (value : List ℕ) → IsUtf8 value → KeepsGood (with_last value)
 last_good value utf8 block Blank is = is

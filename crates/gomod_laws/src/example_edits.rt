@@ -3,7 +3,7 @@
 
 ghost use Rattle.gomod_laws.specs.ExampleEdits.{AdditionGoesIntoTheBlock, CommentKeepsABlock, DropEmptiesABlock, FirstRequirementIsLast, GoGoesAfterTheBlock, SettingRewritesTheFirst};
 
-/// `sections_without`: the drop of the only entry of a block takes the block, and one blank line after it.
+/// `widened_from`: the drop of the only entry of a block takes the block, and one blank line after it.
 pub fn drop_empties_a_block()
     ensures { DropEmptiesABlock }
 {}
@@ -13,7 +13,7 @@ pub fn comment_keeps_a_block()
     ensures { CommentKeepsABlock }
 {}
 
-/// `sections_renewed`: the first requirement of the path gets the version and keeps its comment. The later one goes
+/// `renewing_from`: the first requirement of the path gets the version and keeps its comment. The later one goes
 /// with its block.
 pub fn setting_rewrites_the_first()
     ensures { SettingRewritesTheFirst }
@@ -26,7 +26,7 @@ pub fn additions_have_a_place()
     ensures end { FirstRequirementIsLast }
 {}
 
-/// `after_first_section`: a new go directive stands after the block of the module directive.
+/// `after_first_of`: a new go directive stands after the block of the module directive.
 pub fn go_goes_after_the_block()
     ensures { GoGoesAfterTheBlock }
 {}

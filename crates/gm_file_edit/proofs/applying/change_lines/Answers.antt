@@ -3,8 +3,8 @@ use Rattle.gm_syntax.specs.LineViews.{line_of}
 use Rattle.gm_file_edit.specs.About.{about}
 use Rattle.gm_file_edit.specs.Kinds.{is_drop, set_by}
 use Rattle.gm_file_edit.specs.declared.op.Change.{Change}
-use Rattle.gm_file_edit.specs.Fates.{remaining_from}
-use Rattle.gm_file_edit.specs.Packs.{line_at, marked}
+use Rattle.gm_file_edit.specs.Fates.{remaining}
+use Rattle.gm_file_edit.specs.Marks.{line_at, marked}
 use Rattle.gm_file_edit.specs.Views.{edit_of, setting_of}
 use Rattle.std.proofs.Common.{◌≡◌, List, is_some, refl, take}
 use Rattle.gm_file.specs.Directives.{block_after_lines}
@@ -17,7 +17,7 @@ pub renew-requires-clause-marks : goal.renew-requires-clause-marks
 renew-requires-clause-marks c = ap length c.requires.marked ∙ marks-count (about (edit_of c.args.change.now)) None c.args.lines.now
 
 pub pack-requires : goal.pack-requires
-pack-requires c = ap length c.as_slice.ensures.value ∙ ap length c.requires.marked ∙ marks-count (about (edit_of c.args.change.now)) None c.args.lines.now
+pack-requires c = ap length c.requires.marked ∙ marks-count (about (edit_of c.args.change.now)) None c.args.lines.now
 
 pub returns-in_ok-line-in-Set-clause-ok : goal.returns-in_ok-line-in-Set-clause-ok
 returns-in_ok-line-in-Set-clause-ok c =
@@ -34,7 +34,7 @@ pub returns-in-Drop-clause-ok : goal.returns-in-Drop-clause-ok
 returns-in-Drop-clause-ok c =
     let lines = c.args.lines.now in
     let e = edit_of c.args.change.now in
-    c.pack.ensures ∙ ap (λ (ms : List Bool). remaining_from false None (marked ms lines)) (c.as_slice.ensures.value ∙ c.requires.marked)
+    c.pack.ensures ∙ ap (λ (ms : List Bool). remaining (marked ms lines)) c.requires.marked
     ∙ sym (drops-changed e lines (ap (λ (x : Change). is_drop (edit_of x)) c.in-Drop.is) ∙ dropped-marked (about e) lines)
 
 pub returns-in-Add-clause-ok : goal.returns-in-Add-clause-ok

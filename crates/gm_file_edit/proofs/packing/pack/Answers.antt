@@ -1,9 +1,13 @@
-use Rattle.std.proofs.Common.{sym, ◌∙◌}
-use Rattle.gm_file_edit.proofs.Packs.{all-kept, pack-end}
+use Rattle.std.proofs.Common.{List, Bool, ap, sym, ◌∙◌}
+use Rattle.std.specs.List.{list_any}
+use Rattle.gm_file_edit.proofs.Packs.{all-kept, pack-is}
 use Rattle.gm_file_edit.proofs.packing.pack.Goals as goal
 
-pub returns : goal.returns
-returns c = c.truncate.ensures ∙ pack-end c.args.marks.now c.args.lines.now c.loop-n.n c.loop-n.packing c.loop-n.lines c.loop-n-test.false c.loop-n.invariant
-
 pub returns-then-not-has_mark : goal.returns-then-not-has_mark
-returns-then-not-has_mark c = all-kept c.args.marks.now c.args.lines.now c.requires (sym c.has_mark.ensures ∙ c.if-not-has_mark.true)
+returns-then-not-has_mark c =
+    all-kept c.args.marks.items c.args.lines.now c.requires (ap (λ (ms : List Bool). list_any (λ mark. mark) ms) (sym c.as_slice.ensures.value) ∙ sym c.has_mark.ensures ∙ c.if-not-has_mark.true)
+
+pub returns : goal.returns
+returns c =
+    c.keep_unmarked.ensures
+    ∙ pack-is c.args.marks.items c.widen.new.marks.items c.as_slice-2.result.now c.args.lines.now c.lines.result.now c.lines.ensures.lines c.as_slice-2.ensures.value c.widen.ensures.marks

@@ -1,8 +1,9 @@
 use Rattle.std.proofs.Common.{refl}
 use Rattle.gm_file.specs.Directives.{directive_of, item_at}
-use Rattle.gm_file_edit.specs.Edited.{edited}
+use Rattle.gm_file_edit.specs.Edited.{changed, edited}
+use Rattle.gm_file_edit.specs.Fates.{remaining}
 use Rattle.gomod_laws.proofs.example_edits.comment_keeps_a_block.Goals as goal
 
 pub returns : goal.returns
-unfolding edited item_at directive_of
+unfolding edited changed remaining item_at directive_of
 returns c = refl

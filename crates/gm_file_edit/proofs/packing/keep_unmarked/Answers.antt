@@ -1,0 +1,21 @@
+use Rattle.std.proofs.Common.{◌+◌, ◌∙◌, arith, false, refl, sym, true}
+use Rattle.gm_file_edit.proofs.Packs.{get_or-other, keep-more}
+use Rattle.gm_file_edit.proofs.packing.keep_unmarked.Goals as goal
+use Rattle.gm_file_edit.proofs.packing.keep_unmarked.Goals.{then-not-goes, else-not-goes}
+
+pub loop-n-preserved : goal.loop-n-preserved
+loop-n-preserved c =
+    let marks = c.args.marks.now in
+    let n = c.loop-n.n in
+    let inside = c.loop-n-test.true in
+    let bound = c.loop-n.invariant.bound in
+    elim c.if-not-goes.branch [
+      | then-not-goes w ↦
+          rw (w.lines-is, w.count-is)
+          (keep-more marks c.args.lines.now n c.loop-n.count (c.loop-n.count + 1) c.loop-n.lines w.keep.new.lines false (omega (arith, inside)) c.requires (sym w.if-not-goes.true) w.keep.ensures.len (omega (arith, bound)) w.keep.ensures.rest
+          (λ e. absurd cc) (λ e. w.keep.ensures.front) c.loop-n.invariant)
+      | else-not-goes w ↦
+          rw (w.lines-is, w.count-is)
+          (keep-more marks c.args.lines.now n c.loop-n.count c.loop-n.count c.loop-n.lines c.loop-n.lines true (omega (arith, inside)) c.requires (sym (get_or-other marks n true false (omega (arith, inside)) ∙ w.if-not-goes.false)) refl (omega (arith, bound)) refl
+          (λ e. refl) (λ e. absurd cc) c.loop-n.invariant)
+    ]

@@ -1,0 +1,22 @@
+use Rattle.std.proofs.Common.{arith, refl}
+use Rattle.gm_file_edit.proofs.Packs.{widen-line, widen-marked}
+use Rattle.gm_file_edit.proofs.packing.widen.Goals as goal
+use Rattle.gm_file_edit.proofs.packing.widen.Goals.{then-not-index, else-not-index}
+
+pub loop-n-preserved : goal.loop-n-preserved
+loop-n-preserved c =
+    let lines = c.args.lines.now in
+    let old = c.args.marks.now.items in
+    let n = c.loop-n.n in
+    let state = c.loop-n.state in
+    let inside = c.loop-n-test.true in
+    elim c.if-not-index.branch [
+      | then-not-index w ↦
+          let after = w.after_line-state.result in
+          rw (w.marks-is, w.state-is)
+          (widen-line lines old n state.inside state.goes after.inside after.goes c.index.result.now after.mark c.loop-n.marks.items w.as_slice.result.now _ c.index-lines-n.result c.requires (omega (arith, inside)) c.index-lines-n.is
+          c.index.ensures w.if-not-index.true w.as_slice.ensures.value w.after_line-state.ensures refl c.loop-n.invariant)
+      | else-not-index w ↦
+          rw (w.marks-is, w.state-is)
+          (widen-marked lines old n state.inside state.goes c.index.result.now c.loop-n.marks.items c.index-lines-n.result c.requires (omega (arith, inside)) c.index-lines-n.is c.index.ensures w.if-not-index.false c.loop-n.invariant)
+    ]
