@@ -61,22 +61,14 @@ fn rank_list(list: &mut Vec<u32>, ranks: &[u32])
     put_in_order(list);
 }
 
-/// Puts ranks in the places of the numbers of all lists.
-fn rank_each(lists: &mut [Vec<u32>], ranks: &[u32])
-    requires { All (IsNumberedList (length ranks.now)) lists.old }
-    ensures { AllZip (IsByRanks ranks.now) lists.old lists.new }
-{
-    for list in lists.iter_mut() {
-        rank_list(list, ranks);
-    }
-}
-
 /// These lists by ranks, each in ascending order.
 pub(crate) fn lists_by_ranks(mut lists: Vec<Vec<u32>>, ranks: &[u32]) -> Vec<Vec<u32>>
     requires { All (IsNumberedList (length ranks.now)) lists.items }
     ensures { AllZip (IsByRanks ranks.now) lists.items result.items }
 {
-    rank_each(&mut lists, ranks);
+    for list in lists.iter_mut() {
+        rank_list(list, ranks);
+    }
     lists
 }
 
