@@ -1,6 +1,6 @@
 -- Sinks before and after small runs, and files before and after they were read, on which the definitions of what is
 -- written and read are tried. Whatever is refused here breaks at least one part of its definition.
-use Rattle.std.specs.Prelude.{◌≡◌, ◌<◌, ◌-◌, ◌^◌, ℕ, List, [], Some, None, Ok, Err, codes, length, true}
+use Rattle.std.specs.Prelude.{◌≡◌, ◌<◌, ◌-◌, ◌^◌, ℕ, List, [], Some, None, Ok, Err, codes, false, length, true}
 use Rattle.std.specs.Global.{Vec}
 use Rattle.std.specs.declared.io.ErrorKind.{ErrorKind}
 use Rattle.std.specs.declared.io.ErrorKind.TheVariants.{NotFound, OutOfMemory}
@@ -167,14 +167,17 @@ pub record EndIsStated : Type 0 where
 
 -- ---- reading
 
--- A file that was opened gives its bytes, up to 16,777,217. One that was not gives none, and memory ran out if and
--- only if the system says so.
+-- A file that was opened gives its bytes, up to 16,777,217, unless a read of it may fail or memory runs out. One that
+-- was not gives none, and memory ran out if and only if the system says so.
 pub record FileIsRead : Type 0 where
-  pub given : (bytes : Vec ℕ) → bytes.items ≡ text → IsReadFrom (opened (Some text)) (Ok bytes)
-  pub another : (bytes : Vec ℕ) → bytes.items ≡ other → ¬ (IsReadFrom (opened (Some text)) (Ok bytes))
-  pub cut : (bytes : Vec ℕ) → bytes.items ≡ codes "m" → ¬ (IsReadFrom (opened (Some text)) (Ok bytes))
+  pub given : (bytes : Vec ℕ) → bytes.items ≡ text → IsReadFrom (opened (Some text) false) (Ok bytes)
+  pub another : (bytes : Vec ℕ) → bytes.items ≡ other → ¬ (IsReadFrom (opened (Some text) false) (Ok bytes))
+  pub cut : (bytes : Vec ℕ) → bytes.items ≡ codes "m" → ¬ (IsReadFrom (opened (Some text) false) (Ok bytes))
   pub too_many : (all : List ℕ) (bytes : Vec ℕ) → 16777217 < length all → bytes.items ≡ all
-      → ¬ (IsReadFrom (opened (Some all)) (Ok bytes))
+      → ¬ (IsReadFrom (opened (Some all) false) (Ok bytes))
+  pub fails : IsReadFrom (opened (Some text) true) (Err Device)
+  pub unfailing : ¬ (IsReadFrom (opened (Some text) false) (Err Device))
+  pub out_of_memory : IsReadFrom (opened (Some text) false) (Err NoMemory)
   pub not_found : IsReadFrom (unopened NotFound) (Err Device)
   pub no_memory : IsReadFrom (unopened OutOfMemory) (Err NoMemory)
   pub not_opened : (kind : ErrorKind) (bytes : Vec ℕ) → ¬ (IsReadFrom (unopened kind) (Ok bytes))
