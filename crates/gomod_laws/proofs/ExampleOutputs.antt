@@ -99,5 +99,5 @@ input_is_held = record {
   nothing = λ files none holds. some_or_none holds.0.items (sym (holds.1 (list_file path)) ∙ none);
   other_list = λ files list there holds. some_or_none list (sym there ∙ holds.1 (list_file (codes "n")));
   other_file = λ files file there holds. some_or_none file (sym there ∙ holds.1 (mod_file path (codes "v1.0.0")));
-  for_fmt = λ files list there holds. some_or_none list (sym there ∙ holds (list_file path));
+  not_empty = λ files list there holds. some_or_none list (sym there ∙ holds (list_file path));
 }

@@ -13,9 +13,8 @@ use Rattle.gm_store.specs.declared.files.memory.MemoryFiles.{MemoryFiles}
 use Rattle.gm_store.specs.declared.reading.InputFault.TheVariants.{Device, NoMemory}
 use Rattle.gm_report.specs.Outcome.{Outcome, failed, out_of_memory, printed, refused}
 use Rattle.gm_report.specs.Taking.{TookAll, TookPrefix}
-use Rattle.gomod_words.specs.declared.usage.Command.TheVariants.{Fmt, Versions}
 use Rattle.gomod_run.specs.Held.{HoldsOne}
-use Rattle.gomod_run.specs.Reads.{HoldsInput, IsUnreadList}
+use Rattle.gomod_run.specs.Reads.{HoldsInput, HoldsNothing, IsUnreadList}
 use Rattle.gomod_run.specs.Written.{EndsAsStated, IsWritten, WroteBoth, WrotePrefix}
 
 -- ---- the texts and the sinks
@@ -198,15 +197,15 @@ pub record InputIsUnread : Type 0 where
   pub other_status : ¬ (IsUnreadList (refused (codes "gomod: cannot read -\n")))
   pub prints : ¬ (IsUnreadList (printed text))
 
--- The store of `versions` has it if it has a list of the module, and nothing else. That of another command has nothing.
+-- A store has it if it has a list of the module, and nothing else. An empty store has no list.
 pub record InputIsHeld : Type 0 where
   pub held : (files : MemoryFiles) (list : Vec ℕ) → HoldsOne (list_file path) list.items files
-      → HoldsInput (Versions path true) files
+      → HoldsInput path files
   pub nothing : (files : MemoryFiles) → held_at files (list_file path) ≡ None
-      → ¬ (HoldsInput (Versions path true) files)
+      → ¬ (HoldsInput path files)
   pub other_list : (files : MemoryFiles) (list : List ℕ) → held_at files (list_file (codes "n")) ≡ Some list
-      → ¬ (HoldsInput (Versions path true) files)
+      → ¬ (HoldsInput path files)
   pub other_file : (files : MemoryFiles) (file : List ℕ) → held_at files (mod_file path (codes "v1.0.0")) ≡ Some file
-      → ¬ (HoldsInput (Versions path true) files)
-  pub for_fmt : (files : MemoryFiles) (list : List ℕ) → held_at files (list_file path) ≡ Some list
-      → ¬ (HoldsInput Fmt files)
+      → ¬ (HoldsInput path files)
+  pub not_empty : (files : MemoryFiles) (list : List ℕ) → held_at files (list_file path) ≡ Some list
+      → ¬ (HoldsNothing files)

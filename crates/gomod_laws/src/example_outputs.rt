@@ -40,7 +40,7 @@ pub fn input_is_unread()
 {}
 
 /// `HoldsOne`, `HoldsInput`: the store of `versions m` has what was read of standard input if it has a list of m, and no
-/// other list or file. That of `fmt` has none.
+/// other list or file. An empty store, `HoldsNothing`, has none.
 pub fn input_is_held()
     ensures { InputIsHeld }
 {}
