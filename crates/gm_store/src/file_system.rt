@@ -2,9 +2,10 @@
 
 ghost use Rattle.gm_store.specs.Openings.{MayRead};
 
+use crate::byte_reader::ByteReader;
 use crate::reading::{InputFault, read_limited};
 use std::alloc::Global;
-use std::io::{ErrorKind, Read};
+use std::io::ErrorKind;
 use std::{fs, io, rt};
 
 /// A file system whose files can be opened.
@@ -16,14 +17,14 @@ pub trait FileSystem {
     ghost use Rattle.gm_store.specs.Openings.{Opening, opening_of};
 
     /// An open file.
-    type File: Read + Drop;
+    type File: ByteReader + Drop;
 
     /// What may come of opening the file at a path. For the real file system that is anything.
     ghost may_open: { Self → List ℕ → Opening → Type 0 };
 
     /// Opens the file at a path to read it.
     fn open(&self, path: &str) -> io::Result<Self::File>
-        ensures { may_open self.now path.now (opening_of Self.File.remaining result) };
+        ensures { may_open self.now path.now (opening_of Self.File.remaining Self.File.may_fail result) };
 }
 
 impl<R: rt::Files> FileSystem for R {
@@ -38,7 +39,8 @@ impl<R: rt::Files> FileSystem for R {
 
 /// Reads the file at a path, or its first `LIMIT + 1` bytes if there are more.
 ///
-/// `Device` is returned if the file can't be opened or read, `NoMemory` if memory runs out.
+/// `Device` is returned if the file can't be opened or a read of it fails, and not otherwise. `NoMemory` is returned if
+/// memory runs out.
 pub fn read_file<S: FileSystem>(
     system: &S,
     alloc: Global,

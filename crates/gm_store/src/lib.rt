@@ -17,6 +17,7 @@
 //! including those that don't fail a request.
 #![tactic(auto)]
 
+mod byte_reader;
 mod fallback;
 mod file_system;
 mod files;
@@ -26,6 +27,7 @@ mod reading;
 mod sinks;
 mod versions;
 
+pub use crate::byte_reader::ByteReader;
 pub use crate::fallback::in_memory::MemoryFolders;
 pub use crate::fallback::on_disk::{FolderFiles, FolderReader};
 pub use crate::fallback::proxy_list::{Mark, ProxyFault, ProxyList};

@@ -3,12 +3,12 @@
 //! Bytes are read in pieces that grow. Most files are small and fit the first piece; large files take few system
 //! calls.
 
-ghost use Rattle.gm_store.specs.Pieces.{AddsPiece};
+ghost use Rattle.gm_store.specs.Pieces.{AddsPiece, IsReadingFault};
 ghost use Rattle.gm_store.specs.declared.reading.InputFault.TheVariants as input_fault;
-ghost use Rattle.std.specs.Prelude.{◌≡◌, ◌+◌, ◌<◌, ◌≤◌, ℕ, length, take, drop, Some, IfOk, IfSome, OnOk, vec_len};
+ghost use Rattle.std.specs.Prelude.{◌≡◌, ◌+◌, ◌<◌, ◌≤◌, ℕ, length, take, drop, Some, IfErr, IfOk, IfSome, OnOk, vec_len};
 
+use crate::byte_reader::ByteReader;
 use std::alloc::{AllocError, Global};
-use std::io::Read;
 use thiserror::Error;
 
 /// The greatest length of a file, in bytes: 16 MiB. The go command has the same limit for `go.mod` files.
@@ -43,25 +43,27 @@ impl From<AllocError> for InputFault {
 }
 
 /// A buffer of `length` bytes to read a piece into.
-fn piece_of(alloc: Global, length: usize) -> Result<Vec<u8>, InputFault>
+fn piece_of(alloc: Global, length: usize) -> Result<Vec<u8>, AllocError>
     ensures { IfOk result (λ piece. vec_len piece ≡ length) }
 {
-    Ok(vec![in alloc; 0u8; length]?)
+    vec![in alloc; 0u8; length]
 }
 
 /// Reads once into `room`, and appends the bytes read to `bytes`. Returns their number, which is 0 at the reader's
 /// end (or if `room` is empty).
 ///
 /// `Device` is returned if the read fails, `NoMemory` if memory runs out.
-fn read_piece<R: Read>(
+fn read_piece<R: ByteReader>(
     reader: &mut R,
     room: &mut [u8],
     bytes: &mut Vec<u8>,
 ) -> Result<usize, InputFault>
-    ensures { IfOk result (λ count. AddsPiece (R.remaining reader.old) (R.remaining reader.new)
+    ensures adds { IfOk result (λ count. AddsPiece (R.remaining reader.old) (R.remaining reader.new)
         bytes.old.items bytes.new.items (length room.old) count) }
+    ensures fault { IfErr result (IsReadingFault (R.may_fail reader.old)) }
+    ensures may_fail { R.may_fail reader.new ≡ R.may_fail reader.old }
 {
-    let Ok(count) = reader.read(room) else {
+    let Ok(count) = reader.read_once(room) else {
         return Err(InputFault::Device);
     };
     bytes.extend_from_slice(&room[..count])?;
@@ -72,7 +74,7 @@ fn read_piece<R: Read>(
 /// is 0 at the reader's end. A piece that was filled is followed by a longer one.
 ///
 /// `Device` is returned if the read fails, `NoMemory` if memory runs out.
-fn read_next<R: Read>(
+fn read_next<R: ByteReader>(
     alloc: Global,
     reader: &mut R,
     piece: &mut Vec<u8>,
@@ -83,6 +85,8 @@ fn read_next<R: Read>(
     ensures adds { IfOk result (λ count. (room : ℕ) × (0 < room) × (length bytes.old.items + room ≤ LIMIT + 1)
         × AddsPiece (R.remaining reader.old) (R.remaining reader.new)
         bytes.old.items bytes.new.items room count) }
+    ensures fault { IfErr result (IsReadingFault (R.may_fail reader.old)) }
+    ensures may_fail { R.may_fail reader.new ≡ R.may_fail reader.old }
     ensures room { OnOk result (0 < vec_len piece.new) }
 {
     let wanted = (LIMIT + 1 - bytes.len()).min(piece.len());
@@ -96,13 +100,14 @@ fn read_next<R: Read>(
 /// Reads all bytes of a reader, or the first `LIMIT + 1` if there are more. A result longer than `LIMIT` tells the
 /// caller that the input is too long. The bytes after the first `LIMIT + 1` are left in the reader.
 ///
-/// `Device` is returned if a read fails or is interrupted; the bytes read before are lost. `NoMemory` is returned
-/// if memory runs out. Each read but the last yields at least one byte, so the loop ends.
-pub fn read_limited<R: Read>(alloc: Global, reader: &mut R) -> Result<Vec<u8>, InputFault>
+/// `Device` is returned if a read fails or is interrupted, and not otherwise; the bytes read before are lost.
+/// `NoMemory` is returned if memory runs out. Each read but the last yields at least one byte, so the loop ends.
+pub fn read_limited<R: ByteReader>(alloc: Global, reader: &mut R) -> Result<Vec<u8>, InputFault>
     ensures bytes { IfOk result (λ bytes. IfSome (R.remaining reader.old) (λ all. bytes.items ≡ take (LIMIT + 1) all)) }
     ensures short { IfOk result (λ bytes. length bytes.items ≤ LIMIT + 1) }
     ensures rest { OnOk result (IfSome (R.remaining reader.old)
         (λ all. R.remaining reader.new ≡ Some (drop (LIMIT + 1) all))) }
+    ensures fault { IfErr result (IsReadingFault (R.may_fail reader.old)) }
 {
     read_by_pieces(alloc, reader, &mut Vec::new(alloc))
 }
@@ -111,7 +116,7 @@ pub fn read_limited<R: Read>(alloc: Global, reader: &mut R) -> Result<Vec<u8>, I
 /// allocated; one that a read filled is replaced by a longer one.
 ///
 /// If the bytes are at most `LIMIT`, the room that they don't need is given back.
-pub(crate) fn read_by_pieces<R: Read>(
+pub(crate) fn read_by_pieces<R: ByteReader>(
     alloc: Global,
     reader: &mut R,
     piece: &mut Vec<u8>,
@@ -120,6 +125,7 @@ pub(crate) fn read_by_pieces<R: Read>(
     ensures short { IfOk result (λ bytes. length bytes.items ≤ LIMIT + 1) }
     ensures rest { OnOk result (IfSome (R.remaining reader.old)
         (λ all. R.remaining reader.new ≡ Some (drop (LIMIT + 1) all))) }
+    ensures fault { IfErr result (IsReadingFault (R.may_fail reader.old)) }
 {
     if piece.is_empty() {
         *piece = piece_of(alloc, FIRST)?;

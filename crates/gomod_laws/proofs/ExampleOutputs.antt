@@ -61,6 +61,9 @@ file_is_read = record {
   another = λ bytes is. not_given bytes.items text (omega arith) (other_differs bytes.items is);
   cut = λ bytes is. not_given bytes.items text (omega arith) (cut_differs bytes.items is);
   too_many = λ all bytes many is. too_many all bytes.items many is;
+  fails = refl;
+  unfailing = search rules;
+  out_of_memory = tt;
   not_found = search rules;
   no_memory = refl;
   not_opened = λ kind bytes none. none;
@@ -96,5 +99,5 @@ input_is_held = record {
   nothing = λ files none holds. some_or_none holds.0.items (sym (holds.1 (list_file path)) ∙ none);
   other_list = λ files list there holds. some_or_none list (sym there ∙ holds.1 (list_file (codes "n")));
   other_file = λ files file there holds. some_or_none file (sym there ∙ holds.1 (mod_file path (codes "v1.0.0")));
-  for_fmt = λ files list there holds. some_or_none list (sym there ∙ holds (list_file path));
+  not_empty = λ files list there holds. some_or_none list (sym there ∙ holds (list_file path));
 }

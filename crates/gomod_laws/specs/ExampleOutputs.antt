@@ -1,6 +1,6 @@
 -- Sinks before and after small runs, and files before and after they were read, on which the definitions of what is
 -- written and read are tried. Whatever is refused here breaks at least one part of its definition.
-use Rattle.std.specs.Prelude.{◌≡◌, ◌<◌, ◌-◌, ◌^◌, ℕ, List, [], Some, None, Ok, Err, codes, length, true}
+use Rattle.std.specs.Prelude.{◌≡◌, ◌<◌, ◌-◌, ◌^◌, ℕ, List, [], Some, None, Ok, Err, codes, false, length, true}
 use Rattle.std.specs.Global.{Vec}
 use Rattle.std.specs.declared.io.ErrorKind.{ErrorKind}
 use Rattle.std.specs.declared.io.ErrorKind.TheVariants.{NotFound, OutOfMemory}
@@ -13,9 +13,8 @@ use Rattle.gm_store.specs.declared.files.memory.MemoryFiles.{MemoryFiles}
 use Rattle.gm_store.specs.declared.reading.InputFault.TheVariants.{Device, NoMemory}
 use Rattle.gomod_run.specs.Outcome.{Outcome, failed, out_of_memory, printed, refused}
 use Rattle.gomod_run.specs.Taking.{TookAll, TookPrefix}
-use Rattle.gomod_words.specs.declared.usage.Command.TheVariants.{Fmt, Versions}
 use Rattle.gomod_run.specs.Held.{HoldsOne}
-use Rattle.gomod_run.specs.Reads.{HoldsInput, IsUnreadList}
+use Rattle.gomod_run.specs.Reads.{HoldsInput, HoldsNothing, IsUnreadList}
 use Rattle.gomod_run.specs.Written.{EndsAsStated, IsWritten, WroteBoth, WrotePrefix}
 
 -- ---- the texts and the sinks
@@ -167,14 +166,17 @@ pub record EndIsStated : Type 0 where
 
 -- ---- reading
 
--- A file that was opened gives its bytes, up to 16,777,217. One that was not gives none, and memory ran out if and
--- only if the system says so.
+-- A file that was opened gives its bytes, up to 16,777,217, unless a read of it may fail or memory runs out. One that
+-- was not gives none, and memory ran out if and only if the system says so.
 pub record FileIsRead : Type 0 where
-  pub given : (bytes : Vec ℕ) → bytes.items ≡ text → IsReadFrom (opened (Some text)) (Ok bytes)
-  pub another : (bytes : Vec ℕ) → bytes.items ≡ other → ¬ (IsReadFrom (opened (Some text)) (Ok bytes))
-  pub cut : (bytes : Vec ℕ) → bytes.items ≡ codes "m" → ¬ (IsReadFrom (opened (Some text)) (Ok bytes))
+  pub given : (bytes : Vec ℕ) → bytes.items ≡ text → IsReadFrom (opened (Some text) false) (Ok bytes)
+  pub another : (bytes : Vec ℕ) → bytes.items ≡ other → ¬ (IsReadFrom (opened (Some text) false) (Ok bytes))
+  pub cut : (bytes : Vec ℕ) → bytes.items ≡ codes "m" → ¬ (IsReadFrom (opened (Some text) false) (Ok bytes))
   pub too_many : (all : List ℕ) (bytes : Vec ℕ) → 16777217 < length all → bytes.items ≡ all
-      → ¬ (IsReadFrom (opened (Some all)) (Ok bytes))
+      → ¬ (IsReadFrom (opened (Some all) false) (Ok bytes))
+  pub fails : IsReadFrom (opened (Some text) true) (Err Device)
+  pub unfailing : ¬ (IsReadFrom (opened (Some text) false) (Err Device))
+  pub out_of_memory : IsReadFrom (opened (Some text) false) (Err NoMemory)
   pub not_found : IsReadFrom (unopened NotFound) (Err Device)
   pub no_memory : IsReadFrom (unopened OutOfMemory) (Err NoMemory)
   pub not_opened : (kind : ErrorKind) (bytes : Vec ℕ) → ¬ (IsReadFrom (unopened kind) (Ok bytes))
@@ -195,15 +197,15 @@ pub record InputIsUnread : Type 0 where
   pub other_status : ¬ (IsUnreadList (refused (codes "gomod: cannot read -\n")))
   pub prints : ¬ (IsUnreadList (printed text))
 
--- The store of `versions` has it if it has a list of the module, and nothing else. That of another command has nothing.
+-- A store has it if it has a list of the module, and nothing else. An empty store has no list.
 pub record InputIsHeld : Type 0 where
   pub held : (files : MemoryFiles) (list : Vec ℕ) → HoldsOne (list_file path) list.items files
-      → HoldsInput (Versions path true) files
+      → HoldsInput path files
   pub nothing : (files : MemoryFiles) → held_at files (list_file path) ≡ None
-      → ¬ (HoldsInput (Versions path true) files)
+      → ¬ (HoldsInput path files)
   pub other_list : (files : MemoryFiles) (list : List ℕ) → held_at files (list_file (codes "n")) ≡ Some list
-      → ¬ (HoldsInput (Versions path true) files)
+      → ¬ (HoldsInput path files)
   pub other_file : (files : MemoryFiles) (file : List ℕ) → held_at files (mod_file path (codes "v1.0.0")) ≡ Some file
-      → ¬ (HoldsInput (Versions path true) files)
-  pub for_fmt : (files : MemoryFiles) (list : List ℕ) → held_at files (list_file path) ≡ Some list
-      → ¬ (HoldsInput Fmt files)
+      → ¬ (HoldsInput path files)
+  pub not_empty : (files : MemoryFiles) (list : List ℕ) → held_at files (list_file path) ≡ Some list
+      → ¬ (HoldsNothing files)

@@ -20,12 +20,12 @@ use Rattle.gomod_run.specs.Outcome.{OrNoMemory, Outcome, code_of, report_outcome
 use Rattle.gomod_run.specs.declared.reports.report.Report.{Report}
 use Rattle.gomod_run.specs.declared.reports.status.Status.{Status}
 use Rattle.gomod_run.specs.declared.inputs.Inputs.{Inputs}
-use Rattle.gomod_run.specs.Program.{IsMainServed, IsQueryRun, IsServed, IsSumsServed, MayBeTold}
+use Rattle.gomod_run.specs.Program.{IsInputServed, IsMainServed, IsQueryRun, IsServed, IsSumsServed, MayBeTold}
 use Rattle.gomod_run.specs.Queries.{RunsTo}
-use Rattle.gomod_run.specs.Reads.{AreBothRead, AreInputs, AreSumsInput, AreSumsUnread, HoldsInput, IsOneUnread, IsStoreFolder, IsUnreadInput, IsUnreadStore, with_proxy}
+use Rattle.gomod_run.specs.Reads.{AreBothRead, AreInputs, AreSumsInput, AreSumsUnread, HoldsInput, HoldsNothing, IsOneUnread, IsStoreFolder, IsUnreadInput, IsUnreadList, versions_path, with_proxy}
 use Rattle.gomod_run.specs.Runs.{is_query}
 use Rattle.gomod_run.specs.Written.{EndsAsStated, IsWritten}
-use Rattle.gomod_run.proofs.Endings.{by_bytes, folder_weaken, input_weaken, query_runs}
+use Rattle.gomod_run.proofs.Endings.{by_bytes, ends_weaken, folder_weaken, input_weaken, query_runs}
 
 -- ---- the inputs
 
@@ -156,24 +156,44 @@ query_in_memory may_open command places inputs before after query read empty all
       (empty_told before (pairs_of after) empty allowed) outcome runs),
 )
 
--- a command over a store in memory
+-- a command but `versions`, over an empty store
 pub memory_served : (may_open : List ℕ → Opening → Type 0) (command : Command) (places : Places) (inputs : Inputs) (before after : MemoryFiles)
-    → AreInputs may_open command places inputs → HoldsInput command before
+    → versions_path command ≡ None → AreInputs may_open command places inputs → HoldsNothing before
     → ((name : Name) (reply : Reply) → Contains (pairs_of after) (name, reply) → may_give before name reply)
     → (outcome : Outcome) → RunsTo command inputs.main.items (option_map (λ sums. sums.items) inputs.sums) (memory_files_state before) (memory_files_state after) outcome
     → IsServed may_open command (with_proxy places None) outcome
-memory_served may_open Fmt places inputs before after read holds allowed outcome runs = (Ok inputs.main, read.0, by_bytes Fmt inputs.main.items (option_map (λ sums. sums.items) inputs.sums) (memory_files_state before) (memory_files_state after) outcome refl runs)
-memory_served may_open (Edit operations) places inputs before after read holds allowed outcome runs = (Ok inputs.main, read.0, by_bytes (Edit operations) inputs.main.items (option_map (λ sums. sums.items) inputs.sums) (memory_files_state before) (memory_files_state after) outcome refl runs)
-memory_served may_open (Versions path all) places inputs before after read holds allowed outcome runs = (
-  Ok holds.0,
-  input_weaken (Versions path all) path holds.0.items before (pairs_of after) (memory_files_state before) (memory_files_state after) refl refl refl holds.1 allowed outcome runs,
-)
-memory_served may_open Graph places inputs before after read holds allowed outcome runs =
+memory_served may_open Fmt places inputs before after other read holds allowed outcome runs = (Ok inputs.main, read.0, by_bytes Fmt inputs.main.items (option_map (λ sums. sums.items) inputs.sums) (memory_files_state before) (memory_files_state after) outcome refl runs)
+memory_served may_open (Edit operations) places inputs before after other read holds allowed outcome runs = (Ok inputs.main, read.0, by_bytes (Edit operations) inputs.main.items (option_map (λ sums. sums.items) inputs.sums) (memory_files_state before) (memory_files_state after) outcome refl runs)
+memory_served may_open (Versions path all) places inputs before after other read holds allowed outcome runs = cc other
+memory_served may_open Graph places inputs before after other read holds allowed outcome runs =
     let folder = a_folder (string_bytes places.main) in (folder.0, folder.1, query_in_memory may_open Graph places inputs before after refl read holds allowed folder.0 outcome runs)
-memory_served may_open (Rows after' limit) places inputs before after read holds allowed outcome runs =
+memory_served may_open (Rows after' limit) places inputs before after other read holds allowed outcome runs =
     let folder = a_folder (string_bytes places.main) in (folder.0, folder.1, query_in_memory may_open (Rows after' limit) places inputs before after refl read holds allowed folder.0 outcome runs)
-memory_served may_open (Chain path) places inputs before after read holds allowed outcome runs =
+memory_served may_open (Chain path) places inputs before after other read holds allowed outcome runs =
     let folder = a_folder (string_bytes places.main) in (folder.0, folder.1, query_in_memory may_open (Chain path) places inputs before after refl read holds allowed folder.0 outcome runs)
+
+-- `versions` over standard input
+pub input_served : (command : Command) (path : List ℕ) (before after : MemoryFiles) → versions_path command ≡ Some path → HoldsInput path before
+    → ((name : Name) (reply : Reply) → Contains (pairs_of after) (name, reply) → may_give before name reply)
+    → (outcome : Outcome) → RunsTo command [] None (memory_files_state before) (memory_files_state after) outcome → IsInputServed command path outcome
+input_served (Versions path all) own before after is holds allowed outcome runs =
+    (Ok holds.0, input_weaken (Versions path all) own holds.0.items before (pairs_of after) (memory_files_state before) (memory_files_state after) refl refl refl holds.1 allowed outcome runs)
+input_served Fmt own before after is holds allowed outcome runs = cc is
+input_served (Edit operations) own before after is holds allowed outcome runs = cc is
+input_served Graph own before after is holds allowed outcome runs = cc is
+input_served (Rows after' limit) own before after is holds allowed outcome runs = cc is
+input_served (Chain path) own before after is holds allowed outcome runs = cc is
+
+-- which is what it comes to without proxy folders
+input_is_served : (may_open : List ℕ → Opening → Type 0) (command : Command) (path : List ℕ) (places : Places) → versions_path command ≡ Some path
+    → (outcome : Outcome) → IsInputServed command path outcome → IsServed may_open command (with_proxy places None) outcome
+input_is_served may_open (Versions path all) own places is outcome served =
+    let same : own ≡ path = cc is in subst (λ (path' : List ℕ). IsInputServed (Versions path all) path' outcome) same served
+input_is_served may_open Fmt own places is outcome served = cc is
+input_is_served may_open (Edit operations) own places is outcome served = cc is
+input_is_served may_open Graph own places is outcome served = cc is
+input_is_served may_open (Rows after limit) own places is outcome served = cc is
+input_is_served may_open (Chain path) own places is outcome served = cc is
 
 -- ---- what can't be read
 
@@ -196,14 +216,8 @@ input_unserved may_open (Chain path) places proxy outcome is =
     let folder = a_folder (string_bytes places.main) in (folder.0, folder.1, one_unserved may_open (MayBeTold may_open folder.0 proxy) (Chain path) places outcome is)
 
 -- and so is the report of standard input
-pub store_unserved : (may_open : List ℕ → Opening → Type 0) (command : Command) (places : Places) (outcome : Outcome) → IsUnreadStore command outcome
-    → IsServed may_open command (with_proxy places None) outcome
-store_unserved may_open (Versions path all) places outcome (fault, is) = (Err fault, is)
-store_unserved may_open Fmt places outcome is = absurd is
-store_unserved may_open (Edit operations) places outcome is = absurd is
-store_unserved may_open Graph places outcome is = absurd is
-store_unserved may_open (Rows after limit) places outcome is = absurd is
-store_unserved may_open (Chain path) places outcome is = absurd is
+pub input_unread : (command : Command) (path : List ℕ) (outcome : Outcome) → IsUnreadList outcome → IsInputServed command path outcome
+input_unread command path outcome (fault, is) = (Err fault, is)
 
 -- ---- the end
 
@@ -213,6 +227,24 @@ pub record IsRun (may_open : List ℕ → Opening → Type 0) (command : Command
   pub unread : IfErr served (λ told. OrNoMemory (IsServed may_open command places) (report_outcome told))
   pub no_text : IfErr served (λ _. out' ≡ out)
   pub no_report : IfErr served (λ _. report' ≡ report)
+
+-- a run of `versions` over standard input is one without proxy folders
+pub input_run : (may_open : List ℕ → Opening → Type 0) (command : Command) (path : List ℕ) (places : Places) (out out' report report' : SinkState) (made : Result Status Report)
+    → versions_path command ≡ Some path → IfOk made (λ status. EndsAsStated (IsInputServed command path) out out' report report' (code_of status))
+    → IfErr made (λ told. OrNoMemory (IsInputServed command path) (report_outcome told)) → IfErr made (λ _. out' ≡ out) → IfErr made (λ _. report' ≡ report)
+    → IsRun may_open command (with_proxy places None) out out' report report' made
+input_run may_open command path places out out' report report' (Ok status) is ends unread no_text no_report = record {
+  ends = ends_weaken _ _ _ _ _ _ _ (input_is_served may_open command path places is) ends;
+  unread = tt;
+  no_text = tt;
+  no_report = tt;
+}
+input_run may_open command path places out out' report report' (Err told) is ends unread no_text no_report = record {
+  ends = tt;
+  unread = elim unread [ inl stated ↦ inl (input_is_served may_open command path places is (report_outcome told) stated) | inr memory ↦ inr memory ];
+  no_text = no_text;
+  no_report = no_report;
+}
 
 -- it gives the same where its results have other names
 pub same_served : (may_open : List ℕ → Opening → Type 0) (command : Command) (places : Places) (proxy : Option ProxyList) (out mid out' report between report' : SinkState) (made served : Result Status Report)

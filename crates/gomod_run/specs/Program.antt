@@ -85,11 +85,15 @@ IsFolderOutcome may_open folders command outcome =
     ⊎ ((answers : AnswersByName) × AreOfFolders may_open folders answers × (name : Name)
     × Needs command [] None answers name × (outcome ≡ failed (device_line name)))
 
--- `versions PATH`: over standard input, or over proxy folders if there are any
-abbrev pub IsVersionsServed : (List ℕ → Opening → Type 0) → Command → List ℕ → Option ProxyList → Outcome → Type 0
-IsVersionsServed may_open command path None outcome =
+-- `versions PATH` without proxy folders: standard input is read as the module's list, or can't be
+abbrev pub IsInputServed : Command → List ℕ → Outcome → Type 0
+IsInputServed command path outcome =
     (read : Result (Vec ℕ) InputFault)
     × IsReadOutcome (codes "-") (IsInputOutcome command path) read outcome
+
+-- `versions PATH`: over standard input, or over proxy folders if there are any
+abbrev pub IsVersionsServed : (List ℕ → Opening → Type 0) → Command → List ℕ → Option ProxyList → Outcome → Type 0
+IsVersionsServed may_open command path None outcome = IsInputServed command path outcome
 IsVersionsServed may_open command path (Some folders) outcome = IsFolderOutcome may_open folders command outcome
 
 -- a query on a module graph, over the bytes of the main file, those of a go.sum if one is given, and answers to

@@ -72,19 +72,22 @@ abbrev pub IsStoreFolder : Command → List ℕ → List ℕ → Type 0
 IsStoreFolder (Versions path all) main folder = folder ≡ codes "."
 IsStoreFolder _ main folder = IsFolderOf main folder
 
--- what a store in memory has: for `versions` a list of the module's versions, and otherwise nothing
-abbrev pub HoldsInput : Command → MemoryFiles → Type 0
-HoldsInput (Versions path all) files = (list : Vec ℕ) × HoldsOne (list_file path) list.items files
-HoldsInput _ files = (name : Name) → held_at files name ≡ None
+-- the module whose versions a command lists: no other than `versions` lists any
+abbrev pub versions_path : Command → Option (List ℕ)
+versions_path (Versions path all) = Some path
+versions_path _ = None
+
+-- the store has a list of the versions of the module with this path, and nothing else
+abbrev pub HoldsInput : List ℕ → MemoryFiles → Type 0
+HoldsInput path files = (list : Vec ℕ) × HoldsOne (list_file path) list.items files
+
+-- the store has nothing
+abbrev pub HoldsNothing : MemoryFiles → Type 0
+HoldsNothing files = (name : Name) → held_at files name ≡ None
 
 -- standard input can't be read, which is reported
 abbrev pub IsUnreadList : Outcome → Type 0
 IsUnreadList outcome = (fault : InputFault) × (outcome ≡ unread_outcome (codes "-") fault)
-
--- what keeps such a store from being made: only `versions` reads standard input
-abbrev pub IsUnreadStore : Command → Outcome → Type 0
-IsUnreadStore (Versions path all) outcome = IsUnreadList outcome
-IsUnreadStore _ outcome = ⊥
 
 -- these places with these proxy folders
 abbrev pub with_proxy : Places → Option ProxyList → Places

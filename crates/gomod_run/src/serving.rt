@@ -1,10 +1,11 @@
-//! Running a command whose words have been read: over proxy folders, or over a store in memory if the arguments name
-//! none.
+//! Running a command whose words have been read: over proxy folders; or, if the arguments name none, over standard
+//! input for `versions`, and over an empty store for another command.
 
 ghost use Rattle.std.specs.Prelude.{◌≡◌, IfErr, IfOk, None, Some};
+ghost use Rattle.std.specs.Option.{option_map};
 ghost use Rattle.gomod_run.specs.Outcome.{OrNoMemory, code_of, report_outcome};
-ghost use Rattle.gomod_run.specs.Program.{IsServed};
-ghost use Rattle.gomod_run.specs.Reads.{with_proxy};
+ghost use Rattle.gomod_run.specs.Program.{IsInputServed, IsServed};
+ghost use Rattle.gomod_run.specs.Reads.{versions_path, with_proxy};
 ghost use Rattle.gm_store.specs.Taken.{SinkState};
 ghost use Rattle.gomod_run.specs.Written.{EndsAsStated, IsWritten};
 
@@ -12,9 +13,10 @@ use crate::inputs::read_inputs;
 use crate::reports::report::Report;
 use crate::reports::status::Status;
 use crate::running::run;
-use crate::stores::{folders_of, memory_store, store_folder};
+use crate::stores::{folders_of, list_store, store_folder};
 use crate::writing::write_report;
-use gm_store::{FileSystem, ProxyList, Sink};
+use gm_name::ModPath;
+use gm_store::{FileSystem, MemoryFiles, ProxyList, Sink};
 use gomod_words::{Command, Places};
 use std::alloc::Global;
 
@@ -52,14 +54,15 @@ fn over_folders<'a, S: FileSystem + Copy + Drop + Alloc<A = Global>, O: Sink, R:
     ))
 }
 
-/// Runs a command over a store in memory. If something can't be read, nothing is written.
-fn over_memory<'a, S: Input + FileSystem + Alloc<A = Global>, O: Sink, R: Sink>(
+/// Runs a command but `versions` over an empty store. If something can't be read, nothing is written.
+fn over_memory<'a, S: FileSystem + Alloc<A = Global>, O: Sink, R: Sink>(
     rt: &S,
     command: &Command,
     places: &'a Places,
     out: &mut O,
     report: &mut R,
 ) -> Result<Status, Report<'a>>
+    requires { versions_path command.now ≡ None }
     ensures ends { IfOk result (λ status.
         EndsAsStated (IsServed (S.may_open rt.now) command.now (with_proxy places.now None))
         (O.state out.old) (O.state out.new) (R.state report.old) (R.state report.new)
@@ -71,7 +74,7 @@ fn over_memory<'a, S: Input + FileSystem + Alloc<A = Global>, O: Sink, R: Sink>(
     ensures no_report { IfErr result (λ _. R.state report.new ≡ R.state report.old) }
 {
     let read = read_inputs(rt, command, places)?;
-    let mut files = memory_store(rt, command)?;
+    let mut files = MemoryFiles::new(rt.alloc());
     let main = read.main.as_slice();
     Ok(run(
         rt.alloc(),
@@ -82,6 +85,42 @@ fn over_memory<'a, S: Input + FileSystem + Alloc<A = Global>, O: Sink, R: Sink>(
         out,
         report,
     ))
+}
+
+/// Runs `versions` of the module with this path over standard input, which has the module's list. If that can't be
+/// read, nothing is written.
+fn over_input<'a, S: Input + Alloc<A = Global>, O: Sink, R: Sink>(
+    rt: &S,
+    command: &Command,
+    path: &ModPath,
+    out: &mut O,
+    report: &mut R,
+) -> Result<Status, Report<'a>>
+    requires { versions_path command.now ≡ Some path.now }
+    ensures ends { IfOk result (λ status.
+        EndsAsStated (IsInputServed command.now path.now)
+        (O.state out.old) (O.state out.new) (R.state report.old) (R.state report.new)
+        (code_of status)) }
+    ensures unread { IfErr result (λ told. OrNoMemory (IsInputServed command.now path.now) (report_outcome told)) }
+    ensures no_text { IfErr result (λ _. O.state out.new ≡ O.state out.old) }
+    ensures no_report { IfErr result (λ _. R.state report.new ≡ R.state report.old) }
+{
+    let mut files = list_store(rt, path)?;
+    Ok(run(rt.alloc(), command, &[], None, &mut files, out, report))
+}
+
+/// The path of the module whose versions a command lists, or `None` if it is not `versions`.
+fn versions_path(command: &Command) -> Option<&ModPath>
+    ensures { option_map (λ path. path.now) result ≡ versions_path command.now }
+{
+    match command {
+        Command::Versions { path, .. } => Some(path),
+        Command::Fmt => None,
+        Command::Edit(_) => None,
+        Command::Graph => None,
+        Command::List { .. } => None,
+        Command::Chain(_) => None,
+    }
 }
 
 /// The status of a command that was run; or, if something could not be read, that of its report, which is written.
@@ -111,9 +150,10 @@ pub(crate) fn serve<S: Input + FileSystem + Copy + Drop + Alloc<A = Global>, O: 
         (code_of result) }
 {
     let proxy = places.proxy.take();
-    let served = match proxy {
-        Some(folders) => over_folders(rt, command, &places, folders, out, report),
-        None => over_memory(rt, command, &places, out, report),
+    let served = match (proxy, versions_path(command)) {
+        (Some(folders), _) => over_folders(rt, command, &places, folders, out, report),
+        (None, Some(path)) => over_input(rt, command, path, out, report),
+        (None, None) => over_memory(rt, command, &places, out, report),
     };
     ended(served, report)
 }

@@ -1,7 +1,6 @@
-//! The store of a command: proxy folders on disk, or a store in memory if the arguments name none.
+//! The store of a command: proxy folders on disk, or standard input as the list of a module.
 
-ghost use Rattle.std.specs.Prelude.{◌≡◌, ℕ, IfErr, IfOk, Some, [], codes};
-ghost use Rattle.std.specs.Global.{Vec};
+ghost use Rattle.std.specs.Prelude.{◌≡◌, IfErr, IfOk, Some, [], codes};
 ghost use Rattle.std.specs.String.{string_bytes};
 ghost use Rattle.gm_store.specs.Asked.{Name, Reply, list_file};
 ghost use Rattle.gm_store.specs.Memory.{pairs_of};
@@ -9,7 +8,7 @@ ghost use Rattle.gm_store.specs.Views.{asked_by};
 ghost use Rattle.gomod_run.specs.Outcome.{report_outcome};
 ghost use Rattle.gomod_run.specs.Held.{HoldsOne};
 ghost use Rattle.gomod_run.specs.Program.{MayBeTold};
-ghost use Rattle.gomod_run.specs.Reads.{HoldsInput, IsStoreFolder, IsUnreadList, IsUnreadStore};
+ghost use Rattle.gomod_run.specs.Reads.{HoldsInput, IsStoreFolder, IsUnreadList};
 
 use crate::inputs::unread_report;
 use crate::reports::report::Report;
@@ -79,35 +78,15 @@ fn read_input<S: Input + Alloc<A = Global>>(rt: &S) -> Result<Vec<u8>, Report<'s
 }
 
 /// A store that has standard input as the list of a module, and nothing else.
-fn list_store<S: Input + Alloc<A = Global>>(
+pub(crate) fn list_store<S: Input + Alloc<A = Global>>(
     rt: &S,
     path: &ModPath,
 ) -> Result<MemoryFiles, Report<'static>>
     ensures asked { IfOk result (λ files. pairs_of files ≡ []) }
-    ensures held { IfOk result (λ files. (list : Vec ℕ) × HoldsOne (list_file path.now) list.items files) }
+    ensures held { IfOk result (HoldsInput path.now) }
     ensures unread { IfErr result (λ told. IsUnreadList (report_outcome told)) }
 {
     let list = read_input(rt)?;
     let files = store_of(rt.alloc(), path, list)?;
     Ok(files)
-}
-
-/// The store of a command without proxy folders: for `versions` it has standard input as the module's list, and for
-/// the other commands nothing.
-pub(crate) fn memory_store<S: Input + Alloc<A = Global>>(
-    rt: &S,
-    command: &Command,
-) -> Result<MemoryFiles, Report<'static>>
-    ensures asked { IfOk result (λ files. pairs_of files ≡ []) }
-    ensures held { IfOk result (HoldsInput command.now) }
-    ensures unread { IfErr result (λ told. IsUnreadStore command.now (report_outcome told)) }
-{
-    match command {
-        Command::Versions { path, .. } => list_store(rt, path),
-        Command::Fmt => Ok(MemoryFiles::new(rt.alloc())),
-        Command::Edit(_) => Ok(MemoryFiles::new(rt.alloc())),
-        Command::Graph => Ok(MemoryFiles::new(rt.alloc())),
-        Command::List { .. } => Ok(MemoryFiles::new(rt.alloc())),
-        Command::Chain(_) => Ok(MemoryFiles::new(rt.alloc())),
-    }
 }

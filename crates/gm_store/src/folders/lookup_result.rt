@@ -8,23 +8,24 @@ ghost use Rattle.gm_store.specs.Asked.{IsWithinLimit};
 ghost use Rattle.gm_store.specs.Openings.{IsReadLookup, IsRefusedLookup, MayShow, opening_of};
 ghost use Rattle.gm_store.specs.Steps.{reply_in, result_of};
 
+use crate::byte_reader::ByteReader;
 use crate::folders::Looked;
 use crate::reading::{InputFault, LIMIT, read_by_pieces};
 use gm_name::NoMemory;
 use std::alloc::{AllocError, Global};
 use std::io;
-use std::io::{ErrorKind, Read};
+use std::io::ErrorKind;
 
 /// The result of a lookup, from what came of opening the file at its path. The file is read by pieces into `piece`, at
 /// most `LIMIT + 1` bytes of it.
 ///
 /// The only refusal is `NoMemory`, if the system or reading ran out of memory.
-pub(crate) fn opened_result<F: Read + Drop>(
+pub(crate) fn opened_result<F: ByteReader + Drop>(
     alloc: Global,
     opened: io::Result<F>,
     piece: &mut Vec<u8>,
 ) -> Result<Looked, NoMemory>
-    ensures shown { IfOk result (λ looked. MayShow (opening_of F.remaining opened) (result_of looked)) }
+    ensures shown { IfOk result (λ looked. MayShow (opening_of F.remaining F.may_fail opened) (result_of looked)) }
     ensures within_limit { IfOk result (λ looked. IsWithinLimit (reply_in (result_of looked))) }
 {
     match opened {

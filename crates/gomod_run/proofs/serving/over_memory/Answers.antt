@@ -6,7 +6,7 @@ use Rattle.gomod_run.specs.declared.reports.report.Report.{Report}
 use Rattle.gomod_run.specs.Program.{IsServed}
 use Rattle.gomod_run.specs.Reads.{with_proxy}
 use Rattle.gomod_run.proofs.Endings.{ends_weaken}
-use Rattle.gomod_run.proofs.Served.{input_unserved, memory_served, passed_on, same_run, store_unserved}
+use Rattle.gomod_run.proofs.Served.{input_unserved, memory_served, passed_on, same_run}
 use Rattle.gomod_run.proofs.serving.over_memory.Goals as goal
 
 pub returns-in_err-read-clause-unread : goal.returns-in_err-read-clause-unread
@@ -16,18 +16,11 @@ returns-in_err-read-clause-unread g c =
     passed_on (λ (told : Report). OrNoMemory (IsServed may_open c.args.command.now (with_proxy c.args.places.now None)) (report_outcome told)) told c.from_residual.result
     c.from_residual.ensures.1 (inl (input_unserved may_open c.args.command.now c.args.places.now None (report_outcome told) c.in_err-read.ensures))
 
-pub returns-in_err-files-clause-unread : goal.returns-in_err-files-clause-unread
-returns-in_err-files-clause-unread g c =
-    let may_open = g.S.FileSystem.may_open c.args.rt.now in
-    let told = c.in_err-files.field-0.0 in
-    passed_on (λ (told : Report). OrNoMemory (IsServed may_open c.args.command.now (with_proxy c.args.places.now None)) (report_outcome told)) told c.from_residual-in_err-files.result
-    c.from_residual-in_err-files.ensures.1 (inl (store_unserved may_open c.args.command.now c.args.places.now (report_outcome told) c.in_err-files.ensures.unread))
-
 pub returns-clause-ends : goal.returns-clause-ends
 returns-clause-ends g c =
-    let old = memory_files_state c.in_ok-files.files in
+    let old = memory_files_state c.new-files.result in
     let new = memory_files_state c.run.new.files in
-    ends_weaken _ _ _ _ _ _ _ (λ outcome runs. memory_served (g.S.FileSystem.may_open c.args.rt.now) c.args.command.now c.args.places.now c.in_ok-read.read c.in_ok-files.files c.run.new.files
-    c.in_ok-read.ensures c.in_ok-files.ensures.held (may_all _ _ old new c.in_ok-files.ensures.asked c.run.ensures.served) outcome
+    ends_weaken _ _ _ _ _ _ _ (λ outcome runs. memory_served (g.S.FileSystem.may_open c.args.rt.now) c.args.command.now c.args.places.now c.in_ok-read.read c.new-files.result c.run.new.files
+    c.requires c.in_ok-read.ensures c.new-files.ensures.empty (may_all _ _ old new c.new-files.ensures.asked c.run.ensures.served) outcome
     (same_run c.args.command.now c.in_ok-read.read c.as_slice-main.result.now (option_map (λ sums. sums.now) c.sums.result) old new c.as_slice-main.ensures.value c.sums.ensures outcome runs))
     c.run.ensures.ends

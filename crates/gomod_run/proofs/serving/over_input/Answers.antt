@@ -1,0 +1,23 @@
+use Rattle.std.proofs.Common.{inl}
+use Rattle.gm_store.specs.Memory.{memory_files_state}
+use Rattle.gm_store.proofs.Serving.{may_all}
+use Rattle.gomod_run.specs.Outcome.{OrNoMemory, report_outcome}
+use Rattle.gomod_run.specs.declared.reports.report.Report.{Report}
+use Rattle.gomod_run.specs.Program.{IsInputServed}
+use Rattle.gomod_run.proofs.Endings.{ends_weaken}
+use Rattle.gomod_run.proofs.Served.{input_served, input_unread, passed_on}
+use Rattle.gomod_run.proofs.serving.over_input.Goals as goal
+
+pub returns-in_err-files-clause-unread : goal.returns-in_err-files-clause-unread
+returns-in_err-files-clause-unread g c =
+    let told = c.in_err-files.field-0.0 in
+    passed_on (λ (told : Report). OrNoMemory (IsInputServed c.args.command.now c.args.path.now) (report_outcome told)) told c.from_residual.result
+    c.from_residual.ensures.1 (inl (input_unread c.args.command.now c.args.path.now (report_outcome told) c.in_err-files.ensures.unread))
+
+pub returns-clause-ends : goal.returns-clause-ends
+returns-clause-ends g c =
+    let old = memory_files_state c.in_ok-files.files in
+    let new = memory_files_state c.run.new.files in
+    ends_weaken _ _ _ _ _ _ _ (λ outcome runs. input_served c.args.command.now c.args.path.now c.in_ok-files.files c.run.new.files c.requires
+    c.in_ok-files.ensures.held (may_all _ _ old new c.in_ok-files.ensures.asked c.run.ensures.served) outcome runs)
+    c.run.ensures.ends
